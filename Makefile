@@ -1,0 +1,5 @@
+# The gate, and nothing else so far.
+.PHONY: test
+
+test:
+	@.ci/run
