@@ -1,0 +1,5 @@
+pub mod Integers
+pub mod Ring
+pub mod Quote
+pub mod Order
+pub mod LowestTerms

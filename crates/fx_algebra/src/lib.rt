@@ -1,0 +1,20 @@
+//! Laws of whole numbers, and a normaliser by which a polynomial identity over ℤ is one line of a proof.
+//!
+//! All of it is for proofs, so that nothing here runs. What the outside may believe stands in the two laws below;
+//! the lemmas behind them, and those that the crates above cite, are the modules of `proofs/`: `Integers` (ring and
+//! order of ℤ), `Ring` and `Quote` (the normaliser, and how a term is quoted for it), `Order`, `Powers`, `LowestTerms`.
+#![tactic(auto)]
+
+ghost use Rattle.fx_algebra.specs.Gcd.{GcdLaw, OneSpellingLaw};
+
+/// Euclid's algorithm gives the greatest common divisor.
+pub fn gcd_law()
+    ensures { GcdLaw }
+{
+}
+
+/// A fraction has one spelling in lowest terms.
+pub fn one_spelling_law()
+    ensures { OneSpellingLaw }
+{
+}

@@ -1,0 +1,36 @@
+-- Intervals with dyadic ends, and their exact operations. No order of the ends is asked for.
+use Rattle.std.specs.Prelude.{ℕ, Bool, ◌&&◌}
+use Rattle.fx_rational.specs.Dyadic.{Dyadic, dyadic_sum, dyadic_difference, dyadic_product, sum_fits, difference_fits, product_fits, is_dyadic_at_most, least, greatest, rounded_down, rounded_up}
+
+pub record Interval : Type 0 where
+  pub lo : Dyadic
+  pub hi : Dyadic
+
+unfoldable pub interval_sum : Interval → Interval → Interval
+interval_sum a b = record { lo = dyadic_sum a.lo b.lo; hi = dyadic_sum a.hi b.hi }
+
+unfoldable pub interval_difference : Interval → Interval → Interval
+interval_difference a b = record { lo = dyadic_difference a.lo b.hi; hi = dyadic_difference a.hi b.lo }
+
+-- the least and the greatest of the ends' products in the order lo lo, lo hi, hi lo, hi hi: of equal ones the first
+unfoldable pub interval_product : Interval → Interval → Interval
+interval_product a b =
+    let ll = dyadic_product a.lo b.lo in let lh = dyadic_product a.lo b.hi in let hl = dyadic_product a.hi b.lo in let hh = dyadic_product a.hi b.hi in
+    record { lo = least (least ll lh) (least hl hh); hi = greatest (greatest ll lh) (greatest hl hh) }
+
+unfoldable pub interval_sum_fits : Interval → Interval → Bool
+interval_sum_fits a b = sum_fits a.lo b.lo && sum_fits a.hi b.hi
+
+unfoldable pub interval_difference_fits : Interval → Interval → Bool
+interval_difference_fits a b = difference_fits a.lo b.hi && difference_fits a.hi b.lo
+
+unfoldable pub interval_product_fits : Interval → Interval → Bool
+interval_product_fits a b = product_fits a.lo b.lo && product_fits a.lo b.hi && product_fits a.hi b.lo && product_fits a.hi b.hi
+
+-- a lies in b
+unfoldable pub is_inside : Interval → Interval → Bool
+is_inside a b = is_dyadic_at_most b.lo a.lo && is_dyadic_at_most a.hi b.hi
+
+-- the narrowest interval round a whose ends have exponents of at most e
+unfoldable pub outward_to : Interval → ℕ → Interval
+outward_to a e = record { lo = rounded_down a.lo e; hi = rounded_up a.hi e }

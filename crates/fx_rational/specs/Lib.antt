@@ -1,0 +1,4 @@
+pub mod Rational
+pub mod Dyadic
+pub mod Interval
+pub mod Decimal

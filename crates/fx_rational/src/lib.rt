@@ -1,0 +1,4 @@
+//! Fractions without bound.
+#![tactic(auto)]
+
+pub fn nothing() {}
