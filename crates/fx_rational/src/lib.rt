@@ -1,4 +1,13 @@
-//! Fractions without bound.
+//! Numbers that proofs speak of: rationals without bound, and what is written of them as dyadics, intervals and decimals.
+//!
+//! All of it is for contracts and proofs, so that nothing here runs. `specs/` has the definitions; the functions below
+//! have empty bodies, and each carries a law that the crates above may believe. A polynomial identity over rationals is
+//! one line of a proof (`proofs/Ring`): cross multiplication makes it one over whole numbers.
 #![tactic(auto)]
 
-pub fn nothing() {}
+mod rational_laws;
+
+pub use rational_laws::{
+    equality_law, error_law, floor_law, interval_law, monotone_law, operations_law, order_law,
+    quotient_law, scaling_law,
+};
