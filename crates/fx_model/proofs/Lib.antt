@@ -1,0 +1,5 @@
+pub mod Flat
+pub mod Exact
+pub mod InRange
+pub mod Samples
+mod Worked
