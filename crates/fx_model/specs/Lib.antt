@@ -6,3 +6,5 @@ pub mod WordText
 pub mod Page
 pub mod Valid
 pub mod Nodes
+pub mod Sameness
+pub mod LawfulProgram

@@ -1,0 +1,10 @@
+pub mod Formula
+pub mod Claim
+pub mod Condition
+pub mod Rewriting
+pub mod Certificate
+pub mod Affine
+pub mod NodeConditions
+pub mod Accepted
+pub mod Near
+pub mod LawfulCertificate

@@ -1,0 +1,195 @@
+-- The conditions of each node: Shape, Shift, Form, Divisor, Range, Error and WordTooSmall.
+use Rattle.std.specs.Prelude.{ℕ, ◌+◌, ◌-◌, ◌^◌, ◌==◌, ℤ, pos, ◌-ℤ◌, neg_ℤ, Bool, true, false, ◌&&◌, if◌then◌else◌, List, [], ◌∷◌, ◌++◌, length, Option, Some, None, ltb}
+use Rattle.std.proofs.Common.{int_eq}
+use Rattle.fx_rational.specs.Rational.{whole, negative, is_positive}
+use Rattle.fx_rational.specs.Dyadic.{zero_dyadic}
+use Rattle.fx_model.specs.Tree.{at}
+use Rattle.fx_model.specs.Function as function
+use Rattle.fx_model.specs.Function.{Function}
+use Rattle.fx_model.specs.Machine as machine
+use Rattle.fx_model.specs.Machine.{Code}
+use Rattle.fx_model.specs.Nodes.{Node, Input, State, Const, Neg, Add, Sub, Mul, Div, Copy}
+use Rattle.fx_inequalities.specs.Formula.{Num, Sum, Difference, Product, formula_value, Span, span, zero_span, span_sum, span_difference, span_product, point, unit_at, word_at, loss_at}
+use Rattle.fx_inequalities.specs.Claim.{Claim, Below, BelowFraction, AboveFraction, Clear, inside}
+use Rattle.fx_inequalities.specs.Certificate.{Form, NodeLine, Share, Certificate, no_line, no_row}
+use Rattle.fx_inequalities.specs.Affine.{Affine, range_at, error_at, form_of, affine_at, of_line, rows_of, weighted_sum, bound_by_rows}
+use Rattle.fx_inequalities.specs.Condition as condition
+use Rattle.fx_inequalities.specs.Condition.{Condition, OfNode}
+
+-- ---- Shape
+-- the code does the node's operation on the node's operands, or reads its number
+abbrev pub same_shape : Node → Code → Bool
+same_shape (Input k) (machine.Input k' f) = k == k'
+same_shape (State k) (machine.State k' f w) = k == k'
+same_shape (Const v) (machine.Const w f) = true
+same_shape (Neg a) (machine.Neg a') = a == a'
+same_shape (Add a b) (machine.Add a' b' sa sb) = (a == a') && (b == b')
+same_shape (Sub a b) (machine.Sub a' b' sa sb) = (a == a') && (b == b')
+same_shape (Mul a b) (machine.Mul a' b' s) = (a == a') && (b == b')
+same_shape (Div a b) (machine.Div a' b' s) = (a == a') && (b == b')
+same_shape (Copy a) (machine.Copy a' s) = a == a'
+same_shape node c = false
+
+-- ---- Shift
+-- both operands of a sum or a difference come to one point
+abbrev pub same_point : List ℤ → Code → Bool
+same_point ps (machine.Add a b sa sb) = int_eq (at (pos 0) ps a -ℤ sa) (at (pos 0) ps b -ℤ sb)
+same_point ps (machine.Sub a b sa sb) = int_eq (at (pos 0) ps a -ℤ sa) (at (pos 0) ps b -ℤ sb)
+same_point ps c = true
+
+-- of the nodes from `next` on, the copies of next states, each has the point of its state; i inputs stand before the states
+abbrev pub state_point : ℕ → ℕ → List ℤ → ℕ → Bool
+state_point i next ps n = if ltb n next then true else int_eq (at (pos 0) ps n) (at (pos 0) ps (i + (n - next)))
+
+-- ---- Form
+-- the affine form that an operation gives to those of its operands; f is the point of the code
+abbrev pub operation_form : ℕ → List NodeLine → Node → Code → ℤ → Form → Affine
+operation_form v ls (Neg a) c f form =
+    let p = affine_at v ls a in
+    record { coef = λ j. Difference (Num zero_dyadic) (p.coef j); rest = span_difference zero_span p.rest; error_rest = span_difference zero_span p.error_rest }
+operation_form v ls (Add a b) (machine.Add a' b' sa sb) f form =
+    let p = affine_at v ls a in let q = affine_at v ls b in
+    record {
+      coef = λ j. Sum (p.coef j) (q.coef j);
+      rest = span_sum p.rest q.rest;
+      error_rest = span_sum (span_sum (span_sum p.error_rest q.error_rest) (loss_at f sa)) (loss_at f sb);
+    }
+operation_form v ls (Sub a b) (machine.Sub a' b' sa sb) f form =
+    let p = affine_at v ls a in let q = affine_at v ls b in
+    record {
+      coef = λ j. Difference (p.coef j) (q.coef j);
+      rest = span_difference p.rest q.rest;
+      error_rest = span_difference (span_sum (span_difference p.error_rest q.error_rest) (loss_at f sa)) (loss_at f sb);
+    }
+operation_form v ls (Mul a b) (machine.Mul a' b' s) f form =
+    let p = affine_at v ls a in let q = affine_at v ls b in
+    let ma = Num form.centre_a in let mb = Num form.centre_b in
+    let ga = range_at ls a in let gb = range_at ls b in let ha = error_at ls a in let hb = error_at ls b in
+    record {
+      coef = λ j. Sum (Product mb (p.coef j)) (Product ma (q.coef j));
+      rest = span_sum (span_difference (span_sum (span_product (point mb) p.rest) (span_product (point ma) q.rest)) (point (Product ma mb)))
+          (span_product (span_difference ga (point ma)) (span_difference gb (point mb)));
+      error_rest = span_sum (span_sum (span_sum (span_sum (span_sum (span_product (point mb) p.error_rest) (span_product (point ma) q.error_rest))
+          (span_product (span_difference ga (point ma)) hb)) (span_product (span_difference gb (point mb)) ha)) (span_product ha hb)) (loss_at f (pos s));
+    }
+operation_form v ls (Copy a) (machine.Copy a' s) f form =
+    let p = affine_at v ls a in record { coef = p.coef; rest = p.rest; error_rest = span_sum p.error_rest (loss_at f s) }
+operation_form v ls node c f form = of_line no_line None
+
+-- literals and quotients have none, nor have inputs and states
+abbrev pub has_form : Node → Bool
+has_form (Neg a) = true
+has_form (Add a b) = true
+has_form (Sub a b) = true
+has_form (Mul a b) = true
+has_form (Copy a) = true
+has_form node = false
+
+abbrev pub form_test : Node → Option Form → Bool
+form_test node None = true
+form_test node (Some form) = has_form node
+
+-- the operation's rest, and the variables times the coefficients' differences, lie in the form's rest; so for errors
+abbrev pub form_claims : ℕ → List NodeLine → NodeLine → Node → Code → ℤ → Option Form → List Claim
+form_claims v ls l node c f None = []
+form_claims v ls l node c f (Some form) =
+    let s = operation_form v ls node c f form in let own = of_line l (Some form) in
+    let d = λ (j : ℕ). Difference (s.coef j) (own.coef j) in
+    if has_form node then inside (weighted_sum s.rest v d (range_at ls)) own.rest ++ inside (weighted_sum s.error_rest v d (error_at ls)) own.error_rest else []
+
+-- ---- Divisor
+-- neither the exact divisor nor the machine's can be zero
+abbrev pub divisor_claims : List NodeLine → Node → List Claim
+divisor_claims ls (Div a b) = Clear (range_at ls b) (span_sum (range_at ls b) (error_at ls b)) ∷ []
+divisor_claims ls node = []
+
+-- a quotient of what lies in a by what lies in b, above zero, lies in c
+abbrev pub positive_quotient_claims : Span → Span → Span → List Claim
+positive_quotient_claims a b c = Below (Product c.lo b.lo) a.lo ∷ Below (Product c.lo b.hi) a.lo ∷ Below a.hi (Product c.hi b.lo) ∷ Below a.hi (Product c.hi b.hi) ∷ []
+
+-- the same for a divisor of either sign
+abbrev pub quotient_claims : Span → Span → Span → List Claim
+quotient_claims a b c =
+    if is_positive (formula_value b.lo) then positive_quotient_claims a b c else positive_quotient_claims (span_difference zero_span a) (span_difference zero_span b) c
+
+-- ---- Range
+abbrev pub no_input : function.Input
+no_input = record { name = []; lo = whole (pos 0); hi = whole (pos 0); err = whole (pos 0) }
+
+abbrev pub plain_range_claims : Function → Certificate → Node → Span → List Claim
+plain_range_claims fn cert (Input k) g =
+    let i = at no_input fn.inputs k in BelowFraction g.lo i.lo ∷ AboveFraction i.hi g.hi ∷ []
+plain_range_claims fn cert (State k) g = inside (span (at no_row cert.rows k).bound) g
+plain_range_claims fn cert (Const c) g = BelowFraction g.lo c ∷ AboveFraction c g.hi ∷ []
+plain_range_claims fn cert (Neg a) g = inside (span_difference zero_span (range_at cert.lines a)) g
+plain_range_claims fn cert (Add a b) g = inside (span_sum (range_at cert.lines a) (range_at cert.lines b)) g
+plain_range_claims fn cert (Sub a b) g = inside (span_difference (range_at cert.lines a) (range_at cert.lines b)) g
+plain_range_claims fn cert (Mul a b) g = inside (span_product (range_at cert.lines a) (range_at cert.lines b)) g
+plain_range_claims fn cert (Div a b) g = quotient_claims (range_at cert.lines a) (range_at cert.lines b) g
+plain_range_claims fn cert (Copy a) g = inside (range_at cert.lines a) g
+
+-- ---- Error
+abbrev pub plain_error_claims : Function → Certificate → Node → Code → ℤ → Span → Span → List Claim
+plain_error_claims fn cert (Input k) c f g h =
+    let i = at no_input fn.inputs k in BelowFraction (Sum h.lo (unit_at f)) (negative i.err) ∷ AboveFraction i.err h.hi ∷ []
+plain_error_claims fn cert (State k) c f g h = inside (span (at no_row cert.error_rows k).bound) h
+plain_error_claims fn cert (Const v) (machine.Const w p) f g h = BelowFraction (Difference (word_at w f) h.hi) v ∷ AboveFraction v (Difference (word_at w f) h.lo) ∷ []
+plain_error_claims fn cert (Neg a) c f g h = inside (span_difference zero_span (error_at cert.lines a)) h
+plain_error_claims fn cert (Add a b) (machine.Add a' b' sa sb) f g h = inside (span_sum (span_sum (span_sum (error_at cert.lines a) (error_at cert.lines b)) (loss_at f sa)) (loss_at f sb)) h
+plain_error_claims fn cert (Sub a b) (machine.Sub a' b' sa sb) f g h = inside (span_difference (span_sum (span_difference (error_at cert.lines a) (error_at cert.lines b)) (loss_at f sa)) (loss_at f sb)) h
+plain_error_claims fn cert (Mul a b) (machine.Mul a' b' s) f g h =
+    inside (span_sum (span_sum (span_sum (span_product (range_at cert.lines a) (error_at cert.lines b)) (span_product (range_at cert.lines b) (error_at cert.lines a))) (span_product (error_at cert.lines a) (error_at cert.lines b))) (loss_at f (pos s))) h
+plain_error_claims fn cert (Div a b) c f g h =
+    quotient_claims (span_difference (error_at cert.lines a) (span_product g (error_at cert.lines b))) (span_sum (range_at cert.lines b) (error_at cert.lines b))
+    record { lo = Sum h.lo (unit_at f); hi = Difference h.hi (unit_at f) }
+plain_error_claims fn cert (Copy a) (machine.Copy a' s) f g h = inside (span_sum (error_at cert.lines a) (loss_at f s)) h
+plain_error_claims fn cert node c f g h = []
+
+-- ---- Range and Error by shares of rows, where a form names them
+abbrev pub by_rows : Option (List Share) → (List Share → List Claim) → List Claim → List Claim
+by_rows None by plain = plain
+by_rows (Some shares) by plain = by shares
+
+abbrev pub range_by_of : Option Form → Option (List Share)
+range_by_of None = None
+range_by_of (Some form) = form.range_by
+
+abbrev pub error_by_of : Option Form → Option (List Share)
+error_by_of None = None
+error_by_of (Some form) = form.error_by
+
+abbrev pub range_claims : Function → Certificate → NodeLine → Node → Option Form → List Claim
+range_claims fn cert l node form =
+    let i = length fn.inputs in let k = length fn.states in let own = of_line l form in
+    by_rows (range_by_of form) (λ shares. inside (bound_by_rows i k own.coef own.rest (range_at cert.lines) (rows_of k cert.rows) shares) (span l.range))
+    (plain_range_claims fn cert node (span l.range))
+
+abbrev pub error_claims : Function → Certificate → NodeLine → Node → Code → ℤ → Option Form → List Claim
+error_claims fn cert l node c f form =
+    let i = length fn.inputs in let k = length fn.states in let own = of_line l form in
+    by_rows (error_by_of form) (λ shares. inside (bound_by_rows i k own.coef own.error_rest (error_at cert.lines) (rows_of k cert.error_rows) shares) (span l.error))
+    (plain_error_claims fn cert node c f (span l.range) (span l.error))
+
+-- ---- WordTooSmall
+-- range and error together lie between the least and the greatest word of n bits
+abbrev pub word_claims : ℕ → ℤ → Span → Span → List Claim
+word_claims n f g h =
+    Below (word_at (neg_ℤ (pos (2 ^ (n - 1)))) f) (Sum g.lo h.lo) ∷ Below (Sum g.hi h.hi) (word_at (pos (2 ^ (n - 1) - 1)) f) ∷ []
+
+-- ---- in their order
+abbrev pub variables : Function → ℕ
+variables fn = length fn.inputs + length fn.states
+
+abbrev pub shape_conditions : ℕ → ℕ → List ℤ → ℕ → Node → Code → List Condition
+shape_conditions i next ps n node c =
+    record { kind = condition.Shape; part = OfNode; index = n; test = same_shape node c; claims = [] } ∷
+    record { kind = condition.Shift; part = OfNode; index = n; test = same_point ps c && state_point i next ps n; claims = [] } ∷ []
+
+abbrev pub node_conditions : Function → ℕ → List ℤ → Certificate → ℕ → Node → Code → List Condition
+node_conditions fn w ps cert n node c =
+    let v = variables fn in let l = at no_line cert.lines n in let f = at (pos 0) ps n in let form = form_of v cert.lines n in
+    record { kind = condition.Form; part = OfNode; index = n; test = form_test node form; claims = form_claims v cert.lines l node c f form } ∷
+    record { kind = condition.Divisor; part = OfNode; index = n; test = true; claims = divisor_claims cert.lines node } ∷
+    record { kind = condition.Range; part = OfNode; index = n; test = true; claims = range_claims fn cert l node form } ∷
+    record { kind = condition.Error; part = OfNode; index = n; test = true; claims = error_claims fn cert l node c f form } ∷
+    record { kind = condition.WordTooSmall; part = OfNode; index = n; test = true; claims = word_claims w f (span l.range) (span l.error) } ∷ []
