@@ -1,0 +1,15 @@
+pub mod AffineForms
+pub mod Points
+pub mod Wide
+pub mod Held
+pub mod Forms
+pub mod One
+pub mod Settle
+pub mod Steps
+pub mod SameMeaning
+pub mod Accepts
+pub mod Start
+pub mod Next
+pub mod Run
+pub mod Rewritten
+pub mod Bounds
