@@ -2,3 +2,8 @@ pub mod Ring
 pub mod Laws
 pub mod Quotient
 pub mod Intervals
+pub mod Fits
+pub mod Floors
+pub mod Dyadics
+pub mod Roundings
+pub mod DyadicIntervals

@@ -1,4 +1,6 @@
 //! Fractions without bound.
 #![tactic(auto)]
 
+pub mod dyadic_laws;
+
 pub fn nothing() {}
