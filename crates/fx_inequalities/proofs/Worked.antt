@@ -2,7 +2,7 @@
 use Rattle.std.specs.Prelude.{◌≡◌, ◌^◌, ℕ, ℤ, pos, negsuc, List, [], ◌∷◌, Option, Some, None, refl, codes}
 use Rattle.fx_algebra.specs.Gcd.{gcd}
 use Rattle.fx_rational.specs.Rational.{Rational, over, whole, plus, negative, minus, times, divided, quotient, is_at_most, scaled, floor, lowest, is_positive, is_negative}
-use Rattle.fx_rational.specs.Dyadic.{Dyadic, dyadic_value, dyadic_sum, dyadic_difference, dyadic_product, least, greatest, sum_fits, difference_fits, product_fits}
+use Rattle.fx_rational.specs.Dyadic.{Dyadic, dyadic_value, dyadic_sum, dyadic_difference, dyadic_product, least, greatest, fits_128, sum_fits, difference_fits, product_fits}
 use Rattle.fx_rational.specs.Interval.{Interval}
 use Rattle.fx_model.specs.Tree as tree
 use Rattle.fx_model.specs.Function.{Function}
@@ -52,17 +52,17 @@ unit_input = iv (pos 0) 0 (pos 1) 0
 
 -- the certificate of its bundle is accepted
 half_accepted : result half half_program (half_lines unit_input (iv (pos 1) 1 (pos 3) 1)) ≡ None
-unfolding over plus negative minus times divided quotient is_at_most scaled floor lowest gcd dyadic_value dyadic_sum dyadic_difference dyadic_product least greatest sum_fits difference_fits product_fits formula_value formed formula_fits is_positive is_negative
+unfolding over plus negative minus times divided quotient is_at_most scaled floor lowest gcd dyadic_value dyadic_sum dyadic_difference dyadic_product least greatest fits_128 sum_fits difference_fits product_fits formula_value formed formula_fits is_positive is_negative
 half_accepted = refl
 
 -- a range of the sum that ends at 1 leaves out 3/2
 half_range : result half half_program (half_lines unit_input (iv (pos 1) 1 (pos 1) 0)) ≡ fault condition.Range OfNode 2
-unfolding over plus negative minus times divided quotient is_at_most scaled floor lowest gcd dyadic_value dyadic_sum dyadic_difference dyadic_product least greatest sum_fits difference_fits product_fits formula_value formed formula_fits is_positive is_negative
+unfolding over plus negative minus times divided quotient is_at_most scaled floor lowest gcd dyadic_value dyadic_sum dyadic_difference dyadic_product least greatest fits_128 sum_fits difference_fits product_fits formula_value formed formula_fits is_positive is_negative
 half_range = refl
 
 -- and one from 1 to 1
 half_point_range : result half half_program (half_lines unit_input (iv (pos 1) 0 (pos 1) 0)) ≡ fault condition.Range OfNode 2
-unfolding over plus negative minus times divided quotient is_at_most scaled floor lowest gcd dyadic_value dyadic_sum dyadic_difference dyadic_product least greatest sum_fits difference_fits product_fits formula_value formed formula_fits is_positive is_negative
+unfolding over plus negative minus times divided quotient is_at_most scaled floor lowest gcd dyadic_value dyadic_sum dyadic_difference dyadic_product least greatest fits_128 sum_fits difference_fits product_fits formula_value formed formula_fits is_positive is_negative
 half_point_range = refl
 
 -- an error of 1/2^96 beside a range that ends at 2^62 - 1
@@ -75,7 +75,7 @@ wide_lines = stateless (
 
 -- the sum of range and error doesn't fit in 128 bits, so that it isn't asked whether the word is too small
 half_beyond : result half half_program wide_lines ≡ fault condition.Beyond OfNode 0
-unfolding over plus negative minus times divided quotient is_at_most scaled floor lowest gcd dyadic_value dyadic_sum dyadic_difference dyadic_product least greatest sum_fits difference_fits product_fits formula_value formed formula_fits is_positive is_negative
+unfolding over plus negative minus times divided quotient is_at_most scaled floor lowest gcd dyadic_value dyadic_sum dyadic_difference dyadic_product least greatest fits_128 sum_fits difference_fits product_fits formula_value formed formula_fits is_positive is_negative
 half_beyond = refl
 
 abbrev demanding : Rational → Function
@@ -83,17 +83,17 @@ demanding bound = record half { demands = Some bound ∷ [] }
 
 -- 1/2^12 is 0.000244140625
 half_demand_met : result (demanding (over (pos 244140625) 1000000000000)) half_program (half_lines unit_input (iv (pos 1) 1 (pos 3) 1)) ≡ None
-unfolding over plus negative minus times divided quotient is_at_most scaled floor lowest gcd dyadic_value dyadic_sum dyadic_difference dyadic_product least greatest sum_fits difference_fits product_fits formula_value formed formula_fits is_positive is_negative
+unfolding over plus negative minus times divided quotient is_at_most scaled floor lowest gcd dyadic_value dyadic_sum dyadic_difference dyadic_product least greatest fits_128 sum_fits difference_fits product_fits formula_value formed formula_fits is_positive is_negative
 half_demand_met = refl
 
 -- one unit of the last place less isn't met; outputs count from 1
 half_demand : result (demanding (over (pos 244140624) 1000000000000)) half_program (half_lines unit_input (iv (pos 1) 1 (pos 3) 1)) ≡ fault condition.Demand OfOutput 1
-unfolding over plus negative minus times divided quotient is_at_most scaled floor lowest gcd dyadic_value dyadic_sum dyadic_difference dyadic_product least greatest sum_fits difference_fits product_fits formula_value formed formula_fits is_positive is_negative
+unfolding over plus negative minus times divided quotient is_at_most scaled floor lowest gcd dyadic_value dyadic_sum dyadic_difference dyadic_product least greatest fits_128 sum_fits difference_fits product_fits formula_value formed formula_fits is_positive is_negative
 half_demand = refl
 
 -- a program of another function
 half_counts : result half negated_program (half_lines unit_input (iv (pos 1) 1 (pos 3) 1)) ≡ fault condition.Counts OfProgram 0
-unfolding over plus negative minus times divided quotient is_at_most scaled floor lowest gcd dyadic_value dyadic_sum dyadic_difference dyadic_product least greatest sum_fits difference_fits product_fits formula_value formed formula_fits is_positive is_negative
+unfolding over plus negative minus times divided quotient is_at_most scaled floor lowest gcd dyadic_value dyadic_sum dyadic_difference dyadic_product least greatest fits_128 sum_fits difference_fits product_fits formula_value formed formula_fits is_positive is_negative
 half_counts = refl
 
 -- 0.5 + x where the source has x + 0.5
@@ -102,7 +102,7 @@ turned_program = record half_program { codes = Input 0 (pos 12) ∷ Const (pos 2
 
 -- operands are compared in their order
 half_shape : result half turned_program (half_lines unit_input (iv (pos 1) 1 (pos 3) 1)) ≡ fault condition.Shape OfNode 2
-unfolding over plus negative minus times divided quotient is_at_most scaled floor lowest gcd dyadic_value dyadic_sum dyadic_difference dyadic_product least greatest sum_fits difference_fits product_fits formula_value formed formula_fits is_positive is_negative
+unfolding over plus negative minus times divided quotient is_at_most scaled floor lowest gcd dyadic_value dyadic_sum dyadic_difference dyadic_product least greatest fits_128 sum_fits difference_fits product_fits formula_value formed formula_fits is_positive is_negative
 half_shape = refl
 
 abbrev shifted_program : Program
@@ -110,12 +110,12 @@ shifted_program = record half_program { codes = Input 0 (pos 12) ∷ Const (pos 
 
 -- one operand shifted by 1 and the other by 0
 half_shift : result half shifted_program (half_lines unit_input (iv (pos 1) 1 (pos 3) 1)) ≡ fault condition.Shift OfNode 2
-unfolding over plus negative minus times divided quotient is_at_most scaled floor lowest gcd dyadic_value dyadic_sum dyadic_difference dyadic_product least greatest sum_fits difference_fits product_fits formula_value formed formula_fits is_positive is_negative
+unfolding over plus negative minus times divided quotient is_at_most scaled floor lowest gcd dyadic_value dyadic_sum dyadic_difference dyadic_product least greatest fits_128 sum_fits difference_fits product_fits formula_value formed formula_fits is_positive is_negative
 half_shift = refl
 
 -- a step that is refused
 half_step : result half half_program (record (half_lines unit_input (iv (pos 1) 1 (pos 3) 1)) { steps = record { place = 0; path = []; rule = 1 } ∷ [] }) ≡ fault condition.Step OfStep 0
-unfolding over plus negative minus times divided quotient is_at_most scaled floor lowest gcd dyadic_value dyadic_sum dyadic_difference dyadic_product least greatest sum_fits difference_fits product_fits formula_value formed formula_fits is_positive is_negative
+unfolding over plus negative minus times divided quotient is_at_most scaled floor lowest gcd dyadic_value dyadic_sum dyadic_difference dyadic_product least greatest fits_128 sum_fits difference_fits product_fits formula_value formed formula_fits is_positive is_negative
 half_step = refl
 
 -- ---- -x in 8 bits: range and error of the negation end at 127/64 + 1/64 = 2, past the word's 127/64
@@ -127,7 +127,7 @@ negated_lines = stateless (
 
 -- though no row in range gives the word -128
 negated_word : result negated negated_program negated_lines ≡ fault condition.WordTooSmall OfNode 1
-unfolding over plus negative minus times divided quotient is_at_most scaled floor lowest gcd dyadic_value dyadic_sum dyadic_difference dyadic_product least greatest sum_fits difference_fits product_fits formula_value formed formula_fits is_positive is_negative
+unfolding over plus negative minus times divided quotient is_at_most scaled floor lowest gcd dyadic_value dyadic_sum dyadic_difference dyadic_product least greatest fits_128 sum_fits difference_fits product_fits formula_value formed formula_fits is_positive is_negative
 negated_word = refl
 
 -- ---- 1 / (x - 0.001)
@@ -142,7 +142,7 @@ small_divisor_lines = stateless (
 
 -- range and error of the divisor go from 15/2^14 - 1/64, below zero
 small_divisor_divisor : result small_divisor small_divisor_program small_divisor_lines ≡ fault condition.Divisor OfNode 4
-unfolding over plus negative minus times divided quotient is_at_most scaled floor lowest gcd dyadic_value dyadic_sum dyadic_difference dyadic_product least greatest sum_fits difference_fits product_fits formula_value formed formula_fits is_positive is_negative
+unfolding over plus negative minus times divided quotient is_at_most scaled floor lowest gcd dyadic_value dyadic_sum dyadic_difference dyadic_product least greatest fits_128 sum_fits difference_fits product_fits formula_value formed formula_fits is_positive is_negative
 small_divisor_divisor = refl
 
 -- ---- a comparison with a fraction takes its lowest denominator, and a word of zero has exponent 0
@@ -158,7 +158,7 @@ tiny_error_lines = stateless (
 
 -- 1/2 - 1/2^96 has a mantissa of 95 bits: times 2 it fits, times 10^18 it wouldn't
 lowest_denominator : result long_half half_program tiny_error_lines ≡ None
-unfolding over plus negative minus times divided quotient is_at_most scaled floor lowest gcd dyadic_value dyadic_sum dyadic_difference dyadic_product least greatest sum_fits difference_fits product_fits formula_value formed formula_fits is_positive is_negative
+unfolding over plus negative minus times divided quotient is_at_most scaled floor lowest gcd dyadic_value dyadic_sum dyadic_difference dyadic_product least greatest fits_128 sum_fits difference_fits product_fits formula_value formed formula_fits is_positive is_negative
 lowest_denominator = refl
 
 -- the literal 1/10^18 as the word 0 at point 62
@@ -177,7 +177,7 @@ zero_word_lines = stateless (
 
 -- 0 - 128 at exponent 0 times 10^18 fits, at exponent 62 it wouldn't; so the wide error is refused for what it is
 zero_word : result tiny_literal zero_word_program zero_word_lines ≡ fault condition.WordTooSmall OfNode 1
-unfolding over plus negative minus times divided quotient is_at_most scaled floor lowest gcd dyadic_value dyadic_sum dyadic_difference dyadic_product least greatest sum_fits difference_fits product_fits formula_value formed formula_fits is_positive is_negative
+unfolding over plus negative minus times divided quotient is_at_most scaled floor lowest gcd dyadic_value dyadic_sum dyadic_difference dyadic_product least greatest fits_128 sum_fits difference_fits product_fits formula_value formed formula_fits is_positive is_negative
 zero_word = refl
 
 -- ---- a filter with one state
@@ -203,17 +203,17 @@ averager_lines error_bound = record {
 
 -- the error of the state stays between -5/2^12 and 0
 averager_accepted : result averager averager_program (averager_lines (iv (negsuc 4) 12 (pos 0) 0)) ≡ None
-unfolding over plus negative minus times divided quotient is_at_most scaled floor lowest gcd dyadic_value dyadic_sum dyadic_difference dyadic_product least greatest sum_fits difference_fits product_fits formula_value formed formula_fits is_positive is_negative
+unfolding over plus negative minus times divided quotient is_at_most scaled floor lowest gcd dyadic_value dyadic_sum dyadic_difference dyadic_product least greatest fits_128 sum_fits difference_fits product_fits formula_value formed formula_fits is_positive is_negative
 averager_accepted = refl
 
 -- an error row whose ends are in the wrong order fails at the start: 0 would have to lie in it
 averager_start : result averager averager_program (averager_lines (iv (pos 0) 0 (negsuc 4) 12)) ≡ fault condition.Start OfErrorRow 0
-unfolding over plus negative minus times divided quotient is_at_most scaled floor lowest gcd dyadic_value dyadic_sum dyadic_difference dyadic_product least greatest sum_fits difference_fits product_fits formula_value formed formula_fits is_positive is_negative
+unfolding over plus negative minus times divided quotient is_at_most scaled floor lowest gcd dyadic_value dyadic_sum dyadic_difference dyadic_product least greatest fits_128 sum_fits difference_fits product_fits formula_value formed formula_fits is_positive is_negative
 averager_start = refl
 
 -- an error row that is too narrow fails first where it is used
 averager_error : result averager averager_program (averager_lines (iv (negsuc 5) 12 (pos 0) 0)) ≡ fault condition.Error OfNode 1
-unfolding over plus negative minus times divided quotient is_at_most scaled floor lowest gcd dyadic_value dyadic_sum dyadic_difference dyadic_product least greatest sum_fits difference_fits product_fits formula_value formed formula_fits is_positive is_negative
+unfolding over plus negative minus times divided quotient is_at_most scaled floor lowest gcd dyadic_value dyadic_sum dyadic_difference dyadic_product least greatest fits_128 sum_fits difference_fits product_fits formula_value formed formula_fits is_positive is_negative
 averager_error = refl
 
 -- ---- x - x is 0, by a form: the two uses of x are one variable
@@ -235,12 +235,12 @@ nothing_left_lines by = stateless (
 
 -- its output has no error at all
 nothing_left_accepted : result nothing_left nothing_left_program (nothing_left_lines (Some [])) ≡ None
-unfolding over plus negative minus times divided quotient is_at_most scaled floor lowest gcd dyadic_value dyadic_sum dyadic_difference dyadic_product least greatest sum_fits difference_fits product_fits formula_value formed formula_fits is_positive is_negative
+unfolding over plus negative minus times divided quotient is_at_most scaled floor lowest gcd dyadic_value dyadic_sum dyadic_difference dyadic_product least greatest fits_128 sum_fits difference_fits product_fits formula_value formed formula_fits is_positive is_negative
 nothing_left_accepted = refl
 
 -- without shares the plain range is asked for, from -1 to 1
 nothing_left_range : result nothing_left nothing_left_program (nothing_left_lines None) ≡ fault condition.Range OfNode 1
-unfolding over plus negative minus times divided quotient is_at_most scaled floor lowest gcd dyadic_value dyadic_sum dyadic_difference dyadic_product least greatest sum_fits difference_fits product_fits formula_value formed formula_fits is_positive is_negative
+unfolding over plus negative minus times divided quotient is_at_most scaled floor lowest gcd dyadic_value dyadic_sum dyadic_difference dyadic_product least greatest fits_128 sum_fits difference_fits product_fits formula_value formed formula_fits is_positive is_negative
 nothing_left_range = refl
 
 -- ---- the filter by forms, rows and shares
@@ -271,10 +271,10 @@ lines_by_rows shares = record (averager_lines (iv (negsuc 4) 12 (pos 0) 0)) {
 
 -- the unit row takes half of the second row's half: 1/4 of row 1 leaves nothing of x
 rows_accepted : result averager averager_program (lines_by_rows (record { row = 1; times = d (pos 1) 2 } ∷ [])) ≡ None
-unfolding over plus negative minus times divided quotient is_at_most scaled floor lowest gcd dyadic_value dyadic_sum dyadic_difference dyadic_product least greatest sum_fits difference_fits product_fits formula_value formed formula_fits is_positive is_negative
+unfolding over plus negative minus times divided quotient is_at_most scaled floor lowest gcd dyadic_value dyadic_sum dyadic_difference dyadic_product least greatest fits_128 sum_fits difference_fits product_fits formula_value formed formula_fits is_positive is_negative
 rows_accepted = refl
 
 -- taking all of it leaves -1/2 of x, and the bound grows past the row's
 row_refused : result averager averager_program (lines_by_rows (record { row = 1; times = d (pos 1) 1 } ∷ [])) ≡ fault condition.Row OfRow 0
-unfolding over plus negative minus times divided quotient is_at_most scaled floor lowest gcd dyadic_value dyadic_sum dyadic_difference dyadic_product least greatest sum_fits difference_fits product_fits formula_value formed formula_fits is_positive is_negative
+unfolding over plus negative minus times divided quotient is_at_most scaled floor lowest gcd dyadic_value dyadic_sum dyadic_difference dyadic_product least greatest fits_128 sum_fits difference_fits product_fits formula_value formed formula_fits is_positive is_negative
 row_refused = refl

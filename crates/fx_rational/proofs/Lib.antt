@@ -5,4 +5,8 @@ pub mod ErrorIdentities
 pub mod Tests
 pub mod Intervals
 pub mod Powers
+pub mod Fits
 pub mod Floors
+pub mod Dyadics
+pub mod Roundings
+pub mod DyadicIntervals
