@@ -3,10 +3,10 @@ use Rattle.std.proofs.Common.{◌≡◌, ℕ, zero, suc, ◌+◌, ◌*◌, ◌/�
 use Rattle.std.specs.Prelude.{unsigned_abs}
 use Rattle.std.proofs.lemmas.Int.{ints, unsigned_abs-mul}
 use Rattle.std.specs.Int.{IsGcd, ◌∣◌}
-use Rattle.std.proofs.lemmas.Nat.{mod_below, mod-mul-add, div-add-mod', mul-lt}
-use Rattle.std.proofs.lemmas.Nat.Gcd.{dvd_refl, dvd-zero, dvd_trans, dvd_antisymm, IsGcd-from_zero, IsGcd-from_mod, IsGcd-swap, same_from_IsGcd}
+use Rattle.std.proofs.lemmas.Nat.{mod_below, mod-mul-add, div-add-mod'}
+use Rattle.std.proofs.lemmas.Nat.Gcd.{dvd_antisymm, IsGcd-from_zero, IsGcd-from_mod, IsGcd-swap, same_from_IsGcd}
 use Rattle.std.proofs.Math.Nat.{dvd-mul_left, dvd-mul_right}
-use Rattle.fx_algebra.specs.Gcd.{IsLowest, gcd, gcd_within, GcdLaw, OneSpellingLaw}
+use Rattle.fx_algebra.specs.Gcd.{gcd, gcd_within, GcdLaw, OneSpellingLaw}
 use Rattle.fx_algebra.proofs.Integers.{eq_by_certificate}
 use Rattle.fx_algebra.proofs.Quote.{by_quotes, quotes}
 
@@ -20,9 +20,12 @@ pub scaled : (n a b : ℕ) → b ≤ n → (g : ℕ) × IsGcd a b g × ((c : ℕ
 scaled n a zero h = (a, IsGcd-from_zero a 0 refl, λ c. IsGcd-from_zero (a * c) (0 * c) (omega arith))
 scaled zero a (suc b) h = absurd (omega arith)
 scaled (suc n) a (suc b) h =
-    let r = scaled n (suc b) (a % suc b) (let l = mod_below a (suc b) (zero-lt-suc b) in omega arith) in
-    (r.0, IsGcd-from_mod a (suc b) r.0 r.1, λ c. IsGcd-from_mod (a * c) (suc b * c) (r.0 * c)
-        (subst (λ (k : ℕ). IsGcd (suc b * c) k (r.0 * c)) (sym (mod_scaled a (suc b) c (zero-lt-suc b))) (r.2 c)))
+    let r = scaled n (suc b) (a % suc b) (let l = mod_below a (suc b) (zero-lt-suc b) in omega arith) in (
+      r.0,
+      IsGcd-from_mod a (suc b) r.0 r.1,
+      λ c. IsGcd-from_mod (a * c) (suc b * c) (r.0 * c)
+          (subst (λ (k : ℕ). IsGcd (suc b * c) k (r.0 * c)) (sym (mod_scaled a (suc b) c (zero-lt-suc b))) (r.2 c)),
+    )
 
 pub IsGcd-mul : (a b g c : ℕ) → IsGcd a b g → IsGcd (a * c) (b * c) (g * c)
 IsGcd-mul a b g c h = let r = scaled b a b (omega arith) in

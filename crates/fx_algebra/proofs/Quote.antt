@@ -1,5 +1,5 @@
 -- A quote of a whole number over the variables ρ, found by `search quotes`.
-use Rattle.std.proofs.Common.{◌≡◌, ℕ, refl, sym, ◌∙◌, pos, ℤ, ◌+ℤ◌, ◌-ℤ◌, ◌*ℤ◌, neg_ℤ, List, [], ◌∷◌, true}
+use Rattle.std.proofs.Common.{◌≡◌, ℕ, refl, sym, ◌∙◌, pos, ℤ, ◌+ℤ◌, ◌*ℤ◌, neg_ℤ, List, ◌∷◌, true}
 use Rattle.fx_algebra.proofs.Ring.{Polynomial, var, lit, add, sub, mul, neg, value_in, normal_form, vanishes, ring}
 
 pub record Quote (ρ : List ℤ) (z : ℤ) : Type 0 where
@@ -61,4 +61,3 @@ pub ruleset quotes = (q0, q1, q2, q3, q4, q5, q6, q7, q8, q9, q_zero, q_one, q_t
 
 pub by_quotes : {ρ : List ℤ} {a b : ℤ} (p : Quote ρ a) (q : Quote ρ b) → vanishes (normal_form (sub p.quote q.quote)) ≡ true → a ≡ b
 by_quotes {ρ} p q e = sym p.is ∙ ring ρ p.quote q.quote e ∙ q.is
-

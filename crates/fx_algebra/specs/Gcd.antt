@@ -1,5 +1,5 @@
 -- The greatest common divisor by Euclid's algorithm, and lowest terms.
-use Rattle.std.specs.Prelude.{◌≡◌, ℕ, zero, suc, ◌*◌, ◌%◌, ◌<◌, ℤ, pos, ◌*ℤ◌, unsigned_abs}
+use Rattle.std.specs.Prelude.{◌≡◌, ℕ, zero, suc, ◌%◌, ◌<◌, ℤ, pos, ◌*ℤ◌, unsigned_abs}
 use Rattle.std.specs.Int.{IsGcd}
 
 -- Euclid's algorithm in at most n steps

@@ -1,14 +1,13 @@
 -- The value and the error of each operation, by those of its operands; each interval is the formula of the inequality.
-use Rattle.std.proofs.Common.{◌≡◌, ℕ, zero, suc, ◌^◌, refl, pos, negsuc, ℤ, ◌+ℤ◌, ◌-ℤ◌, ◌*ℤ◌, neg_ℤ, ◌≤ℤ◌, ◌<ℤ◌, [], ◌∷◌, Bool, true, false, if◌then◌else◌, arith}
+use Rattle.std.proofs.Common.{◌≡◌, ℕ, zero, suc, ◌^◌, refl, pos, negsuc, ℤ, ◌+ℤ◌, ◌-ℤ◌, ◌*ℤ◌, neg_ℤ, ◌<ℤ◌, [], ◌∷◌, Bool, true, false, if◌then◌else◌, arith}
 use Rattle.std.specs.Prelude.{int_div}
 use Rattle.std.proofs.lemmas.Int.{ints}
-use Rattle.fx_rational.specs.Rational.{Rational, bottom, whole, over, plus, negative, minus, times, scaled, floor, floor_div, Equal, AtMost, is_positive, above_zero}
+use Rattle.fx_rational.specs.Rational.{Rational, whole, over, plus, negative, minus, times, scaled, floor, floor_div, Equal, AtMost, is_positive, above_zero}
 use Rattle.fx_model.specs.Machine.{word_value, shifted}
 use Rattle.fx_inequalities.specs.Formula.{Formula, Num, Sum, Difference, Product, formula_value, Span, zero_span, span_sum, span_difference, span_product, point, unit_at, word_at, loss_at, Within}
 use Rattle.fx_rational.specs.Dyadic.{dyadic_value}
 use Rattle.fx_rational.proofs.Ring.{by_quotes, quotes}
 use Rattle.fx_rational.proofs.Laws.{equal_refl, equal_sym, equal_trans, le_trans, le_of_equal, gap, ordered, nonneg_plus, minus_same, negative_same, negative_le}
-use Rattle.fx_algebra.proofs.Integers.{mul_above, suc_above}
 use Rattle.fx_inequalities.specs.NodeConditions.{positive_quotient_claims, quotient_claims}
 use Rattle.fx_rational.proofs.Quotient.{Above, above_more, top_zero, quotient_is}
 use Rattle.fx_bounds.proofs.Claims.{Each, Claimed, OneSide, over_zero, under_zero, positive_above}

@@ -1,16 +1,16 @@
 -- Worked certificates, by evaluation: a wrong fault here is refused.
-use Rattle.std.specs.Prelude.{◌≡◌, ◌^◌, ℕ, ℤ, pos, negsuc, List, [], ◌∷◌, Option, Some, None, refl, codes}
+use Rattle.std.specs.Prelude.{◌≡◌, ℕ, ℤ, pos, negsuc, List, [], ◌∷◌, Option, Some, None, refl, codes}
 use Rattle.fx_algebra.specs.Gcd.{gcd}
 use Rattle.fx_rational.specs.Rational.{Rational, over, whole, plus, negative, minus, times, divided, quotient, is_at_most, scaled, floor, lowest, is_positive, is_negative}
 use Rattle.fx_rational.specs.Dyadic.{Dyadic, dyadic_value, dyadic_sum, dyadic_difference, dyadic_product, least, greatest, fits_128, sum_fits, difference_fits, product_fits}
 use Rattle.fx_rational.specs.Interval.{Interval}
 use Rattle.fx_model.specs.Tree as tree
 use Rattle.fx_model.specs.Function.{Function}
-use Rattle.fx_model.specs.Machine.{Program, Input, Const, Neg, Add, Sub, Copy}
+use Rattle.fx_model.specs.Machine.{Program, Input, Const, Add, Sub, Mul, Div, Copy}
 use Rattle.fx_model.proofs.Samples.{exact_input, half, half_program, averager, averager_program, negated, negated_program, small_divisor, small_divisor_program}
 use Rattle.fx_inequalities.specs.Formula.{formula_value, formed, formula_fits}
 use Rattle.fx_inequalities.specs.Certificate.{Certificate, NodeLine, Share}
-use Rattle.fx_inequalities.specs.Rewriting.{Rewriting, no_rewriting}
+use Rattle.fx_inequalities.specs.Rewriting.{no_rewriting}
 use Rattle.fx_inequalities.specs.Condition as condition
 use Rattle.fx_inequalities.specs.Condition.{Fault, Kind, Part, OfProgram, OfStep, OfNode, OfStart, OfRow, OfErrorRow, OfOutput}
 use Rattle.fx_inequalities.specs.Accepted.{first_fault}
@@ -179,6 +179,70 @@ zero_word_lines = stateless (
 zero_word : result tiny_literal zero_word_program zero_word_lines ≡ fault condition.WordTooSmall OfNode 1
 unfolding over plus negative minus times divided quotient is_at_most scaled floor lowest gcd dyadic_value dyadic_sum dyadic_difference dyadic_product least greatest fits_128 sum_fits difference_fits product_fits formula_value formed formula_fits is_positive is_negative
 zero_word = refl
+
+-- ---- x * y: the errors of both operands, their product, and what the shift loses
+abbrev product : Function
+product = record half {
+  name = codes "p";
+  inputs = exact_input (codes "x") (whole (pos 0)) (whole (pos 1)) ∷ exact_input (codes "y") (whole (pos 0)) (whole (pos 1)) ∷ [];
+  results = tree.Product (tree.Input 0) (tree.Input 1) ∷ [];
+}
+
+abbrev product_program : Program
+product_program = record half_program { name = codes "p"; inputs = 2; codes = Input 0 (pos 12) ∷ Input 1 (pos 12) ∷ Mul 0 1 12 ∷ Copy 2 (pos 0) ∷ [] }
+
+abbrev product_lines : Interval → Certificate
+product_lines error = record (stateless (
+    plain unit_input (iv (negsuc 0) 12 (pos 0) 0) ∷
+    plain unit_input (iv (negsuc 0) 12 (pos 0) 0) ∷
+    plain unit_input error ∷
+    plain unit_input error ∷ [])) { inputs = 2 }
+
+product_accepted : result product product_program (product_lines (iv (negsuc 2) 12 (pos 1) 24)) ≡ None
+unfolding over plus negative minus times divided quotient is_at_most scaled floor lowest gcd dyadic_value dyadic_sum dyadic_difference dyadic_product least greatest fits_128 sum_fits difference_fits product_fits formula_value formed formula_fits is_positive is_negative
+product_accepted = refl
+
+-- without what the shift loses
+product_loss : result product product_program (product_lines (iv (negsuc 1) 12 (pos 1) 24)) ≡ fault condition.Error OfNode 2
+unfolding over plus negative minus times divided quotient is_at_most scaled floor lowest gcd dyadic_value dyadic_sum dyadic_difference dyadic_product least greatest fits_128 sum_fits difference_fits product_fits formula_value formed formula_fits is_positive is_negative
+product_loss = refl
+
+-- without the product of the two errors
+product_of_errors : result product product_program (product_lines (iv (negsuc 2) 12 (pos 0) 0)) ≡ fault condition.Error OfNode 2
+unfolding over plus negative minus times divided quotient is_at_most scaled floor lowest gcd dyadic_value dyadic_sum dyadic_difference dyadic_product least greatest fits_128 sum_fits difference_fits product_fits formula_value formed formula_fits is_positive is_negative
+product_of_errors = refl
+
+-- ---- 1 / x for x from 1 to 2
+abbrev inverse : Function
+inverse = record half {
+  name = codes "i";
+  inputs = exact_input (codes "x") (whole (pos 1)) (whole (pos 2)) ∷ [];
+  results = tree.Quotient (tree.Literal (whole (pos 1))) (tree.Input 0) ∷ [];
+}
+
+abbrev inverse_program : Program
+inverse_program = record half_program { name = codes "i"; codes = Input 0 (pos 12) ∷ Const (pos 4096) (pos 12) ∷ Div 1 0 12 ∷ Copy 2 (pos 0) ∷ [] }
+
+abbrev inverse_lines : Interval → Interval → Certificate
+inverse_lines range error = stateless (
+    plain (iv (pos 1) 0 (pos 2) 0) (iv (negsuc 0) 12 (pos 0) 0) ∷
+    plain (iv (pos 1) 0 (pos 1) 0) none ∷
+    plain range error ∷
+    plain range error ∷ [])
+
+inverse_accepted : result inverse inverse_program (inverse_lines (iv (pos 1) 1 (pos 1) 0) (iv (negsuc 0) 12 (pos 3) 12)) ≡ None
+unfolding over plus negative minus times divided quotient is_at_most scaled floor lowest gcd dyadic_value dyadic_sum dyadic_difference dyadic_product least greatest fits_128 sum_fits difference_fits product_fits formula_value formed formula_fits is_positive is_negative
+inverse_accepted = refl
+
+-- 3/4 times the greatest divisor is above 1, times the least it isn't
+inverse_range : result inverse inverse_program (inverse_lines (iv (pos 1) 1 (pos 3) 2) (iv (negsuc 0) 12 (pos 3) 12)) ≡ fault condition.Range OfNode 2
+unfolding over plus negative minus times divided quotient is_at_most scaled floor lowest gcd dyadic_value dyadic_sum dyadic_difference dyadic_product least greatest fits_128 sum_fits difference_fits product_fits formula_value formed formula_fits is_positive is_negative
+inverse_range = refl
+
+-- a quotient is rounded toward zero, by less than a unit
+inverse_error : result inverse inverse_program (inverse_lines (iv (pos 1) 1 (pos 1) 0) (iv (negsuc 0) 12 (pos 2) 12)) ≡ fault condition.Error OfNode 2
+unfolding over plus negative minus times divided quotient is_at_most scaled floor lowest gcd dyadic_value dyadic_sum dyadic_difference dyadic_product least greatest fits_128 sum_fits difference_fits product_fits formula_value formed formula_fits is_positive is_negative
+inverse_error = refl
 
 -- ---- a filter with one state
 abbrev averager_lines : Interval → Certificate

@@ -1,5 +1,5 @@
 -- Comparisons of formulas: when one holds, and when it fits in 128 bits.
-use Rattle.std.specs.Prelude.{ℤ, pos, ◌*ℤ◌, Bool, ◌&&◌, ◌||◌, List, [], ◌∷◌}
+use Rattle.std.specs.Prelude.{pos, ◌*ℤ◌, Bool, ◌&&◌, ◌||◌, List, [], ◌∷◌}
 use Rattle.fx_rational.specs.Rational.{Rational, bottom, lowest, is_at_most, is_positive, is_negative}
 use Rattle.fx_rational.specs.Dyadic.{fits_128}
 use Rattle.fx_inequalities.specs.Formula.{Formula, formula_value, formed, formula_fits, Span}

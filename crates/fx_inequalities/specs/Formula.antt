@@ -1,5 +1,5 @@
 -- Formulas of dyadics: their value, the dyadic that they come to, and when every mantissa on the way fits in 128 bits.
-use Rattle.std.specs.Prelude.{ℕ, zero, suc, ◌^◌, ℤ, pos, negsuc, neg_ℤ, Bool, ◌&&◌, if◌then◌else◌}
+use Rattle.std.specs.Prelude.{suc, ◌^◌, ℤ, pos, negsuc, neg_ℤ, Bool, ◌&&◌, if◌then◌else◌}
 use Rattle.fx_rational.specs.Rational.{Rational, plus, minus, times, AtMost, is_at_most}
 use Rattle.fx_rational.specs.Dyadic.{Dyadic, zero_dyadic, dyadic_value, dyadic_sum, dyadic_difference, dyadic_product, least, greatest, fits_128, sum_fits, difference_fits, product_fits, unit_dyadic, word_dyadic}
 use Rattle.fx_rational.specs.Interval.{Interval}

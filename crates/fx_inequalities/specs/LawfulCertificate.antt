@@ -1,5 +1,5 @@
 -- What each certificate meets that a text can spell: its counts, lengths, share rows and numbers.
-use Rattle.std.specs.Prelude.{◌≡◌, ℕ, zero, suc, ◌+◌, ◌-◌, ◌^◌, ◌%◌, ◌<◌, ◌≤◌, ◌⊎◌, ◌==◌, pos, unsigned_abs, if◌then◌else◌, List, [], ◌∷◌, ◌++◌, length, take, drop, All, Option, Some, None}
+use Rattle.std.specs.Prelude.{◌≡◌, ℕ, zero, suc, ◌+◌, ◌-◌, ◌^◌, ◌%◌, ◌<◌, ◌≤◌, pos, unsigned_abs, List, [], ◌∷◌, ◌++◌, length, All, Option, Some, None}
 use Rattle.fx_rational.specs.Dyadic.{Dyadic, zero_dyadic}
 use Rattle.fx_rational.specs.Interval.{Interval}
 use Rattle.fx_inequalities.specs.Rewriting.{Rewriting}

@@ -1,4 +1,5 @@
 pub mod Formula
+pub mod FormulaLaws
 pub mod Claim
 pub mod Condition
 pub mod Rewriting

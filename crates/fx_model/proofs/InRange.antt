@@ -3,7 +3,6 @@ use Rattle.std.proofs.Common.{inl, inr, List, [], ◌∷◌}
 use Rattle.fx_rational.specs.Rational.{Rational, minus}
 use Rattle.fx_model.specs.Function.{Input}
 use Rattle.fx_model.specs.Rows.{IsTrueOf, IsTrueValue, IsInRange, IsGivenValue, IsInput, AreInputs}
-
 use Rattle.fx_rational.proofs.Laws.{le_trans, le_refl, le_total, minus_below, less_below, more_above, below_plus}
 
 true_value : (i : Input) (g : Rational) → IsInput i → IsGivenValue i g → (t : Rational) × IsTrueValue i g t

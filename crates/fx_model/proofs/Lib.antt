@@ -1,5 +1,6 @@
 pub mod Flat
 pub mod Exact
 pub mod InRange
+pub mod Wide
 pub mod Samples
 mod Worked

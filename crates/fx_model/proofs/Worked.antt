@@ -1,17 +1,17 @@
 -- Worked examples of the definitions, by evaluation: a wrong value here is refused.
-use Rattle.std.specs.Prelude.{◌≡◌, ℕ, ℤ, pos, negsuc, List, [], ◌∷◌, Option, Some, None, refl, codes, true, false}
-use Rattle.std.specs.Fmt.{decimal, digits}
-use Rattle.fx_rational.specs.Rational.{Rational, over, whole, plus, negative, minus, times, divided, quotient, is_at_most, scaled, floor}
+use Rattle.std.specs.Prelude.{◌≡◌, pos, negsuc, [], ◌∷◌, Some, None, refl, codes, true, false}
+use Rattle.std.specs.Fmt.{digits}
+use Rattle.fx_rational.specs.Rational.{over, whole, plus, negative, minus, times, divided, quotient, scaled, floor}
 use Rattle.fx_model.specs.Tree as tree
 use Rattle.fx_model.specs.Tree.{value_of}
-use Rattle.fx_model.specs.Function.{Function, Step, Run, exact, exact_run}
+use Rattle.fx_model.specs.Function.{exact, exact_run}
 use Rattle.fx_model.specs.Machine.{Code, Program, is_word, shifted, words_of, machine_step, machine_run, output_points, points_of, word_value}
 use Rattle.fx_model.specs.Machine as machine
 use Rattle.fx_model.specs.WordText.{decimal_text, size_text, digits_after}
 use Rattle.fx_model.specs.Page.{page}
 use Rattle.fx_model.specs.Nodes.{nodes_of, node_values}
 use Rattle.fx_model.specs.Nodes as node
-use Rattle.fx_model.proofs.Samples.{a_half, half, half_program, averager, averager_program, negated, negated_program, small_divisor, small_divisor_program}
+use Rattle.fx_model.proofs.Samples.{a_half, half, half_program, averager, averager_program, negated_program, small_divisor, small_divisor_program}
 
 -- ---- x + 0.5 on 0.3
 half_words : words_of half_program (over (pos 3) 10 ∷ []) [] ≡ Some (pos 1228 ∷ pos 2048 ∷ pos 3276 ∷ pos 3276 ∷ [])

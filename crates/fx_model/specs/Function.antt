@@ -1,7 +1,7 @@
 -- A function of the source language, and its exact runs.
-use Rattle.std.specs.Prelude.{ℕ, pos, List, [], ◌∷◌, ◌++◌, length, take, drop, map, Option, Some}
+use Rattle.std.specs.Prelude.{ℕ, List, [], ◌∷◌, ◌++◌, length, take, drop, map, Option, Some}
 use Rattle.std.specs.Option.{option_map, option_and_then}
-use Rattle.fx_rational.specs.Rational.{Rational, whole}
+use Rattle.fx_rational.specs.Rational.{Rational}
 use Rattle.fx_model.specs.Tree.{Tree, value_of}
 
 -- an input: its name, its declared ends, and by how much a given value may differ from the true one

@@ -2,6 +2,7 @@ pub mod Tree
 pub mod Function
 pub mod Rows
 pub mod Machine
+pub mod Wide
 pub mod WordText
 pub mod Page
 pub mod Valid

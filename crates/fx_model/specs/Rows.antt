@@ -1,6 +1,6 @@
 -- Which true rows a given row may stand for, and which given rows are in range.
-use Rattle.std.specs.Prelude.{◌≡◌, ℕ, pos, List, [], ◌∷◌, Bool, ◌&&◌}
-use Rattle.fx_rational.specs.Rational.{Rational, whole, plus, minus, AtMost, is_at_most}
+use Rattle.std.specs.Prelude.{pos, List, [], ◌∷◌}
+use Rattle.fx_rational.specs.Rational.{Rational, whole, plus, minus, AtMost}
 use Rattle.fx_model.specs.Function.{Input}
 
 -- t lies within the declared ends and at most err from the given g

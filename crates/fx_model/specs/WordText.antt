@@ -1,8 +1,6 @@
 -- The one decimal spelling of a word at a point.
-use Rattle.std.specs.Prelude.{◌≡◌, ◌==◌, ℕ, zero, suc, ◌+◌, ◌*◌, ◌/◌, ◌%◌, ◌^◌, ◌<◌, ℤ, pos, negsuc, neg_ℤ, int_lt, Bool, true, false, List, [], ◌∷◌, ◌++◌, map, length, if◌then◌else◌, unsigned_abs}
+use Rattle.std.specs.Prelude.{◌==◌, ℕ, zero, suc, ◌+◌, ◌*◌, ◌/◌, ◌%◌, ◌^◌, ℤ, pos, negsuc, int_lt, Bool, List, [], ◌∷◌, ◌++◌, map, if◌then◌else◌, unsigned_abs}
 use Rattle.std.specs.Fmt.{decimal}
-use Rattle.fx_rational.specs.Rational.{Rational, over, Equal}
-use Rattle.fx_model.specs.Machine.{word_value}
 
 -- the digits after the point of r / 2^f, for r below 2^f, by long division: 10r / 2^(f+1) is 5r / 2^f; none where r is 0
 unfoldable pub digits_after : ℕ → ℕ → List ℕ

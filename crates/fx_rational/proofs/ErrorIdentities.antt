@@ -2,7 +2,7 @@
 use Rattle.std.proofs.Common.{◌≡◌, refl, [], ◌∷◌, Some}
 use Rattle.fx_rational.specs.Rational.{Rational, plus, minus, times, quotient, Equal}
 use Rattle.fx_rational.proofs.Ring.{by_quotes, quotes}
-use Rattle.fx_rational.proofs.Laws.{equal_refl, equal_sym, equal_trans, minus_same, times_same, plus_same}
+use Rattle.fx_rational.proofs.Laws.{equal_refl, equal_trans, minus_same, plus_same}
 use Rattle.fx_rational.proofs.Quotient.{quotient_back, quotient_only}
 
 pub product_error : (x y dx dy : Rational) → Equal (minus (times (plus x dx) (plus y dy)) (times x y)) (plus (plus (times x dy) (times y dx)) (times dx dy))

@@ -1,13 +1,12 @@
 -- What a floor and a ceiling are: of a quotient of whole numbers, by products alone, and of a fraction.
-use Rattle.std.proofs.Common.{ℕ, ◌<◌, arith, refl, pos, negsuc, ℤ, ◌+ℤ◌, ◌*ℤ◌, neg_ℤ, ◌≤ℤ◌, ◌<ℤ◌, ◌↔◌, ◌≡◌, [], ◌∷◌}
+use Rattle.std.proofs.Common.{ℕ, arith, refl, pos, negsuc, ℤ, ◌+ℤ◌, ◌*ℤ◌, neg_ℤ, ◌≤ℤ◌, ◌<ℤ◌, ◌↔◌, ◌≡◌, [], ◌∷◌}
 use Rattle.std.proofs.lemmas.Int.{ints}
 use Rattle.std.proofs.lemmas.Nat.{div-add-mod', mod_below}
 use Rattle.fx_algebra.proofs.Integers.{neg_ℤ-*ℤ, nonneg_of_above}
 use Rattle.fx_algebra.proofs.Order.{mul_le_right, lt_of_mul}
 use Rattle.fx_algebra.proofs.Quote.{by_quotes, quotes}
-
 use Rattle.fx_rational.specs.Rational.{Rational, bottom, whole, over, plus, floor, floor_div, ceil_div, AtMost}
-use Rattle.fx_rational.specs.DyadicLaws.{IsFloor, FloorLaw, CeilingLaw}
+use Rattle.fx_rational.specs.DyadicLaws.{FloorLaw, CeilingLaw}
 
 pub floor_is : FloorLaw
 floor_is (pos a) d h =
@@ -59,7 +58,6 @@ floor_floors x = let h = floor_is x.top (bottom x) (omega arith) in let p = h.no
   where
     over_sum : (q t b : ℤ) → t <ℤ (q *ℤ b +ℤ b) → (t *ℤ pos 1) ≤ℤ ((q *ℤ pos 1 +ℤ pos 1 *ℤ pos 1) *ℤ b)
     over_sum q t b h = let e : (q *ℤ pos 1 +ℤ pos 1 *ℤ pos 1) *ℤ b ≡ q *ℤ b +ℤ b = by_quotes {ρ = q ∷ b ∷ []} (search quotes depth 20) (search quotes depth 20) refl in omega (arith, ints)
-
 
 pub floor-greatest : (x : Rational) (n : ℤ) → AtMost (whole n) x → n ≤ℤ floor x
 unfolding floor

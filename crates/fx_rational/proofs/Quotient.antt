@@ -1,5 +1,5 @@
 -- What is above zero, and quotients.
-use Rattle.std.proofs.Common.{◌≡◌, ◌⊎◌, inl, inr, ⊎_elim, ℕ, zero, suc, pred, ◌*◌, ◌<◌, refl, sym, ap, ◌∙◌, pos, negsuc, ℤ, ◌*ℤ◌, neg_ℤ, ◌≤ℤ◌, ◌<ℤ◌, [], ◌∷◌, arith, Option, Some, None}
+use Rattle.std.proofs.Common.{◌≡◌, ◌⊎◌, inl, inr, ⊎_elim, ℕ, zero, suc, pred, ◌*◌, ◌<◌, refl, sym, ap, ◌∙◌, pos, negsuc, ℤ, ◌*ℤ◌, neg_ℤ, ◌≤ℤ◌, ◌<ℤ◌, [], ◌∷◌, arith, Some, None}
 use Rattle.std.proofs.lemmas.Int.{ints}
 use Rattle.fx_algebra.proofs.Integers.{le_by_certificate, mul_above, difference_nonneg, suc_above}
 use Rattle.fx_algebra.proofs.Quote as int

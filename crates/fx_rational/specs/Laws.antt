@@ -71,7 +71,7 @@ pub record IntervalsHold : Type 0 where
   pub product : (a b c d lo hi x y : Rational) → IsBetween a b x → IsBetween c d y → BoundsProducts lo hi a b c d → IsBetween lo hi (times x y)
   -- for a divisor above zero: lo times either end is at most a, and b is at most hi times either end
   pub quotient : (a b c d lo hi x y z : Rational) → IsBetween a b x → IsBetween c d y → quotient x y ≡ Some z → (AtMost c (whole (pos 0)) → ⊥) →
-    AtMost (times lo c) a → AtMost (times lo d) a → AtMost b (times hi c) → AtMost b (times hi d) → IsBetween lo hi z
+      AtMost (times lo c) a → AtMost (times lo d) a → AtMost b (times hi c) → AtMost b (times hi d) → IsBetween lo hi z
 
 -- how errors dx of x and dy of y, and the centres mx and my of a form, enter a product and a quotient
 pub record ErrorIdentities : Type 0 where

@@ -1,5 +1,5 @@
 -- What acceptance says of each part, and the function that the steps lead to.
-use Rattle.std.proofs.Common.{◌≡◌, ◌⊎◌, ⊎_elim, ℕ, ◌+◌, ◌-◌, ◌<◌, ◌≤◌, ◌==◌, ℤ, pos, Bool, true, false, ◌&&◌, if◌then◌else◌, List, [], ◌∷◌, length, arith, refl, sym, ap, ◌∙◌, ltb, int_eq, bytes_eq, Option, Some, None}
+use Rattle.std.proofs.Common.{◌≡◌, ◌⊎◌, ⊎_elim, ℕ, ◌+◌, ◌-◌, ◌<◌, ◌≤◌, ◌==◌, ℤ, pos, true, false, ◌&&◌, if◌then◌else◌, List, [], ◌∷◌, length, arith, refl, sym, ap, ◌∙◌, ltb, int_eq, bytes_eq, Option, Some, None}
 use Rattle.std.specs.Prelude.{is_some, unwrap_or}
 use Rattle.std.proofs.lemmas.Bool.{eqb-true}
 use Rattle.std.proofs.lemmas.Int.{ints}
@@ -15,7 +15,7 @@ use Rattle.fx_inequalities.specs.Affine.{range_at, error_at, rows_of}
 use Rattle.fx_inequalities.specs.Rewriting.{Rewriting, Rewrites, KeepsMeaning, rewritten_by}
 use Rattle.fx_inequalities.specs.Condition.{each_index}
 use Rattle.fx_inequalities.specs.NodeConditions.{shape_conditions, node_conditions, state_point}
-use Rattle.fx_inequalities.specs.Accepted.{IsAccepted, conditions, conditions_of, step_conditions, demand_conditions, all_shape_conditions, counts_agree, each_node, next_code, start_claims, start_row_claims, row_claims}
+use Rattle.fx_inequalities.specs.Accepted.{IsAccepted, conditions, conditions_of, step_conditions, all_shape_conditions, counts_agree, each_node, next_code, start_claims, start_row_claims, row_claims}
 use Rattle.fx_bounds.proofs.Claims.{Each, Claimed, IsMet, all_met, met_left, met_right, at_index, both_left, both_right}
 use Rattle.fx_sound.proofs.SameMeaning.{same_meaning_refl, same_meaning_trans}
 

@@ -24,7 +24,7 @@ use Rattle.fx_bounds.proofs.Losses.{divided_is}
 use Rattle.fx_bounds.proofs.Spans.{within_same, within_sum, within_difference, within_product}
 use Rattle.fx_bounds.proofs.Claims.{Each, Claimed, both_left, both_right, within_inside}
 use Rattle.fx_bounds.proofs.Operations.{input_error, const_error, within_negative, negation_error, sum_error, difference_error, copy_error, product_error, divisor_top, divisor_word, within_quotient, quotient_error}
-use Rattle.fx_sound.proofs.Wide.{shifted_wide, product_wide, left_wide}
+use Rattle.fx_model.proofs.Wide.{shifted_wide, product_wide, left_wide}
 use Rattle.fx_sound.proofs.Forms.{negation_form, sum_form, difference_form, copy_form, product_form}
 use Rattle.fx_sound.proofs.Points.{Front, at_front}
 use Rattle.fx_sound.proofs.Held.{AllHold, FormsHold, word_within}

@@ -4,7 +4,7 @@ use Rattle.std.proofs.lemmas.List.{length-append}
 use Rattle.fx_rational.specs.Rational.{Rational, whole, minus, Equal}
 use Rattle.fx_model.specs.Function.{Function}
 use Rattle.fx_model.specs.Rows.{IsTrueOf}
-use Rattle.fx_model.specs.Machine.{Program, Code, word_value, words_after, points_after, point_of}
+use Rattle.fx_model.specs.Machine.{Code, word_value, words_after, points_after, point_of}
 use Rattle.fx_model.specs.Tree.{at}
 use Rattle.fx_model.specs.Nodes.{Node, node_values_after}
 use Rattle.fx_inequalities.specs.Formula.{formula_value, Within, span}
