@@ -9,3 +9,4 @@ pub mod NodeConditions
 pub mod Accepted
 pub mod Near
 pub mod LawfulCertificate
+pub mod CertificateText

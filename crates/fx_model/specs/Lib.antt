@@ -9,3 +9,5 @@ pub mod Valid
 pub mod Nodes
 pub mod Sameness
 pub mod LawfulProgram
+pub mod Names
+pub mod ProgramText
