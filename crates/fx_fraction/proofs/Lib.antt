@@ -1,0 +1,9 @@
+pub mod Fronts
+pub mod Trimmed
+pub mod Shifts
+pub mod Digits
+pub mod Numbers
+pub mod Reading
+pub mod Mantissas
+pub mod Quanta
+pub mod Tails

@@ -1,0 +1,4 @@
+pub mod Numeral
+pub mod DecimalText
+pub mod Kept
+pub mod ReadParts
