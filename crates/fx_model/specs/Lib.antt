@@ -6,3 +6,4 @@ pub mod WordText
 pub mod Page
 pub mod Valid
 pub mod Nodes
+pub mod Spelling

@@ -1,3 +1,5 @@
 #![tactic(auto)]
 
+pub mod text_laws;
+
 pub fn nothing() {}
