@@ -2,3 +2,4 @@ pub mod Rational
 pub mod Dyadic
 pub mod Interval
 pub mod Decimal
+pub mod LowestLaw

@@ -1,4 +1,6 @@
 //! Fractions without bound.
 #![tactic(auto)]
 
+pub mod lowest_law;
+
 pub fn nothing() {}
