@@ -7,3 +7,4 @@ pub mod Reading
 pub mod Mantissas
 pub mod Quanta
 pub mod Tails
+pub mod Terms

@@ -1,8 +1,8 @@
 -- A decimal in units of a power of two.
-use Rattle.std.proofs.Common.{◌≡◌, ℕ, zero, suc, pred, ◌+◌, ◌-◌, ◌*◌, ◌/◌, ◌%◌, ◌^◌, ◌<◌, ◌≤◌, ℤ, pos, negsuc, ◌*ℤ◌, ◌≤ℤ◌, ◌<ℤ◌, FitsSigned, to_z, of_z, lit<, refl, sym, ap, subst, ◌∙◌, arith}
+use Rattle.std.proofs.Common.{◌≡◌, ℕ, zero, suc, pred, ◌+◌, ◌-◌, ◌*◌, ◌/◌, ◌%◌, ◌^◌, ◌<◌, ◌≤◌, ℤ, pos, negsuc, ◌*ℤ◌, ◌≤ℤ◌, ◌<ℤ◌, List, [], ◌∷◌, get_or, FitsSigned, to_z, of_z, lit<, refl, sym, ap, subst, ◌∙◌, arith}
 use Rattle.std.specs.Prelude.{unsigned_abs}
 use Rattle.std.specs.Int.{w128}
-use Rattle.std.proofs.Math.Nat.{pow-le-pow_right, one-le-pow, div-div-eq-div-mul, mul_comm}
+use Rattle.std.proofs.Math.Nat.{pow-suc, pow-le-pow_right, one-le-pow, div-div-eq-div-mul, mul_comm}
 use Rattle.std.proofs.lemmas.Nat.{pow_pos, pow_below, mul-lt}
 use Rattle.std.proofs.lemmas.Int.{ints, fits_signed_mul, wrapping_mul_is, int_wrap_fits}
 use Rattle.fx_rational.specs.Rational.{Rational, over, scaled, floor, floor_div}
@@ -48,3 +48,16 @@ pub quantised_high : (d : Decimal) (f : ℤ) (s : ℕ) → pos 0 ≤ℤ f → s 
 unfolding quantised scaled floor decimal_value over
 quantised_high d (pos k) s above g = rw g (ap (floor_div (d.a *ℤ pos (2 ^ k))) (sym (suc_pred (10 ^ d.b) (ten_pos d.b))))
 quantised_high d (negsuc k) s above g = absurd (omega (arith, ints))
+
+-- x, 10x, 100x ..
+abbrev powers : ℕ → ℕ → List ℕ
+powers x zero = []
+powers x (suc n) = x ∷ powers (x * 10) n
+
+powers_at : (x n i : ℕ) → i < n → get_or (powers x n) i 0 ≡ x * 10 ^ i
+powers_at x zero i h = absurd (omega arith)
+powers_at x (suc n) zero h = omega arith
+powers_at x (suc n) (suc i) h = powers_at (x * 10) n i (omega arith) ∙ rw (pow-suc 10 i) (omega arith)
+
+pub tens_at : (i : ℕ) → i < 19 → get_or (powers 1 19) i 0 ≡ 10 ^ i
+tens_at i h = powers_at 1 19 i h ∙ omega arith

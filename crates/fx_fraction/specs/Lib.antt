@@ -2,3 +2,5 @@ pub mod Numeral
 pub mod DecimalText
 pub mod Kept
 pub mod ReadParts
+pub mod Fractions
+pub mod Back

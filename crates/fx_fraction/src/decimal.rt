@@ -4,6 +4,7 @@
 //! keep every comparison of two decimals, and a scaling by up to 2^64, inside 128 bits.
 
 ghost use Rattle.std.specs.Prelude.{◌≡◌, ◌^◌, ◌<◌, ◌≤◌};
+ghost use Rattle.fx_fraction.specs.Numeral.{signed};
 
 use std::marker::Model;
 
@@ -26,6 +27,29 @@ impl Model for Decimal {
     ghost inverse = { λ d. record { a = d.a; b = d.b } };
 }
 
+/// The powers of ten: a look-up, since each decimal that is read, compared or scaled needs one.
+const TENS: [u64; 19] = [
+    1,
+    10,
+    100,
+    1_000,
+    10_000,
+    100_000,
+    1_000_000,
+    10_000_000,
+    100_000_000,
+    1_000_000_000,
+    10_000_000_000,
+    100_000_000_000,
+    1_000_000_000_000,
+    10_000_000_000_000,
+    100_000_000_000_000,
+    1_000_000_000_000_000,
+    10_000_000_000_000_000,
+    100_000_000_000_000_000,
+    1_000_000_000_000_000_000,
+];
+
 /// `10^places`.
 pub fn ten_to(places: u8) -> u64
     requires { places ≤ 18 }
@@ -33,5 +57,17 @@ pub fn ten_to(places: u8) -> u64
     ensures some { 0 < result }
     ensures few { result ≤ 10 ^ 18 }
 {
-    10u64.pow(u32::from(places))
+    TENS[usize::from(places)]
+}
+
+/// The number of a size and a sign.
+pub fn signed(is_negative: bool, size: u64) -> i64
+    requires { size < 2 ^ 62 }
+    ensures { result ≡ signed is_negative size }
+{
+    if is_negative {
+        -(size as i64)
+    } else {
+        size as i64
+    }
 }

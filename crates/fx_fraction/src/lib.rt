@@ -1,16 +1,20 @@
 //! Exact decimals and fractions.
 #![tactic(auto)]
 
+mod arithmetic;
 mod decimal;
 mod fault;
+mod fraction;
 mod limits;
 mod quantised;
 mod read;
 mod significant;
 mod text;
 
+pub use arithmetic::{fadd, fdiv, fmul, fneg, fsub, to_fraction};
 pub use decimal::Decimal;
 pub use fault::NumberFault;
+pub use fraction::Fraction;
 pub use quantised::quantise;
 pub use read::read_decimal;
 pub use text::decimal_text;

@@ -4,25 +4,13 @@
 //! than 18 places in either direction is beyond the limits whatever the front is.
 
 ghost use Rattle.std.specs.Prelude.{◌≡◌, ◌<◌, ◌^◌, ◌%◌, ◌≤ℤ◌, ℕ, pos, negsuc};
-ghost use Rattle.fx_fraction.specs.Numeral.{signed};
 ghost use Rattle.fx_fraction.specs.DecimalText.{within_limits, fewest_places};
 ghost use Rattle.fx_fraction.specs.Kept.{Keeps, FitsFront};
 ghost use Rattle.fx_fraction.specs.ReadParts.{by_shift};
 
-use crate::decimal::{Decimal, ten_to};
+use crate::decimal::{Decimal, signed, ten_to};
 use crate::fault::NumberFault;
 use crate::significant::Significant;
-
-fn signed(is_negative: bool, size: u64) -> i64
-    requires { size < 2 ^ 62 }
-    ensures { result ≡ signed is_negative size }
-{
-    if is_negative {
-        -(size as i64)
-    } else {
-        size as i64
-    }
-}
 
 /// `front * 10^shift`, or `front / 10^-shift`.
 fn scaled(is_negative: bool, front: u64, shift: i128) -> Result<Decimal, NumberFault>
