@@ -8,3 +8,6 @@ pub mod Mantissas
 pub mod Quanta
 pub mod Tails
 pub mod Terms
+pub mod Ranges
+pub mod Numerals
+pub mod Values

@@ -15,7 +15,7 @@ use Rattle.fx_fraction.specs.Numeral.{signed}
 use Rattle.fx_fraction.specs.Fractions.{IsFraction, FitsFraction}
 use Rattle.fx_fraction.proofs.Quanta.{suc_pred, ten_pos, ten_small}
 
-signed_size : (s : Bool) (t : ℕ) → unsigned_abs (signed s t) ≡ t
+pub signed_size : (s : Bool) (t : ℕ) → unsigned_abs (signed s t) ≡ t
 signed_size true zero = refl
 signed_size true (suc t) = refl
 signed_size false t = refl

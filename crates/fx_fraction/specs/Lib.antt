@@ -4,3 +4,4 @@ pub mod Kept
 pub mod ReadParts
 pub mod Fractions
 pub mod Back
+pub mod ReadingLaw

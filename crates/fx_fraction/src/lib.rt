@@ -7,7 +7,9 @@ mod fault;
 mod fraction;
 mod limits;
 mod quantised;
+mod range;
 mod read;
+pub mod reading_law;
 mod significant;
 mod text;
 
@@ -16,5 +18,6 @@ pub use decimal::Decimal;
 pub use fault::NumberFault;
 pub use fraction::Fraction;
 pub use quantised::quantise;
+pub use range::within;
 pub use read::read_decimal;
 pub use text::decimal_text;
