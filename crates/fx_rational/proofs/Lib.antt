@@ -2,3 +2,9 @@ pub mod Ring
 pub mod Laws
 pub mod Quotient
 pub mod Lowest
+pub mod Intervals
+pub mod Fits
+pub mod Floors
+pub mod Dyadics
+pub mod Roundings
+pub mod DyadicIntervals

@@ -1,10 +1,15 @@
 -- Dyadics m / 2^e as they are written, their exact operations, and when these stay within 128 bits.
-use Rattle.std.specs.Prelude.{ℕ, zero, suc, ◌+◌, ◌-◌, ◌^◌, max, ℤ, pos, negsuc, ◌+ℤ◌, ◌-ℤ◌, ◌*ℤ◌, neg_ℤ, int_le, int_lt, Bool, ◌&&◌, nat_le, if◌then◌else◌}
-use Rattle.fx_rational.specs.Rational.{Rational, over, is_at_most, floor_div}
+use Rattle.std.specs.Prelude.{◌≡◌, ℕ, zero, suc, ◌+◌, ◌-◌, ◌^◌, ◌≤◌, max, ℤ, pos, negsuc, ◌+ℤ◌, ◌-ℤ◌, ◌*ℤ◌, neg_ℤ, int_le, int_lt, Bool, ◌&&◌, nat_le, if◌then◌else◌}
+use Rattle.fx_rational.specs.Rational.{Rational, over, is_at_most, floor_div, ceil_div}
 
 pub record Dyadic : Type 0 where
   pub m : ℤ
   pub e : ℕ
+
+-- zero is 0 / 2^0, and no exponent is above 2^20
+pub record IsDyadic (m : ℤ) (e : ℕ) : Type 0 where
+  pub of_zero : m ≡ pos 0 → e ≡ 0
+  pub small : e ≤ 2 ^ 20
 
 unfoldable pub dyadic_value : Dyadic → Rational
 dyadic_value d = over d.m (2 ^ d.e)
@@ -43,7 +48,7 @@ unfoldable pub greatest : Dyadic → Dyadic → Dyadic
 greatest a b = if is_dyadic_at_most b a then a else b
 
 -- a mantissa of 128 bits: from -2^127 to 2^127 - 1
-abbrev pub fits_128 : ℤ → Bool
+unfoldable pub fits_128 : ℤ → Bool
 fits_128 m = int_le (neg_ℤ (pos (2 ^ 127))) m && int_lt m (pos (2 ^ 127))
 
 -- each mantissa fits after its alignment, and so does the result's
@@ -61,7 +66,7 @@ unfoldable pub rounded_down : Dyadic → ℕ → Dyadic
 rounded_down d e = if nat_le d.e e then d else dyadic (floor_div d.m (2 ^ (d.e - e))) e
 
 unfoldable pub rounded_up : Dyadic → ℕ → Dyadic
-rounded_up d e = if nat_le d.e e then d else dyadic (neg_ℤ (floor_div (neg_ℤ d.m) (2 ^ (d.e - e)))) e
+rounded_up d e = if nat_le d.e e then d else dyadic (ceil_div d.m (2 ^ (d.e - e))) e
 
 -- 2^-f and w / 2^f as dyadics, the exponent 0 where f is below zero
 abbrev pub unit_dyadic : ℤ → Dyadic

@@ -3,3 +3,4 @@ pub mod Dyadic
 pub mod Interval
 pub mod Decimal
 pub mod LowestLaw
+pub mod DyadicLaws

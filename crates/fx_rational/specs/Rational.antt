@@ -62,6 +62,10 @@ abbrev pub floor_div : ℤ → ℕ → ℤ
 floor_div (pos n) d = pos (n / d)
 floor_div (negsuc n) d = negsuc (n / d)
 
+-- the least whole number of which d times isn't below n, for d above zero
+abbrev pub ceil_div : ℤ → ℕ → ℤ
+ceil_div n d = neg_ℤ (floor_div (neg_ℤ n) d)
+
 -- the greatest whole number not above q
 unfoldable pub floor : Rational → ℤ
 floor q = floor_div q.top (bottom q)

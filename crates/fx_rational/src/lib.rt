@@ -2,5 +2,6 @@
 #![tactic(auto)]
 
 pub mod lowest_law;
+pub mod dyadic_laws;
 
 pub fn nothing() {}

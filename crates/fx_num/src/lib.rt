@@ -1,0 +1,20 @@
+//! Exact whole numbers of 128 bits, and exact dyadics over them.
+//!
+//! A certificate is a list of inequalities between numbers `m / 2^e`. All of its arithmetic is done here, exactly: a call
+//! gives the very value, or None where a mantissa leaves 128 bits, and nothing wraps or rounds unless its name says so.
+//! These calls run for every inequality of every certificate, so none allocates and none goes over bits one by one.
+//! The trap: a value fits only if each mantissa does after its alignment too, so that a sum can be None though it's small.
+#![tactic(auto)]
+
+mod dyadic;
+mod shift;
+
+pub use dyadic::{Dyadic, dadd, dle, dmul, dsub, round_down, round_up};
+pub use shift::{add_fits, ceil_shift, floor_shift, left_fits, mul_fits};
+
+/// No memory was left. The only refusal of a call that can't fail otherwise.
+#[derive(Clone, Copy, Debug, PartialEq, Eq)]
+pub struct Memory;
+
+#[cfg(test)]
+mod tests;
