@@ -11,3 +11,4 @@ pub mod Terms
 pub mod Ranges
 pub mod Numerals
 pub mod Values
+pub mod Comparisons

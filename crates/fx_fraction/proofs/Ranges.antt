@@ -75,10 +75,10 @@ same_test true false f g = absurd (let e = f refl in cc)
 same_test false true f g = absurd (let e = g refl in cc)
 same_test false false f g = refl
 
-le_true : (a b : ℤ) → a ≤ℤ b → int_le a b ≡ true
+pub le_true : (a b : ℤ) → a ≤ℤ b → int_le a b ≡ true
 le_true a b h = grind (arith, ints)
 
-true_le : (a b : ℤ) → int_le a b ≡ true → a ≤ℤ b
+pub true_le : (a b : ℤ) → int_le a b ≡ true → a ≤ℤ b
 true_le a b e = omega (arith, ints)
 
 

@@ -9,7 +9,7 @@ ghost use Rattle.fx_rational.specs.Decimal.{decimal_value};
 ghost use Rattle.fx_fraction.specs.Fractions.{GivesLowest};
 
 use crate::decimal::{Decimal, ten_to};
-use crate::fraction::{Fraction, reduced};
+use crate::fraction::{Fraction, below, reduced, top};
 
 /// A numerator or denominator times another.
 fn product(x: i128, y: i128) -> i128
@@ -27,20 +27,6 @@ fn sum(x: i128, y: i128) -> i128
     ensures { result ≡ x +ℤ y }
 {
     x + y
-}
-
-fn top(a: Fraction) -> i128
-    ensures value { result ≡ a.top }
-    ensures small { unsigned_abs result < 2 ^ 62 }
-{
-    a.p
-}
-
-fn below(a: Fraction) -> i128
-    ensures value { result ≡ pos (bottom a) }
-    ensures small { unsigned_abs result < 2 ^ 62 }
-{
-    a.q
 }
 
 /// The product of the denominators.

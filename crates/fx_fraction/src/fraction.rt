@@ -3,9 +3,9 @@
 //! Lowest terms make the spelling unique, so `==` compares values and an operation's result is one definite pair. The
 //! limits keep every product of two numerators or denominators below 2^124, so that no sum leaves 128 bits.
 
-ghost use Rattle.std.specs.Prelude.{◌≡◌, ◌<◌, ◌^◌, pred};
+ghost use Rattle.std.specs.Prelude.{◌≡◌, ◌<◌, ◌^◌, pos, pred, unsigned_abs};
 ghost use Rattle.std.specs.Int.{IsGcd};
-ghost use Rattle.fx_rational.specs.Rational.{over};
+ghost use Rattle.fx_rational.specs.Rational.{bottom, over};
 ghost use Rattle.fx_fraction.specs.Numeral.{signed};
 ghost use Rattle.fx_fraction.specs.Fractions.{GivesLowest};
 
@@ -36,6 +36,22 @@ impl Model for Fraction {
     ghost use Rattle.fx_fraction.specs.Back.{fraction_back};
 
     ghost inverse_ok = { λ c h. fraction_back c h };
+}
+
+/// The numerator, with the limit that the type keeps.
+pub fn top(a: Fraction) -> i128
+    ensures value { result ≡ a.top }
+    ensures small { unsigned_abs result < 2 ^ 62 }
+{
+    a.p
+}
+
+/// The denominator, with the limits that the type keeps.
+pub fn below(a: Fraction) -> i128
+    ensures value { result ≡ pos (bottom a) }
+    ensures small { unsigned_abs result < 2 ^ 62 }
+{
+    a.q
 }
 
 fn short_gcd(a: u64, b: u64) -> u64

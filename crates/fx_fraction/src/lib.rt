@@ -2,6 +2,7 @@
 #![tactic(auto)]
 
 mod arithmetic;
+mod comparison;
 mod decimal;
 mod fault;
 mod fraction;
@@ -14,6 +15,7 @@ mod significant;
 mod text;
 
 pub use arithmetic::{fadd, fdiv, fmul, fneg, fsub, to_fraction};
+pub use comparison::{dyadic_ge, dyadic_le};
 pub use decimal::Decimal;
 pub use fault::NumberFault;
 pub use fraction::Fraction;

@@ -9,6 +9,7 @@ ghost use Rattle.fx_rational.specs.Rational.{floor_div};
 ghost use Rattle.fx_rational.specs.Decimal.{quantised};
 
 use crate::decimal::{Decimal, ten_to};
+use fx_num::floor_shift;
 
 /// `v * 2^s`.
 fn left(v: i128, s: u32) -> i128
@@ -17,14 +18,6 @@ fn left(v: i128, s: u32) -> i128
     ensures { result ≡ v *ℤ pos (2 ^ s) }
 {
     v << s
-}
-
-/// The floor of `v / 2^s`.
-fn right(v: i128, s: u32) -> i128
-    requires { s < 127 }
-    ensures { result ≡ floor_div v (2 ^ s) }
-{
-    v >> s
 }
 
 /// The floor of `n / d`.
@@ -48,7 +41,7 @@ pub fn quantise(d: Decimal, f: i32) -> i128
     let a = i128::from(d.a);
     let power = ten_to(d.b);
     if f < 0 {
-        floor_quotient(right(a, f.unsigned_abs()), power)
+        floor_quotient(floor_shift(a, f.unsigned_abs()), power)
     } else {
         floor_quotient(left(a, f.unsigned_abs()), power)
     }

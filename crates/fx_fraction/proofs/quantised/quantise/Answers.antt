@@ -23,11 +23,11 @@ returns-then-f-lt0 c =
     let fs = c.ranges.f in
     let fa : FitsSigned w128 c.from-a.result = search rules in
     let fi : SFits w64 c.d.inside.a = search rules in
-    let fr : FitsSigned w128 c.right.result = search rules in
+    let fr : FitsSigned w128 c.floor_shift.result = search rules in
     let fq : FitsSigned w128 c.floor_quotient.result = search rules in
     let k : c.unsigned_abs.result ≡ unsigned_abs c.args.f = simp to_z-of_z at c.unsigned_abs.ensures.value in
     let a : to_z w128 (of_z w128 c.from-a.result) ≡ c.d.inside.a = to_z-of_z w128 c.from-a.result fa ∙ c.from-a.ensures ∙ to_z-of_z w64 c.d.inside.a fi in
-    let r : to_z w128 (of_z w128 c.right.result) ≡ floor_div c.d.inside.a (2 ^ c.unsigned_abs.result) = to_z-of_z w128 c.right.result fr ∙ c.right.ensures ∙ ap (λ z. floor_div z (2 ^ c.unsigned_abs.result)) a in
+    let r : to_z w128 (of_z w128 c.floor_shift.result) ≡ floor_div c.d.inside.a (2 ^ c.unsigned_abs.result) = to_z-of_z w128 c.floor_shift.result fr ∙ c.floor_shift.ensures ∙ ap (λ z. floor_div z (2 ^ c.unsigned_abs.result)) a in
     to_z-of_z w128 c.floor_quotient.result fq ∙ c.floor_quotient.ensures
     ∙ (λ i. floor_div (r i) (c.ten_to-power.ensures.value i))
     ∙ quantised_low d c.args.f c.unsigned_abs.result (omega (arith, ints)) k
