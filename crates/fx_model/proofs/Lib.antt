@@ -4,3 +4,4 @@ pub mod InRange
 pub mod Wide
 pub mod Samples
 mod Worked
+pub mod Spellings

@@ -11,3 +11,4 @@ pub mod Sameness
 pub mod LawfulProgram
 pub mod Names
 pub mod ProgramText
+pub mod Spelling

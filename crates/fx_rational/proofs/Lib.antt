@@ -3,6 +3,7 @@ pub mod Laws
 pub mod Quotient
 pub mod ErrorIdentities
 pub mod Tests
+pub mod Lowest
 pub mod Intervals
 pub mod Powers
 pub mod Fits

@@ -3,4 +3,5 @@ pub mod Dyadic
 pub mod Interval
 pub mod Decimal
 pub mod Laws
+pub mod LowestLaw
 pub mod DyadicLaws

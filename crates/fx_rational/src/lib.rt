@@ -5,6 +5,7 @@
 //! one line of a proof (`proofs/Ring`): cross multiplication makes it one over whole numbers.
 #![tactic(auto)]
 
+pub mod lowest_law;
 pub mod dyadic_laws;
 mod rational_laws;
 

@@ -1,0 +1,14 @@
+pub mod Fronts
+pub mod Trimmed
+pub mod Shifts
+pub mod Digits
+pub mod Numbers
+pub mod Reading
+pub mod Mantissas
+pub mod Quanta
+pub mod Tails
+pub mod Terms
+pub mod Ranges
+pub mod Numerals
+pub mod Values
+pub mod Comparisons

@@ -1,0 +1,46 @@
+-- A number of digits, read in 64 bits.
+use Rattle.std.proofs.Common.{◌≡◌, ℕ, ◌+◌, ◌*◌, ◌-◌, ◌^◌, ◌<◌, ◌≤◌, Bool, true, false, List, length, get_or, take, min, Option, Some, None, refl, sym, subst, ◌∙◌, inl, inr, arith, rules, tests}
+use Rattle.std.specs.Prelude.{nat_lt}
+use Rattle.std.specs.Char.{digit_value, is_ascii_digit}
+use Rattle.std.specs.Str.{all_ascii_digits}
+use Rattle.std.specs.Str.Parse.{AllDigits, digits_value}
+use Rattle.std.specs.Int.{IsInRange}
+use Rattle.std.proofs.lemmas.Str.Parse.{IsNumeralModel, numerals_by_value, tells_all_ascii_digits, digit_at}
+use Rattle.std.proofs.lemmas.Int.Digits.{digits_value_more, digits_more}
+use Rattle.std.proofs.lemmas.Bool.{cases_Bool}
+use Rattle.std.proofs.lemmas.List.{take_all}
+use Rattle.fx_fraction.specs.Kept.{saturated}
+use Rattle.fx_fraction.specs.ReadParts.{number_kept}
+use Rattle.fx_fraction.proofs.Digits.{digit_is}
+
+own : IsNumeralModel (λ ds. all_ascii_digits ds ≡ true) (digits_value 10)
+own = numerals_by_value _ tells_all_ascii_digits
+
+is_digit : (c : ℕ) → IsInRange 48 57 c → is_ascii_digit c ≡ true
+is_digit c r = search (rules, tests)
+
+-- a byte that is no digit
+pub stops : (f : List ℕ) (i : ℕ) → i < length f → is_ascii_digit (get_or f i 0) ≡ false → number_kept f ≡ None
+stops f i lt other =
+    elim (cases_Bool (all_ascii_digits f)) [
+      | inl all ↦ let r = is_digit _ (digit_at f i (own.to f all) lt) in absurd cc
+      | inr e ↦ rw e refl
+    ]
+
+saturated_more : (n v d : ℕ) → v ≡ saturated n → saturated (saturated (v * 10) + d) ≡ saturated (n * 10 + d)
+saturated_more n v d e = omega arith
+
+pub goes_on : (f : List ℕ) (i v : ℕ) → i < length f → is_ascii_digit (get_or f i 0) ≡ true → AllDigits 10 (take i f) → v ≡ saturated (digits_value 10 (take i f))
+    → AllDigits 10 (take (i + 1) f) × (saturated (saturated (v * 10) + (get_or f i 0 - 48)) ≡ saturated (digits_value 10 (take (i + 1) f)))
+goes_on f i v lt one before e =
+    let d = digit_is (get_or f i 0) one in (
+      digits_more 10 f i lt before (omega (arith, d.0, d.1)),
+      saturated_more (digits_value 10 (take i f)) v (get_or f i 0 - 48) e ∙ rw (digits_value_more 10 f i lt, d.0) refl,
+    )
+
+pub ends : (f : List ℕ) (i v : ℕ) → 0 < length f → length f ≤ i → AllDigits 10 (take i f) → v ≡ saturated (digits_value 10 (take i f)) → Some v ≡ number_kept f
+ends f i v some le before e =
+    let whole = take_all i f le in
+    let one : all_ascii_digits f ≡ true = own.from f (subst (λ ds. AllDigits 10 ds) whole before) in
+    let t : nat_lt 0 (length f) ≡ true = search (rules, tests) in
+    rw (one, t, e, whole) refl

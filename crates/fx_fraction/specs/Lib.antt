@@ -1,0 +1,7 @@
+pub mod Numeral
+pub mod DecimalText
+pub mod Kept
+pub mod ReadParts
+pub mod Fractions
+pub mod Back
+pub mod ReadingLaw

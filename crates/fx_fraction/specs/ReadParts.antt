@@ -1,0 +1,30 @@
+-- What the reader's steps give.
+use Rattle.std.specs.Prelude.{◌≡◌, ℕ, suc, ◌+◌, ◌*◌, ◌^◌, ◌<◌, ◌≤◌, ℤ, pos, negsuc, List, ◌++◌, length, drop, Option, Some, None, option_map, if◌then◌else◌}
+use Rattle.std.specs.Str.Parse.{digits_value}
+use Rattle.fx_fraction.specs.declared.significant.Significant.{Significant}
+use Rattle.fx_fraction.specs.Numeral.{is_number, power_of, digit_count, first_digits, behind_digits, part_of, part_digits, behind_part}
+use Rattle.fx_fraction.specs.Kept.{saturated, kept_exponent, Keeps, FitsFront, zeros_of}
+
+-- front * 10^shift, or front / 10^-shift
+abbrev pub by_shift : ℕ → ℤ → ℕ × ℕ
+by_shift front (pos s) = (front * 10 ^ s, 0)
+by_shift front (negsuc s) = (front, suc s)
+
+-- the number of at least one digit, in 64 bits
+abbrev pub number_kept : List ℕ → Option ℕ
+number_kept ds = if is_number ds then Some (saturated (digits_value 10 ds)) else None
+
+-- the exponent of the power that stands there
+abbrev pub exponent_kept : List ℕ → Option ℤ
+exponent_kept text = option_map kept_exponent (power_of text)
+
+-- the digits and the point that stand first: what is kept of the digits, how many stand behind the point, and where all end
+pub record IsMantissa (text : List ℕ) (digits : Significant) (places end : ℕ) : Type 0 where
+  pub some : 0 < digit_count text + length (part_digits (part_of (behind_digits text)))
+  pub value : Keeps (digits_value 10 (first_digits text ++ part_digits (part_of (behind_digits text)))) digits
+  pub zeros : zeros_of digits < 2 ^ 63
+  pub fits : FitsFront digits
+  pub places_are : places ≡ length (part_digits (part_of (behind_digits text)))
+  pub short : places < 2 ^ 63
+  pub within : end ≤ length text
+  pub rest : drop end text ≡ behind_part (behind_digits text)

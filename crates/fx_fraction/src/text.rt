@@ -1,0 +1,155 @@
+//! The decimal text of a word at a binary point.
+//!
+//! The whole part goes through `itoa`; behind the point each step of a long division gives one digit: ten times the
+//! rest over 2^(left + 1) is five times the rest over 2^left, so that 64 bits hold every step but the first at 62
+//! places. The division ends by itself, with a digit that isn't 0, since 2 divides 10.
+
+ghost use Rattle.std.specs.Prelude.{◌≡◌, ◌+◌, ◌*◌, ◌-◌, ◌/◌, ◌%◌, ◌^◌, ◌≤◌, ◌<◌, ◌++◌, ◌∷◌, [], map, take, drop, length, decimal, pos, negsuc, neg_ℤ, ◌≤ℤ◌, ◌<ℤ◌, unsigned_abs, int_lt};
+ghost use Rattle.fx_model.specs.WordText.{digits_after, pointed, size_text, minus_sign, decimal_text};
+
+use itoa::Buffer;
+
+/// Puts bytes at a place, and gives the place behind them.
+fn put(out: &mut [u8], at: usize, bytes: &[u8]) -> usize
+    requires { at + length bytes.now ≤ length out.old }
+    ensures written { take result out.new ≡ take at out.old ++ bytes.now }
+    ensures rest { drop result out.new ≡ drop result out.old }
+    ensures end { result ≡ at + length bytes.now }
+{
+    let end = at + bytes.len();
+    out[at..end].copy_from_slice(bytes);
+    end
+}
+
+fn put_byte(out: &mut [u8], at: usize, byte: u8) -> usize
+    requires { at < length out.old }
+    ensures written { take result out.new ≡ take at out.old ++ byte ∷ [] }
+    ensures rest { drop result out.new ≡ drop result out.old }
+    ensures end { result ≡ at + 1 }
+{
+    out[at] = byte;
+    at + 1
+}
+
+/// A number of up to 64 bits; `put_wide` serves those above, at several times the cost.
+fn put_number(out: &mut [u8], at: usize, number: u64) -> usize
+    requires { at + 40 ≤ length out.old }
+    ensures written { take result out.new ≡ take at out.old ++ decimal number }
+    ensures rest { drop result out.new ≡ drop result out.old }
+    ensures end { (at ≤ result) × (result ≤ at + 40) }
+{
+    let mut buffer = Buffer::new();
+    let text = buffer.format(number);
+    put(out, at, text.as_bytes())
+}
+
+fn put_wide(out: &mut [u8], at: usize, number: u128) -> usize
+    requires { at + 40 ≤ length out.old }
+    ensures written { take result out.new ≡ take at out.old ++ decimal number }
+    ensures rest { drop result out.new ≡ drop result out.old }
+    ensures end { (at ≤ result) × (result ≤ at + 40) }
+{
+    let mut buffer = Buffer::new();
+    let text = buffer.format(number);
+    put(out, at, text.as_bytes())
+}
+
+/// The first digit behind the point of `rest / 2^(left + 1)`, and what is left over 2^left.
+fn next_digit(rest: u64, left: u32) -> (u8, u64)
+    requires few { left < 62 }
+    requires below { rest < 2 ^ (left + 1) }
+    ensures digit { result.0 ≡ 5 * rest / 2 ^ left }
+    ensures small { result.0 < 10 }
+    ensures rest { result.1 ≡ 5 * rest % 2 ^ left }
+{
+    if left < 61 {
+        let next = 5 * rest;
+        ((next >> left) as u8, next & ((1 << left) - 1))
+    } else {
+        let next = 5 * u128::from(rest);
+        let rest = next & ((1 << left) - 1);
+        ((next >> left) as u8, rest as u64)
+    }
+}
+
+/// The digits behind the point of `rest / 2^point`.
+fn put_digits(out: &mut [u8], at: usize, rest: u64, point: u32) -> usize
+    requires few { point ≤ 62 }
+    requires below { rest < 2 ^ point }
+    requires room { at + point ≤ length out.old }
+    ensures written { take result out.new ≡ take at out.old ++ map (λ k. 48 + k) (digits_after point rest) }
+    ensures rest { drop result out.new ≡ drop result out.old }
+    ensures end { (at ≤ result) × (result ≤ at + point) }
+{
+    let mut left = point;
+    let mut now = rest;
+    let mut end = at;
+    while now != 0 {
+        left -= 1;
+        let (digit, rest) = next_digit(now, left);
+        now = rest;
+        end = put_byte(out, end, b'0' + digit);
+    }
+    end
+}
+
+/// The digits behind the point, and a point before them where there are any.
+fn put_part(out: &mut [u8], at: usize, rest: u64, point: u32) -> usize
+    requires few { point ≤ 62 }
+    requires below { rest < 2 ^ point }
+    requires room { at + point + 1 ≤ length out.old }
+    ensures written { take result out.new ≡ take at out.old ++ pointed (digits_after point rest) }
+    ensures rest { drop result out.new ≡ drop result out.old }
+    ensures end { (at ≤ result) × (result ≤ at + point + 1) }
+{
+    if rest == 0 {
+        return at;
+    }
+    let end = put_byte(out, at, b'.');
+    put_digits(out, end, rest, point)
+}
+
+/// The text of `size / 2^point`.
+fn put_size(out: &mut [u8], at: usize, size: u64, point: i32) -> usize
+    requires size { size ≤ 2 ^ 63 }
+    requires low { negsuc 63 ≤ℤ point }
+    requires high { point ≤ℤ pos 62 }
+    requires room { at + 103 ≤ length out.old }
+    ensures written { take result out.new ≡ take at out.old ++ size_text size point }
+    ensures rest { drop result out.new ≡ drop result out.old }
+    ensures end { (at ≤ result) × (result ≤ at + 103) }
+{
+    let shift = point.unsigned_abs();
+    if point < 0 {
+        return put_wide(out, at, u128::from(size) << shift);
+    }
+    let end = put_number(out, at, size >> shift);
+    put_part(out, end, size & ((1 << shift) - 1), shift)
+}
+
+fn put_sign(out: &mut [u8], is_negative: bool) -> usize
+    requires { 1 ≤ length out.old }
+    ensures written { take result out.new ≡ minus_sign is_negative }
+    ensures rest { drop result out.new ≡ drop result out.old }
+    ensures end { result ≤ 1 }
+{
+    if is_negative {
+        put_byte(out, 0, b'-')
+    } else {
+        0
+    }
+}
+
+/// Writes the decimal text of `w / 2^f` into the front of `out`, and gives its length.
+pub fn decimal_text(w: i128, f: i32, out: &mut [u8; 128]) -> usize
+    requires least { neg_ℤ (pos (2 ^ 63)) ≤ℤ w }
+    requires most { w <ℤ pos (2 ^ 63) }
+    requires low { negsuc 63 ≤ℤ f }
+    requires high { f ≤ℤ pos 62 }
+    ensures front { take result out.new ≡ decimal_text w f }
+    ensures length { result ≡ length (decimal_text w f) }
+    ensures rest { drop result out.new ≡ drop result out.old }
+{
+    let at = put_sign(out, w < 0);
+    put_size(out, at, w.unsigned_abs() as u64, f)
+}
