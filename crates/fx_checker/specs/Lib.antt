@@ -1,0 +1,3 @@
+pub mod FirstSource
+pub mod FirstBundle
+pub mod First

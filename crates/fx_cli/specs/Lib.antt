@@ -1,0 +1,3 @@
+pub mod Words
+pub mod FirstRows
+pub mod Promise
