@@ -46,12 +46,14 @@ impl Model for Name {
 }
 
 impl Name {
+    /// Any text is a name.
     pub fn new(text: String) -> Self
         ensures { result ≡ string_bytes text }
     {
         Name { text }
     }
 
+    /// The text.
     pub fn as_str(&self) -> &str
         ensures { result.now ≡ self.now }
     {
@@ -79,7 +81,7 @@ impl Model for Papers {
 }
 
 impl Papers {
-    /// Reads of a name that isn't there are numbered too.
+    /// `fails` has the numbers of the reads that fail, from 1. Reads of a name that isn't there are counted in.
     pub fn new(files: Vec<(Name, Vec<u8>)>, fails: Vec<u64>) -> Self
         ensures { result ≡ record { files = entries files.items; fails = fails.items; calls = 0; faults = 0 } }
     {

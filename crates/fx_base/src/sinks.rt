@@ -48,7 +48,7 @@ impl Model for BytesOut {
 }
 
 impl BytesOut {
-    /// It grows by the allocator of `fails`.
+    /// Nothing is written yet. `fails` has the numbers of the writes that fail, from 1; its allocator serves the bytes.
     pub fn new(fails: Vec<u64>) -> Self
         ensures { result ≡ record { taken = []; fails = fails.items; calls = 0; faults = 0 } }
     {
@@ -100,6 +100,7 @@ impl Sink for BytesOut {
 pub struct Silent;
 
 impl Silent {
+    /// It never fails.
     pub fn new() -> Self
         ensures { ⟦<Silent as Sink>⟧.faults result ≡ 0 }
     {

@@ -52,7 +52,7 @@ impl Model for BytesIn {
 }
 
 impl BytesIn {
-    /// Each read gives at most `piece` bytes.
+    /// Each read gives at most `piece` bytes. `fails` has the numbers of the reads that fail, from 1.
     pub fn new(bytes: Vec<u8>, piece: usize, fails: Vec<u64>) -> Self
         requires { 1 ≤ piece }
         ensures { result ≡ record { left = bytes.items; piece = piece; fails = fails.items; calls = 0; faults = 0 } }
@@ -114,6 +114,7 @@ impl Model for CleanIn {
 }
 
 impl CleanIn {
+    /// It gives these bytes, from the first one on.
     pub fn new(bytes: Vec<u8>) -> Self
         ensures { result ≡ bytes.items }
     {

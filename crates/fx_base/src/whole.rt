@@ -13,10 +13,10 @@ ghost use Rattle.fx_base.specs.Calls.{TakesUpTo, AppendsFront};
 use crate::{Failed, InFault, Shelf, Sink, Source};
 use std::alloc::Global;
 
-// Few calls of the system for a long file, and still little on the stack.
+// In bytes: few calls of the system for a long file, and still little on the stack.
 const BLOCK: usize = 16_384;
 
-/// All bytes up to the end of input.
+/// All bytes up to the end of input, at most `limit` of them. After a refusal the source stands behind what was taken.
 pub fn read_all<S: Source>(alloc: Global, source: &mut S, limit: u64) -> Result<Vec<u8>, InFault>
     ensures all { IfOk result (λ bytes. Consumes (S.left source.old) (S.left source.new) bytes.items) }
     ensures end { OnOk result (IsAtEnd (S.left source.new)) }
@@ -39,7 +39,7 @@ pub fn read_all<S: Source>(alloc: Global, source: &mut S, limit: u64) -> Result<
     }
 }
 
-/// All bytes of a file.
+/// All bytes of a file, at most `limit` of them, each read once and in order.
 pub fn read_file<H: Shelf>(
     alloc: Global,
     shelf: &mut H,
@@ -70,7 +70,7 @@ pub fn read_file<H: Shelf>(
     }
 }
 
-/// Appends all of `bytes`. Of a write that fails a front of them was appended.
+/// Appends all of `bytes`. Where a write fails, a front of them was appended.
 pub fn put_all<K: Sink>(sink: &mut K, bytes: &[u8]) -> Result<(), Failed>
     ensures all { OnOk result (Appends (K.taken sink.old) (K.taken sink.new) bytes.now) }
     ensures front { OnErr result (AppendsFront (K.taken sink.old) (K.taken sink.new) bytes.now) }
