@@ -1,0 +1,5 @@
+pub mod Causes
+pub mod Sink
+pub mod Shelf
+pub mod Calls
+pub mod Kinds
