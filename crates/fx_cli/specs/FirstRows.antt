@@ -3,7 +3,7 @@ use Rattle.std.specs.Prelude.{◌≡◌, ℕ, ◌+◌, Bool, ◌&&◌, ◌==◌,
 use Rattle.std.specs.Option.{option_map, option_and_then}
 use Rattle.std.specs.List.{slice_split, join_with_byte}
 use Rattle.fx_rational.specs.Rational.{Rational, plus, minus, is_at_most}
-use Rattle.fx_rational.specs.Decimal.{decimal_value}
+use Rattle.fx_rational.specs.Decimal.{Decimal, decimal_value}
 use Rattle.fx_fraction.specs.DecimalText.{decimal_of}
 use Rattle.fx_model.specs.Function.{Function, Input}
 
@@ -11,12 +11,14 @@ use Rattle.fx_model.specs.Function.{Function, Input}
 abbrev pub is_in_range : Input → Rational → Bool
 is_in_range i g = is_at_most (minus i.lo i.err) g && is_at_most g (plus i.hi i.err)
 
--- the value of a field that spells a decimal in range of its input
+-- the value of a decimal in range of the input
+abbrev pub value_in_range : {E : Type 0} → Input → Result Decimal E → Option Rational
+value_in_range i (Ok d) = if is_in_range i (decimal_value d) then Some (decimal_value d) else None
+value_in_range i (Err e) = None
+
+-- the value of a field, if it spells such a decimal
 abbrev pub given_value : Input → List ℕ → Option Rational
-given_value i field = kept (decimal_of field) where
-  kept : Result _ _ → Option Rational
-  kept (Ok d) = if is_in_range i (decimal_value d) then Some (decimal_value d) else None
-  kept (Err e) = None
+given_value i field = value_in_range i (decimal_of field)
 
 -- a field for each input
 abbrev pub row_of : List Input → List (List ℕ) → Option (List Rational)

@@ -1,6 +1,6 @@
 -- What `fixd` promises: of every byte that it prints, and of its status.
-use Rattle.std.specs.Prelude.{◌≡◌, ◌≢◌, ◌⊎◌, ℕ, ◌<◌, ◌≤◌, List, [], ◌++◌, length, Option, Some, None}
-use Rattle.fx_base.specs.Paper.{paper_of}
+use Rattle.std.specs.Prelude.{◌≡◌, ◌≢◌, ◌⊎◌, ℕ, ◌<◌, ◌≤◌, ℤ, List, [], ◌++◌, length, Option, Some, None}
+use Rattle.fx_base.specs.Shelf.{Files, paper_of}
 use Rattle.fx_rational.specs.Rational.{Rational}
 use Rattle.fx_model.specs.Function.{Run, exact_run}
 use Rattle.fx_model.specs.Rows.{AreTrueOf}
@@ -12,35 +12,31 @@ use Rattle.fx_checker.specs.FirstBundle.{Bundle, Spells, IsAcceptedBundle, progr
 use Rattle.fx_cli.specs.Words.{IsRun}
 use Rattle.fx_cli.specs.FirstRows.{Rows, read_rows}
 
--- names of files with their bytes
-abbrev pub Files : Type 0
-Files = List (List ℕ × List ℕ)
-
 -- the outside told its bytes: those of FILE, all that the input held when the call began, and what was appended to the output
 pub record Told (words : List (List ℕ)) (papers : Option Files) (left before after : Option (List ℕ)) (file held printed : List ℕ) : Type 0 where
   pub name : List ℕ
   pub files : Files
   pub old : List ℕ
-  pub words : IsRun words name
-  pub papers : papers ≡ Some files
-  pub file : paper_of files name ≡ Some file
-  pub held : left ≡ Some held
-  pub before : before ≡ Some old
-  pub after : after ≡ Some (old ++ printed)
+  pub words_are : IsRun words name
+  pub papers_are : papers ≡ Some files
+  pub file_is : paper_of files name ≡ Some file
+  pub held_is : left ≡ Some held
+  pub before_is : before ≡ Some old
+  pub after_is : after ≡ Some (old ++ printed)
 
 -- FILE isn't among the files that the shelf tells
 pub record IsMissingFile (words : List (List ℕ)) (papers : Option Files) : Type 0 where
   pub name : List ℕ
   pub files : Files
-  pub words : IsRun words name
-  pub papers : papers ≡ Some files
+  pub words_are : IsRun words name
+  pub papers_are : papers ≡ Some files
   pub missing : paper_of files name ≡ None
 
 abbrev pub IsPrefixOf : List ℕ → List ℕ → Type 0
 IsPrefixOf front all = (rest : List ℕ) × (all ≡ front ++ rest)
 
 -- for all true rows the exact run is defined, and each output differs from the exact one by at most its certified bound
-abbrev pub IsWithinBounds : Bundle → List (List Rational) → Run _ → Type 0
+abbrev pub IsWithinBounds : Bundle → List (List Rational) → Run ℤ → Type 0
 IsWithinBounds b rows run =
     (true_rows : List (List Rational)) → AreTrueOf (function_of b.source).inputs rows true_rows →
     (exact_made : Run Rational) × (exact_run (function_of b.source) true_rows ≡ Some exact_made) ×
@@ -54,7 +50,7 @@ IsWhole status = (status ≡ 0) ⊎ (status ≡ 5)
 pub record IsHonest (file held printed : List ℕ) (status : ℕ) : Type 0 where
   pub bundle : Bundle
   pub rows : Rows
-  pub run : Run _
+  pub run : Run ℤ
   -- accepted: FILE is a bundle whose parts are accepted
   pub spelled : Spells file bundle
   pub accepted : IsAcceptedBundle bundle

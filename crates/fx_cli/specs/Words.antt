@@ -7,7 +7,7 @@ texts_of words = map (λ w. string_bytes w) words
 
 -- `run FILE`
 pub record IsRun (words : List (List ℕ)) (file : List ℕ) : Type 0 where
-  pub words : words ≡ codes "run" ∷ file ∷ []
+  pub are : words ≡ codes "run" ∷ file ∷ []
 
 -- the only command so far
 abbrev pub IsCommand : List (List ℕ) → Type 0
