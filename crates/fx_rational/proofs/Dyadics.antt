@@ -10,6 +10,7 @@ use Rattle.fx_rational.specs.Dyadic.{Dyadic, dyadic_value, dyadic, aligned, dyad
 use Rattle.fx_rational.specs.DyadicLaws.{SumLaw, DifferenceLaw, ProductLaw, OrderLaw, LeastLaw, IsLeast, GreatestLaw, IsGreatest}
 use Rattle.fx_rational.proofs.Ring.{suc_pred}
 use Rattle.fx_rational.proofs.Laws.{equal_refl, equal_sym, equal_trans, le_refl, le_of_equal, le_total, plus_same, negative_same}
+use Rattle.fx_rational.proofs.Tests.{at_most_test, at_most_false}
 use Rattle.fx_rational.proofs.Floors.{le_floor, ceiling_le}
 
 -- ---- what a test tells
@@ -136,20 +137,9 @@ at_most_by_floor a b h =
     let o = below_finer a b h in let c = le_floor a.m b.m (2 ^ (b.e - a.e)) (pow_above (b.e - a.e)) in
     same_tests _ _ _ _ (λ k. (o.1 (c.0 k)).at_most, λ k. c.1 (o.0 (record { at_most = k })))
 
--- the test tells the order
-pub at_most_is : (p q : Rational) → IsTrue (is_at_most p q) ↔ AtMost p q
-unfolding is_at_most
-at_most_is p q = (λ h. record { at_most = omega (arith, ints, h) }, λ h. let l = h.at_most in by (p.top *ℤ pos (bottom q)) (q.top *ℤ pos (bottom p)) l)
-  where
-    by : (a b : ℤ) → a ≤ℤ b → int_le a b ≡ true
-    by a b l = grind (arith, ints)
-
+-- ---- order
 pub at_most_law : OrderLaw
-at_most_law a b = at_most_is (dyadic_value a) (dyadic_value b)
-
--- what isn't at most is above
-pub not_at_most : (p q : Rational) → is_at_most p q ≡ false → AtMost q p
-not_at_most p q e = ⊎_elim (λ h. absurd (let t = (at_most_is p q).1 h in cc)) (λ h. h) (le_total p q)
+at_most_law a b = at_most_test (dyadic_value a) (dyadic_value b)
 
 -- ---- the lesser and the greater of two
 pub least_is : LeastLaw
@@ -158,7 +148,7 @@ least_is a b = by (is_dyadic_at_most a b) refl
   where
     by : (t : Bool) → is_dyadic_at_most a b ≡ t → IsLeast a b (if t then a else b)
     by true e = record { one = inl refl; left = le_refl _; right = (at_most_law a b).0 e; first = λ _. refl }
-    by false e = record { one = inr refl; left = not_at_most _ _ e; right = le_refl _; first = λ h. absurd (let t = (at_most_law a b).1 (le_of_equal h) in cc) }
+    by false e = record { one = inr refl; left = at_most_false _ _ e; right = le_refl _; first = λ h. absurd (let t = (at_most_law a b).1 (le_of_equal h) in cc) }
 
 pub greatest_is : GreatestLaw
 unfolding greatest
@@ -166,4 +156,4 @@ greatest_is a b = by (is_dyadic_at_most b a) refl
   where
     by : (t : Bool) → is_dyadic_at_most b a ≡ t → IsGreatest a b (if t then a else b)
     by true e = record { one = inl refl; left = le_refl _; right = (at_most_law b a).0 e; first = λ _. refl }
-    by false e = record { one = inr refl; left = not_at_most _ _ e; right = le_refl _; first = λ h. absurd (let t = (at_most_law b a).1 (le_of_equal (equal_sym h)) in cc) }
+    by false e = record { one = inr refl; left = at_most_false _ _ e; right = le_refl _; first = λ h. absurd (let t = (at_most_law b a).1 (le_of_equal (equal_sym h)) in cc) }
