@@ -19,8 +19,8 @@ unfolding is_at_most dyadic_value over
 le_is d c =
     let k = ceiling_le (d.m *ℤ pos (bottom c)) c.top (2 ^ d.e) (pow_above d.e) in
     same_test _ _
-      (λ t. le_true _ _ (subst (λ (n : ℕ). (d.m *ℤ pos (bottom c)) ≤ℤ (c.top *ℤ pos n)) (sym (twos d.e)) (k.0 (true_le _ _ t))))
-      (λ t. le_true _ _ (k.1 (subst (λ (n : ℕ). (d.m *ℤ pos (bottom c)) ≤ℤ (c.top *ℤ pos n)) (twos d.e) (true_le _ _ t))))
+    (λ t. le_true _ _ (subst (λ (n : ℕ). (d.m *ℤ pos (bottom c)) ≤ℤ (c.top *ℤ pos n)) (sym (twos d.e)) (k.0 (true_le _ _ t))))
+    (λ t. le_true _ _ (k.1 (subst (λ (n : ℕ). (d.m *ℤ pos (bottom c)) ≤ℤ (c.top *ℤ pos n)) (twos d.e) (true_le _ _ t))))
 
 -- p / q <= m / 2^e exactly where p is at most the floor of m * q / 2^e
 pub ge_is : (d : Dyadic) (c : Rational) → int_le c.top (floor_div (d.m *ℤ pos (bottom c)) (2 ^ d.e)) ≡ is_at_most c (dyadic_value d)
@@ -28,5 +28,5 @@ unfolding is_at_most dyadic_value over
 ge_is d c =
     let k = le_floor c.top (d.m *ℤ pos (bottom c)) (2 ^ d.e) (pow_above d.e) in
     same_test _ _
-      (λ t. le_true _ _ (subst (λ (n : ℕ). (c.top *ℤ pos n) ≤ℤ (d.m *ℤ pos (bottom c))) (sym (twos d.e)) (k.0 (true_le _ _ t))))
-      (λ t. le_true _ _ (k.1 (subst (λ (n : ℕ). (c.top *ℤ pos n) ≤ℤ (d.m *ℤ pos (bottom c))) (twos d.e) (true_le _ _ t))))
+    (λ t. le_true _ _ (subst (λ (n : ℕ). (c.top *ℤ pos n) ≤ℤ (d.m *ℤ pos (bottom c))) (sym (twos d.e)) (k.0 (true_le _ _ t))))
+    (λ t. le_true _ _ (k.1 (subst (λ (n : ℕ). (c.top *ℤ pos n) ≤ℤ (d.m *ℤ pos (bottom c))) (twos d.e) (true_le _ _ t))))

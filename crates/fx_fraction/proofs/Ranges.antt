@@ -47,7 +47,7 @@ pub sum_below_back : (a b c x y z L E G T : ℤ) → L *ℤ x ≡ T → E *ℤ y
     → ((a *ℤ L +ℤ b *ℤ E) ≤ℤ (c *ℤ G) → left_side a b x y z ≤ℤ (c *ℤ (x *ℤ y)))
 sum_below_back a b c x y z L E G T p q r hx hy hz ht h =
     le_by_certificate ht (mul_nonneg (nonneg_of_above (mul_above (mul_above hx hy) hz)) (difference_nonneg h))
-        (*ℤ_comm T (c *ℤ (x *ℤ y) -ℤ left_side a b x y z) ∙ scaled_up a b c x y z L E G T p q r)
+    (*ℤ_comm T (c *ℤ (x *ℤ y) -ℤ left_side a b x y z) ∙ scaled_up a b c x y z L E G T p q r)
 
 -- the same turned round
 scaled_down : (a b c x y z L E G T : ℤ) → L *ℤ x ≡ T → E *ℤ y ≡ T → G *ℤ z ≡ T
@@ -66,7 +66,7 @@ pub sum_above_back : (a b c x y z L E G T : ℤ) → L *ℤ x ≡ T → E *ℤ y
     → ((c *ℤ G) ≤ℤ (a *ℤ L +ℤ b *ℤ E) → (c *ℤ (x *ℤ y)) ≤ℤ left_side a b x y z)
 sum_above_back a b c x y z L E G T p q r hx hy hz ht h =
     le_by_certificate ht (mul_nonneg (nonneg_of_above (mul_above (mul_above hx hy) hz)) (difference_nonneg h))
-        (*ℤ_comm T (left_side a b x y z -ℤ c *ℤ (x *ℤ y)) ∙ scaled_down a b c x y z L E G T p q r)
+    (*ℤ_comm T (left_side a b x y z -ℤ c *ℤ (x *ℤ y)) ∙ scaled_down a b c x y z L E G T p q r)
 
 -- two tests of one fact
 pub same_test : (p q : Bool) → (p ≡ true → q ≡ true) → (q ≡ true → p ≡ true) → p ≡ q
@@ -80,7 +80,6 @@ le_true a b h = grind (arith, ints)
 
 pub true_le : (a b : ℤ) → int_le a b ≡ true → a ≤ℤ b
 true_le a b e = omega (arith, ints)
-
 
 pub le_along : {a b c d : ℤ} → a ≡ b → c ≡ d → a ≤ℤ c → b ≤ℤ d
 le_along {a} {b} {c} {d} p q h = subst (λ x. x ≤ℤ d) p (subst (λ y. a ≤ℤ y) q h)
@@ -110,7 +109,6 @@ ten_above = omega (arith, ints)
 pub den_sum : (m n : ℕ) → pos (suc (pred (suc m * suc n))) ≡ pos (suc m) *ℤ pos (suc n)
 den_sum m n = let h : 0 < suc m * suc n = mul-lt 0 0 (suc m) (suc n) (omega arith) (omega arith) in ap pos (suc_pred (suc m * suc n) h)
 
-
 -- the same test, of a difference in units
 pub above_is : (g lo err : Decimal) (x y z : ℤ) → x ≡ units lo → y ≡ units err → z ≡ units g → g.b ≤ 18 → lo.b ≤ 18 → err.b ≤ 18
     → int_le (x -ℤ y) z ≡ is_at_most (minus (decimal_value lo) (decimal_value err)) (decimal_value g)
@@ -124,12 +122,12 @@ above_is g lo err x y z ex ey ez hg hl he =
     let e : a *ℤ L +ℤ b *ℤ E ≡ x -ℤ y = ap (λ t. a *ℤ L +ℤ t) nn ∙ sym (rw (ex, ey) refl) in
     let d : c *ℤ pos (suc (pred (suc m * suc n))) ≡ c *ℤ (X *ℤ Y) = ap (λ t. c *ℤ t) (den_sum m n) in
     same_test _ _
-      (λ t. le_true _ _ (subst (λ w. left_side a b X Y Z ≤ℤ w) (sym d)
-          (sum_below_back a b c X Y Z L E G (pos (10 ^ 18)) (den_unit lo hl) (den_unit err he) (den_unit g hg) (some_above m) (some_above n) (some_above (pred (10 ^ g.b))) ten_above
-            (le_along (sym e) ez (true_le (x -ℤ y) z t)))))
-      (λ t. le_true (x -ℤ y) z (le_along e (sym ez)
-          (sum_below a b c X Y Z L E G (pos (10 ^ 18)) (den_unit lo hl) (den_unit err he) (den_unit g hg) (some_above m) (some_above n) (some_above (pred (10 ^ g.b))) ten_above
-            (subst (λ w. left_side a b X Y Z ≤ℤ w) d (true_le _ _ t)))))
+    (λ t. le_true _ _ (subst (λ w. left_side a b X Y Z ≤ℤ w) (sym d)
+    (sum_below_back a b c X Y Z L E G (pos (10 ^ 18)) (den_unit lo hl) (den_unit err he) (den_unit g hg) (some_above m) (some_above n) (some_above (pred (10 ^ g.b))) ten_above
+    (le_along (sym e) ez (true_le (x -ℤ y) z t)))))
+    (λ t. le_true (x -ℤ y) z (le_along e (sym ez)
+    (sum_below a b c X Y Z L E G (pos (10 ^ 18)) (den_unit lo hl) (den_unit err he) (den_unit g hg) (some_above m) (some_above n) (some_above (pred (10 ^ g.b))) ten_above
+    (subst (λ w. left_side a b X Y Z ≤ℤ w) d (true_le _ _ t)))))
 
 -- the same test, of a sum in units
 pub below_is : (g hi err : Decimal) (x y z : ℤ) → x ≡ units hi → y ≡ units err → z ≡ units g → g.b ≤ 18 → hi.b ≤ 18 → err.b ≤ 18
@@ -143,12 +141,12 @@ below_is g hi err x y z ex ey ez hg hl he =
     let e : a *ℤ L +ℤ b *ℤ E ≡ x +ℤ y = sym (rw (ex, ey) refl) in
     let d : c *ℤ pos (suc (pred (suc m * suc n))) ≡ c *ℤ (X *ℤ Y) = ap (λ t. c *ℤ t) (den_sum m n) in
     same_test _ _
-      (λ t. le_true _ _ (subst (λ w. w ≤ℤ left_side a b X Y Z) (sym d)
-          (sum_above_back a b c X Y Z L E G (pos (10 ^ 18)) (den_unit hi hl) (den_unit err he) (den_unit g hg) (some_above m) (some_above n) (some_above (pred (10 ^ g.b))) ten_above
-            (le_along ez (sym e) (true_le z (x +ℤ y) t)))))
-      (λ t. le_true z (x +ℤ y) (le_along (sym ez) e
-          (sum_above a b c X Y Z L E G (pos (10 ^ 18)) (den_unit hi hl) (den_unit err he) (den_unit g hg) (some_above m) (some_above n) (some_above (pred (10 ^ g.b))) ten_above
-            (subst (λ w. w ≤ℤ left_side a b X Y Z) d (true_le _ _ t)))))
+    (λ t. le_true _ _ (subst (λ w. w ≤ℤ left_side a b X Y Z) (sym d)
+    (sum_above_back a b c X Y Z L E G (pos (10 ^ 18)) (den_unit hi hl) (den_unit err he) (den_unit g hg) (some_above m) (some_above n) (some_above (pred (10 ^ g.b))) ten_above
+    (le_along ez (sym e) (true_le z (x +ℤ y) t)))))
+    (λ t. le_true z (x +ℤ y) (le_along (sym ez) e
+    (sum_above a b c X Y Z L E G (pos (10 ^ 18)) (den_unit hi hl) (den_unit err he) (den_unit g hg) (some_above m) (some_above n) (some_above (pred (10 ^ g.b))) ten_above
+    (subst (λ w. w ≤ℤ left_side a b X Y Z) d (true_le _ _ t)))))
 
 -- bounds in 128 bits
 abs_bound : (a : ℤ) (n : ℕ) → unsigned_abs a < 2 ^ 62 → n ≤ 10 ^ 18 → unsigned_abs (a *ℤ pos n) ≤ 2 ^ 62 * 10 ^ 18

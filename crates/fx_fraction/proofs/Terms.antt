@@ -29,7 +29,8 @@ fraction_is s t u x y above small few h ex ey =
       above = rw ey (omega (arith, ints));
       top_small = omega arith;
       bottom_small = omega arith;
-      coprime = subst (λ k. IsGcd k (unsigned_abs y) 1) (sym m) (subst (λ k. IsGcd t k 1) (sym n) h) }
+      coprime = subst (λ k. IsGcd k (unsigned_abs y) 1) (sym m) (subst (λ k. IsGcd t k 1) (sym n) h);
+    }
 
 not_below : (a : ℕ) → int_lt (pos a) (pos 0) ≡ false
 not_below a = grind (arith, ints)
@@ -95,7 +96,8 @@ fraction_neg p q x y h ex ey =
       above = rw ey h.above;
       top_small = omega (arith, h.top_small);
       bottom_small = rw ey h.bottom_small;
-      coprime = subst (λ k. IsGcd k (unsigned_abs y) 1) (sym m) (rw ey h.coprime) }
+      coprime = subst (λ k. IsGcd k (unsigned_abs y) 1) (sym m) (rw ey h.coprime);
+    }
 
 pub negative_is : (a : Rational) (x : ℤ) (n : ℕ) → x ≡ neg_ℤ a.top → n ≡ a.less → (let c : Rational = record { top = x; less = n } in c ≡ negative a)
 unfolding negative
@@ -133,7 +135,7 @@ div_le n g = omega (arith, div-mul-le_self n g)
 pub lowest_fits : (r : Rational) → unsigned_abs r.top < 2 ^ 62 → bottom r < 2 ^ 62 → FitsFraction (lowest r)
 lowest_fits r h k = record {
   top = rw (lowest_top r) (omega (arith, div_le (unsigned_abs r.top) (gcd (unsigned_abs r.top) (bottom r))));
-  bottom = rw (lowest_bottom r) (omega (arith, div_le (bottom r) (gcd (unsigned_abs r.top) (bottom r))))
+  bottom = rw (lowest_bottom r) (omega (arith, div_le (bottom r) (gcd (unsigned_abs r.top) (bottom r))));
 }
 
 pub decimal_fits : (d : Decimal) → unsigned_abs d.a < 2 ^ 62 → d.b ≤ 18 → FitsFraction (lowest (over d.a (10 ^ d.b)))

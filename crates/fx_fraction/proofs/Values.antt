@@ -87,7 +87,7 @@ unfolding decimal_value over
 only_pair d s x k h e =
     let g : d.a *ℤ pos (10 ^ x.1) ≡ signed s x.0 *ℤ pos (10 ^ d.b) = (λ i. d.a *ℤ pos (sym (tens x.1) i)) ∙ e.equal ∙ (λ i. signed s x.0 *ℤ pos (tens d.b i)) in
     fewest_same (unsigned_abs d.a) d.b x.0 x.1 (decimal_fewest d k) h
-      (sym (unsigned_abs-mul d.a (pos (10 ^ x.1))) ∙ ap unsigned_abs g ∙ unsigned_abs-mul (signed s x.0) (pos (10 ^ d.b)) ∙ ap (λ (n : ℕ). n * 10 ^ d.b) (signed_size s x.0))
+    (sym (unsigned_abs-mul d.a (pos (10 ^ x.1))) ∙ ap unsigned_abs g ∙ unsigned_abs-mul (signed s x.0) (pos (10 ^ d.b)) ∙ ap (λ (n : ℕ). n * 10 ^ d.b) (signed_size s x.0))
 
 -- the reading of a pair
 pair_reading : (s : Bool) (x : ℕ × ℕ) (v : Rational) → IsFewest x.0 x.1 → Equal (pair_value s x) v → IsReading (within_limits s x) v
@@ -96,6 +96,7 @@ pair_reading s x v h e = by (nat_lt x.0 (2 ^ 62)) refl (nat_le x.1 18) refl
   where
     found : Result Decimal NumberFault
     found = Ok (record { a = signed s x.0; b = x.1 })
+
     by : (p : Bool) → nat_lt x.0 (2 ^ 62) ≡ p → (q : Bool) → nat_le x.1 18 ≡ q → IsReading (cond (p && q) found (Err TooLong)) v
     by true t true u =
         let small : x.0 < 2 ^ 62 = search (rules, tests) in
@@ -134,5 +135,5 @@ pub reading_is : ReadingLaw
 reading_is = record {
   malformed = λ text. (λ e n h t. not_malformed (decimal_of (numeral_text n)) (numeral_value n) (text_reading n h) (ap decimal_of t ∙ e), malformed_is text);
   one = λ n m h k e. (let s : Some n ≡ Some m = sym (numeral_back n h) ∙ ap numeral_of e ∙ numeral_back m k in cc);
-  value = text_reading
+  value = text_reading;
 }

@@ -58,10 +58,7 @@ fn opposite(x: i128) -> i128
 pub fn fadd(a: Fraction, b: Fraction) -> Option<Fraction>
     ensures { GivesLowest result (plus a b) }
 {
-    let top = sum(
-        product(top(a), below(b)),
-        product(top(b), below(a)),
-    );
+    let top = sum(product(top(a), below(b)), product(top(b), below(a)));
     reduced(top, bottoms(a, b))
 }
 
@@ -108,5 +105,13 @@ pub fn to_fraction(d: Decimal) -> Fraction
     match reduced(i128::from(d.a), u128::from(ten_to(d.b))) {
         Some(fraction) => fraction,
         None => unreachable!(),
+    }
+}
+
+impl From<Decimal> for Fraction {
+    ghost from_gives = { λ d fraction. fraction ≡ lowest (decimal_value d) };
+
+    fn from(d: Decimal) -> Fraction {
+        to_fraction(d)
     }
 }

@@ -1,5 +1,7 @@
 //! Why a text is no decimal.
 
+use std::fmt;
+
 /// Why a text is no decimal.
 #[derive(Clone, Copy, Debug, PartialEq, Eq)]
 pub enum NumberFault {
@@ -7,4 +9,13 @@ pub enum NumberFault {
     Malformed,
     /// The text is of the form, and no `Decimal` has its value.
     TooLong,
+}
+
+impl fmt::Display for NumberFault {
+    fn fmt<W: fmt::Write>(&self, f: &mut fmt::Formatter<W>) -> fmt::Result {
+        match self {
+            NumberFault::Malformed => write!(f, "not a number"),
+            NumberFault::TooLong => write!(f, "a number with too many digits"),
+        }
+    }
 }

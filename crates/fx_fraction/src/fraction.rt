@@ -10,6 +10,7 @@ ghost use Rattle.fx_fraction.specs.Numeral.{signed};
 ghost use Rattle.fx_fraction.specs.Fractions.{GivesLowest};
 
 use crate::decimal::signed;
+use std::fmt;
 use std::marker::Model;
 
 /// The fraction `p / q` in lowest terms, where |p| and `q` are below 2^62 and `q` is above zero.
@@ -36,6 +37,12 @@ impl Model for Fraction {
     ghost use Rattle.fx_fraction.specs.Back.{fraction_back};
 
     ghost inverse_ok = { λ c h. fraction_back c h };
+}
+
+impl fmt::Display for Fraction {
+    fn fmt<W: fmt::Write>(&self, f: &mut fmt::Formatter<W>) -> fmt::Result {
+        write!(f, "{}/{}", self.p, self.q)
+    }
 }
 
 /// The numerator, with the limit that the type keeps.

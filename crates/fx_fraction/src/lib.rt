@@ -23,3 +23,6 @@ pub use quantised::quantise;
 pub use range::within;
 pub use read::read_decimal;
 pub use text::decimal_text;
+
+#[cfg(test)]
+mod tests;
