@@ -1,13 +1,12 @@
 -- A dyadic and a fraction compared by one product.
-use Rattle.std.proofs.Common.{◌≡◌, ℕ, suc, pred, ◌^◌, ℤ, pos, ◌*ℤ◌, ◌≤ℤ◌, ◌<ℤ◌, true, refl, sym, ap, subst, ◌∙◌, arith}
+use Rattle.std.proofs.Common.{◌≡◌, ℕ, suc, pred, ◌^◌, pos, ◌*ℤ◌, ◌≤ℤ◌, sym, subst}
 use Rattle.std.specs.Prelude.{int_le}
 use Rattle.std.proofs.lemmas.Nat.{pow_pos}
-use Rattle.std.proofs.lemmas.Int.{ints}
 use Rattle.fx_algebra.proofs.Order.{pow_above}
 use Rattle.fx_rational.specs.Rational.{Rational, bottom, over, is_at_most, floor_div, ceil_div}
 use Rattle.fx_rational.specs.Dyadic.{Dyadic, dyadic_value}
+use Rattle.fx_rational.proofs.Lowest.{suc_pred}
 use Rattle.fx_rational.proofs.Floors.{le_floor, ceiling_le}
-use Rattle.fx_fraction.proofs.Quanta.{suc_pred}
 use Rattle.fx_fraction.proofs.Ranges.{same_test, le_true, true_le}
 
 twos : (e : ℕ) → suc (pred (2 ^ e)) ≡ 2 ^ e

@@ -1,7 +1,6 @@
 -- A numeral's text has that numeral and no other.
-use Rattle.std.proofs.Common.{◌≡◌, ◌≢◌, ℕ, zero, suc, ◌+◌, ◌-◌, ◌<◌, ◌≤◌, Bool, true, false, cond, eqb, ◌&&◌, ◌||◌, List, [], ◌∷◌, ◌++◌, length, take, drop, get_or, Option, Some, None, refl, sym, ap, subst, ◌∙◌, length-append, arith, rules, tests}
+use Rattle.std.proofs.Common.{◌≡◌, ◌≢◌, ℕ, zero, suc, ◌+◌, ◌<◌, Bool, true, false, cond, eqb, ◌&&◌, ◌||◌, List, [], ◌∷◌, ◌++◌, length, take, drop, get_or, Option, Some, None, refl, sym, ap, subst, ◌∙◌, length-append, arith, rules, tests}
 use Rattle.std.specs.Prelude.{nat_lt, option_map}
-use Rattle.std.specs.List.{prefix_len}
 use Rattle.std.specs.Char.{is_ascii_digit}
 use Rattle.std.specs.Str.{all_ascii_digits}
 use Rattle.std.specs.Int.{IsInRange}
@@ -111,10 +110,6 @@ sign_joined text = by (eqb (get_or text 0 0) 43) refl (eqb (get_or text 0 0) 45)
     by false e false f = refl
 
 -- ---- parts
-
--- what stands behind the digits before the point
-after_whole : Option (List ℕ) → Option Power → List ℕ
-after_whole part power = part_text part ++ power_text power
 
 no_digit_in_power : (p : Option Power) → is_power p ≡ true → digit_count (power_text p) ≡ 0
 no_digit_in_power None h = refl

@@ -1,24 +1,20 @@
 -- Comparisons of decimals, in units of 10^-18.
-use Rattle.std.proofs.Common.{◌≡◌, ℕ, zero, suc, pred, ◌+◌, ◌-◌, ◌*◌, ◌/◌, ◌%◌, ◌^◌, ◌<◌, ◌≤◌, ℤ, pos, negsuc, ◌+ℤ◌, ◌-ℤ◌, ◌*ℤ◌, neg_ℤ, ◌≤ℤ◌, ◌<ℤ◌, Bool, true, false, List, [], ◌∷◌, FitsSigned, to_z, of_z, lit<, refl, sym, ap, subst, ◌∙◌, arith, rules, inl, inr}
+use Rattle.std.proofs.Common.{◌≡◌, ℕ, suc, pred, ◌+◌, ◌-◌, ◌*◌, ◌^◌, ◌<◌, ◌≤◌, ℤ, pos, negsuc, ◌+ℤ◌, ◌-ℤ◌, ◌*ℤ◌, neg_ℤ, ◌≤ℤ◌, ◌<ℤ◌, Bool, true, false, [], ◌∷◌, FitsSigned, to_z, of_z, refl, sym, ap, subst, ◌∙◌, arith}
 use Rattle.std.specs.Prelude.{unsigned_abs, int_le}
 use Rattle.std.specs.Int.{w128}
-use Rattle.std.proofs.lemmas.Bool.{cases_Bool}
 use Rattle.std.proofs.lemmas.Nat.{mul-lt, mul-le, pow-add}
-use Rattle.std.proofs.lemmas.Int.{ints, fits_signed_mul, unsigned_abs-mul, to_z-of_z}
+use Rattle.std.proofs.lemmas.Int.{ints, unsigned_abs-mul, to_z-of_z}
 use lib.IntN.{*ℤ_comm}
 use Rattle.fx_algebra.proofs.Integers.{le_by_certificate, neg_ℤ-*ℤ, mul_above, mul_nonneg, nonneg_of_above, difference_nonneg}
-use Rattle.fx_algebra.proofs.Order.{mul_le_right, le_of_mul}
 use Rattle.fx_algebra.proofs.Quote.{by_quotes, quotes}
-use Rattle.fx_rational.specs.Rational.{Rational, over, plus, minus, negative, bottom, is_at_most}
+use Rattle.fx_rational.specs.Rational.{over, plus, minus, negative, is_at_most}
 use Rattle.fx_rational.specs.Decimal.{Decimal, decimal_value}
 use Rattle.fx_fraction.proofs.Quanta.{ten_pos, ten_small}
+use Rattle.fx_rational.proofs.Lowest.{suc_pred}
 
 -- a decimal in units of 10^-18
 abbrev pub units : Decimal → ℤ
 units d = d.a *ℤ pos (10 ^ (18 - d.b))
-
-abbrev unit_of : Decimal → ℕ
-unit_of d = 10 ^ (18 - d.b)
 
 whole_unit : (b : ℕ) → b ≤ 18 → pos (10 ^ (18 - b)) *ℤ pos (10 ^ b) ≡ pos (10 ^ 18)
 whole_unit b h = let k : (18 - b) + b ≡ 18 = omega arith in ap pos (sym (pow-add 10 (18 - b) b) ∙ ap (λ (n : ℕ). 10 ^ n) k)
@@ -91,10 +87,6 @@ in_bounds (negsuc n) h = (omega (arith, ints), omega (arith, ints))
 fits_between : (x : ℤ) → neg_ℤ (pos (2 ^ 124)) ≤ℤ x → x ≤ℤ pos (2 ^ 124) → FitsSigned w128 x
 fits_between (pos n) low high = record { sfits = omega (arith, ints) }
 fits_between (negsuc n) low high = record { sfits = omega (arith, ints) }
-
-suc_pred : (n : ℕ) → 0 < n → suc (pred n) ≡ n
-suc_pred zero h = absurd (omega arith)
-suc_pred (suc n) h = refl
 
 den_unit : (d : Decimal) → d.b ≤ 18 → pos (10 ^ (18 - d.b)) *ℤ pos (suc (pred (10 ^ d.b))) ≡ pos (10 ^ 18)
 den_unit d h = ap (λ (n : ℕ). pos (10 ^ (18 - d.b)) *ℤ pos n) (suc_pred (10 ^ d.b) (ten_pos d.b)) ∙ whole_unit d.b h

@@ -1,20 +1,21 @@
 -- A reading has the value of its numeral.
-use Rattle.std.proofs.Common.{◌≡◌, ◌≢◌, ◌⊎◌, ℕ, zero, suc, pred, ◌+◌, ◌*◌, ◌%◌, ◌^◌, ◌<◌, ◌≤◌, ℤ, pos, negsuc, ◌*ℤ◌, neg_ℤ, Bool, true, false, cond, List, Option, Some, None, Result, Ok, Err, inl, inr, refl, sym, ap, subst, ◌∙◌, arith, rules, tests}
+use Rattle.std.proofs.Common.{◌≡◌, ◌≢◌, ◌⊎◌, ℕ, zero, suc, pred, ◌*◌, ◌%◌, ◌^◌, ◌<◌, ◌≤◌, ℤ, pos, negsuc, ◌*ℤ◌, Bool, true, false, cond, List, Option, Some, None, Result, Ok, Err, inl, inr, refl, sym, ap, subst, ◌∙◌, arith, rules, tests}
 use Rattle.std.specs.Prelude.{nat_lt, nat_le, ◌&&◌, unsigned_abs}
 use Rattle.std.proofs.Math.Nat.{pow-suc, mul-mod_left}
-use Rattle.std.proofs.lemmas.Int.{ints, unsigned_abs-mul}
+use Rattle.std.proofs.lemmas.Int.{unsigned_abs-mul}
 use Rattle.fx_algebra.proofs.Integers.{neg_ℤ-*ℤ}
-use Rattle.fx_rational.specs.Rational.{Rational, bottom, over, whole, Equal}
+use Rattle.fx_rational.specs.Rational.{Rational, over, Equal}
 use Rattle.fx_rational.specs.Decimal.{Decimal, IsDecimal, decimal_value}
+use Rattle.fx_rational.proofs.Lowest.{suc_pred}
 use Rattle.fx_rational.proofs.Laws.{equal_sym, equal_trans}
 use Rattle.fx_fraction.specs.declared.fault.NumberFault.{NumberFault}
 use Rattle.fx_fraction.specs.declared.fault.NumberFault.TheVariants.{Malformed, TooLong}
 use Rattle.fx_fraction.specs.Numeral.{Numeral, IsNumeral, numeral_text, numeral_of, is_minus, signed, mantissa, places}
-use Rattle.fx_fraction.specs.DecimalText.{trimmed, fewest_places, within_limits, decimal_from, decimal_of}
+use Rattle.fx_fraction.specs.DecimalOf.{trimmed, fewest_places, within_limits, decimal_from, decimal_of}
 use Rattle.fx_fraction.specs.ReadingLaw.{over_tens, numeral_value, IsReading, ReadingLaw}
-use Rattle.fx_fraction.proofs.Trimmed.{IsTrimmed, trimmed_is}
+use Rattle.fx_fraction.proofs.Trimmed.{trimmed_is}
 use Rattle.fx_fraction.proofs.Numerals.{numeral_back, numeral_joined}
-use Rattle.fx_fraction.proofs.Quanta.{suc_pred, ten_pos}
+use Rattle.fx_fraction.proofs.Quanta.{ten_pos}
 use Rattle.fx_fraction.proofs.Terms.{signed_size}
 
 signed-mul : (b : Bool) (m n : ℕ) → signed b m *ℤ pos n ≡ signed b (m * n)

@@ -1,4 +1,7 @@
 //! Why a text is no decimal.
+//!
+//! The two faults share out the texts that fail: of the form or not. So a caller may tell the user which of the two it
+//! is, and each comes exactly where its line says, whatever the length of the text.
 
 use std::fmt;
 

@@ -8,7 +8,7 @@ ghost use Rattle.std.specs.Prelude.{◌≡◌, ◌+◌, ◌<◌, ◌≤◌, ◌^
 ghost use Rattle.std.specs.Str.Parse.{digits_value, digits_value_after};
 ghost use Rattle.std.specs.Str.{all_ascii_digits};
 ghost use Rattle.fx_fraction.specs.Numeral.{is_number, is_minus, sign_of, signed, behind_sign, digit_count, first_digits, behind_digits, part_of, part_digits, behind_part, power_of};
-ghost use Rattle.fx_fraction.specs.DecimalText.{within_limits, fewest_places, decimal_of};
+ghost use Rattle.fx_fraction.specs.DecimalOf.{within_limits, fewest_places, decimal_of};
 ghost use Rattle.fx_fraction.specs.Kept.{Keeps, FitsFront, zeros_of, saturated, kept_exponent};
 ghost use Rattle.fx_fraction.specs.ReadParts.{by_shift, number_kept, exponent_kept, IsMantissa};
 

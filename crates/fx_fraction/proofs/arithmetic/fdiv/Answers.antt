@@ -1,4 +1,4 @@
-use Rattle.std.proofs.Common.{rules, arith, pos}
+use Rattle.std.proofs.Common.{rules, arith}
 use Rattle.std.proofs.lemmas.Int.{ints}
 use Rattle.fx_fraction.specs.Fractions.{GivesLowest}
 use Rattle.fx_fraction.proofs.Terms.{some_and, quotient_up, quotient_down}

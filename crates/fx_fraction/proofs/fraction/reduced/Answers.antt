@@ -1,10 +1,10 @@
-use Rattle.std.proofs.Common.{◌≡◌, ◌/◌, ◌^◌, ◌<◌, pos, pred, ℕ, ap, sym, refl, subst, ◌∙◌, arith}
+use Rattle.std.proofs.Common.{◌≡◌, ◌/◌, ◌^◌, ◌<◌, pos, ℕ, ap, sym, refl, subst, ◌∙◌, arith}
 use Rattle.std.specs.Prelude.{unsigned_abs, int_lt}
 use Rattle.std.specs.Int.{IsGcd, w128}
 use Rattle.std.proofs.lemmas.Int.{to_z-of_z}
-use Rattle.fx_rational.specs.Rational.{Rational, over, bottom, lowest}
+use Rattle.fx_rational.specs.Rational.{over, bottom, lowest}
 use Rattle.fx_rational.proofs.Lowest.{gcd_above, parts_apart, part_some}
-use Rattle.fx_fraction.proofs.Terms.{lowest_over, top_over, bottom_over, made_is}
+use Rattle.fx_fraction.proofs.Terms.{top_over, bottom_over, made_is}
 use Rattle.fx_fraction.proofs.fraction.reduced.Goals as goal
 
 pub nonzero_div-top : goal.nonzero_div-top
