@@ -1,13 +1,12 @@
 -- A dyadic and a fraction compared by one product.
-use Rattle.std.proofs.Common.{◌≡◌, ℕ, suc, pred, ◌^◌, ℤ, pos, ◌*ℤ◌, ◌≤ℤ◌, ◌<ℤ◌, true, refl, sym, ap, subst, ◌∙◌, arith}
+use Rattle.std.proofs.Common.{◌≡◌, ℕ, suc, pred, ◌^◌, pos, ◌*ℤ◌, ◌≤ℤ◌, sym, subst}
 use Rattle.std.specs.Prelude.{int_le}
 use Rattle.std.proofs.lemmas.Nat.{pow_pos}
-use Rattle.std.proofs.lemmas.Int.{ints}
 use Rattle.fx_algebra.proofs.Order.{pow_above}
 use Rattle.fx_rational.specs.Rational.{Rational, bottom, over, is_at_most, floor_div, ceil_div}
 use Rattle.fx_rational.specs.Dyadic.{Dyadic, dyadic_value}
+use Rattle.fx_rational.proofs.Lowest.{suc_pred}
 use Rattle.fx_rational.proofs.Floors.{le_floor, ceiling_le}
-use Rattle.fx_fraction.proofs.Quanta.{suc_pred}
 use Rattle.fx_fraction.proofs.Ranges.{same_test, le_true, true_le}
 
 twos : (e : ℕ) → suc (pred (2 ^ e)) ≡ 2 ^ e
@@ -19,8 +18,8 @@ unfolding is_at_most dyadic_value over
 le_is d c =
     let k = ceiling_le (d.m *ℤ pos (bottom c)) c.top (2 ^ d.e) (pow_above d.e) in
     same_test _ _
-      (λ t. le_true _ _ (subst (λ (n : ℕ). (d.m *ℤ pos (bottom c)) ≤ℤ (c.top *ℤ pos n)) (sym (twos d.e)) (k.0 (true_le _ _ t))))
-      (λ t. le_true _ _ (k.1 (subst (λ (n : ℕ). (d.m *ℤ pos (bottom c)) ≤ℤ (c.top *ℤ pos n)) (twos d.e) (true_le _ _ t))))
+    (λ t. le_true _ _ (subst (λ (n : ℕ). (d.m *ℤ pos (bottom c)) ≤ℤ (c.top *ℤ pos n)) (sym (twos d.e)) (k.0 (true_le _ _ t))))
+    (λ t. le_true _ _ (k.1 (subst (λ (n : ℕ). (d.m *ℤ pos (bottom c)) ≤ℤ (c.top *ℤ pos n)) (twos d.e) (true_le _ _ t))))
 
 -- p / q <= m / 2^e exactly where p is at most the floor of m * q / 2^e
 pub ge_is : (d : Dyadic) (c : Rational) → int_le c.top (floor_div (d.m *ℤ pos (bottom c)) (2 ^ d.e)) ≡ is_at_most c (dyadic_value d)
@@ -28,5 +27,5 @@ unfolding is_at_most dyadic_value over
 ge_is d c =
     let k = le_floor c.top (d.m *ℤ pos (bottom c)) (2 ^ d.e) (pow_above d.e) in
     same_test _ _
-      (λ t. le_true _ _ (subst (λ (n : ℕ). (c.top *ℤ pos n) ≤ℤ (d.m *ℤ pos (bottom c))) (sym (twos d.e)) (k.0 (true_le _ _ t))))
-      (λ t. le_true _ _ (k.1 (subst (λ (n : ℕ). (c.top *ℤ pos n) ≤ℤ (d.m *ℤ pos (bottom c))) (twos d.e) (true_le _ _ t))))
+    (λ t. le_true _ _ (subst (λ (n : ℕ). (c.top *ℤ pos n) ≤ℤ (d.m *ℤ pos (bottom c))) (sym (twos d.e)) (k.0 (true_le _ _ t))))
+    (λ t. le_true _ _ (k.1 (subst (λ (n : ℕ). (c.top *ℤ pos n) ≤ℤ (d.m *ℤ pos (bottom c))) (twos d.e) (true_le _ _ t))))

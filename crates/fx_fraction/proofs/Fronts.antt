@@ -1,8 +1,7 @@
 -- One more digit.
-use Rattle.std.proofs.Common.{◌≡◌, ◌≢◌, ◌⊎◌, ℕ, zero, suc, ◌+◌, ◌*◌, ◌^◌, ◌%◌, ◌<◌, ◌≤◌, Bool, true, false, min, inl, inr, refl, sym, ap, subst, ◌∙◌, add-one, arith, rules}
-use Rattle.std.proofs.Math.Nat.{pow-suc, mul_assoc, add-mul-mod_self_right, mod-eq_of_lt, le-mul_of_pos_right, one-le-pow, mul-le-mul_left, mul-le-mul_right, pow-le-pow_right}
-use Rattle.fx_fraction.specs.declared.significant.Significant.{Significant}
-use Rattle.fx_fraction.specs.declared.significant.Significant.TheVariants.{Zero, Front, Long}
+use Rattle.std.proofs.Common.{◌≡◌, ◌≢◌, ℕ, zero, suc, ◌+◌, ◌*◌, ◌^◌, ◌%◌, ◌<◌, ◌≤◌, refl, ap, add-one, arith}
+use Rattle.std.proofs.Math.Nat.{pow-suc, mul_assoc, add-mul-mod_self_right, mod-eq_of_lt, one-le-pow, mul-le-mul_left, mul-le-mul_right, pow-le-pow_right}
+use Rattle.fx_fraction.specs.declared.significant.Significant.TheVariants.{Long}
 use Rattle.fx_fraction.specs.Kept.{Strips, Keeps}
 
 pub more_zeros : (f z : ℕ) → f * 10 ^ z * 10 ≡ f * 10 ^ (z + 1)

@@ -1,7 +1,6 @@
 -- A numeral's text has that numeral and no other.
-use Rattle.std.proofs.Common.{◌≡◌, ◌≢◌, ℕ, zero, suc, ◌+◌, ◌-◌, ◌<◌, ◌≤◌, Bool, true, false, cond, eqb, ◌&&◌, ◌||◌, List, [], ◌∷◌, ◌++◌, length, take, drop, get_or, Option, Some, None, refl, sym, ap, subst, ◌∙◌, length-append, arith, rules, tests}
+use Rattle.std.proofs.Common.{◌≡◌, ◌≢◌, ℕ, zero, suc, ◌+◌, ◌<◌, Bool, true, false, cond, eqb, ◌&&◌, ◌||◌, List, [], ◌∷◌, ◌++◌, length, take, drop, get_or, Option, Some, None, refl, sym, ap, subst, ◌∙◌, length-append, arith, rules, tests}
 use Rattle.std.specs.Prelude.{nat_lt, option_map}
-use Rattle.std.specs.List.{prefix_len}
 use Rattle.std.specs.Char.{is_ascii_digit}
 use Rattle.std.specs.Str.{all_ascii_digits}
 use Rattle.std.specs.Int.{IsInRange}
@@ -104,16 +103,13 @@ sign_joined text = by (eqb (get_or text 0 0) 43) refl (eqb (get_or text 0 0) 45)
     cut : (c : ℕ) (xs : List ℕ) → get_or xs 0 0 ≡ suc c → suc c ∷ drop 1 xs ≡ xs
     cut c [] e = absurd (omega arith)
     cut c (x ∷ xs) e = ap (λ y. y ∷ xs) (sym e)
+
     by : (p : Bool) → eqb (get_or text 0 0) 43 ≡ p → (m : Bool) → eqb (get_or text 0 0) 45 ≡ m → sign_text (cond p plus (cond m minus unwritten)) ++ cond (p || m) (drop 1 text) text ≡ text
     by true e m f = cut 42 text (eqb-true (get_or text 0 0) 43 e)
     by false e true f = cut 44 text (eqb-true (get_or text 0 0) 45 f)
     by false e false f = refl
 
 -- ---- parts
-
--- what stands behind the digits before the point
-after_whole : Option (List ℕ) → Option Power → List ℕ
-after_whole part power = part_text part ++ power_text power
 
 no_digit_in_power : (p : Option Power) → is_power p ≡ true → digit_count (power_text p) ≡ 0
 no_digit_in_power None h = refl
@@ -145,6 +141,7 @@ part_joined text = by (eqb (get_or text 0 0) 46) refl
     cut : (xs : List ℕ) → get_or xs 0 0 ≡ 46 → 46 ∷ drop 1 xs ≡ xs
     cut [] e = absurd (omega arith)
     cut (x ∷ xs) e = ap (λ y. y ∷ xs) (sym e)
+
     by : (b : Bool) → eqb (get_or text 0 0) 46 ≡ b → part_text (cond b (Some (first_digits (drop 1 text))) None) ++ cond b (behind_digits (drop 1 text)) text ≡ text
     by true e = ap (λ xs. 46 ∷ xs) (in_two (digit_count (drop 1 text)) (drop 1 text)) ∙ cut text (eqb-true (get_or text 0 0) 46 e)
     by false e = refl
@@ -177,6 +174,7 @@ power_joined (c ∷ cs) p e = by (is_e c) refl (is_number (behind_sign cs)) refl
   where
     found : Option Power
     found = Some (record { letter = c; sign = sign_of cs; digits = behind_sign cs })
+
     by : (a : Bool) → is_e c ≡ a → (b : Bool) → is_number (behind_sign cs) ≡ b → cond (a && b) (Some found) None ≡ Some p → (is_power p ≡ true) × (power_text p ≡ c ∷ cs)
     by true s true t e =
         let k : found ≡ p = cc in
@@ -242,19 +240,23 @@ numeral_joined text n e = by (nat_lt 0 (digit_count body + length (part_digits (
   where
     body : List ℕ
     body = behind_sign text
+
     rest : List ℕ
     rest = behind_digits body
+
     found : Option Power → Numeral
     found p = record { sign = sign_of text; whole = first_digits body; part = part_of rest; power = p }
+
     by : (b : Bool) → nat_lt 0 (digit_count body + length (part_digits (part_of rest))) ≡ b → (o : Option (Option Power)) → power_of (behind_part rest) ≡ o → cond b (option_map found o) None ≡ Some n → IsNumeral n × (numeral_text n ≡ text)
     by true s (Some p) t e =
         let k : found p ≡ n = cc in
         let j = power_joined (behind_part rest) p t in
-        subst (λ m. IsNumeral m × (numeral_text m ≡ text)) k
-          (record { digits = cut_digits body s; power = j.0 },
-           ap (λ xs. sign_text (sign_of text) ++ (first_digits body ++ (part_text (part_of rest) ++ xs))) j.1
-           ∙ ap (λ xs. sign_text (sign_of text) ++ (first_digits body ++ xs)) (part_joined rest)
-           ∙ ap (λ xs. sign_text (sign_of text) ++ xs) (in_two (digit_count body) body)
-           ∙ sign_joined text)
+        subst (λ m. IsNumeral m × (numeral_text m ≡ text)) k (
+          record { digits = cut_digits body s; power = j.0 },
+          ap (λ xs. sign_text (sign_of text) ++ (first_digits body ++ (part_text (part_of rest) ++ xs))) j.1
+              ∙ ap (λ xs. sign_text (sign_of text) ++ (first_digits body ++ xs)) (part_joined rest)
+              ∙ ap (λ xs. sign_text (sign_of text) ++ xs) (in_two (digit_count body) body)
+              ∙ sign_joined text,
+        )
     by true s None t e = absurd cc
     by false s o t e = absurd cc

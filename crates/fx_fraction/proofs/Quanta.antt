@@ -1,11 +1,12 @@
 -- A decimal in units of a power of two.
-use Rattle.std.proofs.Common.{◌≡◌, ℕ, zero, suc, pred, ◌+◌, ◌-◌, ◌*◌, ◌/◌, ◌%◌, ◌^◌, ◌<◌, ◌≤◌, ℤ, pos, negsuc, ◌*ℤ◌, ◌≤ℤ◌, ◌<ℤ◌, List, [], ◌∷◌, get_or, FitsSigned, to_z, of_z, lit<, refl, sym, ap, subst, ◌∙◌, arith}
+use Rattle.std.proofs.Common.{◌≡◌, ℕ, zero, suc, pred, ◌*◌, ◌%◌, ◌^◌, ◌<◌, ◌≤◌, ℤ, pos, negsuc, ◌*ℤ◌, ◌≤ℤ◌, ◌<ℤ◌, List, [], ◌∷◌, get_or, FitsSigned, to_z, of_z, lit<, sym, ap, ◌∙◌, arith}
 use Rattle.std.specs.Prelude.{unsigned_abs}
 use Rattle.std.specs.Int.{w128}
 use Rattle.std.proofs.Math.Nat.{pow-suc, pow-le-pow_right, one-le-pow, div-div-eq-div-mul, mul_comm}
 use Rattle.std.proofs.lemmas.Nat.{pow_pos, pow_below, mul-lt}
 use Rattle.std.proofs.lemmas.Int.{ints, fits_signed_mul, wrapping_mul_is, int_wrap_fits}
-use Rattle.fx_rational.specs.Rational.{Rational, over, scaled, floor, floor_div}
+use Rattle.fx_rational.specs.Rational.{over, scaled, floor, floor_div}
+use Rattle.fx_rational.proofs.Lowest.{suc_pred}
 use Rattle.fx_rational.specs.Decimal.{Decimal, decimal_value, quantised}
 
 -- `v << s`
@@ -25,10 +26,6 @@ ten_pos b = let p = one-le-pow b 10 (omega arith) in omega arith
 
 pub up_fits : (a x : ℤ) (s : ℕ) → unsigned_abs a < 2 ^ 62 → s ≤ 62 → x ≡ a → FitsSigned w128 (x *ℤ pos (2 ^ s))
 up_fits a x s h le e = rw e (fits_signed_mul w128 a (pos (2 ^ s)) (2 ^ 62) (2 ^ 62) (omega arith) (two_up s 62 le) (lit< tt))
-
-pub suc_pred : (n : ℕ) → 0 < n → suc (pred n) ≡ n
-suc_pred zero h = absurd (omega arith)
-suc_pred (suc n) h = refl
 
 -- two divisions are one by the product
 floor_twice : (a : ℤ) (m n : ℕ) → floor_div (floor_div a m) n ≡ floor_div a (m * n)

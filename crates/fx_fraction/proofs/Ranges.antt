@@ -1,24 +1,20 @@
 -- Comparisons of decimals, in units of 10^-18.
-use Rattle.std.proofs.Common.{◌≡◌, ℕ, zero, suc, pred, ◌+◌, ◌-◌, ◌*◌, ◌/◌, ◌%◌, ◌^◌, ◌<◌, ◌≤◌, ℤ, pos, negsuc, ◌+ℤ◌, ◌-ℤ◌, ◌*ℤ◌, neg_ℤ, ◌≤ℤ◌, ◌<ℤ◌, Bool, true, false, List, [], ◌∷◌, FitsSigned, to_z, of_z, lit<, refl, sym, ap, subst, ◌∙◌, arith, rules, inl, inr}
+use Rattle.std.proofs.Common.{◌≡◌, ℕ, suc, pred, ◌+◌, ◌-◌, ◌*◌, ◌^◌, ◌<◌, ◌≤◌, ℤ, pos, negsuc, ◌+ℤ◌, ◌-ℤ◌, ◌*ℤ◌, neg_ℤ, ◌≤ℤ◌, ◌<ℤ◌, Bool, true, false, [], ◌∷◌, FitsSigned, to_z, of_z, refl, sym, ap, subst, ◌∙◌, arith}
 use Rattle.std.specs.Prelude.{unsigned_abs, int_le}
 use Rattle.std.specs.Int.{w128}
-use Rattle.std.proofs.lemmas.Bool.{cases_Bool}
 use Rattle.std.proofs.lemmas.Nat.{mul-lt, mul-le, pow-add}
-use Rattle.std.proofs.lemmas.Int.{ints, fits_signed_mul, unsigned_abs-mul, to_z-of_z}
+use Rattle.std.proofs.lemmas.Int.{ints, unsigned_abs-mul, to_z-of_z}
 use lib.IntN.{*ℤ_comm}
 use Rattle.fx_algebra.proofs.Integers.{le_by_certificate, neg_ℤ-*ℤ, mul_above, mul_nonneg, nonneg_of_above, difference_nonneg}
-use Rattle.fx_algebra.proofs.Order.{mul_le_right, le_of_mul}
 use Rattle.fx_algebra.proofs.Quote.{by_quotes, quotes}
-use Rattle.fx_rational.specs.Rational.{Rational, over, plus, minus, negative, bottom, is_at_most}
+use Rattle.fx_rational.specs.Rational.{over, plus, minus, negative, is_at_most}
 use Rattle.fx_rational.specs.Decimal.{Decimal, decimal_value}
 use Rattle.fx_fraction.proofs.Quanta.{ten_pos, ten_small}
+use Rattle.fx_rational.proofs.Lowest.{suc_pred}
 
 -- a decimal in units of 10^-18
 abbrev pub units : Decimal → ℤ
 units d = d.a *ℤ pos (10 ^ (18 - d.b))
-
-abbrev unit_of : Decimal → ℕ
-unit_of d = 10 ^ (18 - d.b)
 
 whole_unit : (b : ℕ) → b ≤ 18 → pos (10 ^ (18 - b)) *ℤ pos (10 ^ b) ≡ pos (10 ^ 18)
 whole_unit b h = let k : (18 - b) + b ≡ 18 = omega arith in ap pos (sym (pow-add 10 (18 - b) b) ∙ ap (λ (n : ℕ). 10 ^ n) k)
@@ -47,7 +43,7 @@ pub sum_below_back : (a b c x y z L E G T : ℤ) → L *ℤ x ≡ T → E *ℤ y
     → ((a *ℤ L +ℤ b *ℤ E) ≤ℤ (c *ℤ G) → left_side a b x y z ≤ℤ (c *ℤ (x *ℤ y)))
 sum_below_back a b c x y z L E G T p q r hx hy hz ht h =
     le_by_certificate ht (mul_nonneg (nonneg_of_above (mul_above (mul_above hx hy) hz)) (difference_nonneg h))
-        (*ℤ_comm T (c *ℤ (x *ℤ y) -ℤ left_side a b x y z) ∙ scaled_up a b c x y z L E G T p q r)
+    (*ℤ_comm T (c *ℤ (x *ℤ y) -ℤ left_side a b x y z) ∙ scaled_up a b c x y z L E G T p q r)
 
 -- the same turned round
 scaled_down : (a b c x y z L E G T : ℤ) → L *ℤ x ≡ T → E *ℤ y ≡ T → G *ℤ z ≡ T
@@ -66,7 +62,7 @@ pub sum_above_back : (a b c x y z L E G T : ℤ) → L *ℤ x ≡ T → E *ℤ y
     → ((c *ℤ G) ≤ℤ (a *ℤ L +ℤ b *ℤ E) → (c *ℤ (x *ℤ y)) ≤ℤ left_side a b x y z)
 sum_above_back a b c x y z L E G T p q r hx hy hz ht h =
     le_by_certificate ht (mul_nonneg (nonneg_of_above (mul_above (mul_above hx hy) hz)) (difference_nonneg h))
-        (*ℤ_comm T (left_side a b x y z -ℤ c *ℤ (x *ℤ y)) ∙ scaled_down a b c x y z L E G T p q r)
+    (*ℤ_comm T (left_side a b x y z -ℤ c *ℤ (x *ℤ y)) ∙ scaled_down a b c x y z L E G T p q r)
 
 -- two tests of one fact
 pub same_test : (p q : Bool) → (p ≡ true → q ≡ true) → (q ≡ true → p ≡ true) → p ≡ q
@@ -81,7 +77,6 @@ le_true a b h = grind (arith, ints)
 pub true_le : (a b : ℤ) → int_le a b ≡ true → a ≤ℤ b
 true_le a b e = omega (arith, ints)
 
-
 pub le_along : {a b c d : ℤ} → a ≡ b → c ≡ d → a ≤ℤ c → b ≤ℤ d
 le_along {a} {b} {c} {d} p q h = subst (λ x. x ≤ℤ d) p (subst (λ y. a ≤ℤ y) q h)
 
@@ -92,10 +87,6 @@ in_bounds (negsuc n) h = (omega (arith, ints), omega (arith, ints))
 fits_between : (x : ℤ) → neg_ℤ (pos (2 ^ 124)) ≤ℤ x → x ≤ℤ pos (2 ^ 124) → FitsSigned w128 x
 fits_between (pos n) low high = record { sfits = omega (arith, ints) }
 fits_between (negsuc n) low high = record { sfits = omega (arith, ints) }
-
-suc_pred : (n : ℕ) → 0 < n → suc (pred n) ≡ n
-suc_pred zero h = absurd (omega arith)
-suc_pred (suc n) h = refl
 
 den_unit : (d : Decimal) → d.b ≤ 18 → pos (10 ^ (18 - d.b)) *ℤ pos (suc (pred (10 ^ d.b))) ≡ pos (10 ^ 18)
 den_unit d h = ap (λ (n : ℕ). pos (10 ^ (18 - d.b)) *ℤ pos n) (suc_pred (10 ^ d.b) (ten_pos d.b)) ∙ whole_unit d.b h
@@ -110,7 +101,6 @@ ten_above = omega (arith, ints)
 pub den_sum : (m n : ℕ) → pos (suc (pred (suc m * suc n))) ≡ pos (suc m) *ℤ pos (suc n)
 den_sum m n = let h : 0 < suc m * suc n = mul-lt 0 0 (suc m) (suc n) (omega arith) (omega arith) in ap pos (suc_pred (suc m * suc n) h)
 
-
 -- the same test, of a difference in units
 pub above_is : (g lo err : Decimal) (x y z : ℤ) → x ≡ units lo → y ≡ units err → z ≡ units g → g.b ≤ 18 → lo.b ≤ 18 → err.b ≤ 18
     → int_le (x -ℤ y) z ≡ is_at_most (minus (decimal_value lo) (decimal_value err)) (decimal_value g)
@@ -124,12 +114,12 @@ above_is g lo err x y z ex ey ez hg hl he =
     let e : a *ℤ L +ℤ b *ℤ E ≡ x -ℤ y = ap (λ t. a *ℤ L +ℤ t) nn ∙ sym (rw (ex, ey) refl) in
     let d : c *ℤ pos (suc (pred (suc m * suc n))) ≡ c *ℤ (X *ℤ Y) = ap (λ t. c *ℤ t) (den_sum m n) in
     same_test _ _
-      (λ t. le_true _ _ (subst (λ w. left_side a b X Y Z ≤ℤ w) (sym d)
-          (sum_below_back a b c X Y Z L E G (pos (10 ^ 18)) (den_unit lo hl) (den_unit err he) (den_unit g hg) (some_above m) (some_above n) (some_above (pred (10 ^ g.b))) ten_above
-            (le_along (sym e) ez (true_le (x -ℤ y) z t)))))
-      (λ t. le_true (x -ℤ y) z (le_along e (sym ez)
-          (sum_below a b c X Y Z L E G (pos (10 ^ 18)) (den_unit lo hl) (den_unit err he) (den_unit g hg) (some_above m) (some_above n) (some_above (pred (10 ^ g.b))) ten_above
-            (subst (λ w. left_side a b X Y Z ≤ℤ w) d (true_le _ _ t)))))
+    (λ t. le_true _ _ (subst (λ w. left_side a b X Y Z ≤ℤ w) (sym d)
+    (sum_below_back a b c X Y Z L E G (pos (10 ^ 18)) (den_unit lo hl) (den_unit err he) (den_unit g hg) (some_above m) (some_above n) (some_above (pred (10 ^ g.b))) ten_above
+    (le_along (sym e) ez (true_le (x -ℤ y) z t)))))
+    (λ t. le_true (x -ℤ y) z (le_along e (sym ez)
+    (sum_below a b c X Y Z L E G (pos (10 ^ 18)) (den_unit lo hl) (den_unit err he) (den_unit g hg) (some_above m) (some_above n) (some_above (pred (10 ^ g.b))) ten_above
+    (subst (λ w. left_side a b X Y Z ≤ℤ w) d (true_le _ _ t)))))
 
 -- the same test, of a sum in units
 pub below_is : (g hi err : Decimal) (x y z : ℤ) → x ≡ units hi → y ≡ units err → z ≡ units g → g.b ≤ 18 → hi.b ≤ 18 → err.b ≤ 18
@@ -143,12 +133,12 @@ below_is g hi err x y z ex ey ez hg hl he =
     let e : a *ℤ L +ℤ b *ℤ E ≡ x +ℤ y = sym (rw (ex, ey) refl) in
     let d : c *ℤ pos (suc (pred (suc m * suc n))) ≡ c *ℤ (X *ℤ Y) = ap (λ t. c *ℤ t) (den_sum m n) in
     same_test _ _
-      (λ t. le_true _ _ (subst (λ w. w ≤ℤ left_side a b X Y Z) (sym d)
-          (sum_above_back a b c X Y Z L E G (pos (10 ^ 18)) (den_unit hi hl) (den_unit err he) (den_unit g hg) (some_above m) (some_above n) (some_above (pred (10 ^ g.b))) ten_above
-            (le_along ez (sym e) (true_le z (x +ℤ y) t)))))
-      (λ t. le_true z (x +ℤ y) (le_along (sym ez) e
-          (sum_above a b c X Y Z L E G (pos (10 ^ 18)) (den_unit hi hl) (den_unit err he) (den_unit g hg) (some_above m) (some_above n) (some_above (pred (10 ^ g.b))) ten_above
-            (subst (λ w. w ≤ℤ left_side a b X Y Z) d (true_le _ _ t)))))
+    (λ t. le_true _ _ (subst (λ w. w ≤ℤ left_side a b X Y Z) (sym d)
+    (sum_above_back a b c X Y Z L E G (pos (10 ^ 18)) (den_unit hi hl) (den_unit err he) (den_unit g hg) (some_above m) (some_above n) (some_above (pred (10 ^ g.b))) ten_above
+    (le_along ez (sym e) (true_le z (x +ℤ y) t)))))
+    (λ t. le_true z (x +ℤ y) (le_along (sym ez) e
+    (sum_above a b c X Y Z L E G (pos (10 ^ 18)) (den_unit hi hl) (den_unit err he) (den_unit g hg) (some_above m) (some_above n) (some_above (pred (10 ^ g.b))) ten_above
+    (subst (λ w. w ≤ℤ left_side a b X Y Z) d (true_le _ _ t)))))
 
 -- bounds in 128 bits
 abs_bound : (a : ℤ) (n : ℕ) → unsigned_abs a < 2 ^ 62 → n ≤ 10 ^ 18 → unsigned_abs (a *ℤ pos n) ≤ 2 ^ 62 * 10 ^ 18

@@ -1,5 +1,5 @@
 -- From the parts of a text to its decimal.
-use Rattle.std.proofs.Common.{to_z, of_z, ◌≡◌, ℕ, zero, suc, ◌+◌, ◌-◌, ◌*◌, ◌^◌, ◌%◌, ◌<◌, ◌≤◌, ℤ, pos, negsuc, ◌-ℤ◌, neg_ℤ, ◌<ℤ◌, ◌≤ℤ◌, Bool, true, false, cond, ltb, List, ◌++◌, length, take, drop, Option, Some, None, Result, Ok, Err, inl, inr, refl, sym, ap, subst, ◌∙◌, length-drop, arith, rules, tests}
+use Rattle.std.proofs.Common.{to_z, of_z, ◌≡◌, ℕ, ◌+◌, ◌-◌, ◌^◌, ◌<◌, ◌≤◌, ℤ, pos, negsuc, ◌-ℤ◌, neg_ℤ, ◌≤ℤ◌, Bool, true, false, cond, ltb, List, ◌++◌, length, take, drop, Option, Some, None, Result, Err, inl, inr, refl, sym, ap, subst, ◌∙◌, length-drop, arith, rules, tests}
 use Rattle.std.specs.Prelude.{nat_lt, option_map}
 use Rattle.std.specs.Int.{w128}
 use Rattle.std.specs.Str.Parse.{digits_value}
@@ -10,9 +10,9 @@ use Rattle.fx_fraction.specs.declared.fault.NumberFault.{NumberFault}
 use Rattle.fx_fraction.specs.declared.fault.NumberFault.TheVariants.{TooLong, Malformed}
 use Rattle.fx_fraction.specs.declared.significant.Significant.{Significant}
 use Rattle.fx_fraction.specs.declared.significant.Significant.TheVariants.{Zero, Front, Long}
-use Rattle.fx_fraction.specs.Numeral.{Numeral, Power, Sign, unwritten, plus, minus, sign_of, behind_sign, is_minus, signed, exponent, digit_count, first_digits, behind_digits, part_of, part_digits, behind_part, power_of, numeral_of, unsigned_of}
-use Rattle.fx_fraction.specs.DecimalText.{fewest_places, within_limits, decimal_from, decimal_of}
-use Rattle.fx_fraction.specs.Kept.{Strips, Keeps, FitsFront, zeros_of, saturated, kept_exponent}
+use Rattle.fx_fraction.specs.Numeral.{Power, Sign, sign_of, behind_sign, is_minus, signed, exponent, digit_count, first_digits, behind_digits, part_of, part_digits, behind_part, power_of, numeral_of, unsigned_of}
+use Rattle.fx_fraction.specs.DecimalOf.{fewest_places, within_limits, decimal_from, decimal_of}
+use Rattle.fx_fraction.specs.Kept.{Keeps, FitsFront, zeros_of, saturated, kept_exponent}
 use Rattle.fx_fraction.specs.ReadParts.{by_shift, exponent_kept, IsMantissa}
 use Rattle.fx_fraction.proofs.Shifts.{fewest_front, fewest_zero, fewest_long, too_far}
 

@@ -1,15 +1,14 @@
 -- A decimal by its front and the places that it is moved.
-use Rattle.std.proofs.Common.{◌≡◌, ◌≢◌, ◌⊎◌, ℕ, zero, suc, ◌+◌, ◌-◌, ◌*◌, ◌/◌, ◌^◌, ◌%◌, ◌<◌, ◌≤◌, ℤ, pos, negsuc, ◌-ℤ◌, ◌<ℤ◌, Bool, true, false, cond, ltb, leb, Result, Ok, Err, inl, inr, refl, sym, ap, subst, ◌∙◌, add-one, arith, rules, tests}
-use Rattle.std.specs.Prelude.{nat_lt, nat_le, ◌&&◌}
-use Rattle.std.proofs.Math.Nat.{pow-suc, mul_assoc, mul-le-mul_right, pow-le-pow_right}
+use Rattle.std.proofs.Common.{◌≡◌, ◌⊎◌, ℕ, zero, suc, ◌+◌, ◌*◌, ◌^◌, ◌<◌, ◌≤◌, ℤ, pos, negsuc, ◌-ℤ◌, ◌<ℤ◌, Bool, true, false, cond, Result, Ok, Err, inl, inr, refl, sym, ap, ◌∙◌, arith, rules, tests}
+use Rattle.std.specs.Prelude.{nat_lt, nat_le, ◌&&◌, unsigned_abs}
+use Rattle.std.proofs.Math.Nat.{mul_assoc, mul-le-mul_right, pow-le-pow_right}
 use Rattle.std.proofs.lemmas.Nat.{pow-add}
 use Rattle.std.proofs.lemmas.Int.{ints}
-use Rattle.std.proofs.lemmas.Bool.{le-ltb}
 use Rattle.fx_rational.specs.Decimal.{Decimal}
 use Rattle.fx_fraction.specs.declared.fault.NumberFault.{NumberFault}
 use Rattle.fx_fraction.specs.declared.fault.NumberFault.TheVariants.{TooLong}
 use Rattle.fx_fraction.specs.Kept.{Strips}
-use Rattle.fx_fraction.specs.DecimalText.{trimmed, fewest_places, within_limits}
+use Rattle.fx_fraction.specs.DecimalOf.{trimmed, fewest_places, within_limits}
 use Rattle.fx_fraction.specs.Numeral.{signed}
 use Rattle.fx_fraction.specs.ReadParts.{by_shift}
 use Rattle.fx_fraction.proofs.Fronts.{grows}
@@ -72,3 +71,8 @@ fewest_long negative n f z places s le =
 pub no_sign : (negative : Bool) → within_limits negative (0, 0) ≡ Ok (record { a = pos 0; b = 0 })
 no_sign true = refl
 no_sign false = refl
+
+-- a shift by more than 18 places, in either direction
+pub beyond : (shift : ℤ) (size : ℕ) → size ≡ unsigned_abs shift → 18 < size → (shift <ℤ negsuc 17) ⊎ (pos 18 <ℤ shift)
+beyond (pos n) size e lt = inr (omega (arith, ints))
+beyond (negsuc n) size e lt = inl (omega (arith, ints))

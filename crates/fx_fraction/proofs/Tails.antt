@@ -1,12 +1,10 @@
 -- The text of a number, piece by piece.
-use Rattle.std.proofs.Common.{◌≡◌, ◌≢◌, ◌⊎◌, ℕ, zero, suc, ◌+◌, ◌-◌, ◌*◌, ◌/◌, ◌%◌, ◌^◌, ◌<◌, ◌≤◌, ℤ, pos, negsuc, ◌≤ℤ◌, ◌<ℤ◌, Bool, true, false, cond, eqb, List, [], ◌∷◌, ◌++◌, length, take, drop, refl, sym, ap, subst, ◌∙◌, arith, rules, tests, append_assoc}
+use Rattle.std.proofs.Common.{◌≡◌, ◌≢◌, ℕ, zero, suc, ◌+◌, ◌-◌, ◌*◌, ◌/◌, ◌%◌, ◌^◌, ◌<◌, ◌≤◌, ℤ, pos, negsuc, ◌≤ℤ◌, ◌<ℤ◌, Bool, false, cond, eqb, List, [], ◌∷◌, ◌++◌, drop, refl, sym, ap, ◌∙◌, arith, rules, tests, append_assoc}
 use Rattle.std.specs.Prelude.{map, decimal, unsigned_abs, bit_and, int_lt}
-use Rattle.std.proofs.Math.Nat.{pow-suc, pow-le-pow_right}
-use Rattle.std.proofs.lemmas.Nat.{pow_pos, div_below, mod_below, one_shl, and_mask, shl_whole, mul-le}
+use Rattle.std.proofs.lemmas.Nat.{one_shl, and_mask, shl_whole}
 use Rattle.std.proofs.lemmas.List.{drop-drop}
 use Rattle.std.proofs.lemmas.Int.{ints}
-use Rattle.std.proofs.lemmas.Bool.{eqb-true}
-use Rattle.fx_model.specs.WordText.{digits_after, pointed, size_text, minus_sign, decimal_text}
+use Rattle.fx_model.specs.WordText.{digits_after, pointed, size_text, decimal_text}
 
 abbrev pub glyphs : List ℕ → List ℕ
 glyphs ds = map (λ k. 48 + k) ds
@@ -17,20 +15,8 @@ drop_later i j xs ys le e =
     let k : i + (j - i) ≡ j = omega arith in
     sym (drop-drop (j - i) i xs ∙ ap (λ (n : ℕ). drop n xs) k) ∙ ap (drop (j - i)) e ∙ drop-drop (j - i) i ys ∙ ap (λ (n : ℕ). drop n ys) k
 
-pub digit_small : (r f : ℕ) → r < 2 ^ (f + 1) → 5 * r / 2 ^ f < 10
-digit_small r f h =
-    let e : 2 ^ (f + 1) ≡ 2 ^ f * 2 = (let k : f + 1 ≡ suc f = omega arith in ap (λ (n : ℕ). 2 ^ n) k ∙ pow-suc 2 f) in
-    div_below (5 * r) (2 ^ f) 10 (pow_pos f) (omega arith)
-
 pub rest_is : (n f : ℕ) → f < 128 → bit_and n (1 * 2 ^ f % 2 ^ 128 - 1) ≡ n % 2 ^ f
 rest_is n f h = rw (one_shl f 128 h) (and_mask n f)
-
-pub rest_small : (n f : ℕ) → f < 62 → n % 2 ^ f < 2 ^ 62
-rest_small n f h =
-    let two : 0 < 2 = omega arith in
-    let le : f ≤ 62 = omega arith in
-    let p : 2 ^ f ≤ 2 ^ 62 = pow-le-pow_right {n = 2} two le in
-    omega (arith, mod_below n (2 ^ f) (pow_pos f))
 
 pub after_zero : (f : ℕ) → digits_after f 0 ≡ []
 unfolding digits_after

@@ -1,5 +1,5 @@
 -- Fractions in lowest terms, and the limits.
-use Rattle.std.proofs.Common.{◌≡◌, ℕ, zero, suc, pred, ◌+◌, ◌-◌, ◌*◌, ◌/◌, ◌%◌, ◌^◌, ◌<◌, ◌≤◌, ℤ, pos, negsuc, ◌+ℤ◌, ◌*ℤ◌, neg_ℤ, ◌≤ℤ◌, ◌<ℤ◌, ◌-ℤ◌, Bool, true, false, Option, Some, FitsSigned, to_z, of_z, lit<, refl, sym, ap, subst, ◌∙◌, arith, rules}
+use Rattle.std.proofs.Common.{◌≡◌, ℕ, zero, suc, pred, ◌*◌, ◌/◌, ◌^◌, ◌<◌, ◌≤◌, ℤ, pos, negsuc, ◌*ℤ◌, neg_ℤ, ◌<ℤ◌, ◌-ℤ◌, Bool, true, false, Option, Some, FitsSigned, to_z, of_z, lit<, refl, sym, ap, subst, ◌∙◌, arith}
 use Rattle.std.specs.Prelude.{unsigned_abs, int_lt, int_div, IsSomeAnd}
 use Rattle.std.specs.Int.{IsGcd, w128}
 use Rattle.std.proofs.Math.Nat.{div-mul-le_self}
@@ -10,10 +10,10 @@ use Rattle.fx_algebra.specs.Gcd.{gcd}
 use Rattle.fx_algebra.proofs.LowestTerms.{gcd_is}
 use Rattle.fx_rational.specs.Rational.{Rational, bottom, over, negative, quotient, divided, lowest}
 use Rattle.fx_rational.specs.Decimal.{Decimal}
-use Rattle.fx_rational.proofs.Lowest.{part_some, lowest_top, lowest_bottom}
+use Rattle.fx_rational.proofs.Lowest.{suc_pred, size-neg_ℤ, part_some, lowest_top, lowest_bottom}
 use Rattle.fx_fraction.specs.Numeral.{signed}
 use Rattle.fx_fraction.specs.Fractions.{IsFraction, FitsFraction}
-use Rattle.fx_fraction.proofs.Quanta.{suc_pred, ten_pos, ten_small}
+use Rattle.fx_fraction.proofs.Quanta.{ten_pos, ten_small}
 
 pub signed_size : (s : Bool) (t : ℕ) → unsigned_abs (signed s t) ≡ t
 signed_size true zero = refl
@@ -29,7 +29,8 @@ fraction_is s t u x y above small few h ex ey =
       above = rw ey (omega (arith, ints));
       top_small = omega arith;
       bottom_small = omega arith;
-      coprime = subst (λ k. IsGcd k (unsigned_abs y) 1) (sym m) (subst (λ k. IsGcd t k 1) (sym n) h) }
+      coprime = subst (λ k. IsGcd k (unsigned_abs y) 1) (sym m) (subst (λ k. IsGcd t k 1) (sym n) h);
+    }
 
 not_below : (a : ℕ) → int_lt (pos a) (pos 0) ≡ false
 not_below a = grind (arith, ints)
@@ -73,11 +74,6 @@ product_fits x y h k = fits_signed_mul w128 x y (2 ^ 62) (2 ^ 62) (omega arith) 
 pub product_small : (x y : ℤ) → unsigned_abs x < 2 ^ 62 → unsigned_abs y < 2 ^ 62 → unsigned_abs (x *ℤ y) < 2 ^ 124
 product_small x y h k = rw (unsigned_abs-mul x y) (let m = mul-lt (unsigned_abs x) (unsigned_abs y) (2 ^ 62) (2 ^ 62) h k in omega arith)
 
-size_neg : (p : ℤ) → unsigned_abs (neg_ℤ p) ≡ unsigned_abs p
-size_neg (pos zero) = refl
-size_neg (pos (suc n)) = refl
-size_neg (negsuc n) = refl
-
 pub small_fits : (x : ℤ) → unsigned_abs x < 2 ^ 124 → FitsSigned w128 x
 small_fits (pos n) h = record { sfits = omega arith }
 small_fits (negsuc n) h = record { sfits = omega arith }
@@ -86,16 +82,17 @@ small_fits (negsuc n) h = record { sfits = omega arith }
 pub neg_fits : (p : ℤ) → FitsSigned w128 p → unsigned_abs p < 2 ^ 124 → to_z w128 (of_z w128 (pos 0 -ℤ to_z w128 (of_z w128 p))) ≡ neg_ℤ p
 neg_fits p f h =
     let e : pos 0 -ℤ to_z w128 (of_z w128 p) ≡ neg_ℤ p = rw (to_z-of_z w128 p f) (omega (arith, ints)) in
-    ap (λ z. to_z w128 (of_z w128 z)) e ∙ to_z-of_z w128 (neg_ℤ p) (small_fits (neg_ℤ p) (rw (size_neg p) h))
+    ap (λ z. to_z w128 (of_z w128 z)) e ∙ to_z-of_z w128 (neg_ℤ p) (small_fits (neg_ℤ p) (rw (size-neg_ℤ p) h))
 
 pub fraction_neg : (p q x y : ℤ) → IsFraction p q → x ≡ neg_ℤ p → y ≡ q → IsFraction x y
 fraction_neg p q x y h ex ey =
-    let m : unsigned_abs x ≡ unsigned_abs p = ap unsigned_abs ex ∙ size_neg p in
+    let m : unsigned_abs x ≡ unsigned_abs p = ap unsigned_abs ex ∙ size-neg_ℤ p in
     record {
       above = rw ey h.above;
       top_small = omega (arith, h.top_small);
       bottom_small = rw ey h.bottom_small;
-      coprime = subst (λ k. IsGcd k (unsigned_abs y) 1) (sym m) (rw ey h.coprime) }
+      coprime = subst (λ k. IsGcd k (unsigned_abs y) 1) (sym m) (rw ey h.coprime);
+    }
 
 pub negative_is : (a : Rational) (x : ℤ) (n : ℕ) → x ≡ neg_ℤ a.top → n ≡ a.less → (let c : Rational = record { top = x; less = n } in c ≡ negative a)
 unfolding negative
@@ -133,7 +130,7 @@ div_le n g = omega (arith, div-mul-le_self n g)
 pub lowest_fits : (r : Rational) → unsigned_abs r.top < 2 ^ 62 → bottom r < 2 ^ 62 → FitsFraction (lowest r)
 lowest_fits r h k = record {
   top = rw (lowest_top r) (omega (arith, div_le (unsigned_abs r.top) (gcd (unsigned_abs r.top) (bottom r))));
-  bottom = rw (lowest_bottom r) (omega (arith, div_le (bottom r) (gcd (unsigned_abs r.top) (bottom r))))
+  bottom = rw (lowest_bottom r) (omega (arith, div_le (bottom r) (gcd (unsigned_abs r.top) (bottom r))));
 }
 
 pub decimal_fits : (d : Decimal) → unsigned_abs d.a < 2 ^ 62 → d.b ≤ 18 → FitsFraction (lowest (over d.a (10 ^ d.b)))

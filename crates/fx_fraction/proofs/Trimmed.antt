@@ -1,8 +1,8 @@
 -- The decimal in the fewest places.
-use Rattle.std.proofs.Common.{◌≡◌, ◌≢◌, ◌⊎◌, ℕ, zero, suc, ◌+◌, ◌-◌, ◌*◌, ◌/◌, ◌^◌, ◌%◌, ◌<◌, ◌≤◌, Bool, true, false, cond, eqb, inl, inr, refl, sym, ap, subst, ◌∙◌, add-one, arith, rules, tests}
+use Rattle.std.proofs.Common.{◌≡◌, ◌≢◌, ◌⊎◌, ℕ, zero, suc, ◌*◌, ◌/◌, ◌^◌, ◌%◌, ◌≤◌, Bool, true, false, cond, eqb, inl, inr, refl, sym, ap, ◌∙◌, arith, rules, tests}
 use Rattle.std.proofs.Math.Nat.{pow-suc, mul_assoc, mul_comm, mul-mod_left}
-use Rattle.std.proofs.lemmas.Bool.{cases_Bool, eqb-true}
-use Rattle.fx_fraction.specs.DecimalText.{trimmed}
+use Rattle.std.proofs.lemmas.Bool.{eqb-true}
+use Rattle.fx_fraction.specs.DecimalOf.{trimmed}
 
 -- the pair is n / 10 ^ p, and has no zero that isn't needed
 pub record IsTrimmed (n p : ℕ) (x : ℕ × ℕ) : Type 0 where

@@ -1,20 +1,21 @@
 -- A reading has the value of its numeral.
-use Rattle.std.proofs.Common.{◌≡◌, ◌≢◌, ◌⊎◌, ℕ, zero, suc, pred, ◌+◌, ◌*◌, ◌%◌, ◌^◌, ◌<◌, ◌≤◌, ℤ, pos, negsuc, ◌*ℤ◌, neg_ℤ, Bool, true, false, cond, List, Option, Some, None, Result, Ok, Err, inl, inr, refl, sym, ap, subst, ◌∙◌, arith, rules, tests}
+use Rattle.std.proofs.Common.{◌≡◌, ◌≢◌, ◌⊎◌, ℕ, zero, suc, pred, ◌*◌, ◌%◌, ◌^◌, ◌<◌, ◌≤◌, ℤ, pos, negsuc, ◌*ℤ◌, Bool, true, false, cond, List, Option, Some, None, Result, Ok, Err, inl, inr, refl, sym, ap, subst, ◌∙◌, arith, rules, tests}
 use Rattle.std.specs.Prelude.{nat_lt, nat_le, ◌&&◌, unsigned_abs}
 use Rattle.std.proofs.Math.Nat.{pow-suc, mul-mod_left}
-use Rattle.std.proofs.lemmas.Int.{ints, unsigned_abs-mul}
+use Rattle.std.proofs.lemmas.Int.{unsigned_abs-mul}
 use Rattle.fx_algebra.proofs.Integers.{neg_ℤ-*ℤ}
-use Rattle.fx_rational.specs.Rational.{Rational, bottom, over, whole, Equal}
+use Rattle.fx_rational.specs.Rational.{Rational, over, Equal}
 use Rattle.fx_rational.specs.Decimal.{Decimal, IsDecimal, decimal_value}
+use Rattle.fx_rational.proofs.Lowest.{suc_pred}
 use Rattle.fx_rational.proofs.Laws.{equal_sym, equal_trans}
 use Rattle.fx_fraction.specs.declared.fault.NumberFault.{NumberFault}
 use Rattle.fx_fraction.specs.declared.fault.NumberFault.TheVariants.{Malformed, TooLong}
 use Rattle.fx_fraction.specs.Numeral.{Numeral, IsNumeral, numeral_text, numeral_of, is_minus, signed, mantissa, places}
-use Rattle.fx_fraction.specs.DecimalText.{trimmed, fewest_places, within_limits, decimal_from, decimal_of}
+use Rattle.fx_fraction.specs.DecimalOf.{trimmed, fewest_places, within_limits, decimal_from, decimal_of}
 use Rattle.fx_fraction.specs.ReadingLaw.{over_tens, numeral_value, IsReading, ReadingLaw}
-use Rattle.fx_fraction.proofs.Trimmed.{IsTrimmed, trimmed_is}
+use Rattle.fx_fraction.proofs.Trimmed.{trimmed_is}
 use Rattle.fx_fraction.proofs.Numerals.{numeral_back, numeral_joined}
-use Rattle.fx_fraction.proofs.Quanta.{suc_pred, ten_pos}
+use Rattle.fx_fraction.proofs.Quanta.{ten_pos}
 use Rattle.fx_fraction.proofs.Terms.{signed_size}
 
 signed-mul : (b : Bool) (m n : ℕ) → signed b m *ℤ pos n ≡ signed b (m * n)
@@ -87,7 +88,7 @@ unfolding decimal_value over
 only_pair d s x k h e =
     let g : d.a *ℤ pos (10 ^ x.1) ≡ signed s x.0 *ℤ pos (10 ^ d.b) = (λ i. d.a *ℤ pos (sym (tens x.1) i)) ∙ e.equal ∙ (λ i. signed s x.0 *ℤ pos (tens d.b i)) in
     fewest_same (unsigned_abs d.a) d.b x.0 x.1 (decimal_fewest d k) h
-      (sym (unsigned_abs-mul d.a (pos (10 ^ x.1))) ∙ ap unsigned_abs g ∙ unsigned_abs-mul (signed s x.0) (pos (10 ^ d.b)) ∙ ap (λ (n : ℕ). n * 10 ^ d.b) (signed_size s x.0))
+    (sym (unsigned_abs-mul d.a (pos (10 ^ x.1))) ∙ ap unsigned_abs g ∙ unsigned_abs-mul (signed s x.0) (pos (10 ^ d.b)) ∙ ap (λ (n : ℕ). n * 10 ^ d.b) (signed_size s x.0))
 
 -- the reading of a pair
 pair_reading : (s : Bool) (x : ℕ × ℕ) (v : Rational) → IsFewest x.0 x.1 → Equal (pair_value s x) v → IsReading (within_limits s x) v
@@ -96,6 +97,7 @@ pair_reading s x v h e = by (nat_lt x.0 (2 ^ 62)) refl (nat_le x.1 18) refl
   where
     found : Result Decimal NumberFault
     found = Ok (record { a = signed s x.0; b = x.1 })
+
     by : (p : Bool) → nat_lt x.0 (2 ^ 62) ≡ p → (q : Bool) → nat_le x.1 18 ≡ q → IsReading (cond (p && q) found (Err TooLong)) v
     by true t true u =
         let small : x.0 < 2 ^ 62 = search (rules, tests) in
@@ -134,5 +136,5 @@ pub reading_is : ReadingLaw
 reading_is = record {
   malformed = λ text. (λ e n h t. not_malformed (decimal_of (numeral_text n)) (numeral_value n) (text_reading n h) (ap decimal_of t ∙ e), malformed_is text);
   one = λ n m h k e. (let s : Some n ≡ Some m = sym (numeral_back n h) ∙ ap numeral_of e ∙ numeral_back m k in cc);
-  value = text_reading
+  value = text_reading;
 }

@@ -1,5 +1,5 @@
 -- A fraction's two numbers follow from its value.
-use Rattle.std.specs.Prelude.{◌≡◌, ℕ, zero, suc, pred, ℤ, pos, negsuc, ◌≤ℤ◌, refl}
+use Rattle.std.specs.Prelude.{◌≡◌, zero, suc, pred, ℤ, pos, negsuc, ◌≤ℤ◌, refl}
 use Rattle.std.specs.Int.RustNames.{unsigned_abs}
 use Rattle.fx_fraction.specs.Fractions.{IsFraction}
 use Rattle.fx_fraction.specs.declared.fraction.Fraction.TheInside.{Inside}

@@ -1,5 +1,5 @@
 -- Fractions within the limits of the code.
-use Rattle.std.specs.Prelude.{◌≡◌, ℕ, ◌^◌, ◌<◌, ◌≤ℤ◌, ℤ, pos, unsigned_abs, Option, SomeIff}
+use Rattle.std.specs.Prelude.{◌^◌, ◌<◌, ◌≤ℤ◌, ℤ, pos, unsigned_abs, Option, SomeIff}
 use Rattle.std.specs.Int.{IsGcd}
 use Rattle.fx_rational.specs.Rational.{Rational, bottom, lowest}
 

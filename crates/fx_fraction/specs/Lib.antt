@@ -1,5 +1,5 @@
 pub mod Numeral
-pub mod DecimalText
+pub mod DecimalOf
 pub mod Kept
 pub mod ReadParts
 pub mod Fractions

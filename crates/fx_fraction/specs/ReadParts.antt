@@ -1,4 +1,4 @@
--- What the reader's steps give.
+-- What the reader's steps give. No clause of a public call rests on this.
 use Rattle.std.specs.Prelude.{◌≡◌, ℕ, suc, ◌+◌, ◌*◌, ◌^◌, ◌<◌, ◌≤◌, ℤ, pos, negsuc, List, ◌++◌, length, drop, Option, Some, None, option_map, if◌then◌else◌}
 use Rattle.std.specs.Str.Parse.{digits_value}
 use Rattle.fx_fraction.specs.declared.significant.Significant.{Significant}

@@ -5,7 +5,7 @@ use Rattle.fx_rational.specs.Decimal.{Decimal, IsDecimal, decimal_value}
 use Rattle.fx_fraction.specs.declared.fault.NumberFault.{NumberFault}
 use Rattle.fx_fraction.specs.declared.fault.NumberFault.TheVariants.{Malformed, TooLong}
 use Rattle.fx_fraction.specs.Numeral.{Numeral, IsNumeral, numeral_text, is_minus, signed, mantissa, places}
-use Rattle.fx_fraction.specs.DecimalText.{decimal_of}
+use Rattle.fx_fraction.specs.DecimalOf.{decimal_of}
 
 -- z / 10^p, for any sign of p
 abbrev pub over_tens : ℤ → ℤ → Rational

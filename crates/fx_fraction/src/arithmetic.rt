@@ -9,7 +9,7 @@ ghost use Rattle.fx_rational.specs.Decimal.{decimal_value};
 ghost use Rattle.fx_fraction.specs.Fractions.{GivesLowest};
 
 use crate::decimal::{Decimal, ten_to};
-use crate::fraction::{Fraction, below, reduced, top};
+use crate::fraction::{Fraction, denominator, numerator, reduced};
 
 /// A numerator or denominator times another.
 fn product(x: i128, y: i128) -> i128
@@ -59,8 +59,8 @@ pub fn fadd(a: Fraction, b: Fraction) -> Option<Fraction>
     ensures { GivesLowest result (plus a b) }
 {
     let top = sum(
-        product(top(a), below(b)),
-        product(top(b), below(a)),
+        product(numerator(a), denominator(b)),
+        product(numerator(b), denominator(a)),
     );
     reduced(top, bottoms(a, b))
 }
@@ -78,7 +78,7 @@ pub fn fsub(a: Fraction, b: Fraction) -> Option<Fraction>
 pub fn fmul(a: Fraction, b: Fraction) -> Option<Fraction>
     ensures { GivesLowest result (times a b) }
 {
-    reduced(product(top(a), top(b)), bottoms(a, b))
+    reduced(product(numerator(a), numerator(b)), bottoms(a, b))
 }
 
 /// The quotient, and `None` exactly where it leaves the limits of `Fraction` in lowest terms.
@@ -86,8 +86,8 @@ pub fn fdiv(a: Fraction, b: Fraction) -> Option<Fraction>
     requires { b.top ≢ pos 0 }
     ensures { IsSomeAnd (quotient a b) (GivesLowest result) }
 {
-    let top_product = product(top(a), below(b));
-    if top(b) < 0 {
+    let top_product = product(numerator(a), denominator(b));
+    if numerator(b) < 0 {
         reduced(opposite(top_product), crossed(a, b))
     } else {
         reduced(top_product, crossed(a, b))
@@ -108,5 +108,13 @@ pub fn to_fraction(d: Decimal) -> Fraction
     match reduced(i128::from(d.a), u128::from(ten_to(d.b))) {
         Some(fraction) => fraction,
         None => unreachable!(),
+    }
+}
+
+impl From<Decimal> for Fraction {
+    ghost from_gives = { λ d fraction. fraction ≡ lowest (decimal_value d) };
+
+    fn from(d: Decimal) -> Fraction {
+        to_fraction(d)
     }
 }

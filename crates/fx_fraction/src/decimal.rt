@@ -6,6 +6,7 @@
 ghost use Rattle.std.specs.Prelude.{◌≡◌, ◌^◌, ◌<◌, ◌≤◌};
 ghost use Rattle.fx_fraction.specs.Numeral.{signed};
 
+use std::fmt;
 use std::marker::Model;
 
 /// The decimal `a / 10^b`, where |a| is below 2^62, `b` is at most 18, and `b` is the least for this value.
@@ -25,6 +26,19 @@ impl Model for Decimal {
     ghost invariant = { λ d. rational.IsDecimal d.a d.b };
 
     ghost inverse = { λ d. record { a = d.a; b = d.b } };
+}
+
+impl fmt::Display for Decimal {
+    fn fmt<W: fmt::Write>(&self, f: &mut fmt::Formatter<W>) -> fmt::Result {
+        if self.b == 0 {
+            return write!(f, "{}", self.a);
+        }
+        let size = self.a.unsigned_abs();
+        let power = ten_to(self.b);
+        let sign = if self.a < 0 { "-" } else { "" };
+        let width = usize::from(self.b);
+        write!(f, "{sign}{}.{:0width$}", size / power, size % power)
+    }
 }
 
 /// The powers of ten: a look-up, since each decimal that is read, compared or scaled needs one.

@@ -10,6 +10,7 @@ ghost use Rattle.fx_fraction.specs.Numeral.{signed};
 ghost use Rattle.fx_fraction.specs.Fractions.{GivesLowest};
 
 use crate::decimal::signed;
+use std::fmt;
 use std::marker::Model;
 
 /// The fraction `p / q` in lowest terms, where |p| and `q` are below 2^62 and `q` is above zero.
@@ -38,8 +39,14 @@ impl Model for Fraction {
     ghost inverse_ok = { λ c h. fraction_back c h };
 }
 
+impl fmt::Display for Fraction {
+    fn fmt<W: fmt::Write>(&self, f: &mut fmt::Formatter<W>) -> fmt::Result {
+        write!(f, "{}/{}", self.p, self.q)
+    }
+}
+
 /// The numerator, with the limit that the type keeps.
-pub fn top(a: Fraction) -> i128
+pub fn numerator(a: Fraction) -> i128
     ensures value { result ≡ a.top }
     ensures small { unsigned_abs result < 2 ^ 62 }
 {
@@ -47,7 +54,7 @@ pub fn top(a: Fraction) -> i128
 }
 
 /// The denominator, with the limits that the type keeps.
-pub fn below(a: Fraction) -> i128
+pub fn denominator(a: Fraction) -> i128
     ensures value { result ≡ pos (bottom a) }
     ensures small { unsigned_abs result < 2 ^ 62 }
 {
@@ -67,7 +74,8 @@ fn short_gcd(a: u64, b: u64) -> u64
     x
 }
 
-/// Leaves the division by 128 bits, which costs many times one by 64, as soon as the lesser number is short.
+/// The greatest common divisor, by 64 bits as soon as the lesser number has no more: a division by 128 bits costs many
+/// times as much.
 fn gcd(a: u128, b: u128) -> u128
     ensures { IsGcd a b result }
 {

@@ -4,7 +4,7 @@
 //! than 18 places in either direction is beyond the limits whatever the front is.
 
 ghost use Rattle.std.specs.Prelude.{◌≡◌, ◌<◌, ◌^◌, ◌%◌, ◌≤ℤ◌, ℕ, pos, negsuc};
-ghost use Rattle.fx_fraction.specs.DecimalText.{within_limits, fewest_places};
+ghost use Rattle.fx_fraction.specs.DecimalOf.{within_limits, fewest_places};
 ghost use Rattle.fx_fraction.specs.Kept.{Keeps, FitsFront};
 ghost use Rattle.fx_fraction.specs.ReadParts.{by_shift};
 
@@ -12,13 +12,16 @@ use crate::decimal::{Decimal, signed, ten_to};
 use crate::fault::NumberFault;
 use crate::significant::Significant;
 
+/// Behind the point no decimal has more digits, and `10^MOST_PLACES` is the last power of ten below 2^62.
+const MOST_PLACES: u128 = 18;
+
 /// `front * 10^shift`, or `front / 10^-shift`.
 fn scaled(is_negative: bool, front: u64, shift: i128) -> Result<Decimal, NumberFault>
     requires last { 0 < front % 10 }
     requires fits { front < 2 ^ 62 }
     ensures { result ≡ within_limits is_negative (by_shift front shift) }
 {
-    if shift < -18 || shift > 18 {
+    if shift.unsigned_abs() > MOST_PLACES {
         return Err(NumberFault::TooLong);
     }
     if shift < 0 {

@@ -3,7 +3,7 @@
 //! Every cell of every row comes through here. A shift to the right goes before the division, where it is the same as
 //! one division by the product, so that no divisor has more than 64 bits; most dividends have no more either.
 
-ghost use Rattle.std.specs.Prelude.{◌≡◌, ◌<◌, ◌^◌, ◌≤◌, ℕ, pos, negsuc, ◌*ℤ◌, ◌≤ℤ◌, ◌<ℤ◌, FitsSigned};
+ghost use Rattle.std.specs.Prelude.{◌≡◌, ◌<◌, ◌^◌, ◌≤◌, pos, negsuc, ◌*ℤ◌, ◌≤ℤ◌, FitsSigned};
 ghost use Rattle.std.specs.Int.{w128};
 ghost use Rattle.fx_rational.specs.Rational.{floor_div};
 ghost use Rattle.fx_rational.specs.Decimal.{quantised};

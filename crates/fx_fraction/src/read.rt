@@ -4,13 +4,12 @@
 //! `Significant` says, and an exponent past 64 bits is kept as the greatest, since no text in memory has as many digits
 //! as could bring such a value back into the limits.
 
-ghost use Rattle.std.specs.Prelude.{◌≡◌, ◌+◌, ◌<◌, ◌≤◌, ◌^◌, ◌≤ℤ◌, ℕ, pos, negsuc, length, drop, option_map, IfSome, IfNone, Some, None, IsSome, true, false, nat_lt, ◌++◌};
-ghost use Rattle.std.specs.Str.Parse.{digits_value, digits_value_after};
-ghost use Rattle.std.specs.Str.{all_ascii_digits};
-ghost use Rattle.fx_fraction.specs.Numeral.{is_number, is_minus, sign_of, signed, behind_sign, digit_count, first_digits, behind_digits, part_of, part_digits, behind_part, power_of};
-ghost use Rattle.fx_fraction.specs.DecimalText.{within_limits, fewest_places, decimal_of};
-ghost use Rattle.fx_fraction.specs.Kept.{Keeps, FitsFront, zeros_of, saturated, kept_exponent};
-ghost use Rattle.fx_fraction.specs.ReadParts.{by_shift, number_kept, exponent_kept, IsMantissa};
+ghost use Rattle.std.specs.Prelude.{◌≡◌, ◌+◌, ◌<◌, ◌≤◌, ◌^◌, ℕ, length, drop, IfSome, IfNone, Some, None, false};
+ghost use Rattle.std.specs.Str.Parse.{digits_value_after};
+ghost use Rattle.fx_fraction.specs.Numeral.{is_minus, sign_of, behind_sign, digit_count, behind_digits, part_of, part_digits, behind_part};
+ghost use Rattle.fx_fraction.specs.DecimalOf.{decimal_of};
+ghost use Rattle.fx_fraction.specs.Kept.{Keeps, FitsFront, zeros_of};
+ghost use Rattle.fx_fraction.specs.ReadParts.{number_kept, exponent_kept, IsMantissa};
 
 use crate::decimal::Decimal;
 use crate::fault::NumberFault;

@@ -9,6 +9,8 @@ ghost use Rattle.std.specs.Str.Parse.{digits_value_after};
 ghost use Rattle.fx_fraction.specs.Numeral.{digit_count, first_digits};
 ghost use Rattle.fx_fraction.specs.Kept.{Keeps, FitsFront, zeros_of};
 
+use crate::decimal::ten_to;
+
 /// What is kept of a number that is read digit by digit.
 #[derive(Clone, Copy)]
 pub enum Significant {
@@ -30,7 +32,7 @@ fn joined(front: u64, zeros: u64, digit: u64) -> Significant
     if zeros > 17 {
         return Significant::Long;
     }
-    let scale = 10u64.pow(zeros as u32 + 1);
+    let scale = ten_to(zeros as u8 + 1);
     let next = u128::from(front) * u128::from(scale) + u128::from(digit);
     if next < 1 << 62 {
         Significant::Front {

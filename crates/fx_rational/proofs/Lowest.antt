@@ -39,7 +39,7 @@ part_some b g below d = by (b / g) (times_back b g d)
     by zero e = absurd (omega arith)
     by (suc q) e = omega arith
 
-size-neg_ℤ : (z : ℤ) → unsigned_abs (neg_ℤ z) ≡ unsigned_abs z
+pub size-neg_ℤ : (z : ℤ) → unsigned_abs (neg_ℤ z) ≡ unsigned_abs z
 size-neg_ℤ (pos zero) = refl
 size-neg_ℤ (pos (suc n)) = refl
 size-neg_ℤ (negsuc n) = refl
@@ -66,7 +66,7 @@ divisor_some r = gcd_above (unsigned_abs r.top) (bottom r) (divisor r) (omega ar
 bottom_some : (r : Rational) → 0 < bottom r / divisor r
 bottom_some r = part_some (bottom r) (divisor r) (omega arith) (divisor_is r).1
 
-suc_pred : (n : ℕ) → 0 < n → suc (pred n) ≡ n
+pub suc_pred : (n : ℕ) → 0 < n → suc (pred n) ≡ n
 suc_pred zero h = absurd (omega arith)
 suc_pred (suc n) h = refl
 

@@ -1,9 +1,8 @@
-use Rattle.std.proofs.Common.{◌≡◌, ◌^◌, SFits, FitsSigned, to_z, of_z, sym, ap, subst, ◌∙◌, rules}
+use Rattle.std.proofs.Common.{◌≡◌, ◌^◌, SFits, FitsSigned, to_z, of_z, ap, ◌∙◌, rules}
 use Rattle.std.specs.Int.{w64, w128}
 use Rattle.std.proofs.lemmas.Int.{to_z-of_z}
-use Rattle.fx_rational.specs.Rational.{Rational, over, lowest}
+use Rattle.fx_rational.specs.Rational.{over, lowest}
 use Rattle.fx_rational.specs.Decimal.{Decimal, decimal_value}
-use Rattle.fx_fraction.specs.Fractions.{FitsFraction}
 use Rattle.fx_fraction.proofs.Terms.{decimal_fits}
 use Rattle.fx_fraction.proofs.arithmetic.to_fraction.Goals as goal
 

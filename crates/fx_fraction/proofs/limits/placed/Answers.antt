@@ -1,8 +1,8 @@
-use Rattle.std.proofs.Common.{◌≡◌, ℕ, sym, ap, subst, ◌∙◌, pos, ◌-ℤ◌, refl, arith, rules, SFits}
+use Rattle.std.proofs.Common.{◌≡◌, sym, ap, subst, ◌∙◌, ◌-ℤ◌, arith, rules, SFits}
 use Rattle.std.proofs.lemmas.Int.{ints, to_z-of_z}
 use mir.Syntax.{w128}
 use Rattle.fx_fraction.specs.Kept.{Keeps}
-use Rattle.fx_fraction.specs.DecimalText.{within_limits, fewest_places}
+use Rattle.fx_fraction.specs.DecimalOf.{within_limits, fewest_places}
 use Rattle.fx_fraction.specs.ReadParts.{by_shift}
 use Rattle.fx_fraction.proofs.Shifts.{fewest_front, fewest_zero, fewest_long, no_sign}
 use Rattle.fx_fraction.proofs.limits.placed.Goals as goal

@@ -1,4 +1,4 @@
-use Rattle.std.proofs.Common.{◌≡◌, ◌^◌, pos, ◌*ℤ◌, FitsSigned, SFits, to_z, of_z, sym, ap, ◌∙◌, arith, rules}
+use Rattle.std.proofs.Common.{◌≡◌, ◌^◌, pos, ◌*ℤ◌, FitsSigned, SFits, to_z, of_z, ap, ◌∙◌, arith, rules}
 use Rattle.std.specs.Prelude.{unsigned_abs}
 use Rattle.std.specs.Int.{w64, w128}
 use Rattle.std.proofs.lemmas.Int.{ints, to_z-of_z}

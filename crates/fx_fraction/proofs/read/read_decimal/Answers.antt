@@ -1,5 +1,5 @@
 use Rattle.std.proofs.Common.{pos, ◌-ℤ◌, sym, ap, ◌∙◌}
-use Rattle.fx_fraction.specs.DecimalText.{within_limits, fewest_places}
+use Rattle.fx_fraction.specs.DecimalOf.{within_limits, fewest_places}
 use Rattle.fx_fraction.proofs.Reading.{no_digit, no_power, read_is, exponent_near, rest_of, places_is, places_near}
 use Rattle.fx_fraction.proofs.read.read_decimal.Goals as goal
 

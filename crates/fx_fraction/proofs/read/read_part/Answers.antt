@@ -1,8 +1,8 @@
-use Rattle.std.proofs.Common.{◌≡◌, ◌+◌, ◌-◌, ◌≤◌, ℕ, List, length, drop, take, get_or, refl, subst, length-drop, arith, rules}
+use Rattle.std.proofs.Common.{◌≡◌, ◌-◌, ℕ, List, length, drop, get_or, subst, length-drop, arith, rules}
 use Rattle.std.specs.Str.Parse.{digits_value_after}
 use Rattle.std.proofs.lemmas.List.{take_all}
 use Rattle.fx_fraction.specs.Kept.{Keeps}
-use Rattle.fx_fraction.specs.Numeral.{first_digits, part_of, part_digits}
+use Rattle.fx_fraction.specs.Numeral.{first_digits}
 use Rattle.fx_fraction.proofs.read.read_part.Goals as goal
 
 pub overflow_add-result : goal.overflow_add-result

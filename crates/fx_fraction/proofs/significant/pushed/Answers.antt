@@ -1,4 +1,4 @@
-use Rattle.std.proofs.Common.{◌≡◌, subst}
+use Rattle.std.proofs.Common.{subst}
 use Rattle.fx_fraction.specs.Kept.{Keeps}
 use Rattle.fx_fraction.proofs.Fronts.{with_zero, long_goes_on}
 use Rattle.fx_fraction.proofs.significant.pushed.Goals as goal

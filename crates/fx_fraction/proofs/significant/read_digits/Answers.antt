@@ -1,6 +1,5 @@
-use Rattle.std.proofs.Common.{◌≡◌, ◌+◌, ◌*◌, ◌-◌, ℕ, take, length, get_or, sym, ap, subst, ◌∙◌, arith, below_more}
+use Rattle.std.proofs.Common.{◌≡◌, ℕ, take, length, get_or, sym, subst, ◌∙◌, arith, below_more}
 use Rattle.std.specs.Str.Parse.{digits_value_after}
-use Rattle.std.proofs.lemmas.List.Sums.{prefix_len-le-length}
 use Rattle.fx_fraction.specs.Kept.{Keeps}
 use Rattle.fx_fraction.specs.Numeral.{digit_count}
 use Rattle.fx_fraction.proofs.Digits.{digit_is, after_more, digit_count_is}

@@ -1,4 +1,4 @@
-use Rattle.std.proofs.Common.{◌≡◌, ◌*◌, ◌^◌, ◌≤◌, ◌+◌, refl, ◌∙◌, arith}
+use Rattle.std.proofs.Common.{◌*◌, ◌^◌, ◌≤◌, ◌+◌, refl, ◌∙◌, arith}
 use Rattle.fx_fraction.proofs.Quanta.{two_up}
 use Rattle.fx_fraction.proofs.Tails.{mask_is, rest_is}
 use Rattle.fx_fraction.proofs.text.next_digit.Goals as goal

@@ -1,4 +1,4 @@
-use Rattle.std.proofs.Common.{◌≡◌, ◌+◌, ◌-◌, length, arith, rules}
+use Rattle.std.proofs.Common.{◌+◌, ◌-◌, length, arith, rules}
 use Rattle.std.proofs.lemmas.Slice.{drop-put_mid}
 use Rattle.fx_fraction.proofs.text.put.Goals as goal
 

@@ -1,4 +1,4 @@
-use Rattle.std.proofs.Common.{◌≡◌, ℕ, ◌+◌, ◌<◌, ◌≤◌, ◌^◌, ◌++◌, take, drop, length}
+use Rattle.std.proofs.Common.{◌≡◌, ◌+◌, ◌<◌, ◌≤◌, ◌^◌, ◌++◌, take, drop, length}
 use Rattle.fx_model.specs.WordText.{digits_after}
 use Rattle.fx_fraction.proofs.Tails.{glyphs}
 use Rattle.fx_fraction.proofs.text.put_digits.Given as goal

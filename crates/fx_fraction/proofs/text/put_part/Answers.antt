@@ -1,6 +1,5 @@
-use Rattle.std.proofs.Common.{◌≡◌, ◌≢◌, ◌++◌, [], take, sym, ap, refl, ◌∙◌, arith}
+use Rattle.std.proofs.Common.{◌++◌, take, sym, ap, ◌∙◌, arith}
 use Rattle.std.proofs.lemmas.List.{append-nil}
-use Rattle.fx_model.specs.WordText.{digits_after, pointed}
 use Rattle.fx_fraction.proofs.Tails.{drop_later, point_none, with_point}
 use Rattle.fx_fraction.proofs.text.put_part.Goals as goal
 

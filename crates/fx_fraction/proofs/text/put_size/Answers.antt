@@ -1,4 +1,4 @@
-use Rattle.std.proofs.Common.{◌≡◌, ◌++◌, ◌/◌, ◌%◌, ◌^◌, take, sym, ap, refl, ◌∙◌, arith, rules}
+use Rattle.std.proofs.Common.{◌≡◌, ◌++◌, take, ap, refl, ◌∙◌, arith}
 use Rattle.std.specs.Prelude.{unsigned_abs}
 use Rattle.std.proofs.lemmas.Int.{ints, to_z-of_z}
 use Rattle.fx_fraction.proofs.Tails.{drop_later, size_low, size_in_two, high_few, mask_is}
@@ -8,7 +8,7 @@ pub returns-then-point-lt0-clause-written : goal.returns-then-point-lt0-clause-w
 returns-then-point-lt0-clause-written c =
     let fp = c.ranges.point in
     let k : c.unsigned_abs-shift.result ≡ unsigned_abs c.args.point = simp to_z-of_z at c.unsigned_abs-shift.ensures.value in
-    c.put_wide.ensures.written ∙ ap (λ xs. take c.args.at c.args.out.now ++ xs)
+    c.put_number.ensures.written ∙ ap (λ xs. take c.args.at c.args.out.now ++ xs)
     (size_low c.args.size c.args.point c.unsigned_abs-shift.result c.from.result c.requires.size c.requires.low (omega (arith, ints)) k c.from.ensures)
 
 pub returns-clause-written : goal.returns-clause-written
