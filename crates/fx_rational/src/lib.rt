@@ -5,8 +5,8 @@
 //! one line of a proof (`proofs/Ring`): cross multiplication makes it one over whole numbers.
 #![tactic(auto)]
 
-pub mod lowest_law;
 pub mod dyadic_laws;
+pub mod lowest_law;
 mod rational_laws;
 
 pub use rational_laws::{
