@@ -1,7 +1,7 @@
 //! Fractions without bound.
 #![tactic(auto)]
 
-pub mod lowest_law;
 pub mod dyadic_laws;
+pub mod lowest_law;
 
 pub fn nothing() {}
