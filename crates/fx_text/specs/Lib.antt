@@ -1,0 +1,4 @@
+pub mod Faults
+pub mod Cutting
+pub mod Numbers
+pub mod Reading
