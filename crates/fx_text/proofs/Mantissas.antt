@@ -15,7 +15,7 @@ use Rattle.std.proofs.lemmas.Str.Parse.{digit_at}
 use Rattle.fx_rational.specs.Dyadic.{Dyadic, IsDyadic, IsWritten}
 use Rattle.fx_text.specs.Cutting.{cut_at}
 use Rattle.fx_text.specs.Numbers.{has_good_front, digits_of, whole_of, integer_of, spelled, dyadic_in, dyadic_of, kept, kept_signed, kept_dyadic}
-use Rattle.fx_text.proofs.Choices.{chosen}
+use Rattle.fx_text.proofs.Choices.{chosen, some_true}
 use Rattle.fx_text.proofs.Digits.{own}
 use Rattle.fx_text.proofs.NumberLaws.{good_front, cons_drop, negative_is, positive_is}
 
@@ -95,10 +95,6 @@ kept_small d m e h small places =
     let places_are : d.e ≡ e = omega arith in
     ap (λ z. record { m = z; e = d.e }) (kept_signed_small d.m m x small) ∙ ap (λ k. record { m = m; e = k }) places_are
 
-some_or : (a b : Bool) → (a || b) ≡ true → (a ≡ true) ⊎ (b ≡ true)
-some_or true b e = inl refl
-some_or false b e = inr e
-
 -- a dyadic that is spelled has an odd mantissa, or the exponent 0
 spelled_odd : (m : Option ℤ) (e : Option ℕ) (d : Dyadic) → spelled m e ≡ Some d → 0 < d.e → unsigned_abs d.m % 2 ≡ 1
 spelled_odd None e d h lt = absurd cc
@@ -107,7 +103,7 @@ spelled_odd (Some m) (Some e) d h lt =
     elim (chosen (eqb e 0 || eqb (unsigned_abs m % 2) 1) (Some (record { m = m; e = e })) None (Some d) h) [
       | inl k ↦
         let same : record { m = m; e = e } ≡ d = cc in
-        subst (λ (y : Dyadic). 0 < y.e → unsigned_abs y.m % 2 ≡ 1) same (by (some_or (eqb e 0) (eqb (unsigned_abs m % 2) 1) k.0)) lt
+        subst (λ (y : Dyadic). 0 < y.e → unsigned_abs y.m % 2 ≡ 1) same (by (some_true (eqb e 0) (eqb (unsigned_abs m % 2) 1) k.0)) lt
       | inr k ↦ absurd cc
     ]
   where

@@ -3,14 +3,17 @@
 //! Each reader says by one clause that it reads what its definition reads, value and rest or fault, and by a second the
 //! range of what it gives. So a reader above is a chain of `?` over a `do` of definitions, and casts nothing.
 
-ghost use Rattle.std.specs.Prelude.{◌≡◌, ◌<◌, ◌≤◌, IfOk};
+ghost use Rattle.std.specs.Prelude.{◌≡◌, ◌<◌, ◌≤◌, All, IfOk};
 ghost use Rattle.fx_rational.specs.Dyadic.{IsWritten};
 ghost use Rattle.fx_text.specs.Reading.{IsWithin, Reads, ReadsRest, word_at, number_at, place_at, count_at, ended_at, dyadic_at, interval_at};
+ghost use Rattle.fx_text.specs.Lines.{GivesFields};
+ghost use Rattle.fx_text.specs.Many.{dyadics_at};
 
 use crate::cut::Fields;
 use crate::fault::TextKind;
 use crate::whole::{dyadic_parts, integer};
 use fx_num::Dyadic;
+use std::alloc::Global;
 
 /// A fixed word. BadLine where the field is missing or another.
 #[tactic(auto, unfolding(crate::specs::Reading::word_at))]
@@ -104,4 +107,17 @@ pub fn interval(fields: &mut Fields<'_>) -> Result<(Dyadic, Dyadic), TextKind>
     let lo = dyadic(fields)?;
     let hi = dyadic(fields)?;
     Ok((lo, hi))
+}
+
+/// So many dyadics, each as `dyadic`. Memory where none was left.
+pub fn dyadics(alloc: Global, fields: &mut Fields<'_>, count: u32) -> Result<Vec<Dyadic>, TextKind>
+    ensures value { GivesFields (λ ds. ds.items) result fields.new (dyadics_at count fields.old) }
+    ensures written { IfOk result (λ ds. All IsWritten ds.items) }
+{
+    let mut found = Vec::new(alloc);
+    for _ in 0..count {
+        let d = dyadic(fields)?;
+        found.push(d)?;
+    }
+    Ok(found)
 }

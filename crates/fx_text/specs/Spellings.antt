@@ -1,0 +1,38 @@
+-- What numbers, dyadics, intervals and lines have: one spelling each.
+use Rattle.std.specs.Prelude.{◌≡◌, ℕ, ℤ, pos, negsuc, ◌-◌, ◌^◌, ◌<◌, ◌≤◌, ◌≤ℤ◌, List, [], ◌∷◌, Ok}
+use Rattle.std.specs.Fmt.{decimal, signed_decimal}
+use Rattle.fx_rational.specs.Dyadic.{IsWritten}
+use Rattle.fx_rational.specs.Interval.{IsWrittenInterval}
+use Rattle.fx_text.specs.Cutting.{Line}
+use Rattle.fx_text.specs.Reading.{IsWithin, word_at, number_at, place_at, count_at, dyadic_at, interval_at}
+use Rattle.fx_text.specs.Lines.{fields_at}
+use Rattle.fx_text.specs.Spelling.{AreFields, IsOneSpelling, dyadic_text, interval_fields, line_text}
+
+-- a range of 64 bits
+pub record AreNarrow (low high : ℤ) : Type 0 where
+  pub least : negsuc (2 ^ 63 - 1) ≤ℤ low
+  pub greatest : high ≤ℤ pos (2 ^ 63 - 1)
+
+abbrev pub WordTakes : Type 0
+WordTakes = (word : List ℕ) (line rest : Line) → word_at word line ≡ Ok rest → line ≡ word ∷ rest
+
+abbrev pub WordAgain : Type 0
+WordAgain = (word : List ℕ) (rest : Line) → word_at word (word ∷ rest) ≡ Ok rest
+
+abbrev pub NumberLaw : Type 0
+NumberLaw = (low high : ℤ) → AreNarrow low high → IsOneSpelling (number_at low high) (λ z. signed_decimal z ∷ []) (IsWithin low high)
+
+abbrev pub PlaceLaw : Type 0
+PlaceLaw = (end : ℕ) → end < 2 ^ 32 → IsOneSpelling (place_at end) (λ n. decimal n ∷ []) (λ n. n < end)
+
+abbrev pub CountLaw : Type 0
+CountLaw = (low limit : ℕ) → limit < 2 ^ 32 → IsOneSpelling (count_at low limit) (λ n. decimal n ∷ []) (λ n. (low ≤ n) × (n ≤ limit))
+
+abbrev pub DyadicLaw : Type 0
+DyadicLaw = IsOneSpelling dyadic_at (λ d. dyadic_text d ∷ []) IsWritten
+
+abbrev pub IntervalLaw : Type 0
+IntervalLaw = IsOneSpelling interval_at interval_fields IsWrittenInterval
+
+abbrev pub LineLaw : Type 0
+LineLaw = (n : ℕ) → IsOneSpelling (fields_at n) line_text AreFields

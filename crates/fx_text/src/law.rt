@@ -1,0 +1,43 @@
+//! What may be believed of the readers and printers: each value has one spelling.
+//!
+//! Each function's contract is a law of the definitions in `specs/`, and its body is empty: nothing here runs. What a
+//! reader takes is what is printed of the value, and the value is in its range; what is printed of a value in its range
+//! is read again, whatever follows.
+
+ghost use Rattle.fx_text.specs.Spellings.{WordTakes, WordAgain, NumberLaw, PlaceLaw, CountLaw, DyadicLaw, IntervalLaw, LineLaw};
+
+/// A fixed word is read where it stands, and nowhere else.
+pub fn word_law()
+    ensures takes { WordTakes }
+    ensures again { WordAgain }
+{}
+
+/// A whole number has one spelling.
+pub fn number_law()
+    ensures { NumberLaw }
+{}
+
+/// A place has one spelling.
+pub fn place_law()
+    ensures { PlaceLaw }
+{}
+
+/// A count has one spelling.
+pub fn count_law()
+    ensures { CountLaw }
+{}
+
+/// A dyadic has one spelling.
+pub fn dyadic_law()
+    ensures { DyadicLaw }
+{}
+
+/// An interval has one spelling.
+pub fn interval_law()
+    ensures { IntervalLaw }
+{}
+
+/// The fields of a line, which have no space and no line feed, have one line.
+pub fn line_law()
+    ensures { LineLaw }
+{}
