@@ -1,7 +1,7 @@
 -- Cutting at a byte: what is found there, and which fields that leaves.
-use Rattle.std.proofs.Common.{◌≡◌, ℕ, ◌+◌, ◌<◌, ◌≤◌, Bool, true, false, cond, eqb, ltb, List, [], ◌∷◌, ◌++◌, length, get_or, take, drop, Option, Some, None, Bor, refl, sym, ap, ◌∙◌, inl, inr, arith, rules, tests}
+use Rattle.std.proofs.Common.{◌≡◌, ℕ, ◌+◌, ◌<◌, Bool, true, false, eqb, ltb, List, [], ◌∷◌, length, take, drop, Option, Some, None, Bor, refl, ◌∙◌, inl, inr, arith, rules, tests}
 use Rattle.std.specs.Prelude.{not, is_some}
-use Rattle.std.specs.List.{before_first, after_first, position_or_len, slice_split}
+use Rattle.std.specs.List.{before_first, after_first, position_or_len}
 use Rattle.std.proofs.lemmas.Option.{some_pair_parts}
 use Rattle.std.proofs.lemmas.Bool.{ltb-true, ltb-false}
 use Rattle.std.proofs.lemmas.Bool.Decides.{nat_tests}
@@ -21,8 +21,8 @@ pub cut_at-parts : (c : ℕ) (xs f rest : List ℕ) → cut_at c xs ≡ Some (f,
 cut_at-parts c xs f rest e =
     elim (chosen (ltb (position_or_len (λ b. eqb b c) xs) (length xs)) (Some (before_first (λ b. eqb b c) xs, after_first (λ b. eqb b c) xs)) None (Some (f, rest)) e) [
       | inl h ↦
-        let parts = some_pair_parts (before_first (λ b. eqb b c) xs) f (after_first (λ b. eqb b c) xs) rest h.1 in
-        (ltb-true _ _ h.0, parts.0, parts.1)
+          let parts = some_pair_parts (before_first (λ b. eqb b c) xs) f (after_first (λ b. eqb b c) xs) rest h.1 in
+          (ltb-true _ _ h.0, parts.0, parts.1)
       | inr h ↦ absurd cc
     ]
 

@@ -1,15 +1,15 @@
 -- What a reader of one field took is what is written of it, and what is written is read again.
-use Rattle.std.proofs.Common.{◌≡◌, ℕ, zero, suc, ◌+◌, ◌-◌, ◌^◌, ◌<◌, ◌≤◌, Bool, true, false, cond, List, [], ◌∷◌, Option, Some, None, Result, Ok, Err, ℤ, pos, negsuc, ◌⊎◌, ◌≤ℤ◌, ◌-ℤ◌, refl, sym, ap, subst, ◌∙◌, inl, inr, arith}
+use Rattle.std.proofs.Common.{◌≡◌, ℕ, ◌^◌, ◌<◌, ◌≤◌, true, cond, List, [], ◌∷◌, Option, Some, None, Result, Ok, Err, ℤ, pos, negsuc, ◌≤ℤ◌, ◌-ℤ◌, refl, ap, subst, ◌∙◌, inl, inr, arith}
 use Rattle.std.specs.Prelude.{int_le, ◌&&◌, unsigned_abs}
 use Rattle.std.specs.Fmt.{decimal, signed_decimal}
 use Rattle.std.specs.Str.{bytes_eq}
 use Rattle.std.proofs.lemmas.Int.{ints}
 use Rattle.std.proofs.lemmas.Slice.Eq.{bytes_eq-Decides}
 use Rattle.fx_text.specs.declared.fault.TextKind.{TextKind}
-use Rattle.fx_text.specs.declared.fault.TextKind.TheVariants.{BadLine, BadNumber, OutOfRange, TooMany}
+use Rattle.fx_text.specs.declared.fault.TextKind.TheVariants.{BadLine, OutOfRange, TooMany}
 use Rattle.fx_text.specs.Cutting.{Line}
 use Rattle.fx_text.specs.Numbers.{integer_of}
-use Rattle.fx_text.specs.Reading.{◌>>=◌, IsWithin, field_at, known, word_at, number_at, place_at, count_at, ended_at}
+use Rattle.fx_text.specs.Reading.{IsWithin, field_at, known, word_at, number_at, place_at, count_at, ended_at}
 use Rattle.fx_text.specs.Spellings.{AreNarrow}
 use Rattle.fx_text.proofs.Choices.{on_ok, passed, chosen, both_true}
 use Rattle.fx_text.proofs.NumberLaws.{integer_takes, integer_again}
@@ -93,10 +93,10 @@ count_takes low limit line x small e =
         elim (chosen (int_le z (pos limit)) (cond (int_le (pos low) z) (done (unsigned_abs z, rest)) (Err OutOfRange)) (Err TooMany) (done x) e) [
           | inr h ↦ absurd cc
           | inl h ↦
-            let t = passed (int_le (pos low) z) OutOfRange (unsigned_abs z, rest) x h.1 in
-            let high : z ≤ℤ pos limit = grind (arith, ints, h.0) in
-            let least : pos low ≤ℤ z = grind (arith, ints, t.0) in
-            at z g rest l i high least t.1
+              let t = passed (int_le (pos low) z) OutOfRange (unsigned_abs z, rest) x h.1 in
+              let high : z ≤ℤ pos limit = grind (arith, ints, h.0) in
+              let least : pos low ≤ℤ z = grind (arith, ints, t.0) in
+              at z g rest l i high least t.1
         ]
       where
         at : (z : ℤ) (g : List ℕ) (rest : Line) → line ≡ g ∷ rest → integer_of g ≡ Some z → z ≤ℤ pos limit → pos low ≤ℤ z → (unsigned_abs z, rest) ≡ x → (line ≡ decimal x.0 ∷ x.1) × (low ≤ x.0) × (x.0 ≤ limit)

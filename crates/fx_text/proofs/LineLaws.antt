@@ -1,22 +1,18 @@
 -- A text is cut into its lines and fields in one way.
-use Rattle.std.proofs.Common.{◌≡◌, ℕ, zero, suc, ◌+◌, ◌<◌, ◌≤◌, ◌^◌, Bool, true, false, cond, eqb, ltb, List, [], ◌∷◌, ◌++◌, length, get_or, take, drop, All, Option, Some, None, Result, Ok, Err, ℤ, pos, negsuc, ◌≤ℤ◌, refl, sym, ap, subst, ◌∙◌, inl, inr, ◌⊎◌, append_assoc, arith, rules, tests, length-append}
-use Rattle.std.specs.Prelude.{not}
-use Rattle.std.specs.Fmt.{decimal, signed_decimal}
+use Rattle.std.proofs.Common.{◌≡◌, ℕ, suc, ◌+◌, ◌<◌, ◌^◌, Bool, true, false, cond, eqb, List, [], ◌∷◌, ◌++◌, length, drop, Option, Some, None, Result, Ok, Err, refl, sym, ap, subst, ◌∙◌, inl, inr, ◌⊎◌, append_assoc, arith, rules, tests, length-append}
+use Rattle.std.specs.Fmt.{decimal}
 use Rattle.std.specs.Str.Parse.{AllDigits}
-use Rattle.std.specs.List.{AllByRecursion, position_or_len, before_first, after_first, slice_split, onto_first, join_with_byte}
-use Rattle.std.proofs.lemmas.Bool.{cases_Bool, eqb-true}
-use Rattle.std.proofs.lemmas.Bool.Decides.{nat_tests}
-use Rattle.std.proofs.lemmas.Int.{ints}
-use Rattle.std.proofs.lemmas.List.{take_at}
-use Rattle.std.proofs.lemmas.List.Elements.{All-from_recursion, recursion_from_All}
-use Rattle.std.proofs.lemmas.List.Sums.{split_at_first, passes_at_first, fails_before_first}
+use Rattle.std.specs.List.{AllByRecursion, flat_map, position_or_len, before_first, onto_first, join_with_byte}
+use Rattle.std.proofs.lemmas.Bool.{eqb-true}
+use Rattle.std.proofs.lemmas.List.{append-nil, take_at}
+use Rattle.std.proofs.lemmas.List.Concat.{flat_map-cons}
+use Rattle.std.proofs.lemmas.List.Elements.{All-from_recursion}
+use Rattle.std.proofs.lemmas.List.Sums.{split_at_first, passes_at_first}
 use Rattle.std.proofs.lemmas.List.Splits.{slice_split_none, slice_split_at, join_with_byte-slice_split}
 use Rattle.std.proofs.lemmas.Str.Parse.{digit_from_value}
 use Rattle.std.proofs.lemmas.Fmt.{digits_decimal}
-use Rattle.fx_text.specs.declared.fault.TextFault.{TextFault}
 use Rattle.fx_text.specs.declared.fault.TextKind.{TextKind}
 use Rattle.fx_text.specs.Cutting.{Line, cut_at, fields_of, line_at}
-use Rattle.fx_text.specs.Reading.{◌>>=◌}
 use Rattle.fx_text.specs.Lines.{fields_in, fields_at, line_by, on_line, text_ended_at}
 use Rattle.fx_text.specs.Spelling.{AreFields, IsField, IsOneSpelling, Lacks, line_text}
 use Rattle.fx_text.proofs.Choices.{on_ok}
@@ -66,6 +62,13 @@ join-lacks [] h = tt
 join-lacks (f ∷ []) (h, hs) = h.line_feeds
 join-lacks (f ∷ g ∷ fs) (h, hs) = Lacks-append 10 f (32 ∷ join_with_byte 32 (g ∷ fs)) h.line_feeds (refl, join-lacks (g ∷ fs) hs)
 
+pub line_text-cons : (f : List ℕ) (fs : Line) → line_text (f ∷ fs) ≡ f ++ flat_map (λ g. 32 ∷ g) fs ++ 10 ∷ []
+line_text-cons f fs = ap (λ t. t ++ 10 ∷ []) (by f fs)
+  where
+    by : (f : List ℕ) (fs : Line) → join_with_byte 32 (f ∷ fs) ≡ f ++ flat_map (λ g. 32 ∷ g) fs
+    by f [] = sym (append-nil f)
+    by f (g ∷ fs) = ap (λ t. f ++ 32 ∷ t) (by g fs) ∙ ap (λ t. f ++ t) (sym (flat_map-cons (λ g. 32 ∷ g) g fs))
+
 fields_of-join : (f : List ℕ) (fs : Line) → AreFields (f ∷ fs) → fields_of (join_with_byte 32 (f ∷ fs)) ≡ f ∷ fs
 fields_of-join f [] (h, hs) = slice_split_none (λ b. eqb b 32) f (All-from_recursion (λ b. eqb b 32 ≡ false) f h.spaces)
 fields_of-join f (g ∷ fs) (h, hs) =
@@ -104,9 +107,9 @@ fields_at-takes n text x e = by (line_at text) refl e
     by : (o : Option (List ℕ × List ℕ)) → line_at text ≡ o → fields_in n o ≡ Ok x → (text ≡ line_text x.0 ++ x.1) × AreFields x.0
     by None h e = absurd cc
     by (Some (line, rest)) h e =
-      let made : (fields_of line, rest) ≡ x = cc in
-      let cut = cut_at-takes 10 text line rest h in
-      subst (λ (y : Line × List ℕ). (text ≡ line_text y.0 ++ y.1) × AreFields y.0) made
+        let made : (fields_of line, rest) ≡ x = cc in
+        let cut = cut_at-takes 10 text line rest h in
+        subst (λ (y : Line × List ℕ). (text ≡ line_text y.0 ++ y.1) × AreFields y.0) made
         (cut.0 ∙ sym (append_assoc line (10 ∷ []) rest) ∙ ap (λ l. (l ++ 10 ∷ []) ++ rest) (sym (join_with_byte-slice_split 32 line)), AreFields-fields_of line cut.1)
 
 on_line-is : {A : Type 0} (n : ℕ) (r : Result A TextKind) (x : A) → on_line n r ≡ Ok x → r ≡ Ok x
@@ -123,14 +126,14 @@ pub record IsLineOf {A : Type 0} (read : Line → Result A TextKind) (fields : A
 pub line_spelling : {A : Type 0} (read : Line → Result A TextKind) (fields : A → Line) (Is : A → Type 0) → IsLineOf read fields Is → (n : ℕ) → IsOneSpelling (line_by read n) (λ x. line_text (fields x)) Is
 unfolding line_by
 line_spelling {A} read fields Is law n = record {
-    takes = λ text x e.
+  takes = λ text x e.
       on_ok _ _ x e (λ line hl e.
       on_ok _ _ x e (λ value hv e.
       let t = law.takes line.0 value (on_line-is n (read line.0) value hv) in
       let made : (value, line.1) ≡ x = cc in
       subst (λ (y : A × List ℕ). (text ≡ line_text (fields y.0) ++ y.1) × Is y.0) made ((fields_at-takes n text line hl).0 ∙ ap (λ fs. line_text fs ++ line.1) t.0, t.1)));
-    again = λ x rest is. rw (fields_at-again n (fields x) rest (law.clean x is), law.again x is) refl
-  }
+  again = λ x rest is. rw (fields_at-again n (fields x) rest (law.clean x is), law.again x is) refl;
+}
 
 pub text_ended-is : (n : ℕ) (text rest : List ℕ) → text_ended_at n text ≡ Ok rest → text ≡ []
 unfolding text_ended_at

@@ -1,12 +1,11 @@
 -- Whether a mantissa is odd, which its last digit tells, and what the code keeps of a dyadic.
-use Rattle.std.proofs.Common.{◌≡◌, ℕ, zero, suc, ◌+◌, ◌*◌, ◌-◌, ◌%◌, ◌^◌, ◌<◌, ◌≤◌, Bool, true, false, cond, eqb, List, [], ◌∷◌, length, get_or, take, drop, min, Option, Some, None, ℤ, pos, negsuc, ◌⊎◌, refl, sym, ap, subst, ◌∙◌, inl, inr, arith, rules, tests}
+use Rattle.std.proofs.Common.{◌≡◌, ℕ, zero, suc, ◌+◌, ◌*◌, ◌-◌, ◌%◌, ◌^◌, ◌<◌, ◌≤◌, Bool, true, false, cond, eqb, List, [], ◌∷◌, length, get_or, take, drop, min, Option, Some, None, ℤ, pos, negsuc, ◌⊎◌, refl, sym, ap, subst, ◌∙◌, inl, inr, arith}
 use Rattle.std.specs.Prelude.{option_map, unsigned_abs, ◌||◌}
 use Rattle.std.specs.Char.{digit_value}
 use Rattle.std.specs.Str.{all_ascii_digits}
 use Rattle.std.specs.Str.Parse.{digits_value}
 use Rattle.std.proofs.lemmas.Bool.{eqb-true}
 use Rattle.std.proofs.lemmas.Bool.Decides.{nat_tests}
-use Rattle.std.proofs.lemmas.Int.{ints}
 use Rattle.std.proofs.lemmas.Int.Digits.{digits_value_more}
 use Rattle.std.proofs.lemmas.List.{take_all}
 use Rattle.std.proofs.lemmas.Option.{cond_some}
@@ -35,9 +34,9 @@ unfolding whole_of
 whole_parity ds n e =
     elim (chosen (has_good_front ds) (digits_of ds) None (Some n) e) [
       | inl h ↦
-        let b = cond_some (all_ascii_digits ds) (digits_value 10 ds) n h.1 in
-        let g = good_front ds h.0 in
-        (g.0, digits_parity ds b.0 g.0 ∙ ap (λ k. k % 2) b.1)
+          let b = cond_some (all_ascii_digits ds) (digits_value 10 ds) n h.1 in
+          let g = good_front ds h.0 in
+          (g.0, digits_parity ds b.0 g.0 ∙ ap (λ k. k % 2) b.1)
       | inr h ↦ absurd cc
     ]
 
@@ -52,12 +51,12 @@ unfolding integer_of
 integer_parity f m e =
     elim (chosen (eqb (get_or f 0 0) 45) _ _ (Some m) e) [
       | inl h ↦
-        let n = negative_is (whole_of (drop 1 f)) m h.1 in
-        let p = whole_parity (drop 1 f) (suc n.0) n.1 in
-        ap (λ g. get_or g (length g - 1) 0 % 2) (cons_drop 44 f h.0) ∙ ap (λ k. k % 2) (last_behind 45 (drop 1 f) p.0) ∙ p.1 ∙ ap (λ z. unsigned_abs z % 2) (sym n.2)
+          let n = negative_is (whole_of (drop 1 f)) m h.1 in
+          let p = whole_parity (drop 1 f) (suc n.0) n.1 in
+          ap (λ g. get_or g (length g - 1) 0 % 2) (cons_drop 44 f h.0) ∙ ap (λ k. k % 2) (last_behind 45 (drop 1 f) p.0) ∙ p.1 ∙ ap (λ z. unsigned_abs z % 2) (sym n.2)
       | inr h ↦
-        let n = positive_is (whole_of f) m h.1 in
-        (whole_parity f n.0 n.1).1 ∙ ap (λ z. unsigned_abs z % 2) (sym n.2)
+          let n = positive_is (whole_of f) m h.1 in
+          (whole_parity f n.0 n.1).1 ∙ ap (λ z. unsigned_abs z % 2) (sym n.2)
     ]
 
 kept_zero : (n : ℕ) → eqb (kept n) 0 ≡ eqb n 0
@@ -102,8 +101,8 @@ spelled_odd (Some m) None d h lt = absurd cc
 spelled_odd (Some m) (Some e) d h lt =
     elim (chosen (eqb e 0 || eqb (unsigned_abs m % 2) 1) (Some (record { m = m; e = e })) None (Some d) h) [
       | inl k ↦
-        let same : record { m = m; e = e } ≡ d = cc in
-        subst (λ (y : Dyadic). 0 < y.e → unsigned_abs y.m % 2 ≡ 1) same (by (some_true (eqb e 0) (eqb (unsigned_abs m % 2) 1) k.0)) lt
+          let same : record { m = m; e = e } ≡ d = cc in
+          subst (λ (y : Dyadic). 0 < y.e → unsigned_abs y.m % 2 ≡ 1) same (by (some_true (eqb e 0) (eqb (unsigned_abs m % 2) 1) k.0)) lt
       | inr k ↦ absurd cc
     ]
   where
@@ -126,9 +125,9 @@ kept_written field m e h small places = by (dyadic_of field) refl h
     by : (o : Option Dyadic) → dyadic_of field ≡ o → Some (m, e) ≡ option_map kept_dyadic o → IsWritten (record { m = m; e = e })
     by None o h = absurd cc
     by (Some d) o h =
-      let same : kept_dyadic d ≡ (m, e) = cc in
-      let d_is = kept_small d m e same small places in
-      record { small = small; places = places; one_spelling = subst (λ (y : Dyadic). 0 < y.e → unsigned_abs y.m % 2 ≡ 1) d_is (dyadic_of-odd field d o) }
+        let same : kept_dyadic d ≡ (m, e) = cc in
+        let d_is = kept_small d m e same small places in
+        record { small = small; places = places; one_spelling = subst (λ (y : Dyadic). 0 < y.e → unsigned_abs y.m % 2 ≡ 1) d_is (dyadic_of-odd field d o) }
 
 pub IsDyadic-written : (m : ℤ) (e : ℕ) → IsWritten (record { m = m; e = e }) → IsDyadic m e
 IsDyadic-written m e w = record { of_zero = λ z. by e (λ lt. sym (w.one_spelling lt) ∙ ap (λ k. unsigned_abs k % 2) z); small = omega (arith, w.places) }

@@ -1,12 +1,10 @@
 -- A number has one spelling.
-use Rattle.std.proofs.Common.{◌≡◌, ℕ, zero, suc, ◌+◌, ◌*◌, ◌-◌, ◌^◌, ◌<◌, ◌≤◌, Bool, true, false, cond, eqb, List, [], ◌∷◌, ◌++◌, length, get_or, take, drop, Option, Some, None, ℤ, pos, negsuc, ◌⊎◌, ◌≤ℤ◌, refl, sym, ap, subst, ◌∙◌, inl, inr, arith, rules, tests}
+use Rattle.std.proofs.Common.{◌≡◌, ℕ, zero, suc, ◌-◌, ◌^◌, ◌<◌, Bool, true, false, cond, eqb, List, [], ◌∷◌, length, get_or, drop, Option, Some, None, ℤ, pos, negsuc, ◌⊎◌, ◌≤ℤ◌, refl, sym, ap, subst, ◌∙◌, inl, inr, arith, rules, tests}
 use Rattle.std.specs.Prelude.{option_map}
 use Rattle.std.specs.Fmt.{decimal, signed_decimal}
 use Rattle.std.specs.Str.{all_ascii_digits}
 use Rattle.std.specs.Str.Parse.{digits_value}
 use Rattle.std.proofs.lemmas.Fmt.{decimal-digits_value, digits_decimal, digits_value-decimal, decimal_nonempty, first_decimal, decimal_digit}
-use Rattle.std.proofs.lemmas.Bool.{cases_Bool}
-use Rattle.std.proofs.lemmas.Bool.Decides.{nat_tests}
 use Rattle.std.proofs.lemmas.Bool.{eqb-true}
 use Rattle.std.proofs.lemmas.Int.{ints}
 use Rattle.std.proofs.lemmas.Str.Parse.{digit_at}
@@ -78,13 +76,13 @@ unfolding integer_of
 integer_takes f z narrow e =
     elim (chosen (eqb (get_or f 0 0) 45) (negative (whole_of (drop 1 f))) (option_map pos (whole_of f)) (Some z) e) [
       | inl h ↦
-        let n = negative_is (whole_of (drop 1 f)) z h.1 in
-        let small = narrow_neg n.0 (subst IsNarrow n.2 narrow) in
-        cons_drop 44 f h.0 ∙ ap (λ ds. 45 ∷ ds) (whole_takes (drop 1 f) (suc n.0) (omega arith) n.1) ∙ ap signed_decimal (sym n.2)
+          let n = negative_is (whole_of (drop 1 f)) z h.1 in
+          let small = narrow_neg n.0 (subst IsNarrow n.2 narrow) in
+          cons_drop 44 f h.0 ∙ ap (λ ds. 45 ∷ ds) (whole_takes (drop 1 f) (suc n.0) (omega arith) n.1) ∙ ap signed_decimal (sym n.2)
       | inr h ↦
-        let n = positive_is (whole_of f) z h.1 in
-        let small = narrow_pos n.0 (subst IsNarrow n.2 narrow) in
-        whole_takes f n.0 (omega arith) n.1 ∙ ap signed_decimal (sym n.2)
+          let n = positive_is (whole_of f) z h.1 in
+          let small = narrow_pos n.0 (subst IsNarrow n.2 narrow) in
+          whole_takes f n.0 (omega arith) n.1 ∙ ap signed_decimal (sym n.2)
     ]
 
 no_sign : (n : ℕ) → n < 2 ^ 64 → eqb (get_or (decimal n) 0 0) 45 ≡ false

@@ -1,7 +1,7 @@
 -- Where a text's first fault stands.
 use Rattle.std.specs.Prelude.{ℕ}
 use Rattle.fx_text.specs.declared.fault.TextKind.{TextKind}
-use Rattle.fx_text.specs.declared.fault.TextKind.TheVariants.{BadLine, BadNumber, OutOfRange, Extra, TooMany, Memory, Section}
+use Rattle.fx_text.specs.declared.fault.TextKind.TheVariants.{Memory}
 use Rattle.fx_text.specs.declared.fault.TextFault.{TextFault}
 
 -- want of memory is no fault of a line

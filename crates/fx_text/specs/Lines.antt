@@ -32,12 +32,17 @@ unfoldable pub text_ended_at : ℕ → List ℕ → Result (List ℕ) TextFault
 text_ended_at n [] = Ok []
 text_ended_at n (byte ∷ text) = Err (fault_at n Extra)
 
--- What a call read of a text, seen by view, unless memory ran out.
+-- what a call that allocates read of a text, seen by view: memory may run out
 abbrev pub Gives : {A B : Type 0} → (A → B) → Result A TextFault → Result B TextFault → Type 0
 Gives view (Ok x) reading = reading ≡ Ok (view x)
 Gives view (Err e) reading = (reading ≡ Err e) ⊎ (e ≡ no_memory)
 
--- The same of a line, whose reader doesn't know its number.
+-- the same of the fields at a line's front, whose reader doesn't know the line's number
 abbrev pub GivesFields : {A B : Type 0} → (A → B) → Result A TextKind → Line → Result (B × Line) TextKind → Type 0
 GivesFields view (Ok x) new reading = reading ≡ Ok (view x, new)
 GivesFields view (Err e) new reading = (reading ≡ Err e) ⊎ (e ≡ Memory)
+
+-- the same of all fields of a line
+abbrev pub GivesLine : {A B : Type 0} → (A → B) → Result A TextKind → Result B TextKind → Type 0
+GivesLine view (Ok x) reading = reading ≡ Ok (view x)
+GivesLine view (Err e) reading = (reading ≡ Err e) ⊎ (e ≡ Memory)

@@ -1,5 +1,5 @@
 -- Whole numbers and dyadics, each in its one spelling, however great they are.
-use Rattle.std.specs.Prelude.{◌≡◌, ◌==◌, ℕ, zero, suc, ℤ, pos, negsuc, Bool, true, false, not, ◌||◌, List, [], ◌∷◌, drop, slice_index, Option, Some, None, option_map, min, ◌^◌, ◌-◌, ◌%◌, unsigned_abs, if◌then◌else◌}
+use Rattle.std.specs.Prelude.{◌==◌, ℕ, zero, suc, ℤ, pos, negsuc, Bool, true, false, not, ◌||◌, List, [], ◌∷◌, drop, slice_index, Option, Some, None, option_map, min, ◌^◌, ◌-◌, ◌%◌, unsigned_abs, if◌then◌else◌}
 use Rattle.std.specs.Str.{all_ascii_digits}
 use Rattle.std.specs.Str.Parse.{digits_value}
 use Rattle.fx_rational.specs.Dyadic.{Dyadic}

@@ -1,10 +1,10 @@
 -- Reading the fields of a line from left to right: the value and the fields behind it, or the first fault.
-use Rattle.std.specs.Prelude.{◌≡◌, ℕ, ℤ, pos, ◌-ℤ◌, ◌≤ℤ◌, ◌^◌, ◌&&◌, ◌⊎◌, List, [], ◌∷◌, Option, Some, None, Result, Ok, Err, if◌then◌else◌, int_le, nat_lt, nat_le, unsigned_abs}
+use Rattle.std.specs.Prelude.{◌≡◌, ℕ, ℤ, pos, ◌-ℤ◌, ◌≤ℤ◌, ◌^◌, ◌&&◌, List, [], ◌∷◌, Option, Some, None, Result, Ok, Err, if◌then◌else◌, int_le, nat_lt, nat_le, unsigned_abs}
 use Rattle.std.specs.Str.{bytes_eq}
 use Rattle.fx_rational.specs.Dyadic.{Dyadic}
 use Rattle.fx_rational.specs.Interval.{Interval}
 use Rattle.fx_text.specs.declared.fault.TextKind.{TextKind}
-use Rattle.fx_text.specs.declared.fault.TextKind.TheVariants.{BadLine, BadNumber, OutOfRange, TooMany, Memory}
+use Rattle.fx_text.specs.declared.fault.TextKind.TheVariants.{BadLine, BadNumber, OutOfRange, TooMany}
 use Rattle.fx_text.specs.Cutting.{Line}
 use Rattle.fx_text.specs.Numbers.{integer_of, dyadic_of}
 

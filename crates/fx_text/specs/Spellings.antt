@@ -1,11 +1,13 @@
 -- What numbers, dyadics, intervals and lines have: one spelling each.
-use Rattle.std.specs.Prelude.{◌≡◌, ℕ, ℤ, pos, negsuc, ◌-◌, ◌^◌, ◌<◌, ◌≤◌, ◌≤ℤ◌, List, [], ◌∷◌, Ok}
+use Rattle.std.specs.Prelude.{◌≡◌, ℕ, ℤ, pos, negsuc, ◌-◌, ◌^◌, ◌<◌, ◌≤◌, ◌≤ℤ◌, List, [], ◌∷◌, ◌++◌, length, map, All, Ok}
 use Rattle.std.specs.Fmt.{decimal, signed_decimal}
+use Rattle.std.specs.List.{flat_map}
 use Rattle.fx_rational.specs.Dyadic.{IsWritten}
 use Rattle.fx_rational.specs.Interval.{IsWrittenInterval}
 use Rattle.fx_text.specs.Cutting.{Line}
 use Rattle.fx_text.specs.Reading.{IsWithin, word_at, number_at, place_at, count_at, dyadic_at, interval_at}
 use Rattle.fx_text.specs.Lines.{fields_at}
+use Rattle.fx_text.specs.Many.{dyadics_at}
 use Rattle.fx_text.specs.Spelling.{AreFields, IsOneSpelling, dyadic_text, interval_fields, line_text}
 
 -- a range of 64 bits
@@ -31,8 +33,15 @@ CountLaw = (low limit : ℕ) → limit < 2 ^ 32 → IsOneSpelling (count_at low 
 abbrev pub DyadicLaw : Type 0
 DyadicLaw = IsOneSpelling dyadic_at (λ d. dyadic_text d ∷ []) IsWritten
 
+abbrev pub DyadicsLaw : Type 0
+DyadicsLaw = (count : ℕ) → IsOneSpelling (dyadics_at count) (map dyadic_text) (λ ds. (length ds ≡ count) × All IsWritten ds)
+
 abbrev pub IntervalLaw : Type 0
 IntervalLaw = IsOneSpelling interval_at interval_fields IsWrittenInterval
 
 abbrev pub LineLaw : Type 0
 LineLaw = (n : ℕ) → IsOneSpelling (fields_at n) line_text AreFields
+
+-- a line written field by field: the first, each other behind a space, and a line feed
+abbrev pub LineTextLaw : Type 0
+LineTextLaw = (field : List ℕ) (line : Line) → line_text (field ∷ line) ≡ field ++ flat_map (λ f. 32 ∷ f) line ++ 10 ∷ []

@@ -3,7 +3,7 @@
 //! Nothing is copied: a line and a field are parts of the text. Two spaces have an empty field between them, which is no
 //! number and no word, and so has a space at either end of a line.
 
-ghost use Rattle.std.specs.Prelude.{◌≡◌, ◌==◌, ◌∷◌, [], List, ℕ, length, MatchOption};
+ghost use Rattle.std.specs.Prelude.{◌≡◌, ◌==◌, ◌∷◌, [], List, ℕ, length, slice_get, MatchOption};
 ghost use Rattle.fx_text.specs.Cutting.{AreParts, cut_at, fields_of, line_at, left_of};
 
 use std::marker::Model;
@@ -61,6 +61,17 @@ impl<'a> Fields<'a> {
                 self.rest = None;
                 Some(rest)
             }
+        }
+    }
+
+    /// The next field, which stays where it is. None where none is left.
+    pub fn peek(&self) -> Option<&'a [u8]>
+        ensures { MatchOption result (self.now ≡ []) (λ field. slice_get self.now 0 ≡ Some field.now) }
+    {
+        let rest = self.rest?;
+        match cut_at(rest, b' ') {
+            Some((field, _)) => Some(field),
+            None => Some(rest),
         }
     }
 

@@ -81,7 +81,10 @@ impl From<AllocError> for TextFault {
     ghost from_gives = { λ _ fault. fault ≡ no_memory };
 
     fn from(_e: AllocError) -> TextFault {
-        TextFault { line: 0, kind: TextKind::Memory }
+        TextFault {
+            line: 0,
+            kind: TextKind::Memory,
+        }
     }
 }
 
@@ -89,6 +92,9 @@ impl<T: Drop> From<AllocFailed<T>> for TextFault {
     ghost from_gives = { λ _ fault. fault ≡ no_memory };
 
     fn from(_e: AllocFailed<T>) -> TextFault {
-        TextFault { line: 0, kind: TextKind::Memory }
+        TextFault {
+            line: 0,
+            kind: TextKind::Memory,
+        }
     }
 }

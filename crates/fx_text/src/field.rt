@@ -81,7 +81,11 @@ pub fn count(fields: &mut Fields<'_>, low: u32, limit: u32) -> Result<u32, TextK
 pub fn ended(fields: &Fields<'_>) -> Result<(), TextKind>
     ensures { ReadsRest result fields.now (ended_at fields.now) }
 {
-    if fields.is_done() { Ok(()) } else { Err(TextKind::BadLine) }
+    if fields.is_done() {
+        Ok(())
+    } else {
+        Err(TextKind::BadLine)
+    }
 }
 
 /// A dyadic `m:e`. BadNumber where it isn't in its one spelling, else OutOfRange where |m| is 2^62 or more or e above 96.

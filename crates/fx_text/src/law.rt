@@ -4,7 +4,7 @@
 //! reader takes is what is printed of the value, and the value is in its range; what is printed of a value in its range
 //! is read again, whatever follows.
 
-ghost use Rattle.fx_text.specs.Spellings.{WordTakes, WordAgain, NumberLaw, PlaceLaw, CountLaw, DyadicLaw, IntervalLaw, LineLaw};
+ghost use Rattle.fx_text.specs.Spellings.{WordTakes, WordAgain, NumberLaw, PlaceLaw, CountLaw, DyadicLaw, DyadicsLaw, IntervalLaw, LineLaw, LineTextLaw};
 
 /// A fixed word is read where it stands, and nowhere else.
 pub fn word_law()
@@ -32,6 +32,11 @@ pub fn dyadic_law()
     ensures { DyadicLaw }
 {}
 
+/// So many dyadics have one spelling.
+pub fn dyadics_law()
+    ensures { DyadicsLaw }
+{}
+
 /// An interval has one spelling.
 pub fn interval_law()
     ensures { IntervalLaw }
@@ -40,4 +45,9 @@ pub fn interval_law()
 /// The fields of a line, which have no space and no line feed, have one line.
 pub fn line_law()
     ensures { LineLaw }
+{}
+
+/// What the printers write one after the other is the line's text.
+pub fn line_text_law()
+    ensures { LineTextLaw }
 {}

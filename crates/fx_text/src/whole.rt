@@ -39,7 +39,11 @@ fn digits(field: &[u8]) -> Option<u64>
 pub fn whole(field: &[u8]) -> Option<u64>
     ensures { result ≡ option_map kept (whole_of field.now) }
 {
-    if has_good_front(field) { digits(field) } else { None }
+    if has_good_front(field) {
+        digits(field)
+    } else {
+        None
+    }
 }
 
 /// The number that the field spells, cut off at both ends of 65 bits.
@@ -78,5 +82,9 @@ pub fn dyadic_parts(field: &[u8]) -> Option<(i128, u64)>
     let (mantissa, exponent) = cut_at(field, b':')?;
     let m = integer(mantissa)?;
     let e = whole(exponent)?;
-    if is_reduced(mantissa, e) { Some((m, e)) } else { None }
+    if is_reduced(mantissa, e) {
+        Some((m, e))
+    } else {
+        None
+    }
 }

@@ -1,4 +1,4 @@
-use Rattle.std.proofs.Common.{◌≡◌, ◌<◌, ◌≤◌, ◌∙◌, eqb, true, length, arith, rules, tests}
+use Rattle.std.proofs.Common.{◌∙◌, eqb, length, arith, rules, tests}
 use Rattle.std.proofs.lemmas.List.Sums.{position_or_len_is}
 use Rattle.std.proofs.lemmas.Grind.{common_steps}
 use Rattle.fx_text.proofs.Cuts.{cut_at-found, cut_at-missing}

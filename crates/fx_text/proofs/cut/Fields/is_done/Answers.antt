@@ -1,4 +1,4 @@
-use Rattle.std.proofs.Common.{◌≡◌, ◌∙◌, ap, eqb, length}
+use Rattle.std.proofs.Common.{◌∙◌, ap, eqb, length}
 use Rattle.fx_text.proofs.Cuts.{none_left}
 use Rattle.fx_text.proofs.cut.Fields.is_done.Goals as goal
 
