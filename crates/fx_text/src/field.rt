@@ -15,6 +15,11 @@ use crate::whole::{dyadic_parts, integer};
 use fx_num::Dyadic;
 use std::alloc::Global;
 
+// What a dyadic's mantissa stays below, either side of zero.
+const MANTISSA_END: u128 = 1 << 62;
+
+const EXPONENT_LIMIT: u64 = 96;
+
 /// A fixed word. BadLine where the field is missing or another.
 #[tactic(auto, unfolding(crate::specs::Reading::word_at))]
 pub fn word(fields: &mut Fields<'_>, word: &[u8]) -> Result<(), TextKind>
@@ -96,7 +101,7 @@ pub fn dyadic(fields: &mut Fields<'_>) -> Result<Dyadic, TextKind>
 {
     let field = fields.next().ok_or(TextKind::BadLine)?;
     let (m, e) = dyadic_parts(field).ok_or(TextKind::BadNumber)?;
-    if m.unsigned_abs() >= 1 << 62 || e > 96 {
+    if m.unsigned_abs() >= MANTISSA_END || e > EXPONENT_LIMIT {
         return Err(TextKind::OutOfRange);
     }
     Ok(Dyadic { m, e: e as u32 })
