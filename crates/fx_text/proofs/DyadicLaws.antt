@@ -16,8 +16,9 @@ use Rattle.fx_text.specs.Numbers.{whole_of, integer_of, spelled, dyadic_in, dyad
 use Rattle.fx_text.specs.Reading.{dyadic_at, interval_at}
 use Rattle.fx_text.specs.Many.{AreEach, dyadics_at}
 use Rattle.fx_text.specs.Spelling.{IsField, IsOneSpelling, Lacks, dyadic_text, interval_fields}
+use Rattle.fx_text.specs.Spellings.{IsNarrow}
 use Rattle.fx_text.proofs.Choices.{on_ok, passed, chosen, both_true}
-use Rattle.fx_text.proofs.NumberLaws.{IsNarrow, whole_takes, whole_again, integer_takes, integer_again}
+use Rattle.fx_text.proofs.NumberLaws.{whole_takes, whole_again, integer_takes, integer_again}
 use Rattle.fx_text.proofs.Mantissas.{dyadic_of-odd}
 use Rattle.fx_text.proofs.FieldLaws.{field_is, known_is, front}
 use Rattle.fx_text.proofs.ManyLaws.{many_spelling}

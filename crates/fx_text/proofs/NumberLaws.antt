@@ -1,5 +1,5 @@
 -- A number has one spelling.
-use Rattle.std.proofs.Common.{◌≡◌, ℕ, zero, suc, ◌-◌, ◌^◌, ◌<◌, Bool, true, false, cond, eqb, List, [], ◌∷◌, length, get_or, drop, Option, Some, None, ℤ, pos, negsuc, ◌⊎◌, ◌≤ℤ◌, refl, sym, ap, subst, ◌∙◌, inl, inr, arith, rules, tests}
+use Rattle.std.proofs.Common.{◌≡◌, ℕ, zero, suc, ◌^◌, ◌<◌, Bool, true, false, cond, eqb, List, [], ◌∷◌, length, get_or, drop, Option, Some, None, ℤ, pos, negsuc, ◌⊎◌, refl, sym, ap, subst, ◌∙◌, inl, inr, arith, rules, tests}
 use Rattle.std.specs.Prelude.{option_map}
 use Rattle.std.specs.Fmt.{decimal, signed_decimal}
 use Rattle.std.specs.Str.{all_ascii_digits}
@@ -10,6 +10,7 @@ use Rattle.std.proofs.lemmas.Int.{ints}
 use Rattle.std.proofs.lemmas.Str.Parse.{digit_at}
 use Rattle.std.proofs.lemmas.Option.{cond_some}
 use Rattle.fx_text.specs.Numbers.{has_good_front, digits_of, whole_of, negative, integer_of}
+use Rattle.fx_text.specs.Spellings.{IsNarrow}
 use Rattle.fx_text.proofs.Choices.{chosen}
 use Rattle.fx_text.proofs.Digits.{own}
 
@@ -60,10 +61,6 @@ negative_is (Some (suc n)) z e = (n, refl, cc)
 pub positive_is : (o : Option ℕ) (z : ℤ) → option_map pos o ≡ Some z → (n : ℕ) × (o ≡ Some n) × (z ≡ pos n)
 positive_is None z e = absurd cc
 positive_is (Some n) z e = (n, refl, cc)
-
--- what has a spelling that fits the code's numbers
-abbrev pub IsNarrow : ℤ → Type 0
-IsNarrow z = (negsuc (2 ^ 63 - 1) ≤ℤ z) × (z ≤ℤ pos (2 ^ 63 - 1))
 
 narrow_pos : (n : ℕ) → IsNarrow (pos n) → n < 2 ^ 63
 narrow_pos n h = omega (arith, ints, h.0, h.1)

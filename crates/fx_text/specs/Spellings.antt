@@ -1,19 +1,36 @@
 -- What numbers, dyadics, intervals and lines have: one spelling each.
-use Rattle.std.specs.Prelude.{◌≡◌, ℕ, ℤ, pos, negsuc, ◌-◌, ◌^◌, ◌<◌, ◌≤◌, ◌≤ℤ◌, List, [], ◌∷◌, ◌++◌, length, map, All, Ok}
+use Rattle.std.specs.Prelude.{◌≡◌, ℕ, ℤ, pos, negsuc, ◌-◌, ◌^◌, ◌<◌, ◌≤◌, ◌≤ℤ◌, List, [], ◌∷◌, ◌++◌, length, map, All, Some, Ok}
 use Rattle.std.specs.Fmt.{decimal, signed_decimal}
 use Rattle.std.specs.List.{flat_map}
 use Rattle.fx_rational.specs.Dyadic.{IsWritten}
 use Rattle.fx_rational.specs.Interval.{IsWrittenInterval}
 use Rattle.fx_text.specs.Cutting.{Line}
+use Rattle.fx_text.specs.Numbers.{whole_of, integer_of}
 use Rattle.fx_text.specs.Reading.{IsWithin, word_at, number_at, place_at, count_at, dyadic_at, interval_at}
 use Rattle.fx_text.specs.Lines.{fields_at}
 use Rattle.fx_text.specs.Many.{dyadics_at}
 use Rattle.fx_text.specs.Spelling.{AreFields, IsOneSpelling, dyadic_text, interval_fields, line_text}
 
--- a range of 64 bits
+-- a number of 64 bits
+abbrev pub IsNarrow : ℤ → Type 0
+IsNarrow z = IsWithin (negsuc (2 ^ 63 - 1)) (pos (2 ^ 63 - 1)) z
+
+-- a range of such numbers
 pub record AreNarrow (low high : ℤ) : Type 0 where
   pub least : negsuc (2 ^ 63 - 1) ≤ℤ low
   pub greatest : high ≤ℤ pos (2 ^ 63 - 1)
+
+abbrev pub WholeTakes : Type 0
+WholeTakes = (field : List ℕ) (n : ℕ) → n < 2 ^ 64 → whole_of field ≡ Some n → field ≡ decimal n
+
+abbrev pub WholeAgain : Type 0
+WholeAgain = (n : ℕ) → n < 2 ^ 64 → whole_of (decimal n) ≡ Some n
+
+abbrev pub IntegerTakes : Type 0
+IntegerTakes = (field : List ℕ) (z : ℤ) → IsNarrow z → integer_of field ≡ Some z → field ≡ signed_decimal z
+
+abbrev pub IntegerAgain : Type 0
+IntegerAgain = (z : ℤ) → IsNarrow z → integer_of (signed_decimal z) ≡ Some z
 
 abbrev pub WordTakes : Type 0
 WordTakes = (word : List ℕ) (line rest : Line) → word_at word line ≡ Ok rest → line ≡ word ∷ rest

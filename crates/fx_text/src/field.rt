@@ -11,7 +11,7 @@ ghost use Rattle.fx_text.specs.Many.{dyadics_at};
 
 use crate::cut::Fields;
 use crate::fault::TextKind;
-use crate::whole::{dyadic_parts, integer};
+use crate::numeral::{dyadic_parts, integer};
 use fx_num::Dyadic;
 use std::alloc::Global;
 

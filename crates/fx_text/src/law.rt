@@ -4,7 +4,19 @@
 //! reader takes is what is printed of the value, and the value is in its range; what is printed of a value in its range
 //! is read again, whatever follows.
 
-ghost use Rattle.fx_text.specs.Spellings.{WordTakes, WordAgain, NumberLaw, PlaceLaw, CountLaw, DyadicLaw, DyadicsLaw, IntervalLaw, LineLaw, LineTextLaw};
+ghost use Rattle.fx_text.specs.Spellings.{WholeTakes, WholeAgain, IntegerTakes, IntegerAgain, WordTakes, WordAgain, NumberLaw, PlaceLaw, CountLaw, DyadicLaw, DyadicsLaw, IntervalLaw, LineLaw, LineTextLaw};
+
+/// A number without sign has one spelling.
+pub fn whole_law()
+    ensures takes { WholeTakes }
+    ensures again { WholeAgain }
+{}
+
+/// A number with its sign has one spelling.
+pub fn integer_law()
+    ensures takes { IntegerTakes }
+    ensures again { IntegerAgain }
+{}
 
 /// A fixed word is read where it stands, and nowhere else.
 pub fn word_law()

@@ -11,17 +11,18 @@ mod fault;
 mod field;
 mod law;
 mod line;
+mod numeral;
 mod print;
-mod whole;
 
 pub use cut::{Fields, line_at};
 pub use fault::{TextFault, TextKind};
 pub use field::{count, dyadic, dyadics, ended, interval, number, place, small, word};
 pub use law::{
-    count_law, dyadic_law, dyadics_law, interval_law, line_law, line_text_law, number_law,
-    place_law, word_law,
+    count_law, dyadic_law, dyadics_law, integer_law, interval_law, line_law, line_text_law,
+    number_law, place_law, whole_law, word_law,
 };
 pub use line::{fields_at, text_ended};
+pub use numeral::{integer, whole};
 pub use print::{
     begin_line, end_line, put_dyadic, put_dyadics, put_interval, put_number, put_word,
 };

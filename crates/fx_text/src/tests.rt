@@ -263,6 +263,8 @@ fn kinds_print_their_names(rt: HostRuntime) -> Result<(), Fail> {
 
 #[test]
 fn laws_are_called() {
+    whole_law();
+    integer_law();
     word_law();
     number_law();
     place_law();

@@ -2,7 +2,7 @@ use Rattle.std.proofs.Common.{◌∙◌, sym, rules, SFits, true, false}
 use Rattle.std.specs.Int.{w128}
 use Rattle.std.proofs.lemmas.Int.{to_z-of_z}
 use Rattle.fx_text.proofs.Mantissas.{parts_kept}
-use Rattle.fx_text.proofs.whole.dyadic_parts.Goals as goal
+use Rattle.fx_text.proofs.numeral.dyadic_parts.Goals as goal
 
 pub returns-then-is_reduced : goal.returns-then-is_reduced
 returns-then-is_reduced c =

@@ -1,6 +1,6 @@
 use Rattle.std.proofs.Common.{sym, refl}
 use Rattle.fx_text.proofs.Digits.{stops, goes_on, ends}
-use Rattle.fx_text.proofs.whole.digits.Goals as goal
+use Rattle.fx_text.proofs.numeral.digits.Goals as goal
 
 pub returns-then-not-is_ascii_digit : goal.returns-then-not-is_ascii_digit
 returns-then-not-is_ascii_digit c =
