@@ -10,6 +10,7 @@ use Rattle.std.proofs.lemmas.List.Splits.{slice_split_none, slice_split_first, l
 use Rattle.fx_text.proofs.Choices.{chosen}
 use Rattle.fx_text.specs.Cutting.{cut_at, fields_of, left_of}
 
+-- a cut where such a byte stands first, and where none stands
 pub cut_at-found : (c : ℕ) (xs : List ℕ) (i : ℕ) → position_or_len (λ b. eqb b c) xs ≡ i → i < length xs → cut_at c xs ≡ Some (take i xs, drop (i + 1) xs)
 cut_at-found c xs i e lt = let t : ltb i (length xs) ≡ true = grind (arith, nat_tests) in rw (e, t) refl
 
@@ -26,6 +27,7 @@ cut_at-parts c xs f rest e =
       | inr h ↦ absurd cc
     ]
 
+-- where nothing is cut there is no such byte
 pub cut_at-none : (c : ℕ) (xs : List ℕ) → cut_at c xs ≡ None → position_or_len (λ b. eqb b c) xs ≡ length xs
 cut_at-none c xs e =
     elim (chosen (ltb (position_or_len (λ b. eqb b c) xs) (length xs)) (Some (before_first (λ b. eqb b c) xs, after_first (λ b. eqb b c) xs)) None None e) [
@@ -41,6 +43,7 @@ fields_of-more xs f rest e = let h = cut_at-parts 32 xs f rest e in slice_split_
 pub fields_of-last : (xs : List ℕ) → cut_at 32 xs ≡ None → fields_of xs ≡ xs ∷ []
 fields_of-last xs e = slice_split_none (λ b. eqb b 32) xs (λ k d lt. fails_before_first (λ b. eqb b 32) xs k d (omega (arith, cut_at-none 32 xs e)))
 
+-- one more than a number isn't zero
 none_of : (n : ℕ) → false ≡ eqb (n + 1) 0
 none_of n = search (rules, tests)
 

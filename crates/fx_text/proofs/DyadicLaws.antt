@@ -16,7 +16,7 @@ use Rattle.fx_text.specs.Numbers.{whole_of, integer_of, spelled, dyadic_in, dyad
 use Rattle.fx_text.specs.Reading.{dyadic_at, interval_at}
 use Rattle.fx_text.specs.Many.{AreEach, dyadics_at}
 use Rattle.fx_text.specs.Spelling.{IsField, IsOneSpelling, Lacks, dyadic_text, interval_fields}
-use Rattle.fx_text.specs.Spellings.{IsNarrow}
+use Rattle.fx_text.specs.Laws.{IsNarrow}
 use Rattle.fx_text.proofs.Choices.{on_ok, passed, chosen, both_true}
 use Rattle.fx_text.proofs.NumberLaws.{whole_takes, whole_again, integer_takes, integer_again}
 use Rattle.fx_text.proofs.Mantissas.{dyadic_of-odd}
@@ -39,6 +39,7 @@ spelled_is (Some m) (Some e) d h =
       | inr k ↦ absurd cc
     ]
 
+-- the text of a dyadic that a field spells
 pub dyadic_of-takes : (f : List ℕ) (d : Dyadic) → unsigned_abs d.m < 2 ^ 62 → d.e ≤ 96 → dyadic_of f ≡ Some d → f ≡ dyadic_text d
 unfolding dyadic_of
 dyadic_of-takes f d small places h = by (cut_at 58 f) refl h
@@ -49,17 +50,21 @@ dyadic_of-takes f d small places h = by (cut_at 58 f) refl h
         let parts = spelled_is (integer_of a) (whole_of b) d h in
         (cut_at-takes 58 f a b o).0 ∙ ap (λ t. t ++ 58 ∷ b) (integer_takes a d.m (narrow_mantissa d.m small) parts.0) ∙ ap (λ t. signed_decimal d.m ++ 58 ∷ t) (whole_takes b d.e (omega arith) parts.1)
 
+-- a number's text has digits and a sign alone
 signed_decimal-lacks : (c : ℕ) (z : ℤ) → eqb 45 c ≡ false → (c < 48) ⊎ (57 < c) → IsNarrow z → Lacks c (signed_decimal z)
 signed_decimal-lacks c (pos n) sign out narrow = decimal-lacks c n out (omega (arith, ints, narrow.1))
 signed_decimal-lacks c (negsuc n) sign out narrow = (sign, decimal-lacks c (suc n) out (omega (arith, ints, narrow.0)))
 
+-- so it can stand in a line
 pub IsField-signed_decimal : (z : ℤ) → IsNarrow z → IsField (signed_decimal z)
 IsField-signed_decimal z narrow = record { spaces = signed_decimal-lacks 32 z refl (inl (omega arith)) narrow; line_feeds = signed_decimal-lacks 10 z refl (inl (omega arith)) narrow }
 
+-- a dyadic in its one spelling is spelled
 spelled_again : (m : ℤ) (e : ℕ) → (0 < e → unsigned_abs m % 2 ≡ 1) → spelled (Some m) (Some e) ≡ Some (record { m = m; e = e })
 spelled_again m zero odd = refl
 spelled_again m (suc e) odd = let one = odd (omega arith) in let above : eqb (suc e) 0 ≡ false = grind (arith, nat_tests) in let test : eqb (unsigned_abs m % 2) 1 ≡ true = grind (arith, nat_tests) in rw (above, test) refl
 
+-- a written dyadic is read from its text
 pub dyadic_of-again : (d : Dyadic) → IsWritten d → dyadic_of (dyadic_text d) ≡ Some d
 unfolding dyadic_of
 dyadic_of-again d w =
@@ -67,6 +72,7 @@ dyadic_of-again d w =
     let cut = cut_at-again 58 (signed_decimal d.m) (decimal d.e) (signed_decimal-lacks 58 d.m refl (inr (omega arith)) narrow) in
     ap dyadic_in cut ∙ rw (integer_again d.m narrow, whole_again d.e (omega (arith, w.places))) (spelled_again d.m d.e w.one_spelling)
 
+-- a dyadic
 pub dyadic_takes : (line : Line) (x : Dyadic × Line) → dyadic_at line ≡ Ok x → (line ≡ dyadic_text x.0 ∷ x.1) × IsWritten x.0
 unfolding dyadic_at
 dyadic_takes line x e =
@@ -87,6 +93,7 @@ dyadic_again d rest w =
     let places : nat_le d.e 96 ≡ true = grind (arith, nat_tests, w.places) in
     rw (dyadic_of-again d w, small, places) refl
 
+-- an interval
 pub interval_takes : (line : Line) (x : Interval × Line) → interval_at line ≡ Ok x → (line ≡ interval_fields x.0 ++ x.1) × IsWrittenInterval x.0
 unfolding interval_at
 interval_takes line x e =
@@ -110,6 +117,7 @@ each-from_All : {I A : Type 0} (P : A → Type 0) (next : I → A → I) (i : I)
 each-from_All P next i [] h = tt
 each-from_All P next i (x ∷ xs) (h, hs) = (h, each-from_All P next (next i x) xs hs)
 
+-- so many dyadics
 dyadics_many : (count : ℕ) → IsOneSpelling (dyadics_at count) (flat_map (λ d. dyadic_text d ∷ [])) (λ ds. (length ds ≡ count) × AreEach (λ _ d. IsWritten d) (λ _ _. tt {0}) tt ds)
 dyadics_many count = many_spelling {I = Unit {0}} (λ _ fields. dyadic_at fields) (λ _ _. tt) (λ d. dyadic_text d ∷ []) (λ _ _. Unit {0}) (λ _ d. IsWritten d)
     (record { one = λ k i _. record { takes = dyadic_takes; again = dyadic_again }; keeps = λ k i a _ _. tt }) count tt tt

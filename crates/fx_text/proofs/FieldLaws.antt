@@ -10,7 +10,7 @@ use Rattle.fx_text.specs.declared.fault.TextKind.TheVariants.{BadLine, OutOfRang
 use Rattle.fx_text.specs.Cutting.{Line}
 use Rattle.fx_text.specs.Numbers.{integer_of}
 use Rattle.fx_text.specs.Reading.{IsWithin, field_at, known, word_at, number_at, place_at, count_at, ended_at}
-use Rattle.fx_text.specs.Spellings.{AreNarrow}
+use Rattle.fx_text.specs.Laws.{AreNarrow}
 use Rattle.fx_text.proofs.Choices.{on_ok, passed, chosen, both_true}
 use Rattle.fx_text.proofs.NumberLaws.{integer_takes, integer_again}
 
@@ -22,6 +22,7 @@ done x = Ok x
 pub front : {a b c : Line} {x : List ℕ} → a ≡ x ∷ b → b ≡ c → a ≡ x ∷ c
 front {a} {b} {c} {x} p q = p ∙ ap (λ line. x ∷ line) q
 
+-- what the steps of a reader that succeeded say
 pub field_is : (line : Line) (x : List ℕ × Line) → field_at line ≡ Ok x → line ≡ x.0 ∷ x.1
 field_is [] x e = absurd cc
 field_is (f ∷ fs) x e = cc
@@ -34,12 +35,14 @@ pub ended_is : (line rest : Line) → ended_at line ≡ Ok rest → line ≡ []
 ended_is [] rest e = refl
 ended_is (f ∷ fs) rest e = absurd cc
 
+-- the test of a range, both ways
 within_from : (low high z : ℤ) → (int_le low z && int_le z high) ≡ true → IsWithin low high z
 within_from low high z e = let h = both_true (int_le low z) (int_le z high) e in (grind (arith, ints, h.0), grind (arith, ints, h.1))
 
 within_test : (low high z : ℤ) → IsWithin low high z → (int_le low z && int_le z high) ≡ true
 within_test low high z h = let a : int_le low z ≡ true = grind (arith, ints, h.0) in let b : int_le z high ≡ true = grind (arith, ints, h.1) in rw (a, b) refl
 
+-- a fixed word
 pub word_takes : (word : List ℕ) (line rest : Line) → word_at word line ≡ Ok rest → line ≡ word ∷ rest
 unfolding word_at
 word_takes word line rest e =
@@ -51,6 +54,7 @@ pub word_again : (word : List ℕ) (rest : Line) → word_at word (word ∷ rest
 unfolding word_at
 word_again word rest = rw ((bytes_eq-Decides word word).1 refl) refl
 
+-- a number of a range
 pub number_takes : (low high : ℤ) (line : Line) (x : ℤ × Line) → AreNarrow low high → number_at low high line ≡ Ok x → (line ≡ signed_decimal x.0 ∷ x.1) × IsWithin low high x.0
 unfolding number_at
 number_takes low high line x narrow e =
@@ -66,9 +70,11 @@ unfolding number_at
 number_again low high z rest narrow w =
     rw (integer_again z (omega (arith, ints, w.0, narrow.least), omega (arith, ints, w.1, narrow.greatest)), within_test low high z w) refl
 
+-- the numbers below an end of 32 bits
 below_narrow : (end : ℕ) → end < 2 ^ 32 → AreNarrow (pos 0) (pos end -ℤ pos 1)
 below_narrow end small = record { least = omega (arith, ints); greatest = omega (arith, ints) }
 
+-- a place below an end
 pub place_takes : (end : ℕ) (line : Line) (x : ℕ × Line) → end < 2 ^ 32 → place_at end line ≡ Ok x → (line ≡ decimal x.0 ∷ x.1) × (x.0 < end)
 unfolding place_at
 place_takes end line x small e =
@@ -82,6 +88,7 @@ pub place_again : (end n : ℕ) (rest : Line) → end < 2 ^ 32 → n < end → p
 unfolding place_at
 place_again end n rest small lt = rw (number_again (pos 0) (pos end -ℤ pos 1) (pos n) rest (below_narrow end small) (omega (arith, ints), omega (arith, ints))) refl
 
+-- a count between its limits
 pub count_takes : (low limit : ℕ) (line : Line) (x : ℕ × Line) → limit < 2 ^ 32 → count_at low limit line ≡ Ok x → (line ≡ decimal x.0 ∷ x.1) × (low ≤ x.0) × (x.0 ≤ limit)
 unfolding count_at
 count_takes low limit line x small e =

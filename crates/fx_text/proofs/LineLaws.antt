@@ -19,19 +19,23 @@ use Rattle.fx_text.proofs.Choices.{on_ok}
 use Rattle.fx_text.proofs.Cuts.{cut_at-parts, cut_at-found}
 use Rattle.fx_text.proofs.Digits.{own}
 
+-- two texts without such a byte
 pub Lacks-append : (c : ℕ) (xs ys : List ℕ) → Lacks c xs → Lacks c ys → Lacks c (xs ++ ys)
 Lacks-append c [] ys h k = k
 Lacks-append c (x ∷ xs) ys (h, hs) k = (h, Lacks-append c xs ys hs k)
 
+-- a byte is itself
 same : (c : ℕ) → eqb c c ≡ true
 same c = search (rules, tests)
 
+-- the first such byte stands behind a text that lacks it
 position-append : (c : ℕ) (xs rest : List ℕ) → Lacks c xs → position_or_len (λ b. eqb b c) (xs ++ c ∷ rest) ≡ length xs
 position-append c [] rest h = rw (same c) refl
 position-append c (x ∷ xs) rest (h, hs) = rw (h, position-append c xs rest hs) (omega arith)
 
 -- ---- a cut
 
+-- a text without such a byte is cut off where one follows
 pub cut_at-again : (c : ℕ) (xs rest : List ℕ) → Lacks c xs → cut_at c (xs ++ c ∷ rest) ≡ Some (xs, rest)
 cut_at-again c xs rest h =
     let lt : length xs < length (xs ++ c ∷ rest) = search (rules, length-append {A = ℕ}) in
@@ -41,6 +45,7 @@ cut_at-again c xs rest h =
     drop_one [] = refl
     drop_one (x ∷ xs) = let e : length (x ∷ xs) + 1 ≡ suc (length xs + 1) = omega arith in rw e (drop_one xs)
 
+-- what stands before the first such byte lacks it
 before_first-lacks : (c : ℕ) (xs : List ℕ) → Lacks c (before_first (λ b. eqb b c) xs)
 before_first-lacks c [] = tt
 before_first-lacks c (x ∷ xs) = by (eqb x c) refl (before_first-lacks c xs)
@@ -49,6 +54,7 @@ before_first-lacks c (x ∷ xs) = by (eqb x c) refl (before_first-lacks c xs)
     by true e k = rw e tt
     by false e k = let one : 1 + position_or_len (λ b. eqb b c) xs ≡ suc (position_or_len (λ b. eqb b c) xs) = omega arith in rw (e, one) (e, k)
 
+-- what was cut
 pub cut_at-takes : (c : ℕ) (text xs rest : List ℕ) → cut_at c text ≡ Some (xs, rest) → (text ≡ xs ++ c ∷ rest) × Lacks c xs
 cut_at-takes c text xs rest e =
     let h = cut_at-parts c text xs rest e in
@@ -57,11 +63,13 @@ cut_at-takes c text xs rest e =
 
 -- ---- fields
 
+-- fields joined by spaces have no line feed
 join-lacks : (fs : Line) → AllByRecursion IsField fs → Lacks 10 (join_with_byte 32 fs)
 join-lacks [] h = tt
 join-lacks (f ∷ []) (h, hs) = h.line_feeds
 join-lacks (f ∷ g ∷ fs) (h, hs) = Lacks-append 10 f (32 ∷ join_with_byte 32 (g ∷ fs)) h.line_feeds (refl, join-lacks (g ∷ fs) hs)
 
+-- a line's text, field by field
 pub line_text-cons : (f : List ℕ) (fs : Line) → line_text (f ∷ fs) ≡ f ++ flat_map (λ g. 32 ∷ g) fs ++ 10 ∷ []
 line_text-cons f fs = ap (λ t. t ++ 10 ∷ []) (by f fs)
   where
@@ -69,6 +77,7 @@ line_text-cons f fs = ap (λ t. t ++ 10 ∷ []) (by f fs)
     by f [] = sym (append-nil f)
     by f (g ∷ fs) = ap (λ t. f ++ 32 ∷ t) (by g fs) ∙ ap (λ t. f ++ t) (sym (flat_map-cons (λ g. 32 ∷ g) g fs))
 
+-- joined fields are cut again
 fields_of-join : (f : List ℕ) (fs : Line) → AreFields (f ∷ fs) → fields_of (join_with_byte 32 (f ∷ fs)) ≡ f ∷ fs
 fields_of-join f [] (h, hs) = slice_split_none (λ b. eqb b 32) f (All-from_recursion (λ b. eqb b 32 ≡ false) f h.spaces)
 fields_of-join f (g ∷ fs) (h, hs) =
@@ -79,10 +88,12 @@ AreFields-onto_first : (x : ℕ) (fs : Line) → eqb x 32 ≡ false → eqb x 10
 AreFields-onto_first x [] s l h = absurd h
 AreFields-onto_first x (f ∷ fs) s l (h, hs) = (record { spaces = (s, h.spaces); line_feeds = (l, h.line_feeds) }, hs)
 
+-- one more empty field
 AreFields-cons : (fs : Line) → AreFields fs → AreFields ([] ∷ fs)
 AreFields-cons [] h = absurd h
 AreFields-cons (f ∷ fs) h = (record { spaces = tt; line_feeds = tt }, h)
 
+-- what stands between the spaces of a line is fields
 AreFields-fields_of : (line : List ℕ) → Lacks 10 line → AreFields (fields_of line)
 AreFields-fields_of [] h = (record { spaces = tt; line_feeds = tt }, tt)
 AreFields-fields_of (x ∷ xs) (h, hs) = by (eqb x 32) refl (AreFields-fields_of xs hs)
@@ -93,6 +104,7 @@ AreFields-fields_of (x ∷ xs) (h, hs) = by (eqb x 32) refl (AreFields-fields_of
 
 -- ---- lines
 
+-- a line's fields are read from its text, and what is read is its text
 pub fields_at-again : (n : ℕ) (line : Line) (rest : List ℕ) → AreFields line → fields_at n (line_text line ++ rest) ≡ Ok (line, rest)
 unfolding fields_at
 fields_at-again n [] rest h = absurd h
@@ -112,6 +124,7 @@ fields_at-takes n text x e = by (line_at text) refl e
         subst (λ (y : Line × List ℕ). (text ≡ line_text y.0 ++ y.1) × AreFields y.0) made
         (cut.0 ∙ sym (append_assoc line (10 ∷ []) rest) ∙ ap (λ l. (l ++ 10 ∷ []) ++ rest) (sym (join_with_byte-slice_split 32 line)), AreFields-fields_of line cut.1)
 
+-- what was read of a line, without its number
 on_line-is : {A : Type 0} (n : ℕ) (r : Result A TextKind) (x : A) → on_line n r ≡ Ok x → r ≡ Ok x
 on_line-is n (Ok y) x e = cc
 on_line-is n (Err k) x e = absurd cc
@@ -135,6 +148,7 @@ line_spelling {A} read fields Is law n = record {
   again = λ x rest is. rw (fields_at-again n (fields x) rest (law.clean x is), law.again x is) refl;
 }
 
+-- a text that is over
 pub text_ended-is : (n : ℕ) (text rest : List ℕ) → text_ended_at n text ≡ Ok rest → text ≡ []
 unfolding text_ended_at
 text_ended-is n [] rest e = refl
@@ -142,6 +156,7 @@ text_ended-is n (b ∷ text) rest e = absurd cc
 
 -- ---- which texts are fields
 
+-- digits have no byte that is no digit
 digits_lack : (c : ℕ) (ds : List ℕ) → (c < 48) ⊎ (57 < c) → AllDigits 10 ds → Lacks c ds
 digits_lack c [] out h = tt
 digits_lack c (d ∷ ds) (inl lt) (h, hs) = let r = digit_from_value d h in (search (rules, tests), digits_lack c ds (inl lt) hs)
@@ -150,5 +165,6 @@ digits_lack c (d ∷ ds) (inr lt) (h, hs) = let r = digit_from_value d h in (sea
 pub decimal-lacks : (c n : ℕ) → (c < 48) ⊎ (57 < c) → n < 2 ^ 64 → Lacks c (decimal n)
 decimal-lacks c n out lt = digits_lack c (decimal n) out (own.to (decimal n) (digits_decimal own n lt))
 
+-- a number can stand in a line
 pub IsField-decimal : (n : ℕ) → n < 2 ^ 64 → IsField (decimal n)
 IsField-decimal n lt = record { spaces = decimal-lacks 32 n (inl (omega arith)) lt; line_feeds = decimal-lacks 10 n (inl (omega arith)) lt }

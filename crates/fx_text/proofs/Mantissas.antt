@@ -29,6 +29,7 @@ digits_parity ds h lt =
     let value : digits_value 10 ds ≡ digits_value 10 (take (length ds - 1) ds) * 10 + digit_value (get_or ds (length ds - 1) 0) = ap (digits_value 10) (sym all) ∙ more in
     omega (arith, value, d, r)
 
+-- the same of a number's field
 whole_parity : (ds : List ℕ) (n : ℕ) → whole_of ds ≡ Some n → (0 < length ds) × (get_or ds (length ds - 1) 0 % 2 ≡ n % 2)
 unfolding whole_of
 whole_parity ds n e =
@@ -59,6 +60,7 @@ integer_parity f m e =
           (whole_parity f n.0 n.1).1 ∙ ap (λ z. unsigned_abs z % 2) (sym n.2)
     ]
 
+-- zero alone is kept as zero
 kept_zero : (n : ℕ) → eqb (kept n) 0 ≡ eqb n 0
 kept_zero n = grind (arith, nat_tests)
 
@@ -76,6 +78,7 @@ kept_spelled (Some m) (Some e) km ke odd b p q o t =
     by true test = rw test (let x : km ≡ kept_signed m = cc in let y : ke ≡ kept e = cc in rw (x, y) refl)
     by false test = rw test refl
 
+-- the same from the bytes of a field
 pub parts_kept : (field mantissa exponent : List ℕ) (m : ℤ) (e : ℕ) (b : Bool) → cut_at 58 field ≡ Some (mantissa, exponent) → Some m ≡ option_map kept_signed (integer_of mantissa) → Some e ≡ option_map kept (whole_of exponent)
     → (eqb e 0 || eqb (get_or mantissa (length mantissa - 1) 0 % 2) 1) ≡ b → cond b (Some (m, e)) None ≡ option_map kept_dyadic (dyadic_of field)
 unfolding dyadic_of
@@ -87,6 +90,7 @@ kept_signed_small : (z m : ℤ) → kept_signed z ≡ m → unsigned_abs m < 2 ^
 kept_signed_small (pos n) m h small = let k : unsigned_abs (kept_signed (pos n)) < 2 ^ 62 = subst (λ z. unsigned_abs z < 2 ^ 62) (sym h) small in let e : kept n ≡ n = omega arith in ap pos (sym e) ∙ h
 kept_signed_small (negsuc n) m h small = let k : unsigned_abs (kept_signed (negsuc n)) < 2 ^ 62 = subst (λ z. unsigned_abs z < 2 ^ 62) (sym h) small in let e : min n (2 ^ 64 - 2) ≡ n = omega arith in ap negsuc (sym e) ∙ h
 
+-- the same of a dyadic
 kept_small : (d : Dyadic) (m : ℤ) (e : ℕ) → kept_dyadic d ≡ (m, e) → unsigned_abs m < 2 ^ 62 → e ≤ 96 → d ≡ record { m = m; e = e }
 kept_small d m e h small places =
     let x : kept_signed d.m ≡ m = ap (λ p. p.0) h in
@@ -110,6 +114,7 @@ spelled_odd (Some m) (Some e) d h lt =
     by (inl a) lt = absurd (omega (arith, eqb-true e 0 a))
     by (inr b) lt = eqb-true (unsigned_abs m % 2) 1 b
 
+-- so has a dyadic that a field spells
 pub dyadic_of-odd : (field : List ℕ) (d : Dyadic) → dyadic_of field ≡ Some d → 0 < d.e → unsigned_abs d.m % 2 ≡ 1
 unfolding dyadic_of
 dyadic_of-odd field d h lt = by (cut_at 58 field) h
@@ -129,6 +134,7 @@ kept_written field m e h small places = by (dyadic_of field) refl h
         let d_is = kept_small d m e same small places in
         record { small = small; places = places; one_spelling = subst (λ (y : Dyadic). 0 < y.e → unsigned_abs y.m % 2 ≡ 1) d_is (dyadic_of-odd field d o) }
 
+-- a written dyadic is a dyadic: zero has exponent 0
 pub IsDyadic-written : (m : ℤ) (e : ℕ) → IsWritten (record { m = m; e = e }) → IsDyadic m e
 IsDyadic-written m e w = record { of_zero = λ z. by e (λ lt. sym (w.one_spelling lt) ∙ ap (λ k. unsigned_abs k % 2) z); small = omega (arith, w.places) }
   where

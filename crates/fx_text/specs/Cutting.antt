@@ -11,14 +11,15 @@ cut_at byte text = if nat_lt (position_or_len (λ b. b == byte) text) (length te
 abbrev pub line_at : List ℕ → Option (List ℕ × List ℕ)
 line_at text = cut_at 10 text
 
--- the fields of a line that are still to be read
+-- the fields of a line, or those of them that are still to be read
 abbrev pub Line : Type 0
 Line = List (List ℕ)
 
+-- two spaces have an empty field between them
 abbrev pub fields_of : List ℕ → Line
 fields_of line = slice_split (λ b. b == 32) line
 
--- the fields that what is left of a line has, none at its end
+-- the fields of what is left of a line: none where nothing is left, one where an empty part is left
 abbrev pub left_of : Option (Bor (List ℕ)) → Line
 left_of None = []
 left_of (Some rest) = fields_of rest.now

@@ -8,7 +8,7 @@ use Rattle.fx_text.specs.declared.fault.TextFault.{TextFault}
 abbrev pub no_memory : TextFault
 no_memory = record { line = 0; kind = Memory }
 
--- a fault of a line
+-- a fault of this line
 abbrev pub fault_at : ℕ → TextKind → TextFault
 fault_at line Memory = no_memory
 fault_at line kind = record { line = line; kind = kind }

@@ -5,4 +5,4 @@ pub mod Reading
 pub mod Lines
 pub mod Many
 pub mod Spelling
-pub mod Spellings
+pub mod Laws

@@ -12,6 +12,7 @@ abbrev pub on_line : {A : Type 0} → ℕ → Result A TextKind → Result A Tex
 on_line n (Ok x) = Ok x
 on_line n (Err kind) = Err (fault_at n kind)
 
+-- the fields of line n and the text behind it, from where the line was cut
 abbrev pub fields_in : ℕ → Option (List ℕ × List ℕ) → Result (Line × List ℕ) TextFault
 fields_in n None = Err (fault_at n BadLine)
 fields_in n (Some parts) = Ok (fields_of parts.0, parts.1)

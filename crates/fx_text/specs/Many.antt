@@ -5,7 +5,7 @@ use Rattle.fx_text.specs.declared.fault.TextKind.{TextKind}
 use Rattle.fx_text.specs.Cutting.{Line}
 use Rattle.fx_text.specs.Reading.{◌>>=◌, dyadic_at}
 
--- `read` is told what is known before a value, as its number or the values before it, and `next` what is known behind it
+-- `read` is told what is known before a value, as its number or the values before it; `next` says what is known behind it
 unfoldable pub many : {I A X E : Type 0} → (I → List X → Result (A × List X) E) → (I → A → I) → ℕ → I → List X → Result (List A × List X) E
 many read next zero i xs = Ok ([], xs)
 many read next (suc count) i xs = do
@@ -13,7 +13,7 @@ many read next (suc count) i xs = do
   others ← many read next count (next i first.0) first.1
   Ok (first.0 ∷ others.0, others.1)
 
--- each value is as is asked of it by what is known before it
+-- each value meets what is asked of it, given what is known before it
 abbrev pub AreEach : {I A : Type 0} → (I → A → Type 0) → (I → A → I) → I → List A → Type 0
 AreEach Is next i [] = Unit {0}
 AreEach Is next i (x ∷ xs) = Is i x × AreEach Is next (next i x) xs

@@ -34,6 +34,7 @@ abbrev pub spelled : Option ℤ → Option ℕ → Option Dyadic
 spelled (Some m) (Some e) = if e == 0 || unsigned_abs m % 2 == 1 then Some (record { m = m; e = e }) else None
 spelled m e = None
 
+-- the same from what stands before and behind the colon
 abbrev pub dyadic_in : Option (List ℕ × List ℕ) → Option Dyadic
 dyadic_in None = None
 dyadic_in (Some parts) = spelled (integer_of parts.0) (whole_of parts.1)
@@ -46,9 +47,11 @@ dyadic_of field = dyadic_in (cut_at 58 field)
 abbrev pub kept : ℕ → ℕ
 kept n = min n (2 ^ 64 - 1)
 
+-- the same with a sign
 abbrev pub kept_signed : ℤ → ℤ
 kept_signed (pos n) = pos (kept n)
 kept_signed (negsuc n) = negsuc (min n (2 ^ 64 - 2))
 
+-- and of a dyadic's parts
 abbrev pub kept_dyadic : Dyadic → ℤ × ℕ
 kept_dyadic d = (kept_signed d.m, kept d.e)

@@ -8,6 +8,7 @@ use Rattle.fx_text.specs.declared.fault.TextKind.TheVariants.{BadLine, BadNumber
 use Rattle.fx_text.specs.Cutting.{Line}
 use Rattle.fx_text.specs.Numbers.{integer_of, dyadic_of}
 
+-- one step after the other, up to the first fault
 infixl 10 ◌>>=◌
 abbrev pub ◌>>=◌ : {A B E : Type 0} → Result A E → (A → Result B E) → Result B E
 (Ok x) >>= f = f x
@@ -34,6 +35,7 @@ word_at word line = do
   field ← field_at line
   if bytes_eq field.0 word then Ok field.1 else Err BadLine
 
+-- from low to high
 abbrev pub IsWithin : ℤ → ℤ → ℤ → Type 0
 IsWithin low high z = (low ≤ℤ z) × (z ≤ℤ high)
 

@@ -1,4 +1,4 @@
--- What numbers, dyadics, intervals and lines have: one spelling each.
+-- The laws of readers and printers: numbers, dyadics, intervals and lines have one spelling each.
 use Rattle.std.specs.Prelude.{◌≡◌, ℕ, ℤ, pos, negsuc, ◌-◌, ◌^◌, ◌<◌, ◌≤◌, ◌≤ℤ◌, List, [], ◌∷◌, ◌++◌, length, map, All, Some, Ok}
 use Rattle.std.specs.Fmt.{decimal, signed_decimal}
 use Rattle.std.specs.List.{flat_map}
@@ -20,24 +20,29 @@ pub record AreNarrow (low high : ℤ) : Type 0 where
   pub least : negsuc (2 ^ 63 - 1) ≤ℤ low
   pub greatest : high ≤ℤ pos (2 ^ 63 - 1)
 
+-- what is read as a number is the text that is written of it
 abbrev pub WholeTakes : Type 0
 WholeTakes = (field : List ℕ) (n : ℕ) → n < 2 ^ 64 → whole_of field ≡ Some n → field ≡ decimal n
 
+-- what is written of a number is read as that number
 abbrev pub WholeAgain : Type 0
 WholeAgain = (n : ℕ) → n < 2 ^ 64 → whole_of (decimal n) ≡ Some n
 
+-- the same with a sign
 abbrev pub IntegerTakes : Type 0
 IntegerTakes = (field : List ℕ) (z : ℤ) → IsNarrow z → integer_of field ≡ Some z → field ≡ signed_decimal z
 
 abbrev pub IntegerAgain : Type 0
 IntegerAgain = (z : ℤ) → IsNarrow z → integer_of (signed_decimal z) ≡ Some z
 
+-- a fixed word is read of that word alone
 abbrev pub WordTakes : Type 0
 WordTakes = (word : List ℕ) (line rest : Line) → word_at word line ≡ Ok rest → line ≡ word ∷ rest
 
 abbrev pub WordAgain : Type 0
 WordAgain = (word : List ℕ) (rest : Line) → word_at word (word ∷ rest) ≡ Ok rest
 
+-- a number of a range, a place below an end, a count between its limits
 abbrev pub NumberLaw : Type 0
 NumberLaw = (low high : ℤ) → AreNarrow low high → IsOneSpelling (number_at low high) (λ z. signed_decimal z ∷ []) (IsWithin low high)
 
@@ -47,6 +52,7 @@ PlaceLaw = (end : ℕ) → end < 2 ^ 32 → IsOneSpelling (place_at end) (λ n. 
 abbrev pub CountLaw : Type 0
 CountLaw = (low limit : ℕ) → limit < 2 ^ 32 → IsOneSpelling (count_at low limit) (λ n. decimal n ∷ []) (λ n. (low ≤ n) × (n ≤ limit))
 
+-- a written dyadic, so many of them, and an interval
 abbrev pub DyadicLaw : Type 0
 DyadicLaw = IsOneSpelling dyadic_at (λ d. dyadic_text d ∷ []) IsWritten
 
@@ -56,6 +62,7 @@ DyadicsLaw = (count : ℕ) → IsOneSpelling (dyadics_at count) (map dyadic_text
 abbrev pub IntervalLaw : Type 0
 IntervalLaw = IsOneSpelling interval_at interval_fields IsWrittenInterval
 
+-- the fields of a line, and the text behind it
 abbrev pub LineLaw : Type 0
 LineLaw = (n : ℕ) → IsOneSpelling (fields_at n) line_text AreFields
 
