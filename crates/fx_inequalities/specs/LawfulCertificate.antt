@@ -1,18 +1,9 @@
 -- What each certificate meets that a text can spell: its counts, lengths, share rows and numbers.
-use Rattle.std.specs.Prelude.{◌≡◌, ℕ, zero, suc, ◌+◌, ◌-◌, ◌^◌, ◌%◌, ◌<◌, ◌≤◌, pos, unsigned_abs, List, [], ◌∷◌, ◌++◌, length, All, Option, Some, None}
-use Rattle.fx_rational.specs.Dyadic.{Dyadic, zero_dyadic}
-use Rattle.fx_rational.specs.Interval.{Interval}
+use Rattle.std.specs.Prelude.{◌≡◌, ℕ, zero, suc, ◌+◌, ◌-◌, ◌<◌, ◌≤◌, pos, List, [], ◌∷◌, ◌++◌, length, All, Option, Some, None}
+use Rattle.fx_rational.specs.Dyadic.{Dyadic, IsWritten, zero_dyadic}
+use Rattle.fx_rational.specs.Interval.{IsWrittenInterval}
 use Rattle.fx_inequalities.specs.Rewriting.{Rewriting}
 use Rattle.fx_inequalities.specs.Certificate.{Certificate, Form, NodeLine, Row, Share, StartBox}
-
--- in its one spelling: the exponent is 0 or the mantissa odd, so that zero has exponent 0
-pub record IsWritten (d : Dyadic) : Type 0 where
-  pub small : unsigned_abs d.m < 2 ^ 62
-  pub places : d.e ≤ 96
-  pub one_spelling : 0 < d.e → unsigned_abs d.m % 2 ≡ 1
-
-abbrev pub IsWrittenInterval : Interval → Type 0
-IsWrittenInterval i = IsWritten i.lo × IsWritten i.hi
 
 -- the place of a temp or result, a path of first and second operands, and the number of a rule
 pub record IsWrittenStep (s : Rewriting) : Type 0 where

@@ -1,5 +1,5 @@
 -- Dyadics m / 2^e as they are written, their exact operations, and when these stay within 128 bits.
-use Rattle.std.specs.Prelude.{◌≡◌, ℕ, zero, suc, ◌+◌, ◌-◌, ◌^◌, ◌≤◌, max, ℤ, pos, negsuc, ◌+ℤ◌, ◌-ℤ◌, ◌*ℤ◌, neg_ℤ, int_le, int_lt, Bool, ◌&&◌, nat_le, if◌then◌else◌}
+use Rattle.std.specs.Prelude.{◌≡◌, ℕ, zero, suc, ◌+◌, ◌-◌, ◌^◌, ◌%◌, ◌<◌, ◌≤◌, max, unsigned_abs, ℤ, pos, negsuc, ◌+ℤ◌, ◌-ℤ◌, ◌*ℤ◌, neg_ℤ, int_le, int_lt, Bool, ◌&&◌, nat_le, if◌then◌else◌}
 use Rattle.fx_rational.specs.Rational.{Rational, over, is_at_most, floor_div, ceil_div}
 
 pub record Dyadic : Type 0 where
@@ -10,6 +10,12 @@ pub record Dyadic : Type 0 where
 pub record IsDyadic (m : ℤ) (e : ℕ) : Type 0 where
   pub of_zero : m ≡ pos 0 → e ≡ 0
   pub small : e ≤ 2 ^ 20
+
+-- what a text can spell, each in its one spelling: the exponent is 0 or the mantissa odd, so that zero has exponent 0
+pub record IsWritten (d : Dyadic) : Type 0 where
+  pub small : unsigned_abs d.m < 2 ^ 62
+  pub places : d.e ≤ 96
+  pub one_spelling : 0 < d.e → unsigned_abs d.m % 2 ≡ 1
 
 unfoldable pub dyadic_value : Dyadic → Rational
 dyadic_value d = over d.m (2 ^ d.e)

@@ -1,10 +1,14 @@
 -- Intervals with dyadic ends, and their exact operations. No order of the ends is asked for.
 use Rattle.std.specs.Prelude.{ℕ, Bool, ◌&&◌}
-use Rattle.fx_rational.specs.Dyadic.{Dyadic, dyadic_sum, dyadic_difference, dyadic_product, sum_fits, difference_fits, product_fits, is_dyadic_at_most, least, greatest, rounded_down, rounded_up}
+use Rattle.fx_rational.specs.Dyadic.{Dyadic, IsWritten, dyadic_sum, dyadic_difference, dyadic_product, sum_fits, difference_fits, product_fits, is_dyadic_at_most, least, greatest, rounded_down, rounded_up}
 
 pub record Interval : Type 0 where
   pub lo : Dyadic
   pub hi : Dyadic
+
+-- what a text can spell
+abbrev pub IsWrittenInterval : Interval → Type 0
+IsWrittenInterval i = IsWritten i.lo × IsWritten i.hi
 
 unfoldable pub interval_sum : Interval → Interval → Interval
 interval_sum a b = record { lo = dyadic_sum a.lo b.lo; hi = dyadic_sum a.hi b.hi }

@@ -1,0 +1,9 @@
+pub mod Choices
+pub mod Cuts
+pub mod Digits
+pub mod NumberLaws
+pub mod Mantissas
+pub mod FieldLaws
+pub mod ManyLaws
+pub mod LineLaws
+pub mod DyadicLaws

@@ -1,0 +1,31 @@
+//! Lines, fields, whole numbers and dyadics of the project's texts: how each is read, and how it is printed.
+//!
+//! A program, a certificate and a bundle are lines of fields. What all of them share stands here once, so that a reader of
+//! one more line is a chain of `?` and its proof a few lines. Each reader is tied to a definition of `specs/`, which is over
+//! numbers without bound: what the code cuts off at 64 bits is still told apart as a number that is out of range.
+//! The trap: the first fault decides, so a field's spelling is tested before its range, and a line feed before any field.
+#![tactic(auto)]
+
+mod cut;
+mod fault;
+mod field;
+mod law;
+mod line;
+mod numeral;
+mod print;
+
+pub use cut::{Fields, line_at};
+pub use fault::{TextFault, TextKind};
+pub use field::{count, dyadic, dyadics, ended, interval, number, place, small, word};
+pub use law::{
+    count_law, dyadic_law, dyadics_law, integer_law, interval_law, line_law, line_text_law,
+    number_law, place_law, whole_law, word_law,
+};
+pub use line::{fields_at, text_ended};
+pub use numeral::{integer, whole};
+pub use print::{
+    begin_line, end_line, put_dyadic, put_dyadics, put_interval, put_number, put_word,
+};
+
+#[cfg(test)]
+mod tests;

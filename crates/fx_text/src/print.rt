@@ -1,0 +1,72 @@
+//! Writing a line field by field.
+//!
+//! A line begins with a word, each further field stands behind a space, and a line feed ends it. Each call appends what
+//! its clause says, so that a line's printer appends the line's text. What a failed call has appended isn't told: its
+//! caller drops the text.
+
+ghost use Rattle.std.specs.Prelude.{◌≡◌, ◌++◌, ◌∷◌, [], OnOk};
+ghost use Rattle.std.specs.List.{flat_map};
+ghost use Rattle.fx_text.specs.Spelling.{dyadic_text};
+
+use fx_num::Dyadic;
+use itoa::{Buffer, Integer};
+use std::alloc::AllocError;
+
+/// The first field of a line.
+pub fn begin_line(out: &mut Vec<u8>, word: &[u8]) -> Result<(), AllocError>
+    ensures { OnOk result (out.new.items ≡ out.old.items ++ word.now) }
+{
+    out.extend_from_slice(word)
+}
+
+/// A space and a field as it is. It may hold neither a space nor a line feed.
+pub fn put_word(out: &mut Vec<u8>, word: &[u8]) -> Result<(), AllocError>
+    ensures { OnOk result (out.new.items ≡ out.old.items ++ 32 ∷ word.now) }
+{
+    out.push(b' ')?;
+    out.extend_from_slice(word)
+}
+
+/// A space and a whole number.
+pub fn put_number<I: Integer>(out: &mut Vec<u8>, n: I) -> Result<(), AllocError>
+    ensures { OnOk result (out.new.items ≡ out.old.items ++ 32 ∷ I.text n) }
+{
+    let mut buffer = Buffer::new();
+    put_word(out, buffer.format(n).as_bytes())
+}
+
+/// A space and a dyadic as `m:e`.
+pub fn put_dyadic(out: &mut Vec<u8>, d: Dyadic) -> Result<(), AllocError>
+    ensures { OnOk result (out.new.items ≡ out.old.items ++ 32 ∷ dyadic_text d) }
+{
+    put_number(out, d.m)?;
+    out.push(b':')?;
+    let mut buffer = Buffer::new();
+    out.extend_from_slice(buffer.format(d.e).as_bytes())
+}
+
+/// An interval's ends, each behind a space.
+pub fn put_interval(out: &mut Vec<u8>, lo: Dyadic, hi: Dyadic) -> Result<(), AllocError>
+    ensures { OnOk result (out.new.items ≡ out.old.items ++ 32 ∷ dyadic_text lo ++ 32 ∷ dyadic_text hi) }
+{
+    put_dyadic(out, lo)?;
+    put_dyadic(out, hi)
+}
+
+/// So many dyadics, each behind a space.
+pub fn put_dyadics(out: &mut Vec<u8>, ds: &[Dyadic]) -> Result<(), AllocError>
+    ensures { OnOk result (out.new.items ≡ out.old.items ++ flat_map (λ d. 32 ∷ dyadic_text d) ds.now) }
+{
+    for d in ds {
+        put_dyadic(out, *d)?;
+    }
+    Ok(())
+}
+
+/// The line feed of a line.
+pub fn end_line(out: &mut Vec<u8>) -> Result<(), AllocError>
+    ensures { OnOk result (out.new.items ≡ out.old.items ++ 10 ∷ []) }
+{
+    out.push(b'\n')?;
+    Ok(())
+}
