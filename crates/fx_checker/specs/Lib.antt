@@ -1,3 +1,0 @@
-pub mod FirstSource
-pub mod FirstBundle
-pub mod First
