@@ -11,10 +11,33 @@ mod shift;
 
 pub use dyadic::{Dyadic, dadd, dle, dmul, dsub, round_down, round_up};
 pub use shift::{add_fits, ceil_shift, floor_shift, left_fits, mul_fits};
+use std::alloc::{AllocError, AllocFailed};
+use std::error::Error;
+use std::fmt;
 
 /// No memory was left. The only refusal of a call that can't fail otherwise.
 #[derive(Clone, Copy, Debug, PartialEq, Eq)]
 pub struct Memory;
+
+impl fmt::Display for Memory {
+    fn fmt<W: fmt::Write>(&self, f: &mut fmt::Formatter<W>) -> fmt::Result {
+        f.write_str("out of memory")
+    }
+}
+
+impl Error for Memory {}
+
+impl From<AllocError> for Memory {
+    fn from(_e: AllocError) -> Memory {
+        Memory
+    }
+}
+
+impl<T: Drop> From<AllocFailed<T>> for Memory {
+    fn from(_e: AllocFailed<T>) -> Memory {
+        Memory
+    }
+}
 
 #[cfg(test)]
 mod tests;

@@ -14,7 +14,7 @@ mod line;
 mod numeral;
 mod print;
 
-pub use cut::{Fields, line_at};
+pub use cut::{Fields, cut_at, line_at};
 pub use fault::{TextFault, TextKind};
 pub use field::{count, dyadic, dyadics, ended, interval, number, place, small, word};
 pub use law::{

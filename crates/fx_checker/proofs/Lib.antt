@@ -1,0 +1,16 @@
+pub mod Steps
+pub mod Pieces
+pub mod Sources
+pub mod Programs
+pub mod Certificates
+pub mod Bundles
+pub mod Spellings
+pub mod Ordered
+pub mod Judged
+pub mod Verdicts
+pub mod NarrowLines
+pub mod Ascii
+pub mod Outcomes
+pub mod Certified
+pub mod GivenRows
+pub mod Worked

@@ -1,0 +1,4 @@
+pub mod Words
+pub mod FirstRows
+pub mod Promise
+pub mod Printing

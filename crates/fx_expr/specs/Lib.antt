@@ -1,0 +1,5 @@
+pub mod TreeOf
+pub mod Coding
+pub mod LawfulFunction
+pub mod Parts
+pub mod FunctionOf

@@ -1,0 +1,3 @@
+mod Growth
+mod Pushing
+mod Turns

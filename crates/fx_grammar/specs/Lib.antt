@@ -1,0 +1,10 @@
+pub mod Heads
+pub mod Steps
+pub mod Operands
+pub mod Expressions
+pub mod Ranges
+pub mod Fronts
+pub mod Bodies
+pub mod Ensuring
+pub mod Functions
+pub mod Sources

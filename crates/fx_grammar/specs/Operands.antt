@@ -1,0 +1,54 @@
+-- What was read of an expression: its tree, its height and its nodes.
+use Rattle.std.specs.Prelude.{◌==◌, ◌+◌, ℕ, pos, Bool, Option, Some, None, max, min, nat_le, if◌then◌else◌}
+use Rattle.fx_rational.specs.Rational.{whole}
+use Rattle.fx_model.specs.Tree.{Tree, Literal, Negation, Sum, Difference, Product, Quotient}
+use Rattle.fx_grammar.specs.declared.head.Head.{Head}
+use Rattle.fx_grammar.specs.declared.head.Head.TheVariants as heads
+
+-- a tree, or none where it is higher than 200; its height, counted up to 201;
+-- its nodes in the list of operations, where names make none, counted up to 4,001
+pub record Operand : Type 0 where
+  pub tree : Option Tree
+  pub height : ℕ
+  pub nodes : ℕ
+
+abbrev pub leaf : Tree → ℕ → Operand
+leaf x nodes = record { tree = Some x; height = 1; nodes = nodes }
+
+-- a count of nodes, stopped behind the limit
+abbrev pub counted_nodes : ℕ → ℕ
+counted_nodes n = min 4001 n
+
+-- a tree, where it isn't too high
+abbrev pub kept : ℕ → Option Tree → Option Tree
+kept height x = if nat_le height 200 then x else None
+
+abbrev pub negation_of : Option Tree → Option Tree
+negation_of None = None
+negation_of (Some x) = Some (Negation x)
+
+abbrev pub negation : Operand → Operand
+negation a = let h = min 201 (1 + a.height) in record { tree = kept h (negation_of a.tree); height = h; nodes = counted_nodes (1 + a.nodes) }
+
+-- the operation of a sign
+abbrev pub operation : Head → Tree → Tree → Tree
+operation heads.Plus x y = Sum x y
+operation heads.Minus x y = Difference x y
+operation heads.Star x y = Product x y
+operation _ x y = Quotient x y
+
+abbrev pub both : Head → Option Tree → Option Tree → Option Tree
+both sign None y = None
+both sign (Some x) None = None
+both sign (Some x) (Some y) = Some (operation sign x y)
+
+abbrev pub joined : Head → Operand → Operand → Operand
+joined sign a b = let h = min 201 (1 + max a.height b.height) in record { tree = kept h (both sign a.tree b.tree); height = h; nodes = counted_nodes (1 + a.nodes + b.nodes) }
+
+abbrev pub is_high : Operand → Bool
+is_high a = a.height == 201
+
+-- the tree, which is there where it isn't too high
+abbrev pub tree_or : Option Tree → Tree
+tree_or None = Literal (whole (pos 0))
+tree_or (Some x) = x

@@ -1,0 +1,179 @@
+-- The conditions of require.
+use Rattle.std.specs.Prelude.{◌==◌, ◌+◌, ◌-◌, ℕ, pos, Bool, true, false, not, ◌&&◌, ◌||◌, List, [], ◌∷◌, drop, map, Option, Some, None, Result, Ok, Err, slice_set, slice_index_or, if◌then◌else◌}
+use Rattle.fx_rational.specs.Decimal.{Decimal, decimal_value}
+use Rattle.fx_rational.specs.Rational.{is_at_most}
+use Rattle.fx_model.specs.Function.{Input}
+use Rattle.fx_lexer.specs.declared.fault.SourceFault.{SourceFault}
+use Rattle.fx_lexer.specs.declared.fault.SourceKind.TheVariants as kinds
+use Rattle.fx_lexer.specs.Tokens.{Lexeme}
+use Rattle.fx_grammar.specs.declared.head.Head.{Head}
+use Rattle.fx_grammar.specs.declared.side.Side.{Side}
+use Rattle.fx_grammar.specs.declared.side.Side.TheVariants.{Low, High, Error}
+use Rattle.fx_grammar.specs.declared.head.Head.TheVariants as heads
+use Rattle.fx_grammar.specs.Heads.{head_of, ◌==ₕ◌}
+use Rattle.fx_grammar.specs.Steps.{◌>>=◌, when, many, place_of, Text, Tokens, Reads, fault, next_head, place_at, wrong, want, number_at, signed_at}
+
+-- an input or an output: its name, the name's place, and what is said of it so far
+pub record Subject : Type 0 where
+  pub name : Text
+  pub at : ℕ
+  pub lo : Option Decimal
+  pub hi : Option Decimal
+  pub err : Option Decimal
+
+abbrev pub Subjects : Type 0
+Subjects = List Subject
+
+abbrev pub new_subject : Lexeme → Subject
+new_subject t = record { name = t.text; at = t.at; lo = None; hi = None; err = None }
+
+abbrev pub names_of : Subjects → List Text
+names_of subjects = map (λ s. s.name) subjects
+
+abbrev pub is_given : Option Decimal → Bool
+is_given None = false
+is_given (Some d) = true
+
+abbrev pub side_of : Side → Subject → Option Decimal
+side_of Low s = s.lo
+side_of High s = s.hi
+side_of Error s = s.err
+
+abbrev pub with_side : Side → Decimal → Subject → Subject
+with_side Low d s = record s { lo = Some d }
+with_side High d s = record s { hi = Some d }
+with_side Error d s = record s { err = Some d }
+
+-- the subject at a place learns one thing; t is its name where that is said
+abbrev pub said_at : Side → Decimal → Lexeme → Subjects → ℕ → Subject → Result Subjects SourceFault
+said_at side d t subjects k s = if is_given (side_of side s) then Err (fault t.at kinds.NamedTwice) else Ok (slice_set subjects k (with_side side d s))
+
+abbrev pub subject_or : Subjects → ℕ → Subject
+subject_or subjects k = slice_index_or subjects k (record { name = []; at = 0; lo = None; hi = None; err = None })
+
+unfoldable pub said : Side → Decimal → Lexeme → Subjects → ℕ → Result Subjects SourceFault
+said side d t subjects k = said_at side d t subjects k (subject_or subjects k)
+
+abbrev pub found_or : Lexeme → Option ℕ → Result ℕ SourceFault
+found_or t None = Err (fault t.at kinds.UnknownName)
+found_or t (Some k) = Ok k
+
+-- the place of a name that must be known
+unfoldable pub subject_at : Subjects → Lexeme → Result ℕ SourceFault
+subject_at subjects t = found_or t (place_of (names_of subjects) t.text)
+
+abbrev pub is_relation : Head → Bool
+is_relation h = (h ==ₕ heads.Below) || ((h ==ₕ heads.AtMost) || ((h ==ₕ heads.Above) || (h ==ₕ heads.AtLeast)))
+
+abbrev pub is_upward : Head → Bool
+is_upward h = (h ==ₕ heads.Below) || (h ==ₕ heads.AtMost)
+
+-- name "+/-" number, behind the sign
+unfoldable pub error_at : ℕ → Subjects → Lexeme → ℕ → Tokens → Reads Subjects
+error_at end subjects t k ts = do
+  d ← number_at end ts
+  s ← said Error d.0 t subjects k
+  Ok (s, d.1)
+
+-- name rel signed, behind the relation
+unfoldable pub bound_at : ℕ → Subjects → Lexeme → ℕ → Side → Tokens → Reads Subjects
+bound_at end subjects t k side ts = if next_head ts ==ₕ heads.Name then Err (fault t.at kinds.Unsupported) else (do
+  d ← signed_at end ts
+  s ← said side d.0 t subjects k
+  Ok (s, d.1))
+
+-- a condition that begins with a name
+unfoldable pub name_first : ℕ → Subjects → Tokens → Reads Subjects
+name_first end subjects ts = do
+  t ← want end heads.Name ts
+  k ← subject_at subjects t.0
+  if next_head t.1 ==ₕ heads.PlusMinus then error_at end subjects t.0 k (drop 1 t.1) else (
+      if is_relation (next_head t.1) then bound_at end subjects t.0 k (if is_upward (next_head t.1) then High else Low) (drop 1 t.1)
+      else Err (wrong end t.1))
+
+-- a number stands next, with or without a minus
+abbrev pub is_signed : Tokens → Bool
+is_signed ts = (next_head ts ==ₕ heads.Number) || ((next_head ts ==ₕ heads.Minus) && (next_head (drop 1 ts) ==ₕ heads.Number))
+
+-- signed rel name, behind the relation; the condition begins at first
+unfoldable pub behind_relation : ℕ → ℕ → Subjects → Decimal → Side → Tokens → Reads Subjects
+behind_relation end first subjects d side ts = if is_signed ts then Err (fault first kinds.Unsupported) else (do
+  t ← want end heads.Name ts
+  k ← subject_at subjects t.0
+  s ← said side d t.0 subjects k
+  Ok (s, t.1))
+
+unfoldable pub number_first : ℕ → Subjects → Tokens → Reads Subjects
+number_first end subjects ts = do
+  d ← signed_at end ts
+  if is_relation (next_head d.1) then behind_relation end (place_at end ts) subjects d.0 (if is_upward (next_head d.1) then Low else High) (drop 1 d.1)
+      else Err (wrong end d.1)
+
+-- a condition without parentheses around it
+unfoldable pub condition_at : ℕ → Subjects → Tokens → Reads Subjects
+condition_at end subjects ts = if next_head ts ==ₕ heads.Name then name_first end subjects ts else number_first end subjects ts
+
+-- what was read of the conditions: how many parentheses are open, whether a condition is due, what was said
+pub record Conditions : Type 0 where
+  pub depth : ℕ
+  pub wants : Bool
+  pub subjects : Subjects
+
+abbrev pub are_open : Conditions → Tokens → Bool
+are_open c ts = not (c.depth == 0)
+
+abbrev pub wanted_at : ℕ → Conditions → Tokens → Reads Conditions
+wanted_at end c [] = Err (fault end kinds.EndOfText)
+wanted_at end c (t ∷ ts) = if head_of t ==ₕ heads.Open
+    then Ok (record c { depth = c.depth + 1 }, ts)
+    else (condition_at end c.subjects (t ∷ ts) >>= λ x. Ok (record { depth = c.depth; wants = false; subjects = x.0 }, x.1))
+
+abbrev pub read_at : ℕ → Conditions → Tokens → Reads Conditions
+read_at end c [] = Err (fault end kinds.EndOfText)
+read_at end c (t ∷ ts) =
+    if head_of t ==ₕ heads.Close then Ok (record c { depth = c.depth - 1 }, ts) else (
+    if head_of t ==ₕ heads.And then Ok (record c { wants = true }, ts) else Err (wrong end (t ∷ ts)))
+
+-- one parenthesis, one condition or one && of the conditions
+unfoldable pub conditions_step : ℕ → Conditions → Tokens → Reads Conditions
+conditions_step end c ts = if c.wants then wanted_at end c ts else read_at end c ts
+
+-- conds and the parenthesis that closes them
+unfoldable pub conditions_at : ℕ → Conditions → Tokens → Reads Conditions
+conditions_at end c ts = do
+  x ← conditions_step end c ts
+  many are_open (conditions_step end) x.0 x.1
+
+-- what wasn't said is zero
+abbrev pub or_zero : Option Decimal → Decimal
+or_zero None = record { a = pos 0; b = 0 }
+or_zero (Some d) = d
+
+abbrev pub input_of : Subject → Input
+input_of s = record { name = s.name; lo = decimal_value (or_zero s.lo); hi = decimal_value (or_zero s.hi); err = decimal_value (or_zero s.err) }
+
+abbrev pub is_lacking : Subject → Bool
+is_lacking s = not (is_given s.lo && is_given s.hi)
+
+-- the lower end lies above the upper one
+abbrev pub is_empty_range : Subject → Bool
+is_empty_range s = not (is_at_most (decimal_value (or_zero s.lo)) (decimal_value (or_zero s.hi)))
+
+-- the first subject that fails a test gives the fault
+unfoldable pub all_pass : (Subject → Bool) → (ℕ → SourceFault) → Subjects → Result (Unit {0}) SourceFault
+all_pass fails faulty [] = Ok tt
+all_pass fails faulty (s ∷ subjects) = when (fails s) (λ _. Err (faulty s.at)) (λ _. all_pass fails faulty subjects)
+
+unfoldable pub inputs_at : Subjects → Result (List Input) SourceFault
+inputs_at subjects = do
+  _ ← all_pass is_lacking (λ at. fault at kinds.NoRange) subjects
+  _ ← all_pass is_empty_range (λ at. fault at kinds.EmptyRange) subjects
+  Ok (map input_of subjects)
+
+-- require = "require" "(" conds ")" [ ";" ], behind the word
+unfoldable pub require_at : ℕ → Subjects → Tokens → Reads (List Input)
+require_at end subjects ts = do
+  o ← want end heads.Open ts
+  x ← conditions_at end (record { depth = 1; wants = true; subjects = subjects }) o.1
+  inputs ← inputs_at x.0.subjects
+  Ok (inputs, x.1)

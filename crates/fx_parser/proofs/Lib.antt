@@ -1,0 +1,16 @@
+pub mod Rooms
+pub mod Turns
+pub mod Places
+pub mod Passes
+pub mod Ends
+pub mod Keys
+pub mod Reading
+pub mod SoundTokens
+pub mod NodeCounts
+pub mod SoundTrees
+pub mod SoundSubjects
+pub mod SoundFunctions
+pub mod Unmapped
+pub mod Choices
+pub mod BodyParts
+pub mod Bytes

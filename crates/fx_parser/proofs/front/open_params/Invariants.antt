@@ -1,0 +1,19 @@
+use Rattle.std.proofs.Common.{◌<◌, ◌≤◌, length, []}
+use Rattle.fx_grammar.specs.declared.head.Head.TheVariants as heads
+use Rattle.fx_grammar.specs.Steps.{separated, at, behind}
+use Rattle.fx_parser.specs.Views.{lexemes}
+use Rattle.fx_parser.specs.Views.{subjects_of, IsNamed}
+use Rattle.fx_grammar.specs.Fronts.{param_at}
+use Rattle.fx_parser.proofs.Turns.{IsOn}
+use Rattle.fx_parser.proofs.front.open_params.Given as goal
+
+abbrev pub invariant-items : goal.invariant-items
+invariant-items l = record {
+  shorter : length l.rest < length l.tokens;
+  few : length l.named.subjects.items ≤ 64;
+  same : IsNamed l.named;
+  on : IsOn (at heads.Comma) (behind (param_at l.end)) (subjects_of l.named.subjects) (lexemes l.rest) (separated heads.Comma (param_at l.end) [] (lexemes l.tokens));
+}
+
+abbrev pub decreases-items : goal.decreases-items
+decreases-items l = length l.rest

@@ -1,0 +1,5 @@
+pub mod Texts
+pub mod Views
+pub mod LawfulTokens
+pub mod LawfulNames
+pub mod Choice

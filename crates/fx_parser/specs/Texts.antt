@@ -1,0 +1,12 @@
+-- What numbers and names of the text stand for.
+use Rattle.std.specs.Prelude.{ℕ, List, map, if◌then◌else◌}
+use Rattle.std.specs.Borrow.{Bor}
+use Rattle.fx_rational.specs.Decimal.{Decimal}
+use Rattle.fx_grammar.specs.Steps.{Text, decimal, minus}
+use Rattle.fx_parser.specs.declared.numeral.Numeral.{Numeral}
+
+abbrev pub numeral_value : Numeral → Decimal
+numeral_value n = if n.is_negative then minus (decimal n.digits.now) else decimal n.digits.now
+
+abbrev pub texts : List (Bor (List ℕ)) → List Text
+texts names = map (λ t. t.now) names

@@ -1,0 +1,105 @@
+-- What the values of the code stand for.
+use Rattle.std.specs.Prelude.{◌≡◌, ◌≤◌, ◌+◌, length, ℕ, List, map, Vec, Option, Ok, Err, nat_lt, if◌then◌else◌}
+use Rattle.fx_lexer.specs.declared.fault.SourceKind.TheVariants.{TooMany}
+use Rattle.std.specs.Option.{option_map}
+use Rattle.std.specs.Global.{Global}
+use Rattle.fx_rational.specs.Rational.{Rational}
+use Rattle.fx_rational.specs.Decimal.{decimal_value}
+use Rattle.fx_model.specs.Function as model
+use Rattle.fx_expr.specs.TreeOf.{tree}
+use Rattle.fx_lexer.specs.declared.token.Token.{Token}
+use Rattle.fx_lexer.specs.Tokens.{lexeme_of}
+use Rattle.fx_grammar.specs.Steps.{Tokens, Reads, fault}
+use Rattle.fx_grammar.specs.Operands as operands
+use Rattle.fx_grammar.specs.Expressions.{Known}
+use Rattle.fx_grammar.specs.Ranges as ranges
+use Rattle.fx_grammar.specs.Fronts as fronts
+use Rattle.fx_grammar.specs.Bodies as bodies
+use Rattle.fx_grammar.specs.Functions as functions
+use Rattle.fx_parser.specs.declared.operand.Operand.{Operand}
+use Rattle.fx_parser.specs.declared.operand.Context.{Context}
+use Rattle.fx_parser.specs.declared.subject.Subject.{Subject}
+use Rattle.fx_parser.specs.declared.subject.Named.{Named}
+use Rattle.fx_parser.specs.declared.condition.Conditions.{Conditions}
+use Rattle.fx_parser.specs.declared.numeral.Numeral.{Numeral}
+use Rattle.fx_parser.specs.Texts.{numeral_value}
+use Rattle.fx_parser.specs.declared.front.State.{State}
+use Rattle.fx_parser.specs.declared.front.Declared.{Declared}
+use Rattle.fx_parser.specs.declared.body.Temp.{Temp}
+use Rattle.fx_parser.specs.declared.body.Body.{Body}
+use Rattle.fx_parser.specs.declared.body.Results.{Results}
+use Rattle.fx_parser.specs.declared.function.Front.{Front}
+use Rattle.fx_parser.specs.declared.function.Draft.{Draft}
+use Rattle.fx_parser.specs.declared.source.Drafts.{Drafts}
+use Rattle.fx_grammar.specs.Sources.{function_names}
+
+abbrev pub lexemes : List Token → Tokens
+lexemes ts = map lexeme_of ts
+
+abbrev pub operand_of : Operand → operands.Operand
+operand_of x = record { tree = option_map tree x.expr; height = x.height; nodes = x.nodes }
+
+abbrev pub known_of : Context → Known
+known_of c = record { names = c.names.now; inputs = c.inputs; states = c.states; end = c.end }
+
+abbrev pub subject_of : Subject → ranges.Subject
+subject_of s = record { name = s.name.now; at = s.at; lo = option_map numeral_value s.lo; hi = option_map numeral_value s.hi; err = option_map numeral_value s.err }
+
+abbrev pub subjects_of : Vec Subject Global → ranges.Subjects
+subjects_of v = map subject_of v.items
+
+-- the set has their names
+abbrev pub IsNamed : Named → Type 0
+IsNamed n = n.names ≡ ranges.names_of (subjects_of n.subjects)
+
+abbrev pub conditions_of : Conditions → ranges.Conditions
+conditions_of c = record { depth = c.depth; wants = c.wants; subjects = subjects_of c.subjects }
+
+abbrev pub inputs_value : Vec Subject Global → List model.Input
+inputs_value v = map ranges.input_of (subjects_of v)
+
+abbrev pub demand_value : Option Numeral → Option Rational
+demand_value d = option_map decimal_value (option_map numeral_value d)
+
+abbrev pub state_value : State → model.State
+state_value s = record { name = s.name.now; start = decimal_value (numeral_value s.start) }
+
+abbrev pub declared_of : Declared → fronts.Declared
+declared_of h = record { names = h.names; states = map state_value h.states.items }
+
+abbrev pub temp_value : Temp → model.Temp
+temp_value t = record { name = t.name.now; tree = tree t.expr }
+
+abbrev pub body_value : Body → bodies.Body
+body_value b = record { names = b.names; inputs = b.inputs; states = b.states; temps = map temp_value b.temps.items; nodes = b.nodes }
+
+-- the names are few: inputs, states and temps keep their limits
+abbrev pub HasRoom : Body → Type 0
+HasRoom b = (length b.names ≤ 96 + length b.temps.items) × (length b.temps.items ≤ 1000)
+
+abbrev pub results_value : Results → bodies.Results
+results_value r = record { trees = map tree r.trees.items; nodes = r.nodes }
+
+abbrev pub front_value : Front → functions.Front
+front_value f = record { name = f.name.now; subjects = subjects_of f.subjects; declared = declared_of f.declared; reals = f.reals }
+
+abbrev pub draft_of : Draft → model.Function
+draft_of f = record {
+  name = f.name.now;
+  inputs = inputs_value f.inputs;
+  states = map state_value f.states.items;
+  temps = map temp_value f.temps.items;
+  results = map tree f.results.items;
+  demands = map demand_value f.demands.items;
+}
+
+-- a function of so many nodes, and the tokens behind it
+abbrev pub bounded : ℕ → ℕ → model.Function → Tokens → Reads model.Function
+bounded word nodes f ts = if nat_lt 4000 nodes then Err (fault word TooMany) else Ok (f, ts)
+
+abbrev pub drafts_of : Drafts → List model.Function
+drafts_of d = map draft_of d.list.items
+
+-- the set has their names
+abbrev pub AreNamed : Drafts → Type 0
+AreNamed d = d.names ≡ function_names (drafts_of d)

@@ -1,0 +1,181 @@
+//! One function, from its name to the brace that closes it and its demands.
+ghost use Rattle.std.specs.Prelude.{◌≡◌, ◌≤◌, ◌<◌, ◌+◌, ◌-◌, ◌^◌, length, map, IfOk, Ok, None, []};
+ghost use Rattle.fx_lexer.specs.Faults.{Gives};
+ghost use Rattle.fx_parser.specs.Texts.{texts};
+ghost use Rattle.fx_parser.specs.Views.{lexemes, subject_of, subjects_of, draft_of, front_value, body_value, results_value, HasRoom, bounded};
+ghost use Rattle.fx_grammar.specs.Steps.{has_name, place_of};
+ghost use Rattle.fx_grammar.specs.Functions.{front_at, body_of, require_word_at, body_at};
+ghost use Rattle.fx_grammar.specs.Bodies.{count_of};
+
+use crate::body::{Body, Results, Temp, outcome, vals};
+use crate::ensuring::{first_place, maybe_ensuring};
+use crate::front::{Declared, State, params, states, type_at};
+use crate::inputs::require;
+use crate::names::{Names, place};
+use crate::numeral::Numeral;
+use crate::steps::{Parsed, behind, past_semicolon, peek, want, wrong};
+use crate::subject::{Named, Subject};
+use fx_expr::Expr;
+use fx_grammar::Head;
+use fx_lexer::{SourceFault, SourceKind, Token};
+use std::alloc::Global;
+
+/// A function of the source.
+#[derive(Drop)]
+pub struct Draft<'a> {
+    pub name: &'a str,
+    pub inputs: Vec<Subject<'a>>,
+    pub states: Vec<State<'a>>,
+    pub temps: Vec<Temp<'a>>,
+    pub results: Vec<Expr>,
+    pub demands: Vec<Option<Numeral<'a>>>,
+}
+
+/// A function up to its brace.
+#[derive(Drop)]
+pub struct Front<'a> {
+    pub name: &'a str,
+    pub subjects: Vec<Subject<'a>>,
+    pub declared: Declared<'a>,
+    pub reals: usize,
+}
+
+/// A function up to its brace, behind its word.
+#[tactic(auto, unfolding(fx_grammar::specs::Functions::front_at))]
+pub fn read_front<'t, 'a>(
+    alloc: Global,
+    end: u32,
+    functions: &Names<'_>,
+    tokens: &'t [Token<'a>],
+) -> Parsed<'t, 'a, Front<'a>>
+    ensures value { Gives (λ x. (front_value x.0, lexemes x.1.now)) result (front_at end functions.now (lexemes tokens.now)) }
+    ensures shorter { IfOk result (λ x. length x.1.now < length tokens.now) }
+    ensures few { IfOk result (λ x. (length x.0.subjects.items ≤ 64) × (length x.0.declared.states.items ≤ 32) × (length x.0.declared.names ≤ 96) × (length x.0.declared.states.items < x.0.reals)) }
+    ensures fresh { IfOk result (λ x. place_of functions.now x.0.name.now ≡ None) }
+{
+    let (token, rest) = want(end, Head::Name, tokens)?;
+    if place(functions, token.text).is_some() {
+        return Err(SourceFault {
+            at: token.at,
+            kind: SourceKind::NamedTwice,
+        });
+    }
+    let (_, rest) = want(end, Head::Open, rest)?;
+    let (named, rest) = params(alloc, end, rest)?;
+    let Named { names, subjects } = named;
+    let (declared, rest) = states(alloc, end, names, rest)?;
+    let (_, rest) = want(end, Head::Colon, rest)?;
+    let (reals, rest) = type_at(end, declared.states.len(), rest)?;
+    let (_, rest) = want(end, Head::Equals, rest)?;
+    let (_, rest) = want(end, Head::OpenBrace, rest)?;
+    let front = Front {
+        name: token.text,
+        subjects,
+        declared,
+        reals,
+    };
+    Ok((front, rest))
+}
+
+/// Behind the word `require`.
+#[tactic(auto, unfolding(fx_grammar::specs::Functions::require_word_at))]
+fn require_word<'t, 'a>(
+    end: u32,
+    subjects: &[Subject<'_>],
+    tokens: &'t [Token<'a>],
+) -> Result<&'t [Token<'a>], SourceFault>
+    ensures value { Gives (λ r. lexemes r.now) result (require_word_at end (map subject_of subjects.now) (lexemes tokens.now)) }
+    ensures shorter { IfOk result (λ r. length r.now ≤ length tokens.now) }
+{
+    let head = peek(tokens);
+    if head == Head::Require {
+        return Ok(behind(tokens));
+    }
+    if head == Head::Unsupported {
+        return Err(wrong(end, tokens));
+    }
+    Err(SourceFault {
+        at: first_place(subjects),
+        kind: SourceKind::NoRange,
+    })
+}
+
+/// What is known behind the `require`, before any `val`.
+fn first_body<'a>(alloc: Global, names: Names<'a>, inputs: usize, states: usize) -> Body<'a>
+    requires { (inputs ≤ 64) × (states ≤ 32) × (length names ≤ 96) }
+    ensures value { body_value result ≡ record { names = names.entry; inputs = inputs; states = states; temps = []; nodes = 0 } }
+    ensures room { HasRoom result }
+    ensures few { (result.inputs ≡ inputs) × (result.states ≡ states) }
+{
+    Body {
+        names,
+        inputs: inputs as u32,
+        states: states as u32,
+        temps: Vec::new(alloc),
+        nodes: 0,
+    }
+}
+
+/// From the `require` on.
+#[tactic(auto, unfolding(fx_grammar::specs::Functions::body_at))]
+pub fn read_body<'t, 'a>(
+    alloc: Global,
+    end: u32,
+    word: u32,
+    front: Front<'a>,
+    tokens: &'t [Token<'a>],
+) -> Parsed<'t, 'a, Draft<'a>>
+    requires tokens { length tokens.now < 2 ^ 32 }
+    requires few { (length front.subjects.items ≤ 64) × (length front.declared.states.items ≤ 32) × (length front.declared.names ≤ 96) × (length front.declared.states.items < front.reals) }
+    ensures value { Gives (λ x. (draft_of x.0, lexemes x.1.now)) result (body_at end word (front_value front.entry) (lexemes tokens.now)) }
+    ensures shorter { IfOk result (λ x. length x.1.now ≤ length tokens.now) }
+    ensures name { IfOk result (λ x. x.0.name.now ≡ front.entry.name.now) }
+{
+    let Front {
+        name,
+        subjects,
+        declared,
+        reals,
+    } = front;
+    let Declared { names, states } = declared;
+    let rest = require_word(end, &subjects, tokens)?;
+    let count = subjects.len();
+    let (inputs, rest) = require(end, subjects, rest)?;
+    let start = first_body(alloc, names, count, states.len());
+    let (known, rest) = vals(alloc, end, start, rest)?;
+    let (results, rest) = outcome(alloc, end, word, reals, &known, rest)?;
+    let (_, rest) = want(end, Head::CloseBrace, past_semicolon(rest))?;
+    let (demands, rest) = maybe_ensuring(alloc, end, reals - states.len(), rest)?;
+    let Results { trees, nodes } = results;
+    let total = count + states.len() + trees.len() + nodes as usize;
+    let Body { temps, .. } = known;
+    let draft = Draft {
+        name,
+        inputs,
+        states,
+        temps,
+        results: trees,
+        demands,
+    };
+    within_nodes(word, total, draft, rest)
+}
+
+/// The function, if it has no more than 4,000 nodes.
+fn within_nodes<'t, 'a>(
+    word: u32,
+    nodes: usize,
+    draft: Draft<'a>,
+    rest: &'t [Token<'a>],
+) -> Parsed<'t, 'a, Draft<'a>>
+    ensures value { Gives (λ x. (draft_of x.0, lexemes x.1.now)) result (bounded word nodes (draft_of draft.entry) (lexemes rest.now)) }
+    ensures shorter { IfOk result (λ x. length x.1.now ≤ length rest.now) }
+    ensures name { IfOk result (λ x. x.0.name.now ≡ draft.entry.name.now) }
+{
+    if nodes > 4000 {
+        return Err(SourceFault {
+            at: word,
+            kind: SourceKind::TooMany,
+        });
+    }
+    Ok((draft, rest))
+}

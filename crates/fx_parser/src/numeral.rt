@@ -1,0 +1,45 @@
+//! Numbers as they stand in the text.
+//!
+//! What is read keeps the digits' slice, and the decimal is read of it where it is used.
+ghost use Rattle.std.specs.Prelude.{◌≡◌};
+ghost use Rattle.fx_grammar.specs.Steps.{decimal, minus};
+ghost use Rattle.fx_parser.specs.Texts.{numeral_value};
+
+use fx_fraction::{Decimal, read_decimal};
+
+/// A number of the text, with or without a minus before it.
+#[derive(Clone, Copy, Debug)]
+pub struct Numeral<'a> {
+    pub is_negative: bool,
+    pub digits: &'a str,
+}
+
+/// The number that a token of the lexer spells.
+#[tactic(auto, unfolding(fx_grammar::specs::Steps::decimal))]
+pub fn decimal(text: &str) -> Decimal
+    ensures { result ≡ decimal text.now }
+{
+    match read_decimal(text.as_bytes()) {
+        Ok(value) => value,
+        Err(_) => Decimal { a: 0, b: 0 },
+    }
+}
+
+/// The negative number.
+pub fn minus(x: Decimal) -> Decimal
+    ensures { result ≡ minus x }
+{
+    Decimal { a: -x.a, b: x.b }
+}
+
+/// The number's value.
+pub fn numeral_value(number: &Numeral<'_>) -> Decimal
+    ensures { result ≡ numeral_value number.now }
+{
+    let value = decimal(number.digits);
+    if number.is_negative {
+        minus(value)
+    } else {
+        value
+    }
+}

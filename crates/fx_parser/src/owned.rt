@@ -1,0 +1,123 @@
+//! The wanted function, with names of its own.
+//!
+//! Only this one is copied out of the text. That it is lawful is no test here: every function that the grammar reads is.
+ghost use Rattle.std.specs.Prelude.{◌≡◌, map, Ok};
+ghost use Rattle.std.specs.List.{All};
+ghost use Rattle.fx_model.specs.Names.{IsName};
+ghost use Rattle.fx_expr.specs.Parts as parts;
+ghost use Rattle.fx_grammar.specs.Ranges.{input_of};
+ghost use Rattle.fx_rational.specs.Decimal.{decimal_value};
+ghost use Rattle.std.specs.Option.{option_map};
+ghost use Rattle.fx_lexer.specs.Faults.{Gives};
+ghost use Rattle.fx_parser.specs.LawfulNames.{IsWhole};
+ghost use Rattle.fx_parser.specs.Views.{subject_of, state_value, temp_value, demand_value, draft_of};
+
+use crate::function::Draft;
+use crate::inputs::or_zero;
+use crate::numeral::{Numeral, numeral_value};
+use crate::subject::Subject;
+use crate::{body, front};
+use fx_expr::{Function, Input, Items, Name, State, Temp};
+use fx_fraction::Decimal;
+use fx_lexer::SourceFault;
+use std::alloc::Global;
+
+fn owned_name(alloc: Global, text: &str) -> Result<Name, SourceFault>
+    requires { IsName text.now }
+    ensures { Gives (λ name. name) result (Ok text.now) }
+{
+    Ok(Name::new(String::from_str(alloc, text)?))
+}
+
+fn owned_inputs(alloc: Global, subjects: &[Subject<'_>]) -> Result<Vec<Input>, SourceFault>
+    requires { All (λ s. IsName s.name.now) subjects.now }
+    ensures { Gives (λ v. map parts.input_of v.items) result (Ok (map input_of (map subject_of subjects.now))) }
+{
+    let mut inputs = Vec::new(alloc);
+    for subject in subjects {
+        inputs.push(Input {
+            name: owned_name(alloc, subject.name)?,
+            lo: or_zero(subject.lo),
+            hi: or_zero(subject.hi),
+            err: or_zero(subject.err),
+        })?;
+    }
+    Ok(inputs)
+}
+
+fn owned_states(alloc: Global, states: &[front::State<'_>]) -> Result<Vec<State>, SourceFault>
+    requires { All (λ s. IsName s.name.now) states.now }
+    ensures { Gives (λ v. map parts.state_of v.items) result (Ok (map state_value states.now)) }
+{
+    let mut owned = Vec::new(alloc);
+    for state in states {
+        owned.push(State {
+            name: owned_name(alloc, state.name)?,
+            start: numeral_value(&state.start),
+        })?;
+    }
+    Ok(owned)
+}
+
+fn owned_temps(alloc: Global, temps: Vec<body::Temp<'_>>) -> Result<Vec<Temp>, SourceFault>
+    requires { All (λ t. IsName t.name.now) temps.items }
+    ensures { Gives (λ v. map parts.temp_of v.items) result (Ok (map temp_value temps.entry.items)) }
+{
+    let mut owned = Vec::new(alloc);
+    for temp in temps {
+        let body::Temp { name, expr } = temp;
+        let name = owned_name(alloc, name)?;
+        owned.push(Temp { name, expr })?;
+    }
+    Ok(owned)
+}
+
+fn demand(numeral: Option<Numeral<'_>>) -> Option<Decimal>
+    ensures { option_map decimal_value result ≡ demand_value numeral.entry }
+{
+    match numeral {
+        Some(numeral) => Some(numeral_value(&numeral)),
+        None => None,
+    }
+}
+
+fn owned_demands(
+    alloc: Global,
+    numerals: &[Option<Numeral<'_>>],
+) -> Result<Vec<Option<Decimal>>, SourceFault>
+    ensures { Gives (λ v. map (option_map decimal_value) v.items) result (Ok (map demand_value numerals.now)) }
+{
+    let mut demands = Vec::new(alloc);
+    for numeral in numerals {
+        demands.push(demand(*numeral))?;
+    }
+    Ok(demands)
+}
+
+/// The function that was read.
+pub fn owned(alloc: Global, draft: Draft<'_>) -> Result<Function, SourceFault>
+    requires { IsWhole (draft_of draft) }
+    ensures { Gives (λ f. f) result (Ok (draft_of draft.entry)) }
+{
+    let Draft {
+        name,
+        inputs,
+        states,
+        temps,
+        results,
+        demands,
+    } = draft;
+    let name = owned_name(alloc, name)?;
+    let inputs = owned_inputs(alloc, &inputs)?;
+    let states = owned_states(alloc, &states)?;
+    let temps = owned_temps(alloc, temps)?;
+    let demands = owned_demands(alloc, &demands)?;
+    Ok(Function {
+        name,
+        inputs: Items::from_vec(inputs),
+        states: Items::from_vec(states),
+        temps: Items::from_vec(temps),
+        results: Items::from_vec(results),
+        demands: Items::from_vec(demands),
+    })
+}

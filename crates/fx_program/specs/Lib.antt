@@ -1,0 +1,9 @@
+pub mod CodeView
+pub mod ProgramView
+pub mod CodeReading
+pub mod ProgramReading
+pub mod Laws
+pub mod Points
+pub mod SizesView
+pub mod PartsView
+pub mod HeadText

@@ -1,0 +1,30 @@
+-- The points of codes, as readers hand them on.
+use Rattle.std.specs.Prelude.{◌≡◌, ℕ, ℤ, pos, negsuc, ◌+◌, ◌<◌, ◌≤◌, List, [], ◌∷◌, length, All}
+use Rattle.fx_model.specs.Machine.{Code, Neg, Add, Sub, Mul, Div, Copy, point_of}
+use Rattle.fx_text.specs.Reading.{IsWithin}
+use Rattle.fx_model.specs.LawfulProgram.{IsPoint}
+
+-- a code behind codes with the points ps has this point
+pub record HasPoint (ps : List ℤ) (c : Code) (f : ℤ) : Type 0 where
+  pub is : f ≡ point_of c ps
+  pub point : IsPoint f
+
+-- the points of at most 4000 codes
+pub record ArePoints (ps : List ℤ) : Type 0 where
+  pub few : length ps < 4000
+  pub points : All IsPoint ps
+
+-- the operands that a code's point is made of come before code n, and the shift is small
+abbrev pub IsNear : ℕ → Code → Type 0
+IsNear n (Neg a) = a < n
+IsNear n (Add a b sa sb) = (a < n) × IsWithin (negsuc 63) (pos 64) sa
+IsNear n (Sub a b sa sb) = (a < n) × IsWithin (negsuc 63) (pos 64) sa
+IsNear n (Mul a b s) = (a < n) × (b < n) × (s ≤ 126)
+IsNear n (Div a b s) = (a < n) × (b < n) × (s ≤ 64)
+IsNear n (Copy a s) = (a < n) × IsWithin (negsuc 63) (pos 64) s
+IsNear n c = Unit {0}
+
+-- so is each of these codes, of which the first is code n
+abbrev pub AreNear : ℕ → List Code → Type 0
+AreNear n [] = Unit {0}
+AreNear n (c ∷ cs) = IsNear n c × AreNear (n + 1) cs

@@ -1,0 +1,10 @@
+pub mod Leaves
+pub mod Runs
+pub mod Fronts
+pub mod Conditions
+pub mod Expressions
+pub mod Bodies
+pub mod Ensuring
+pub mod Functions
+pub mod Sources
+pub mod Laws
