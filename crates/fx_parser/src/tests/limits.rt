@@ -1,7 +1,6 @@
 //! Texts at the limits and one past them. They are built by loops, since they are long.
 
 use super::shown;
-use std::alloc::Global;
 use std::test::Fail;
 
 /// What stands before the body of one result: 40 bytes.
