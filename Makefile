@@ -2,7 +2,7 @@
 .PHONY: run test
 
 PROGRAM := build/fixd
-SOURCES := $(shell git ls-files crates/fx_cli crates/fx_checker crates.txt)
+SOURCES := $(shell git ls-files crates crates.txt)
 
 # proves the program, builds it, and runs the first example
 run: $(PROGRAM)

@@ -1,35 +1,15 @@
--- An accepted first bundle as the code keeps it, seen as its bundle and the words of its codes.
-use Rattle.std.specs.Prelude.{map}
-use Rattle.std.specs.String.{string_bytes}
+-- What contracts see of an accepted first bundle, and what each one meets.
+use Rattle.std.specs.Prelude.{◌≡◌}
+use Rattle.fx_inequalities.specs.Rewriting.{no_rewriting}
+use Rattle.fx_sound.specs.Soundness.{IsCertified}
 use Rattle.fx_checker.specs.declared.first.First.TheInside.{Inside}
-use Rattle.fx_checker.specs.FirstBundle.{FirstBundle, IsFirstBundle}
-use Rattle.fx_checker.specs.PartViews.{line_view}
-use Rattle.fx_checker.specs.Verdict.{FirstState, IsAcceptedFirst}
+use Rattle.fx_cert.specs.PartViews.{certificate_of}
+use Rattle.fx_checker.specs.Verdict.{Accepted}
 
--- the bundle whose parts are kept
-abbrev pub kept_bundle : Inside → FirstBundle
-kept_bundle f = record {
-  name = f.name.items;
-  input = string_bytes f.input;
-  lo = f.lo.items;
-  hi = f.hi.items;
-  addend = f.addend.items;
-  program_name = f.program_name.items;
-  point = f.operands.point;
-  word = f.operands.word;
-  word_point = f.operands.word_point;
-  shift_a = f.shifts.shift_a;
-  shift_b = f.shifts.shift_b;
-  copy_shift = f.shifts.copy_shift;
-  certified_inputs = f.certificate.inputs;
-  lines = map line_view f.certificate.lines.items;
-}
+abbrev pub accepted_of : Inside → Accepted
+accepted_of f = record { function = f.function; program = f.program; certificate = certificate_of f.certificate }
 
--- with the words of the last step
-abbrev pub first_view : Inside → FirstState
-first_view f = record { bundle = kept_bundle f; words = f.words }
-
--- a first bundle that is accepted
+-- what the soundness theorem asks, without states
 pub record IsKept (f : Inside) : Type 0 where
-  pub lawful : IsFirstBundle (kept_bundle f)
-  pub accepted : IsAcceptedFirst (kept_bundle f)
+  pub certified : IsCertified no_rewriting f.function f.program (certificate_of f.certificate)
+  pub stateless : f.program.states ≡ 0

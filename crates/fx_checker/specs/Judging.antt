@@ -1,18 +1,16 @@
--- Comparisons that fit and are true, and the dyadics and intervals that formulas come to.
-use Rattle.std.specs.Prelude.{Bool, ◌&&◌, List, Option, SomeIff, IsTrue}
+-- What the comparisons of a condition come to, and the dyadics and intervals that formulas come to.
+use Rattle.std.specs.Prelude.{◌&&◌, if◌then◌else◌, List, Option, SomeIff, IsTrue}
 use Rattle.std.specs.List.{list_all}
 use Rattle.fx_rational.specs.Dyadic.{Dyadic, fits_128}
 use Rattle.fx_rational.specs.Interval.{Interval}
 use Rattle.fx_inequalities.specs.Formula.{Formula, Span, formed, formula_fits}
 use Rattle.fx_inequalities.specs.Claim.{Claim, fits, holds}
+use Rattle.fx_checker.specs.declared.judgement.Judgement.{Judgement}
+use Rattle.fx_checker.specs.declared.judgement.Judgement.TheVariants.{Holds, Fails, Beyond}
 
--- a comparison fits in 128 bits and is true
-abbrev pub is_met : Claim → Bool
-is_met c = fits c && holds c
-
--- all of them
-abbrev pub are_met : List Claim → Bool
-are_met cs = list_all is_met cs
+-- Beyond where one of them doesn't fit in 128 bits, whatever the others say
+abbrev pub judged : List Claim → Judgement
+judged cs = if list_all fits cs then (if list_all holds cs then Holds else Fails) else Beyond
 
 -- the dyadic that a formula comes to, exactly where every mantissa of it fits
 abbrev pub Forms : Option Dyadic → Formula → Type 0

@@ -1,10 +1,6 @@
-pub mod FirstBundle
 pub mod Verdict
-pub mod NodeLines
-pub mod Reading
 pub mod Judging
-pub mod Checks
-pub mod Views
-pub mod PartViews
-pub mod StepWords
+pub mod FaultView
+pub mod FirstNodes
+pub mod Demands
 pub mod FirstView

@@ -1,44 +1,45 @@
--- What a checker says of a first bundle, and what a first bundle is that it accepted.
-use Rattle.std.specs.Prelude.{◌≡◌, ℕ, ℤ, pos, List, [], ◌∷◌, IsSome, Option}
-use Rattle.fx_inequalities.specs.Condition.{Fault}
+-- What a checker says of a first bundle.
+use Rattle.std.specs.Prelude.{◌≡◌, ℕ, List, Some, IsSome, Result, Ok, Err}
+use Rattle.fx_model.specs.Function.{Function}
+use Rattle.fx_model.specs.Machine.{Program}
+use Rattle.fx_inequalities.specs.Certificate.{Certificate}
 use Rattle.fx_inequalities.specs.Rewriting.{no_rewriting}
 use Rattle.fx_inequalities.specs.Accepted.{first_fault, IsAccepted}
-use Rattle.fx_sound.specs.Soundness.{IsCertified}
-use Rattle.fx_checker.specs.FirstBundle.{FirstBundle, IsFirstBundle, Spells, first_function, first_program, first_certificate}
+use Rattle.fx_lexer.specs.declared.fault.SourceFault.{SourceFault}
+use Rattle.fx_grammar.specs.Sources.{parsed}
+use Rattle.fx_cert.specs.FirstBundle.{FirstBundle, Spells}
 
--- the first condition that fails, if one does
-abbrev pub fault_of : FirstBundle → Option Fault
-fault_of b = first_fault no_rewriting (first_function b) (first_program b) (first_certificate b)
+-- the function of the program's name in the source, or the source's first fault
+abbrev pub meaning_of : FirstBundle → Result Function SourceFault
+meaning_of b = parsed b.source (Some b.program.name)
 
--- all conditions hold
-abbrev pub IsAcceptedFirst : FirstBundle → Type 0
-IsAcceptedFirst b = IsAccepted no_rewriting (first_function b) (first_program b) (first_certificate b)
+-- all conditions hold of this bundle, whose source means this function
+pub record IsAcceptedAs (b : FirstBundle) (fn : Function) : Type 0 where
+  pub meant : meaning_of b ≡ Ok fn
+  pub accepted : IsAccepted no_rewriting fn b.program b.certificate
 
--- an accepted first bundle, and the words of its codes: those of the last step, or zeros
-pub record FirstState : Type 0 where
+-- what is kept of an accepted bundle
+pub record Accepted : Type 0 where
+  pub function : Function
+  pub program : Program
+  pub certificate : Certificate
+
+-- the text is that of an accepted bundle of these parts
+pub record IsRead (text : List ℕ) (a : Accepted) : Type 0 where
+  pub source : List ℕ
+  pub spelled : Spells text (record { source = source; program = a.program; certificate = a.certificate })
+  pub accepted : IsAcceptedAs (record { source = source; program = a.program; certificate = a.certificate }) a.function
+
+-- the text is that of a first bundle whose source has this fault
+pub record IsMisread (text : List ℕ) (fault : SourceFault) : Type 0 where
   pub bundle : FirstBundle
-  pub words : List ℤ
-
--- before the first step
-abbrev pub no_words : List ℤ
-no_words = pos 0 ∷ pos 0 ∷ pos 0 ∷ pos 0 ∷ []
-
--- what the text gives where it is accepted
-pub record IsRead (text : List ℕ) (s : FirstState) : Type 0 where
-  pub spelled : Spells text s.bundle
-  pub accepted : IsAcceptedFirst s.bundle
-  pub words : s.words ≡ no_words
+  pub spelled : Spells text bundle
+  pub misread : meaning_of bundle ≡ Err fault
 
 -- the text is that of a first bundle of which a condition fails
 pub record IsRefused (text : List ℕ) : Type 0 where
   pub bundle : FirstBundle
+  pub function : Function
   pub spelled : Spells text bundle
-  pub refused : IsSome (fault_of bundle)
-
--- a text has at most one first bundle
-abbrev pub OneBundleLaw : Type 0
-OneBundleLaw = (text : List ℕ) (a b : FirstBundle) → Spells text a → Spells text b → a ≡ b
-
--- what the soundness theorem asks of an accepted first bundle
-abbrev pub CertifiedLaw : Type 0
-CertifiedLaw = (b : FirstBundle) → IsFirstBundle b → IsAcceptedFirst b → IsCertified no_rewriting (first_function b) (first_program b) (first_certificate b)
+  pub meant : meaning_of bundle ≡ Ok function
+  pub refused : IsSome (first_fault no_rewriting function bundle.program bundle.certificate)

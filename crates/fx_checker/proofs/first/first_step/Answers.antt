@@ -1,38 +1,36 @@
-use Rattle.std.proofs.Common.{◌≡◌, List, [], map, Some, ℤ, sym, ap, subst, ◌∙◌}
+use Rattle.std.proofs.Common.{map, sym, ◌∙◌, arith}
+use Rattle.std.proofs.lemmas.List.{length-map}
 use Rattle.fx_rational.specs.Decimal.{decimal_value}
-use Rattle.fx_model.specs.Rows.{IsInRange, IsTrueOf}
-use Rattle.fx_model.specs.Machine.{words_of}
-use Rattle.fx_sound.specs.Soundness.{StepIsNear}
-use Rattle.fx_checker.specs.FirstBundle.{FirstBundle, first_function, first_program, first_certificate}
-use Rattle.fx_checker.specs.FirstView.{kept_bundle}
-use Rattle.fx_checker.specs.Verdict.{FirstState}
-use Rattle.fx_checker.proofs.Spellings.{program_parts_are}
-use Rattle.fx_checker.proofs.Certified.{near_step, step_is}
+use Rattle.fx_checker.proofs.Steps.{inputs_are, near_step, no_states, row_length, step_runs}
 use Rattle.fx_checker.proofs.first.first_step.Goals as goal
 
-pub step_words-first-inside-requires-clause-point : goal.step_words-first-inside-requires-clause-point
-step_words-first-inside-requires-clause-point c = (program_parts_are (kept_bundle c.first.inside) c.first.invariant.lawful).operands.point.1
+pub step-requires : goal.step-requires
+step-requires g c =
+    let fn = c.args.first.now.function in let p = c.args.first.now.program in let cert = c.args.first.now.certificate in
+    let row = map decimal_value c.args.row.now in
+    let inputs = rw c.function.ensures at c.lawful.ensures.inputs in
+    let count = sym (length-map c.args.row.now decimal_value) ∙ row_length fn.inputs row c.requires.in_range ∙ sym (inputs_are fn p cert c.certified.ensures.certified) in
+    rw (c.program.ensures, c.requires.states) (
+      omega arith,
+      (
+        c.requires.width,
+        (
+          c.requires.words,
+          (
+            sym c.certified.ensures.stateless,
+            (
+              count,
+              step_runs fn p cert c.certified.ensures.certified c.certified.ensures.stateless inputs row c.requires.in_range,
+            ),
+          ),
+        ),
+      ),
+    )
 
-pub step_words-first-inside-requires-clause-words : goal.step_words-first-inside-requires-clause-words
-step_words-first-inside-requires-clause-words c =
-    let b = kept_bundle c.first.inside in
-    let same = ap (λ (s : FirstState). s.bundle) c.first.view_is in
-    let in_range = subst (λ (x : FirstBundle). IsInRange (first_function x).inputs (map decimal_value c.args.row.now)) (sym same) c.requires in
-    (step_is b c.first.invariant.lawful c.first.invariant.accepted c.args.row.now c.index-row-0.result in_range c.index-row-0.is).fit
-
-pub returns-clause-words : goal.returns-clause-words
-returns-clause-words c =
-    let b = kept_bundle c.first.inside in
-    let same = ap (λ (s : FirstState). s.bundle) c.first.view_is in
-    let g = map decimal_value c.args.row.now in
-    let in_range = subst (λ (x : FirstBundle). IsInRange (first_function x).inputs g) (sym same) c.requires in
-    let step = step_is b c.first.invariant.lawful c.first.invariant.accepted c.args.row.now c.index-row-0.result in_range c.index-row-0.is in
-    subst (λ (x : FirstBundle). words_of (first_program x) g [] ≡ Some c.step_words-first-inside.result) same (step.made ∙ ap (λ (ws : List ℤ). Some ws) (sym c.step_words-first-inside.ensures))
+pub returns-clause-states : goal.returns-clause-states
+returns-clause-states g c =
+    c.step.ensures.states ∙ no_states c.program.result.now c.step.new.registers.words (rw c.program.ensures c.certified.ensures.stateless)
 
 pub returns-clause-near : goal.returns-clause-near
-returns-clause-near c = λ t true_row.
-    let b = kept_bundle c.first.inside in
-    let same = ap (λ (s : FirstState). s.bundle) c.first.view_is in
-    let g = map decimal_value c.args.row.now in
-    let true_of = subst (λ (x : FirstBundle). IsTrueOf (first_function x).inputs g t) (sym same) true_row in
-    subst (λ (x : FirstBundle). StepIsNear (first_function x) (first_program x) (first_certificate x) g t [] []) same (near_step b c.first.invariant.lawful c.first.invariant.accepted g t true_of)
+returns-clause-near g c = λ t true_of.
+    near_step c.args.first.now.function c.args.first.now.program c.args.first.now.certificate c.certified.ensures.certified c.certified.ensures.stateless (map decimal_value c.args.row.now) t true_of
