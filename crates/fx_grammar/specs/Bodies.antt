@@ -18,6 +18,7 @@ pub record Body : Type 0 where
   pub temps : List Temp
   pub nodes : ℕ
 
+-- what an expression of this body may use
 abbrev pub known_of : ℕ → Body → Known
 known_of end b = record { names = b.names; inputs = b.inputs; states = b.states; end = end }
 
@@ -34,6 +35,7 @@ whole_at end b ts = expr_at (known_of end b) true 200 ts >>= λ x.
 unfoldable pub typed_at : ℕ → Tokens → Result Tokens SourceFault
 typed_at end ts = if next_head ts ==ₕ heads.Colon then (real_at end (drop 1 ts) >>= λ r. Ok r.1) else Ok ts
 
+-- the body with one more temp of this name, for the vals behind it
 abbrev pub with_temp : Body → Text → Operand → Body
 with_temp b name x = record b { names = b.names ++ name ∷ []; temps = b.temps ++ record { name = name; tree = tree_or x.tree } ∷ []; nodes = counted_nodes (b.nodes + x.nodes) }
 
@@ -66,6 +68,7 @@ single_high end word first b nodes ts = if (next_head ts ==ₕ heads.CloseBrace)
     then fault word kinds.TooMany
     else too_high end first ts
 
+-- the one result of a type of one Real
 unfoldable pub single_at : ℕ → ℕ → Body → Tokens → Reads Results
 single_at end word b ts = expr_at (known_of end b) true 200 ts >>= λ x.
     if is_high x.0
@@ -79,11 +82,13 @@ element_at end first reals b r ts = expr_at (known_of end b) false 200 ts >>= λ
     then Err (if (next_head x.1 ==ₕ heads.Close) && not (length r.trees + 1 == reals) then fault first kinds.WrongArity else too_high end (place_at end ts) x.1)
     else Ok (record { trees = r.trees ++ tree_or x.0.tree ∷ []; nodes = counted_nodes (r.nodes + x.0.nodes) }, x.1)
 
+-- "(" expr { "," expr } ")", as many as the type has Real
 unfoldable pub tuple_at : ℕ → ℕ → Body → Tokens → Reads Results
 tuple_at end reals b ts = do
   o ← want end heads.Open ts
   r ← listed (element_at end o.0.at reals b) end (record { trees = []; nodes = b.nodes }) o.1
   if length r.0.trees == reals then Ok r else Err (fault o.0.at kinds.WrongArity)
 
+-- result = expr | "(" expr "," expr { "," expr } ")", as the type asks
 unfoldable pub result_at : ℕ → ℕ → ℕ → Body → Tokens → Reads Results
 result_at end word reals b ts = if nat_lt reals 2 then single_at end word b ts else tuple_at end reals b ts

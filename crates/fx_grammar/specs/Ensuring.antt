@@ -14,6 +14,7 @@ use Rattle.fx_grammar.specs.Ranges.{Subjects, new_subject, names_of, subject_at,
 abbrev pub past_minus : Tokens → Tokens
 past_minus ts = if next_head ts ==ₕ heads.Minus then drop 1 ts else ts
 
+-- the fault of what doesn't begin with a name: a relation after a number isn't built, whatever else can't come
 abbrev pub no_demand : ℕ → Tokens → SourceFault
 no_demand end ts = if is_signed ts then (if is_relation (next_head (drop 1 (past_minus ts))) then fault (place_at end ts) kinds.Unsupported else wrong end ts) else wrong end ts
 
@@ -26,15 +27,18 @@ demand_at end subjects ts = if next_head ts ==ₕ heads.Name
       if next_head t.1 ==ₕ heads.PlusMinus then error_at end subjects t.0 k (drop 1 t.1) else Err (if is_relation (next_head t.1) then fault t.0.at kinds.Unsupported else wrong end t.1))
     else Err (no_demand end ts)
 
+-- an output's name behind those that were read, which has to be new
 unfoldable pub output_at : ℕ → Subjects → Tokens → Reads Subjects
 output_at end subjects ts = do
   t ← want end heads.Name ts
   if has_name (names_of subjects) t.0.text then Err (fault t.0.at kinds.NamedTwice) else Ok (subjects ++ new_subject t.0 ∷ [], t.1)
 
+-- where the first name stands
 abbrev pub first_place : Subjects → ℕ
 first_place [] = 0
 first_place (s ∷ subjects) = s.at
 
+-- as many names as there are outputs
 abbrev pub counted : ℕ → Subjects × Tokens → Reads Subjects
 counted outputs x = if length x.0 == outputs then Ok x else Err (fault (first_place x.0) kinds.WrongArity)
 
@@ -54,5 +58,6 @@ ensuring_at end outputs ts = do
   c ← want end heads.Close subjects.1
   Ok (map (λ s. option_map decimal_value s.err) subjects.0, c.1)
 
+-- [ ensuring ]: without it each output is free
 unfoldable pub maybe_ensuring_at : ℕ → ℕ → Tokens → Reads (List (Option Rational))
 maybe_ensuring_at end outputs ts = if next_head ts ==ₕ heads.Ensuring then ensuring_at end outputs (drop 1 ts) else Ok (replicate outputs None, ts)

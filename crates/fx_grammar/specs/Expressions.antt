@@ -22,6 +22,7 @@ pub record Known : Type 0 where
 abbrev pub literal : Decimal → Operand
 literal d = leaf (Literal (lowest (decimal_value d))) 1
 
+-- what reads an operand from the tokens that are left
 abbrev pub Reader : Type 0
 Reader = Tokens → Reads Operand
 
@@ -34,10 +35,12 @@ meant known p = if nat_lt p known.inputs then Input p else (
 abbrev pub is_call : Tokens → Bool
 is_call ts = (next_head ts ==ₕ heads.Open) && not (is_fresh ts)
 
+-- a use of the name at this place, or the fault that nothing has the name
 abbrev pub found : Known → Lexeme → Option ℕ → Reader
 found known t None ts = Err (fault t.at kinds.UnknownName)
 found known t (Some p) ts = Ok (leaf (meant known p) 0, ts)
 
+-- a name, which is no call
 abbrev pub named : Known → Lexeme → Reader
 named known t ts = if is_call ts then Err (fault t.at kinds.Unsupported) else found known t (place_of known.names t.text) ts
 
@@ -54,6 +57,7 @@ opened known (Some expr) t ts = do
   x ← expr ts
   closed known x.0 x.1
 
+-- an atom that begins with t, by what t is
 abbrev pub atom_by : Known → Option Reader → Lexeme → Tokens → Head → Reads Operand
 atom_by known inner t ts heads.Number = Ok (literal (decimal t.text), ts)
 atom_by known inner t ts heads.Name = named known t ts
@@ -79,6 +83,7 @@ factor_of known inner ts = when (next_head ts ==ₕ heads.Minus) (λ _. negated 
 abbrev pub one_more : Reader → Operand → Reader
 one_more operand left ts = operand (drop 1 ts) >>= λ x. Ok (joined (next_head ts) left x.0, x.1)
 
+-- a product or a quotient goes on
 abbrev pub goes_on_product : Operand → Tokens → Bool
 goes_on_product left ts = (next_head ts ==ₕ heads.Star) || (next_head ts ==ₕ heads.Slash)
 

@@ -45,6 +45,7 @@ one_real end first states n ts = do
   r ← real_at end ts
   if nat_lt (states + 64) (n + 1) then Err (fault first kinds.TooMany) else Ok (n + 1, r.1)
 
+-- a type has more Real than there are states
 abbrev pub more_than : ℕ → ℕ → ℕ × Tokens → Reads ℕ
 more_than first states x = if nat_le x.0 states then Err (fault first kinds.WrongArity) else Ok x
 

@@ -18,9 +18,11 @@ require_word_at end subjects ts =
     if next_head ts ==ₕ heads.Require then Ok (drop 1 ts) else (
     if next_head ts ==ₕ heads.Unsupported then Err (wrong end ts) else Err (fault (first_place subjects) kinds.NoRange))
 
+-- a function has a name that none before it has
 abbrev pub new_name : List Text → Lexeme → Result (Unit {0}) SourceFault
 new_name names t = if has_name names t.text then Err (fault t.at kinds.NamedTwice) else Ok tt
 
+-- what stands before the brace: the name, the parameters, the states and how many Real the type has
 pub record Front : Type 0 where
   pub name : Text
   pub subjects : Subjects
@@ -41,9 +43,11 @@ front_at end functions ts = do
   b ← want end heads.OpenBrace e.1
   Ok (record { name = t.0.text; subjects = subjects.0; declared = declared.0; reals = reals.0 }, b.1)
 
+-- the body behind the brace, with no temps yet
 abbrev pub body_of : Front → Body
 body_of f = record { names = f.declared.names; inputs = length f.subjects; states = length f.declared.states; temps = []; nodes = 0 }
 
+-- the function, if it has no more than 4,000 nodes; else the fault at its word
 abbrev pub within_nodes : ℕ → Body → Results → Function → Tokens → Reads Function
 within_nodes word b r f ts = if nat_lt 4000 (count_of b (length r.trees) r.nodes) then Err (fault word kinds.TooMany) else Ok (f, ts)
 
@@ -58,6 +62,7 @@ body_at end word f ts = do
   demands ← maybe_ensuring_at end (f.reals - length f.declared.states) c.1
   within_nodes word b.0 results.0 (record { name = f.name; inputs = inputs.0; states = f.declared.states; temps = b.0.temps; results = results.0.trees; demands = demands.0 }) demands.1
 
+-- def, behind the word, which stands at word
 unfoldable pub def_at : ℕ → ℕ → List Text → Tokens → Reads Function
 def_at end word functions ts = do
   f ← front_at end functions ts

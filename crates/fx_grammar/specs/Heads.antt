@@ -45,6 +45,7 @@ word_of text =
     if bytes_eq text (codes "require") then Require else (
     if bytes_eq text (codes "ensuring") then Ensuring else Unsupported)))))
 
+-- what the grammar sees of a text of this kind
 abbrev pub by_kind : TokenKind → List ℕ → Head
 by_kind kinds.Name text = Name
 by_kind kinds.Number text = Number

@@ -12,6 +12,7 @@ pub record Operand : Type 0 where
   pub height : ℕ
   pub nodes : ℕ
 
+-- a tree of height 1 with so many nodes
 abbrev pub leaf : Tree → ℕ → Operand
 leaf x nodes = record { tree = Some x; height = 1; nodes = nodes }
 
@@ -23,10 +24,12 @@ counted_nodes n = min 4001 n
 abbrev pub kept : ℕ → Option Tree → Option Tree
 kept height x = if nat_le height 200 then x else None
 
+-- the negation of a tree that is there
 abbrev pub negation_of : Option Tree → Option Tree
 negation_of None = None
 negation_of (Some x) = Some (Negation x)
 
+-- the negation of an operand, one higher, of one node more
 abbrev pub negation : Operand → Operand
 negation a = let h = min 201 (1 + a.height) in record { tree = kept h (negation_of a.tree); height = h; nodes = counted_nodes (1 + a.nodes) }
 
@@ -37,14 +40,17 @@ operation heads.Minus x y = Difference x y
 operation heads.Star x y = Product x y
 operation _ x y = Quotient x y
 
+-- the operation of two trees that are there
 abbrev pub both : Head → Option Tree → Option Tree → Option Tree
 both sign None y = None
 both sign (Some x) None = None
 both sign (Some x) (Some y) = Some (operation sign x y)
 
+-- the operation of two operands, higher than both by one, of one node more
 abbrev pub joined : Head → Operand → Operand → Operand
 joined sign a b = let h = min 201 (1 + max a.height b.height) in record { tree = kept h (both sign a.tree b.tree); height = h; nodes = counted_nodes (1 + a.nodes + b.nodes) }
 
+-- the tree is higher than 200
 abbrev pub is_high : Operand → Bool
 is_high a = a.height == 201
 

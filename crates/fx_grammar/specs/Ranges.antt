@@ -21,24 +21,30 @@ pub record Subject : Type 0 where
   pub hi : Option Decimal
   pub err : Option Decimal
 
+-- the inputs or the outputs in their order
 abbrev pub Subjects : Type 0
 Subjects = List Subject
 
+-- an input or an output of which nothing is said yet
 abbrev pub new_subject : Lexeme → Subject
 new_subject t = record { name = t.text; at = t.at; lo = None; hi = None; err = None }
 
+-- their names in order
 abbrev pub names_of : Subjects → List Text
 names_of subjects = map (λ s. s.name) subjects
 
+-- this is said
 abbrev pub is_given : Option Decimal → Bool
 is_given None = false
 is_given (Some d) = true
 
+-- what is said of this side
 abbrev pub side_of : Side → Subject → Option Decimal
 side_of Low s = s.lo
 side_of High s = s.hi
 side_of Error s = s.err
 
+-- with this said
 abbrev pub with_side : Side → Decimal → Subject → Subject
 with_side Low d s = record s { lo = Some d }
 with_side High d s = record s { hi = Some d }
@@ -48,12 +54,15 @@ with_side Error d s = record s { err = Some d }
 abbrev pub said_at : Side → Decimal → Lexeme → Subjects → ℕ → Subject → Result Subjects SourceFault
 said_at side d t subjects k s = if is_given (side_of side s) then Err (fault t.at kinds.NamedTwice) else Ok (slice_set subjects k (with_side side d s))
 
+-- the subject at a place that is there
 abbrev pub subject_or : Subjects → ℕ → Subject
 subject_or subjects k = slice_index_or subjects k (record { name = []; at = 0; lo = None; hi = None; err = None })
 
+-- the subject at this place learns one thing, or it is said twice
 unfoldable pub said : Side → Decimal → Lexeme → Subjects → ℕ → Result Subjects SourceFault
 said side d t subjects k = said_at side d t subjects k (subject_or subjects k)
 
+-- the place that was found, or the fault at the name
 abbrev pub found_or : Lexeme → Option ℕ → Result ℕ SourceFault
 found_or t None = Err (fault t.at kinds.UnknownName)
 found_or t (Some k) = Ok k
@@ -62,9 +71,11 @@ found_or t (Some k) = Ok k
 unfoldable pub subject_at : Subjects → Lexeme → Result ℕ SourceFault
 subject_at subjects t = found_or t (place_of (names_of subjects) t.text)
 
+-- rel = "<" | "<=" | ">" | ">="
 abbrev pub is_relation : Head → Bool
 is_relation h = (h ==ₕ heads.Below) || ((h ==ₕ heads.AtMost) || ((h ==ₕ heads.Above) || (h ==ₕ heads.AtLeast)))
 
+-- the relation says that its left side is the smaller one
 abbrev pub is_upward : Head → Bool
 is_upward h = (h ==ₕ heads.Below) || (h ==ₕ heads.AtMost)
 
@@ -103,6 +114,7 @@ behind_relation end first subjects d side ts = if is_signed ts then Err (fault f
   s ← said side d t.0 subjects k
   Ok (s, t.1))
 
+-- a condition that begins with a number
 unfoldable pub number_first : ℕ → Subjects → Tokens → Reads Subjects
 number_first end subjects ts = do
   d ← signed_at end ts
@@ -119,15 +131,18 @@ pub record Conditions : Type 0 where
   pub wants : Bool
   pub subjects : Subjects
 
+-- a parenthesis is still open
 abbrev pub are_open : Conditions → Tokens → Bool
 are_open c ts = not (c.depth == 0)
 
+-- where a condition is due: one more parenthesis, or the condition
 abbrev pub wanted_at : ℕ → Conditions → Tokens → Reads Conditions
 wanted_at end c [] = Err (fault end kinds.EndOfText)
 wanted_at end c (t ∷ ts) = if head_of t ==ₕ heads.Open
     then Ok (record c { depth = c.depth + 1 }, ts)
     else (condition_at end c.subjects (t ∷ ts) >>= λ x. Ok (record { depth = c.depth; wants = false; subjects = x.0 }, x.1))
 
+-- behind a condition: a parenthesis that closes, or && and another condition is due
 abbrev pub read_at : ℕ → Conditions → Tokens → Reads Conditions
 read_at end c [] = Err (fault end kinds.EndOfText)
 read_at end c (t ∷ ts) =
@@ -149,9 +164,11 @@ abbrev pub or_zero : Option Decimal → Decimal
 or_zero None = record { a = pos 0; b = 0 }
 or_zero (Some d) = d
 
+-- the input with its range and its error, which is zero where none is given
 abbrev pub input_of : Subject → Input
 input_of s = record { name = s.name; lo = decimal_value (or_zero s.lo); hi = decimal_value (or_zero s.hi); err = decimal_value (or_zero s.err) }
 
+-- the lower or the upper end is not given
 abbrev pub is_lacking : Subject → Bool
 is_lacking s = not (is_given s.lo && is_given s.hi)
 
@@ -164,6 +181,7 @@ unfoldable pub all_pass : (Subject → Bool) → (ℕ → SourceFault) → Subje
 all_pass fails faulty [] = Ok tt
 all_pass fails faulty (s ∷ subjects) = when (fails s) (λ _. Err (faulty s.at)) (λ _. all_pass fails faulty subjects)
 
+-- the inputs, if each has both ends, and then if no range is empty
 unfoldable pub inputs_at : Subjects → Result (List Input) SourceFault
 inputs_at subjects = do
   _ ← all_pass is_lacking (λ at. fault at kinds.NoRange) subjects

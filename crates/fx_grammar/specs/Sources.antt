@@ -26,6 +26,7 @@ imports_at end ts = many (at heads.Import) (behind (import_at end)) tt ts
 
 -- ---- functions
 
+-- the names of functions
 abbrev pub function_names : List Function → List Text
 function_names fs = map (λ f. f.name) fs
 
@@ -37,6 +38,7 @@ one_def end fs ts = def_at end (place_at end ts) (function_names fs) (drop 1 ts)
 unfoldable pub defs_at : ℕ → Tokens → Reads (List Function)
 defs_at end ts = many (at heads.Def) (one_def end) [] ts
 
+-- nothing stands behind the source
 abbrev pub ended : ℕ → List Function → Tokens → Result (List Function) SourceFault
 ended end fs [] = Ok fs
 ended end fs (t ∷ ts) = Err (wrong end (t ∷ ts))
@@ -63,6 +65,7 @@ abbrev pub called : Option Function → Result Function SourceFault
 called None = Err (fault 0 kinds.NoSuchFunction)
 called (Some f) = Ok f
 
+-- the function of the wanted name; with no name the only one
 unfoldable pub chosen : Option Text → List Function → Result Function SourceFault
 chosen None [] = Err (fault 0 kinds.NoSuchFunction)
 chosen None (f ∷ []) = Ok f

@@ -14,6 +14,7 @@ use Rattle.fx_grammar.specs.declared.head.Head.{Head}
 use Rattle.fx_grammar.specs.declared.head.Head.TheVariants as heads
 use Rattle.fx_grammar.specs.Heads.{head_of, ◌==ₕ◌}
 
+-- a step and then the next one, unless the first has a fault
 infixl 10 ◌>>=◌
 abbrev pub ◌>>=◌ : {A B E : Type 0} → Result A E → (A → Result B E) → Result B E
 (Ok x) >>= f = f x
@@ -23,15 +24,19 @@ abbrev pub ◌>>=◌ : {A B E : Type 0} → Result A E → (A → Result B E) �
 abbrev pub when : {A : Type 0} → Bool → (Unit {0} → A) → (Unit {0} → A) → A
 when b f g = (if b then f else g) tt
 
+-- a text is its bytes
 abbrev pub Text : Type 0
 Text = List ℕ
 
+-- the tokens that are left
 abbrev pub Tokens : Type 0
 Tokens = List Lexeme
 
+-- a value and the tokens behind it, or the first fault
 abbrev pub Reads : Type 0 → Type 0
 Reads A = Result (A × Tokens) SourceFault
 
+-- the fault of this kind at this place
 abbrev pub fault : ℕ → SourceKind → SourceFault
 fault at kind = record { at = at; kind = kind }
 
@@ -40,10 +45,12 @@ abbrev pub next_head : Tokens → Head
 next_head [] = heads.End
 next_head (t ∷ ts) = head_of t
 
+-- the next token is the first one on its line
 abbrev pub is_fresh : Tokens → Bool
 is_fresh [] = false
 is_fresh (t ∷ ts) = t.fresh
 
+-- where the next token begins, or where the text ends
 abbrev pub place_at : ℕ → Tokens → ℕ
 place_at end [] = end
 place_at end (t ∷ ts) = t.at
@@ -69,12 +76,15 @@ abbrev pub value_or : Result Decimal NumberFault → Decimal
 value_or (Ok d) = d
 value_or (Err e) = record { a = pos 0; b = 0 }
 
+-- the value of a number
 unfoldable pub decimal : Text → Decimal
 decimal text = value_or (decimal_of text)
 
+-- the negative value
 abbrev pub minus : Decimal → Decimal
 minus d = record { a = neg_ℤ d.a; b = d.b }
 
+-- a number and its value
 unfoldable pub number_at : ℕ → Tokens → Reads Decimal
 number_at end ts = do
   t ← want end heads.Number ts
@@ -126,10 +136,12 @@ listed item end s ts = do
 abbrev pub place_of : List Text → Text → Option ℕ
 place_of names text = position (λ name. bytes_eq name text) names
 
+-- a place was found
 abbrev pub is_there : Option ℕ → Bool
 is_there None = false
 is_there (Some k) = true
 
+-- one of the names is this
 abbrev pub has_name : List Text → Text → Bool
 has_name names name = is_there (place_of names name)
 

@@ -33,7 +33,7 @@ fn in_prefix<R: Abort + AllocGlobal>(rt: &R, text: &str, name: &str) -> Result<S
     let mut out = String::new(rt.alloc());
     assert!(rt; text.len() < 1 << 32);
     match parse(rt.alloc(), text.as_bytes(), Some(name)) {
-        Ok(function) => prefix::put_function(&mut out, &function)?,
+        Ok(function) => prefix::put_function(rt.alloc(), &mut out, &function)?,
         Err(fault) => write!(out, "{fault}")?,
     }
     Ok(out)

@@ -73,7 +73,7 @@ fn told<R: Abort + AllocGlobal>(rt: &R, text: &str, name: Option<&str>) -> Resul
             write!(out, "{name}: ")?;
             put_inputs(&mut out, &function)?;
             put_states(&mut out, &function)?;
-            put_function(&mut out, &function)?;
+            put_function(rt.alloc(), &mut out, &function)?;
             put_demands(&mut out, &function)?;
         }
         Err(fault) => write!(out, "{fault}")?,

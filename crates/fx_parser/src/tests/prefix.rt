@@ -3,6 +3,7 @@
 use super::*;
 use fx_expr::{Expr, Function};
 use fx_fraction::Fraction;
+use std::alloc::Global;
 
 /// A literal in decimal digits, of which it has at most 18 behind its point.
 pub fn put_literal(out: &mut String, c: Fraction) -> Result<(), Fail> {
@@ -55,56 +56,78 @@ fn temp_name(function: &Function, k: u32) -> Option<&str> {
     }
 }
 
-/// An operation of two trees.
-#[cycle(printing)]
-fn put_operation(
-    out: &mut String,
-    function: &Function,
-    sign: &str,
-    a: &Expr,
-    b: &Expr,
-) -> Result<(), Fail> {
-    write!(out, "({sign} ")?;
-    put_tree(out, function, a)?;
-    out.push_str(" ")?;
-    put_tree(out, function, b)?;
-    out.push_str(")")?;
-    Ok(())
+/// An operation of two trees in prefix form.
+fn operation(alloc: Global, sign: &str, a: String, b: String) -> Result<String, Fail> {
+    let mut out = String::new(alloc);
+    write!(out, "({sign} {a} {b})")?;
+    Ok(out)
 }
 
-#[cycle(printing)]
-fn put_tree(out: &mut String, function: &Function, expr: &Expr) -> Result<(), Fail> {
+/// The negation of a tree in prefix form.
+fn negation(alloc: Global, a: String) -> Result<String, Fail> {
+    let mut out = String::new(alloc);
+    write!(out, "(- {a})")?;
+    Ok(out)
+}
+
+/// A literal or a name.
+fn leaf(alloc: Global, function: &Function, expr: &Expr) -> Result<String, Fail> {
+    let mut out = String::new(alloc);
     match expr {
-        Expr::Lit(c) => put_literal(out, *c),
-        Expr::Input(k) => put_name(out, input_name(function, *k)),
-        Expr::State(k) => put_name(out, state_name(function, *k)),
-        Expr::Temp(k) => put_name(out, temp_name(function, *k)),
-        Expr::Neg(a) => {
-            out.push_str("(- ")?;
-            put_tree(out, function, a)?;
-            out.push_str(")")?;
-            Ok(())
-        }
-        Expr::Add(a, b) => put_operation(out, function, "+", a, b),
-        Expr::Sub(a, b) => put_operation(out, function, "-", a, b),
-        Expr::Mul(a, b) => put_operation(out, function, "*", a, b),
-        Expr::Div(a, b) => put_operation(out, function, "/", a, b),
+        Expr::Lit(c) => put_literal(&mut out, *c)?,
+        Expr::Input(k) => put_name(&mut out, input_name(function, *k))?,
+        Expr::State(k) => put_name(&mut out, state_name(function, *k))?,
+        Expr::Temp(k) => put_name(&mut out, temp_name(function, *k))?,
+        _ => out.push_str("?")?,
+    }
+    Ok(out)
+}
+
+/// A tree in prefix form.
+fn tree(alloc: Global, function: &Function, expr: &Expr) -> Result<String, Fail> {
+    match expr {
+        Expr::Neg(a) => negation(alloc, tree(alloc, function, a)?),
+        Expr::Add(a, b) => operation(
+            alloc,
+            "+",
+            tree(alloc, function, a)?,
+            tree(alloc, function, b)?,
+        ),
+        Expr::Sub(a, b) => operation(
+            alloc,
+            "-",
+            tree(alloc, function, a)?,
+            tree(alloc, function, b)?,
+        ),
+        Expr::Mul(a, b) => operation(
+            alloc,
+            "*",
+            tree(alloc, function, a)?,
+            tree(alloc, function, b)?,
+        ),
+        Expr::Div(a, b) => operation(
+            alloc,
+            "/",
+            tree(alloc, function, a)?,
+            tree(alloc, function, b)?,
+        ),
+        _ => leaf(alloc, function, expr),
     }
 }
 
 /// All temps and results.
-pub fn put_function(out: &mut String, function: &Function) -> Result<(), Fail> {
+pub fn put_function(alloc: Global, out: &mut String, function: &Function) -> Result<(), Fail> {
     for temp in function.temps.as_slice() {
         let name = temp.name.as_str();
-        write!(out, "{name} ")?;
-        put_tree(out, function, &temp.expr)?;
-        out.push_str("; ")?;
+        let text = tree(alloc, function, &temp.expr)?;
+        write!(out, "{name} {text}; ")?;
     }
     for (k, expr) in function.results.as_slice().iter().enumerate() {
         if k > 0 {
             out.push_str("; ")?;
         }
-        put_tree(out, function, expr)?;
+        let text = tree(alloc, function, expr)?;
+        out.push_str(text.as_str())?;
     }
     Ok(())
 }
