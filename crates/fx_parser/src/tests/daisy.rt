@@ -1,5 +1,5 @@
 //! Published functions, the sources of `examples/daisy`, and the trees that they are: temps and results in prefix form,
-//! written from the formulas.
+//! read against the formulas.
 //!
 //! The sources stand here once more, since a test reads no files.
 
