@@ -1,6 +1,10 @@
+pub mod Fields
 pub mod Lines
 pub mod Given
+pub mod Header
 pub mod Steps
 pub mod Ran
+pub mod Noted
 pub mod Stages
 pub mod Ends
+pub mod Clauses

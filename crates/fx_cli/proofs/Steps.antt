@@ -1,18 +1,17 @@
 -- The machine over rows: a step, one more row, and the page of what has run.
-use Rattle.std.proofs.Common.{◌≡◌, ℕ, ◌+◌, ◌-◌, ℤ, pos, List, [], ◌∷◌, ◌++◌, length, drop, length-append, append_assoc, append-nil, Option, Some, None, refl, ap, sym, subst, ◌∙◌, arith}
-use Rattle.std.specs.Prelude.{codes}
+use Rattle.std.proofs.Common.{◌≡◌, ℕ, ◌+◌, ◌-◌, ℤ, List, [], ◌∷◌, ◌++◌, length, drop, length-append, append_assoc, append-nil, Option, Some, None, refl, ap, sym, subst, ◌∙◌, arith}
 use Rattle.std.specs.Option.{option_and_then, option_map}
-use Rattle.std.specs.Fmt.{digits}
+use Rattle.std.proofs.lemmas.List.{drop_all, length-drop}
 use Rattle.fx_rational.specs.Rational.{Rational}
-use Rattle.fx_model.specs.Tree.{at}
 use Rattle.fx_model.specs.Function.{Step, step_of, Run, run_of}
-use Rattle.fx_model.specs.Machine.{Code, Program, made, kept, words_after, words_of, machine_step, points_of, output_points}
+use Rattle.fx_model.specs.Machine.{Code, Program, made, kept, words_after, words_of, machine_step, start_words, output_points}
 use Rattle.fx_model.specs.Page.{line_of, names_from, word_texts, page_lines, page}
-use Rattle.fx_model.specs.WordText.{decimal_text}
-use Rattle.fx_checker.specs.FirstBundle.{FirstBundle, first_program}
+use Rattle.fx_model.specs.LawfulProgram.{IsLawfulProgram}
+use Rattle.fx_sound.proofs.Start.{start_count}
+use Rattle.fx_machine.specs.Steps.{step_taken}
 use Rattle.fx_cli.specs.Promise.{IsPrinted}
 
--- ---- a step of a first program
+-- ---- a step of a program without states
 -- a word for each code
 length_words : (n : ℕ) (cs : List Code) (g : List Rational) (z ws out : List ℤ) → words_after n cs g z ws ≡ Some out → length out ≡ length ws + length cs
 length_words n [] g z ws out e = let same : ws ≡ out = cc in rw (sym same) (omega arith)
@@ -23,32 +22,36 @@ length_words n (c ∷ cs) g z ws out e = go (λ w. length_words n cs g z (ws ++ 
     go later None e = absurd cc
     go later (Some w) e = omega (arith, later w e, length-append ws (w ∷ []))
 
--- the last of four words is the output, and no state is left
-last_of_four : (ws : List ℤ) → length ws ≡ 4 → step_of 1 (drop (length ws - 1) ws) ≡ record { outputs = at (pos 0) ws 3 ∷ []; next = [] }
-last_of_four [] h = absurd (omega arith)
-last_of_four (a ∷ []) h = absurd (omega arith)
-last_of_four (a ∷ b ∷ []) h = absurd (omega arith)
-last_of_four (a ∷ b ∷ c ∷ []) h = absurd (omega arith)
-last_of_four (a ∷ b ∷ c ∷ d ∷ []) h = refl
-last_of_four (a ∷ b ∷ c ∷ d ∷ e ∷ ws) h = absurd (omega arith)
+pub words_length : (p : Program) (g : List Rational) (z ws : List ℤ) → words_of p g z ≡ Some ws → length ws ≡ length p.codes
+words_length p g z ws e = let h = length_words p.width p.codes g z [] ws e in omega arith
 
-pub row_step : (b : FirstBundle) (g : List Rational) (z ws : List ℤ) → words_of (first_program b) g z ≡ Some ws →
-    machine_step (first_program b) g z ≡ Some (record { outputs = at (pos 0) ws 3 ∷ []; next = [] })
-row_step b g z ws e =
-    ap (option_map (λ (xs : List ℤ). step_of 1 (drop (length xs - 1) xs))) e ∙ ap Some (last_of_four ws (length_words 16 (first_program b).codes g z [] ws e))
+-- no state goes from row to row
+pub record IsStateless (p : Program) : Type 0 where
+  pub states : p.states ≡ 0
+  pub start : start_words p.codes ≡ []
 
-pub row_line : (b : FirstBundle) (w : ℤ) → word_texts (w ∷ []) (output_points (first_program b)) ≡ decimal_text w (at (pos 0) (points_of (first_program b).codes) 3) ∷ []
-row_line b w = refl
+no_words : (zs : List ℤ) → length zs ≡ 0 → zs ≡ []
+no_words [] h = refl
+no_words (z ∷ zs) h = absurd (omega arith)
 
-no_next : (b : FirstBundle) (g : List Rational) (z : List ℤ) (s : Step ℤ) → machine_step (first_program b) g z ≡ Some s → s.next ≡ []
-no_next b g z s e = go (words_of (first_program b) g z) refl e
+pub stateless : (p : Program) → IsLawfulProgram p → p.states ≡ 0 → IsStateless p
+stateless p lawful none = record { states = none; start = no_words (start_words p.codes) (start_count p lawful ∙ none) }
+
+-- so none is left by a step
+pub taken_next : (p : Program) (ws : List ℤ) → p.states ≡ 0 → (step_taken p ws).next ≡ []
+taken_next p ws none =
+    drop_all p.outputs (drop (length ws - (p.outputs + p.states)) ws) (omega (arith, none, length-drop (length ws - (p.outputs + p.states)) ws))
+
+pub row_step : (p : Program) (g : List Rational) (ws : List ℤ) → p.states ≡ 0 → machine_step p g [] ≡ Some (step_taken p ws) →
+    machine_step p g [] ≡ Some (record { outputs = (step_taken p ws).outputs; next = [] })
+row_step p g ws none e = e ∙ ap (λ (next : List ℤ). Some (record { outputs = (step_taken p ws).outputs; next = next })) (taken_next p ws none)
+
+no_next : (p : Program) → p.states ≡ 0 → (g : List Rational) (z : List ℤ) (s : Step ℤ) → machine_step p g z ≡ Some s → s.next ≡ []
+no_next p none g z s e = go (words_of p g z) e
   where
-    go : (o : Option (List ℤ)) → words_of (first_program b) g z ≡ o → option_map (λ (xs : List ℤ). step_of 1 (drop (length xs - 1) xs)) o ≡ Some s → s.next ≡ []
-    go None is e = absurd cc
-    go (Some ws) is e =
-        let four = last_of_four ws (length_words 16 (first_program b).codes g z [] ws is) in
-        let same : step_of 1 (drop (length ws - 1) ws) ≡ s = cc in
-        ap (λ (t : Step ℤ). t.next) (sym same ∙ four)
+    go : (o : Option (List ℤ)) → option_map (λ (ws : List ℤ). step_of p.outputs (drop (length ws - (p.outputs + p.states)) ws)) o ≡ Some s → s.next ≡ []
+    go None e = absurd cc
+    go (Some ws) e = let same : step_taken p ws ≡ s = cc in ap (λ (t : Step ℤ). t.next) (sym same) ∙ taken_next p ws none
 
 -- ---- one more row
 abbrev with_row : {A : Type 0} → Step A → Run A → Run A
@@ -82,19 +85,19 @@ one_more step (g ∷ gs) row x r s e h = first (λ (y : List _) (t : Run _). one
     first below (Some s₀) e = others s₀ (below s₀.next) (run_of step gs s₀.next) refl e
 
 -- no state is left by a run either
-no_last : (b : FirstBundle) (rows : List (List Rational)) (x : List ℤ) (r : Run ℤ) → x ≡ [] → run_of (machine_step (first_program b)) rows x ≡ Some r → r.last ≡ []
-no_last b [] x r none e = let same : record { outputs = []; last = x } ≡ r = cc in ap (λ (q : Run ℤ). q.last) (sym same) ∙ none
-no_last b (g ∷ gs) x r none e = first (λ (y : List ℤ) (t : Run ℤ). no_last b gs y t) (machine_step (first_program b) g x) refl e
+no_last : (p : Program) → p.states ≡ 0 → (rows : List (List Rational)) (x : List ℤ) (r : Run ℤ) → x ≡ [] → run_of (machine_step p) rows x ≡ Some r → r.last ≡ []
+no_last p no_state [] x r none e = let same : record { outputs = []; last = x } ≡ r = cc in ap (λ (q : Run ℤ). q.last) (sym same) ∙ none
+no_last p no_state (g ∷ gs) x r none e = first (λ (y : List ℤ) (t : Run ℤ). no_last p no_state gs y t) (machine_step p g x) refl e
   where
-    others : (s : Step ℤ) → ((t : Run ℤ) → run_of (machine_step (first_program b)) gs s.next ≡ Some t → t.last ≡ []) → (o : Option (Run ℤ)) →
-        run_of (machine_step (first_program b)) gs s.next ≡ o → option_map (with_row s) o ≡ Some r → r.last ≡ []
+    others : (s : Step ℤ) → ((t : Run ℤ) → run_of (machine_step p) gs s.next ≡ Some t → t.last ≡ []) → (o : Option (Run ℤ)) →
+        run_of (machine_step p) gs s.next ≡ o → option_map (with_row s) o ≡ Some r → r.last ≡ []
     others s below None is e = absurd cc
     others s below (Some t) is e = let same : with_row s t ≡ r = cc in ap (λ (q : Run ℤ). q.last) (sym same) ∙ below t is
 
-    first : ((y : List ℤ) (t : Run ℤ) → y ≡ [] → run_of (machine_step (first_program b)) gs y ≡ Some t → t.last ≡ []) → (o : Option (Step ℤ)) →
-        machine_step (first_program b) g x ≡ o → option_and_then (λ q. option_map (with_row q) (run_of (machine_step (first_program b)) gs q.next)) o ≡ Some r → r.last ≡ []
+    first : ((y : List ℤ) (t : Run ℤ) → y ≡ [] → run_of (machine_step p) gs y ≡ Some t → t.last ≡ []) → (o : Option (Step ℤ)) →
+        machine_step p g x ≡ o → option_and_then (λ q. option_map (with_row q) (run_of (machine_step p) gs q.next)) o ≡ Some r → r.last ≡ []
     first below None is e = absurd cc
-    first below (Some s) is e = others s (λ (t : Run ℤ). below s.next t (no_next b g x s is)) (run_of (machine_step (first_program b)) gs s.next) refl e
+    first below (Some s) is e = others s (λ (t : Run ℤ). below s.next t (no_next p no_state g x s is)) (run_of (machine_step p) gs s.next) refl e
 
 -- ---- a run of some rows and of more
 -- the outputs of the first rows stand in front
@@ -129,20 +132,18 @@ more_page p outs more =
     ap (λ t. head ++ t) (more_lines fs outs more) ∙ sym (append_assoc head (page_lines fs outs) (page_lines fs more))
 
 -- the page of no rows is the header
-pub printed_none : (b : FirstBundle) → IsPrinted b [] (codes "out1\n")
-unfolding digits
-printed_none b = record { run = record { outputs = []; last = [] }; runs = refl; page_is = refl }
+pub printed_none : (p : Program) → IsPrinted p [] (line_of (names_from 1 p.outputs))
+printed_none p = record { run = record { outputs = []; last = start_words p.codes }; runs = refl; page_is = sym (append-nil (line_of (names_from 1 p.outputs))) }
 
 -- the page of one more row has its line at the end
-pub printed_more : (b : FirstBundle) (rows : List (List Rational)) (row : List Rational) (text : List ℕ) (outs : List ℤ) → IsPrinted b rows text →
-    machine_step (first_program b) row [] ≡ Some (record { outputs = outs; next = [] }) → IsPrinted b (rows ++ row ∷ []) (text ++ line_of (word_texts outs (output_points (first_program b))))
-printed_more b rows row text outs printed e =
-    let p = first_program b in
-    let last : printed.run.last ≡ [] = no_last b rows [] printed.run refl printed.runs in
+pub printed_more : (p : Program) → IsStateless p → (rows : List (List Rational)) (row : List Rational) (text : List ℕ) (outs : List ℤ) → IsPrinted p rows text →
+    machine_step p row [] ≡ Some (record { outputs = outs; next = [] }) → IsPrinted p (rows ++ row ∷ []) (text ++ line_of (word_texts outs (output_points p)))
+printed_more p stateless rows row text outs printed e =
+    let last : printed.run.last ≡ [] = no_last p stateless.states rows (start_words p.codes) printed.run stateless.start printed.runs in
     let step : machine_step p row printed.run.last ≡ Some (record { outputs = outs; next = [] }) = ap (machine_step p row) last ∙ e in
     record {
       run = with_last (record { outputs = outs; next = [] }) printed.run;
-      runs = one_more (machine_step p) rows row [] printed.run (record { outputs = outs; next = [] }) printed.runs step;
+      runs = one_more (machine_step p) rows row (start_words p.codes) printed.run (record { outputs = outs; next = [] }) printed.runs step;
       page_is =
           ap (λ t. t ++ line_of (word_texts outs (output_points p))) printed.page_is
           ∙ ap (λ t. page p printed.run.outputs ++ t) (sym (append-nil (line_of (word_texts outs (output_points p)))))

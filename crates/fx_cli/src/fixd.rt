@@ -1,24 +1,32 @@
 //! The top call: what the words say is done, and the status says how it ended.
 //!
 //! The stages come in one order: the words, the file, the bundle in it, the input, its header, its rows. A stage that can't
-//! go on ends the call with its own status, and nothing is printed before the rows.
+//! go on ends the call with its own status, and nothing is printed before the rows. The status is decided
+//! first; its line on the notes is written then, and changes no status.
 //! The trap: the input is read to its end before the first row is run, so a fault of it is found while nothing is printed.
-ghost use Rattle.std.specs.Prelude.{◌≡◌, ◌≢◌, ◌↔◌, ◌⊎◌, ℕ, List, [], IfSome, None, Some};
+ghost use Rattle.std.specs.Prelude.{◌≡◌, ◌≢◌, ◌↔◌, ◌⊎◌, ℕ, List, [], IfSome, IfOk, IfErr, IsErrOf, None, Some};
 ghost use Rattle.std.specs.Option.{option_copied};
 ghost use Rattle.std.specs.Io.KnownBytes.{IsAtEnd};
 ghost use Rattle.fx_base.specs.Causes.{Rose};
 ghost use Rattle.fx_base.specs.Shelf.{IsMissing};
+ghost use Rattle.fx_model.specs.Function.{Function};
 ghost use Rattle.fx_sound.specs.Soundness.{BoundLaw, RunLaw};
-ghost use Rattle.fx_checker.specs.FirstBundle.{FirstBundle, Spells, first_function};
-ghost use Rattle.fx_checker.specs.Verdict.{OneBundleLaw, CertifiedLaw};
+ghost use Rattle.fx_cert.specs.FirstBundle.{FirstBundle, Spells};
+ghost use Rattle.fx_cert.specs.Laws.{OneBundleLaw};
+ghost use Rattle.fx_checker.specs.Verdict.{IsAcceptedAs};
 ghost use Rattle.fx_cli.specs.Words.{texts, file_of};
 ghost use Rattle.fx_cli.specs.FirstRows.{GivenRows, read_rows};
 ghost use Rattle.fx_cli.specs.Promise.{Told, IsHonest, IsDue, IsOver, IsReady, IsPrinted, IsFile, IsNotAccepted};
+ghost use Rattle.fx_cli.specs.Notes.{status_line, IsNoted, IsSourceNoted};
+ghost use Rattle.fx_cli.specs.Stages.{IsOpened, OpeningFails, InputEnds, HasEnded, IsEarly, IsUnwritten};
+ghost use Rattle.fx_cli.specs.declared.stop.Stop.TheVariants.{Words};
 
-use crate::page::Page;
+use crate::notes::note;
 use crate::rows::{RowsEnd, behind_header, run_rows};
-use fx_base::{Failed, InFault, Shelf, Sink, Source, Status, read_all, read_file};
-use fx_checker::{FirstFault, certified_law, one_bundle_law, read_first};
+use crate::stop::{Stop, status_of};
+use fx_base::{Shelf, Sink, Source, Status, read_all, read_file};
+use fx_cert::one_bundle_law;
+use fx_checker::{First, read_first};
 use fx_sound::{bound_law, run_law};
 use std::alloc::Global;
 
@@ -41,14 +49,83 @@ fn file_of(words: &Vec<String>) -> Option<&str>
 // What the layers below say of an accepted first bundle.
 fn laws()
     ensures one_bundle { OneBundleLaw }
-    ensures certified { CertifiedLaw }
     ensures run { RunLaw }
     ensures bound { BoundLaw }
 {
     one_bundle_law();
-    certified_law();
     run_law();
     bound_law();
+}
+
+// The accepted bundle in the file that the words name.
+fn open<H: Shelf>(alloc: Global, words: &Vec<String>, shelf: &mut H) -> Result<First, Stop>
+    ensures opened { IfOk result (IsOpened (texts words.now.items) (H.papers shelf.old)) }
+    ensures failed { IfErr result (OpeningFails (texts words.now.items) (H.papers shelf.old) (H.faults shelf.old) (H.faults shelf.new)) }
+    ensures untouched { IsErrOf result Words → shelf.new ≡ shelf.old }
+{
+    let Some(name) = file_of(words) else {
+        return Err(Stop::Words);
+    };
+    let file = match read_file(alloc, shelf, name, FILE_LIMIT) {
+        Ok(file) => file,
+        Err(fault) => return Err(Stop::File(fault)),
+    };
+    let first = match read_first(alloc, &file) {
+        Ok(first) => first,
+        Err(fault) => return Err(Stop::Bundle(fault)),
+    };
+    first.certified();
+    first.function().lawful();
+    Ok(first)
+}
+
+// Reads the input of an accepted bundle, and runs its rows.
+fn run_input<S: Source, K: Sink>(
+    alloc: Global,
+    first: &First,
+    input: &mut S,
+    output: &mut K,
+) -> Result<RowsEnd, Stop>
+    ensures ended { InputEnds first.now
+        (record { left = S.left input.old; read_faults = S.faults input.old; taken = K.taken output.old; write_faults = K.faults output.old })
+        (record { left = S.left input.new; read_faults = S.faults input.new; taken = K.taken output.new; write_faults = K.faults output.new })
+        result }
+    ensures unwritten { IsUnwritten result → output.new ≡ output.old }
+{
+    let bytes = match read_all(alloc, input, INPUT_LIMIT) {
+        Ok(bytes) => bytes,
+        Err(fault) => return Err(Stop::Input(fault)),
+    };
+    let inputs = first.function().inputs.as_slice();
+    let Some(lines) = behind_header(inputs, &bytes) else {
+        return Err(Stop::Header);
+    };
+    match run_rows(alloc, first, lines, output) {
+        Ok(end) => Ok(end),
+        Err(fault) => Err(Stop::Rows(fault)),
+    }
+}
+
+// Does what the words say, and says how that ended.
+fn run<H: Shelf, S: Source, K: Sink>(
+    alloc: Global,
+    words: &Vec<String>,
+    shelf: &mut H,
+    input: &mut S,
+    output: &mut K,
+) -> Result<RowsEnd, Stop>
+    ensures ended { HasEnded (texts words.now.items) (H.papers shelf.old) (H.faults shelf.old) (H.faults shelf.new)
+        (record { left = S.left input.old; read_faults = S.faults input.old; taken = K.taken output.old; write_faults = K.faults output.old })
+        (record { left = S.left input.new; read_faults = S.faults input.new; taken = K.taken output.new; write_faults = K.faults output.new })
+        result }
+    ensures untouched { IsErrOf result Words → shelf.new ≡ shelf.old }
+    ensures early { IsEarly result → input.new ≡ input.old }
+    ensures unwritten { IsUnwritten result → output.new ≡ output.old }
+{
+    match open(alloc, words, shelf) {
+        Ok(first) => run_input(alloc, &first, input, output),
+        Err(stop) => Err(stop),
+    }
 }
 
 /// Does what the words say, and answers with the status of the command. `run FILE` is the one command so far.
@@ -85,7 +162,8 @@ pub fn fixd<H: Shelf, S: Source, K: Sink, N: Sink>(
     ensures complete { (file held printed : List ℕ) →
         Told (texts words.now.items) (H.papers shelf.old) (S.left input.old) (K.taken output.old) (K.taken output.new) file held printed →
         IsReady file held → ¬ Rose (H.faults shelf.old) (H.faults shelf.new) → ¬ Rose (S.faults input.old) (S.faults input.new) → ¬ Rose (K.faults output.old) (K.faults output.new) →
-        ((result ≡ 0) × ((b : FirstBundle) → Spells file b → (given : GivenRows) → read_rows (first_function b) held ≡ Some given → IsPrinted b given.rows printed)) ⊎ (result ≡ 8) }
+        ((result ≡ 0) × ((b : FirstBundle) (fn : Function) → Spells file b → IsAcceptedAs b fn → (given : GivenRows) → read_rows fn held ≡ Some given →
+        IsPrinted b.program given.rows printed)) ⊎ (result ≡ 8) }
 
     // Nothing is written but by rows, and a failing write leaves a front of the page.
     ensures quiet { result ≢ 0 → result ≢ 5 → result ≢ 7 → output.new ≡ output.old }
@@ -98,43 +176,18 @@ pub fn fixd<H: Shelf, S: Source, K: Sink, N: Sink>(
         IsNotAccepted file → input.new ≡ input.old }
     ensures read_to_end { (result ≡ 0) ⊎ ((result ≡ 5) ⊎ (result ≡ 7)) → IsAtEnd (S.left input.new) }
 
-    // Notes get nothing yet.
-    ensures notes { notes.new ≡ notes.old }
+    // Without a line nothing is written on the notes. Else the line is, or a front of it where the notes fail.
+    ensures silent { (result ≡ 0) ⊎ ((result ≡ 1) ⊎ ((result ≡ 4) ⊎ (result ≡ 5))) → notes.new ≡ notes.old }
+    ensures noted { (line : List ℕ) → status_line result ≡ Some line →
+        IsNoted (N.taken notes.old) (N.taken notes.new) (N.faults notes.old) (N.faults notes.new) line }
+    ensures source_noted { result ≡ 3 → IfSome (file_of (texts words.now.items)) (λ name.
+        IsSourceNoted (H.papers shelf.old) name (N.taken notes.old) (N.taken notes.new) (N.faults notes.old) (N.faults notes.new)) }
 
     // The statuses that a run can end with.
-    ensures built { (result ≢ 3) × (result ≢ 9) }
+    ensures built { result ≢ 9 }
 {
-    let Some(name) = file_of(words) else {
-        return Status::USAGE;
-    };
-    let file = match read_file(alloc, shelf, name, FILE_LIMIT) {
-        Ok(file) => file,
-        Err(InFault::ReadFault) => return Status::READ_FAULT,
-        Err(InFault::TooLong) => return Status::OVER_LIMIT,
-        Err(InFault::Memory) => return Status::MEMORY,
-    };
     laws();
-    let mut first = match read_first(alloc, &file) {
-        Ok(first) => first,
-        Err(FirstFault::NotFirst) => return Status::BUNDLE,
-        Err(FirstFault::Rejected) => return Status::REJECTED,
-        Err(FirstFault::Memory) => return Status::MEMORY,
-    };
-    let bytes = match read_all(alloc, input, INPUT_LIMIT) {
-        Ok(bytes) => bytes,
-        Err(InFault::ReadFault) => return Status::READ_FAULT,
-        Err(InFault::TooLong) => return Status::OVER_LIMIT,
-        Err(InFault::Memory) => return Status::MEMORY,
-    };
-    let Some(lines) = behind_header(&first, &bytes) else {
-        return Status::ROW;
-    };
-    let Ok(mut page) = Page::new(alloc) else {
-        return Status::MEMORY;
-    };
-    match run_rows(&mut first, lines, &mut page, output) {
-        Ok(RowsEnd::Done) => Status::DONE,
-        Ok(RowsEnd::BadLine) => Status::ROW,
-        Err(Failed) => Status::WRITE_FAULT,
-    }
+    let end = run(alloc, words, shelf, input, output);
+    note(end, notes);
+    status_of(end)
 }

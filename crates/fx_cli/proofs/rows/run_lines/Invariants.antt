@@ -1,15 +1,15 @@
-use Rattle.std.proofs.Common.{◌≡◌, ◌≤◌, length}
-use Rattle.fx_checker.specs.FirstBundle.{first_function}
+use Rattle.std.proofs.Common.{◌≡◌, ◌≤◌, [], length}
 use Rattle.fx_cli.specs.FirstRows.{lines_of, rows_from}
 use Rattle.fx_cli.proofs.Ran.{RunsSoFar}
 use Rattle.fx_cli.proofs.rows.run_lines.Given as goal
 
 abbrev pub invariant-rows : goal.invariant-rows
 invariant-rows g l =
-    let b = l.initial.first.bundle in
+    let p = l.first.program in let inputs = l.first.function.inputs in
     record {
-      same : l.first.bundle ≡ b;
-      run : RunsSoFar b (rows_from (first_function b).inputs 2 (lines_of l.lines)) (lines_of l.rest) (g.K.Sink.taken l.initial.output) (g.K.Sink.taken l.output) l.page;
+      words : length l.registers.words ≡ length p.codes;
+      states : l.registers.states ≡ [];
+      run : RunsSoFar p inputs (rows_from inputs 2 (lines_of l.lines)) (lines_of l.rest) (g.K.Sink.taken l.initial.output) (g.K.Sink.taken l.output) l.page;
       later : g.K.Sink.faults l.initial.output ≤ g.K.Sink.faults l.output;
     }
 
