@@ -1,38 +1,44 @@
 #!/usr/bin/env python3
 """Writes a bundle of N codes, rows for it, and a C program of the same arithmetic: make.py N ROWS FOLDER
 
-The source is x - (x - (x - ..)), in words of 32 bits at 12 places. An interval of a certificate is exact here: ranges and
-errors grow by those of x at each step.
+The source is x - (x - (x - ..)), in words of 32 bits. Points go from 11 to 10 and back, so that each difference shifts both
+of its operands and no compiler can leave one out. Errors are counted in units of 2^-12.
 """
 import sys
 
-POINT, WIDTH = 12, 32
+WIDTH, POINT = 32, 12
 
 
-def dyadic(m, e):
-    while e > 0 and m % 2 == 0:
-        m, e = m // 2, e - 1
-    return f"{m}:{e if m else 0}"
+def dyadic(mantissa, exponent):
+    while exponent > 0 and mantissa % 2 == 0:
+        mantissa, exponent = mantissa // 2, exponent - 1
+    return f"{mantissa}:{exponent if mantissa else 0}"
+
+
+def shifts(count):
+    """For each difference its point, and by how much x and the difference before it are shifted."""
+    yield 11, 1, 1
+    for i in range(1, count):
+        yield (10, 2, 1) if i % 2 else (11, 1, -1)
 
 
 def bundle(count):
-    subtractions = count - 2
-    temps = [f"  val t{i} = x - {'x' if i == 1 else f't{i - 1}'}" for i in range(1, subtractions + 1)]
+    differences = list(shifts(count - 2))
+    temps = [f"  val t{i + 1} = x - {f't{i}' if i else 'x'}" for i in range(len(differences))]
     source = "\n".join(
-        ["def chain(x: Real): Real = {", "  require(0 <= x && x <= 1)", *temps, f"  t{subtractions}", "}"]
+        ["def chain(x: Real): Real = {", "  require(0 <= x && x <= 1)", *temps, f"  t{len(differences)}", "}"]
     )
     codes = [f"in 0 {POINT}"]
-    codes += [f"sub 0 {i} 0 0" for i in range(subtractions)]
-    codes += [f"copy {subtractions} 0"]
-    low, high, error_low, error_high = 0, 1, -1, 0
-    lines = [(low, high, error_low, error_high)]
-    for _ in range(subtractions):
-        low, high, error_low, error_high = 0 - high, 1 - low, -1 - error_high, 0 - error_low
-        lines.append((low, high, error_low, error_high))
+    lines = [(0, 1, -1, 0)]
+    for i, (point, shift_x, shift_before) in enumerate(differences):
+        codes.append(f"sub 0 {i} {shift_x} {shift_before}")
+        low, high, error_low, error_high = lines[-1]
+        unit = 2 ** (POINT - point)
+        lost, gained = unit, unit if shift_before > 0 else 0
+        lines.append((0 - high, 1 - low, -1 - error_high - lost, 0 - error_low + gained))
+    codes.append(f"copy {len(differences)} 0")
     lines.append(lines[-1])
-    plain = [
-        f"plain {dyadic(a, 0)} {dyadic(b, 0)} {dyadic(c, POINT)} {dyadic(d, POINT)}" for a, b, c, d in lines
-    ]
+    plain = [f"plain {dyadic(a, 0)} {dyadic(b, 0)} {dyadic(c, POINT)} {dyadic(d, POINT)}" for a, b, c, d in lines]
     return "\n".join(
         [
             "fixd bundle 1", f"source {len(source)}", source, "program", "fixd program 1", f"width {WIDTH}", "name chain",
@@ -43,7 +49,13 @@ def bundle(count):
 
 
 def program(count):
-    words = "\n".join(f"    w[{i + 1}] = w[0] - w[{i}];" for i in range(count - 2))
+    differences = list(shifts(count - 2))
+    words = []
+    for i, (_, shift_x, shift_before) in enumerate(differences):
+        before = f"(w[{i}] >> 1)" if shift_before > 0 else f"w[{i}] * 2"
+        words.append(f"        w[{i + 1}] = (w[0] >> {shift_x}) - {before};")
+    body = "\n".join(words)
+    point = differences[-1][0]
     return f"""#include <stdint.h>
 #include <stdio.h>
 #include <string.h>
@@ -62,16 +74,16 @@ static int32_t read_word(const char *s) {{
     return (int32_t)((a << {POINT}) / b);
 }}
 
-/* the decimal of v / 2^{POINT}, without needless zeros */
+/* the decimal of v / 2^{point}, without needless zeros */
 static void print_word(int32_t v) {{
     char text[40];
     int n = 0;
     uint64_t a = v < 0 ? (uint64_t)(-(int64_t)v) : (uint64_t)v;
     if (v < 0) text[n++] = '-';
-    n += sprintf(text + n, "%llu", (unsigned long long)(a >> {POINT}));
-    a &= (1u << {POINT}) - 1;
+    n += sprintf(text + n, "%llu", (unsigned long long)(a >> {point}));
+    a &= (1u << {point}) - 1;
     if (a) text[n++] = '.';
-    while (a) {{ a *= 10; text[n++] = (char)('0' + (a >> {POINT})); a &= (1u << {POINT}) - 1; }}
+    while (a) {{ a *= 10; text[n++] = (char)('0' + (a >> {point})); a &= (1u << {point}) - 1; }}
     text[n++] = '\\n';
     fwrite(text, 1, (size_t)n, stdout);
 }}
@@ -82,7 +94,7 @@ int main(void) {{
     puts("out1");
     while (fgets(line, sizeof line, stdin)) {{
         w[0] = read_word(line);
-{words}
+{body}
         w[{count - 1}] = w[{count - 2}];
         print_word(w[{count - 1}]);
     }}
