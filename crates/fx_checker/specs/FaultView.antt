@@ -11,6 +11,7 @@ use Rattle.fx_checker.specs.declared.condition.Part.{Part}
 use Rattle.fx_checker.specs.declared.condition.Part.TheVariants as part
 use Rattle.fx_checker.specs.declared.condition.CheckFault.{CheckFault}
 
+-- the definition's kind
 abbrev pub kind_of : CheckKind → condition.Kind
 kind_of Counts = condition.Counts
 kind_of Shape = condition.Shape
@@ -21,11 +22,13 @@ kind_of WordTooSmall = condition.WordTooSmall
 kind_of Demand = condition.Demand
 kind_of Beyond = condition.Beyond
 
+-- and its part
 abbrev pub part_of : Part → condition.Part
 part_of part.Program = condition.OfProgram
 part_of part.Node = condition.OfNode
 part_of part.Output = condition.OfOutput
 
+-- a fault of the code is one of the definition
 abbrev pub fault_of : CheckFault → Fault
 fault_of f = record { kind = kind_of f.kind; part = part_of f.part; index = f.index }
 

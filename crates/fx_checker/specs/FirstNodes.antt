@@ -35,8 +35,10 @@ code_in p n = at (machine.Const (pos 0) (pos 0)) p.codes n
 abbrev pub range_claims_at : Function → Certificate → Node → ℕ → List Claim
 range_claims_at fn cert node n = plain_range_claims fn cert node (range_at cert.lines n)
 
+-- what its error has to meet without a form
 abbrev pub error_claims_at : Function → Program → Certificate → Node → ℕ → List Claim
 error_claims_at fn p cert node n = plain_error_claims fn cert node (code_in p n) (at (pos 0) (points_of p.codes) n) (range_at cert.lines n) (error_at cert.lines n)
 
+-- what its word has to meet
 abbrev pub word_claims_at : Program → Certificate → ℕ → List Claim
 word_claims_at p cert n = word_claims p.width (at (pos 0) (points_of p.codes) n) (range_at cert.lines n) (error_at cert.lines n)

@@ -6,6 +6,7 @@ use Rattle.fx_checker.specs.declared.first.First.TheInside.{Inside}
 use Rattle.fx_cert.specs.PartViews.{certificate_of}
 use Rattle.fx_checker.specs.Verdict.{Accepted}
 
+-- its parts
 abbrev pub accepted_of : Inside → Accepted
 accepted_of f = record { function = f.function; program = f.program; certificate = certificate_of f.certificate }
 

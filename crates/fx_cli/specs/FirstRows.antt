@@ -58,5 +58,6 @@ abbrev pub rows_under : List Input → List (List ℕ) → Option GivenRows
 rows_under inputs [] = None
 rows_under inputs (header ∷ ls) = if bytes_eq header (header_of inputs) then Some (rows_from inputs 2 ls) else None
 
+-- the given rows of an input for this function
 abbrev pub read_rows : Function → List ℕ → Option GivenRows
 read_rows fn bytes = rows_under fn.inputs (lines_of bytes)

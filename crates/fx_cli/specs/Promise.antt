@@ -34,6 +34,7 @@ pub record Told (words : List (List ℕ)) (papers : Option Files) (left before a
   pub before_is : before ≡ Some old
   pub after_is : after ≡ Some (old ++ printed)
 
+-- all begins with front
 abbrev pub IsFrontOf : List ℕ → List ℕ → Type 0
 IsFrontOf front all = (rest : List ℕ) × (all ≡ front ++ rest)
 

@@ -7,6 +7,7 @@ use Rattle.fx_expr.specs.TreeOf.{tree}
 use Rattle.fx_expr.specs.Parts.{input_of, state_of, temp_of}
 use Rattle.fx_expr.specs.declared.function.Function.TheInside.{Inside}
 
+-- the record of the definitions, with trees for expressions and rationals for decimals
 abbrev pub function_of : Inside → model.Function
 function_of f = record {
   name = f.name;

@@ -20,6 +20,7 @@ height (Difference a b) = suc (max (height a) (height b))
 height (Product a b) = suc (max (height a) (height b))
 height (Quotient a b) = suc (max (height a) (height b))
 
+-- a tree of at most this height
 abbrev pub IsLow : Tree → Type 0
 IsLow e = height e ≤ 200
 
@@ -37,6 +38,7 @@ pub record HasLawfulSizes (f : Function) : Type 0 where
   pub temps : length f.temps ≤ 1000
   pub nodes : length (nodes_of f) ≤ 4000
 
+-- all of it
 pub record IsLawfulFunction (f : Function) : Type 0 where
   pub valid : IsValid f
   pub name : IsName f.name

@@ -4,6 +4,7 @@ use Rattle.fx_model.specs.Tree.{Tree}
 use Rattle.fx_expr.specs.declared.expr.Expr.{Expr}
 use Rattle.fx_expr.specs.declared.expr.Expr.TheVariants.{Lit, Input, State, Temp, Neg', Add', Sub', Mul', Div'}
 
+-- the tree of an expression
 abbrev pub tree : Expr → Tree
 tree (Lit c) = model.Literal c
 tree (Input k) = model.Input k

@@ -19,9 +19,11 @@ fewest_places n (negsuc p) = (n * 10 ^ suc p, 0)
 abbrev pub within_limits : Bool → ℕ × ℕ → Result Decimal NumberFault
 within_limits is_negative x = if nat_lt x.0 (2 ^ 62) && nat_le x.1 18 then Ok (record { a = signed is_negative x.0; b = x.1 }) else Err TooLong
 
+-- the decimal of a numeral: none is Malformed, and one beyond the limits is TooLong
 abbrev pub decimal_from : Option Numeral → Result Decimal NumberFault
 decimal_from None = Err Malformed
 decimal_from (Some n) = within_limits (is_minus n.sign) (fewest_places (mantissa n) (places n))
 
+-- the decimal that a text spells
 unfoldable pub decimal_of : List ℕ → Result Decimal NumberFault
 decimal_of text = decimal_from (numeral_of text)

@@ -51,6 +51,7 @@ all_shape_conditions fn p =
 abbrev pub no_state : function.State
 no_state = record { name = []; start = whole (pos 0) }
 
+-- the declared start of state k
 abbrev pub start_of : Function → ℕ → Rational
 start_of fn k = (at no_state fn.states k).start
 
@@ -103,14 +104,17 @@ abbrev pub demand_conditions : Function → Program → Certificate → List Con
 demand_conditions fn p cert =
     each_index p.outputs (λ j. record { kind = condition.Demand; part = OfOutput; index = j + 1; test = true; claims = demand_claims (at None fn.demands j) (error_at cert.lines (output_code p j)) })
 
+-- all conditions, in the order in which a checker looks at them
 abbrev pub conditions : Rewrites → Function → Program → Certificate → List Condition
 conditions rewrite fn p cert =
     record { kind = condition.Counts; part = OfProgram; index = 0; test = counts_agree fn p cert; claims = [] } ∷
     (step_conditions rewrite 0 fn cert.steps ++ (conditions_of (rewritten_by rewrite fn cert.steps) p cert ++ demand_conditions fn p cert))
 
+-- the first that fails or doesn't fit
 abbrev pub first_fault : Rewrites → Function → Program → Certificate → Option Fault
 first_fault rewrite fn p cert = first_fault_of (conditions rewrite fn p cert)
 
+-- none does
 abbrev pub IsAccepted : Rewrites → Function → Program → Certificate → Type 0
 IsAccepted rewrite fn p cert = first_fault rewrite fn p cert ≡ None
 

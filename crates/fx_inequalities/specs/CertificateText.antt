@@ -13,6 +13,7 @@ use Rattle.fx_inequalities.specs.Certificate.{Certificate, Form, NodeLine, Row, 
 abbrev pub dyadic_text : Dyadic → List ℕ
 dyadic_text d = signed_decimal d.m ++ codes ":" ++ decimal d.e
 
+-- the lower end and the upper
 abbrev pub interval_fields : Interval → List (List ℕ)
 interval_fields i = dyadic_text i.lo ∷ dyadic_text i.hi ∷ []
 
@@ -30,9 +31,11 @@ abbrev pub path_field : List ℕ → List ℕ
 path_field [] = codes "-"
 path_field (d ∷ ds) = map (λ k. 48 + k) (d ∷ ds)
 
+-- a rewriting step
 abbrev pub step_fields : Rewriting → List (List ℕ)
 step_fields s = codes "step" ∷ decimal s.place ∷ path_field s.path ∷ decimal s.rule ∷ []
 
+-- the boxes of a state
 abbrev pub start_fields : StartBox → List (List ℕ)
 start_fields b = codes "start" ∷ interval_fields b.range ++ interval_fields b.error
 
@@ -40,6 +43,7 @@ start_fields b = codes "start" ∷ interval_fields b.range ++ interval_fields b.
 abbrev pub box_fields : Row → List (List ℕ)
 box_fields r = codes "box" ∷ interval_fields r.bound ++ share_fields r.shares
 
+-- a further row, with its coefficients
 abbrev pub row_fields : Row → List (List ℕ)
 row_fields r = codes "row" ∷ map dyadic_text r.coefs ++ interval_fields r.bound ++ share_fields r.shares
 
@@ -47,11 +51,13 @@ row_fields r = codes "row" ∷ map dyadic_text r.coefs ++ interval_fields r.boun
 abbrev pub rows_text : ℕ → List Row → List ℕ
 rows_text k rows = flat_map (λ r. line_text (box_fields r)) (take k rows) ++ flat_map (λ r. line_text (row_fields r)) (drop k rows)
 
+-- a form, behind range and error
 abbrev pub form_fields : Form → List (List ℕ)
 form_fields f =
     dyadic_text f.centre_a ∷ dyadic_text f.centre_b ∷ map dyadic_text f.coefs ++ interval_fields f.rest ++ interval_fields f.error_rest ++
     by_fields f.range_by ++ by_fields f.error_by
 
+-- a plain line, or one with a form
 abbrev pub node_fields : NodeLine → Option Form → List (List ℕ)
 node_fields l None = codes "plain" ∷ interval_fields l.range ++ interval_fields l.error
 node_fields l (Some f) = codes "form" ∷ interval_fields l.range ++ interval_fields l.error ++ form_fields f

@@ -18,6 +18,7 @@ abbrev pub AreShares : ℕ → ℕ → List Share → Type 0
 AreShares count least [] = Unit {0}
 AreShares count least (s ∷ shares) = (least ≤ s.row) × (s.row < count) × IsWritten s.times × AreShares count (s.row + 1) shares
 
+-- or none are named
 abbrev pub AreSharesIfAny : ℕ → Option (List Share) → Type 0
 AreSharesIfAny count None = Unit {0}
 AreSharesIfAny count (Some shares) = AreShares count 0 shares
@@ -31,6 +32,7 @@ zeros (suc j) = zero_dyadic ∷ zeros j
 abbrev pub unit_vector : ℕ → ℕ → List Dyadic
 unit_vector k i = zeros i ++ record { m = pos 1; e = 0 } ∷ zeros (k - (i + 1))
 
+-- a row over k states among so many rows
 pub record IsWrittenRow (k count : ℕ) (r : Row) : Type 0 where
   pub coefs : length r.coefs ≡ k
   pub written : All IsWritten r.coefs
@@ -42,6 +44,7 @@ abbrev pub AreUnitRows : ℕ → ℕ → List Row → Type 0
 AreUnitRows k i [] = Unit {0}
 AreUnitRows k i (r ∷ rows) = (i < k → r.coefs ≡ unit_vector k i) × AreUnitRows k (i + 1) rows
 
+-- all rows of a certificate, the unit rows first
 pub record AreWrittenRows (k : ℕ) (rows : List Row) : Type 0 where
   pub enough : k ≤ length rows
   pub few : length rows ≤ 512
@@ -59,6 +62,7 @@ pub record IsWrittenForm (v rows error_rows : ℕ) (f : Form) : Type 0 where
   pub range_by : AreSharesIfAny rows f.range_by
   pub error_by : AreSharesIfAny error_rows f.error_by
 
+-- a form stands behind the variables' nodes alone
 abbrev pub IsFormIfAny : ℕ → ℕ → ℕ → ℕ → Option Form → Type 0
 IsFormIfAny v rows error_rows n None = Unit {0}
 IsFormIfAny v rows error_rows n (Some f) = (v ≤ n) × IsWrittenForm v rows error_rows f
@@ -69,9 +73,11 @@ AreWrittenLines v rows error_rows n [] = Unit {0}
 AreWrittenLines v rows error_rows n (l ∷ lines) =
     (IsWrittenInterval l.range × IsWrittenInterval l.error × IsFormIfAny v rows error_rows n l.form) × AreWrittenLines v rows error_rows (n + 1) lines
 
+-- both intervals are written
 abbrev pub IsWrittenBox : StartBox → Type 0
 IsWrittenBox b = IsWrittenInterval b.range × IsWrittenInterval b.error
 
+-- all of it
 pub record IsLawfulCertificate (c : Certificate) : Type 0 where
   pub some_input : 1 ≤ c.inputs
   pub inputs : c.inputs ≤ 64

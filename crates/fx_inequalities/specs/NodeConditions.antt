@@ -85,6 +85,7 @@ has_form (Mul a b) = true
 has_form (Copy a) = true
 has_form node = false
 
+-- only some operations may have a form
 abbrev pub form_test : Node → Option Form → Bool
 form_test node None = true
 form_test node (Some form) = has_form node
@@ -116,6 +117,7 @@ quotient_claims a b c =
 abbrev pub no_input : function.Input
 no_input = record { name = []; lo = whole (pos 0); hi = whole (pos 0); err = whole (pos 0) }
 
+-- of each operation, without shares of rows
 abbrev pub plain_range_claims : Function → Certificate → Node → Span → List Claim
 plain_range_claims fn cert (Input k) g =
     let i = at no_input fn.inputs k in BelowFraction g.lo i.lo ∷ AboveFraction i.hi g.hi ∷ []
@@ -150,20 +152,24 @@ abbrev pub by_rows : Option (List Share) → (List Share → List Claim) → Lis
 by_rows None by plain = plain
 by_rows (Some shares) by plain = by shares
 
+-- the shares for the range, where a form names some
 abbrev pub range_by_of : Option Form → Option (List Share)
 range_by_of None = None
 range_by_of (Some form) = form.range_by
 
+-- those for the error
 abbrev pub error_by_of : Option Form → Option (List Share)
 error_by_of None = None
 error_by_of (Some form) = form.error_by
 
+-- by shares where they are named, else plain
 abbrev pub range_claims : Function → Certificate → NodeLine → Node → Option Form → List Claim
 range_claims fn cert l node form =
     let i = length fn.inputs in let k = length fn.states in let own = of_line l form in
     by_rows (range_by_of form) (λ shares. inside (bound_by_rows i k own.coef own.rest (range_at cert.lines) (rows_of k cert.rows) shares) (span l.range))
     (plain_range_claims fn cert node (span l.range))
 
+-- the same of the error
 abbrev pub error_claims : Function → Certificate → NodeLine → Node → Code → ℤ → Option Form → List Claim
 error_claims fn cert l node c f form =
     let i = length fn.inputs in let k = length fn.states in let own = of_line l form in
@@ -180,11 +186,13 @@ word_claims n f g h =
 abbrev pub variables : Function → ℕ
 variables fn = length fn.inputs + length fn.states
 
+-- of node n and its code: first Shape, then Shift
 abbrev pub shape_conditions : ℕ → ℕ → List ℤ → ℕ → Node → Code → List Condition
 shape_conditions i next ps n node c =
     record { kind = condition.Shape; part = OfNode; index = n; test = same_shape node c; claims = [] } ∷
     record { kind = condition.Shift; part = OfNode; index = n; test = same_point ps c && state_point i next ps n; claims = [] } ∷ []
 
+-- of node n and its code: Form, Divisor, Range, Error, WordTooSmall
 abbrev pub node_conditions : Function → ℕ → List ℤ → Certificate → ℕ → Node → Code → List Condition
 node_conditions fn w ps cert n node c =
     let v = variables fn in let l = at no_line cert.lines n in let f = at (pos 0) ps n in let form = form_of v cert.lines n in

@@ -43,6 +43,7 @@ words_in (C16 words) = words.now
 words_in (C32 words) = words.now
 words_in (C64 words) = words.now
 
+-- the size of these cells
 abbrev pub size_in : Cells → ℕ
 size_in (C8 words) = 8
 size_in (C16 words) = 16

@@ -30,10 +30,12 @@ IsPlaced i k n (Input j f) = (n ≡ j) × (j < i)
 IsPlaced i k n (State j f w) = (n ≡ i + j) × (j < k)
 IsPlaced i k n c = i + k ≤ n
 
+-- code n and those after it
 abbrev pub AreLawful : ℕ → ℕ → ℕ → ℕ → List Code → Type 0
 AreLawful w i k n [] = Unit {0}
 AreLawful w i k n (c ∷ cs) = (IsLawfulCode w n c × IsPlaced i k n c) × AreLawful w i k (n + 1) cs
 
+-- a copy
 abbrev pub IsCopy : Code → Type 0
 IsCopy (Copy a s) = Unit {0}
 IsCopy c = ⊥
@@ -52,6 +54,7 @@ pub record HasLawfulCounts (p : Program) : Type 0 where
   pub enough : p.inputs + p.states + (p.outputs + p.states) ≤ length p.codes
   pub codes : length p.codes ≤ 4000
 
+-- all of it
 pub record IsLawfulProgram (p : Program) : Type 0 where
   pub width : Contains widths p.width
   pub counts : HasLawfulCounts p

@@ -32,6 +32,7 @@ pub record Program : Type 0 where
 abbrev pub is_word : ℕ → ℤ → Bool
 is_word n w = int_le (neg_ℤ (pos (2 ^ (n - 1)))) w && int_lt w (pos (2 ^ (n - 1)))
 
+-- a word of n bits
 abbrev pub IsWord : ℕ → ℤ → Type 0
 IsWord n w = IsTrue (is_word n w)
 
@@ -90,6 +91,7 @@ words_after n [] g z ws = Some ws
 words_after n (c ∷ cs) g z ws =
     option_and_then (λ w. words_after n cs g z (ws ++ w ∷ [])) (option_and_then (kept n) (made c g z ws))
 
+-- the words of all codes at the given row g and the state words z
 abbrev pub words_of : Program → List Rational → List ℤ → Option (List ℤ)
 words_of p g z = words_after p.width p.codes g z []
 
@@ -112,6 +114,7 @@ start_words (c ∷ cs) = start_words cs
 abbrev pub machine_run : Program → List (List Rational) → Option (Run ℤ)
 machine_run p rows = run_of (machine_step p) rows (start_words p.codes)
 
+-- no step of the run is stuck
 abbrev pub IsUnstuck : Program → List (List Rational) → Type 0
 IsUnstuck p rows = IsSome (machine_run p rows)
 
@@ -128,12 +131,15 @@ point_of (Mul a b s) ps = (at (pos 0) ps a +ℤ at (pos 0) ps b) -ℤ pos s
 point_of (Div a b s) ps = (at (pos 0) ps a +ℤ pos s) -ℤ at (pos 0) ps b
 point_of (Copy a s) ps = at (pos 0) ps a -ℤ s
 
+-- the points of these codes behind the points ps
 abbrev pub points_after : List Code → List ℤ → List ℤ
 points_after [] ps = ps
 points_after (c ∷ cs) ps = points_after cs (ps ++ point_of c ps ∷ [])
 
+-- the points of all codes
 abbrev pub points_of : List Code → List ℤ
 points_of cs = points_after cs []
 
+-- those of the outputs
 abbrev pub output_points : Program → List ℤ
 output_points p = take p.outputs (drop (length p.codes - (p.outputs + p.states)) (points_of p.codes))

@@ -17,5 +17,6 @@ abbrev pub is_name : List ℕ → Bool
 is_name [] = false
 is_name (c ∷ cs) = is_letter c && list_all (λ x. is_letter x || is_ascii_digit x) cs && not (list_any (λ w. bytes_eq w (c ∷ cs)) reserved_words)
 
+-- a name, as a proposition
 abbrev pub IsName : List ℕ → Type 0
 IsName text = IsTrue (is_name text)

@@ -41,14 +41,17 @@ flat i temps n (tree.Difference a b) = binary n Sub (flat i temps n a) (λ m. fl
 flat i temps n (tree.Product a b) = binary n Mul (flat i temps n a) (λ m. flat i temps m b)
 flat i temps n (tree.Quotient a b) = binary n Div (flat i temps n a) (λ m. flat i temps m b)
 
+-- m inputs, from k on
 abbrev pub inputs_from : ℕ → ℕ → List Node
 inputs_from k zero = []
 inputs_from k (suc m) = Input k ∷ inputs_from (k + 1) m
 
+-- m states, from k on
 abbrev pub states_from : ℕ → ℕ → List Node
 states_from k zero = []
 states_from k (suc m) = State k ∷ states_from (k + 1) m
 
+-- a copy of each of these nodes
 abbrev pub copies_of : List ℕ → List Node
 copies_of [] = []
 copies_of (a ∷ more) = Copy a ∷ copies_of more
@@ -61,6 +64,7 @@ nodes_after i [] (e ∷ es) temps roots ns =
 nodes_after i (t ∷ ts) es temps roots ns =
     let x = flat i temps (length ns) t.tree in nodes_after i ts es (temps ++ x.root ∷ []) roots (ns ++ x.list)
 
+-- the node list of a function
 abbrev pub nodes_of : Function → List Node
 nodes_of f = nodes_after (length f.inputs) f.temps f.results [] [] (inputs_from 0 (length f.inputs) ++ states_from 0 (length f.states))
 
@@ -81,6 +85,7 @@ abbrev pub node_values_after : List Node → List Rational → List Rational →
 node_values_after [] t x vs = Some vs
 node_values_after (n ∷ ns) t x vs = option_and_then (λ v. node_values_after ns t x (vs ++ v ∷ [])) (node_value n t x vs)
 
+-- the values of all its nodes
 abbrev pub node_values : Function → List Rational → List Rational → Option (List Rational)
 node_values f t x = node_values_after (nodes_of f) t x []
 

@@ -38,6 +38,7 @@ pub record IsInput (i : Input) : Type 0 where
   pub ordered : AtMost i.lo i.hi
   pub error : AtMost (whole (pos 0)) i.err
 
+-- so is each input
 abbrev pub AreInputs : List Input → Type 0
 AreInputs [] = Unit {0}
 AreInputs (i ∷ is) = IsInput i × AreInputs is

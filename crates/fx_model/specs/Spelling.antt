@@ -20,6 +20,7 @@ abbrev pub number : List ℕ → ℕ
 number [] = 0
 number (d ∷ ds) = d * 10 ^ length ds + number ds
 
+-- without the sign
 abbrev pub size : Spelling → Rational
 size s = plus (whole (pos s.whole)) (over (pos (number s.digits)) (10 ^ length s.digits))
 

@@ -10,5 +10,6 @@ pub record HasNames (f : Function) : Type 0 where
   pub states : All (λ s. IsName s.name) f.states
   pub temps : All (λ t. IsName t.name) f.temps
 
+-- lawful, and with its names
 abbrev pub IsWhole : Function → Type 0
 IsWhole f = IsLawfulFunction f × HasNames f

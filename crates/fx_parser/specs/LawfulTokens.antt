@@ -19,8 +19,10 @@ IsSoundText Name text = IsName text
 IsSoundText Number text = IsSize (decimal text)
 IsSoundText _ text = Unit {0}
 
+-- a token's text is what its kind says
 abbrev pub IsSound : Lexeme → Type 0
 IsSound t = IsSoundText t.kind t.text
 
+-- each token's is
 abbrev pub AreSound : Tokens → Type 0
 AreSound ts = All IsSound ts

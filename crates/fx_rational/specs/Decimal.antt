@@ -2,10 +2,12 @@
 use Rattle.std.specs.Prelude.{ℕ, ◌^◌, ◌<◌, ◌≤◌, ◌%◌, ℤ, unsigned_abs, Bool, ◌&&◌}
 use Rattle.fx_rational.specs.Rational.{Rational, over, scaled, floor, plus, minus, is_at_most}
 
+-- a / 10^b
 pub record Decimal : Type 0 where
   pub a : ℤ
   pub b : ℕ
 
+-- its value
 unfoldable pub decimal_value : Decimal → Rational
 decimal_value d = over d.a (10 ^ d.b)
 

@@ -2,6 +2,7 @@
 use Rattle.std.specs.Prelude.{◌≡◌, ℕ, zero, suc, ◌+◌, ◌-◌, ◌^◌, ◌%◌, ◌<◌, ◌≤◌, max, unsigned_abs, ℤ, pos, negsuc, ◌+ℤ◌, ◌-ℤ◌, ◌*ℤ◌, neg_ℤ, int_le, int_lt, Bool, ◌&&◌, nat_le, if◌then◌else◌}
 use Rattle.fx_rational.specs.Rational.{Rational, over, is_at_most, floor_div, ceil_div}
 
+-- m / 2^e, as it is written
 pub record Dyadic : Type 0 where
   pub m : ℤ
   pub e : ℕ
@@ -17,9 +18,11 @@ pub record IsWritten (d : Dyadic) : Type 0 where
   pub places : d.e ≤ 96
   pub one_spelling : 0 < d.e → unsigned_abs d.m % 2 ≡ 1
 
+-- its value
 unfoldable pub dyadic_value : Dyadic → Rational
 dyadic_value d = over d.m (2 ^ d.e)
 
+-- 0 / 2^0
 abbrev pub zero_dyadic : Dyadic
 zero_dyadic = record { m = pos 0; e = 0 }
 
@@ -36,6 +39,7 @@ aligned d e = d.m *ℤ pos (2 ^ (e - d.e))
 unfoldable pub dyadic_sum : Dyadic → Dyadic → Dyadic
 dyadic_sum a b = let e = max a.e b.e in dyadic (aligned a e +ℤ aligned b e) e
 
+-- so are differences
 unfoldable pub dyadic_difference : Dyadic → Dyadic → Dyadic
 dyadic_difference a b = let e = max a.e b.e in dyadic (aligned a e -ℤ aligned b e) e
 
@@ -43,6 +47,7 @@ dyadic_difference a b = let e = max a.e b.e in dyadic (aligned a e -ℤ aligned 
 unfoldable pub dyadic_product : Dyadic → Dyadic → Dyadic
 dyadic_product a b = dyadic (a.m *ℤ b.m) (a.e + b.e)
 
+-- by value, whatever the exponents
 abbrev pub is_dyadic_at_most : Dyadic → Dyadic → Bool
 is_dyadic_at_most a b = is_at_most (dyadic_value a) (dyadic_value b)
 
@@ -50,6 +55,7 @@ is_dyadic_at_most a b = is_at_most (dyadic_value a) (dyadic_value b)
 unfoldable pub least : Dyadic → Dyadic → Dyadic
 least a b = if is_dyadic_at_most a b then a else b
 
+-- the first of equals again
 unfoldable pub greatest : Dyadic → Dyadic → Dyadic
 greatest a b = if is_dyadic_at_most b a then a else b
 
@@ -61,9 +67,11 @@ fits_128 m = int_le (neg_ℤ (pos (2 ^ 127))) m && int_lt m (pos (2 ^ 127))
 unfoldable pub sum_fits : Dyadic → Dyadic → Bool
 sum_fits a b = let e = max a.e b.e in fits_128 (aligned a e) && fits_128 (aligned b e) && fits_128 (aligned a e +ℤ aligned b e)
 
+-- of a difference
 unfoldable pub difference_fits : Dyadic → Dyadic → Bool
 difference_fits a b = let e = max a.e b.e in fits_128 (aligned a e) && fits_128 (aligned b e) && fits_128 (aligned a e -ℤ aligned b e)
 
+-- of a product
 unfoldable pub product_fits : Dyadic → Dyadic → Bool
 product_fits a b = fits_128 (a.m *ℤ b.m)
 
@@ -71,6 +79,7 @@ product_fits a b = fits_128 (a.m *ℤ b.m)
 unfoldable pub rounded_down : Dyadic → ℕ → Dyadic
 rounded_down d e = if nat_le d.e e then d else dyadic (floor_div d.m (2 ^ (d.e - e))) e
 
+-- the least not below
 unfoldable pub rounded_up : Dyadic → ℕ → Dyadic
 rounded_up d e = if nat_le d.e e then d else dyadic (ceil_div d.m (2 ^ (d.e - e))) e
 
@@ -79,6 +88,7 @@ abbrev pub unit_dyadic : ℤ → Dyadic
 unit_dyadic (pos f) = record { m = pos 1; e = f }
 unit_dyadic (negsuc f) = record { m = pos (2 ^ suc f); e = 0 }
 
+-- w / 2^f
 abbrev pub word_dyadic : ℤ → ℤ → Dyadic
 word_dyadic w (pos f) = dyadic w f
 word_dyadic w (negsuc f) = record { m = w *ℤ pos (2 ^ suc f); e = 0 }

@@ -15,19 +15,24 @@ bottom q = suc q.less
 unfoldable pub over : ℤ → ℕ → Rational
 over n d = record { top = n; less = pred d }
 
+-- a whole number
 abbrev pub whole : ℤ → Rational
 whole n = record { top = n; less = 0 }
 
+-- n/d + m/e = (n*e + m*d) / (d*e)
 unfoldable pub plus : Rational → Rational → Rational
 unfolding over
 plus p q = over (p.top *ℤ pos (bottom q) +ℤ q.top *ℤ pos (bottom p)) (bottom p * bottom q)
 
+-- the sign turned
 unfoldable pub negative : Rational → Rational
 negative p = record { top = neg_ℤ p.top; less = p.less }
 
+-- p + (-q)
 unfoldable pub minus : Rational → Rational → Rational
 minus p q = plus p (negative q)
 
+-- tops and bottoms are multiplied
 unfoldable pub times : Rational → Rational → Rational
 times p q = over (p.top *ℤ q.top) (bottom p * bottom q)
 
@@ -45,6 +50,7 @@ quotient p q = divided p.top (bottom p) q.top (bottom q)
 pub record Equal (p q : Rational) : Type 0 where
   pub equal : p.top *ℤ pos (bottom q) ≡ q.top *ℤ pos (bottom p)
 
+-- p is at most q, by cross multiplication
 pub record AtMost (p q : Rational) : Type 0 where
   pub at_most : (p.top *ℤ pos (bottom q)) ≤ℤ (q.top *ℤ pos (bottom p))
 
@@ -74,17 +80,21 @@ floor q = floor_div q.top (bottom q)
 unfoldable pub lowest : Rational → Rational
 lowest q = let g = gcd (unsigned_abs q.top) (bottom q) in over (int_div q.top (pos g)) (bottom q / g)
 
+-- above 0
 abbrev pub above_zero : ℤ → Bool
 above_zero (pos zero) = false
 above_zero (pos (suc n)) = true
 above_zero (negsuc n) = false
 
+-- below 0
 abbrev pub below_zero : ℤ → Bool
 below_zero (pos n) = false
 below_zero (negsuc n) = true
 
+-- above 0
 unfoldable pub is_positive : Rational → Bool
 is_positive q = above_zero q.top
 
+-- below 0
 unfoldable pub is_negative : Rational → Bool
 is_negative q = below_zero q.top

@@ -91,6 +91,7 @@ pub record IsInputOf (s : Subject) (x : Input) : Type 0 where
   pub ordered : AtMost (decimal_value lo) (decimal_value hi)
   pub value : x ≡ record { name = s.name; lo = decimal_value lo; hi = decimal_value hi; err = decimal_value (or_zero s.err) }
 
+-- each parameter with the input that it is
 pub data AreInputsOf : Subjects → List Input → Type 0 where
   none : AreInputsOf [] []
   one_more : {s : Subject} {x : Input} {subjects : Subjects} {inputs : List Input} → IsInputOf s x → AreInputsOf subjects inputs → AreInputsOf (s ∷ subjects) (x ∷ inputs)

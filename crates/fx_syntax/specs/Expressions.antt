@@ -16,6 +16,7 @@ pub record Scope : Type 0 where
   pub states : List Text
   pub temps : List Text
 
+-- inputs, states and temps
 abbrev pub all_names : Scope → List Text
 all_names scope = scope.inputs ++ scope.states ++ scope.temps
 
