@@ -1,5 +1,5 @@
 -- What the code's tests of formulas say of the claims.
-use Rattle.std.proofs.Common.{◌≡◌, ℕ, zero, suc, ◌-◌, ◌*◌, ◌^◌, ◌<◌, ◌≤◌, max, Bool, true, false, ◌&&◌, IsTrue, Option, Some, None, SomeIff, [], ◌∷◌, ℤ, pos, negsuc, ◌+ℤ◌, ◌-ℤ◌, ◌*ℤ◌, refl, sym, ap, subst₂, ◌∙◌, arith}
+use Rattle.std.proofs.Common.{◌≡◌, ℕ, zero, suc, ◌-◌, ◌*◌, ◌^◌, ◌<◌, ◌≤◌, max, Bool, true, false, ◌&&◌, IsTrue, Option, Some, None, SomeIff, [], ◌∷◌, ℤ, pos, negsuc, ◌+ℤ◌, ◌-ℤ◌, ◌*ℤ◌, refl, sym, ap, ◌∙◌, arith}
 use Rattle.std.specs.List.{list_all}
 use Rattle.std.proofs.Math.Nat.{le-mul_of_pos_right}
 use Rattle.std.proofs.lemmas.Int.{ints}
@@ -197,19 +197,8 @@ pub above_none : (f : Formula) (r : Rational) → Forms None f → Beyond ≡ ju
 above_none f r h = rw (untrue (formula_fits f) h) refl
 
 -- ---- ends of narrow intervals
-pub narrow_low : (i : Interval) → IsNarrowInterval i → fits_128 i.lo.m ≡ true
-narrow_low i h = (both_true (fits_128 i.lo.m) (fits_128 i.hi.m) h).0
-
-pub narrow_high : (i : Interval) → IsNarrowInterval i → fits_128 i.hi.m ≡ true
-narrow_high i h = (both_true (fits_128 i.lo.m) (fits_128 i.hi.m) h).1
 
 -- ---- the same of values that are equal
 pub forms_number : (d e : Dyadic) → d ≡ e → fits_128 e.m ≡ true → Forms (Some d) (Num e)
 unfolding formula_fits formed
 forms_number d e same h = (h, same)
-
-pub forms_sum : (r : Option Dyadic) (a b x y : Dyadic) → a ≡ x → b ≡ y → SomeIff r (IsTrue (sum_fits a b)) (dyadic_sum a b) → Forms r (Sum (Num x) (Num y))
-forms_sum r a b x y p q h = subst₂ (λ (u v : Dyadic). Forms r (Sum (Num u) (Num v))) p q (sum_forms r a b h)
-
-pub forms_difference : (r : Option Dyadic) (a b x y : Dyadic) → a ≡ x → b ≡ y → SomeIff r (IsTrue (difference_fits a b)) (dyadic_difference a b) → Forms r (Difference (Num x) (Num y))
-forms_difference r a b x y p q h = subst₂ (λ (u v : Dyadic). Forms r (Difference (Num u) (Num v))) p q (difference_forms r a b h)

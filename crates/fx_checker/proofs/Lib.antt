@@ -1,7 +1,7 @@
 pub mod Steps
 pub mod Walks
 pub mod Codes
-pub mod Counts
+pub mod MatchedShapes
 pub mod Whole
 pub mod Judged
 pub mod LowestTerms

@@ -3,7 +3,7 @@ use Rattle.std.proofs.Common.{◌≡◌, ℕ, suc, ◌+◌, ◌<◌, ◌≤◌, 
 use Rattle.std.proofs.lemmas.Bool.{cases_lt}
 use Rattle.std.proofs.Math.ListN.{drop_of_length-le, get_or-map}
 use Rattle.std.proofs.Math.Seq.{drop-cons}
-use Rattle.std.proofs.lemmas.List.{length-map, get_or_default}
+use Rattle.std.proofs.lemmas.List.{length-map, map-id, get_or_default}
 use Rattle.fx_model.specs.Machine.{Code}
 use Rattle.fx_model.specs.Nodes.{Node}
 use Rattle.fx_inequalities.specs.Condition.{Condition, Fault, fault_of, first_some, first_fault_of}
@@ -13,7 +13,8 @@ pub first_some_none : (f : Option Fault) → first_some f None ≡ f
 first_some_none None = refl
 first_some_none (Some f) = refl
 
-first_some_joined : (a b c : Option Fault) → first_some (first_some a b) c ≡ first_some a (first_some b c)
+-- of three, whichever two are taken first
+pub first_some_joined : (a b c : Option Fault) → first_some (first_some a b) c ≡ first_some a (first_some b c)
 first_some_joined None b c = refl
 first_some_joined (Some f) b c = refl
 
@@ -83,15 +84,11 @@ past_one a b m n e le = elim (cases_lt n a) [
   | inr less ↦ inl less
 ]
 
-same_codes : (cs : List Code) → map (λ (c : Code). c) cs ≡ cs
-same_codes [] = refl
-same_codes (c ∷ cs) = ap (λ ds. c ∷ ds) (same_codes cs)
-
 -- the same where the codes are looked up
 module _ {A : Type 0} (node : A → Node) (f : ℕ → Node → Code → List Condition) (n : ℕ) (xs : List A) (x : A) (cs : List Code) (e : Code)
     (a : n < length xs) (b : n < length cs) (is_x : x ≡ get_or xs n x) (walked : Walked f n (map node xs) cs) where
   pub at_turn_found : (g : Fault) → Some g ≡ first_fault_of (f n (node x) (get_or cs n e)) → Some g ≡ first_fault_of (each_node f 0 (map node xs) cs)
-  at_turn_found g h = found node (λ c. c) f n xs cs x (get_or cs n e) cs (same_codes cs) a b is_x (get_or_default cs n e (get_or cs n e) b) walked g h
+  at_turn_found g h = found node (λ c. c) f n xs cs x (get_or cs n e) cs (map-id cs) a b is_x (get_or_default cs n e (get_or cs n e) b) walked g h
 
   pub at_turn_passed : None ≡ first_fault_of (f n (node x) (get_or cs n e)) → Walked f (n + 1) (map node xs) cs
-  at_turn_passed h = passed node (λ c. c) f n xs cs x (get_or cs n e) cs (same_codes cs) a b is_x (get_or_default cs n e (get_or cs n e) b) walked h
+  at_turn_passed h = passed node (λ c. c) f n xs cs x (get_or cs n e) cs (map-id cs) a b is_x (get_or_default cs n e (get_or cs n e) b) walked h

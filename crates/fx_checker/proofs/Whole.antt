@@ -1,7 +1,7 @@
 -- The list of all conditions, for a function without states and a plain certificate.
-use Rattle.std.proofs.Common.{◌≡◌, ℕ, zero, suc, ◌+◌, ◌<◌, Bool, true, false, List, [], ◌∷◌, ◌++◌, ◌-◌, ◌==◌, length, min, Option, Some, None, refl, sym, ap, ap₂, ◌∙◌, arith, inl, inr}
-use Rattle.std.specs.Prelude.{if◌then◌else◌, ◌&&◌}
+use Rattle.std.proofs.Common.{◌≡◌, ℕ, zero, suc, ◌+◌, ◌<◌, true, List, [], ◌∷◌, ◌++◌, ◌-◌, ◌==◌, length, min, Option, Some, None, refl, sym, ap, ap₂, ◌∙◌, arith, inl, inr}
 use Rattle.std.proofs.lemmas.Bool.{cases_lt}
+use Rattle.std.proofs.lemmas.List.{append-nil}
 use Rattle.fx_model.specs.Function.{Function}
 use Rattle.fx_model.specs.Machine.{Program, points_of}
 use Rattle.fx_model.specs.Nodes.{Node, nodes_of}
@@ -13,7 +13,7 @@ use Rattle.fx_inequalities.specs.Claim.{Claim}
 use Rattle.fx_inequalities.specs.NodeConditions.{node_conditions, shape_conditions}
 use Rattle.fx_inequalities.specs.Rewriting.{no_rewriting}
 use Rattle.fx_cert.specs.Reading.{plain}
-use Rattle.fx_checker.proofs.Walks.{first_of_both, first_some_none}
+use Rattle.fx_checker.proofs.Walks.{first_of_both, first_some_joined, first_some_none}
 
 -- the condition on counts
 abbrev pub counts_condition : Function → Program → Certificate → Condition
@@ -26,16 +26,12 @@ node_list fn p cert = each_node (node_conditions fn p.width (points_of p.codes) 
 no_claims : (kind : Kind) (part : Part) (k : ℕ) (claims : ℕ → List Claim) → k ≡ 0 → each_claims kind part k claims ≡ []
 no_claims kind part k claims e = rw e refl
 
-append_none : {X : Type 0} (xs : List X) → xs ++ [] ≡ xs
-append_none [] = refl
-append_none (x ∷ xs) = ap (λ ys. x ∷ ys) (append_none xs)
-
 -- all but counts and demands
 plain_conditions : (fn : Function) (p : Program) (inputs : ℕ) (lines : List NodeLine) → length fn.states ≡ 0 →
     conditions_of fn p (plain inputs lines) ≡ all_shape_conditions fn p ++ node_list fn p (plain inputs lines)
 plain_conditions fn p inputs lines none =
     ap (λ xs. all_shape_conditions fn p ++ (node_list fn p (plain inputs lines) ++ xs)) (rw none refl)
-    ∙ ap (λ xs. all_shape_conditions fn p ++ xs) (append_none (node_list fn p (plain inputs lines)))
+    ∙ ap (λ xs. all_shape_conditions fn p ++ xs) (append-nil (node_list fn p (plain inputs lines)))
 
 -- the first fault is that of counts, or else of shapes, or else of nodes, or else of demands
 pub whole : (fn : Function) (p : Program) (inputs : ℕ) (lines : List NodeLine) → length fn.states ≡ 0 →
@@ -44,18 +40,7 @@ pub whole : (fn : Function) (p : Program) (inputs : ℕ) (lines : List NodeLine)
 whole fn p inputs lines none =
     let cert = plain inputs lines in let shapes = all_shape_conditions fn p in let nodes = node_list fn p cert in let demands = demand_conditions fn p cert in
     ap (λ xs. first_some (fault_of (counts_condition fn p cert)) (first_fault_of (xs ++ demands))) (plain_conditions fn p inputs lines none)
-    ∙ ap (first_some (fault_of (counts_condition fn p cert))) (first_of_both (shapes ++ nodes) demands ∙ ap (λ f. first_some f (first_fault_of demands)) (first_of_both shapes nodes) ∙ joined (first_fault_of shapes) (first_fault_of nodes) (first_fault_of demands))
-  where
-    joined : (a b c : Option Fault) → first_some (first_some a b) c ≡ first_some a (first_some b c)
-    joined None b c = refl
-    joined (Some f) b c = refl
-
--- counts that don't agree are the first fault
-pub miscounted : (fn : Function) (p : Program) (cert : Certificate) → counts_agree fn p cert ≡ false → first_fault no_rewriting fn p cert ≡ Some (record { kind = condition.Counts; part = OfProgram; index = 0 })
-miscounted fn p cert e = by (counts_agree fn p cert) _ e where
-  by : (t : Bool) (rest : Option Fault) → t ≡ false → first_some (if t && true then None else Some (record { kind = condition.Counts; part = OfProgram; index = 0 })) rest ≡ Some (record { kind = condition.Counts; part = OfProgram; index = 0 })
-  by true rest e = absurd cc
-  by false rest e = refl
+    ∙ ap (first_some (fault_of (counts_condition fn p cert))) (first_of_both (shapes ++ nodes) demands ∙ ap (λ f. first_some f (first_fault_of demands)) (first_of_both shapes nodes) ∙ first_some_joined (first_fault_of shapes) (first_fault_of nodes) (first_fault_of demands))
 
 -- counts that agree are no fault
 pub counted : (fn : Function) (p : Program) (cert : Certificate) → counts_agree fn p cert ≡ true → fault_of (counts_condition fn p cert) ≡ None

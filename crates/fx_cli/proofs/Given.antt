@@ -33,14 +33,6 @@ value_kept i given r t e test =
     (ap (λ (b : Bool). if b then Some (decimal_value given) else None) (sym test))
 
 -- ---- the fields of a line
--- what is read of a row, and what its other fields give
-pub none_read : (all : List Input) (fields : List (List ℕ)) → row_of all fields ≡ option_map (λ gs. [] ++ gs) (row_of all fields)
-none_read all fields = go (row_of all fields)
-  where
-    go : (o : Option (List Rational)) → o ≡ option_map (λ gs. [] ++ gs) o
-    go None = refl
-    go (Some gs) = refl
-
 behind : (read gs : List Rational) (g : Rational) → read ++ g ∷ gs ≡ (read ++ g ∷ []) ++ gs
 behind read gs g = sym (append_assoc read (g ∷ []) gs)
 

@@ -44,8 +44,9 @@ pub record Counted (fn : Function) (p : Program) (cert : Certificate) : Type 0 w
   pub states : p.states ≡ length fn.states
   pub outputs : p.outputs ≡ length fn.demands
   pub cert_states : cert.states ≡ p.states
+  pub lines : length cert.lines ≡ length p.codes
 
-counted : (fn : Function) (p : Program) (cert : Certificate) → counts_agree fn p cert ≡ true → Counted fn p cert
+pub counted : (fn : Function) (p : Program) (cert : Certificate) → counts_agree fn p cert ≡ true → Counted fn p cert
 counted fn p cert counts =
     let b0 = bytes_eq p.name fn.name in let b1 = p.inputs == length fn.inputs in let b2 = p.states == length fn.states in let b3 = p.outputs == length fn.demands in
     let b4 = cert.inputs == p.inputs in let b5 = cert.states == p.states in let b6 = length cert.lines == length p.codes in
@@ -56,6 +57,7 @@ counted fn p cert counts =
       states = eqb-true _ _ (both_right (b0 && b1) b2 c2);
       outputs = eqb-true _ _ (both_right (b0 && b1 && b2) b3 c3);
       cert_states = eqb-true _ _ (both_right (b0 && b1 && b2 && b3 && b4) b5 c5);
+      lines = eqb-true _ _ (both_right (b0 && b1 && b2 && b3 && b4 && b5) b6 counts);
     }
 
 -- of the conditions that are read on a function, with counts of one of the same meaning

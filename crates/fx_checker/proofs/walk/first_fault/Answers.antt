@@ -9,15 +9,15 @@ use Rattle.fx_inequalities.specs.Accepted.{all_shape_conditions, counts_agree, e
 use Rattle.fx_inequalities.specs.Condition.{Fault, fault_of as condition_fault, first_some, first_fault_of}
 use Rattle.fx_inequalities.specs.NodeConditions.{node_conditions, shape_conditions}
 use Rattle.fx_flat.specs.NodeOf.{node_of, nodes_in}
+use Rattle.fx_sound.proofs.Accepts.{counted}
 use Rattle.fx_cert.specs.PartViews.{certificate_of, line_view}
 use Rattle.fx_checker.specs.FaultView.{fault_of}
-use Rattle.fx_checker.proofs.Counts.{counts_are}
 use Rattle.fx_checker.proofs.Whole.{count_condition, shapes_part, shape_first, node_first, demand_last}
 use Rattle.fx_checker.proofs.walk.first_fault.Goals as goal
 
 -- no states
 stateless : (fn : Function) (p : Program) (cert : certificate.Certificate) → true ≡ counts_agree fn p cert → p.states ≡ 0 → length fn.states ≡ 0
-stateless fn p cert counts none = sym (counts_are fn p cert (sym counts)).states ∙ none
+stateless fn p cert counts none = sym (counted fn p cert (sym counts)).states ∙ none
 
 -- of shapes: a fault of the nodes with codes, a fault of their counts, and none
 module _ (fn : Function) (p : Program) (ns : List Node) (count : ℕ) (same : ns ≡ nodes_of fn) (counted : count ≡ length ns) (none : length fn.states ≡ 0) where
@@ -60,11 +60,11 @@ returns-in-Some-nodes_fault c =
     (c.in-Some-nodes_fault.ensures ∙ ap (λ (ms : List Node). first_fault_of (each_node f 0 ms p.codes)) c.requires.nodes)
 
 pub demands_fault-requires-clause-demands : goal.demands_fault-requires-clause-demands
-demands_fault-requires-clause-demands c = (counts_are c.args.function.now c.args.program.now (certificate_of c.args.certificate.now) (sym c.if-not-counts_agree.ensures)).outputs
+demands_fault-requires-clause-demands c = (counted c.args.function.now c.args.program.now (certificate_of c.args.certificate.now) (sym c.if-not-counts_agree.ensures)).outputs
 
 pub demands_fault-requires-clause-lines : goal.demands_fault-requires-clause-lines
 demands_fault-requires-clause-lines c =
-    sym (length-map c.args.certificate.now.lines.items line_view) ∙ (counts_are c.args.function.now c.args.program.now (certificate_of c.args.certificate.now) (sym c.if-not-counts_agree.ensures)).lines
+    sym (length-map c.args.certificate.now.lines.items line_view) ∙ (counted c.args.function.now c.args.program.now (certificate_of c.args.certificate.now) (sym c.if-not-counts_agree.ensures)).lines
 
 pub returns : goal.returns
 returns c =

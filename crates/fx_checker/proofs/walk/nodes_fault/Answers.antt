@@ -7,16 +7,17 @@ use Rattle.fx_model.specs.Nodes as nodes
 use Rattle.fx_inequalities.specs.NodeConditions.{node_conditions, same_shape}
 use Rattle.fx_machine.proofs.Programs.{program_codes}
 use Rattle.fx_flat.specs.NodeOf.{node_of, nodes_in}
+use Rattle.fx_sound.proofs.Accepts.{counted}
 use Rattle.fx_cert.specs.PartViews.{certificate_of, line_view}
 use Rattle.fx_checker.specs.FaultView.{fault_of}
 use Rattle.fx_checker.specs.FirstNodes.{IsInputBelow}
-use Rattle.fx_checker.proofs.Counts.{counts_are, input_below, shapes_are}
+use Rattle.fx_checker.proofs.MatchedShapes.{input_below, shapes_are}
 use Rattle.fx_checker.proofs.Walks.{at_turn_found, at_turn_passed}
 use Rattle.fx_checker.proofs.walk.nodes_fault.Goals as goal
 
 pub node_fault-requires-clause-lines : goal.node_fault-requires-clause-lines
 node_fault-requires-clause-lines c =
-    sym (length-map c.args.certificate.now.lines.items line_view) ∙ (counts_are c.args.function.now c.args.program.now (certificate_of c.args.certificate.now) c.requires.counts).lines
+    sym (length-map c.args.certificate.now.lines.items line_view) ∙ (counted c.args.function.now c.args.program.now (certificate_of c.args.certificate.now) c.requires.counts).lines
 
 pub node_fault-requires-clause-shape : goal.node_fault-requires-clause-shape
 node_fault-requires-clause-shape c =
@@ -33,7 +34,7 @@ node_fault-requires-clause-input c =
     let p = c.args.program.now in let n = c.loop-n.n in
     let code_lt : n < length p.codes = rw (← c.requires.each) c.loop-n-test.true in
     let placed = (program_codes p c.requires.program.spelled.lawful n code_lt).placed in
-    let counts = counts_are c.args.function.now p (certificate_of c.args.certificate.now) c.requires.counts in
+    let counts = counted c.args.function.now p (certificate_of c.args.certificate.now) c.requires.counts in
     subst (λ i. IsInputBelow i (node_of c.index-nodes-n.result)) counts.inputs (input_below p.inputs p.states n (node_of c.index-nodes-n.result) (at (machine.Const (pos 0) (pos 0)) p.codes n) (node_fault-requires-clause-shape c) placed)
 
 pub returns-in-Some : goal.returns-in-Some

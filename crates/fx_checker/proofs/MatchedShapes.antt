@@ -1,37 +1,15 @@
--- What counts that agree say, and what shapes that agree say of each code.
-use Rattle.std.proofs.Common.{◌≡◌, ℕ, zero, suc, ◌+◌, ◌<◌, ◌==◌, Bool, true, false, List, [], ◌∷◌, length, get_or, Option, Some, None, ℤ, bytes_eq, refl, arith}
+-- What shapes that agree say of each code.
+use Rattle.std.proofs.Common.{◌≡◌, ℕ, zero, suc, ◌+◌, ◌<◌, Bool, true, false, List, [], ◌∷◌, length, get_or, Option, Some, None, ℤ, refl, arith}
 use Rattle.std.specs.Prelude.{if◌then◌else◌, ◌&&◌}
 use Rattle.std.proofs.lemmas.Bool.{eqb-true}
-use Rattle.fx_model.specs.Function.{Function}
 use Rattle.fx_model.specs.Machine as machine
 use Rattle.fx_model.specs.Machine.{Code, Program}
 use Rattle.fx_model.specs.LawfulProgram.{IsPlaced}
 use Rattle.fx_model.specs.Nodes.{Node, Input, State, Const, Neg, Add, Sub, Mul, Div, Copy}
-use Rattle.fx_inequalities.specs.Certificate.{Certificate}
 use Rattle.fx_inequalities.specs.Condition.{Fault, first_some, first_fault_of}
-use Rattle.fx_inequalities.specs.Accepted.{counts_agree, each_node}
+use Rattle.fx_inequalities.specs.Accepted.{each_node}
 use Rattle.fx_inequalities.specs.NodeConditions.{same_shape, shape_conditions}
-use Rattle.fx_bounds.proofs.Claims.{both_left, both_right}
 use Rattle.fx_checker.specs.FirstNodes.{IsInputBelow}
-
-pub record CountsAgree (fn : Function) (p : Program) (cert : Certificate) : Type 0 where
-  pub inputs : p.inputs ≡ length fn.inputs
-  pub states : p.states ≡ length fn.states
-  pub outputs : p.outputs ≡ length fn.demands
-  pub lines : length cert.lines ≡ length p.codes
-
-pub counts_are : (fn : Function) (p : Program) (cert : Certificate) → counts_agree fn p cert ≡ true → CountsAgree fn p cert
-counts_are fn p cert counts =
-    let b0 = bytes_eq p.name fn.name in let b1 = p.inputs == length fn.inputs in let b2 = p.states == length fn.states in let b3 = p.outputs == length fn.demands in
-    let b4 = cert.inputs == p.inputs in let b5 = cert.states == p.states in let b6 = length cert.lines == length p.codes in
-    let c5 = both_left (b0 && b1 && b2 && b3 && b4 && b5) b6 counts in let c4 = both_left (b0 && b1 && b2 && b3 && b4) b5 c5 in
-    let c3 = both_left (b0 && b1 && b2 && b3) b4 c4 in let c2 = both_left (b0 && b1 && b2) b3 c3 in let c1 = both_left (b0 && b1) b2 c2 in
-    record {
-      inputs = eqb-true _ _ (both_right b0 b1 c1);
-      states = eqb-true _ _ (both_right (b0 && b1) b2 c2);
-      outputs = eqb-true _ _ (both_right (b0 && b1 && b2) b3 c3);
-      lines = eqb-true _ _ (both_right (b0 && b1 && b2 && b3 && b4 && b5) b6 counts);
-    }
 
 -- ---- shapes
 neither : (a b : Option Fault) → None ≡ first_some a b → (a ≡ None) × (None ≡ b)
