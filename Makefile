@@ -9,7 +9,7 @@ run: $(PROGRAM)
 	@$(PROGRAM) run examples/half/half.bundle < examples/half/half.csv
 
 $(PROGRAM): $(SOURCES)
-	@echo "proving and building $(PROGRAM): minutes the first time, seconds later" >&2
+	@echo "proving and building $(PROGRAM): up to an hour the first time, seconds later" >&2
 	@mkdir -p build
 	@(cd crates/fx_cli && rt run -- run ../../examples/half/half.bundle < ../../examples/half/half.csv) > build/build.log 2>&1 \
 	  || { cat build/build.log >&2; exit 1; }

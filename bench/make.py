@@ -1,9 +1,11 @@
 #!/usr/bin/env python3
-"""Writes a bundle of N codes, rows for it, and a C program of the same arithmetic: make.py N ROWS FOLDER
+"""Writes a bundle of N codes, rows for it, and a C program of the same arithmetic: make.py N ROWS FOLDER [mixed]
 
-The source is x - (x - (x - ..)), in words of 32 bits. Points go from 11 to 10 and back, so that each difference shifts both
-of its operands and no compiler can leave one out. Errors are counted in units of 2^-12.
+The chain is x - (x - (x - ..)), in words of 32 bits. Points go from 11 to 10 and back, so that each difference shifts both
+of its operands and no compiler can leave one out. The mixed program has sums, differences and negations in random order, at
+points of 10 or 11 at random, so that no processor foretells the next code. Errors are counted in units of 2^-12.
 """
+import random
 import sys
 
 WIDTH, POINT = 32, 12
@@ -15,28 +17,47 @@ def dyadic(mantissa, exponent):
     return f"{mantissa}:{exponent if mantissa else 0}"
 
 
-def shifts(count):
-    """For each difference its point, and by how much x and the difference before it are shifted."""
-    yield 11, 1, 1
+def chain(count):
+    """For each operation its kind, its point, and by how much x and the operation before it are shifted."""
+    yield "sub", 11, 1, 1
     for i in range(1, count):
-        yield (10, 2, 1) if i % 2 else (11, 1, -1)
+        yield ("sub", 10, 2, 1) if i % 2 else ("sub", 11, 1, -1)
 
 
-def bundle(count):
-    differences = list(shifts(count - 2))
-    temps = [f"  val t{i + 1} = x - {f't{i}' if i else 'x'}" for i in range(len(differences))]
+def mixed(count):
+    """The same at random, where a negation shifts nothing."""
+    draw = random.Random(7)
+    before = POINT
+    for i in range(count):
+        kind = draw.choice(["sub", "add", "sub", "add", "neg"]) if i else "sub"
+        point = before if kind == "neg" else draw.choice([10, 11])
+        yield kind, point, POINT - point, before - point
+        before = point
+
+
+def line_after(kind, shift_before, unit, line):
+    """The range and the error of an operation, from those of the one before it."""
+    low, high, error_low, error_high = line
+    gained = unit if shift_before > 0 else 0
+    if kind == "neg":
+        return -high, -low, -error_high, -error_low
+    if kind == "sub":
+        return 0 - high, 1 - low, -1 - error_high - unit, 0 - error_low + gained
+    return low, 1 + high, -1 + error_low - unit - gained, error_high
+
+
+def bundle(operations):
+    terms = {"sub": "x - {}", "add": "x + {}", "neg": "-{}"}
+    temps = [f"  val t{i + 1} = {terms[kind].format(f't{i}' if i else 'x')}" for i, (kind, *_) in enumerate(operations)]
     source = "\n".join(
-        ["def chain(x: Real): Real = {", "  require(0 <= x && x <= 1)", *temps, f"  t{len(differences)}", "}"]
+        ["def chain(x: Real): Real = {", "  require(0 <= x && x <= 1)", *temps, f"  t{len(operations)}", "}"]
     )
     codes = [f"in 0 {POINT}"]
     lines = [(0, 1, -1, 0)]
-    for i, (point, shift_x, shift_before) in enumerate(differences):
-        codes.append(f"sub 0 {i} {shift_x} {shift_before}")
-        low, high, error_low, error_high = lines[-1]
-        unit = 2 ** (POINT - point)
-        lost, gained = unit, unit if shift_before > 0 else 0
-        lines.append((0 - high, 1 - low, -1 - error_high - lost, 0 - error_low + gained))
-    codes.append(f"copy {len(differences)} 0")
+    for i, (kind, point, shift_x, shift_before) in enumerate(operations):
+        codes.append(f"neg {i}" if kind == "neg" else f"{kind} 0 {i} {shift_x} {shift_before}")
+        lines.append(line_after(kind, shift_before, 2 ** (POINT - point), lines[-1]))
+    codes.append(f"copy {len(operations)} 0")
     lines.append(lines[-1])
     plain = [f"plain {dyadic(a, 0)} {dyadic(b, 0)} {dyadic(c, POINT)} {dyadic(d, POINT)}" for a, b, c, d in lines]
     return "\n".join(
@@ -48,14 +69,19 @@ def bundle(count):
     )
 
 
-def program(count):
-    differences = list(shifts(count - 2))
+def shifted(word, shift):
+    return f"({word} >> {shift})" if shift > 0 else f"{word} * {2 ** -shift}"
+
+
+def program(operations):
     words = []
-    for i, (_, shift_x, shift_before) in enumerate(differences):
-        before = f"(w[{i}] >> 1)" if shift_before > 0 else f"w[{i}] * 2"
-        words.append(f"        w[{i + 1}] = (w[0] >> {shift_x}) - {before};")
+    for i, (kind, _, shift_x, shift_before) in enumerate(operations):
+        before = shifted(f"w[{i}]", shift_before)
+        sign = "-" if kind == "sub" else "+"
+        words.append(f"        w[{i + 1}] = " + (f"-w[{i}];" if kind == "neg" else f"{shifted('w[0]', shift_x)} {sign} {before};"))
     body = "\n".join(words)
-    point = differences[-1][0]
+    count = len(operations) + 2
+    point = operations[-1][1]
     return f"""#include <stdint.h>
 #include <stdio.h>
 #include <string.h>
@@ -105,10 +131,11 @@ int main(void) {{
 
 def main():
     count, rows, folder = int(sys.argv[1]), int(sys.argv[2]), sys.argv[3]
+    operations = list((mixed if sys.argv[4:] == ["mixed"] else chain)(count - 2))
     with open(f"{folder}/chain.bundle", "w") as file:
-        file.write(bundle(count))
+        file.write(bundle(operations))
     with open(f"{folder}/chain.c", "w") as file:
-        file.write(program(count))
+        file.write(program(operations))
     with open(f"{folder}/chain.csv", "w") as file:
         file.write("x\n")
         for i in range(rows):

@@ -1,6 +1,6 @@
 #!/usr/bin/env bash
-# Rows per second of `build/fixd run` on programs of 10, 100 and 1,000 codes, beside a C program of the same arithmetic in
-# the same run. Outside the gate: figures depend on the machine. bench/run.sh [ROWS]
+# Rows per second of `build/fixd run` on chains of differences and on mixed programs, of 10, 100 and 1,000 codes, beside a C
+# program of the same arithmetic in the same run. Outside the gate: figures depend on the machine. bench/run.sh [ROWS]
 set -euo pipefail
 cd "$(dirname "$0")/.."
 
@@ -23,14 +23,16 @@ nanoseconds() {
   echo "$best"
 }
 
-echo "codes  fixd rows/s  C rows/s  fixd/C"
-for codes in 10 100 1000; do
-  python3 bench/make.py "$codes" "$rows" "$folder"
-  cc -O2 -o "$folder/chain" "$folder/chain.c"
-  ours=$(nanoseconds "$program" run "$folder/chain.bundle")
-  cp "$folder/out" "$folder/ours"
-  theirs=$(nanoseconds "$folder/chain")
-  cmp -s "$folder/out" "$folder/ours" || { echo "bench: the outputs differ at $codes codes" >&2; exit 1; }
-  awk -v n="$codes" -v r="$rows" -v a="$ours" -v b="$theirs" \
-    'BEGIN { printf "%5d  %11.0f  %8.0f  %6.2f\n", n, r * 1e9 / a, r * 1e9 / b, b / a }'
+echo "program  codes  fixd rows/s  C rows/s  fixd/C"
+for kind in chain mixed; do
+  for codes in 10 100 1000; do
+    python3 bench/make.py "$codes" "$rows" "$folder" "$kind"
+    cc -O2 -o "$folder/chain" "$folder/chain.c"
+    ours=$(nanoseconds "$program" run "$folder/chain.bundle")
+    cp "$folder/out" "$folder/ours"
+    theirs=$(nanoseconds "$folder/chain")
+    cmp -s "$folder/out" "$folder/ours" || { echo "bench: the outputs differ at $codes codes, $kind" >&2; exit 1; }
+    awk -v k="$kind" -v n="$codes" -v r="$rows" -v a="$ours" -v b="$theirs" \
+      'BEGIN { printf "%-7s  %5d  %11.0f  %8.0f  %6.2f\n", k, n, r * 1e9 / a, r * 1e9 / b, b / a }'
+  done
 done

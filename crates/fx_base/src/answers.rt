@@ -99,6 +99,36 @@ impl fmt::Display for InFault {
 
 impl Error for InFault {}
 
+/// Why no line came.
+#[derive(Clone, Copy, Debug, PartialEq, Eq)]
+pub enum LineFault {
+    /// A read failed.
+    ReadFault,
+    /// More bytes were taken than the limit.
+    TooLong,
+}
+
+impl fmt::Display for LineFault {
+    fn fmt<W: fmt::Write>(&self, f: &mut fmt::Formatter<W>) -> fmt::Result {
+        f.write_str(match self {
+            LineFault::ReadFault => "read fault",
+            LineFault::TooLong => "over the limit",
+        })
+    }
+}
+
+impl Error for LineFault {}
+
+impl From<Failed> for LineFault {
+    ghost use Rattle.fx_base.specs.declared.answers.LineFault.TheVariants as line;
+
+    ghost from_gives = { λ _ fault. fault ≡ line.ReadFault };
+
+    fn from(_failed: Failed) -> LineFault {
+        LineFault::ReadFault
+    }
+}
+
 impl From<Failed> for InFault {
     ghost from_gives = { λ _ fault. fault ≡ ReadFault };
 

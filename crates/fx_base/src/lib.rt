@@ -9,13 +9,18 @@
 
 mod answers;
 mod copies;
+mod cuts;
+mod fetch;
+mod held;
+mod lines;
 mod shelves;
 mod sinks;
 mod sources;
 mod whole;
 
-pub use answers::{Failed, InFault, Memory, Status};
-pub use shelves::{Name, Papers, Shelf};
+pub use answers::{Failed, InFault, LineFault, Memory, Status};
+pub use lines::{LineStep, Lines};
+pub use shelves::{FileName, Papers, Shelf};
 pub use sinks::{BytesOut, Silent, Sink};
 pub use sources::{BytesIn, CleanIn, Source};
 pub use whole::{put_all, read_all, read_file};

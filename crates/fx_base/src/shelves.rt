@@ -33,11 +33,11 @@ pub trait Shelf {
 
 /// The name of a file.
 #[derive(Debug, Drop)]
-pub struct Name {
+pub struct FileName {
     text: String,
 }
 
-impl Model for Name {
+impl Model for FileName {
     ghost use Rattle.std.specs.Prelude.{ℕ, List, string_bytes};
 
     ghost Value = { List ℕ };
@@ -45,12 +45,12 @@ impl Model for Name {
     ghost view = { λ n. string_bytes n.text };
 }
 
-impl Name {
-    /// Any text is a name.
+impl FileName {
+    /// Any text is one.
     pub fn new(text: String) -> Self
         ensures { result ≡ string_bytes text }
     {
-        Name { text }
+        FileName { text }
     }
 
     /// The text.
@@ -65,7 +65,7 @@ impl Name {
 /// reads those fail whose numbers, from 1, stand in a list.
 #[derive(Debug, Drop)]
 pub struct Papers {
-    files: Vec<(Name, Vec<u8>)>,
+    files: Vec<(FileName, Vec<u8>)>,
     fails: Vec<u64>,
     calls: u64,
     faults: u64,
@@ -82,7 +82,7 @@ impl Model for Papers {
 
 impl Papers {
     /// `fails` has the numbers of the reads that fail, from 1. Reads of a name that isn't there are counted in.
-    pub fn new(files: Vec<(Name, Vec<u8>)>, fails: Vec<u64>) -> Self
+    pub fn new(files: Vec<(FileName, Vec<u8>)>, fails: Vec<u64>) -> Self
         ensures { result ≡ record { files = entries files.items; fails = fails.items; calls = 0; faults = 0 } }
     {
         Papers {
@@ -95,7 +95,7 @@ impl Papers {
 }
 
 // The bytes of the first file of that name.
-fn find<'a>(files: &'a [(Name, Vec<u8>)], name: &str) -> Option<&'a [u8]>
+fn find<'a>(files: &'a [(FileName, Vec<u8>)], name: &str) -> Option<&'a [u8]>
     ensures { option_copied result ≡ paper_of (entries files.now) name.now }
 {
     for file in files {

@@ -73,11 +73,92 @@ fn reads_many_blocks(rt: HostRuntime) -> Result<(), Fail> {
     Ok(())
 }
 
+// an input, the limit, its lines each with `|` behind it, and what comes behind them
+#[rattlefmt::skip]
+static CUTS: [(&[u8], u64, &[u8], Result<LineStep, LineFault>); 12] = [
+    (b"", 0, b"", Ok(LineStep::End)),
+    (b"ab\ncd\n", 6, b"ab|cd|", Ok(LineStep::End)),
+    (b"ab\ncd", 5, b"ab|cd|", Ok(LineStep::End)),
+    (b"\n\na", 9, b"||a|", Ok(LineStep::End)),
+    (b"ab\r\ncd\r", 9, b"ab|cd\r|", Ok(LineStep::End)),
+    (b"a\r\r\n\r\n", 9, b"a\r||", Ok(LineStep::End)),
+    (b"\xef\xbb\xbfab\n\xef\xbb\xbf", 12, b"ab|\xef\xbb\xbf|", Ok(LineStep::End)),
+    (b"\xef\xbb\xbf\xef\xbb\xbfab", 12, b"\xef\xbb\xbfab|", Ok(LineStep::End)),
+    (b"\xef\xbb\xbf", 12, b"", Ok(LineStep::End)),
+    (b"\xef\xbb\n\xbf", 12, b"\xef\xbb|\xbf|", Ok(LineStep::End)),
+    (b"abcd\n", 4, b"", Err(LineFault::TooLong)),
+    (b"ab", 1, b"", Err(LineFault::TooLong)),
+];
+
+#[test]
+fn cuts_lines_in_any_pieces(rt: HostRuntime) -> Result<(), Fail> {
+    for &(bytes, limit, want, last) in &CUTS {
+        for piece in [1, 2, 4_096] {
+            let input = bytes.to_vec(rt.alloc())?;
+            let mut source = BytesIn::new(input, piece, Vec::new(rt.alloc()));
+            let mut lines = Lines::new(rt.alloc(), limit)?;
+            let mut seen = Vec::new(rt.alloc());
+            let mut step = Ok(LineStep::Line);
+            for _ in 0..4 {
+                if lines.ready() {
+                    step = lines.next_line(&mut source);
+                }
+                if step == Ok(LineStep::Line) {
+                    seen.extend_from_slice(lines.line())?;
+                    seen.push(b'|')?;
+                }
+            }
+            assert!(rt;
+                seen.as_slice() == want && step == last,
+                "limit {limit}, pieces of {piece}"
+            );
+        }
+    }
+    Ok(())
+}
+
+// The first line isn't answered before its end is taken, and that takes a byte too many.
+#[test]
+fn takes_a_line_with_its_end(rt: HostRuntime) -> Result<(), Fail> {
+    let input = b"ab\ncd\n".to_vec(rt.alloc())?;
+    let mut source = BytesIn::new(input, 2, Vec::new(rt.alloc()));
+    let mut lines = Lines::new(rt.alloc(), 3)?;
+    assert_eq!(rt; lines.next_line(&mut source), Err(LineFault::TooLong));
+    assert!(rt; !lines.ready() && lines.number() == 0 && lines.line().is_empty());
+    Ok(())
+}
+
+#[test]
+fn shows_of_a_long_line_a_byte_too_many(rt: HostRuntime) -> Result<(), Fail> {
+    for (length, shown) in [
+        (65_536, 65_536),
+        (65_537, 65_537),
+        (65_538, 65_537),
+        (200_000, 65_537),
+    ] {
+        for end in [b"".as_slice(), b"\r\n"] {
+            let mut input = b"\xef\xbb\xbf".to_vec(rt.alloc())?;
+            input.resize(3 + length, b'0')?;
+            input.extend_from_slice(end)?;
+            let mut source = BytesIn::new(input, 4_096, Vec::new(rt.alloc()));
+            let mut lines = Lines::new(rt.alloc(), 300_000)?;
+            let step = lines.next_line(&mut source);
+            assert!(rt;
+                step == Ok(LineStep::Line)
+                    && lines.line().len() == shown
+                    && lines.ready() == (shown < 65_537),
+                "{length}"
+            );
+        }
+    }
+    Ok(())
+}
+
 #[test]
 fn reads_files(rt: HostRuntime) -> Result<(), Fail> {
     let mut files = Vec::new(rt.alloc());
     for (name, bytes) in [("a", b"one"), ("a", b"two")] {
-        let name = Name::new(String::from_str(rt.alloc(), name)?);
+        let name = FileName::new(String::from_str(rt.alloc(), name)?);
         files.push((name, bytes.to_vec(rt.alloc())?))?;
     }
     let mut shelf = Papers::new(files, vec![in rt.alloc(); 5]?);

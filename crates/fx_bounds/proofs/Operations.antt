@@ -5,6 +5,7 @@ use Rattle.std.proofs.lemmas.Int.{ints}
 use Rattle.fx_rational.specs.Rational.{Rational, whole, over, plus, negative, minus, times, scaled, floor, floor_div, Equal, AtMost, is_positive, above_zero}
 use Rattle.fx_model.specs.Machine.{word_value, shifted}
 use Rattle.fx_inequalities.specs.Formula.{Formula, Num, Sum, Difference, Product, formula_value, Span, zero_span, span_sum, span_difference, span_product, point, unit_at, word_at, loss_at, Within}
+use Rattle.fx_inequalities.specs.OperationSpans.{negation_error, sum_error, difference_error, product_error, copy_error, product_rest, product_error_rest}
 use Rattle.fx_rational.specs.Dyadic.{dyadic_value}
 use Rattle.fx_rational.proofs.Ring.{by_quotes, quotes}
 use Rattle.fx_rational.proofs.Laws.{equal_refl, equal_sym, equal_trans, le_trans, le_of_equal, gap, ordered, nonneg_plus, minus_same, negative_same, negative_le}
@@ -19,19 +20,19 @@ use Rattle.fx_rational.proofs.Intervals.{quotient_between}
 
 -- ---- inputs and constants
 -- the given value g is within err of the true value t
-pub input_error : (f : ℤ) (g t err : Rational) (h : Span) → AtMost (minus g err) t → AtMost t (plus g err) →
+pub within_input_error : (f : ℤ) (g t err : Rational) (h : Span) → AtMost (minus g err) t → AtMost t (plus g err) →
     AtMost (formula_value (Sum h.lo (unit_at f))) (negative err) → AtMost err (formula_value h.hi) → Within h (minus (word_value (floor (scaled g f)) f) t)
 unfolding formula_value unit
-input_error f g t err h a b c d =
+within_input_error f g t err h a b c d =
     let w = word_value (floor (scaled g f)) f in let l = input_lost g f in let u = unit f in
     record {
       low = ordered (nonneg_plus (nonneg_plus (gap l.low) (gap b)) (gap c)) (by_quotes {ρ = w ∷ g ∷ t ∷ err ∷ unit f ∷ formula_value h.lo ∷ []} (search quotes depth 20) (search quotes depth 20) refl);
       high = ordered (nonneg_plus (nonneg_plus (gap l.high) (gap a)) (gap d)) (by_quotes {ρ = w ∷ g ∷ t ∷ err ∷ formula_value h.hi ∷ []} (search quotes depth 20) (search quotes depth 20) refl);
     }
 
-pub const_error : (w f : ℤ) (c : Rational) (h : Span) → AtMost (formula_value (Difference (word_at w f) h.hi)) c → AtMost c (formula_value (Difference (word_at w f) h.lo)) → Within h (minus (word_value w f) c)
+pub within_const_error : (w f : ℤ) (c : Rational) (h : Span) → AtMost (formula_value (Difference (word_at w f) h.hi)) c → AtMost c (formula_value (Difference (word_at w f) h.lo)) → Within h (minus (word_value w f) c)
 unfolding formula_value
-const_error w f c h a b =
+within_const_error w f c h a b =
     let word : Equal (formula_value (word_at w f)) (word_value w f) = equal_trans (word_at_is w f) (equal_sym (word_is w f)) in
     let x = formula_value (word_at w f) in
     let within : Within h (minus x c) = record {
@@ -45,59 +46,57 @@ pub within_negative : {a : Span} {x : Rational} → Within a x → Within (span_
 within_negative {a} {x} h = within_same (by_quotes {ρ = x ∷ []} {a = minus (whole (pos 0)) x} (search quotes depth 20) (search quotes depth 20) refl)
     (within_difference {a = zero_span} (within_zero (equal_refl (whole (pos 0)))) h)
 
-pub negation_error : (w f p : ℤ) (x : Rational) (h : Span) → f ≡ p → Within h (minus (word_value w p) x) → Within (span_difference zero_span h) (minus (word_value (neg_ℤ w) f) (negative x))
-negation_error w f p x h e k =
+pub within_negation_error : (w f p : ℤ) (x : Rational) (h : Span) → f ≡ p → Within h (minus (word_value w p) x) → Within (negation_error h) (minus (word_value (neg_ℤ w) f) (negative x))
+within_negation_error w f p x h e k =
     let word : Equal (negative (word_value w p)) (word_value (neg_ℤ w) f) = equal_sym (rw e (word_negative w p)) in
     within_same (equal_trans (by_quotes {ρ = word_value w p ∷ x ∷ []} {b = minus (negative (word_value w p)) (negative x)} (search quotes depth 20) (search quotes depth 20) refl) (minus_same word (equal_refl (negative x))))
     (within_negative k)
 
 -- ---- a sum and a difference
-pub sum_error : (u v f p q sa sb : ℤ) (x y : Rational) (ha hb : Span) → f ≡ p -ℤ sa → f ≡ q -ℤ sb → Within ha (minus (word_value u p) x) → Within hb (minus (word_value v q) y) →
-    Within (span_sum (span_sum (span_sum ha hb) (loss_at f sa)) (loss_at f sb)) (minus (word_value (shifted u sa +ℤ shifted v sb) f) (plus x y))
-sum_error u v f p q sa sb x y ha hb e k h g =
+pub within_sum_error : (u v f p q sa sb : ℤ) (x y : Rational) (ha hb : Span) → f ≡ p -ℤ sa → f ≡ q -ℤ sb → Within ha (minus (word_value u p) x) → Within hb (minus (word_value v q) y) →
+    Within (sum_error f sa sb ha hb) (minus (word_value (shifted u sa +ℤ shifted v sb) f) (plus x y))
+within_sum_error u v f p q sa sb x y ha hb e k h g =
     let a = word_value u p in let b = word_value v q in let c = word_value (shifted u sa) f in let d = word_value (shifted v sb) f in
     within_same (equal_trans (by_quotes {ρ = a ∷ b ∷ c ∷ d ∷ x ∷ y ∷ []} {b = minus (plus c d) (plus x y)} (search quotes depth 20) (search quotes depth 20) refl)
     (minus_same (equal_sym (word_sum (shifted u sa) (shifted v sb) f)) (equal_refl (plus x y))))
     (within_sum (within_sum (within_sum h g) (within_loss u f p sa e)) (within_loss v f q sb k))
 
-pub difference_error : (u v f p q sa sb : ℤ) (x y : Rational) (ha hb : Span) → f ≡ p -ℤ sa → f ≡ q -ℤ sb → Within ha (minus (word_value u p) x) → Within hb (minus (word_value v q) y) →
-    Within (span_difference (span_sum (span_difference ha hb) (loss_at f sa)) (loss_at f sb)) (minus (word_value (shifted u sa -ℤ shifted v sb) f) (minus x y))
-difference_error u v f p q sa sb x y ha hb e k h g =
+pub within_difference_error : (u v f p q sa sb : ℤ) (x y : Rational) (ha hb : Span) → f ≡ p -ℤ sa → f ≡ q -ℤ sb → Within ha (minus (word_value u p) x) → Within hb (minus (word_value v q) y) →
+    Within (difference_error f sa sb ha hb) (minus (word_value (shifted u sa -ℤ shifted v sb) f) (minus x y))
+within_difference_error u v f p q sa sb x y ha hb e k h g =
     let a = word_value u p in let b = word_value v q in let c = word_value (shifted u sa) f in let d = word_value (shifted v sb) f in
     within_same (equal_trans (by_quotes {ρ = a ∷ b ∷ c ∷ d ∷ x ∷ y ∷ []} {b = minus (minus c d) (minus x y)} (search quotes depth 20) (search quotes depth 20) refl)
     (minus_same (equal_sym (word_difference (shifted u sa) (shifted v sb) f)) (equal_refl (minus x y))))
     (within_difference (within_sum (within_difference h g) (within_loss u f p sa e)) (within_loss v f q sb k))
 
 -- ---- a copy
-pub copy_error : (w f p s : ℤ) (x : Rational) (h : Span) → f ≡ p -ℤ s → Within h (minus (word_value w p) x) → Within (span_sum h (loss_at f s)) (minus (word_value (shifted w s) f) x)
-copy_error w f p s x h e k =
+pub within_copy_error : (w f p s : ℤ) (x : Rational) (h : Span) → f ≡ p -ℤ s → Within h (minus (word_value w p) x) → Within (copy_error f s h) (minus (word_value (shifted w s) f) x)
+within_copy_error w f p s x h e k =
     within_same (by_quotes {ρ = word_value w p ∷ word_value (shifted w s) f ∷ x ∷ []} (search quotes depth 20) (search quotes depth 20) refl) (within_sum k (within_loss w f p s e))
 
 -- ---- a product
-pub product_error : (v w f p q : ℤ) (s : ℕ) (x y : Rational) (ga gb ha hb : Span) → f ≡ (p +ℤ q) -ℤ pos s → Within ga x → Within gb y → Within ha (minus (word_value v p) x) → Within hb (minus (word_value w q) y) →
-    Within (span_sum (span_sum (span_sum (span_product ga hb) (span_product gb ha)) (span_product ha hb)) (loss_at f (pos s))) (minus (word_value (floor_div (v *ℤ w) (2 ^ s)) f) (times x y))
-product_error v w f p q s x y ga gb ha hb e in_x in_y in_ex in_ey =
+pub within_product_error : (v w f p q : ℤ) (s : ℕ) (x y : Rational) (ga gb ha hb : Span) → f ≡ (p +ℤ q) -ℤ pos s → Within ga x → Within gb y → Within ha (minus (word_value v p) x) → Within hb (minus (word_value w q) y) →
+    Within (product_error f s ga gb ha hb) (minus (word_value (floor_div (v *ℤ w) (2 ^ s)) f) (times x y))
+within_product_error v w f p q s x y ga gb ha hb e in_x in_y in_ex in_ey =
     let a = word_value v p in let b = word_value w q in let c = word_value (floor_div (v *ℤ w) (2 ^ s)) f in
     within_same (by_quotes {ρ = a ∷ b ∷ c ∷ x ∷ y ∷ []} (search quotes depth 20) (search quotes depth 20) refl)
     (within_sum (within_sum (within_sum (within_product in_x in_ey) (within_product in_y in_ex)) (within_product in_ex in_ey)) (within_product_loss v w f p q s e))
 
 -- the product less the forms' sums, with centres
-pub product_rest : (x y a b : Rational) (ma mb : Formula) (ga gb pa pb : Span) → Within ga x → Within gb y → Within pa (minus x a) → Within pb (minus y b) →
-    Within (span_sum (span_difference (span_sum (span_product (point mb) pa) (span_product (point ma) pb)) (point (Product ma mb)))
-    (span_product (span_difference ga (point ma)) (span_difference gb (point mb))))
+pub within_product_rest : (x y a b : Rational) (ma mb : Formula) (ga gb pa pb : Span) → Within ga x → Within gb y → Within pa (minus x a) → Within pb (minus y b) →
+    Within (product_rest ma mb ga gb pa pb)
     (minus (times x y) (plus (times (formula_value mb) a) (times (formula_value ma) b)))
 unfolding formula_value
-product_rest x y a b ma mb ga gb pa pb in_x in_y rest_x rest_y =
+within_product_rest x y a b ma mb ga gb pa pb in_x in_y rest_x rest_y =
     within_same (by_quotes {ρ = x ∷ y ∷ a ∷ b ∷ formula_value ma ∷ formula_value mb ∷ []} (search quotes depth 20) (search quotes depth 20) refl)
     (within_sum (within_difference (within_sum (within_product (within_point mb) rest_x) (within_product (within_point ma) rest_y)) (within_point (Product ma mb)))
     (within_product (within_difference in_x (within_point ma)) (within_difference in_y (within_point mb))))
 
-pub product_error_rest : (v w f p q : ℤ) (s : ℕ) (x y a b : Rational) (ma mb : Formula) (ga gb ha hb qa qb : Span) → f ≡ (p +ℤ q) -ℤ pos s → Within ga x → Within gb y →
+pub within_product_error_rest : (v w f p q : ℤ) (s : ℕ) (x y a b : Rational) (ma mb : Formula) (ga gb ha hb qa qb : Span) → f ≡ (p +ℤ q) -ℤ pos s → Within ga x → Within gb y →
     Within ha (minus (word_value v p) x) → Within hb (minus (word_value w q) y) → Within qa (minus (minus (word_value v p) x) a) → Within qb (minus (minus (word_value w q) y) b) →
-    Within (span_sum (span_sum (span_sum (span_sum (span_sum (span_product (point mb) qa) (span_product (point ma) qb))
-    (span_product (span_difference ga (point ma)) hb)) (span_product (span_difference gb (point mb)) ha)) (span_product ha hb)) (loss_at f (pos s)))
+    Within (product_error_rest f s ma mb ga gb ha hb qa qb)
     (minus (minus (word_value (floor_div (v *ℤ w) (2 ^ s)) f) (times x y)) (plus (times (formula_value mb) a) (times (formula_value ma) b)))
-product_error_rest v w f p q s x y a b ma mb ga gb ha hb qa qb e in_x in_y in_ex in_ey rest_x rest_y =
+within_product_error_rest v w f p q s x y a b ma mb ga gb ha hb qa qb e in_x in_y in_ex in_ey rest_x rest_y =
     let c = word_value v p in let d = word_value w q in let r = word_value (floor_div (v *ℤ w) (2 ^ s)) f in
     within_same (by_quotes {ρ = c ∷ d ∷ r ∷ x ∷ y ∷ a ∷ b ∷ formula_value ma ∷ formula_value mb ∷ []} (search quotes depth 20) (search quotes depth 20) refl)
     (within_sum (within_sum (within_sum (within_sum (within_sum (within_product (within_point mb) rest_x) (within_product (within_point ma) rest_y))
@@ -150,12 +149,12 @@ within_quotient a b c y z side claims in_y in_x = by (is_positive (formula_value
       (within_same (by_quotes {ρ = y ∷ z ∷ []} {a = negative (times z y)} (search quotes depth 20) (search quotes depth 20) refl) (within_negative in_x))
 
 -- z is the exact quotient of x by y
-pub quotient_error : (v w f p q : ℤ) (s : ℕ) (x y z : Rational) (g gb ha hb h : Span) → f ≡ (p +ℤ pos s) -ℤ q → Equal (times z y) x → OneSide (span_sum gb hb) →
+pub within_quotient_error : (v w f p q : ℤ) (s : ℕ) (x y z : Rational) (g gb ha hb h : Span) → f ≡ (p +ℤ pos s) -ℤ q → Equal (times z y) x → OneSide (span_sum gb hb) →
     Within g z → Within gb y → Within ha (minus (word_value v p) x) → Within hb (minus (word_value w q) y) →
     Each Claimed (quotient_claims (span_difference ha (span_product g hb)) (span_sum gb hb) record { lo = Sum h.lo (unit_at f); hi = Difference h.hi (unit_at f) }) →
     Within h (minus (word_value (int_div (v *ℤ pos (2 ^ s)) w) f) z)
 unfolding formula_value unit
-quotient_error v w f p q s x y z g gb ha hb h point back side in_z in_y in_ex in_ey claims =
+within_quotient_error v w f p q s x y z g gb ha hb h point back side in_z in_y in_ex in_ey claims =
     let a = word_value v p in let b = word_value w q in
     let in_b : Within (span_sum gb hb) b = within_same (by_quotes {ρ = y ∷ b ∷ []} (search quotes depth 20) (search quotes depth 20) refl) (within_sum in_y in_ey) in
     let t = quotient_is a b (divisor_top side in_b) in

@@ -2,7 +2,8 @@
 use Rattle.std.specs.Prelude.{◌≡◌, ℕ, ◌+◌, ◌<◌, ◌^◌, ℤ, pos, ◌+ℤ◌, ◌-ℤ◌, ◌*ℤ◌, neg_ℤ, List}
 use Rattle.fx_rational.specs.Rational.{Rational, plus, minus, times, negative, scaled, floor, floor_div, AtMost}
 use Rattle.fx_model.specs.Machine.{word_value, shifted}
-use Rattle.fx_inequalities.specs.Formula.{Formula, Sum, formula_value, Span, zero_span, span_sum, span_difference, span_product, unit_at, loss_at, Within}
+use Rattle.fx_inequalities.specs.Formula.{Formula, Sum, formula_value, Span, unit_at, loss_at, Within}
+use Rattle.fx_inequalities.specs.OperationSpans.{negation_error, sum_error, difference_error, product_error, copy_error}
 use Rattle.fx_inequalities.specs.Certificate.{Share}
 use Rattle.fx_inequalities.specs.Affine.{Rows, bound_by_rows}
 use Rattle.fx_inequalities.specs.Near.{combined, row_value}
@@ -19,14 +20,14 @@ pub record RoundingErrors : Type 0 where
 
 -- each operation, u and v being its operands' words at points p and q, for the exact values x and y
 pub record OperationErrors : Type 0 where
-  pub negation : (w p : ℤ) (x : Rational) (h : Span) → IsOff h w p x → IsOff (span_difference zero_span h) (neg_ℤ w) p (negative x)
+  pub negation : (w p : ℤ) (x : Rational) (h : Span) → IsOff h w p x → IsOff (negation_error h) (neg_ℤ w) p (negative x)
   pub sum : (u v f p q sa sb : ℤ) (x y : Rational) (ha hb : Span) → f ≡ p -ℤ sa → f ≡ q -ℤ sb → IsOff ha u p x → IsOff hb v q y →
-      IsOff (span_sum (span_sum (span_sum ha hb) (loss_at f sa)) (loss_at f sb)) (shifted u sa +ℤ shifted v sb) f (plus x y)
+      IsOff (sum_error f sa sb ha hb) (shifted u sa +ℤ shifted v sb) f (plus x y)
   pub difference : (u v f p q sa sb : ℤ) (x y : Rational) (ha hb : Span) → f ≡ p -ℤ sa → f ≡ q -ℤ sb → IsOff ha u p x → IsOff hb v q y →
-      IsOff (span_difference (span_sum (span_difference ha hb) (loss_at f sa)) (loss_at f sb)) (shifted u sa -ℤ shifted v sb) f (minus x y)
+      IsOff (difference_error f sa sb ha hb) (shifted u sa -ℤ shifted v sb) f (minus x y)
   pub product : (u v f p q : ℤ) (s : ℕ) (x y : Rational) (ga gb ha hb : Span) → f ≡ (p +ℤ q) -ℤ pos s → Within ga x → Within gb y → IsOff ha u p x → IsOff hb v q y →
-      IsOff (span_sum (span_sum (span_sum (span_product ga hb) (span_product gb ha)) (span_product ha hb)) (loss_at f (pos s))) (floor_div (u *ℤ v) (2 ^ s)) f (times x y)
-  pub copy : (w f p s : ℤ) (x : Rational) (h : Span) → f ≡ p -ℤ s → IsOff h w p x → IsOff (span_sum h (loss_at f s)) (shifted w s) f x
+      IsOff (product_error f s ga gb ha hb) (floor_div (u *ℤ v) (2 ^ s)) f (times x y)
+  pub copy : (w f p s : ℤ) (x : Rational) (h : Span) → f ≡ p -ℤ s → IsOff h w p x → IsOff (copy_error f s h) (shifted w s) f x
 
 -- the bound by rows: x less its coefficients' sum over inputs and states lies in z; inputs lie in their spans, states meet the rows
 abbrev pub BoundByRows : Type 0

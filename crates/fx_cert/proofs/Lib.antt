@@ -1,7 +1,13 @@
-pub mod Steps
-pub mod Pieces
-pub mod Programs
-pub mod Certificates
-pub mod Bundles
-pub mod Spellings
-pub mod Outcomes
+mod Worked
+pub mod Shares
+pub mod ShareLaws
+pub mod PathLaws
+pub mod CertificateLines
+pub mod NodeLines
+pub mod RowLaws
+pub mod CertificateLaws
+pub mod BundleLaws
+pub mod Units
+pub mod SoFar
+pub mod Printed
+pub mod PrintedTexts

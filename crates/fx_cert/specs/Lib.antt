@@ -1,6 +1,9 @@
-pub mod FirstBundle
+pub mod CertificateView
+pub mod BundleView
+pub mod CountsView
+pub mod FieldReading
+pub mod LineReading
+pub mod CertificateReading
+pub mod BundleReading
 pub mod Laws
-pub mod NodeLines
-pub mod Reading
-pub mod Views
-pub mod PartViews
+pub mod Printing

@@ -1,23 +1,31 @@
-//! The bundle: a source, a program and a certificate in one text.
+//! Certificates and bundles, and their texts both ways.
 //!
-//! So far first bundles alone are read: programs without states, products and quotients, and certificates of plain lines,
-//! without states, steps and rows. `read_bundle` answers with the bundle that a text spells, and NotFirst exactly where it
-//! spells none; by `one_bundle_law` a text spells at most one. The source is bytes, whose language is for others to read.
-//! The trap: the source's count stands before it, and what is counted may hold line feeds.
+//! A certificate is plain data, seen by contracts as the definitions' record. A reader gives the value that a text spells,
+//! which is lawful, or the first fault by line and kind; a printer writes the one text of a lawful value; and by the laws
+//! what is read is spelled so, and what is lawful is read from its text, so a text spells at most one value.
+//! Lists grow as their lines come: a count costs nothing that no line stands behind.
+//! The trap: lines are numbered in the text that the call was given, so a bundle's readers are told where they begin.
 #![tactic(auto)]
 
 mod bundle;
+mod bundle_text;
 mod certificate;
-mod fault;
 mod law;
-mod lines;
-mod piece;
-mod program;
+mod limit;
+mod path;
+mod print;
+mod print_line;
+mod read;
+mod read_line;
+mod share;
+mod unit;
 
-pub use bundle::{Bundle, read_bundle};
-pub use certificate::{Certificate, NodeLine};
-pub use fault::BundleFault;
-pub use law::one_bundle_law;
+pub use bundle::Bundle;
+pub use bundle_text::read_bundle;
+pub use certificate::{Certificate, Form, NodeLine, Row, Share, StartBox};
+pub use law::{bundle_law, bundle_text_law, certificate_law, certificate_text_law};
+pub use print::{print_bundle, print_certificate};
+pub use read::{certificate_at, read_certificate};
 
 #[cfg(test)]
 mod tests;

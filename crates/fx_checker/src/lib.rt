@@ -1,26 +1,33 @@
-//! The checker: what a bundle must meet to be run, and the step of one that does.
+//! The checker: whether a certificate shows what a program is worth, for any program, whoever wrote it.
 //!
-//! `read_first` answers with an accepted bundle exactly where the text spells a first bundle, its source means a function,
-//! and each condition of the certificate holds and fits in 128 bits. A step of it then refuses nothing: its contract is
-//! the theorem of `fx_sound`.
-//! The trap: a function that the program can't match, or a certificate of other counts, is no fault of the text: it is
-//! rejected.
+//! `check` answers what is certified exactly where every condition of the definitions holds and fits in 128 bits, and else
+//! the first that doesn't. `Certified` keeps that in its type, so `certified_step` refuses nothing: its words are the
+//! machine's, and for every exact state that the words are near and every row true of the given one the step's theorem
+//! holds. A layer above goes from row to row by `ready` alone. For layers that keep words of their own, `start_law` and
+//! `step_law` say the same over the definitions.
+//! The trap: shapes of all nodes are judged before any other condition of a node, so the walk over the nodes keeps the
+//! first other fault until no fault of shape is left.
 #![tactic(auto)]
 
-mod condition;
+mod certified;
+mod conditions;
 mod demand;
 mod fault;
-mod first;
-mod formula;
-mod judgement;
-mod node;
-mod read;
+mod rows;
 mod shape;
+mod start;
+mod step;
+mod steps;
+mod verdict;
 mod walk;
+mod whole;
 
-pub use fault::FirstFault;
-pub use first::{First, first_step};
-pub use read::read_first;
+pub use certified::Certified;
+pub use fault::{CheckFault, CheckKind};
+pub use fx_judging::Part;
+pub use fx_sound::{start_law, step_law};
+pub use step::certified_step;
+pub use verdict::check;
 
 #[cfg(test)]
 mod tests;

@@ -1,124 +1,138 @@
-//! Edits of the worked bundle: what each comes to is what a checker of whole bundles in another language says of it.
+//! Worked bundles and edits of them: what each comes to is what a checker in another language says of it.
 
 use super::*;
-use crate::condition::{CheckFault, CheckKind, Part};
-use FirstFault::{NotFirst, Rejected, Source};
-use fx_lexer::{SourceFault, SourceKind};
+use fx_cert::{Bundle, read_bundle};
+use fx_parser::parse;
+use std::alloc::Global;
 use std::process::Abort;
 use std::test::Fail;
 
 /// `x + 0.5` for x from 0 to 1.
-#[rattlefmt::skip]
-const HALF: &str = "fixd bundle 1\nsource 64\ndef f(x: Real): Real = {\n  require(0 <= x && x <= 1)\n  x + 0.5\n}\nprogram\nfixd program 1\nwidth 16\nname f\nsizes 1 0 1 4\nin 0 12\nconst 2048 12\nadd 0 1 0 0\ncopy 2 0\ncertificate\nfixd certificate 1\nsizes 1 0 4\nsteps 0\nrows 0 0\nplain 0:0 1:0 -1:12 0:0\nplain 1:1 1:1 0:0 0:0\nplain 1:1 3:1 -1:12 0:0\nplain 1:1 3:1 -1:12 0:0\nend\n";
+const HALF: usize = 0;
 
-// a part of the bundle that stands in it once, what stands in its place, and the fault that the edited bundle has
+/// A filter with one state.
+const AVERAGER: usize = 1;
+
+/// `-x` in 8 bits, where the lines allow a word that has no opposite.
+const NEGATED: usize = 2;
+
+/// A divisor that is above zero, and whose word isn't.
+const SMALL_DIVISOR: usize = 3;
+
+/// `x - x` by a form.
+const CANCELLED: usize = 4;
+
+/// A filter with centres, rows and shares.
+const DECAYING: usize = 5;
+
+/// `x + 0.5` with a demanded bound.
+const DEMANDED: usize = 6;
+
+// source, program and certificate, each without its headline
 #[rattlefmt::skip]
-static EDITS: [(&str, &str, Option<FirstFault>); 59] = [
-    ("end\n", "end", Some(NotFirst)),
-    ("end\n", "end\n\n", Some(NotFirst)),
-    ("source 64", "source 63", Some(NotFirst)),
-    ("source 64", "source 65", Some(NotFirst)),
-    ("def f(x", "def f(y", Some(Source(SourceFault { at: 40, kind: SourceKind::UnknownName }))),
-    ("x && x", "x && y", Some(Source(SourceFault { at: 45, kind: SourceKind::UnknownName }))),
-    ("0 <= x", "2 <= x", Some(Source(SourceFault { at: 6, kind: SourceKind::EmptyRange }))),
-    ("0 <= x", "-0<= x", None),
-    ("0.5\n", "0.4\n", Some(Rejected)),
-    ("0.5\n", "5e1\n", Some(Rejected)),
-    ("0.5\n", "1/2\n", Some(Rejected)),
-    ("source 64\ndef f(", "source 66\ndef def(", Some(Source(SourceFault { at: 4, kind: SourceKind::Unexpected }))),
-    ("source 64\ndef f(x", "source 65\ndef ff(x", Some(Source(SourceFault { at: 0, kind: SourceKind::NoSuchFunction }))),
-    ("name f", "name g", Some(Source(SourceFault { at: 0, kind: SourceKind::NoSuchFunction }))),
-    ("name f", "name 1f", Some(NotFirst)),
-    ("x + 0.5\n", "x - 0.5\n", Some(Rejected)),
-    ("x + 0.5\n", "0.5 + x\n", Some(Rejected)),
-    ("x + 0.5\n", "-x\n   \n", Some(NotFirst)),
-    ("source 64\ndef f(x: Real): Real = {\n  require(0 <= x && x <= 1)\n  x + 0.5\n}", "source 91\ndef f(x: Real): Real = {\n  require(0 <= x && x <= 1)\n  x + 123456789012345678901234567890\n}", Some(Source(SourceFault { at: 59, kind: SourceKind::NumberTooLong }))),
-    ("source 64\ndef f(x: Real): Real = {\n  require(0 <= x && x <= 1)\n  x + 0.5\n}", "source 96\ndef f(x: Real): Real = {\n  require(0 <= x && x <= 1)\n  x + 0.5\n} ensuring(res => res +/- 0.0001)", Some(Rejected)),
-    ("source 64\ndef f(x: Real): Real = {\n  require(0 <= x && x <= 1)\n  x + 0.5\n}", "source 95\ndef f(x: Real): Real = {\n  require(0 <= x && x <= 1)\n  x + 0.5\n} ensuring(res => res +/- 0.001)", None),
-    ("width 16", "width 12", Some(NotFirst)),
-    ("width 16", "width 8", Some(NotFirst)),
-    ("width 16", "width 24", None),
-    ("width 16", "width 64", None),
-    ("in 0 12", "in 0 63", Some(NotFirst)),
-    ("in 0 12", "in 0 -64", Some(Rejected)),
-    ("in 0 12", "in 0 11", Some(Rejected)),
-    ("in 0 12", "in 0 13", Some(Rejected)),
-    ("const 2048 12", "const 32768 12", Some(NotFirst)),
-    ("const 2048 12", "const -32768 12", Some(Rejected)),
-    ("const 2048 12", "const 2047 12", Some(Rejected)),
-    ("const 2048 12", "const 1024 11", Some(Rejected)),
-    ("const 2048 12", "const 4096 13", Some(Rejected)),
-    ("add 0 1 0 0", "add 1 0 0 0", Some(Rejected)),
-    ("add 0 1 0 0", "add 0 1 1 1", Some(Rejected)),
-    ("add 0 1 0 0", "add 0 1 0 1", Some(Rejected)),
-    ("add 0 1 0 0", "add 0 1 -1 -1", None),
-    ("add 0 1 0 0", "sub 0 1 0 0", Some(Rejected)),
-    ("add 0 1 0 0", "mul 0 1 12", Some(NotFirst)),
-    ("copy 2 0", "copy 2 1", Some(Rejected)),
-    ("copy 2 0", "copy 1 0", Some(Rejected)),
-    ("copy 2 0", "neg 2", Some(NotFirst)),
-    ("sizes 1 0 4", "sizes 2 0 4", Some(Rejected)),
-    ("sizes 1 0 4", "sizes 1 1 4", Some(NotFirst)),
-    ("sizes 1 0 4", "sizes 1 0 5", Some(NotFirst)),
-    ("sizes 1 0 4\nsteps 0\nrows 0 0\n", "sizes 1 0 5\nsteps 0\nrows 0 0\nplain 0:0 0:0 0:0 0:0\n", Some(Rejected)),
-    ("rows 0 0", "rows 1 0", Some(NotFirst)),
-    ("steps 0", "steps 1\nstep 0 - 1", Some(NotFirst)),
-    ("plain 0:0 1:0 -1:12 0:0", "plain 0:0 1:0 -1:13 0:0", Some(Rejected)),
-    ("plain 0:0 1:0 -1:12 0:0", "plain 1:12 1:0 -1:12 0:0", Some(Rejected)),
-    ("plain 0:0 1:0 -1:12 0:0", "plain -1:96 1:0 -1:12 0:0", Some(Rejected)),
-    ("plain 0:0 1:0 -1:12 0:0", "plain 0:0 4611686018427387903:0 -1:12 1:96", Some(Rejected)),
-    ("plain 1:1 1:1 0:0 0:0", "plain 1:1 9:0 0:0 0:0", Some(Rejected)),
-    ("plain 1:1 3:1 -1:12 0:0\nplain", "plain 1:1 3:1 0:0 0:0\nplain", Some(Rejected)),
-    ("plain 1:1 3:1 -1:12 0:0\nplain", "plain 1:1 1:0 -1:12 0:0\nplain", Some(Rejected)),
-    ("plain 1:1 3:1 -1:12 0:0\nend", "plain 0:0 3:0 -1:11 1:12\nend", None),
-    ("plain 1:1 3:1 -1:12 0:0\nend", "plain 1:1 3:1 -1:12 -1:96\nend", Some(Rejected)),
-    ("plain 1:1 3:1 -1:12 0:0\nend", "plain 1:1 4611686018427387903:0 -1:12 1:96\nend", Some(Rejected)),
+static BUNDLES: [(&str, &str, &str); 7] = [
+    ("def f(x: Real): Real = {\n  require(0 <= x && x <= 1)\n  x + 0.5\n}", "width 16\nname f\nsizes 1 0 1 4\nin 0 12\nconst 2048 12\nadd 0 1 0 0\ncopy 2 0\n", "sizes 1 0 4\nsteps 0\nrows 0 0\nplain 0:0 1:0 -1:12 0:0\nplain 1:1 1:1 0:0 0:0\nplain 1:1 3:1 -1:12 0:0\nplain 1:1 3:1 -1:12 0:0\n"),
+    ("def g(u: Real)(x: Real = 0.0): (Real, Real) = {\n  require(-1 <= u && u <= 1)\n  val y = 0.5 * x + 0.5 * u\n  (y, y)\n}", "width 16\nname g\nsizes 1 1 1 9\nin 0 12\nst 0 12 0\nconst 2048 12\nmul 2 1 12\nconst 2048 12\nmul 4 0 12\nadd 3 5 0 0\ncopy 6 0\ncopy 6 0\n", "sizes 1 1 9\nsteps 0\nstart 0:0 0:0 0:0 0:0\nrows 1 1\nbox -1:0 1:0 0\nbox -5:12 0:0 0\nplain -1:0 1:0 -1:12 0:0\nplain -1:0 1:0 -5:12 0:0\nplain 1:1 1:1 0:0 0:0\nplain -1:1 1:1 -7:13 0:0\nplain 1:1 1:1 0:0 0:0\nplain -1:1 1:1 -3:13 0:0\nplain -1:0 1:0 -5:12 0:0\nplain -1:0 1:0 -5:12 0:0\nplain -1:0 1:0 -5:12 0:0\n"),
+    ("def m(x: Real): Real = { require(-1.984375 <= x && x <= 1) -x }", "width 8\nname m\nsizes 1 0 1 3\nin 0 6\nneg 0\ncopy 1 0\n", "sizes 1 0 3\nsteps 0\nrows 0 0\nplain -127:6 1:0 -1:6 0:0\nplain -1:0 127:6 0:0 1:6\nplain -1:0 127:6 0:0 1:6\n"),
+    ("def q(x: Real): Real = { require(0.002 <= x && x <= 1) 1 / (x - 0.001) }", "width 8\nname q\nsizes 1 0 1 6\nin 0 6\nconst 64 6\nconst 0 6\nsub 0 2 0 0\ndiv 1 3 0\ncopy 4 0\n", "sizes 1 0 6\nsteps 0\nrows 0 0\nplain 1:9 1:0 -1:6 0:0\nplain 1:0 1:0 0:0 0:0\nplain 1:10 17:14 -17:14 0:0\nplain 15:14 1:0 -1:6 17:14\nplain 1:0 2048:0 -1:0 1:0\nplain 1:0 2048:0 -1:0 1:0\n"),
+    ("def z(x: Real): Real = { require(0 <= x && x <= 1) x - x }", "width 16\nname z\nsizes 1 0 1 3\nin 0 12\nsub 0 0 0 0\ncopy 1 0\n", "sizes 1 0 3\nsteps 0\nrows 0 0\nplain 0:0 1:0 -1:12 0:0\nform 0:0 0:0 0:0 0:0 0:0 0:0 0:0 0:0 0:0 0:0 0:0 0 0\nplain 0:0 0:0 0:0 0:0\n"),
+    ("def f(x: Real)(w: Real = 0.2): (Real, Real) = {\n  require(-3 <= x && x <= 0)\n  (-(x + x), w * -0.117 + x)\n} ensuring(r => r +/- 0.001)", "width 40\nname f\nsizes 1 1 1 9\nin 0 36\nst 0 34 3435973836\nadd 0 0 1 1\nneg 2\nconst -257285720900 41\nmul 1 4 37\nadd 5 0 3 1\ncopy 3 0\ncopy 6 1\n", "sizes 1 1 9\nsteps 0\nstart 3355443:24 838861:22 -205:42 -51:40\nrows 1 1\nbox -73372437:24 7078205:22 0\nbox -3:34 15:38 1 0 0:0\nplain -3:0 0:0 -1:36 0:0\nplain -73372437:24 7078205:22 -3:34 15:38\nplain -6:0 0:0 -3:35 0:0\nform 0:0 6:0 0:0 3:35 0:0 0:0 0:0 0:0 0:0 6:0 0:0 3:35 - -\nplain -1962935:24 -981467:23 -7:45 -3:44\nform -1656301:23 8584579:24 -1437:45 3645:46 3:4 -1:3 0:0 -1:2 -1219817:21 1882803:23 -957:45 573:46 - 0\nform -59005509:23 4559459:20 -63:39 29:39 0:0 0:0 1:0 -1:2 -1219817:21 1882803:23 -47:39 5:39 1 0 1:1 -\nform 0:0 6:0 0:0 3:35 0:0 0:0 0:0 0:0 0:0 6:0 0:0 3:35 1 0 0:0 -\nform -67168389:24 5527179:22 -3:34 15:38 0:0 0:0 1:0 -1:2 -1219817:21 1882803:23 -5:35 3:38 0 0\n"),
+    ("def f(x: Real): Real = {\n  require(0 <= x && x <= 1)\n  x + 0.5\n} ensuring(r => r +/- 0.001)", "width 16\nname f\nsizes 1 0 1 4\nin 0 12\nconst 2048 12\nadd 0 1 0 0\ncopy 2 0\n", "sizes 1 0 4\nsteps 0\nrows 0 0\nplain 0:0 1:0 -1:12 0:0\nplain 1:1 1:1 0:0 0:0\nplain 1:1 3:1 -1:12 0:0\nplain 1:1 3:1 -1:12 0:0\n"),
 ];
 
-#[test]
-fn the_worked_bundle_is_read(rt: HostRuntime) -> Result<(), Fail> {
-    let first = read_first(rt.alloc(), HALF.as_bytes())?;
-    assert_eq!(rt; first.function().name.as_str(), "f");
-    assert_eq!(rt; first.program().width, 16);
-    assert_eq!(rt; first.program().codes.len(), 4);
-    first.certified();
-    Ok(())
+// a bundle, a part of it, what stands in its place, and the bounds or the fault of the edited bundle
+#[rattlefmt::skip]
+static EDITS: [(usize, &str, &str, &str); 37] = [
+    (HALF, "end\n", "end\n", "1/2^12"),
+    (AVERAGER, "end\n", "end\n", "5/2^12"),
+    (NEGATED, "end\n", "end\n", "WordTooSmall at node 1"),
+    (SMALL_DIVISOR, "end\n", "end\n", "Divisor at node 4"),
+    (CANCELLED, "end\n", "end\n", "0/2^0"),
+    (DECAYING, "end\n", "end\n", "3/2^35"),
+    (DEMANDED, "end\n", "end\n", "1/2^12"),
+    (HALF, "sizes 1 0 4", "sizes 2 0 4", "Counts at program 0"),
+    (HALF, "add 0 1", "add 1 0", "Shape at node 2"),
+    (HALF, "add 0 1 0 0", "add 0 1 0 1", "Shift at node 2"),
+    (HALF, "1:0 -1:12 0:0", "4611686018427387903:0 -1:12 1:96", "Beyond at node 0"),
+    (HALF, "1:0 -1:12", "1:0 -1:13", "Error at node 0"),
+    (HALF, "1:1 3:1", "1:1 1:0", "Range at node 2"),
+    (HALF, "plain 1:1 1:1 0:0 0:0", "form 1:1 1:1 0:0 0:0 0:0 0:0 0:0 1:1 1:1 0:0 0:0 - -", "Form at node 1"),
+    (HALF, "steps 0", "steps 1\nstep 0 - 2", "Step at step 0"),
+    (HALF, "steps 0", "steps 1\nstep 0 - 1", "Shape at node 2"),
+    (HALF, "add 0 1 0 0\ncopy 2 0\ncertificate\nfixd certificate 1\nsizes 1 0 4\nsteps 0", "add 1 0 0 0\ncopy 2 0\ncertificate\nfixd certificate 1\nsizes 1 0 4\nsteps 1\nstep 0 - 1", "1/2^12"),
+    (DEMANDED, "0.001", "1e-4 ", "Demand at output 1"),
+    (AVERAGER, "box -5:12 0:0", "box 0:0 -5:12", "Start at errorrow 0"),
+    (AVERAGER, "start 0:0 0:0", "start 1:2 1:0", "Start at start 0"),
+    (AVERAGER, "start 0:0 0:0 0:0 0:0", "start 0:0 0:0 1:12 1:11", "Start at start 0"),
+    (AVERAGER, "box -1:0", "box 1:1", "Start at row 0"),
+    (AVERAGER, "box -1:0 1:0", "box -1:1 1:1", "Row at row 0"),
+    (AVERAGER, "box -5:12", "box -1:12", "ErrorRow at errorrow 0"),
+    (AVERAGER, "box -5:12", "box -5:11", "Error at node 1"),
+    (AVERAGER, "st 0 12", "st 0 11", "Shift at node 6"),
+    (AVERAGER, "-7:13", "-5:13", "Error at node 3"),
+    (AVERAGER, "rows 1 1\nbox -1:0 1:0 0\n", "rows 2 1\nbox -1:0 1:0 0\nrow 1:96 -1:0 4611686018427387903:0 1 1 1:96\n", "Beyond at row 1"),
+    (AVERAGER, "rows 1 1\nbox -1:0 1:0 0\n", "rows 2 1\nbox -1:0 1:0 0\nrow 1:1 -1:1 1:1 0\n", "5/2^12"),
+    (AVERAGER, "rows 1 1\nbox -1:0 1:0 0\n", "rows 2 1\nbox -1:0 1:0 0\nrow 1:1 -1:2 1:2 0\n", "Row at row 1"),
+    (SMALL_DIVISOR, "-1:6 17:14", "0:0 17:14", "Error at node 3"),
+    (CANCELLED, "0:0 0 0\np", "0:0 - 0\np", "Range at node 1"),
+    (DECAYING, "3:4 -1:3", "-1:3 3:4", "Form at node 5"),
+    (DECAYING, "-957:45", "-955:45", "Form at node 5"),
+    (DECAYING, "1 0 1:1 -", "1 0 1:1 1 0 9:0", "Error at node 6"),
+    (DECAYING, "4559459:20", "4559457:20", "Range at node 6"),
+    (DECAYING, "15:38 1 0 0:0", "13:38 1 0 0:0", "ErrorRow at errorrow 0"),
+];
+
+/// What the parts of a bundle's text come to.
+fn checked(alloc: Global, text: &[u8]) -> Result<Result<Certified, CheckFault>, Fail> {
+    let Bundle {
+        source,
+        program,
+        certificate,
+    } = read_bundle(alloc, text)?;
+    let function = parse(alloc, source.as_slice(), Some(program.name.as_str()))?;
+    Ok(check(alloc, &function, program, certificate))
+}
+
+/// Each output's bound as it is written.
+fn bounds(alloc: Global, certified: &Certified) -> Result<String, Fail> {
+    let mut said = String::new(alloc);
+    for j in 0..certified.program().outputs {
+        let bound = certified.bound(j);
+        let text = format!(in alloc; "{}/2^{}", bound.m, bound.e)?;
+        said.push_str(text.as_str())?;
+    }
+    Ok(said)
+}
+
+/// The bounds, or the fault.
+fn verdict(alloc: Global, text: &[u8]) -> Result<String, Fail> {
+    match checked(alloc, text)? {
+        Ok(certified) => bounds(alloc, &certified),
+        Err(fault) => Ok(format!(in alloc; "{fault}")?),
+    }
+}
+
+/// The text of these parts.
+fn text_of(alloc: Global, parts: (&str, &str, &str)) -> Result<String, Fail> {
+    let (source, program, certificate) = parts;
+    let length = source.len();
+    Ok(format!(in alloc;
+        "fixd bundle 1\nsource {length}\n{source}\nprogram\nfixd program 1\n{program}certificate\nfixd certificate 1\n{certificate}end\n"
+    )?)
 }
 
 #[test]
 fn edits(rt: HostRuntime) -> Result<(), Fail> {
-    for &(old, new, fault) in &EDITS {
-        let (front, back) = HALF.split_once(old).expect(&rt, "a part of the bundle");
-        let text = format!(in rt.alloc(); "{front}{new}{back}")?;
+    for &(bundle, old, new, said) in &EDITS {
+        let parts = BUNDLES.get(bundle).expect(&rt, "a bundle");
+        let text = text_of(rt.alloc(), *parts)?;
+        let (front, back) = text.split_once(old).expect(&rt, "a part of the bundle");
+        let edited = format!(in rt.alloc(); "{front}{new}{back}")?;
         assert_eq!(rt;
-            read_first(rt.alloc(), text.as_bytes()).err(),
-            fault,
-            "{new}"
+            verdict(rt.alloc(), edited.as_bytes())?.as_str(),
+            said,
+            "{old} {new}"
         );
     }
-    Ok(())
-}
-
-#[test]
-fn faults_read_well(rt: HostRuntime) -> Result<(), Fail> {
-    let source = Source(SourceFault {
-        at: 59,
-        kind: SourceKind::NumberTooLong,
-    });
-    let faults = format!(in rt.alloc();
-        "{NotFirst}, {source}, {Rejected}, {}",
-        FirstFault::Memory
-    )?;
-    assert_eq!(rt;
-        faults.as_str(),
-        "not a first bundle, source: NumberTooLong at byte 59, rejected, out of memory"
-    );
-    let fault = CheckFault {
-        kind: CheckKind::WordTooSmall,
-        part: Part::Node,
-        index: 1,
-    };
-    let text = format!(in rt.alloc(); "{fault}")?;
-    assert_eq!(rt; text.as_str(), "WordTooSmall at node 1");
     Ok(())
 }

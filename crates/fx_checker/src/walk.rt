@@ -1,37 +1,32 @@
-//! All conditions of a bundle, up to the first that fails.
+//! All nodes with their codes.
 //!
-//! Their order is that of the definition: counts, shapes, each node's range, error and word, and the demands. The walk
-//! takes no memory, and time linear in the codes.
+//! Shape and Shift of every node come before the other conditions of any. So the walk goes over the nodes once: it ends
+//! at the first fault of shape, and keeps the first other fault until no such fault is left.
 
-ghost use Rattle.std.specs.Prelude.{◌≡◌, ◌==◌, ◌≤◌, ◌<◌, true, length, min, None, []};
+ghost use Rattle.std.specs.Prelude.{◌≡◌, ◌-◌, ◌+◌, ◌≤◌, ◌<◌, ◌==◌, length, min, []};
 ghost use Rattle.std.specs.Option.{option_map};
 ghost use Rattle.fx_model.specs.Machine.{points_of};
-ghost use Rattle.fx_model.specs.Nodes.{nodes_of};
-ghost use Rattle.fx_rational.specs.Decimal.{decimal_value};
-ghost use Rattle.fx_model.specs.Tree.{at};
-ghost use Rattle.fx_inequalities.specs.Accepted.{counts_agree, demand_conditions, each_node, first_fault, output_code};
+ghost use Rattle.fx_inequalities.specs.Accepted.{each_node};
 ghost use Rattle.fx_inequalities.specs.Condition as conditions;
-ghost use Rattle.fx_inequalities.specs.Condition.{first_fault_of};
+ghost use Rattle.fx_inequalities.specs.Condition.{first_fault_of, first_some};
 ghost use Rattle.fx_inequalities.specs.NodeConditions.{node_conditions, shape_conditions};
-ghost use Rattle.fx_inequalities.specs.Rewriting.{no_rewriting};
+ghost use Rattle.fx_judging.specs.FaultView.{fault_of};
 ghost use Rattle.fx_flat.specs.NodeOf.{nodes_in};
-ghost use Rattle.fx_cert.specs.FirstBundle.{IsFirstProgram};
-ghost use Rattle.fx_cert.specs.PartViews.{certificate_of};
-ghost use Rattle.fx_checker.specs.FaultView.{fault_of};
-ghost use Rattle.fx_checker.specs.Demands.{demand_condition};
+ghost use Rattle.fx_cert.specs.CertificateView.{certificate_of};
+ghost use Rattle.fx_conditions.specs.MatchView.{code_in, node_in};
+ghost use Rattle.fx_conditions.specs.Limits.{IsShortCertificate};
 
-use crate::condition::{CheckFault, CheckKind, Part};
-use crate::demand::demand_fault;
-use crate::node::{error_of, node_fault};
-use crate::shape::{counts_agree, shapes_fault};
+use crate::shape::shaped;
 use fx_cert::Certificate;
+use fx_conditions::Matched;
 use fx_expr::Function;
 use fx_flat::Node;
-use fx_fraction::Decimal;
+use fx_judging::{ConditionFault, ConditionKind, Part};
 use fx_program::Program;
+use fx_sharing::{first, node_fault};
 
 /// Whether each node has a code, and each code a node.
-fn count_fault(nodes: &[Node], program: &Program) -> Option<CheckFault>
+fn count_fault(nodes: &[Node], program: &Program) -> Option<ConditionFault>
     ensures { option_map fault_of result ≡ conditions.fault_of (record {
       kind = conditions.Shape;
       part = conditions.OfNode;
@@ -44,112 +39,78 @@ fn count_fault(nodes: &[Node], program: &Program) -> Option<CheckFault>
     if nodes.len() == count {
         return None;
     }
-    Some(CheckFault {
-        kind: CheckKind::Shape,
+    Some(ConditionFault {
+        kind: ConditionKind::Shape,
         part: Part::Node,
         index: nodes.len().min(count) as u32,
     })
 }
 
-/// Range, error and word of each node, where each has its code and its line.
-fn nodes_fault(
+/// The first fault of Shape and Shift, else of the counts of nodes and codes, else of the other conditions of nodes.
+pub fn nodes_fault(
     function: &Function,
     nodes: &[Node],
     program: &Program,
     certificate: &Certificate,
-) -> Option<CheckFault>
-    requires program { IsFirstProgram program.now }
-    requires counts { counts_agree function.now program.now (certificate_of certificate.now) ≡ true }
-    requires shapes { None ≡ first_fault_of (each_node (shape_conditions 0 (length nodes.now) (points_of program.now.codes)) 0 (nodes_in nodes.now) program.now.codes) }
-    requires each { length nodes.now ≡ length program.now.codes }
-    ensures { option_map fault_of result ≡ first_fault_of (each_node (node_conditions function.now program.now.width (points_of program.now.codes) (certificate_of certificate.now)) 0 (nodes_in nodes.now) program.now.codes) }
+    next: u32,
+) -> Option<ConditionFault>
+    requires short { IsShortCertificate (certificate_of certificate.now) }
+    requires inputs { program.now.inputs ≡ length function.now.inputs }
+    requires states { program.now.states ≡ length function.now.states }
+    requires next { length nodes.now ≤ next + program.now.states }
+    ensures { let p = program.now in let ps = points_of p.codes in let ns = nodes_in nodes.now in
+        option_map fault_of result ≡ first_some (first_fault_of (each_node (shape_conditions p.inputs next ps) 0 ns p.codes))
+        (first_some (conditions.fault_of (record { kind = conditions.Shape; part = conditions.OfNode; index = min (length nodes.now) (length p.codes); test = length nodes.now == length p.codes; claims = [] }))
+        (first_fault_of (each_node (node_conditions function.now p.width ps (certificate_of certificate.now)) 0 ns p.codes))) }
 {
-    for n in 0..nodes.len() {
-        if let Some(fault) = node_fault(function, program, certificate, nodes[n], n as u32) {
-            return Some(fault);
+    program.keeps();
+    let count = nodes.len().min(program.codes.len());
+    let mut kept = None;
+    for n in 0..count {
+        let place = n as u32;
+        match shaped(
+            program,
+            nodes[n],
+            program.codes[n],
+            program.inputs,
+            next,
+            place,
+        ) {
+            Ok(m) => {
+                kept = first(
+                    kept,
+                    node_conditions_fault(function, program, certificate, &m, place),
+                );
+            }
+            Err(fault) => return Some(fault),
         }
     }
-    None
+    first(count_fault(nodes, program), kept)
 }
 
-/// The code of output `j`'s copy.
-fn output_code(program: &Program, j: u32) -> u32
-    requires { j < program.now.outputs }
-    ensures code { result ≡ output_code program.now j }
-    ensures within { result < length program.now.codes }
-{
-    program.codes.len() as u32 - (program.outputs + program.states) + j
-}
-
-/// The demand of output `j`, if it has one.
-fn demand_at(function: &Function, j: u32) -> Option<Decimal>
-    requires { j < length function.now.demands }
-    ensures { option_map decimal_value result ≡ at None function.now.demands j }
-{
-    function.demands.as_slice()[j as usize]
-}
-
-/// Whether output `j` meets its demand.
-fn output_fault(
+/// The conditions of node `n`, which is matched with its code.
+fn node_conditions_fault(
     function: &Function,
     program: &Program,
     certificate: &Certificate,
-    j: u32,
-) -> Option<CheckFault>
-    requires within { j < program.now.outputs }
-    requires demands { program.now.outputs ≡ length function.now.demands }
-    requires lines { length certificate.now.lines.items ≡ length program.now.codes }
-    requires few { j < 64 }
-    ensures { option_map fault_of result ≡ conditions.fault_of (demand_condition function.now program.now (certificate_of certificate.now) j) }
+    m: &Matched,
+    n: u32,
+) -> Option<ConditionFault>
+    requires within { n < length program.now.codes }
+    requires short { IsShortCertificate (certificate_of certificate.now) }
+    requires inputs { program.now.inputs ≡ length function.now.inputs }
+    requires states { program.now.states ≡ length function.now.states }
+    ensures { option_map fault_of result ≡ first_fault_of (node_conditions function.now program.now.width (points_of program.now.codes) (certificate_of certificate.now) n (node_in m.now) (code_in m.now)) }
 {
-    let error = error_of(certificate, output_code(program, j));
-    demand_fault(demand_at(function, j), error, j)
-}
-
-/// Whether each output meets its demand.
-fn demands_fault(
-    function: &Function,
-    program: &Program,
-    certificate: &Certificate,
-) -> Option<CheckFault>
-    requires demands { program.now.outputs ≡ length function.now.demands }
-    requires lines { length certificate.now.lines.items ≡ length program.now.codes }
-    ensures { option_map fault_of result ≡ first_fault_of (demand_conditions function.now program.now (certificate_of certificate.now)) }
-{
-    for j in 0..program.outputs {
-        if let Some(fault) = output_fault(function, program, certificate, j) {
-            return Some(fault);
-        }
-    }
-    None
-}
-
-/// The first condition that fails, or that doesn't fit in 128 bits. None where the bundle is accepted.
-pub fn first_fault(
-    function: &Function,
-    nodes: &[Node],
-    program: &Program,
-    certificate: &Certificate,
-) -> Option<CheckFault>
-    requires nodes { nodes_in nodes.now ≡ nodes_of function.now }
-    requires program { IsFirstProgram program.now }
-    ensures { option_map fault_of result ≡ first_fault no_rewriting function.now program.now (certificate_of certificate.now) }
-{
-    if !counts_agree(function, program, certificate) {
-        return Some(CheckFault {
-            kind: CheckKind::Counts,
-            part: Part::Program,
-            index: 0,
-        });
-    }
-    if let Some(fault) = shapes_fault(nodes, program) {
-        return Some(fault);
-    }
-    if let Some(fault) = count_fault(nodes, program) {
-        return Some(fault);
-    }
-    if let Some(fault) = nodes_fault(function, nodes, program, certificate) {
-        return Some(fault);
-    }
-    demands_fault(function, program, certificate)
+    program.keeps();
+    node_fault(
+        function,
+        program.width,
+        certificate,
+        m,
+        program.point(n),
+        n,
+        program.inputs,
+        program.states,
+    )
 }

@@ -1,44 +1,43 @@
 //! The program `fixd`: the real streams and files, the words, and the one call that does the rest.
 //!
-//! `fixd::fixd` has every promise, over any shelf, source and sinks. Nothing is decided here but what to do where the words
-//! can't even be taken.
+//! `fx_command::fixd` has every promise, over any shelf, source and sinks. Nothing is decided here but what to do where the
+//! words can't even be taken.
 #![tactic(auto)]
 
-mod fixd;
-mod notes;
 mod outside;
-mod page;
-mod rows;
-mod stop;
 
 use fx_base::Status;
-use notes::note_status;
+use fx_command::{End, fixd};
 use outside::{Files, StdErr, StdIn, StdOut};
 use std::env;
 use std::io::ErrorKind;
 use std::process::ExitCode;
+
+// The status of a call without words, whose line is written.
+fn ended(end: End<'_>, notes: &mut StdErr) -> ExitCode {
+    end.note(notes);
+    ExitCode::from(end.status().0)
+}
 
 fn main(rt: HostRuntime) -> ExitCode {
     let mut notes = StdErr::new(rt.stderr());
     let all = match env::args(&rt) {
         Ok(all) => all,
         Err(error) => {
-            let status = match error.kind() {
-                ErrorKind::OutOfMemory => Status::MEMORY,
-                _ => Status::USAGE,
+            let end = match error.kind() {
+                ErrorKind::OutOfMemory => End::NoMemory,
+                _ => End::Usage,
             };
-            note_status(status, &mut notes);
-            return ExitCode::from(status.0);
+            return ended(end, &mut notes);
         }
     };
     let Ok(words) = all.skip(1).collect::<Vec<String>>(rt.alloc()) else {
-        note_status(Status::MEMORY, &mut notes);
-        return ExitCode::from(Status::MEMORY.0);
+        return ended(End::NoMemory, &mut notes);
     };
     let mut shelf = Files::new(&rt);
     let mut input = StdIn::new(rt.stdin());
     let mut output = StdOut::new(rt.stdout());
-    let status = fixd::fixd(
+    let Status(status) = fixd(
         rt.alloc(),
         &words,
         &mut shelf,
@@ -46,7 +45,7 @@ fn main(rt: HostRuntime) -> ExitCode {
         &mut output,
         &mut notes,
     );
-    ExitCode::from(status.0)
+    ExitCode::from(status)
 }
 
 #[cfg(test)]

@@ -1,137 +1,146 @@
-//! What no clause says: that there is memory for a call, and the printed text against values from outside.
-ghost use Rattle.std.specs.Prelude.{◌≤◌};
+//! What no clause says: that there is memory for a call, and all of `fixd` against values from outside.
+//!
+//! Each bundle here is one that a person worked through, or such a bundle with some places of its text edited.
 
-use super::fixd::fixd;
-use fx_base::{BytesIn, BytesOut, Name, Papers, Status};
+use fx_base::{BytesIn, BytesOut, FileName, Papers, Status, read_all};
+use fx_command::fixd;
 use std::alloc::Global;
+use std::process::Abort;
 use std::test::Fail;
 
-// The sum of an input from 0 to 1 and a half.
-const HALF: &[u8] =
-    b"fixd bundle 1\nsource 64\ndef f(x: Real): Real = {\n  require(0 <= x && x <= 1)\n  x + 0.5\n}\nprogram\n\
-fixd program 1\nwidth 16\nname f\nsizes 1 0 1 4\nin 0 12\nconst 2048 12\nadd 0 1 0 0\ncopy 2 0\n\
-certificate\nfixd certificate 1\nsizes 1 0 4\nsteps 0\nrows 0 0\nplain 0:0 1:0 -1:12 0:0\n\
-plain 1:1 1:1 0:0 0:0\nplain 1:1 3:1 -1:12 0:0\nplain 1:1 3:1 -1:12 0:0\nend\n";
+/// `x + 0.5` for x from 0 to 1, in 16 bits.
+const HALF: usize = 0;
 
-// The same, of an input that is given within 0.01.
-const WITH_ERROR: &[u8] = b"fixd bundle 1\nsource 78\n\
-def f(x: Real): Real = {\n  require(0 <= x && x <= 1 && x +/- 0.01)\n  x + 0.5\n}\nprogram\n\
-fixd program 1\nwidth 16\nname f\nsizes 1 0 1 4\nin 0 12\nconst 2048 12\nadd 0 1 0 0\ncopy 2 0\n\
-certificate\nfixd certificate 1\nsizes 1 0 4\nsteps 0\nrows 0 0\nplain 0:0 1:0 -21:11 21:11\n\
-plain 1:1 1:1 0:0 0:0\nplain 1:1 3:1 -21:11 21:11\nplain 1:1 3:1 -21:11 21:11\nend\n";
+/// A filter with one state, in 16 bits.
+const AVERAGER: usize = 1;
 
-// The same, with a demand that is met.
-const MET: &[u8] =
-    b"fixd bundle 1\nsource 95\ndef f(x: Real): Real = {\n  require(0 <= x && x <= 1)\n  x + 0.5\n\
-} ensuring(res => res +/- 0.001)\nprogram\nfixd program 1\nwidth 16\nname f\nsizes 1 0 1 4\nin 0 12\n\
-const 2048 12\nadd 0 1 0 0\ncopy 2 0\ncertificate\nfixd certificate 1\nsizes 1 0 4\nsteps 0\nrows 0 0\n\
-plain 0:0 1:0 -1:12 0:0\nplain 1:1 1:1 0:0 0:0\nplain 1:1 3:1 -1:12 0:0\nplain 1:1 3:1 -1:12 0:0\nend\n";
+/// A negation in 8 bits, whose value at the edge is one more than the word ends at.
+const EDGE: usize = 2;
 
-// The same, with a demand that isn't met.
-const UNMET: &[u8] =
-    b"fixd bundle 1\nsource 96\ndef f(x: Real): Real = {\n  require(0 <= x && x <= 1)\n  x + 0.5\n\
-} ensuring(res => res +/- 0.0002)\nprogram\nfixd program 1\nwidth 16\nname f\nsizes 1 0 1 4\nin 0 12\n\
-const 2048 12\nadd 0 1 0 0\ncopy 2 0\ncertificate\nfixd certificate 1\nsizes 1 0 4\nsteps 0\nrows 0 0\n\
-plain 0:0 1:0 -1:12 0:0\nplain 1:1 1:1 0:0 0:0\nplain 1:1 3:1 -1:12 0:0\nplain 1:1 3:1 -1:12 0:0\nend\n";
+/// A quotient in 8 bits, whose rounded divisor may be zero.
+const QUOTIENT: usize = 3;
 
-// The same, with a number that is too long for the half.
-const LONG: &[u8] = b"fixd bundle 1\nsource 91\n\
-def f(x: Real): Real = {\n  require(0 <= x && x <= 1)\n  x + 123456789012345678901234567890\n}\nprogram\n\
-fixd program 1\nwidth 16\nname f\nsizes 1 0 1 4\nin 0 12\nconst 2048 12\nadd 0 1 0 0\ncopy 2 0\n\
-certificate\nfixd certificate 1\nsizes 1 0 4\nsteps 0\nrows 0 0\nplain 0:0 1:0 -1:12 0:0\n\
-plain 1:1 1:1 0:0 0:0\nplain 1:1 3:1 -1:12 0:0\nplain 1:1 3:1 -1:12 0:0\nend\n";
+/// x itself, from -1 to 1, in 8 bits.
+const NARROW: usize = 4;
 
-// A copy in 8 bits.
-const COPY: &[u8] =
-    b"fixd bundle 1\nsource 55\ndef n(x: Real): Real = { require(-1 <= x && x <= 1) x }\nprogram\n\
-fixd program 1\nwidth 8\nname n\nsizes 1 0 1 2\nin 0 6\ncopy 0 0\ncertificate\nfixd certificate 1\n\
-sizes 1 0 2\nsteps 0\nrows 0 0\nplain -1:0 1:0 -1:6 0:0\nplain -1:0 1:0 -1:6 0:0\nend\n";
+/// `x - x`, which a linear form shows to be zero.
+const NOTHING: usize = 5;
 
-// A negation in 8 bits whose value at the edge is one more than the word ends at.
-const EDGE: &[u8] =
-    b"fixd bundle 1\nsource 63\ndef m(x: Real): Real = { require(-1.984375 <= x && x <= 1) -x }\nprogram\n\
-fixd program 1\nwidth 8\nname m\nsizes 1 0 1 3\nin 0 6\nneg 0\ncopy 1 0\ncertificate\n\
-fixd certificate 1\nsizes 1 0 3\nsteps 0\nrows 0 0\nplain -127:6 1:0 -1:6 0:0\nplain -1:0 127:6 0:0 1:6\n\
-plain -1:0 127:6 0:0 1:6\nend\n";
+#[rattlefmt::skip]
+static BUNDLES: [&str; 6] = [
+    "fixd bundle 1\nsource 64\ndef f(x: Real): Real = {\n  require(0 <= x && x <= 1)\n  x + 0.5\n}\nprogram\nfixd program 1\nwidth 16\nname f\nsizes 1 0 1 4\nin 0 12\nconst 2048 12\nadd 0 1 0 0\ncopy 2 0\ncertificate\nfixd certificate 1\nsizes 1 0 4\nsteps 0\nrows 0 0\nplain 0:0 1:0 -1:12 0:0\nplain 1:1 1:1 0:0 0:0\nplain 1:1 3:1 -1:12 0:0\nplain 1:1 3:1 -1:12 0:0\nend\n",
+    "fixd bundle 1\nsource 115\ndef g(u: Real)(x: Real = 0.0): (Real, Real) = {\n  require(-1 <= u && u <= 1)\n  val y = 0.5 * x + 0.5 * u\n  (y, y)\n}\nprogram\nfixd program 1\nwidth 16\nname g\nsizes 1 1 1 9\nin 0 12\nst 0 12 0\nconst 2048 12\nmul 2 1 12\nconst 2048 12\nmul 4 0 12\nadd 3 5 0 0\ncopy 6 0\ncopy 6 0\ncertificate\nfixd certificate 1\nsizes 1 1 9\nsteps 0\nstart 0:0 0:0 0:0 0:0\nrows 1 1\nbox -1:0 1:0 0\nbox -5:12 0:0 0\nplain -1:0 1:0 -1:12 0:0\nplain -1:0 1:0 -5:12 0:0\nplain 1:1 1:1 0:0 0:0\nplain -1:1 1:1 -7:13 0:0\nplain 1:1 1:1 0:0 0:0\nplain -1:1 1:1 -3:13 0:0\nplain -1:0 1:0 -5:12 0:0\nplain -1:0 1:0 -5:12 0:0\nplain -1:0 1:0 -5:12 0:0\nend\n",
+    "fixd bundle 1\nsource 63\ndef m(x: Real): Real = { require(-1.984375 <= x && x <= 1) -x }\nprogram\nfixd program 1\nwidth 8\nname m\nsizes 1 0 1 3\nin 0 6\nneg 0\ncopy 1 0\ncertificate\nfixd certificate 1\nsizes 1 0 3\nsteps 0\nrows 0 0\nplain -127:6 1:0 -1:6 0:0\nplain -1:0 127:6 0:0 1:6\nplain -1:0 127:6 0:0 1:6\nend\n",
+    "fixd bundle 1\nsource 72\ndef q(x: Real): Real = { require(0.002 <= x && x <= 1) 1 / (x - 0.001) }\nprogram\nfixd program 1\nwidth 8\nname q\nsizes 1 0 1 6\nin 0 6\nconst 64 6\nconst 0 6\nsub 0 2 0 0\ndiv 1 3 0\ncopy 4 0\ncertificate\nfixd certificate 1\nsizes 1 0 6\nsteps 0\nrows 0 0\nplain 1:9 1:0 -1:6 0:0\nplain 1:0 1:0 0:0 0:0\nplain 1:10 17:14 -17:14 0:0\nplain 15:14 1:0 -1:6 17:14\nplain 1:0 2048:0 -1:0 1:0\nplain 1:0 2048:0 -1:0 1:0\nend\n",
+    "fixd bundle 1\nsource 55\ndef n(x: Real): Real = { require(-1 <= x && x <= 1) x }\nprogram\nfixd program 1\nwidth 8\nname n\nsizes 1 0 1 2\nin 0 6\ncopy 0 0\ncertificate\nfixd certificate 1\nsizes 1 0 2\nsteps 0\nrows 0 0\nplain -1:0 1:0 -1:6 0:0\nplain -1:0 1:0 -1:6 0:0\nend\n",
+    "fixd bundle 1\nsource 58\ndef z(x: Real): Real = { require(0 <= x && x <= 1) x - x }\nprogram\nfixd program 1\nwidth 16\nname z\nsizes 1 0 1 3\nin 0 12\nsub 0 0 0 0\ncopy 1 0\ncertificate\nfixd certificate 1\nsizes 1 0 3\nsteps 0\nrows 0 0\nplain 0:0 1:0 -1:12 0:0\nform 0:0 0:0 0:0 0:0 0:0 0:0 0:0 0:0 0:0 0:0 0:0 0 0\nplain 0:0 0:0 0:0 0:0\nend\n",
+];
 
-// The sum and the difference of two inputs.
-const PAIR: &[u8] = b"fixd bundle 1\nsource 104\n\
-def p(x: Real, y: Real): (Real, Real) = { require(0 <= x && x <= 1 && 0 <= y && y <= 1) (x + y, x - y) }\n\
-program\nfixd program 1\nwidth 16\nname p\nsizes 2 0 2 6\nin 0 12\nin 1 12\nadd 0 1 0 0\nsub 0 1 0 0\n\
-copy 2 0\ncopy 3 0\ncertificate\nfixd certificate 1\nsizes 2 0 6\nsteps 0\nrows 0 0\n\
-plain 0:0 1:0 -1:12 0:0\nplain 0:0 1:0 -1:12 0:0\nplain 0:0 2:0 -1:11 0:0\nplain -1:0 1:0 -1:12 1:12\n\
-plain 0:0 2:0 -1:11 0:0\nplain -1:0 1:0 -1:12 1:12\nend\n";
+/// A part of a text, and what stands in its place.
+type Edit = (&'static str, &'static str);
 
-// How a call ended, what it printed, and what stands on the notes.
+/// A bundle, its edits, a command and the input; then the status, the output and the line on the notes.
+type Call = (
+    usize,
+    &'static [Edit],
+    &'static str,
+    &'static [u8],
+    u8,
+    &'static str,
+    &'static str,
+);
+
+#[rattlefmt::skip]
+static CALLS: [Call; 32] = [
+    (HALF, &[], "run", b"x\n0.3\n", 0, "out1\n0.7998046875\n", ""),
+    (HALF, &[], "run", b"x\n", 0, "out1\n", ""),
+    (HALF, &[], "run", b"", 5, "", "fixd: row: MissingColumn at line 1 column x\n"),
+    (HALF, &[], "run", b"x\n1\n0\n", 0, "out1\n1.5\n0.5\n", ""),
+    (HALF, &[], "run", b"x\n1\n1.0000001\n0\n", 5, "out1\n1.5\n", "fixd: row: OutOfRange at line 3 column x\n"),
+    (HALF, &[("source 64", "source 78"), ("x <= 1)", "x <= 1 && x +/- 0.01)"), ("plain 0:0 1:0 -1:12 0:0", "plain 0:0 1:0 -21:11 21:11"), ("plain 1:1 3:1 -1:12 0:0\nplain 1:1 3:1 -1:12 0:0\n", "plain 1:1 3:1 -21:11 21:11\nplain 1:1 3:1 -21:11 21:11\n")], "run", b"x\n1.01\n-0.01\n1.010001\n", 5, "out1\n1.509765625\n0.489990234375\n", "fixd: row: OutOfRange at line 4 column x\n"),
+    (NARROW, &[], "run", b"x\n-0.3\n", 0, "out1\n-0.3125\n", ""),
+    (EDGE, &[], "run", b"x\n-0.3\n", 1, "", "fixd: rejected: WordTooSmall at node 1\n"),
+    (QUOTIENT, &[], "check", b"", 1, "", "fixd: rejected: Divisor at node 4\n"),
+    (AVERAGER, &[], "run", b"u\n1\n1\n1\n", 0, "out1\n0.5\n0.75\n0.875\n", ""),
+    (AVERAGER, &[("box -5:12 0:0 0", "box 0:0 -5:12 0")], "check", b"", 1, "", "fixd: rejected: Start at errorrow 0\n"),
+    (AVERAGER, &[], "check", b"", 0, "accepted\nout1 5/2^12\n", ""),
+    (HALF, &[], "check", b"", 0, "accepted\nout1 1/2^12\n", ""),
+    (HALF, &[("plain 1:1 3:1 -1:12 0:0\nplain 1:1 3:1 -1:12 0:0\nend\n", "")], "run", b"x\n", 4, "", "fixd: bundle: BadLine at line 23\n"),
+    (HALF, &[("end\n", "")], "run", b"x\n", 4, "", "fixd: bundle: Section at line 25\n"),
+    (HALF, &[("end\n", "end\nx\n")], "check", b"", 4, "", "fixd: bundle: Extra at line 26\n"),
+    (HALF, &[("source 64", "source 91"), ("0.5", "123456789012345678901234567890")], "run", b"x\n", 3, "", "fixd: source: NumberTooLong at byte 59\n"),
+    (HALF, &[], "run", b"\xef\xbb\xbf\"t\",\"x\"\r\n0,0.3\r\n\r\n1, 1 \r\n", 0, "out1\n0.7998046875\n1.5\n", ""),
+    (HALF, &[], "run", b"y\n", 5, "", "fixd: row: MissingColumn at line 1 column x\n"),
+    (HALF, &[], "run", b"x,x\n", 5, "", "fixd: row: TwiceNamed at line 1 column x\n"),
+    (HALF, &[], "run", b"t,x\n1\n", 5, "out1\n", "fixd: row: TooFew at line 2 column x\n"),
+    (HALF, &[], "run", b"t,x\n1,abc\n", 5, "out1\n", "fixd: row: BadNumber at line 2 column x\n"),
+    (HALF, &[], "run", b"x\n0\r1\n", 5, "out1\n", "fixd: row: StrayReturn at line 2\n"),
+    (HALF, &[("source 64", "source 96"), ("  x + 0.5\n}", "  x + 0.5\n} ensuring(res => res +/- 0.0001)")], "run", b"x\n", 1, "", "fixd: rejected: Demand at output 1\n"),
+    (HALF, &[("source 64", "source 95"), ("  x + 0.5\n}", "  x + 0.5\n} ensuring(res => res +/- 0.001)")], "check", b"", 0, "accepted\nout1 1/2^12\n", ""),
+    (HALF, &[("plain 0:0 1:0 -1:12 0:0", "plain 0:0 4611686018427387903:0 -1:12 1:96")], "check", b"", 1, "", "fixd: rejected: Beyond at node 0\n"),
+    (HALF, &[("plain 1:1 3:1 -1:12 0:0", "plain 1:1 1:0 -1:12 0:0")], "run", b"x\n", 1, "", "fixd: rejected: Range at node 2\n"),
+    (HALF, &[("steps 0", "steps 1\nstep 0 - 1"), ("add 0 1 0 0", "add 1 0 0 0")], "run", b"x\n0.3\n", 0, "out1\n0.7998046875\n", ""),
+    (HALF, &[("steps 0", "steps 1\nstep 0 - 1")], "run", b"x\n", 1, "", "fixd: rejected: Shape at node 2\n"),
+    (HALF, &[("steps 0", "steps 1\nstep 0 - 2")], "check", b"", 1, "", "fixd: rejected: Step at step 0\n"),
+    (NOTHING, &[], "check", b"", 0, "accepted\nout1 0\n", ""),
+    (NOTHING, &[("0:0 0 0\n", "0:0 - 0\n")], "check", b"", 1, "", "fixd: rejected: Range at node 1\n"),
+];
+
+/// The bundle at this place, with each edit made where its part stands first.
+fn bundle(alloc: Global, rt: &impl Abort, place: usize, edits: &[Edit]) -> Result<String, Fail> {
+    let text = BUNDLES.get(place).expect(rt, "a bundle");
+    let mut edited = String::from_str(alloc, text)?;
+    for (part, other) in edits {
+        let (before, behind) = edited.split_once(*part).expect(rt, "the part");
+        let mut next = String::from_str(alloc, before)?;
+        next.push_str(other)?;
+        next.push_str(behind)?;
+        edited = next;
+    }
+    Ok(edited)
+}
+
+/// A shelf with this text as the one file, named `-x`. The call of this number fails.
+fn shelf(alloc: Global, text: &[u8], fails: u64) -> Result<Papers, Fail> {
+    let name = FileName::new(String::from_str(alloc, "-x")?);
+    let mut files = Vec::new(alloc);
+    files.push((name, text.to_vec(alloc)?))?;
+    Ok(Papers::new(files, vec![in alloc; fails]?))
+}
+
+/// How a call ends, and what it writes.
 #[derive(Drop)]
-struct Outcome {
+struct Answer {
     status: Status,
     output: BytesOut,
     notes: BytesOut,
 }
 
-// The numbers of the calls of the outside that fail, 0 for none.
-#[derive(Clone, Copy)]
-struct Failing {
-    file: u64,
-    read: u64,
-    write: u64,
-    note: u64,
-}
-
-const NONE: Failing = Failing {
-    file: 0,
-    read: 0,
-    write: 0,
-    note: 0,
-};
-
-fn shelf(alloc: Global, failing: u64) -> Result<Papers, Fail> {
-    let mut files = Vec::new(alloc);
-    for (name, bytes) in [
-        ("half", HALF),
-        ("cut", b"fixd bundle 1\n".as_slice()),
-        ("error", WITH_ERROR),
-        ("met", MET),
-        ("unmet", UNMET),
-        ("long", LONG),
-        ("copy", COPY),
-        ("edge", EDGE),
-        ("pair", PAIR),
-    ] {
-        let name = Name::new(String::from_str(alloc, name)?);
-        files.push((name, bytes.to_vec(alloc)?))?;
+impl Answer {
+    /// Whether it is this one.
+    fn is(&self, status: u8, output: &str, line: &str) -> bool {
+        self.status.0 == status
+            && self.output.bytes() == output.as_bytes()
+            && self.notes.bytes() == line.as_bytes()
     }
-    Ok(Papers::new(files, vec![in alloc; failing]?))
 }
 
-// A call on a shelf that has the bundles above, and `cut`.
+/// Calls `fixd`. The writes of these numbers fail, of the output and of the notes.
 fn call(
     alloc: Global,
     command: &[&str],
-    input: &[u8],
-    piece: usize,
-    failing: Failing,
-) -> Result<Outcome, Fail>
-    requires { 1 ≤ piece }
-{
+    shelf: &mut Papers,
+    input: &mut BytesIn,
+    fails: (u64, u64),
+) -> Result<Answer, Fail> {
     let mut words = Vec::new(alloc);
     for word in command {
         words.push(String::from_str(alloc, word)?)?;
     }
-    let mut shelf = shelf(alloc, failing.file)?;
-    let mut input = BytesIn::new(input.to_vec(alloc)?, piece, vec![in alloc; failing.read]?);
-    let mut output = BytesOut::new(vec![in alloc; failing.write]?);
-    let mut notes = BytesOut::new(vec![in alloc; failing.note]?);
-    let status = fixd(
-        alloc,
-        &words,
-        &mut shelf,
-        &mut input,
-        &mut output,
-        &mut notes,
-    );
-    Ok(Outcome {
+    let mut output = BytesOut::new(vec![in alloc; fails.0]?);
+    let mut notes = BytesOut::new(vec![in alloc; fails.1]?);
+    let status = fixd(alloc, &words, shelf, input, &mut output, &mut notes);
+    Ok(Answer {
         status,
         output,
         notes,
@@ -139,141 +148,154 @@ fn call(
 }
 
 #[test]
-fn rows_are_run(rt: HostRuntime) -> Result<(), Fail> {
-    for (input, status, printed) in [
-        (
-            b"x\n0.3\n".as_slice(),
-            Status::DONE,
-            b"out1\n0.7998046875\n".as_slice(),
-        ),
-        (b"x\n", Status::DONE, b"out1\n"),
-        (b"x", Status::DONE, b"out1\n"),
-        (b"", Status::ROW, b""),
-        (b"x\n1\n0\n", Status::DONE, b"out1\n1.5\n0.5\n"),
-        (b"x\n1\n0", Status::DONE, b"out1\n1.5\n0.5\n"),
-        (b"x\n1\n1.0000001\n0\n", Status::ROW, b"out1\n1.5\n"),
-        (b"x\n-1e-18\n0\n", Status::ROW, b"out1\n"),
-        (b"x\n1\n\n0\n", Status::ROW, b"out1\n1.5\n"),
-        (b"x\n1,0\n", Status::ROW, b"out1\n"),
-        (
-            b"x\n5e-1\n+.5\n1e-1\n",
-            Status::DONE,
-            b"out1\n1\n1\n0.599853515625\n",
-        ),
-        (b"y\n1\n", Status::ROW, b""),
-        (b"x\r\n1\n", Status::ROW, b""),
-    ] {
+fn answers_what_was_worked_out(rt: HostRuntime) -> Result<(), Fail> {
+    let alloc = rt.alloc();
+    for &(place, edits, command, bytes, status, output, line) in &CALLS {
+        let text = bundle(alloc, &rt, place, edits)?;
+        let mut shelf = shelf(alloc, text.as_bytes(), 0)?;
         for piece in [1, 2, 4_096] {
-            let got = call(rt.alloc(), &["run", "half"], input, piece, NONE)?;
+            let mut input = BytesIn::new(bytes.to_vec(alloc)?, piece, Vec::new(alloc));
+            let answer = call(
+                alloc,
+                &[command, "--", "-x"],
+                &mut shelf,
+                &mut input,
+                (0, 0),
+            )?;
             assert!(rt;
-                got.status == status && got.output.bytes() == printed,
-                "{input:?} in pieces of {piece}"
+                answer.is(status, output, line),
+                "{command} of {text} with {bytes:?} in pieces of {piece}"
             );
         }
     }
     Ok(())
 }
 
+const USAGE: &str = "fixd: usage: synth, check, run, show or demo\n";
+
+const READ_FAULT: &str = "fixd: read fault\n";
+
+// words, and how they end where `-x` is the one file
+#[rattlefmt::skip]
+static WORDS: [(&[&str], u8, &str, &str); 28] = [
+    (&[], 2, "", USAGE),
+    (&["run"], 2, "", USAGE),
+    (&["check"], 2, "", USAGE),
+    (&["run", "a", "b"], 2, "", USAGE),
+    (&["check", "a", "b"], 2, "", USAGE),
+    (&["synth", "--width", "12", "f"], 2, "", USAGE),
+    (&["synth", "f"], 2, "", USAGE),
+    (&["synth", "--width", "16", "--width", "16", "f"], 2, "", USAGE),
+    (&["synth", "--width", "+16", "f"], 2, "", USAGE),
+    (&["run", "-x"], 2, "", USAGE),
+    (&["check", "-x"], 2, "", USAGE),
+    (&["run", "--", "-x", "-x"], 2, "", USAGE),
+    (&["run", "--"], 2, "", USAGE),
+    (&["run", "a", "-x"], 2, "", USAGE),
+    (&["run", "a", "--", "b"], 2, "", USAGE),
+    (&["--", "run", "a"], 2, "", USAGE),
+    (&["Run", "a"], 2, "", USAGE),
+    (&["walk", "a"], 2, "", USAGE),
+    (&["demo", "0"], 2, "", USAGE),
+    (&["--help"], 2, "", USAGE),
+    (&["run", "a"], 6, "", READ_FAULT),
+    (&["check", "a"], 6, "", READ_FAULT),
+    (&["run", ""], 6, "", READ_FAULT),
+    (&["run", "-"], 6, "", READ_FAULT),
+    (&["run", "a", "--"], 6, "", READ_FAULT),
+    (&["run", "--", "--"], 6, "", READ_FAULT),
+    (&["run", "--", "-x"], 0, "out1\n0.7998046875\n", ""),
+    (&["check", "--", "-x"], 0, "accepted\nout1 1/2^12\n", ""),
+];
+
 #[test]
-fn a_long_page_goes_out_in_parts(rt: HostRuntime) -> Result<(), Fail> {
-    let mut input = b"x\n".to_vec(rt.alloc())?;
-    let mut printed = b"out1\n".to_vec(rt.alloc())?;
-    for _ in 0..10_000 {
-        input.extend_from_slice(b"0.3\n")?;
-        printed.extend_from_slice(b"0.7998046875\n")?;
+fn takes_no_other_words(rt: HostRuntime) -> Result<(), Fail> {
+    let alloc = rt.alloc();
+    let text = bundle(alloc, &rt, HALF, &[])?;
+    let mut shelf = shelf(alloc, text.as_bytes(), 0)?;
+    for &(words, status, output, line) in &WORDS {
+        let mut input = BytesIn::new(b"x\n0.3\n".to_vec(alloc)?, 2, Vec::new(alloc));
+        let answer = call(alloc, words, &mut shelf, &mut input, (0, 0))?;
+        assert!(rt; answer.is(status, output, line), "{words:?}");
     }
-    let got = call(rt.alloc(), &["run", "half"], &input, 4_096, NONE)?;
-    assert!(rt; got.status == Status::DONE && got.output.bytes() == printed.as_slice());
-    let cut = Failing { write: 2, ..NONE };
-    let got = call(rt.alloc(), &["run", "half"], &input, 4_096, cut)?;
-    assert!(rt; got.status == Status::WRITE_FAULT && printed.starts_with(got.output.bytes()));
     Ok(())
 }
 
-#[test]
-fn other_bundles_are_run(rt: HostRuntime) -> Result<(), Fail> {
-    for (name, input, status, printed) in [
-        (
-            "error",
-            b"x\n1.01\n-0.01\n1.010001\n".as_slice(),
-            Status::ROW,
-            b"out1\n1.509765625\n0.489990234375\n".as_slice(),
-        ),
-        ("met", b"x\n0.3\n", Status::DONE, b"out1\n0.7998046875\n"),
-        ("unmet", b"x\n0.3\n", Status::REJECTED, b""),
-        ("copy", b"x\n-0.3\n", Status::DONE, b"out1\n-0.3125\n"),
-        ("edge", b"x\n-0.3\n", Status::REJECTED, b""),
-        (
-            "pair",
-            b"x,y\n0.3,0.2\n1,0\n",
-            Status::DONE,
-            b"out1,out2\n0.499755859375,0.099853515625\n1,1\n",
-        ),
-        ("pair", b"x,y\n0.3\n", Status::ROW, b"out1,out2\n"),
-        ("pair", b"x\n0.3\n", Status::ROW, b""),
-    ] {
-        let got = call(rt.alloc(), &["run", name], input, 3, NONE)?;
-        assert!(rt;
-            got.status == status
-                && got.output.bytes() == printed
-                && got.notes.bytes() == b"".as_slice(),
-            "{name} with {input:?}"
-        );
-    }
-    Ok(())
-}
+// the command; the read of the file, the read of the input and the write of the output that fail; then how it ends
+#[rattlefmt::skip]
+static FAULTS: [(&str, u64, u64, u64, u8, &str, &str); 9] = [
+    ("run", 0, 3, 0, 6, "out1\n", READ_FAULT),
+    ("run", 0, 1, 0, 6, "", READ_FAULT),
+    ("run", 0, 4, 0, 6, "out1\n0.7998046875\n", READ_FAULT),
+    ("run", 1, 0, 0, 6, "", READ_FAULT),
+    ("check", 1, 0, 0, 6, "", READ_FAULT),
+    ("check", 0, 1, 0, 0, "accepted\nout1 1/2^12\n", ""),
+    ("run", 0, 0, 1, 7, "", "fixd: write fault\n"),
+    ("run", 0, 0, 2, 7, "out1\n", "fixd: write fault\n"),
+    ("check", 0, 0, 1, 7, "", "fixd: write fault\n"),
+];
 
 #[test]
-fn faults_end_a_call(rt: HostRuntime) -> Result<(), Fail> {
-    const USAGE: &[u8] = b"fixd: usage: synth, check, run, show or demo\n";
-    const READ_FAULT: &[u8] = b"fixd: read fault\n";
-    for (words, failing, status, line) in [
-        ([].as_slice(), NONE, Status::USAGE, USAGE),
-        (&["run"], NONE, Status::USAGE, USAGE),
-        (&["walk", "half"], NONE, Status::USAGE, USAGE),
-        (&["run", "half", "half"], NONE, Status::USAGE, USAGE),
-        (&["run", "whole"], NONE, Status::READ_FAULT, READ_FAULT),
-        (&["run", "cut"], NONE, Status::BUNDLE, b""),
-        (
-            &["run", "long"],
-            NONE,
-            Status::SOURCE,
-            b"fixd: source: NumberTooLong at byte 59\n",
-        ),
-        (
-            &["run", "half"],
-            Failing { file: 2, ..NONE },
-            Status::READ_FAULT,
-            READ_FAULT,
-        ),
-        (
-            &["run", "half"],
-            Failing { read: 3, ..NONE },
-            Status::READ_FAULT,
-            READ_FAULT,
-        ),
-        (
-            &["run", "half"],
-            Failing { write: 1, ..NONE },
-            Status::WRITE_FAULT,
-            b"fixd: write fault\n",
-        ),
-    ] {
-        let got = call(rt.alloc(), words, b"x\n0.3\n", 2, failing)?;
-        assert!(rt;
-            got.status == status
-                && got.output.bytes() == b"".as_slice()
-                && got.notes.bytes() == line,
-            "{words:?}"
-        );
-        for note in 1..=5 {
-            let failing = Failing { note, ..failing };
-            let got = call(rt.alloc(), words, b"x\n0.3\n", 2, failing)?;
+fn says_what_failed(rt: HostRuntime) -> Result<(), Fail> {
+    let alloc = rt.alloc();
+    let text = bundle(alloc, &rt, HALF, &[])?;
+    for &(command, file, read, write, status, output, line) in &FAULTS {
+        for note in 0..=3 {
+            let mut shelf = shelf(alloc, text.as_bytes(), file)?;
+            let mut input = BytesIn::new(b"x\n0.3\n".to_vec(alloc)?, 2, vec![in alloc; read]?);
+            let words = [command, "--", "-x"];
+            let answer = call(alloc, &words, &mut shelf, &mut input, (write, note))?;
+            let told = answer.notes.bytes();
             assert!(rt;
-                got.status == status && line.starts_with(got.notes.bytes()),
-                "{words:?} where write {note} on the notes fails"
+                answer.status.0 == status && answer.output.bytes() == output.as_bytes(),
+                "{command}: file {file}, read {read}, write {write}, note {note}"
+            );
+            assert!(rt;
+                line.as_bytes().starts_with(told) && (note > 0 || told.len() == line.len()),
+                "the notes of {command}: file {file}, read {read}, write {write}, note {note}"
             );
         }
     }
+    Ok(())
+}
+
+/// This header, and so many times this row.
+fn rows(alloc: Global, header: &[u8], row: &[u8], count: usize) -> Result<Vec<u8>, Fail> {
+    let mut bytes = header.to_vec(alloc)?;
+    for _ in 0..count {
+        bytes.extend_from_slice(row)?;
+    }
+    Ok(bytes)
+}
+
+const RISE: &[u8] = b"out1\n0.5\n0.75\n0.875\n0.9375\n0.96875\n0.984375\n0.9921875\n0.99609375\n\
+0.998046875\n0.9990234375\n0.99951171875\n";
+
+// From the twelfth row on the filter stays below its limit.
+#[test]
+fn a_filter_stays_where_it_is(rt: HostRuntime) -> Result<(), Fail> {
+    let alloc = rt.alloc();
+    let text = bundle(alloc, &rt, AVERAGER, &[])?;
+    let mut shelf = shelf(alloc, text.as_bytes(), 0)?;
+    let bytes = rows(alloc, b"u\n", b"1\n", 200_000)?;
+    let mut input = BytesIn::new(bytes, 65_536, Vec::new(alloc));
+    let answer = call(alloc, &["run", "--", "-x"], &mut shelf, &mut input, (0, 0))?;
+    let page = rows(alloc, RISE, b"0.999755859375\n", 199_989)?;
+    assert!(rt; answer.status == Status::DONE && answer.output.bytes() == page.as_slice());
+    Ok(())
+}
+
+// Where nothing can be written, little is read.
+#[test]
+fn takes_little_ahead(rt: HostRuntime) -> Result<(), Fail> {
+    let alloc = rt.alloc();
+    let text = bundle(alloc, &rt, HALF, &[])?;
+    let mut shelf = shelf(alloc, text.as_bytes(), 0)?;
+    let bytes = rows(alloc, b"x\n", b"0\n", 100_000)?;
+    let mut input = BytesIn::new(bytes, 200_002, Vec::new(alloc));
+    let answer = call(alloc, &["run", "--", "-x"], &mut shelf, &mut input, (1, 0))?;
+    assert!(rt; answer.is(7, "", "fixd: write fault\n"));
+    let left = read_all(alloc, &mut input, 1_000_000)?;
+    assert!(rt; left.len() >= 200_002 - 131_072);
     Ok(())
 }

@@ -3,3 +3,4 @@ pub mod Coding
 pub mod LawfulFunction
 pub mod Parts
 pub mod FunctionOf
+pub mod SizeOf

@@ -1,16 +1,25 @@
 //! A function, valid by its type.
-ghost use Rattle.std.specs.Prelude.{◌≡◌, IfOk, map};
+ghost use Rattle.std.specs.Prelude.{◌≡◌, ◌+◌, ◌<◌, ◌≤◌, length, map, None, Some, IfOk, IsSome, MatchOption, slice_get};
 ghost use Rattle.std.specs.Option.{option_map};
 ghost use Rattle.fx_rational.specs.Decimal.{decimal_value};
 ghost use Rattle.fx_expr.specs.TreeOf.{tree};
 ghost use Rattle.fx_expr.specs.Parts.{input_of, state_of, temp_of};
+ghost use Rattle.fx_model.specs.Nodes.{nodes_of};
+ghost use Rattle.fx_model.specs.Tree.{Tree};
+ghost use Rattle.fx_model.specs.Function as model;
+ghost use Rattle.fx_model.specs.Paths as paths;
+ghost use Rattle.fx_model.specs.Paths.{found, put, subtree, tree_at, temps_changed, results_changed, with_tree};
 ghost use Rattle.fx_expr.specs.LawfulFunction.{IsLawfulFunction};
+ghost use Rattle.fx_expr.specs.FunctionOf.{made};
 
+use crate::count::{count_results, count_temps};
 use crate::expr::Expr;
 use crate::items::Items;
-use crate::name::Name;
 use crate::parts::{Input, State, Temp};
+use crate::size::Size;
+use crate::trees::{exchange_in, tree_in};
 use fx_fraction::Decimal;
+use fx_name::Name;
 use fx_num::Memory;
 use std::alloc::Global;
 use std::marker::Model;
@@ -25,13 +34,14 @@ pub struct Function {
     pub temps: Items<Temp>,
     pub results: Items<Expr>,
     pub demands: Items<Option<Decimal>>,
+    // How many nodes it has.
+    nodes: u32,
 }
 
 impl Model for Function {
     ghost use Rattle.fx_model.specs.Function as model;
     ghost use Rattle.fx_expr.specs.Coding.{function_code};
-    ghost use Rattle.fx_expr.specs.FunctionOf.{function_of};
-    ghost use Rattle.fx_expr.specs.LawfulFunction.{IsLawfulFunction};
+    ghost use Rattle.fx_expr.specs.FunctionOf.{function_of, IsFunction};
 
     ghost Value = { model.Function };
 
@@ -39,7 +49,7 @@ impl Model for Function {
 
     ghost view = { function_of };
 
-    ghost invariant = { λ f. IsLawfulFunction (function_of f) };
+    ghost invariant = { λ f. IsFunction f };
 }
 
 fn copy_inputs(alloc: Global, inputs: &[Input]) -> Result<Vec<Input>, Memory>
@@ -91,6 +101,60 @@ fn copy_demands(alloc: Global, demands: &[Option<Decimal>]) -> Result<Vec<Option
 }
 
 impl Function {
+    /// The function of these parts, which together are lawful. What a source spells is, so the parser needs no such test.
+    pub fn new(
+        name: Name,
+        inputs: Items<Input>,
+        states: Items<State>,
+        temps: Items<Temp>,
+        results: Items<Expr>,
+        demands: Items<Option<Decimal>>,
+    ) -> Function
+        requires { IsLawfulFunction (made name inputs states temps results demands) }
+        ensures { result ≡ made name inputs states temps results demands }
+    {
+        let variables = (inputs.len() + states.len()) as u32;
+        let nodes = variables
+            .saturating_add(count_temps(temps.as_slice()))
+            .saturating_add(count_results(results.as_slice()));
+        Function {
+            name,
+            inputs,
+            states,
+            temps,
+            results,
+            demands,
+            nodes,
+        }
+    }
+
+    /// How many nodes it has.
+    pub fn nodes(&self) -> u32
+        ensures { result ≡ length (nodes_of self.now) }
+    {
+        self.nodes
+    }
+
+    /// The tree at a place: the temps' and then the results'.
+    pub fn tree(&self, place: u32) -> Option<&Expr>
+        ensures { MatchOption result (tree_at self.now place ≡ None) (λ r. tree_at self.now place ≡ Some (tree r.now)) }
+    {
+        tree_in(self.temps.as_slice(), self.results.as_slice(), place)
+    }
+
+    /// Puts a tree in place of the subtree at a place and a path, and gives the subtree.
+    pub fn replace(&mut self, place: u32, path: &[u8], new: Expr) -> Expr
+        requires there { IsSome (found self.old place path.now) }
+        requires lawful { IsLawfulFunction (with_tree self.old place path.now (tree new)) }
+        ensures function { self.new ≡ with_tree self.old place path.now (tree new) }
+        ensures old { found self.old place path.now ≡ Some (tree result) }
+    {
+        let more = Size::of(&new).nodes;
+        let old = exchange_in(&mut self.temps, &mut self.results, place, path, new);
+        self.nodes = self.nodes - Size::of(&old).nodes + more;
+        old
+    }
+
     /// An equal function.
     pub fn copy(&self, alloc: Global) -> Result<Function, Memory>
         ensures { IfOk result (λ f. f ≡ self.now) }
@@ -102,11 +166,12 @@ impl Function {
             temps: Items::from_vec(copy_temps(alloc, self.temps.as_slice())?),
             results: Items::from_vec(copy_results(alloc, self.results.as_slice())?),
             demands: Items::from_vec(copy_demands(alloc, self.demands.as_slice())?),
+            nodes: self.nodes,
         })
     }
 
-    /// What each function meets.
-    pub fn lawful(&self)
+    /// What each function keeps.
+    pub fn keeps(&self)
         ensures { IsLawfulFunction self.now }
     {
         let _ = &self.name;

@@ -6,7 +6,7 @@ use std::marker::Model;
 /// A list that doesn't grow any more.
 #[derive(Debug, Drop)]
 pub struct Items<T> {
-    list: Vec<T>,
+    pub(crate) list: Vec<T>,
 }
 
 impl<T> Model for Items<T> {

@@ -6,17 +6,21 @@
 //! compare; so every clause speaks of `tree e`, never of `e`.
 #![tactic(auto)]
 
+mod count;
 mod expr;
 mod function;
 mod items;
-mod name;
 mod parts;
+mod place;
+mod size;
+mod trees;
 
 pub use expr::{Expr, same};
 pub use function::Function;
 pub use items::Items;
-pub use name::Name;
 pub use parts::{Input, State, Temp};
+pub use place::{at, exchange, operand};
+pub use size::Size;
 
 #[cfg(test)]
 mod tests;

@@ -3,8 +3,8 @@ ghost use Rattle.std.specs.Prelude.{◌≡◌, IfOk};
 ghost use Rattle.fx_expr.specs.Parts.{input_of, state_of, temp_of};
 
 use crate::expr::Expr;
-use crate::name::Name;
 use fx_fraction::Decimal;
+use fx_name::Name;
 use fx_num::Memory;
 use std::alloc::Global;
 

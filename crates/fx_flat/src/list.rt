@@ -147,7 +147,7 @@ pub fn flatten(alloc: Global, function: &Function) -> Result<Nodes, Memory>
     ensures states { IfOk result (λ nodes. nodes.states ≡ length function.now.states) }
     ensures outputs { IfOk result (λ nodes. nodes.outputs ≡ length function.now.demands) }
 {
-    function.lawful();
+    function.keeps();
     let inputs = function.inputs.len() as u32;
     let states = function.states.len() as u32;
     let mut list = Vec::new(alloc);

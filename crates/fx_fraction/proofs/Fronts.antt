@@ -1,11 +1,17 @@
 -- One more digit.
-use Rattle.std.proofs.Common.{◌≡◌, ◌≢◌, ℕ, zero, suc, ◌+◌, ◌*◌, ◌^◌, ◌%◌, ◌<◌, ◌≤◌, refl, ap, add-one, arith}
+use Rattle.std.proofs.Common.{◌≡◌, ◌≢◌, ℕ, zero, suc, ◌+◌, ◌*◌, ◌^◌, ◌%◌, ◌<◌, ◌≤◌, refl, ap, sym, ◌∙◌, add-one, arith}
 use Rattle.std.proofs.Math.Nat.{pow-suc, mul_assoc, add-mul-mod_self_right, mod-eq_of_lt, one-le-pow, mul-le-mul_left, mul-le-mul_right, pow-le-pow_right}
 use Rattle.fx_fraction.specs.declared.significant.Significant.TheVariants.{Long}
 use Rattle.fx_fraction.specs.Kept.{Strips, Keeps}
 
 pub more_zeros : (f z : ℕ) → f * 10 ^ z * 10 ≡ f * 10 ^ (z + 1)
 more_zeros f z = rw (add-one, pow-suc) (mul_assoc f (10 ^ z) 10)
+
+-- a zero at the end of the front is one behind it
+pub zero_off : (f q z : ℕ) → f ≡ q * 10 → f * 10 ^ z ≡ q * 10 ^ (z + 1)
+zero_off f q z e =
+    let swap : 10 * 10 ^ z ≡ 10 ^ z * 10 = omega arith in
+    ap (λ k. k * 10 ^ z) e ∙ mul_assoc q 10 (10 ^ z) ∙ ap (λ k. q * k) swap ∙ sym (mul_assoc q (10 ^ z) 10) ∙ more_zeros q z
 
 pub last_digit : (x d : ℕ) → d < 10 → (x * 10 + d) % 10 ≡ d
 last_digit x d lt = let e : x * 10 + d ≡ d + x * 10 = omega arith in rw (e, add-mul-mod_self_right) (mod-eq_of_lt lt)

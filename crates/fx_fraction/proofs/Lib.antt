@@ -12,3 +12,4 @@ pub mod Ranges
 pub mod Numerals
 pub mod Values
 pub mod Comparisons
+pub mod Lowest

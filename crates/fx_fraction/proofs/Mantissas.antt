@@ -15,7 +15,7 @@ pub record Read (text tail : List ℕ) (count : ℕ) (s : Significant) (places e
   pub short : length text < 2 ^ 63
   pub tail_is : tail ≡ take (length text - count) (drop count text)
   pub value : Keeps (digits_value_after 10 (digits_value_after 10 0 (first_digits text)) (part_digits (part_of tail))) s
-  pub zeros : zeros_of s ≤ length text
+  pub zeros : zeros_of s < 2 ^ 63
   pub fits : FitsFront s
   pub places_are : places ≡ length (part_digits (part_of tail))
   pub end_within : end ≤ length tail
@@ -26,13 +26,13 @@ mantissa_is text tail count s places end r some =
     let whole : tail ≡ drop count text = r.tail_is ∙ take_all (length text - count) (drop count text) (omega (arith, length-drop count text)) in
     let behind : tail ≡ behind_digits text = whole ∙ ap (λ (i : ℕ). drop i text) r.count_is in
     let size : length tail ≡ length text - count = ap length whole ∙ length-drop count text in
-    let k = r.within in let e = r.end_within in let z = r.zeros in let h = r.short in let pl = r.places_are in let few = part_few tail in let ci = r.count_is in
+    let k = r.within in let e = r.end_within in let h = r.short in let pl = r.places_are in let few = part_few tail in let ci = r.count_is in
     let places_are : places ≡ length (part_digits (part_of (behind_digits text))) = pl ∙ ap (λ (xs : List ℕ). length (part_digits (part_of xs))) behind in
     record {
       some = omega arith;
       value = subst (λ (n : ℕ). Keeps n s) (sym (digits_after_append 0 (first_digits text) (part_digits (part_of (behind_digits text)))))
           (subst (λ (xs : List ℕ). Keeps (digits_value_after 10 (digits_value_after 10 0 (first_digits text)) (part_digits (part_of xs))) s) behind r.value);
-      zeros = omega arith;
+      zeros = r.zeros;
       fits = r.fits;
       places_are = places_are;
       short = omega arith;

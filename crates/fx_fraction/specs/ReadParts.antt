@@ -1,6 +1,6 @@
 -- What the reader's steps give. No clause of a public call rests on this.
 use Rattle.std.specs.Prelude.{◌≡◌, ℕ, suc, ◌+◌, ◌*◌, ◌^◌, ◌<◌, ◌≤◌, ℤ, pos, negsuc, List, ◌++◌, length, drop, Option, Some, None, option_map, if◌then◌else◌}
-use Rattle.std.specs.Str.Parse.{digits_value}
+use Rattle.std.specs.Str.Parse.{digits_value, digits_value_after}
 use Rattle.fx_fraction.specs.declared.significant.Significant.{Significant}
 use Rattle.fx_fraction.specs.Numeral.{is_number, power_of, digit_count, first_digits, behind_digits, part_of, part_digits, behind_part}
 use Rattle.fx_fraction.specs.Kept.{saturated, kept_exponent, Keeps, FitsFront, zeros_of}
@@ -17,6 +17,14 @@ number_kept ds = if is_number ds then Some (saturated (digits_value 10 ds)) else
 -- the exponent of the power that stands there
 abbrev pub exponent_kept : List ℕ → Option ℤ
 exponent_kept text = option_map kept_exponent (power_of text)
+
+-- a part behind a point, or none: what its digits come to behind a start, how many they are, and where they end
+pub record IsShortPart (start : ℕ) (text : List ℕ) (r : ℕ × ℕ × ℕ) : Type 0 where
+  pub value : r.0 ≡ digits_value_after 10 start (part_digits (part_of text))
+  pub places : r.1 ≡ length (part_digits (part_of text))
+  pub small : r.0 < 2 ^ 62
+  pub within : r.2 ≤ length text
+  pub rest : drop r.2 text ≡ behind_part text
 
 -- the digits and the point that stand first: what is kept of the digits, how many stand behind the point, and where all end
 pub record IsMantissa (text : List ℕ) (digits : Significant) (places end : ℕ) : Type 0 where

@@ -5,7 +5,7 @@
 
 ghost use Rattle.std.specs.Prelude.{◌≡◌, ◌<◌, ◌^◌, pos, pred, unsigned_abs};
 ghost use Rattle.std.specs.Int.{IsGcd};
-ghost use Rattle.fx_rational.specs.Rational.{bottom, over};
+ghost use Rattle.fx_rational.specs.Rational.{bottom, lowest, over};
 ghost use Rattle.fx_fraction.specs.Numeral.{signed};
 ghost use Rattle.fx_fraction.specs.Fractions.{GivesLowest};
 
@@ -37,6 +37,15 @@ impl Model for Fraction {
     ghost use Rattle.fx_fraction.specs.Back.{fraction_back};
 
     ghost inverse_ok = { λ c h. fraction_back c h };
+}
+
+impl Fraction {
+    /// What each fraction keeps: its terms are the lowest.
+    pub fn keeps(&self)
+        ensures { self.now ≡ lowest self.now }
+    {
+        let _p = self.p;
+    }
 }
 
 impl fmt::Display for Fraction {

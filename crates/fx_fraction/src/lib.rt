@@ -17,6 +17,7 @@ mod quantised;
 mod range;
 mod read;
 pub mod reading_law;
+mod short;
 mod significant;
 mod text;
 

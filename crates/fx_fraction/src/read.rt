@@ -14,6 +14,7 @@ ghost use Rattle.fx_fraction.specs.ReadParts.{number_kept, exponent_kept, IsMant
 use crate::decimal::Decimal;
 use crate::fault::NumberFault;
 use crate::limits::placed;
+use crate::short::read_short;
 use crate::significant::{Significant, read_digits};
 
 /// The text behind its sign, if it has one.
@@ -37,10 +38,10 @@ fn is_negative(text: &[u8]) -> bool
 
 /// Digits with at most one point among or around them, and where they end.
 #[derive(Clone, Copy)]
-struct Mantissa {
-    digits: Significant,
-    places: usize,
-    end: usize,
+pub(crate) struct Mantissa {
+    pub digits: Significant,
+    pub places: usize,
+    pub end: usize,
 }
 
 /// Goes on behind the digits before the point.
@@ -76,6 +77,9 @@ fn read_mantissa(body: &[u8]) -> Option<Mantissa>
     ensures none { IfNone result (digit_count body.now + length (part_digits (part_of (behind_digits body.now))) ≡ 0) }
     ensures some { IfSome result (λ m. IsMantissa body.now m.digits m.places m.end) }
 {
+    if let Some(short) = read_short(body) {
+        return Some(short);
+    }
     let (whole, count) = read_digits(Significant::Zero, body);
     let part = read_part(whole, &body[count..]);
     if count + part.places == 0 {

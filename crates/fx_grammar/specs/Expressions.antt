@@ -8,8 +8,8 @@ use Rattle.fx_grammar.specs.Heads.{head_of, ◌==ₕ◌}
 use Rattle.fx_model.specs.Tree.{Tree, Literal, Input, State, Temp}
 use Rattle.fx_rational.specs.Rational.{lowest}
 use Rattle.fx_rational.specs.Decimal.{Decimal, decimal_value}
-use Rattle.fx_grammar.specs.Operands.{Operand, leaf, negation, joined}
-use Rattle.fx_grammar.specs.Steps.{◌>>=◌, when, Text, Tokens, Reads, many, place_of, fault, next_head, is_fresh, wrong, want, decimal, minus}
+use Rattle.fx_grammar.specs.Operands.{Operand, leaf, negation, combined_operand}
+use Rattle.fx_grammar.specs.Steps.{◌>>=◌, when, Text, Tokens, Parsed, repeated, name_place, fault, next_head, is_fresh, wrong, want, decimal, negative_decimal}
 
 -- the names of inputs, states and temps in a row, and where the text ends
 pub record Known : Type 0 where
@@ -24,7 +24,7 @@ literal d = leaf (Literal (lowest (decimal_value d))) 1
 
 -- what reads an operand from the tokens that are left
 abbrev pub Reader : Type 0
-Reader = Tokens → Reads Operand
+Reader = Tokens → Parsed Operand
 
 -- what the name at a place stands for
 abbrev pub meant : Known → ℕ → Tree
@@ -42,7 +42,7 @@ found known t (Some p) ts = Ok (leaf (meant known p) 0, ts)
 
 -- a name, which is no call
 abbrev pub named : Known → Lexeme → Reader
-named known t ts = if is_call ts then Err (fault t.at kinds.Unsupported) else found known t (place_of known.names t.text) ts
+named known t ts = if is_call ts then Err (fault t.at kinds.Unsupported) else found known t (name_place known.names t.text) ts
 
 -- the parenthesis that closes
 unfoldable pub closed : Known → Operand → Reader
@@ -58,7 +58,7 @@ opened known (Some expr) t ts = do
   closed known x.0 x.1
 
 -- an atom that begins with t, by what t is
-abbrev pub atom_by : Known → Option Reader → Lexeme → Tokens → Head → Reads Operand
+abbrev pub atom_by : Known → Option Reader → Lexeme → Tokens → Head → Parsed Operand
 atom_by known inner t ts heads.Number = Ok (literal (decimal t.text), ts)
 atom_by known inner t ts heads.Name = named known t ts
 atom_by known inner t ts heads.Open = opened known inner t ts
@@ -70,18 +70,18 @@ atom_of known inner [] = Err (fault known.end kinds.EndOfText)
 atom_of known inner (t ∷ ts) = atom_by known inner t ts (head_of t)
 
 -- behind a minus: a number makes a literal, another atom is negated
-unfoldable pub negated : Known → Option Reader → Reader
-negated known inner ts = when (next_head ts ==ₕ heads.Number)
-    (λ _. want known.end heads.Number ts >>= λ t. Ok (literal (minus (decimal t.0.text)), t.1))
+unfoldable pub behind_minus : Known → Option Reader → Reader
+behind_minus known inner ts = when (next_head ts ==ₕ heads.Number)
+    (λ _. want known.end heads.Number ts >>= λ t. Ok (literal (negative_decimal (decimal t.0.text)), t.1))
     (λ _. atom_of known inner ts >>= λ x. Ok (negation x.0, x.1))
 
 -- factor = [ "-" ] atom
 unfoldable pub factor_of : Known → Option Reader → Reader
-factor_of known inner ts = when (next_head ts ==ₕ heads.Minus) (λ _. negated known inner (drop 1 ts)) (λ _. atom_of known inner ts)
+factor_of known inner ts = when (next_head ts ==ₕ heads.Minus) (λ _. behind_minus known inner (drop 1 ts)) (λ _. atom_of known inner ts)
 
 -- one more operand to the right of a tree; they group to the left
 abbrev pub one_more : Reader → Operand → Reader
-one_more operand left ts = operand (drop 1 ts) >>= λ x. Ok (joined (next_head ts) left x.0, x.1)
+one_more operand left ts = operand (drop 1 ts) >>= λ x. Ok (combined_operand (next_head ts) left x.0, x.1)
 
 -- a product or a quotient goes on
 abbrev pub goes_on_product : Operand → Tokens → Bool
@@ -95,18 +95,18 @@ goes_on_sum outside left ts = (next_head ts ==ₕ heads.Plus) || ((next_head ts 
 unfoldable pub term_of : Known → Option Reader → Reader
 term_of known inner ts = do
   x ← factor_of known inner ts
-  many goes_on_product (one_more (factor_of known inner)) x.0 x.1
+  repeated goes_on_product (one_more (factor_of known inner)) x.0 x.1
 
 -- expr = term { ( "+" | "-" ) term }
-unfoldable pub sum_of : Known → Bool → Option Reader → Reader
-sum_of known outside inner ts = do
+unfoldable pub sum_from : Known → Bool → Option Reader → Reader
+sum_from known outside inner ts = do
   x ← term_of known inner ts
-  many (goes_on_sum outside) (one_more (term_of known inner)) x.0 x.1
+  repeated (goes_on_sum outside) (one_more (term_of known inner)) x.0 x.1
 
 -- so many parentheses may still be opened
 unfoldable pub expr_at : Known → Bool → ℕ → Reader
-expr_at known outside zero = sum_of known outside None
-expr_at known outside (suc room) = sum_of known outside (Some (expr_at known false room))
+expr_at known outside zero = sum_from known outside None
+expr_at known outside (suc room) = sum_from known outside (Some (expr_at known false room))
 
 -- what stands in a parenthesis
 unfoldable pub inner_at : Known → ℕ → Option Reader

@@ -5,8 +5,9 @@ use Rattle.fx_lexer.specs.declared.fault.SourceKind.TheVariants as kinds
 use Rattle.fx_lexer.specs.Tokens.{Lexeme}
 use Rattle.fx_grammar.specs.declared.head.Head.TheVariants as heads
 use Rattle.fx_grammar.specs.Heads.{◌==ₕ◌}
+use Rattle.fx_model.specs.Limits.{node_limit}
 use Rattle.fx_model.specs.Function.{Function}
-use Rattle.fx_grammar.specs.Steps.{◌>>=◌, Text, Tokens, Reads, fault, next_head, wrong, want, past_semicolon, listed, has_name}
+use Rattle.fx_grammar.specs.Steps.{◌>>=◌, Text, Tokens, Parsed, fault, next_head, wrong, want, past_semicolon, listed, has_name}
 use Rattle.fx_grammar.specs.Ranges.{Subjects, names_of, require_at}
 use Rattle.fx_grammar.specs.Fronts.{Declared, param_at, states_at, type_at}
 use Rattle.fx_grammar.specs.Bodies.{Body, Results, vals_at, result_at, count_of}
@@ -30,7 +31,7 @@ pub record Front : Type 0 where
   pub reals : ℕ
 
 -- "def" name "(" params ")" [ states ] ":" type "=" "{", behind the word
-unfoldable pub front_at : ℕ → List Text → Tokens → Reads Front
+unfoldable pub front_at : ℕ → List Text → Tokens → Parsed Front
 front_at end functions ts = do
   t ← want end heads.Name ts
   _ ← new_name functions t.0
@@ -48,11 +49,11 @@ abbrev pub body_of : Front → Body
 body_of f = record { names = f.declared.names; inputs = length f.subjects; states = length f.declared.states; temps = []; nodes = 0 }
 
 -- the function, if it has no more than 4,000 nodes; else the fault at its word
-abbrev pub within_nodes : ℕ → Body → Results → Function → Tokens → Reads Function
-within_nodes word b r f ts = if nat_lt 4000 (count_of b (length r.trees) r.nodes) then Err (fault word kinds.TooMany) else Ok (f, ts)
+abbrev pub within_nodes : ℕ → Body → Results → Function → Tokens → Parsed Function
+within_nodes word b r f ts = if nat_lt node_limit (count_of b (length r.trees) r.nodes) then Err (fault word kinds.TooMany) else Ok (f, ts)
 
 -- require { val } result [ ";" ] "}" [ ensuring ]
-unfoldable pub body_at : ℕ → ℕ → Front → Tokens → Reads Function
+unfoldable pub body_at : ℕ → ℕ → Front → Tokens → Parsed Function
 body_at end word f ts = do
   r ← require_word_at end f.subjects ts
   inputs ← require_at end f.subjects r
@@ -63,7 +64,7 @@ body_at end word f ts = do
   within_nodes word b.0 results.0 (record { name = f.name; inputs = inputs.0; states = f.declared.states; temps = b.0.temps; results = results.0.trees; demands = demands.0 }) demands.1
 
 -- def, behind the word, which stands at word
-unfoldable pub def_at : ℕ → ℕ → List Text → Tokens → Reads Function
+unfoldable pub def_at : ℕ → ℕ → List Text → Tokens → Parsed Function
 def_at end word functions ts = do
   f ← front_at end functions ts
   body_at end word f.0 f.1

@@ -20,8 +20,8 @@ relation_of text =
     if bytes_eq text (codes "=") then Equals else End)))))))
 
 -- a sign of operations, or a mark
-abbrev pub sign_of : List ℕ → Head
-sign_of text =
+abbrev pub sign_head : List ℕ → Head
+sign_head text =
     if bytes_eq text (codes "+") then Plus else (
     if bytes_eq text (codes "-") then Minus else (
     if bytes_eq text (codes "*") then Star else (
@@ -36,8 +36,8 @@ sign_of text =
     if bytes_eq text (codes ";") then Semicolon else relation_of text)))))))))))
 
 -- a reserved word: those of other languages are alike
-abbrev pub word_of : List ℕ → Head
-word_of text =
+abbrev pub word_head : List ℕ → Head
+word_head text =
     if bytes_eq text (codes "import") then Import else (
     if bytes_eq text (codes "object") then Object else (
     if bytes_eq text (codes "def") then Def else (
@@ -49,46 +49,46 @@ word_of text =
 abbrev pub by_kind : TokenKind → List ℕ → Head
 by_kind kinds.Name text = Name
 by_kind kinds.Number text = Number
-by_kind kinds.Word text = word_of text
-by_kind kinds.Sign text = sign_of text
+by_kind kinds.Word text = word_head text
+by_kind kinds.Sign text = sign_head text
 
 -- what the grammar sees of a token
 unfoldable pub head_of : Lexeme → Head
 head_of t = by_kind t.kind t.text
 
 -- a number for each, to compare them
-abbrev pub code_of : Head → ℕ
-code_of End = 0
-code_of Name = 1
-code_of Number = 2
-code_of Plus = 3
-code_of Minus = 4
-code_of Star = 5
-code_of Slash = 6
-code_of Open = 7
-code_of Close = 8
-code_of OpenBrace = 9
-code_of CloseBrace = 10
-code_of Colon = 11
-code_of Comma = 12
-code_of Dot = 13
-code_of Semicolon = 14
-code_of Equals = 15
-code_of Arrow = 16
-code_of PlusMinus = 17
-code_of And = 18
-code_of Below = 19
-code_of AtMost = 20
-code_of Above = 21
-code_of AtLeast = 22
-code_of Import = 23
-code_of Object = 24
-code_of Def = 25
-code_of Val = 26
-code_of Require = 27
-code_of Ensuring = 28
-code_of Unsupported = 29
+abbrev pub head_number : Head → ℕ
+head_number End = 0
+head_number Name = 1
+head_number Number = 2
+head_number Plus = 3
+head_number Minus = 4
+head_number Star = 5
+head_number Slash = 6
+head_number Open = 7
+head_number Close = 8
+head_number OpenBrace = 9
+head_number CloseBrace = 10
+head_number Colon = 11
+head_number Comma = 12
+head_number Dot = 13
+head_number Semicolon = 14
+head_number Equals = 15
+head_number Arrow = 16
+head_number PlusMinus = 17
+head_number And = 18
+head_number Below = 19
+head_number AtMost = 20
+head_number Above = 21
+head_number AtLeast = 22
+head_number Import = 23
+head_number Object = 24
+head_number Def = 25
+head_number Val = 26
+head_number Require = 27
+head_number Ensuring = 28
+head_number Unsupported = 29
 
 infix 40 ◌==ₕ◌
 abbrev pub ◌==ₕ◌ : Head → Head → Bool
-a ==ₕ b = code_of a == code_of b
+a ==ₕ b = head_number a == head_number b

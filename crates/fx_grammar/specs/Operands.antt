@@ -1,6 +1,7 @@
 -- What was read of an expression: its tree, its height and its nodes.
 use Rattle.std.specs.Prelude.{◌==◌, ◌+◌, ℕ, pos, Bool, Option, Some, None, max, min, nat_le, if◌then◌else◌}
 use Rattle.fx_rational.specs.Rational.{whole}
+use Rattle.fx_model.specs.Limits.{node_limit, height_limit}
 use Rattle.fx_model.specs.Tree.{Tree, Literal, Negation, Sum, Difference, Product, Quotient}
 use Rattle.fx_grammar.specs.declared.head.Head.{Head}
 use Rattle.fx_grammar.specs.declared.head.Head.TheVariants as heads
@@ -18,11 +19,11 @@ leaf x nodes = record { tree = Some x; height = 1; nodes = nodes }
 
 -- a count of nodes, stopped behind the limit
 abbrev pub counted_nodes : ℕ → ℕ
-counted_nodes n = min 4001 n
+counted_nodes n = min (node_limit + 1) n
 
 -- a tree, where it isn't too high
-abbrev pub kept : ℕ → Option Tree → Option Tree
-kept height x = if nat_le height 200 then x else None
+abbrev pub low_tree : ℕ → Option Tree → Option Tree
+low_tree height x = if nat_le height height_limit then x else None
 
 -- the negation of a tree that is there
 abbrev pub negation_of : Option Tree → Option Tree
@@ -31,7 +32,7 @@ negation_of (Some x) = Some (Negation x)
 
 -- the negation of an operand, one higher, of one node more
 abbrev pub negation : Operand → Operand
-negation a = let h = min 201 (1 + a.height) in record { tree = kept h (negation_of a.tree); height = h; nodes = counted_nodes (1 + a.nodes) }
+negation a = let h = min (height_limit + 1) (1 + a.height) in record { tree = low_tree h (negation_of a.tree); height = h; nodes = counted_nodes (1 + a.nodes) }
 
 -- the operation of a sign
 abbrev pub operation : Head → Tree → Tree → Tree
@@ -47,12 +48,12 @@ both sign (Some x) None = None
 both sign (Some x) (Some y) = Some (operation sign x y)
 
 -- the operation of two operands, higher than both by one, of one node more
-abbrev pub joined : Head → Operand → Operand → Operand
-joined sign a b = let h = min 201 (1 + max a.height b.height) in record { tree = kept h (both sign a.tree b.tree); height = h; nodes = counted_nodes (1 + a.nodes + b.nodes) }
+abbrev pub combined_operand : Head → Operand → Operand → Operand
+combined_operand sign a b = let h = min (height_limit + 1) (1 + max a.height b.height) in record { tree = low_tree h (both sign a.tree b.tree); height = h; nodes = counted_nodes (1 + a.nodes + b.nodes) }
 
 -- the tree is higher than 200
 abbrev pub is_high : Operand → Bool
-is_high a = a.height == 201
+is_high a = a.height == height_limit + 1
 
 -- the tree, which is there where it isn't too high
 abbrev pub tree_or : Option Tree → Tree

@@ -11,7 +11,7 @@ use Rattle.fx_grammar.specs.declared.side.Side.{Side}
 use Rattle.fx_grammar.specs.declared.side.Side.TheVariants.{Low, High, Error}
 use Rattle.fx_grammar.specs.declared.head.Head.TheVariants as heads
 use Rattle.fx_grammar.specs.Heads.{head_of, ◌==ₕ◌}
-use Rattle.fx_grammar.specs.Steps.{◌>>=◌, when, many, place_of, Text, Tokens, Reads, fault, next_head, place_at, wrong, want, number_at, signed_at}
+use Rattle.fx_grammar.specs.Steps.{◌>>=◌, when, repeated, name_place, Text, Tokens, Parsed, fault, next_head, next_place, wrong, want, numeral_at, signed_at}
 
 -- an input or an output: its name, the name's place, and what is said of it so far
 pub record Subject : Type 0 where
@@ -34,9 +34,9 @@ abbrev pub names_of : Subjects → List Text
 names_of subjects = map (λ s. s.name) subjects
 
 -- this is said
-abbrev pub is_given : Option Decimal → Bool
-is_given None = false
-is_given (Some d) = true
+abbrev pub is_said : Option Decimal → Bool
+is_said None = false
+is_said (Some d) = true
 
 -- what is said of this side
 abbrev pub side_of : Side → Subject → Option Decimal
@@ -52,7 +52,7 @@ with_side Error d s = record s { err = Some d }
 
 -- the subject at a place learns one thing; t is its name where that is said
 abbrev pub said_at : Side → Decimal → Lexeme → Subjects → ℕ → Subject → Result Subjects SourceFault
-said_at side d t subjects k s = if is_given (side_of side s) then Err (fault t.at kinds.NamedTwice) else Ok (slice_set subjects k (with_side side d s))
+said_at side d t subjects k s = if is_said (side_of side s) then Err (fault t.at kinds.NamedTwice) else Ok (slice_set subjects k (with_side side d s))
 
 -- the subject at a place that is there
 abbrev pub subject_or : Subjects → ℕ → Subject
@@ -69,7 +69,7 @@ found_or t (Some k) = Ok k
 
 -- the place of a name that must be known
 unfoldable pub subject_at : Subjects → Lexeme → Result ℕ SourceFault
-subject_at subjects t = found_or t (place_of (names_of subjects) t.text)
+subject_at subjects t = found_or t (name_place (names_of subjects) t.text)
 
 -- rel = "<" | "<=" | ">" | ">="
 abbrev pub is_relation : Head → Bool
@@ -80,25 +80,25 @@ abbrev pub is_upward : Head → Bool
 is_upward h = (h ==ₕ heads.Below) || (h ==ₕ heads.AtMost)
 
 -- name "+/-" number, behind the sign
-unfoldable pub error_at : ℕ → Subjects → Lexeme → ℕ → Tokens → Reads Subjects
-error_at end subjects t k ts = do
-  d ← number_at end ts
+unfoldable pub stated_error : ℕ → Subjects → Lexeme → ℕ → Tokens → Parsed Subjects
+stated_error end subjects t k ts = do
+  d ← numeral_at end ts
   s ← said Error d.0 t subjects k
   Ok (s, d.1)
 
 -- name rel signed, behind the relation
-unfoldable pub bound_at : ℕ → Subjects → Lexeme → ℕ → Side → Tokens → Reads Subjects
+unfoldable pub bound_at : ℕ → Subjects → Lexeme → ℕ → Side → Tokens → Parsed Subjects
 bound_at end subjects t k side ts = if next_head ts ==ₕ heads.Name then Err (fault t.at kinds.Unsupported) else (do
   d ← signed_at end ts
   s ← said side d.0 t subjects k
   Ok (s, d.1))
 
 -- a condition that begins with a name
-unfoldable pub name_first : ℕ → Subjects → Tokens → Reads Subjects
+unfoldable pub name_first : ℕ → Subjects → Tokens → Parsed Subjects
 name_first end subjects ts = do
   t ← want end heads.Name ts
   k ← subject_at subjects t.0
-  if next_head t.1 ==ₕ heads.PlusMinus then error_at end subjects t.0 k (drop 1 t.1) else (
+  if next_head t.1 ==ₕ heads.PlusMinus then stated_error end subjects t.0 k (drop 1 t.1) else (
       if is_relation (next_head t.1) then bound_at end subjects t.0 k (if is_upward (next_head t.1) then High else Low) (drop 1 t.1)
       else Err (wrong end t.1))
 
@@ -107,7 +107,7 @@ abbrev pub is_signed : Tokens → Bool
 is_signed ts = (next_head ts ==ₕ heads.Number) || ((next_head ts ==ₕ heads.Minus) && (next_head (drop 1 ts) ==ₕ heads.Number))
 
 -- signed rel name, behind the relation; the condition begins at first
-unfoldable pub behind_relation : ℕ → ℕ → Subjects → Decimal → Side → Tokens → Reads Subjects
+unfoldable pub behind_relation : ℕ → ℕ → Subjects → Decimal → Side → Tokens → Parsed Subjects
 behind_relation end first subjects d side ts = if is_signed ts then Err (fault first kinds.Unsupported) else (do
   t ← want end heads.Name ts
   k ← subject_at subjects t.0
@@ -115,14 +115,14 @@ behind_relation end first subjects d side ts = if is_signed ts then Err (fault f
   Ok (s, t.1))
 
 -- a condition that begins with a number
-unfoldable pub number_first : ℕ → Subjects → Tokens → Reads Subjects
+unfoldable pub number_first : ℕ → Subjects → Tokens → Parsed Subjects
 number_first end subjects ts = do
   d ← signed_at end ts
-  if is_relation (next_head d.1) then behind_relation end (place_at end ts) subjects d.0 (if is_upward (next_head d.1) then Low else High) (drop 1 d.1)
+  if is_relation (next_head d.1) then behind_relation end (next_place end ts) subjects d.0 (if is_upward (next_head d.1) then Low else High) (drop 1 d.1)
       else Err (wrong end d.1)
 
 -- a condition without parentheses around it
-unfoldable pub condition_at : ℕ → Subjects → Tokens → Reads Subjects
+unfoldable pub condition_at : ℕ → Subjects → Tokens → Parsed Subjects
 condition_at end subjects ts = if next_head ts ==ₕ heads.Name then name_first end subjects ts else number_first end subjects ts
 
 -- what was read of the conditions: how many parentheses are open, whether a condition is due, what was said
@@ -136,28 +136,28 @@ abbrev pub are_open : Conditions → Tokens → Bool
 are_open c ts = not (c.depth == 0)
 
 -- where a condition is due: one more parenthesis, or the condition
-abbrev pub wanted_at : ℕ → Conditions → Tokens → Reads Conditions
+abbrev pub wanted_at : ℕ → Conditions → Tokens → Parsed Conditions
 wanted_at end c [] = Err (fault end kinds.EndOfText)
 wanted_at end c (t ∷ ts) = if head_of t ==ₕ heads.Open
     then Ok (record c { depth = c.depth + 1 }, ts)
     else (condition_at end c.subjects (t ∷ ts) >>= λ x. Ok (record { depth = c.depth; wants = false; subjects = x.0 }, x.1))
 
 -- behind a condition: a parenthesis that closes, or && and another condition is due
-abbrev pub read_at : ℕ → Conditions → Tokens → Reads Conditions
+abbrev pub read_at : ℕ → Conditions → Tokens → Parsed Conditions
 read_at end c [] = Err (fault end kinds.EndOfText)
 read_at end c (t ∷ ts) =
     if head_of t ==ₕ heads.Close then Ok (record c { depth = c.depth - 1 }, ts) else (
     if head_of t ==ₕ heads.And then Ok (record c { wants = true }, ts) else Err (wrong end (t ∷ ts)))
 
 -- one parenthesis, one condition or one && of the conditions
-unfoldable pub conditions_step : ℕ → Conditions → Tokens → Reads Conditions
+unfoldable pub conditions_step : ℕ → Conditions → Tokens → Parsed Conditions
 conditions_step end c ts = if c.wants then wanted_at end c ts else read_at end c ts
 
 -- conds and the parenthesis that closes them
-unfoldable pub conditions_at : ℕ → Conditions → Tokens → Reads Conditions
+unfoldable pub conditions_at : ℕ → Conditions → Tokens → Parsed Conditions
 conditions_at end c ts = do
   x ← conditions_step end c ts
-  many are_open (conditions_step end) x.0 x.1
+  repeated are_open (conditions_step end) x.0 x.1
 
 -- what wasn't said is zero
 abbrev pub or_zero : Option Decimal → Decimal
@@ -165,12 +165,12 @@ or_zero None = record { a = pos 0; b = 0 }
 or_zero (Some d) = d
 
 -- the input with its range and its error, which is zero where none is given
-abbrev pub input_of : Subject → Input
-input_of s = record { name = s.name; lo = decimal_value (or_zero s.lo); hi = decimal_value (or_zero s.hi); err = decimal_value (or_zero s.err) }
+abbrev pub declared_input : Subject → Input
+declared_input s = record { name = s.name; lo = decimal_value (or_zero s.lo); hi = decimal_value (or_zero s.hi); err = decimal_value (or_zero s.err) }
 
 -- the lower or the upper end is not given
 abbrev pub is_lacking : Subject → Bool
-is_lacking s = not (is_given s.lo && is_given s.hi)
+is_lacking s = not (is_said s.lo && is_said s.hi)
 
 -- the lower end lies above the upper one
 abbrev pub is_empty_range : Subject → Bool
@@ -186,10 +186,10 @@ unfoldable pub inputs_at : Subjects → Result (List Input) SourceFault
 inputs_at subjects = do
   _ ← all_pass is_lacking (λ at. fault at kinds.NoRange) subjects
   _ ← all_pass is_empty_range (λ at. fault at kinds.EmptyRange) subjects
-  Ok (map input_of subjects)
+  Ok (map declared_input subjects)
 
 -- require = "require" "(" conds ")" [ ";" ], behind the word
-unfoldable pub require_at : ℕ → Subjects → Tokens → Reads (List Input)
+unfoldable pub require_at : ℕ → Subjects → Tokens → Parsed (List Input)
 require_at end subjects ts = do
   o ← want end heads.Open ts
   x ← conditions_at end (record { depth = 1; wants = true; subjects = subjects }) o.1

@@ -9,20 +9,20 @@ use Rattle.fx_grammar.specs.declared.head.Head.TheVariants as heads
 use Rattle.fx_grammar.specs.Heads.{◌==ₕ◌}
 use Rattle.fx_lexer.specs.Tokens.{tokens_of}
 use Rattle.fx_model.specs.Function.{Function}
-use Rattle.fx_grammar.specs.Steps.{◌>>=◌, Text, Tokens, Reads, fault, next_head, place_at, wrong, want, many, at, behind, separated}
+use Rattle.fx_grammar.specs.Steps.{◌>>=◌, Text, Tokens, Parsed, fault, next_head, next_place, wrong, want, repeated, stands_next, behind, separated}
 use Rattle.fx_grammar.specs.Functions.{def_at}
 
 -- "." name
-unfoldable pub dot_at : ℕ → Unit {0} → Tokens → Reads (Unit {0})
+unfoldable pub dot_at : ℕ → Unit {0} → Tokens → Parsed (Unit {0})
 dot_at end u ts = want end heads.Name ts >>= λ n. Ok (tt, n.1)
 
 -- import = "import" name { "." name }, behind the word
-unfoldable pub import_at : ℕ → Unit {0} → Tokens → Reads (Unit {0})
+unfoldable pub import_at : ℕ → Unit {0} → Tokens → Parsed (Unit {0})
 import_at end u ts = separated heads.Dot (dot_at end) tt ts
 
 -- { import }
-unfoldable pub imports_at : ℕ → Tokens → Reads (Unit {0})
-imports_at end ts = many (at heads.Import) (behind (import_at end)) tt ts
+unfoldable pub imports_at : ℕ → Tokens → Parsed (Unit {0})
+imports_at end ts = repeated (stands_next heads.Import) (behind (import_at end)) tt ts
 
 -- ---- functions
 
@@ -31,12 +31,12 @@ abbrev pub function_names : List Function → List Text
 function_names fs = map (λ f. f.name) fs
 
 -- one more function, from its word on
-unfoldable pub one_def : ℕ → List Function → Tokens → Reads (List Function)
-one_def end fs ts = def_at end (place_at end ts) (function_names fs) (drop 1 ts) >>= λ f. Ok (fs ++ f.0 ∷ [], f.1)
+unfoldable pub one_def : ℕ → List Function → Tokens → Parsed (List Function)
+one_def end fs ts = def_at end (next_place end ts) (function_names fs) (drop 1 ts) >>= λ f. Ok (fs ++ f.0 ∷ [], f.1)
 
 -- { def }
-unfoldable pub defs_at : ℕ → Tokens → Reads (List Function)
-defs_at end ts = many (at heads.Def) (one_def end) [] ts
+unfoldable pub defs_at : ℕ → Tokens → Parsed (List Function)
+defs_at end ts = repeated (stands_next heads.Def) (one_def end) [] ts
 
 -- nothing stands behind the source
 abbrev pub ended : ℕ → List Function → Tokens → Result (List Function) SourceFault
@@ -44,7 +44,7 @@ ended end fs [] = Ok fs
 ended end fs (t ∷ ts) = Err (wrong end (t ∷ ts))
 
 -- "object" name "{" { import } { def } "}", behind the word
-unfoldable pub object_at : ℕ → Tokens → Reads (List Function)
+unfoldable pub object_at : ℕ → Tokens → Parsed (List Function)
 object_at end ts = do
   t ← want end heads.Name ts
   o ← want end heads.OpenBrace t.1

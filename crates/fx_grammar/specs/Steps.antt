@@ -33,8 +33,8 @@ abbrev pub Tokens : Type 0
 Tokens = List Lexeme
 
 -- a value and the tokens behind it, or the first fault
-abbrev pub Reads : Type 0 → Type 0
-Reads A = Result (A × Tokens) SourceFault
+abbrev pub Parsed : Type 0 → Type 0
+Parsed A = Result (A × Tokens) SourceFault
 
 -- the fault of this kind at this place
 abbrev pub fault : ℕ → SourceKind → SourceFault
@@ -51,9 +51,9 @@ is_fresh [] = false
 is_fresh (t ∷ ts) = t.fresh
 
 -- where the next token begins, or where the text ends
-abbrev pub place_at : ℕ → Tokens → ℕ
-place_at end [] = end
-place_at end (t ∷ ts) = t.at
+abbrev pub next_place : ℕ → Tokens → ℕ
+next_place end [] = end
+next_place end (t ∷ ts) = t.at
 
 -- the fault of a token that can't come next, or of the end
 abbrev pub wrong : ℕ → Tokens → SourceFault
@@ -61,12 +61,12 @@ wrong end [] = fault end kinds.EndOfText
 wrong end (t ∷ ts) = fault t.at (if head_of t ==ₕ heads.Unsupported then kinds.Unsupported else kinds.Unexpected)
 
 -- the next token, which has to be of this sort
-unfoldable pub want : ℕ → Head → Tokens → Reads Lexeme
+unfoldable pub want : ℕ → Head → Tokens → Parsed Lexeme
 want end head [] = Err (fault end kinds.EndOfText)
 want end head (t ∷ ts) = if head_of t ==ₕ head then Ok (t, ts) else Err (wrong end (t ∷ ts))
 
 -- the name Real
-unfoldable pub real_at : ℕ → Tokens → Reads Lexeme
+unfoldable pub real_at : ℕ → Tokens → Parsed Lexeme
 real_at end ts = do
   t ← want end heads.Name ts
   if bytes_eq t.0.text (codes "Real") then Ok t else Err (fault t.0.at kinds.Unexpected)
@@ -81,60 +81,60 @@ unfoldable pub decimal : Text → Decimal
 decimal text = value_or (decimal_of text)
 
 -- the negative value
-abbrev pub minus : Decimal → Decimal
-minus d = record { a = neg_ℤ d.a; b = d.b }
+abbrev pub negative_decimal : Decimal → Decimal
+negative_decimal d = record { a = neg_ℤ d.a; b = d.b }
 
 -- a number and its value
-unfoldable pub number_at : ℕ → Tokens → Reads Decimal
-number_at end ts = do
+unfoldable pub numeral_at : ℕ → Tokens → Parsed Decimal
+numeral_at end ts = do
   t ← want end heads.Number ts
   Ok (decimal t.0.text, t.1)
 
 -- signed = [ "-" ] number
-unfoldable pub signed_at : ℕ → Tokens → Reads Decimal
+unfoldable pub signed_at : ℕ → Tokens → Parsed Decimal
 signed_at end ts = if next_head ts ==ₕ heads.Minus
-    then (number_at end (drop 1 ts) >>= λ d. Ok (minus d.0, d.1))
-    else number_at end ts
+    then (numeral_at end (drop 1 ts) >>= λ d. Ok (negative_decimal d.0, d.1))
+    else numeral_at end ts
 
 -- [ ";" ]
 abbrev pub past_semicolon : Tokens → Tokens
 past_semicolon ts = if next_head ts ==ₕ heads.Semicolon then drop 1 ts else ts
 
 -- so many steps, as long as they go on
-unfoldable pub repeat : {S : Type 0} → (S → Tokens → Bool) → (S → Tokens → Reads S) → ℕ → S → Tokens → Reads S
+unfoldable pub repeat : {S : Type 0} → (S → Tokens → Bool) → (S → Tokens → Parsed S) → ℕ → S → Tokens → Parsed S
 repeat goes_on step zero s ts = Ok (s, ts)
 repeat goes_on step (suc turns) s ts = when (goes_on s ts)
     (λ _. step s ts >>= λ x. repeat goes_on step turns x.0 x.1)
     (λ _. Ok (s, ts))
 
 -- steps as long as they go on; each takes a token, so that these turns are enough
-abbrev pub many : {S : Type 0} → (S → Tokens → Bool) → (S → Tokens → Reads S) → S → Tokens → Reads S
-many goes_on step s ts = repeat goes_on step (suc (length ts)) s ts
+abbrev pub repeated : {S : Type 0} → (S → Tokens → Bool) → (S → Tokens → Parsed S) → S → Tokens → Parsed S
+repeated goes_on step s ts = repeat goes_on step (suc (length ts)) s ts
 
 -- a sign stands next
-abbrev pub at : {S : Type 0} → Head → S → Tokens → Bool
-at head s ts = next_head ts ==ₕ head
+abbrev pub stands_next : {S : Type 0} → Head → S → Tokens → Bool
+stands_next head s ts = next_head ts ==ₕ head
 
 -- an item behind a sign
-abbrev pub behind : {S : Type 0} → (S → Tokens → Reads S) → S → Tokens → Reads S
+abbrev pub behind : {S : Type 0} → (S → Tokens → Parsed S) → S → Tokens → Parsed S
 behind item s ts = item s (drop 1 ts)
 
 -- items with a sign between each two
-unfoldable pub separated : {S : Type 0} → Head → (S → Tokens → Reads S) → S → Tokens → Reads S
+unfoldable pub separated : {S : Type 0} → Head → (S → Tokens → Parsed S) → S → Tokens → Parsed S
 separated sign item s ts = do
   x ← item s ts
-  many (at sign) (behind item) x.0 x.1
+  repeated (stands_next sign) (behind item) x.0 x.1
 
 -- items with a comma between each two, and the parenthesis that closes
-unfoldable pub listed : {S : Type 0} → (S → Tokens → Reads S) → ℕ → S → Tokens → Reads S
+unfoldable pub listed : {S : Type 0} → (S → Tokens → Parsed S) → ℕ → S → Tokens → Parsed S
 listed item end s ts = do
   x ← separated heads.Comma item s ts
   c ← want end heads.Close x.1
   Ok (x.0, c.1)
 
 -- the place of a name among names
-abbrev pub place_of : List Text → Text → Option ℕ
-place_of names text = position (λ name. bytes_eq name text) names
+abbrev pub name_place : List Text → Text → Option ℕ
+name_place names text = position (λ name. bytes_eq name text) names
 
 -- a place was found
 abbrev pub is_there : Option ℕ → Bool
@@ -143,7 +143,7 @@ is_there (Some k) = true
 
 -- one of the names is this
 abbrev pub has_name : List Text → Text → Bool
-has_name names name = is_there (place_of names name)
+has_name names name = is_there (name_place names name)
 
 -- a new name where so many of its sort are read, of at most limit
 unfoldable pub free_at : ℕ → ℕ → List Text → Lexeme → Result (Unit {0}) SourceFault

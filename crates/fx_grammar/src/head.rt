@@ -5,7 +5,7 @@
 ghost use Rattle.std.specs.Prelude.{◌≡◌};
 ghost use Rattle.std.specs.Prelude.{bytes_eq};
 ghost use Rattle.fx_lexer.specs.Tokens.{lexeme_of};
-ghost use Rattle.fx_grammar.specs.Heads.{head_of, sign_of, relation_of, word_of};
+ghost use Rattle.fx_grammar.specs.Heads.{head_of, sign_head, relation_of, word_head};
 
 use fx_lexer::{Token, TokenKind};
 
@@ -67,7 +67,7 @@ fn relation(text: &str) -> Head
 
 /// A sign of operations, or a mark.
 fn sign(text: &str) -> Head
-    ensures { result ≡ sign_of text.now }
+    ensures { result ≡ sign_head text.now }
 {
     match text {
         "+" => Head::Plus,
@@ -88,7 +88,7 @@ fn sign(text: &str) -> Head
 
 /// A reserved word.
 fn word(text: &str) -> Head
-    ensures { result ≡ word_of text.now }
+    ensures { result ≡ word_head text.now }
 {
     match text {
         "import" => Head::Import,

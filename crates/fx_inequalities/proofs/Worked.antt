@@ -1,5 +1,5 @@
 -- Worked certificates, by evaluation: a wrong fault here is refused.
-use Rattle.std.specs.Prelude.{◌≡◌, ℕ, ℤ, pos, negsuc, List, [], ◌∷◌, Option, Some, None, refl, codes}
+use Rattle.std.specs.Prelude.{◌≡◌, Bool, false, ℕ, ℤ, pos, negsuc, List, [], ◌∷◌, Option, Some, None, refl, codes}
 use Rattle.fx_algebra.specs.Gcd.{gcd}
 use Rattle.fx_rational.specs.Rational.{Rational, over, whole, plus, negative, minus, times, divided, quotient, is_at_most, scaled, floor, lowest, is_positive, is_negative}
 use Rattle.fx_rational.specs.Dyadic.{Dyadic, dyadic_value, dyadic_sum, dyadic_difference, dyadic_product, least, greatest, fits_128, sum_fits, difference_fits, product_fits}
@@ -7,8 +7,12 @@ use Rattle.fx_rational.specs.Interval.{Interval}
 use Rattle.fx_model.specs.Tree as tree
 use Rattle.fx_model.specs.Function.{Function}
 use Rattle.fx_model.specs.Machine.{Program, Input, Const, Add, Sub, Mul, Div, Copy}
+use Rattle.std.specs.List.{list_all}
+use Rattle.fx_model.specs.Nodes as node
 use Rattle.fx_model.proofs.Samples.{exact_input, half, half_program, averager, averager_program, negated, negated_program, small_divisor, small_divisor_program}
-use Rattle.fx_inequalities.specs.Formula.{formula_value, formed, formula_fits}
+use Rattle.fx_inequalities.specs.Formula.{formula_value, formed, formula_fits, zero_span}
+use Rattle.fx_inequalities.specs.Claim.{holds}
+use Rattle.fx_inequalities.specs.NodeConditions.{plain_error_claims}
 use Rattle.fx_inequalities.specs.Certificate.{Certificate, NodeLine, Share}
 use Rattle.fx_inequalities.specs.Rewriting.{no_rewriting}
 use Rattle.fx_inequalities.specs.Condition as condition
@@ -342,3 +346,11 @@ rows_accepted = refl
 row_refused : result averager averager_program (lines_by_rows (record { row = 1; times = d (pos 1) 1 } ∷ [])) ≡ fault condition.Row OfRow 0
 unfolding over plus negative minus times divided quotient is_at_most scaled floor lowest gcd dyadic_value dyadic_sum dyadic_difference dyadic_product least greatest fits_128 sum_fits difference_fits product_fits formula_value formed formula_fits is_positive is_negative
 row_refused = refl
+
+-- ---- a node with the code of another operation has no error that would do
+abbrev wrong_code_error : Bool
+wrong_code_error = list_all holds (plain_error_claims half (half_lines unit_input unit_input) (node.Add 0 1) (Mul 0 1 0) (pos 12) zero_span zero_span)
+
+wrong_code_refused : wrong_code_error ≡ false
+unfolding over is_at_most dyadic_value formula_value
+wrong_code_refused = refl

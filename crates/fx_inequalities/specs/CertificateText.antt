@@ -1,21 +1,12 @@
 -- The one text of a certificate, and that of a bundle of source, program and certificate.
-use Rattle.std.specs.Prelude.{ℕ, ◌+◌, ◌-◌, List, [], ◌∷◌, ◌++◌, length, map, take, drop, codes, Option, Some, None}
-use Rattle.std.specs.Fmt.{decimal, signed_decimal}
+use Rattle.std.specs.Prelude.{ℕ, ◌+◌, List, [], ◌∷◌, ◌++◌, length, map, take, drop, codes, Option, Some, None}
+use Rattle.std.specs.Fmt.{decimal}
 use Rattle.std.specs.List.{flat_map}
-use Rattle.fx_rational.specs.Dyadic.{Dyadic}
-use Rattle.fx_rational.specs.Interval.{Interval}
+use Rattle.fx_model.specs.LineText.{line_text, dyadic_text, interval_fields}
 use Rattle.fx_model.specs.Machine.{Program}
-use Rattle.fx_model.specs.ProgramText.{line_text, program_text}
+use Rattle.fx_model.specs.ProgramText.{program_text}
 use Rattle.fx_inequalities.specs.Rewriting.{Rewriting}
 use Rattle.fx_inequalities.specs.Certificate.{Certificate, Form, NodeLine, Row, Share, StartBox}
-
--- m:e
-abbrev pub dyadic_text : Dyadic → List ℕ
-dyadic_text d = signed_decimal d.m ++ codes ":" ++ decimal d.e
-
--- the lower end and the upper
-abbrev pub interval_fields : Interval → List (List ℕ)
-interval_fields i = dyadic_text i.lo ∷ dyadic_text i.hi ∷ []
 
 -- their count, and each row with its times
 abbrev pub share_fields : List Share → List (List ℕ)

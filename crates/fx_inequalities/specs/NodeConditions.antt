@@ -9,8 +9,9 @@ use Rattle.fx_model.specs.Function.{Function}
 use Rattle.fx_model.specs.Machine as machine
 use Rattle.fx_model.specs.Machine.{Code}
 use Rattle.fx_model.specs.Nodes.{Node, Input, State, Const, Neg, Add, Sub, Mul, Div, Copy}
-use Rattle.fx_inequalities.specs.Formula.{Num, Sum, Difference, Product, formula_value, Span, span, zero_span, span_sum, span_difference, span_product, point, unit_at, word_at, loss_at}
-use Rattle.fx_inequalities.specs.Claim.{Claim, Below, BelowFraction, AboveFraction, Clear, inside}
+use Rattle.fx_inequalities.specs.Formula.{Num, Sum, Difference, Product, formula_value, Span, span, zero_span, span_difference, unit_at, word_at}
+use Rattle.fx_inequalities.specs.Claim.{Claim, Below, BelowFraction, AboveFraction, Clear, inside, untrue}
+use Rattle.fx_inequalities.specs.OperationSpans.{negation_range, sum_range, difference_range, product_range, negation_error, sum_error, difference_error, product_error, copy_error, machine_range, quotient_error, without_unit, product_rest, product_error_rest}
 use Rattle.fx_inequalities.specs.Certificate.{Form, NodeLine, Share, Certificate, no_line, no_row}
 use Rattle.fx_inequalities.specs.Affine.{Affine, range_at, error_at, form_of, affine_at, of_line, rows_of, weighted_sum, bound_by_rows}
 use Rattle.fx_inequalities.specs.Condition as condition
@@ -46,49 +47,32 @@ state_point i next ps n = if ltb n next then true else int_eq (at (pos 0) ps n) 
 abbrev pub operation_form : ℕ → List NodeLine → Node → Code → ℤ → Form → Affine
 operation_form v ls (Neg a) c f form =
     let p = affine_at v ls a in
-    record { coef = λ j. Difference (Num zero_dyadic) (p.coef j); rest = span_difference zero_span p.rest; error_rest = span_difference zero_span p.error_rest }
+    record { coef = λ j. Difference (Num zero_dyadic) (p.coef j); rest = negation_range p.rest; error_rest = negation_error p.error_rest }
 operation_form v ls (Add a b) (machine.Add a' b' sa sb) f form =
     let p = affine_at v ls a in let q = affine_at v ls b in
-    record {
-      coef = λ j. Sum (p.coef j) (q.coef j);
-      rest = span_sum p.rest q.rest;
-      error_rest = span_sum (span_sum (span_sum p.error_rest q.error_rest) (loss_at f sa)) (loss_at f sb);
-    }
+    record { coef = λ j. Sum (p.coef j) (q.coef j); rest = sum_range p.rest q.rest; error_rest = sum_error f sa sb p.error_rest q.error_rest }
 operation_form v ls (Sub a b) (machine.Sub a' b' sa sb) f form =
     let p = affine_at v ls a in let q = affine_at v ls b in
-    record {
-      coef = λ j. Difference (p.coef j) (q.coef j);
-      rest = span_difference p.rest q.rest;
-      error_rest = span_difference (span_sum (span_difference p.error_rest q.error_rest) (loss_at f sa)) (loss_at f sb);
-    }
+    record { coef = λ j. Difference (p.coef j) (q.coef j); rest = difference_range p.rest q.rest; error_rest = difference_error f sa sb p.error_rest q.error_rest }
 operation_form v ls (Mul a b) (machine.Mul a' b' s) f form =
-    let p = affine_at v ls a in let q = affine_at v ls b in
-    let ma = Num form.centre_a in let mb = Num form.centre_b in
-    let ga = range_at ls a in let gb = range_at ls b in let ha = error_at ls a in let hb = error_at ls b in
+    let p = affine_at v ls a in let q = affine_at v ls b in let ma = Num form.centre_a in let mb = Num form.centre_b in
     record {
       coef = λ j. Sum (Product mb (p.coef j)) (Product ma (q.coef j));
-      rest = span_sum (span_difference (span_sum (span_product (point mb) p.rest) (span_product (point ma) q.rest)) (point (Product ma mb)))
-          (span_product (span_difference ga (point ma)) (span_difference gb (point mb)));
-      error_rest = span_sum (span_sum (span_sum (span_sum (span_sum (span_product (point mb) p.error_rest) (span_product (point ma) q.error_rest))
-          (span_product (span_difference ga (point ma)) hb)) (span_product (span_difference gb (point mb)) ha)) (span_product ha hb)) (loss_at f (pos s));
+      rest = product_rest ma mb (range_at ls a) (range_at ls b) p.rest q.rest;
+      error_rest = product_error_rest f s ma mb (range_at ls a) (range_at ls b) (error_at ls a) (error_at ls b) p.error_rest q.error_rest;
     }
 operation_form v ls (Copy a) (machine.Copy a' s) f form =
-    let p = affine_at v ls a in record { coef = p.coef; rest = p.rest; error_rest = span_sum p.error_rest (loss_at f s) }
+    let p = affine_at v ls a in record { coef = p.coef; rest = p.rest; error_rest = copy_error f s p.error_rest }
 operation_form v ls node c f form = of_line no_line None
 
--- literals and quotients have none, nor have inputs and states
-abbrev pub has_form : Node → Bool
-has_form (Neg a) = true
-has_form (Add a b) = true
-has_form (Sub a b) = true
-has_form (Mul a b) = true
-has_form (Copy a) = true
-has_form node = false
-
--- only some operations may have a form
-abbrev pub form_test : Node → Option Form → Bool
-form_test node None = true
-form_test node (Some form) = has_form node
+-- inputs, states, literals and quotients have none; nor has a node with the code of another operation
+abbrev pub has_form : Node → Code → Bool
+has_form (Neg a) (machine.Neg a') = true
+has_form (Add a b) (machine.Add a' b' sa sb) = true
+has_form (Sub a b) (machine.Sub a' b' sa sb) = true
+has_form (Mul a b) (machine.Mul a' b' s) = true
+has_form (Copy a) (machine.Copy a' s) = true
+has_form node c = false
 
 -- the operation's rest, and the variables times the coefficients' differences, lie in the form's rest; so for errors
 abbrev pub form_claims : ℕ → List NodeLine → NodeLine → Node → Code → ℤ → Option Form → List Claim
@@ -96,12 +80,12 @@ form_claims v ls l node c f None = []
 form_claims v ls l node c f (Some form) =
     let s = operation_form v ls node c f form in let own = of_line l (Some form) in
     let d = λ (j : ℕ). Difference (s.coef j) (own.coef j) in
-    if has_form node then inside (weighted_sum s.rest v d (range_at ls)) own.rest ++ inside (weighted_sum s.error_rest v d (error_at ls)) own.error_rest else []
+    if has_form node c then inside (weighted_sum s.rest v d (range_at ls)) own.rest ++ inside (weighted_sum s.error_rest v d (error_at ls)) own.error_rest else untrue
 
 -- ---- Divisor
 -- neither the exact divisor nor the machine's can be zero
 abbrev pub divisor_claims : List NodeLine → Node → List Claim
-divisor_claims ls (Div a b) = Clear (range_at ls b) (span_sum (range_at ls b) (error_at ls b)) ∷ []
+divisor_claims ls (Div a b) = Clear (range_at ls b) (machine_range (range_at ls b) (error_at ls b)) ∷ []
 divisor_claims ls node = []
 
 -- a quotient of what lies in a by what lies in b, above zero, lies in c
@@ -123,29 +107,29 @@ plain_range_claims fn cert (Input k) g =
     let i = at no_input fn.inputs k in BelowFraction g.lo i.lo ∷ AboveFraction i.hi g.hi ∷ []
 plain_range_claims fn cert (State k) g = inside (span (at no_row cert.rows k).bound) g
 plain_range_claims fn cert (Const c) g = BelowFraction g.lo c ∷ AboveFraction c g.hi ∷ []
-plain_range_claims fn cert (Neg a) g = inside (span_difference zero_span (range_at cert.lines a)) g
-plain_range_claims fn cert (Add a b) g = inside (span_sum (range_at cert.lines a) (range_at cert.lines b)) g
-plain_range_claims fn cert (Sub a b) g = inside (span_difference (range_at cert.lines a) (range_at cert.lines b)) g
-plain_range_claims fn cert (Mul a b) g = inside (span_product (range_at cert.lines a) (range_at cert.lines b)) g
+plain_range_claims fn cert (Neg a) g = inside (negation_range (range_at cert.lines a)) g
+plain_range_claims fn cert (Add a b) g = inside (sum_range (range_at cert.lines a) (range_at cert.lines b)) g
+plain_range_claims fn cert (Sub a b) g = inside (difference_range (range_at cert.lines a) (range_at cert.lines b)) g
+plain_range_claims fn cert (Mul a b) g = inside (product_range (range_at cert.lines a) (range_at cert.lines b)) g
 plain_range_claims fn cert (Div a b) g = quotient_claims (range_at cert.lines a) (range_at cert.lines b) g
 plain_range_claims fn cert (Copy a) g = inside (range_at cert.lines a) g
 
 -- ---- Error
+-- g and h are the node's own range and error; a node with the code of another operation has no error that would do
 abbrev pub plain_error_claims : Function → Certificate → Node → Code → ℤ → Span → Span → List Claim
 plain_error_claims fn cert (Input k) c f g h =
     let i = at no_input fn.inputs k in BelowFraction (Sum h.lo (unit_at f)) (negative i.err) ∷ AboveFraction i.err h.hi ∷ []
 plain_error_claims fn cert (State k) c f g h = inside (span (at no_row cert.error_rows k).bound) h
 plain_error_claims fn cert (Const v) (machine.Const w p) f g h = BelowFraction (Difference (word_at w f) h.hi) v ∷ AboveFraction v (Difference (word_at w f) h.lo) ∷ []
-plain_error_claims fn cert (Neg a) c f g h = inside (span_difference zero_span (error_at cert.lines a)) h
-plain_error_claims fn cert (Add a b) (machine.Add a' b' sa sb) f g h = inside (span_sum (span_sum (span_sum (error_at cert.lines a) (error_at cert.lines b)) (loss_at f sa)) (loss_at f sb)) h
-plain_error_claims fn cert (Sub a b) (machine.Sub a' b' sa sb) f g h = inside (span_difference (span_sum (span_difference (error_at cert.lines a) (error_at cert.lines b)) (loss_at f sa)) (loss_at f sb)) h
+plain_error_claims fn cert (Neg a) c f g h = inside (negation_error (error_at cert.lines a)) h
+plain_error_claims fn cert (Add a b) (machine.Add a' b' sa sb) f g h = inside (sum_error f sa sb (error_at cert.lines a) (error_at cert.lines b)) h
+plain_error_claims fn cert (Sub a b) (machine.Sub a' b' sa sb) f g h = inside (difference_error f sa sb (error_at cert.lines a) (error_at cert.lines b)) h
 plain_error_claims fn cert (Mul a b) (machine.Mul a' b' s) f g h =
-    inside (span_sum (span_sum (span_sum (span_product (range_at cert.lines a) (error_at cert.lines b)) (span_product (range_at cert.lines b) (error_at cert.lines a))) (span_product (error_at cert.lines a) (error_at cert.lines b))) (loss_at f (pos s))) h
+    inside (product_error f s (range_at cert.lines a) (range_at cert.lines b) (error_at cert.lines a) (error_at cert.lines b)) h
 plain_error_claims fn cert (Div a b) c f g h =
-    quotient_claims (span_difference (error_at cert.lines a) (span_product g (error_at cert.lines b))) (span_sum (range_at cert.lines b) (error_at cert.lines b))
-    record { lo = Sum h.lo (unit_at f); hi = Difference h.hi (unit_at f) }
-plain_error_claims fn cert (Copy a) (machine.Copy a' s) f g h = inside (span_sum (error_at cert.lines a) (loss_at f s)) h
-plain_error_claims fn cert node c f g h = []
+    quotient_claims (quotient_error g (error_at cert.lines a) (error_at cert.lines b)) (machine_range (range_at cert.lines b) (error_at cert.lines b)) (without_unit f h)
+plain_error_claims fn cert (Copy a) (machine.Copy a' s) f g h = inside (copy_error f s (error_at cert.lines a)) h
+plain_error_claims fn cert node c f g h = untrue
 
 -- ---- Range and Error by shares of rows, where a form names them
 abbrev pub by_rows : Option (List Share) → (List Share → List Claim) → List Claim → List Claim
@@ -196,7 +180,7 @@ shape_conditions i next ps n node c =
 abbrev pub node_conditions : Function → ℕ → List ℤ → Certificate → ℕ → Node → Code → List Condition
 node_conditions fn w ps cert n node c =
     let v = variables fn in let l = at no_line cert.lines n in let f = at (pos 0) ps n in let form = form_of v cert.lines n in
-    record { kind = condition.Form; part = OfNode; index = n; test = form_test node form; claims = form_claims v cert.lines l node c f form } ∷
+    record { kind = condition.Form; part = OfNode; index = n; test = true; claims = form_claims v cert.lines l node c f form } ∷
     record { kind = condition.Divisor; part = OfNode; index = n; test = true; claims = divisor_claims cert.lines node } ∷
     record { kind = condition.Range; part = OfNode; index = n; test = true; claims = range_claims fn cert l node form } ∷
     record { kind = condition.Error; part = OfNode; index = n; test = true; claims = error_claims fn cert l node c f form } ∷

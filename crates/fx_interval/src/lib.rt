@@ -8,7 +8,7 @@
 
 ghost use Rattle.std.specs.Prelude.{◌≡◌, ◌+◌, ◌≤◌, ◌^◌, IsTrue};
 ghost use Rattle.std.specs.Option.{SomeIff};
-ghost use Rattle.fx_rational.specs.Dyadic.{least, greatest};
+ghost use Rattle.fx_rational.specs.Dyadic.{fits_128, least, greatest};
 ghost use Rattle.fx_rational.specs.Interval.{interval_sum, interval_sum_fits, interval_difference, interval_difference_fits, interval_product, interval_product_fits, is_inside, outward_to};
 
 use fx_num::{Dyadic, dadd, dle, dmul, dsub, round_down, round_up};
@@ -31,6 +31,17 @@ impl Model for Interval {
     ghost view = { λ i. record { lo = i.lo; hi = i.hi } };
 
     ghost inverse = { λ i. record { lo = i.lo; hi = i.hi } };
+}
+
+impl Interval {
+    /// What each interval keeps: ends whose mantissas have 128 bits.
+    pub fn keeps(&self)
+        ensures lo { IsTrue (fits_128 self.now.lo.m) }
+        ensures hi { IsTrue (fits_128 self.now.hi.m) }
+    {
+        self.lo.keeps();
+        self.hi.keeps();
+    }
 }
 
 /// `[a.lo + b.lo, a.hi + b.hi]`. None where `dadd` has none.

@@ -13,9 +13,9 @@ use Rattle.std.specs.Borrow.{Bor}
 use Rattle.std.proofs.lemmas.List.{get_or_append_left}
 use Rattle.std.proofs.lemmas.Bool.Decides.{Decides-eqb}
 use Rattle.std.proofs.lemmas.Slice.Eq.{starts_is}
-use Rattle.fx_model.specs.Names.{is_letter}
+use Rattle.fx_model.specs.Names.{is_letter, is_word_byte}
 use Rattle.fx_fraction.specs.Numeral.{is_e}
-use Rattle.fx_lexer.specs.Characters.{is_word_byte, is_line_feed}
+use Rattle.fx_lexer.specs.Characters.{is_line_feed}
 use Rattle.fx_lexer.specs.Tokens.{signs}
 use Rattle.fx_lexer.specs.Numbers.{digits_at, part_len, mark_len, power_len, number_len}
 

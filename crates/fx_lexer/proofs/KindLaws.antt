@@ -3,17 +3,17 @@ use Rattle.std.proofs.Common.{◌≡◌, ℕ, suc, ◌+◌, Bool, true, false, c
 use Rattle.std.specs.Prelude.{IsTrue}
 use Rattle.std.specs.List.{prefix_len, position_or_len, list_all, find, starts_with}
 use Rattle.std.specs.Result.{is_err}
-use Rattle.fx_model.specs.Names.{IsName, is_letter}
+use Rattle.fx_model.specs.Names.{IsName, is_letter, is_word_byte, is_reserved}
 use Rattle.fx_fraction.specs.DecimalOf.{decimal_of}
 use Rattle.fx_lexer.specs.declared.fault.SourceKind.{SourceKind}
 use Rattle.fx_lexer.specs.declared.fault.SourceKind.TheVariants.{BadCharacter, BadNumber, NumberTooLong, EndOfText}
 use Rattle.fx_lexer.specs.declared.token.TokenKind.{TokenKind}
 use Rattle.fx_lexer.specs.declared.token.TokenKind.TheVariants.{Name, Number, Word, Sign}
 use Rattle.fx_lexer.specs.declared.item.Item.{Item}
-use Rattle.fx_lexer.specs.Characters.{is_word_byte, is_line_feed}
+use Rattle.fx_lexer.specs.Characters.{is_line_feed}
 use Rattle.fx_lexer.specs.Numbers.{number_len}
 use Rattle.fx_lexer.specs.Laws.{IsOfKind, is_lexical}
-use Rattle.fx_lexer.specs.Tokens.{gap, token_item, first_item, word_item, is_reserved, closed_item, signs, found_sign}
+use Rattle.fx_lexer.specs.Tokens.{gap, token_item, first_item, word_item, closed_item, signs, found_sign}
 use Rattle.fx_lexer.proofs.Items.{sign_at, letter_word}
 use Rattle.fx_lexer.proofs.Fronts.{IsFront, front_is, at_blank, at_word, at_number, at_line, at_comment, at_sign}
 

@@ -1,8 +1,6 @@
 -- The classes of characters that tokens are made of.
 use Rattle.std.specs.Prelude.{◌==◌, ℕ, Bool, ◌||◌, List}
-use Rattle.std.specs.Char.{is_ascii_digit}
 use Rattle.std.specs.List.{list_any}
-use Rattle.fx_model.specs.Names.{is_letter}
 
 -- the end of a line: a carriage return is none
 abbrev pub is_line_feed : ℕ → Bool
@@ -15,7 +13,3 @@ has_line_feed text = list_any is_line_feed text
 -- a space, tab, line feed or carriage return
 abbrev pub is_blank : ℕ → Bool
 is_blank c = (c == 32) || (c == 9) || (c == 10) || (c == 13)
-
--- what a name goes on with
-abbrev pub is_word_byte : ℕ → Bool
-is_word_byte c = is_letter c || is_ascii_digit c

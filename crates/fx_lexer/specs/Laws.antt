@@ -1,14 +1,14 @@
 -- What may be believed of tokens and of lexical faults.
 use Rattle.std.specs.Prelude.{◌≡◌, ℕ, ◌+◌, ◌<◌, ◌≤◌, Bool, true, false, IsTrue, List, [], ◌∷◌, length, take, drop, bytes_eq, Ok, Err, IsOk, ⊤}
 use Rattle.std.specs.List.{list_any}
-use Rattle.fx_model.specs.Names.{IsName}
+use Rattle.fx_model.specs.Names.{IsName, is_reserved}
 use Rattle.fx_fraction.specs.DecimalOf.{decimal_of}
 use Rattle.fx_lexer.specs.declared.fault.SourceFault.{SourceFault}
 use Rattle.fx_lexer.specs.declared.fault.SourceKind.{SourceKind}
 use Rattle.fx_lexer.specs.declared.fault.SourceKind.TheVariants.{BadCharacter, BadNumber, NumberTooLong, EndOfText}
 use Rattle.fx_lexer.specs.declared.token.TokenKind.{TokenKind}
 use Rattle.fx_lexer.specs.declared.token.TokenKind.TheVariants.{Name, Number, Word, Sign}
-use Rattle.fx_lexer.specs.Tokens.{Lexeme, is_reserved, signs, tokens_of}
+use Rattle.fx_lexer.specs.Tokens.{Lexeme, signs, tokens_of}
 
 -- what a token of a kind may say
 abbrev pub IsOfKind : TokenKind → List ℕ → Type 0

@@ -1,9 +1,9 @@
 -- The tokens of a text, from left to right: each is the longest at its place.
-use Rattle.std.specs.Prelude.{◌==◌, ℕ, zero, suc, ◌+◌, Bool, true, false, ◌||◌, ◌&&◌, List, [], ◌∷◌, length, take, drop, Option, Some, None, Result, Ok, Err, slice_index, codes, bytes_eq, if◌then◌else◌}
+use Rattle.std.specs.Prelude.{◌==◌, ℕ, zero, suc, ◌+◌, Bool, true, false, ◌||◌, ◌&&◌, List, [], ◌∷◌, length, take, drop, Option, Some, None, Result, Ok, Err, slice_index, codes, if◌then◌else◌}
 use Rattle.std.specs.Char.{is_ascii_digit}
-use Rattle.std.specs.List.{prefix_len, position_or_len, list_any, starts_with, find}
+use Rattle.std.specs.List.{prefix_len, position_or_len, starts_with, find}
 use Rattle.std.specs.Result.{is_err}
-use Rattle.fx_model.specs.Names.{is_letter, reserved_words}
+use Rattle.fx_model.specs.Names.{is_letter, is_word_byte, is_reserved}
 use Rattle.fx_fraction.specs.DecimalOf.{decimal_of}
 use Rattle.fx_lexer.specs.declared.fault.SourceFault.{SourceFault}
 use Rattle.fx_lexer.specs.declared.fault.SourceKind.{SourceKind}
@@ -12,7 +12,7 @@ use Rattle.fx_lexer.specs.declared.item.Item.{Item}
 use Rattle.fx_lexer.specs.declared.token.Token.{Token}
 use Rattle.fx_lexer.specs.declared.token.TokenKind.{TokenKind}
 use Rattle.fx_lexer.specs.declared.token.TokenKind.TheVariants.{Name, Number, Word, Sign}
-use Rattle.fx_lexer.specs.Characters.{is_blank, is_word_byte, is_line_feed, has_line_feed}
+use Rattle.fx_lexer.specs.Characters.{is_blank, is_line_feed, has_line_feed}
 use Rattle.fx_lexer.specs.Numbers.{number_len}
 use Rattle.fx_lexer.specs.Comments.{comment_end}
 
@@ -36,10 +36,6 @@ gap n = record { len = n; kind = None }
 -- a token of so many bytes
 abbrev pub token_item : TokenKind → ℕ → Item
 token_item kind n = record { len = n; kind = Some kind }
-
--- a word of the grammar or of the wider language
-abbrev pub is_reserved : List ℕ → Bool
-is_reserved text = list_any (λ word. bytes_eq word text) reserved_words
 
 -- the longest run of letters and digits, taken for a name where it isn't reserved
 abbrev pub word_item : List ℕ → Item

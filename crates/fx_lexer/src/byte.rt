@@ -4,8 +4,7 @@
 //! the end of the text stands a 0, which is in no class, so that a reader needs no test for the end.
 
 ghost use Rattle.std.specs.Prelude.{◌≡◌, slice_index};
-ghost use Rattle.fx_model.specs.Names.{is_letter};
-ghost use Rattle.fx_lexer.specs.Characters.{is_blank, is_word_byte};
+ghost use Rattle.fx_lexer.specs.Characters.{is_blank};
 
 /// The byte at a place, or 0 past the end.
 pub fn byte_at(bytes: &[u8], i: usize) -> u8
@@ -19,18 +18,4 @@ pub fn is_blank(byte: u8) -> bool
     ensures { result ≡ is_blank byte }
 {
     byte == b' ' || byte == b'\t' || byte == b'\n' || byte == b'\r'
-}
-
-/// A letter of a name.
-pub fn is_letter(byte: u8) -> bool
-    ensures { result ≡ is_letter byte }
-{
-    byte.is_ascii_alphabetic() || byte == b'_'
-}
-
-/// A letter or digit of a name.
-pub fn is_word_byte(byte: u8) -> bool
-    ensures { result ≡ is_word_byte byte }
-{
-    is_letter(byte) || byte.is_ascii_digit()
 }

@@ -6,13 +6,14 @@
 ghost use Rattle.std.specs.Prelude.{◌≡◌};
 ghost use Rattle.fx_lexer.specs.Tokens.{first_item};
 
-use crate::byte::{byte_at, is_blank, is_letter};
+use crate::byte::{byte_at, is_blank};
 use crate::comment::{comment_item, line_len};
 use crate::fault::SourceKind;
 use crate::number::number_item;
 use crate::sign::sign_item;
 use crate::token::TokenKind;
 use crate::word::word_item;
+use fx_name::is_letter;
 
 /// An item at the front of a text.
 #[derive(Clone, Copy)]

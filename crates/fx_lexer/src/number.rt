@@ -9,11 +9,12 @@ ghost use Rattle.std.specs.Char.{is_ascii_digit};
 ghost use Rattle.fx_lexer.specs.Numbers.{digits_at, part_len, mark_len, power_len, number_len};
 ghost use Rattle.fx_lexer.specs.Tokens.{number_item};
 
-use crate::byte::{byte_at, is_letter};
+use crate::byte::byte_at;
 use crate::fault::SourceKind;
 use crate::item::Item;
 use crate::token::TokenKind;
 use fx_fraction::read_decimal;
+use fx_name::is_letter;
 
 /// How many digits stand first.
 fn digits_len(bytes: &[u8]) -> usize

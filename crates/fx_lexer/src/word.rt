@@ -1,30 +1,15 @@
 //! Names and reserved words.
 //!
-//! A word is taken whole before it is looked up, so `imports` is a name. The trap: the list of reserved words is that of
-//! the definition of names, which stands in `fx_model`, and the proof compares the two.
+//! A word is taken whole before it is looked up, so `imports` is a name.
 
 ghost use Rattle.std.specs.Prelude.{◌≡◌};
 ghost use Rattle.std.specs.List.{prefix_len};
-ghost use Rattle.fx_lexer.specs.Characters.{is_word_byte};
-ghost use Rattle.fx_lexer.specs.Tokens.{is_reserved, word_item};
+ghost use Rattle.fx_model.specs.Names.{is_word_byte};
+ghost use Rattle.fx_lexer.specs.Tokens.{word_item};
 
-use crate::byte::is_word_byte;
 use crate::item::Item;
 use crate::token::TokenKind;
-
-/// The words of the grammar, and those of the wider language that it refuses.
-const RESERVED_WORDS: [&str; 16] = [
-    "import", "object", "def", "val", "require", "ensuring", "if", "else", "while", "for", "match",
-    "var", "return", "true", "false", "new",
-];
-
-fn is_reserved(word: &[u8]) -> bool
-    ensures { result ≡ is_reserved word.now }
-{
-    RESERVED_WORDS
-        .iter()
-        .any(|reserved| reserved.as_bytes() == word)
-}
+use fx_name::{is_reserved, is_word_byte};
 
 /// How many letters and digits stand first.
 fn word_len(bytes: &[u8]) -> usize

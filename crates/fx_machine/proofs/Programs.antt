@@ -1,10 +1,10 @@
 -- What a lawful program gives for its run.
 use Rattle.std.proofs.Common.{◌≡◌, ℕ, zero, suc, ◌+◌, ◌-◌, ◌<◌, ◌≤◌, ℤ, pos, List, [], ◌∷◌, ◌++◌, length, take, drop, Some, refl, sym, ap, subst, ◌∙◌, arith, map, All}
-use Rattle.std.proofs.lemmas.List.{length-map, drop-drop, drop-map}
+use Rattle.std.proofs.lemmas.List.{drop-drop, drop-map}
 use Rattle.std.proofs.lemmas.List.Elements.{All-pop}
 use Rattle.std.proofs.Math.Seq.{take-append_seam}
 use Rattle.fx_model.specs.Tree.{at}
-use Rattle.fx_model.specs.Machine.{Code, Program, Input, State, Const, Neg, Add, Sub, Mul, Div, Copy, point_of, points_after}
+use Rattle.fx_model.specs.Machine.{Code, Program, Input, State, Const, Neg, Add, Sub, Mul, Div, Copy, first_copy, point_of, points_after}
 use Rattle.fx_model.specs.LawfulProgram.{IsPoint, AreLawful, IsLawfulProgram}
 use Rattle.fx_machine.specs.Codes.{HasInputPoint, IsCodeAt, AreCodes}
 use Rattle.fx_machine.specs.Steps.{step_taken}
@@ -44,11 +44,10 @@ program_codes p h k lt =
     subst (λ x. IsCodeAt p.width p.inputs p.states x (at (Const (pos 0) (pos 0)) p.codes k)) e (codes_at p.width p.inputs p.states 0 [] p.codes h.codes h.points k lt)
 
 -- the last words are the next states
-pub next_taken : {X : Type 0} (f : X → ℤ) (p : Program) (ws : List X) → p.outputs + p.states ≤ length ws → map f (drop (length ws - p.states) ws) ≡ (step_taken p (map f ws)).next
-next_taken f p ws le =
-    let l : length (map f ws) ≡ length ws = length-map ws f in
-    let n : (length (map f ws) - (p.outputs + p.states)) + p.outputs ≡ length ws - p.states = omega (arith, l) in
-    sym (drop-drop p.outputs (length (map f ws) - (p.outputs + p.states)) (map f ws) ∙ ap (λ (k : ℕ). drop k (map f ws)) n ∙ drop-map f (length ws - p.states) ws)
+pub next_taken : {X : Type 0} (f : X → ℤ) (p : Program) (ws : List X) → length ws ≡ length p.codes → p.outputs + p.states ≤ length ws → map f (drop (length ws - p.states) ws) ≡ (step_taken p (map f ws)).next
+next_taken f p ws many le =
+    let n : first_copy p + p.outputs ≡ length ws - p.states = omega (arith, many) in
+    sym (drop-drop p.outputs (first_copy p) (map f ws) ∙ ap (λ (k : ℕ). drop k (map f ws)) n ∙ drop-map f (length ws - p.states) ws)
 
 -- what is written over the whole of a list
 pub written : {X : Type 0} (n : ℕ) (new old : List X) → n ≡ length new → take n (new ++ drop (length new) old) ≡ new

@@ -13,21 +13,21 @@ use fx_program::Code;
 use fx_word::Word;
 
 /// The word of a code, from the row, the state words and the words before it.
-#[inline]
+#[inline(always)]
 pub fn code_word<const B: u32, C: Cell>(
-    code: Code,
+    code: &Code,
     row: &[Decimal],
     states: &[C],
     words: &[C],
 ) -> Word<B>
     requires width { IsWidth B }
-    requires lawful { IsCodeAt B (length row.now) (length states.now) (length words.now) (code_of code) }
+    requires lawful { IsCodeAt B (length row.now) (length states.now) (length words.now) (code_of code.now) }
     requires states { All (IsWord B) (map C.whole states.now) }
     requires words { All (IsWord B) (map C.whole words.now) }
-    requires runs { IsSome (word_of B (code_of code) (map decimal_value row.now) (map C.whole states.now) (map C.whole words.now)) }
-    ensures { word_of B (code_of code) (map decimal_value row.now) (map C.whole states.now) (map C.whole words.now) ≡ Some result }
+    requires runs { IsSome (word_of B (code_of code.now) (map decimal_value row.now) (map C.whole states.now) (map C.whole words.now)) }
+    ensures { word_of B (code_of code.now) (map decimal_value row.now) (map C.whole states.now) (map C.whole words.now) ≡ Some result }
 {
-    match code {
+    match *code {
         Code::Input { k, f } => Word::of_wide(quantise(row[k as usize], f)),
         Code::State { k, .. } => word_at::<B, C>(states, k),
         Code::Const { w, .. } => Word::of(w),

@@ -19,12 +19,12 @@ pub record Goes (list ns : List Node) : Type 0 where
 goes_back : (list ns xs : List Node) → Goes list (ns ++ xs) → Goes list ns
 goes_back list ns xs g = record { more = xs ++ g.more; is = g.is ∙ append_assoc ns xs g.more }
 
-nodes_go : (i : ℕ) (ts : List Temp) (es : List Tree) (temps roots : List ℕ) (ns : List Node) → Goes (nodes_after i ts es temps roots ns) ns
+pub nodes_go : (i : ℕ) (ts : List Temp) (es : List Tree) (temps roots : List ℕ) (ns : List Node) → Goes (nodes_after i ts es temps roots ns) ns
 nodes_go i [] [] temps roots ns = record { more = copies_of roots; is = refl }
 nodes_go i [] (e ∷ es) temps roots ns = let x = flat i temps (length ns) e in goes_back _ ns x.list (nodes_go i [] es temps (roots ++ x.root ∷ []) (ns ++ x.list))
 nodes_go i (t ∷ ts) es temps roots ns = let x = flat i temps (length ns) t.tree in goes_back _ ns x.list (nodes_go i ts es (temps ++ x.root ∷ []) roots (ns ++ x.list))
 
-stays_none : (list ns : List Node) (t s : List Rational) → Goes list ns → node_values_after ns t s [] ≡ None → node_values_after list t s [] ≡ None
+pub stays_none : (list ns : List Node) (t s : List Rational) → Goes list ns → node_values_after ns t s [] ≡ None → node_values_after list t s [] ≡ None
 stays_none list ns t s g h = rw g.is (values_append ns g.more t s [] ∙ rw h refl)
 
 -- the roots' values_of
@@ -33,7 +33,7 @@ RootsAre vs [] [] = Unit {0}
 RootsAre vs (a ∷ roots) (x ∷ done) = ((a < length vs) × (value_at vs a ≡ x)) × RootsAre vs roots done
 RootsAre vs roots done = ⊥
 
-roots_more : (vs more : List Rational) (roots : List ℕ) (done : List Rational) → RootsAre vs roots done → RootsAre (vs ++ more) roots done
+pub roots_more : (vs more : List Rational) (roots : List ℕ) (done : List Rational) → RootsAre vs roots done → RootsAre (vs ++ more) roots done
 roots_more vs more [] [] h = tt
 roots_more vs more [] (x ∷ done) h = absurd h
 roots_more vs more (a ∷ roots) [] h = absurd h
@@ -41,7 +41,7 @@ roots_more vs more (a ∷ roots) (x ∷ done) h =
     let len : length (vs ++ more) ≡ length vs + length more = length-append vs more in
     ((omega (arith, h.0.0, len), kept_at vs more a h.0.0 ∙ h.0.1), roots_more vs more roots done h.1)
 
-roots_one : (vs : List Rational) (roots : List ℕ) (done : List Rational) (a : ℕ) (x : Rational) → RootsAre vs roots done → a < length vs → value_at vs a ≡ x → RootsAre vs (roots ++ a ∷ []) (done ++ x ∷ [])
+pub roots_one : (vs : List Rational) (roots : List ℕ) (done : List Rational) (a : ℕ) (x : Rational) → RootsAre vs roots done → a < length vs → value_at vs a ≡ x → RootsAre vs (roots ++ a ∷ []) (done ++ x ∷ [])
 roots_one vs [] [] a x h below is = ((below, is), tt)
 roots_one vs [] (y ∷ done) a x h below is = absurd h
 roots_one vs (b ∷ roots) [] a x h below is = absurd h
@@ -101,7 +101,7 @@ module _ (i k : ℕ) (t s : List Rational) where
           no_results (stays_none _ (ns ++ x.list) t s (nodes_go i [] es temps (roots ++ x.root ∷ []) (ns ++ x.list)) (values_append ns x.list t s [] ∙ rw h u))
       by (Some z) (defined z' more is count root_below root_is) later = one_result _ done (length es) (suc (length es)) z (values_of es t s y) refl (later z more is count root_below root_is)
 
-  env_temp : (y : List Rational) (temps : List ℕ) (vs : List Rational) (root : ℕ) (x : Rational) → length temps ≡ length y → Env i k t s y temps vs → root < length vs → value_at vs root ≡ x → Env i k t s (y ++ x ∷ []) (temps ++ root ∷ []) vs
+  pub env_temp : (y : List Rational) (temps : List ℕ) (vs : List Rational) (root : ℕ) (x : Rational) → length temps ≡ length y → Env i k t s y temps vs → root < length vs → value_at vs root ≡ x → Env i k t s (y ++ x ∷ []) (temps ++ root ∷ []) vs
   env_temp y temps vs root x same env below is = record {
     input = env.input;
     state = env.state;
@@ -170,11 +170,11 @@ drop_front : (xs ys : List Rational) → drop (length xs) (xs ++ ys) ≡ ys
 drop_front [] ys = refl
 drop_front (x ∷ xs) ys = drop_front xs ys
 
-nodes_length : (k m : ℕ) → length (inputs_from k m) ≡ m
+pub nodes_length : (k m : ℕ) → length (inputs_from k m) ≡ m
 nodes_length k zero = refl
 nodes_length k (suc m) = ap suc (nodes_length (k + 1) m)
 
-states_length : (k m : ℕ) → length (states_from k m) ≡ m
+pub states_length : (k m : ℕ) → length (states_from k m) ≡ m
 states_length k zero = refl
 states_length k (suc m) = ap suc (states_length (k + 1) m)
 
@@ -186,22 +186,36 @@ last_values n m r (Some rs) (results all rs' h len) =
     let last : drop (length (all ++ rs) - n) (all ++ rs) ≡ rs = rw e (drop_front all rs) in
     rw h (rw last refl)
 
+-- the values of the inputs' and states' nodes, which stand at the front
+pub record Front (i k : ℕ) (t x : List Rational) : Type 0 where
+  pub all : List Rational
+  pub is : node_values_after (inputs_from 0 i ++ states_from 0 k) t x [] ≡ Some all
+  pub count : length all ≡ length (inputs_from 0 i ++ states_from 0 k)
+  pub env : Env i k t x [] [] all
+
+pub front : (i k : ℕ) (t x : List Rational) → Front i k t x
+front i k t x =
+    let a = front_inputs i k t x i 0 [] (omega arith) refl (λ j l. absurd (omega arith)) in
+    let b = front_states i k t x k 0 a.all (omega arith) (omega (arith, a.count)) (λ j l. a.each j l) in
+    let len : length (inputs_from 0 i ++ states_from 0 k) ≡ i + k = simp (length-append, nodes_length, states_length) in
+    record {
+      all = b.all;
+      is = values_append (inputs_from 0 i) (states_from 0 k) t x [] ∙ rw a.is b.is;
+      count = omega (arith, b.count, len);
+      env = record {
+        input = λ j l. (omega (arith, b.count), (b.each j (omega (arith, b.count))).0 l);
+        state = λ j l. (omega (arith, b.count), (b.each (i + j) (omega (arith, b.count))).1 j refl);
+        temp = λ j l. absurd (omega arith);
+      };
+    }
+
 -- the exact step by the trees is the one by the nodes_of
 pub exact_is : (fn : Function) (t x : List Rational) → IsValid fn → exact fn t x ≡ option_map (λ vs. step_of (length fn.demands) (drop (length vs - length fn.results) vs)) (node_values fn t x)
 exact_is fn t x valid =
     let i = length fn.inputs in let k = length fn.states in
-    let a = front_inputs i k t x i 0 [] (omega arith) refl (λ j l. absurd (omega arith)) in
-    let b = front_states i k t x k 0 a.all (omega arith) (omega (arith, a.count)) (λ j l. a.each j l) in
-    let ns = inputs_from 0 i ++ states_from 0 k in
-    let is : node_values_after ns t x [] ≡ Some b.all = values_append (inputs_from 0 i) (states_from 0 k) t x [] ∙ rw a.is b.is in
-    let len : length ns ≡ i + k = simp (length-append, nodes_length, states_length) in
-    let env : Env i k t x [] [] b.all = record {
-      input = λ j l. (omega (arith, b.count), (b.each j (omega (arith, b.count))).0 l);
-      state = λ j l. (omega (arith, b.count), (b.each (i + j) (omega (arith, b.count))).1 j refl);
-      temp = λ j l. absurd (omega arith);
-    } in
+    let f = front i k t x in
     let below : AllReferBelow i k (0 + length fn.temps) fn.results = let e : 0 + length fn.temps ≡ length fn.temps = omega arith in rw e valid.results in
-    let all = temps_values i k t x fn.temps fn.results [] [] ns b.all is (omega (arith, b.count, len)) refl env valid.temps below in
+    let all = temps_values i k t x fn.temps fn.results [] [] (inputs_from 0 i ++ states_from 0 k) f.all f.is f.count refl f.env valid.temps below in
     moved (temp_values fn.temps t x []) ∙ last_values (length fn.results) (length fn.demands) _ _ all
   where
     moved : (r : Option (List Rational)) → option_and_then (λ y. option_map (step_of (length fn.demands)) (values_of fn.results t x y)) r ≡ option_map (step_of (length fn.demands)) (option_and_then (λ y. values_of fn.results t x y) r)

@@ -1,7 +1,10 @@
 pub mod Flat
 pub mod Exact
+pub mod TempRoots
 pub mod InRange
 pub mod Wide
 pub mod Samples
 mod Worked
 pub mod Spellings
+pub mod Counted
+pub mod Words

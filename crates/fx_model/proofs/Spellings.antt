@@ -12,7 +12,7 @@ use Rattle.fx_rational.specs.Rational.{Rational, bottom, over, plus, negative, s
 use Rattle.fx_rational.proofs.Laws.{equal_sym, equal_trans}
 use Rattle.fx_model.specs.Machine.{word_value}
 use Rattle.fx_model.specs.WordText.{digits_after, pointed, size_text, minus_sign, decimal_text}
-use Rattle.fx_model.specs.Spelling.{Spelling, spelled, number, size, spelling_value, EndsPlain, IsPlain, SpellsLaw, OneTextLaw}
+use Rattle.fx_model.specs.Spelling.{Spelling, spelled, number, size, spelling_value, EndsPlain, IsShortest, SpellsLaw, OneTextLaw}
 
 -- ---- digits by long division
 
@@ -198,7 +198,7 @@ product_some zero zero t p n some above e = absurd (let h : 0 < n * t = mul-lt 0
 product_some zero (suc v) t p n some above e = omega arith
 product_some (suc q) v t p n some above e = omega arith
 
-short_plain : (w : ℤ) (f : ℕ) → IsPlain (short_spelling w f)
+short_plain : (w : ℤ) (f : ℕ) → IsShortest (short_spelling w f)
 short_plain w f =
     let n = unsigned_abs w in
     let p : 0 < 2 ^ f = pow_pos f in
@@ -208,7 +208,7 @@ short_plain w f =
       minus = λ e. product_some (n / 2 ^ f) (number (digits_after f (n % 2 ^ f))) (10 ^ length (digits_after f (n % 2 ^ f))) (2 ^ f) n (negative_some w e) (ten_above (length (digits_after f (n % 2 ^ f)))) (short_size w f);
     }
 
-long_plain : (w : ℤ) (g : ℕ) → IsPlain (long_spelling w g)
+long_plain : (w : ℤ) (g : ℕ) → IsShortest (long_spelling w g)
 long_plain w g = record {
   each = all_none;
   last = tt;
@@ -298,7 +298,7 @@ without_point_some s h = by s.whole (number s.digits) (10 ^ length s.digits) (te
     by zero v t above h = omega arith
     by (suc q) v t above h = omega (arith, mul-lt 0 0 (suc q) t (omega arith) above)
 
-spelled_same : (s t : Spelling) → IsPlain s → IsPlain t → Equal (spelling_value s) (spelling_value t) → spelled s ≡ spelled t
+spelled_same : (s t : Spelling) → IsShortest s → IsShortest t → Equal (spelling_value s) (spelling_value t) → spelled s ≡ spelled t
 spelled_same s t p q e =
     let m = without_point s in let n = without_point t in
     let g : signed s.is_negative (m * 10 ^ length t.digits) ≡ signed t.is_negative (n * 10 ^ length s.digits) =

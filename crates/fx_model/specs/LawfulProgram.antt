@@ -1,6 +1,7 @@
 -- What each program meets that a text can spell, but for its name: counts, places, points, words and shifts.
 use Rattle.std.specs.Prelude.{◌≡◌, ℕ, ◌+◌, ◌-◌, ◌*◌, ◌<◌, ◌≤◌, ℤ, pos, negsuc, neg_ℤ, ◌≤ℤ◌, List, [], ◌∷◌, length, drop, All, Contains}
-use Rattle.fx_model.specs.Machine.{Code, Program, Input, State, Const, Neg, Add, Sub, Mul, Div, Copy, IsWord, points_of}
+use Rattle.fx_model.specs.Limits.{input_limit, state_limit, output_limit, node_limit}
+use Rattle.fx_model.specs.Machine.{Code, Program, Input, State, Const, Neg, Add, Sub, Mul, Div, Copy, IsWord, first_copy, points_of}
 
 -- a binary point, from -64 to 62
 pub record IsPoint (f : ℤ) : Type 0 where
@@ -47,12 +48,12 @@ widths = 8 ∷ 16 ∷ 24 ∷ 32 ∷ 40 ∷ 48 ∷ 56 ∷ 64 ∷ []
 -- the counts within their limits
 pub record HasLawfulCounts (p : Program) : Type 0 where
   pub some_input : 1 ≤ p.inputs
-  pub inputs : p.inputs ≤ 64
-  pub states : p.states ≤ 32
+  pub inputs : p.inputs ≤ input_limit
+  pub states : p.states ≤ state_limit
   pub some_output : 1 ≤ p.outputs
-  pub outputs : p.outputs ≤ 64
+  pub outputs : p.outputs ≤ output_limit
   pub enough : p.inputs + p.states + (p.outputs + p.states) ≤ length p.codes
-  pub codes : length p.codes ≤ 4000
+  pub codes : length p.codes ≤ node_limit
 
 -- all of it
 pub record IsLawfulProgram (p : Program) : Type 0 where
@@ -60,4 +61,4 @@ pub record IsLawfulProgram (p : Program) : Type 0 where
   pub counts : HasLawfulCounts p
   pub codes : AreLawful p.width p.inputs p.states 0 p.codes
   pub points : All IsPoint (points_of p.codes)
-  pub copies : All IsCopy (drop (length p.codes - (p.outputs + p.states)) p.codes)
+  pub copies : All IsCopy (drop (first_copy p) p.codes)

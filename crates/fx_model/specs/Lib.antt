@@ -1,3 +1,4 @@
+pub mod Limits
 pub mod Tree
 pub mod Function
 pub mod Rows
@@ -10,5 +11,8 @@ pub mod Nodes
 pub mod Sameness
 pub mod LawfulProgram
 pub mod Names
+pub mod LineText
 pub mod ProgramText
 pub mod Spelling
+pub mod Paths
+pub mod Counts

@@ -27,6 +27,10 @@ pub record Program : Type 0 where
   pub outputs : ℕ
   pub codes : List Code
 
+-- the number of the first copy: the last codes are a copy for each output and then one for each next state
+abbrev pub first_copy : Program → ℕ
+first_copy p = length p.codes - (p.outputs + p.states)
+
 -- ---- words
 -- from -2^(n-1) to 2^(n-1) - 1
 abbrev pub is_word : ℕ → ℤ → Bool
@@ -95,10 +99,9 @@ words_after n (c ∷ cs) g z ws =
 abbrev pub words_of : Program → List Rational → List ℤ → Option (List ℤ)
 words_of p g z = words_after p.width p.codes g z []
 
--- the last codes are one for each output and then one for each next state
+-- the words of the copies are the outputs and the next states
 abbrev pub machine_step : Program → List Rational → List ℤ → Option (Step ℤ)
-machine_step p g z =
-    option_map (λ ws. step_of p.outputs (drop (length ws - (p.outputs + p.states)) ws)) (words_of p g z)
+machine_step p g z = option_map (λ ws. step_of p.outputs (drop (first_copy p) ws)) (words_of p g z)
 
 -- a divisor is zero, a result leaves the word, or what is on the way to it leaves the double word
 abbrev pub IsStuck : Program → List Rational → List ℤ → Type 0
@@ -142,4 +145,4 @@ points_of cs = points_after cs []
 
 -- those of the outputs
 abbrev pub output_points : Program → List ℤ
-output_points p = take p.outputs (drop (length p.codes - (p.outputs + p.states)) (points_of p.codes))
+output_points p = take p.outputs (drop (first_copy p) (points_of p.codes))

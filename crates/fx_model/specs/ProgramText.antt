@@ -1,12 +1,9 @@
 -- The one text of a program.
 use Rattle.std.specs.Prelude.{ℕ, List, [], ◌∷◌, ◌++◌, length, codes}
 use Rattle.std.specs.Fmt.{decimal, signed_decimal}
-use Rattle.std.specs.List.{join_with_byte, flat_map}
+use Rattle.std.specs.List.{flat_map}
+use Rattle.fx_model.specs.LineText.{line_text}
 use Rattle.fx_model.specs.Machine.{Program, Code, Input, State, Const, Neg, Add, Sub, Mul, Div, Copy}
-
--- fields parted by one space, and a line feed
-abbrev pub line_text : List (List ℕ) → List ℕ
-line_text fields = join_with_byte 32 fields ++ 10 ∷ []
 
 -- the name of the instruction, operands, and then points, words or shifts
 abbrev pub code_fields : Code → List (List ℕ)
@@ -20,11 +17,14 @@ code_fields (Mul a b s) = codes "mul" ∷ decimal a ∷ decimal b ∷ decimal s 
 code_fields (Div a b s) = codes "div" ∷ decimal a ∷ decimal b ∷ decimal s ∷ []
 code_fields (Copy a s) = codes "copy" ∷ decimal a ∷ signed_decimal s ∷ []
 
--- a headline, the width, the name, the counts, and a line for each code
-abbrev pub program_text : Program → List ℕ
-program_text p =
+-- a headline, the width, the name and the counts
+abbrev pub head_text : Program → List ℕ
+head_text p =
     line_text (codes "fixd" ∷ codes "program" ∷ codes "1" ∷ []) ++
     line_text (codes "width" ∷ decimal p.width ∷ []) ++
     line_text (codes "name" ∷ p.name ∷ []) ++
-    line_text (codes "sizes" ∷ decimal p.inputs ∷ decimal p.states ∷ decimal p.outputs ∷ decimal (length p.codes) ∷ []) ++
-    flat_map (λ c. line_text (code_fields c)) p.codes
+    line_text (codes "sizes" ∷ decimal p.inputs ∷ decimal p.states ∷ decimal p.outputs ∷ decimal (length p.codes) ∷ [])
+
+-- and a line for each code
+abbrev pub program_text : Program → List ℕ
+program_text p = head_text p ++ flat_map (λ c. line_text (code_fields c)) p.codes

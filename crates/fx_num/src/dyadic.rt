@@ -5,7 +5,7 @@
 
 ghost use Rattle.std.specs.Prelude.{◌≡◌, ◌+◌, ◌≤◌, ◌^◌, IsTrue};
 ghost use Rattle.std.specs.Option.{SomeIff};
-ghost use Rattle.fx_rational.specs.Dyadic.{dyadic, sum_fits, dyadic_sum, difference_fits, dyadic_difference, product_fits, dyadic_product, is_dyadic_at_most, rounded_down, rounded_up};
+ghost use Rattle.fx_rational.specs.Dyadic.{dyadic, fits_128, sum_fits, dyadic_sum, difference_fits, dyadic_difference, product_fits, dyadic_product, is_dyadic_at_most, rounded_down, rounded_up};
 
 use crate::shift::{add_fits, ceil_shift, floor_shift, left_fits, mul_fits, subtract_fits};
 use std::marker::Model;
@@ -42,6 +42,13 @@ impl Dyadic {
         } else {
             Dyadic { m, e }
         }
+    }
+
+    /// What each dyadic keeps: a mantissa of 128 bits.
+    pub fn keeps(&self)
+        ensures { IsTrue (fits_128 self.now.m) }
+    {
+        let _m = self.m;
     }
 }
 

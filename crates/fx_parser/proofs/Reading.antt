@@ -7,7 +7,7 @@ use Rattle.fx_lexer.specs.Tokens.{Lexeme}
 use Rattle.fx_grammar.specs.declared.head.Head.{Head}
 use Rattle.fx_grammar.specs.declared.head.Head.TheVariants as heads
 use Rattle.fx_grammar.specs.Heads.{head_of, ◌==ₕ◌}
-use Rattle.fx_grammar.specs.Steps.{◌>>=◌, when, Tokens, Reads, want, wrong, real_at, past_semicolon, next_head, repeat, separated, listed, at, behind}
+use Rattle.fx_grammar.specs.Steps.{◌>>=◌, when, Tokens, Parsed, want, wrong, real_at, past_semicolon, next_head, repeat, separated, listed, stands_next, behind}
 use Rattle.fx_parser.specs.LawfulTokens.{IsSound, AreSound}
 
 pub on_ok : {A B E P : Type 0} (r : Result A E) (f : A → Result B E) (y : B) → (r >>= f) ≡ Ok y → ((x : A) → r ≡ Ok x → f x ≡ Ok y → P) → P
@@ -65,7 +65,7 @@ real_ok end ts x s e = on_ok _ _ x e (λ t te e.
 
 -- ---- repetitions
 
-pub repeat_ok : {S : Type 0} (P : S → Type 0) (goes_on : S → Tokens → Bool) (step : S → Tokens → Reads S)
+pub repeat_ok : {S : Type 0} (P : S → Type 0) (goes_on : S → Tokens → Bool) (step : S → Tokens → Parsed S)
     → ((s : S) (ts : Tokens) (x : S × Tokens) → P s → AreSound ts → step s ts ≡ Ok x → P x.0 × AreSound x.1)
     → (turns : ℕ) (s : S) (ts : Tokens) (x : S × Tokens) → P s → AreSound ts → repeat goes_on step turns s ts ≡ Ok x → P x.0 × AreSound x.1
 unfolding repeat
@@ -76,16 +76,16 @@ repeat_ok {S} P goes_on step k (suc turns) s ts x p o e =
     (λ off e. subst (λ (y : S × Tokens). P y.0 × AreSound y.1) (same_ok (s, ts) x e) (p, o))
 
 -- P holds before the first item and Q behind it
-pub separated_ok : {S : Type 0} (P Q : S → Type 0) (sign : Head) (item : S → Tokens → Reads S)
+pub separated_ok : {S : Type 0} (P Q : S → Type 0) (sign : Head) (item : S → Tokens → Parsed S)
     → ((s : S) (ts : Tokens) (x : S × Tokens) → P s → AreSound ts → item s ts ≡ Ok x → Q x.0 × AreSound x.1)
     → ((s : S) (ts : Tokens) (x : S × Tokens) → Q s → AreSound ts → item s ts ≡ Ok x → Q x.0 × AreSound x.1)
     → (s : S) (ts : Tokens) (x : S × Tokens) → P s → AreSound ts → separated sign item s ts ≡ Ok x → Q x.0 × AreSound x.1
 unfolding separated
 separated_ok P Q sign item j k s ts x p o e = on_ok _ _ x e (λ y ye e.
     let q = j s ts y p o ye in
-    repeat_ok Q (at sign) (behind item) (λ s ts x p o e. k s (drop 1 ts) x p (sound_drop 1 ts o) e) (suc (length y.1)) y.0 y.1 x q.0 q.1 e)
+    repeat_ok Q (stands_next sign) (behind item) (λ s ts x p o e. k s (drop 1 ts) x p (sound_drop 1 ts o) e) (suc (length y.1)) y.0 y.1 x q.0 q.1 e)
 
-pub listed_ok : {S : Type 0} (P Q : S → Type 0) (item : S → Tokens → Reads S) (end : ℕ)
+pub listed_ok : {S : Type 0} (P Q : S → Type 0) (item : S → Tokens → Parsed S) (end : ℕ)
     → ((s : S) (ts : Tokens) (x : S × Tokens) → P s → AreSound ts → item s ts ≡ Ok x → Q x.0 × AreSound x.1)
     → ((s : S) (ts : Tokens) (x : S × Tokens) → Q s → AreSound ts → item s ts ≡ Ok x → Q x.0 × AreSound x.1)
     → (s : S) (ts : Tokens) (x : S × Tokens) → P s → AreSound ts → listed item end s ts ≡ Ok x → Q x.0 × AreSound x.1

@@ -3,9 +3,9 @@ use Rattle.std.proofs.Common.{◌≡◌, ℕ, zero, suc, ◌-◌, ◌<◌, Bool,
 use Rattle.fx_lexer.specs.declared.fault.SourceKind.TheVariants.{TooDeep}
 use Rattle.fx_lexer.specs.Tokens.{Lexeme}
 use Rattle.fx_grammar.specs.Steps.{◌>>=◌, Tokens, fault}
-use Rattle.fx_grammar.specs.Expressions.{Known, Reader, closed, opened, sum_of, inner_at, expr_at}
+use Rattle.fx_grammar.specs.Expressions.{Known, Reader, closed, opened, sum_from, inner_at, expr_at}
 
-pub expr_is : (known : Known) (outside : Bool) (room : ℕ) → expr_at known outside room ≡ sum_of known outside (inner_at known room)
+pub expr_is : (known : Known) (outside : Bool) (room : ℕ) → expr_at known outside room ≡ sum_from known outside (inner_at known room)
 unfolding expr_at inner_at
 expr_is known outside zero = refl
 expr_is known outside (suc room) = refl
@@ -15,7 +15,7 @@ unfolding opened inner_at
 opened_zero known zero t ts e = refl
 opened_zero known (suc room) t ts e = absurd (omega arith)
 
-pub opened_more : (known : Known) (room : ℕ) (t : Lexeme) (ts : Tokens) → 0 < room → opened known (inner_at known room) t ts ≡ (sum_of known false (inner_at known (room - 1)) ts >>= λ x. closed known x.0 x.1)
+pub opened_more : (known : Known) (room : ℕ) (t : Lexeme) (ts : Tokens) → 0 < room → opened known (inner_at known room) t ts ≡ (sum_from known false (inner_at known (room - 1)) ts >>= λ x. closed known x.0 x.1)
 unfolding opened inner_at
 opened_more known zero t ts lt = absurd (omega arith)
 opened_more known (suc room) t ts lt = let e : suc room - 1 ≡ room = omega arith in rw e (ap (λ (read : Reader). read ts >>= λ x. closed known x.0 x.1) (expr_is known false room))

@@ -15,17 +15,17 @@ use Rattle.fx_expr.specs.LawfulFunction.{IsLow, IsDemand}
 use Rattle.fx_lexer.specs.Tokens.{Lexeme}
 use Rattle.fx_grammar.specs.declared.head.Head.TheVariants as heads
 use Rattle.fx_grammar.specs.Heads.{◌==ₕ◌}
-use Rattle.fx_grammar.specs.Steps.{Tokens, Text, next_head, place_at, past_semicolon, at, behind, listed, has_name, free_at}
+use Rattle.fx_grammar.specs.Steps.{Tokens, Text, next_head, next_place, past_semicolon, stands_next, behind, listed, has_name, free_at}
 use Rattle.fx_grammar.specs.Operands.{Operand, is_high, tree_or, counted_nodes}
 use Rattle.fx_grammar.specs.Expressions.{expr_at}
 use Rattle.fx_grammar.specs.Ranges.{Subjects, new_subject, names_of}
-use Rattle.fx_grammar.specs.Fronts.{param_at, Declared, state_at, states_at, one_real, more_than, type_at}
+use Rattle.fx_grammar.specs.Fronts.{param_at, Declared, declared_state, states_at, one_real, more_than, type_at}
 use Rattle.fx_grammar.specs.Bodies.{Body, known_of, whole_at, typed_at, with_temp, val_at, vals_at, Results, count_of, single_at, element_at, tuple_at, result_at}
-use Rattle.fx_grammar.specs.Ensuring.{demand_at, output_at, counted, outputs_at, ensuring_at, maybe_ensuring_at}
+use Rattle.fx_grammar.specs.Ensuring.{demand_at, output_at, of_arity, outputs_at, ensuring_at, maybe_ensuring_at}
 use Rattle.fx_grammar.specs.Functions.{require_word_at, new_name, Front, front_at, body_of, body_at, def_at}
 use Rattle.fx_grammar.specs.Sources.{dot_at, import_at, imports_at, function_names, one_def, defs_at, ended, object_at, source_of, functions_of}
 use Rattle.fx_parser.specs.LawfulTokens.{IsSize, AreSound}
-use Rattle.fx_parser.specs.LawfulNames.{IsWhole}
+use Rattle.fx_parser.specs.LawfulNames.{IsLawfulAndNamed}
 use Rattle.fx_parser.proofs.Reading.{only, on_ok, on_if, refused, same_ok, sound_drop, sound_semicolon, want_ok, real_ok, repeat_ok, separated_ok, listed_ok}
 use Rattle.fx_parser.proofs.NodeCounts.{nodes_in, nodes_in_temps, nodes_in_trees, all_nodes}
 use Rattle.fx_parser.proofs.SoundTokens.{tokens_sound}
@@ -60,8 +60,8 @@ params_ok end ts x s e = listed_ok (λ ss. (length ss ≤ 64) × All IsSubject s
 abbrev AreStates : ℕ → Declared → Type 0
 AreStates n h = (length h.names ≡ n + length h.states) × (length h.states ≤ 32) × All (λ s. IsName s.name) h.states
 
-state_ok : (n end : ℕ) (h : Declared) (ts : Tokens) (x : Declared × Tokens) → AreStates n h → AreSound ts → state_at end h ts ≡ Ok x → AreStates n x.0 × AreSound x.1
-unfolding state_at
+state_ok : (n end : ℕ) (h : Declared) (ts : Tokens) (x : Declared × Tokens) → AreStates n h → AreSound ts → declared_state end h ts ≡ Ok x → AreStates n x.0 × AreSound x.1
+unfolding declared_state
 state_ok n end h ts x p s e = on_ok _ _ x e (λ t te e. on_ok _ _ x e (λ u ue e. on_ok _ _ x e (λ c ce e. on_ok _ _ x e (λ r re e. on_ok _ _ x e (λ q qe e. on_ok _ _ x e (λ d de e.
     let w = want_ok end heads.Name ts t s te in
     let v = want_ok end heads.Colon t.1 c w.2 ce in
@@ -83,7 +83,7 @@ unfolding states_at
 states_ok end names ts x s e =
     let none : AreStates (length names) (record { names = names; states = [] }) = (omega arith, omega arith, All-nil (λ (s : model.State). IsName s.name)) in
     on_if (next_head ts ==ₕ heads.Open) _ _ x e
-    (λ on e. listed_ok (AreStates (length names)) (AreStates (length names)) (state_at end) end (state_ok (length names) end) (state_ok (length names) end) _ (drop 1 ts) x none (sound_drop 1 ts s) e)
+    (λ on e. listed_ok (AreStates (length names)) (AreStates (length names)) (declared_state end) end (state_ok (length names) end) (state_ok (length names) end) _ (drop 1 ts) x none (sound_drop 1 ts s) e)
     (λ off e. subst (λ (y : Declared × Tokens). AreStates (length names) y.0 × AreSound y.1) (same_ok (_, ts) x e) (none, s))
 
 real_count : (end first states n : ℕ) (ts : Tokens) (x : ℕ × Tokens) → AreSound ts → one_real end first states n ts ≡ Ok x → (x.0 ≤ states + 64) × AreSound x.1
@@ -101,9 +101,9 @@ type_ok : (end states : ℕ) (ts : Tokens) (x : ℕ × Tokens) → AreSound ts �
 unfolding type_at
 type_ok end states ts x s e = on_if (next_head ts ==ₕ heads.Open) _ _ x e
     (λ on e. on_ok _ _ x e (λ y ye e. more_count _ states y x
-    (listed_ok (λ n. Unit {0}) (λ n. n ≤ states + 64) (one_real end (place_at end ts) states) end
+    (listed_ok (λ n. Unit {0}) (λ n. n ≤ states + 64) (one_real end (next_place end ts) states) end
     (λ n ts x p s e. real_count end _ states n ts x s e) (λ n ts x p s e. real_count end _ states n ts x s e) 0 (drop 1 ts) y (tt {0}) (sound_drop 1 ts s) ye) e))
-    (λ off e. on_ok (one_real end (place_at end ts) states 0 ts) (more_than (place_at end ts) states) x e (λ y ye e. more_count (place_at end ts) states y x (real_count end (place_at end ts) states 0 ts y s ye) e))
+    (λ off e. on_ok (one_real end (next_place end ts) states 0 ts) (more_than (next_place end ts) states) x e (λ y ye e. more_count (next_place end ts) states y x (real_count end (next_place end ts) states 0 ts y s ye) e))
 
 -- ---- the body
 
@@ -184,7 +184,7 @@ val_ok end b ts x p s e = on_ok _ _ x e (λ t te e. on_ok _ _ x e (λ u ue e. on
 
 vals_ok : (end : ℕ) (b : Body) (ts : Tokens) (x : Body × Tokens) → IsBody b → AreSound ts → vals_at end b ts ≡ Ok x → (IsBody x.0 × Same b x.0) × AreSound x.1
 unfolding vals_at
-vals_ok end b ts x p s e = repeat_ok (λ c. IsBody c × Same b c) (at heads.Val) (behind (val_at end))
+vals_ok end b ts x p s e = repeat_ok (λ c. IsBody c × Same b c) (stands_next heads.Val) (behind (val_at end))
     (λ c ts x p s e. let r = val_ok end c (drop 1 ts) x p.0 (sound_drop 1 ts s) e in ((r.0.0, (r.0.1.0 ∙ p.1.0, r.0.1.1 ∙ p.1.1)), r.1))
     (suc (length ts)) b ts x (p, (refl, refl)) s e
 
@@ -249,7 +249,7 @@ output_ok end ss ts x a s e = on_ok _ _ x e (λ t te e.
     let r = refused (has_name (names_of ss) t.0.text) _ (Ok (ss ++ new_subject t.0 ∷ [], t.1)) x e in
     subst (λ (y : Subjects × Tokens). All IsSubject y.0 × AreSound y.1) (same_ok _ x r.1) (All-append IsSubject ss (new_subject t.0 ∷ []) a (only IsSubject (new_subject t.0) (new_ok t.0 w.0 w.1)), w.2))
 
-counted_ok : (n : ℕ) (y x : Subjects × Tokens) → All IsSubject y.0 × AreSound y.1 → counted n y ≡ Ok x → AreSubjects n x.0 × AreSound x.1
+counted_ok : (n : ℕ) (y x : Subjects × Tokens) → All IsSubject y.0 × AreSound y.1 → of_arity n y ≡ Ok x → AreSubjects n x.0 × AreSound x.1
 counted_ok n y x p e = on_if (eqb (length y.0) n) _ _ x e
     (λ on e. let m : length y.0 ≡ n = search (rules, tests) in subst (λ (z : Subjects × Tokens). AreSubjects n z.0 × AreSound z.1) (same_ok y x e) ((m, p.0), p.1))
     (λ off e. absurd cc)
@@ -315,7 +315,7 @@ require_word_ok end ss ts us s e = on_if (next_head ts ==ₕ heads.Require) _ _ 
     (λ on e. subst AreSound (same_ok (drop 1 ts) us e) (sound_drop 1 ts s))
     (λ off e. on_if (next_head ts ==ₕ heads.Unsupported) _ _ us e (λ on e. absurd cc) (λ off e. absurd cc))
 
-body_ok : (end word : ℕ) (f : Front) (ts : Tokens) (x : model.Function × Tokens) → IsFront f → AreSound ts → body_at end word f ts ≡ Ok x → IsWhole x.0 × AreSound x.1
+body_ok : (end word : ℕ) (f : Front) (ts : Tokens) (x : model.Function × Tokens) → IsFront f → AreSound ts → body_at end word f ts ≡ Ok x → IsLawfulAndNamed x.0 × AreSound x.1
 unfolding body_at
 body_ok end word f ts x p s e = on_ok _ _ x e (λ r re e. on_ok _ _ x e (λ i ie e. on_ok _ _ x e (λ b be e. on_ok _ _ x e (λ y ye e. on_ok _ _ x e (λ c ce e. on_ok _ _ x e (λ d de e.
     let states = length f.declared.states in
@@ -330,7 +330,7 @@ body_ok end word f ts x p s e = on_ok _ _ x e (λ r re e. on_ok _ _ x e (λ i ie
     let le : b.0.inputs + b.0.states + length y.0.trees + y.0.nodes ≤ 4000 = search (rules, tests) in
     let below = subst (λ n. AllReferBelow n b.0.states (length b.0.temps) y.0.trees) (v.0.1.0 ∙ sym q.0.0) o.0.1.below in
     let back = subst (λ n. ReferBack n b.0.states 0 b.0.temps) (v.0.1.0 ∙ sym q.0.0) v.0.0.back in
-    subst (λ (z : model.Function × Tokens). IsWhole z.0 × AreSound z.1) (same_ok (fn, d.1) x e) (
+    subst (λ (z : model.Function × Tokens). IsLawfulAndNamed z.0 × AreSound z.1) (same_ok (fn, d.1) x e) (
       (
         record {
           valid = record {
@@ -358,19 +358,19 @@ body_ok end word f ts x p s e = on_ok _ _ x e (λ r re e. on_ok _ _ x e (λ i ie
       a.1,
     ))))))))
 
-def_ok : (end word : ℕ) (functions : List Text) (ts : Tokens) (x : model.Function × Tokens) → AreSound ts → def_at end word functions ts ≡ Ok x → IsWhole x.0 × AreSound x.1
+def_ok : (end word : ℕ) (functions : List Text) (ts : Tokens) (x : model.Function × Tokens) → AreSound ts → def_at end word functions ts ≡ Ok x → IsLawfulAndNamed x.0 × AreSound x.1
 unfolding def_at
 def_ok end word functions ts x s e = on_ok _ _ x e (λ f fe e. let p = front_ok end functions ts f s fe in body_ok end word f.0 f.1 x p.0 p.1 e)
 
-one_def_ok : (end : ℕ) (fs : List model.Function) (ts : Tokens) (x : List model.Function × Tokens) → All IsWhole fs → AreSound ts → one_def end fs ts ≡ Ok x → All IsWhole x.0 × AreSound x.1
+one_def_ok : (end : ℕ) (fs : List model.Function) (ts : Tokens) (x : List model.Function × Tokens) → All IsLawfulAndNamed fs → AreSound ts → one_def end fs ts ≡ Ok x → All IsLawfulAndNamed x.0 × AreSound x.1
 unfolding one_def
 one_def_ok end fs ts x a s e = on_ok _ _ x e (λ f fe e.
-    let p = def_ok end (place_at end ts) (function_names fs) (drop 1 ts) f (sound_drop 1 ts s) fe in
-    subst (λ (z : List model.Function × Tokens). All IsWhole z.0 × AreSound z.1) (same_ok (fs ++ f.0 ∷ [], f.1) x e) (All-append IsWhole fs (f.0 ∷ []) a (only IsWhole f.0 p.0), p.1))
+    let p = def_ok end (next_place end ts) (function_names fs) (drop 1 ts) f (sound_drop 1 ts s) fe in
+    subst (λ (z : List model.Function × Tokens). All IsLawfulAndNamed z.0 × AreSound z.1) (same_ok (fs ++ f.0 ∷ [], f.1) x e) (All-append IsLawfulAndNamed fs (f.0 ∷ []) a (only IsLawfulAndNamed f.0 p.0), p.1))
 
-defs_ok : (end : ℕ) (ts : Tokens) (x : List model.Function × Tokens) → AreSound ts → defs_at end ts ≡ Ok x → All IsWhole x.0 × AreSound x.1
+defs_ok : (end : ℕ) (ts : Tokens) (x : List model.Function × Tokens) → AreSound ts → defs_at end ts ≡ Ok x → All IsLawfulAndNamed x.0 × AreSound x.1
 unfolding defs_at
-defs_ok end ts x s e = repeat_ok (All IsWhole) (at heads.Def) (one_def end) (one_def_ok end) (suc (length ts)) [] ts x (All-nil IsWhole) s e
+defs_ok end ts x s e = repeat_ok (All IsLawfulAndNamed) (stands_next heads.Def) (one_def end) (one_def_ok end) (suc (length ts)) [] ts x (All-nil IsLawfulAndNamed) s e
 
 -- ---- sources
 
@@ -387,26 +387,26 @@ import_ok end u ts x p s e = separated_ok Nothing Nothing heads.Dot (dot_at end)
 
 imports_ok : (end : ℕ) (ts : Tokens) (x : Unit {0} × Tokens) → AreSound ts → imports_at end ts ≡ Ok x → AreSound x.1
 unfolding imports_at
-imports_ok end ts x s e = (repeat_ok Nothing (at heads.Import) (behind (import_at end)) (λ u ts x p s e. import_ok end u (drop 1 ts) x p (sound_drop 1 ts s) e) (suc (length ts)) (tt {0}) ts x (tt {0}) s e).1
+imports_ok end ts x s e = (repeat_ok Nothing (stands_next heads.Import) (behind (import_at end)) (λ u ts x p s e. import_ok end u (drop 1 ts) x p (sound_drop 1 ts s) e) (suc (length ts)) (tt {0}) ts x (tt {0}) s e).1
 
-object_ok : (end : ℕ) (ts : Tokens) (x : List model.Function × Tokens) → AreSound ts → object_at end ts ≡ Ok x → All IsWhole x.0 × AreSound x.1
+object_ok : (end : ℕ) (ts : Tokens) (x : List model.Function × Tokens) → AreSound ts → object_at end ts ≡ Ok x → All IsLawfulAndNamed x.0 × AreSound x.1
 unfolding object_at
 object_ok end ts x s e = on_ok _ _ x e (λ t te e. on_ok _ _ x e (λ o oe e. on_ok _ _ x e (λ i ie e. on_ok _ _ x e (λ fs fe e. on_ok _ _ x e (λ c ce e.
     let w = want_ok end heads.OpenBrace t.1 o (want_ok end heads.Name ts t s te).2 oe in
     let p = defs_ok end i.1 fs (imports_ok end o.1 i w.2 ie) fe in
-    subst (λ (z : List model.Function × Tokens). All IsWhole z.0 × AreSound z.1) (same_ok (fs.0, c.1) x e) (p.0, (want_ok end heads.CloseBrace fs.1 c p.1 ce).2))))))
+    subst (λ (z : List model.Function × Tokens). All IsLawfulAndNamed z.0 × AreSound z.1) (same_ok (fs.0, c.1) x e) (p.0, (want_ok end heads.CloseBrace fs.1 c p.1 ce).2))))))
 
-ended_ok : (end : ℕ) (fs : List model.Function) (ts : Tokens) (x : List model.Function) → All IsWhole fs → ended end fs ts ≡ Ok x → All IsWhole x
-ended_ok end fs [] x a e = subst (All IsWhole) (same_ok fs x e) a
+ended_ok : (end : ℕ) (fs : List model.Function) (ts : Tokens) (x : List model.Function) → All IsLawfulAndNamed fs → ended end fs ts ≡ Ok x → All IsLawfulAndNamed x
+ended_ok end fs [] x a e = subst (All IsLawfulAndNamed) (same_ok fs x e) a
 ended_ok end fs (t ∷ ts) x a e = absurd cc
 
-source_ok : (end : ℕ) (ts : Tokens) (x : List model.Function) → AreSound ts → source_of end ts ≡ Ok x → All IsWhole x
+source_ok : (end : ℕ) (ts : Tokens) (x : List model.Function) → AreSound ts → source_of end ts ≡ Ok x → All IsLawfulAndNamed x
 unfolding source_of
 source_ok end ts x s e = on_ok _ _ x e (λ i ie e. on_ok _ _ x e (λ fs fe e.
     let t = imports_ok end ts i s ie in
-    let p : All IsWhole fs.0 × AreSound fs.1 = on_if (next_head i.1 ==ₕ heads.Object) _ _ fs fe (λ on e. object_ok end (drop 1 i.1) fs (sound_drop 1 i.1 t) e) (λ off e. defs_ok end i.1 fs t e) in
+    let p : All IsLawfulAndNamed fs.0 × AreSound fs.1 = on_if (next_head i.1 ==ₕ heads.Object) _ _ fs fe (λ on e. object_ok end (drop 1 i.1) fs (sound_drop 1 i.1 t) e) (λ off e. defs_ok end i.1 fs t e) in
     ended_ok end fs.0 fs.1 x p.0 e))
 
 -- each function of a text is whole
-pub functions_ok : (text : List ℕ) (fs : List model.Function) → functions_of text ≡ Ok fs → All IsWhole fs
+pub functions_ok : (text : List ℕ) (fs : List model.Function) → functions_of text ≡ Ok fs → All IsLawfulAndNamed fs
 functions_ok text fs e = on_ok _ _ fs e (λ ts te e. source_ok (length text) ts fs (tokens_sound text ts te) e)

@@ -19,9 +19,9 @@ use Rattle.fx_grammar.specs.declared.head.Head.{Head}
 use Rattle.fx_grammar.specs.declared.head.Head.TheVariants as heads
 use Rattle.fx_grammar.specs.declared.side.Side.{Side}
 use Rattle.fx_grammar.specs.declared.side.Side.TheVariants.{Low, High, Error}
-use Rattle.fx_grammar.specs.Heads.{head_of, by_kind, word_of, sign_of, code_of, ◌==ₕ◌}
-use Rattle.fx_grammar.specs.Steps.{fault, ◌>>=◌, Tokens, place_of, next_head, decimal, number_at, signed_at}
-use Rattle.fx_grammar.specs.Ranges.{Subject, Subjects, new_subject, names_of, side_of, with_side, is_given, subject_or, said, found_or, subject_at, is_relation, is_upward, is_signed, error_at, bound_at, name_first, behind_relation, number_first, condition_at, Conditions, are_open, wanted_at, read_at, conditions_step, conditions_at, or_zero, input_of, is_lacking, is_empty_range, all_pass, inputs_at, require_at}
+use Rattle.fx_grammar.specs.Heads.{head_of, by_kind, word_head, sign_head, head_number, ◌==ₕ◌}
+use Rattle.fx_grammar.specs.Steps.{fault, ◌>>=◌, Tokens, name_place, next_head, decimal, numeral_at, signed_at}
+use Rattle.fx_grammar.specs.Ranges.{Subject, Subjects, new_subject, names_of, side_of, with_side, is_said, subject_or, said, found_or, subject_at, is_relation, is_upward, is_signed, stated_error, bound_at, name_first, behind_relation, number_first, condition_at, Conditions, are_open, wanted_at, read_at, conditions_step, conditions_at, or_zero, declared_input, is_lacking, is_empty_range, all_pass, inputs_at, require_at}
 use Rattle.fx_parser.specs.LawfulTokens.{IsSize, IsSound, IsSoundText, AreSound}
 use Rattle.fx_parser.proofs.Reading.{fine, on_ok, on_when, on_if, refused, same_ok, sound_drop, want_ok, repeat_ok}
 use Rattle.fx_parser.proofs.SoundTokens.{is_size}
@@ -30,13 +30,13 @@ use Rattle.fx_parser.proofs.SoundTokens.{is_size}
 
 -- a head other than that of this number
 record Apart (n : ℕ) (h : Head) : Type 0 where
-  apart : eqb (code_of h) n ≡ false
+  apart : eqb (head_number h) n ≡ false
 
 neither : (n : ℕ) (b : Bool) (x y : Head) → Apart n x → Apart n y → Apart n (cond b x y)
 neither n true x y e f = e
 neither n false x y e f = f
 
-no_name_word : (text : List ℕ) → Apart 1 (word_of text)
+no_name_word : (text : List ℕ) → Apart 1 (word_head text)
 no_name_word text =
     neither 1 (bytes_eq text (codes "import")) heads.Import _ (record { apart = refl }) (
     neither 1 (bytes_eq text (codes "object")) heads.Object _ (record { apart = refl }) (
@@ -45,7 +45,7 @@ no_name_word text =
     neither 1 (bytes_eq text (codes "require")) heads.Require _ (record { apart = refl }) (
     neither 1 (bytes_eq text (codes "ensuring")) heads.Ensuring _ (record { apart = refl }) (record { apart = refl }))))))
 
-no_name_sign : (text : List ℕ) → Apart 1 (sign_of text)
+no_name_sign : (text : List ℕ) → Apart 1 (sign_head text)
 no_name_sign text =
     neither 1 (bytes_eq text (codes "+")) heads.Plus _ (record { apart = refl }) (
     neither 1 (bytes_eq text (codes "-")) heads.Minus _ (record { apart = refl }) (
@@ -68,7 +68,7 @@ no_name_sign text =
     neither 1 (bytes_eq text (codes "=>")) heads.Arrow _ (record { apart = refl }) (
     neither 1 (bytes_eq text (codes "=")) heads.Equals _ (record { apart = refl }) (record { apart = refl }))))))))))))))))))))
 
-no_number_word : (text : List ℕ) → Apart 2 (word_of text)
+no_number_word : (text : List ℕ) → Apart 2 (word_head text)
 no_number_word text =
     neither 2 (bytes_eq text (codes "import")) heads.Import _ (record { apart = refl }) (
     neither 2 (bytes_eq text (codes "object")) heads.Object _ (record { apart = refl }) (
@@ -77,7 +77,7 @@ no_number_word text =
     neither 2 (bytes_eq text (codes "require")) heads.Require _ (record { apart = refl }) (
     neither 2 (bytes_eq text (codes "ensuring")) heads.Ensuring _ (record { apart = refl }) (record { apart = refl }))))))
 
-no_number_sign : (text : List ℕ) → Apart 2 (sign_of text)
+no_number_sign : (text : List ℕ) → Apart 2 (sign_head text)
 no_number_sign text =
     neither 2 (bytes_eq text (codes "+")) heads.Plus _ (record { apart = refl }) (
     neither 2 (bytes_eq text (codes "-")) heads.Minus _ (record { apart = refl }) (
@@ -107,7 +107,7 @@ never false e f = absurd cc
 pub is_name : (t : Lexeme) → (head_of t ==ₕ heads.Name) ≡ true → IsSound t → IsName t.text
 unfolding head_of
 is_name t e s = by t.kind e s where
-  by : (k : TokenKind) → eqb (code_of (by_kind k t.text)) 1 ≡ true → IsSoundText k t.text → IsName t.text
+  by : (k : TokenKind) → eqb (head_number (by_kind k t.text)) 1 ≡ true → IsSoundText k t.text → IsName t.text
   by kinds.Name e s = s
   by kinds.Number e s = absurd cc
   by kinds.Word e s = never _ (no_name_word t.text).apart e
@@ -116,14 +116,14 @@ is_name t e s = by t.kind e s where
 pub is_number : (t : Lexeme) → (head_of t ==ₕ heads.Number) ≡ true → IsSound t → IsSize (decimal t.text)
 unfolding head_of
 is_number t e s = by t.kind e s where
-  by : (k : TokenKind) → eqb (code_of (by_kind k t.text)) 2 ≡ true → IsSoundText k t.text → IsSize (decimal t.text)
+  by : (k : TokenKind) → eqb (head_number (by_kind k t.text)) 2 ≡ true → IsSoundText k t.text → IsSize (decimal t.text)
   by kinds.Name e s = absurd cc
   by kinds.Number e s = s
   by kinds.Word e s = never _ (no_number_word t.text).apart e
   by kinds.Sign e s = never _ (no_number_sign t.text).apart e
 
-pub number_ok : (end : ℕ) (ts : Tokens) (x : Decimal × Tokens) → AreSound ts → number_at end ts ≡ Ok x → IsSize x.0 × AreSound x.1
-unfolding number_at
+pub number_ok : (end : ℕ) (ts : Tokens) (x : Decimal × Tokens) → AreSound ts → numeral_at end ts ≡ Ok x → IsSize x.0 × AreSound x.1
+unfolding numeral_at
 number_ok end ts x s e = on_ok _ _ x e (λ t te e.
     let w = want_ok end heads.Number ts t s te in
     subst (λ (y : Decimal × Tokens). IsSize y.0 × AreSound y.1) (same_ok (decimal t.0.text, t.1) x e) (is_number t.0 w.0 w.1, w.2))
@@ -147,8 +147,8 @@ new_ok t e s = (is_name t e s, tt {0})
 
 pub subject_at_ok : (ss : Subjects) (t : Lexeme) (k : ℕ) → subject_at ss t ≡ Ok k → k < length ss
 unfolding subject_at
-subject_at_ok ss t k e = by (place_of (names_of ss) t.text) refl e where
-  by : (o : Option ℕ) → place_of (names_of ss) t.text ≡ o → found_or t o ≡ Ok k → k < length ss
+subject_at_ok ss t k e = by (name_place (names_of ss) t.text) refl e where
+  by : (o : Option ℕ) → name_place (names_of ss) t.text ≡ o → found_or t o ≡ Ok k → k < length ss
   by None q e = absurd cc
   by (Some p) q e =
       let l : p < length (names_of ss) = (position-Some (λ name. bytes_eq name t.text) (names_of ss) p [] q).0 in
@@ -168,12 +168,12 @@ with_side_ok Error d s p q = (q.0, p)
 said_ok : (n : ℕ) (side : Side) (d : Decimal) (t : Lexeme) (ss : Subjects) (k : ℕ) (x : Subjects) → k < length ss → IsSaid side d → AreSubjects n ss → said side d t ss k ≡ Ok x → AreSubjects n x
 unfolding said
 said_ok n side d t ss k x lt p q e =
-    let r = refused (is_given (side_of side (subject_or ss k))) _ (Ok (slice_set ss k (with_side side d (subject_or ss k)))) x e in
+    let r = refused (is_said (side_of side (subject_or ss k))) _ (Ok (slice_set ss k (with_side side d (subject_or ss k)))) x e in
     let all = All-set IsSubject ss k (with_side side d (subject_or ss k)) (with_side_ok side d (subject_or ss k) p (All-get_or IsSubject ss k _ lt q.1)) q.1 in
     subst (λ (y : Subjects). AreSubjects n y) (same_ok _ x r.1) (length-set ss k (with_side side d (subject_or ss k)) ∙ q.0, all)
 
-pub error_ok : (n end : ℕ) (ss : Subjects) (t : Lexeme) (k : ℕ) (ts : Tokens) (x : Subjects × Tokens) → k < length ss → AreSubjects n ss → AreSound ts → error_at end ss t k ts ≡ Ok x → AreSubjects n x.0 × AreSound x.1
-unfolding error_at
+pub error_ok : (n end : ℕ) (ss : Subjects) (t : Lexeme) (k : ℕ) (ts : Tokens) (x : Subjects × Tokens) → k < length ss → AreSubjects n ss → AreSound ts → stated_error end ss t k ts ≡ Ok x → AreSubjects n x.0 × AreSound x.1
+unfolding stated_error
 error_ok n end ss t k ts x lt q s e = on_ok _ _ x e (λ d de e. on_ok _ _ x e (λ y ye e.
     let w = number_ok end ts d s de in
     subst (λ (z : Subjects × Tokens). AreSubjects n z.0 × AreSound z.1) (same_ok (y, d.1) x e) (said_ok n Error d.0 t ss k y lt w.0 q ye, w.1)))
@@ -268,21 +268,21 @@ not_false : (b : Bool) → not b ≡ false → b ≡ true
 not_false true e = refl
 not_false false e = absurd cc
 
-inputs_of : (ss : Subjects) → All IsSubject ss → All (λ s. is_empty_range s ≡ false) ss → AreNamedInputs (map input_of ss)
+inputs_of : (ss : Subjects) → All IsSubject ss → All (λ s. is_empty_range s ≡ false) ss → AreNamedInputs (map declared_input ss)
 inputs_of [] p q = (tt {0}, All-nil (λ (i : model.Input). IsName i.name))
 inputs_of (s ∷ ss) p q =
     let more = inputs_of ss (All-tail IsSubject s ss p) (All-tail (λ s. is_empty_range s ≡ false) s ss q) in
     let first = All-head IsSubject s ss p in
     let order = All-head (λ s. is_empty_range s ≡ false) s ss q in
-    ((record { ordered = at_most_true _ _ (not_false _ order); error = size_or_zero s.err first.1 }, more.0), All-cons (λ (i : model.Input). IsName i.name) (input_of s) (map input_of ss) first.0 more.1)
+    ((record { ordered = at_most_true _ _ (not_false _ order); error = size_or_zero s.err first.1 }, more.0), All-cons (λ (i : model.Input). IsName i.name) (declared_input s) (map declared_input ss) first.0 more.1)
 
 inputs_ok : (n : ℕ) (ss : Subjects) (x : List model.Input) → AreSubjects n ss → inputs_at ss ≡ Ok x → (length x ≡ n) × AreNamedInputs x
 unfolding inputs_at
 inputs_ok n ss x q e =
-    on_ok (all_pass is_lacking (λ at. fault at faults.NoRange) ss) (λ u. all_pass is_empty_range (λ at. fault at faults.EmptyRange) ss >>= λ v. Ok (map input_of ss)) x e (λ u ue e.
-    on_ok (all_pass is_empty_range (λ at. fault at faults.EmptyRange) ss) (λ v. Ok (map input_of ss)) x e (λ v ve e.
-    let count : length (map input_of ss) ≡ n = simp length-map q.0 in
-    subst (λ (y : List model.Input). (length y ≡ n) × AreNamedInputs y) (same_ok (map input_of ss) x e) (count, inputs_of ss q.1 (all_pass_ok is_empty_range (λ at. fault at faults.EmptyRange) ss v ve))))
+    on_ok (all_pass is_lacking (λ at. fault at faults.NoRange) ss) (λ u. all_pass is_empty_range (λ at. fault at faults.EmptyRange) ss >>= λ v. Ok (map declared_input ss)) x e (λ u ue e.
+    on_ok (all_pass is_empty_range (λ at. fault at faults.EmptyRange) ss) (λ v. Ok (map declared_input ss)) x e (λ v ve e.
+    let count : length (map declared_input ss) ≡ n = simp length-map q.0 in
+    subst (λ (y : List model.Input). (length y ≡ n) × AreNamedInputs y) (same_ok (map declared_input ss) x e) (count, inputs_of ss q.1 (all_pass_ok is_empty_range (λ at. fault at faults.EmptyRange) ss v ve))))
 
 pub require_ok : (n end : ℕ) (ss : Subjects) (ts : Tokens) (x : List model.Input × Tokens) → AreSubjects n ss → AreSound ts → require_at end ss ts ≡ Ok x → ((length x.0 ≡ n) × AreNamedInputs x.0) × AreSound x.1
 unfolding require_at

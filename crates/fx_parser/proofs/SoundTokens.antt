@@ -13,14 +13,13 @@ use Rattle.fx_fraction.specs.declared.fault.NumberFault.TheVariants.{TooLong}
 use Rattle.fx_lexer.specs.declared.fault.SourceKind.{SourceKind}
 use Rattle.fx_lexer.specs.declared.fault.SourceKind.TheVariants.{NumberTooLong, BadNumber}
 use Rattle.fx_fraction.specs.DecimalOf.{decimal_of, decimal_from, within_limits, fewest_places}
-use Rattle.fx_model.specs.Names.{is_letter}
+use Rattle.fx_model.specs.Names.{is_letter, is_word_byte, is_reserved}
 use Rattle.fx_lexer.specs.declared.item.Item.{Item}
 use Rattle.fx_lexer.specs.declared.token.TokenKind.{TokenKind}
 use Rattle.fx_lexer.specs.declared.token.TokenKind.TheVariants.{Name, Number, Word, Sign as Mark}
-use Rattle.fx_lexer.specs.Characters.{is_word_byte}
 use Rattle.fx_lexer.specs.Layout.{IsLaidOut, over as nothing, gap, token}
 use Rattle.fx_lexer.specs.Numbers.{number_len}
-use Rattle.fx_lexer.specs.Tokens.{gap as item_gap, token_item, first_item, closed_item, found_sign, is_reserved, tokens_of}
+use Rattle.fx_lexer.specs.Tokens.{gap as item_gap, token_item, first_item, closed_item, found_sign, tokens_of}
 use Rattle.fx_lexer.proofs.Fronts.{IsFront, at_blank, at_word, at_number, at_line, at_comment, at_sign, front_is}
 use Rattle.fx_lexer.proofs.Layouts.{layout}
 use Rattle.fx_grammar.specs.Steps.{Tokens, decimal, value_or}

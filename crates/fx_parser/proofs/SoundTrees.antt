@@ -6,14 +6,14 @@ use Rattle.std.proofs.lemmas.List.Quantifiers.{position-Some}
 use Rattle.fx_rational.specs.Decimal.{Decimal}
 use Rattle.fx_model.specs.Tree.{Tree, Input, State, Temp, Negation, Sum, Difference, Product, Quotient}
 use Rattle.fx_model.specs.Valid.{RefersBelow}
-use Rattle.fx_expr.specs.LawfulFunction.{height}
+use Rattle.fx_model.specs.Paths.{height}
 use Rattle.fx_lexer.specs.Tokens.{Lexeme}
 use Rattle.fx_grammar.specs.declared.head.Head.{Head}
 use Rattle.fx_grammar.specs.declared.head.Head.TheVariants as heads
 use Rattle.fx_grammar.specs.Heads.{head_of, ◌==ₕ◌}
-use Rattle.fx_grammar.specs.Steps.{Tokens, place_of, next_head, decimal, minus}
-use Rattle.fx_grammar.specs.Operands.{Operand, leaf, kept, negation, negation_of, joined, both, operation, counted_nodes}
-use Rattle.fx_grammar.specs.Expressions.{Known, Reader, literal, meant, is_call, found, named, closed, opened, atom_by, atom_of, negated, factor_of, one_more, goes_on_product, goes_on_sum, term_of, sum_of, expr_at}
+use Rattle.fx_grammar.specs.Steps.{Tokens, name_place, next_head, decimal, negative_decimal}
+use Rattle.fx_grammar.specs.Operands.{Operand, leaf, low_tree, negation, negation_of, combined_operand, both, operation, counted_nodes}
+use Rattle.fx_grammar.specs.Expressions.{Known, Reader, literal, meant, is_call, found, named, closed, opened, atom_by, atom_of, behind_minus, factor_of, one_more, goes_on_product, goes_on_sum, term_of, sum_from, expr_at}
 use Rattle.fx_parser.specs.LawfulTokens.{IsSound, AreSound}
 use Rattle.fx_parser.proofs.Reading.{fine, on_ok, on_when, refused, same_ok, sound_drop, want_ok, repeat_ok}
 use Rattle.fx_parser.proofs.NodeCounts.{nodes_in}
@@ -27,7 +27,7 @@ abbrev pub IsOperand : ℕ → ℕ → ℕ → Operand → Type 0
 IsOperand i k m x = IsTree i k m x.tree x.height x.nodes
 
 module _ (i k m : ℕ) where
-  negated_tree : (t : Option Tree) (h n : ℕ) → IsTree i k m t h n → IsTree i k m (kept (min 201 (1 + h)) (negation_of t)) (min 201 (1 + h)) (counted_nodes (1 + n))
+  negated_tree : (t : Option Tree) (h n : ℕ) → IsTree i k m t h n → IsTree i k m (low_tree (min 201 (1 + h)) (negation_of t)) (min 201 (1 + h)) (counted_nodes (1 + n))
   negated_tree None h n e = by (nat_le (min 201 (1 + h)) 200) where
     by : (b : Bool) → IsTree i k m (cond b None None) (min 201 (1 + h)) (counted_nodes (1 + n))
     by true = omega (arith, e)
@@ -74,7 +74,7 @@ module _ (i k m : ℕ) where
   by_sign P x y s d p q heads.Unsupported = q
 
   joined_tree : (sign : Head) (x y : Option Tree) (a b n l : ℕ) → IsTree i k m x a n → IsTree i k m y b l
-      → IsTree i k m (kept (min 201 (1 + max a b)) (both sign x y)) (min 201 (1 + max a b)) (counted_nodes (1 + n + l))
+      → IsTree i k m (low_tree (min 201 (1 + max a b)) (both sign x y)) (min 201 (1 + max a b)) (counted_nodes (1 + n + l))
   joined_tree sign None y a b n l e f = by (nat_le (min 201 (1 + max a b)) 200) where
     by : (c : Bool) → IsTree i k m (cond c None None) (min 201 (1 + max a b)) (counted_nodes (1 + n + l))
     by true = omega (arith, e)
@@ -93,7 +93,7 @@ module _ (i k m : ℕ) where
         ((e.0, f.0), h, le, c) ((e.0, f.0), h, le, c) ((e.0, f.0), h, le, c) ((e.0, f.0), h, le, c) sign
     by false q = let lt : 200 < min 201 (1 + max a b) = search (rules, tests) in omega (arith, lt)
 
-  pub joined_ok : (sign : Head) (x y : Operand) → IsOperand i k m x → IsOperand i k m y → IsOperand i k m (joined sign x y)
+  pub joined_ok : (sign : Head) (x y : Operand) → IsOperand i k m x → IsOperand i k m y → IsOperand i k m (combined_operand sign x y)
   joined_ok sign x y e f = joined_tree sign x.tree y.tree x.height y.height x.nodes y.nodes e f
 
   literal_ok : (d : Decimal) → IsOperand i k m (literal d)
@@ -124,12 +124,12 @@ module _ (known : Known) (m : ℕ) (size : length known.names ≡ known.inputs +
     by false false e f =
         let g : known.inputs + known.states ≤ p = search (rules, tests) in (omega (arith, g, lt, size), refl, omega arith, refl)
 
-  found_ok : (t : Lexeme) (ts : Tokens) (o : Option ℕ) → place_of known.names t.text ≡ o → (x : Operand × Tokens) → AreSound ts → found known t o ts ≡ Ok x → Good x.0 × AreSound x.1
+  found_ok : (t : Lexeme) (ts : Tokens) (o : Option ℕ) → name_place known.names t.text ≡ o → (x : Operand × Tokens) → AreSound ts → found known t o ts ≡ Ok x → Good x.0 × AreSound x.1
   found_ok t ts None q x s e = absurd cc
   found_ok t ts (Some p) q x s e = done _ ts x e (meant_ok p (position-Some (λ name. bytes_eq name t.text) known.names p [] q).0) s
 
   named_ok : (t : Lexeme) → Reads_well (named known t)
-  named_ok t ts x s e = let r = refused (is_call ts) _ (found known t (place_of known.names t.text) ts) x e in found_ok t ts _ refl x s r.1
+  named_ok t ts x s e = let r = refused (is_call ts) _ (found known t (name_place known.names t.text) ts) x e in found_ok t ts _ refl x s r.1
 
   closed_ok : (y : Operand) → Good y → Reads_well (closed known y)
   unfolding closed
@@ -177,10 +177,10 @@ module _ (known : Known) (m : ℕ) (size : length known.names ≡ known.inputs +
   atom_ok inner g [] x s e = absurd cc
   atom_ok inner g (t ∷ ts) x s e = atom_by_ok inner g t ts (head_of t) x (All-tail IsSound t ts s) e
 
-  negated_ok : (inner : Option Reader) → Inner inner → Reads_well (negated known inner)
-  unfolding negated
+  negated_ok : (inner : Option Reader) → Inner inner → Reads_well (behind_minus known inner)
+  unfolding behind_minus
   negated_ok inner g ts x s e = on_when (next_head ts ==ₕ heads.Number) _ _ x e
-      (λ on e. on_ok _ _ x e (λ t te e. done _ t.1 x e (literal_ok known.inputs known.states m (minus (decimal t.0.text))) (want_ok known.end heads.Number ts t s te).2))
+      (λ on e. on_ok _ _ x e (λ t te e. done _ t.1 x e (literal_ok known.inputs known.states m (negative_decimal (decimal t.0.text))) (want_ok known.end heads.Number ts t s te).2))
       (λ off e. on_ok _ _ x e (λ y ye e. let q = atom_ok inner g ts y s ye in done _ y.1 x e (negation_ok known.inputs known.states m y.0 q.0) q.1))
 
   factor_ok : (inner : Option Reader) → Inner inner → Reads_well (factor_of known inner)
@@ -200,8 +200,8 @@ module _ (known : Known) (m : ℕ) (size : length known.names ≡ known.inputs +
       let q = factor_ok inner g ts y s ye in
       repeat_ok Good goes_on_product (one_more (factor_of known inner)) (more_ok (factor_of known inner) (factor_ok inner g)) (suc (length y.1)) y.0 y.1 x q.0 q.1 e)
 
-  sum_ok : (outside : Bool) (inner : Option Reader) → Inner inner → Reads_well (sum_of known outside inner)
-  unfolding sum_of
+  sum_ok : (outside : Bool) (inner : Option Reader) → Inner inner → Reads_well (sum_from known outside inner)
+  unfolding sum_from
   sum_ok outside inner g ts x s e = on_ok _ _ x e (λ y ye e.
       let q = term_ok inner g ts y s ye in
       repeat_ok Good (goes_on_sum outside) (one_more (term_of known inner)) (more_ok (term_of known inner) (term_ok inner g)) (suc (length y.1)) y.0 y.1 x q.0 q.1 e)

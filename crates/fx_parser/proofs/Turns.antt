@@ -5,20 +5,20 @@ use Rattle.fx_lexer.specs.Faults.{no_memory}
 use Rattle.std.proofs.lemmas.List.{length-map}
 use Rattle.fx_lexer.specs.declared.token.Token.{Token}
 use Rattle.fx_parser.specs.Views.{lexemes}
-use Rattle.fx_grammar.specs.Operands.{Operand, joined}
+use Rattle.fx_grammar.specs.Operands.{Operand, combined_operand}
 use Rattle.fx_grammar.specs.Expressions.{Reader, one_more}
-use Rattle.fx_grammar.specs.Steps.{Tokens, Reads, repeat, many, next_head}
+use Rattle.fx_grammar.specs.Steps.{Tokens, Parsed, repeat, repeated, next_head}
 
 -- The loop has this value and these tokens, and what the steps make of them is the whole.
-pub record IsOn {S : Type 0} (goes_on : S → Tokens → Bool) (step : S → Tokens → Reads S) (s : S) (ts : Tokens) (whole : Reads S) : Type 0 where
+pub record IsOn {S : Type 0} (goes_on : S → Tokens → Bool) (step : S → Tokens → Parsed S) (s : S) (ts : Tokens) (whole : Parsed S) : Type 0 where
   pub turns : ℕ
   pub enough : length ts < turns
   pub same : repeat goes_on step turns s ts ≡ whole
 
-pub starts : {S : Type 0} (goes_on : S → Tokens → Bool) (step : S → Tokens → Reads S) (s : S) (ts : Tokens) → IsOn goes_on step s ts (many goes_on step s ts)
+pub starts : {S : Type 0} (goes_on : S → Tokens → Bool) (step : S → Tokens → Parsed S) (s : S) (ts : Tokens) → IsOn goes_on step s ts (repeated goes_on step s ts)
 starts goes_on step s ts = record { turns = suc (length ts); enough = omega arith; same = refl }
 
-module _ {S : Type 0} (goes_on : S → Tokens → Bool) (step : S → Tokens → Reads S) (s : S) (ts : Tokens) (whole : Reads S) where
+module _ {S : Type 0} (goes_on : S → Tokens → Bool) (step : S → Tokens → Parsed S) (s : S) (ts : Tokens) (whole : Parsed S) where
   pub goes_further : (x : S × Tokens) → goes_on s ts ≡ true → step s ts ≡ Ok x → length x.1 < length ts → IsOn goes_on step s ts whole → IsOn goes_on step x.0 x.1 whole
   unfolding repeat
   goes_further x on taken shorter h = go h.turns h.enough h.same
@@ -49,7 +49,7 @@ module _ {S : Type 0} (goes_on : S → Tokens → Bool) (step : S → Tokens →
       go (suc turns) enough same = sym same ∙ rw off refl
 
 -- one more operand, as it was read
-pub operand_read : (operand : Reader) (left : Operand) (ts : Tokens) (x : Operand × Tokens) → operand (drop 1 ts) ≡ Ok x → one_more operand left ts ≡ Ok (joined (next_head ts) left x.0, x.1)
+pub operand_read : (operand : Reader) (left : Operand) (ts : Tokens) (x : Operand × Tokens) → operand (drop 1 ts) ≡ Ok x → one_more operand left ts ≡ Ok (combined_operand (next_head ts) left x.0, x.1)
 operand_read operand left ts x e = rw e refl
 
 pub operand_fails : (operand : Reader) (left : Operand) (ts : Tokens) (f : SourceFault) → (operand (drop 1 ts) ≡ Err f) ⊎ f ≡ no_memory → (one_more operand left ts ≡ Err f) ⊎ f ≡ no_memory

@@ -11,5 +11,5 @@ pub record HasNames (f : Function) : Type 0 where
   pub temps : All (λ t. IsName t.name) f.temps
 
 -- lawful, and with its names
-abbrev pub IsWhole : Function → Type 0
-IsWhole f = IsLawfulFunction f × HasNames f
+abbrev pub IsLawfulAndNamed : Function → Type 0
+IsLawfulAndNamed f = IsLawfulFunction f × HasNames f

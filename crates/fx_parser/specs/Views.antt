@@ -5,11 +5,12 @@ use Rattle.std.specs.Option.{option_map}
 use Rattle.std.specs.Global.{Global}
 use Rattle.fx_rational.specs.Rational.{Rational}
 use Rattle.fx_rational.specs.Decimal.{decimal_value}
+use Rattle.fx_model.specs.Limits.{input_limit, state_limit, temp_limit, node_limit}
 use Rattle.fx_model.specs.Function as model
 use Rattle.fx_expr.specs.TreeOf.{tree}
 use Rattle.fx_lexer.specs.declared.token.Token.{Token}
 use Rattle.fx_lexer.specs.Tokens.{lexeme_of}
-use Rattle.fx_grammar.specs.Steps.{Tokens, Reads, fault}
+use Rattle.fx_grammar.specs.Steps.{Tokens, Parsed, fault}
 use Rattle.fx_grammar.specs.Operands as operands
 use Rattle.fx_grammar.specs.Expressions.{Known}
 use Rattle.fx_grammar.specs.Ranges as ranges
@@ -22,7 +23,7 @@ use Rattle.fx_parser.specs.declared.subject.Subject.{Subject}
 use Rattle.fx_parser.specs.declared.subject.Named.{Named}
 use Rattle.fx_parser.specs.declared.condition.Conditions.{Conditions}
 use Rattle.fx_parser.specs.declared.numeral.Numeral.{Numeral}
-use Rattle.fx_parser.specs.Texts.{numeral_value}
+use Rattle.fx_parser.specs.Texts.{numeral_decimal}
 use Rattle.fx_parser.specs.declared.front.State.{State}
 use Rattle.fx_parser.specs.declared.front.Declared.{Declared}
 use Rattle.fx_parser.specs.declared.body.Temp.{Temp}
@@ -39,11 +40,11 @@ lexemes ts = map lexeme_of ts
 abbrev pub operand_of : Operand → operands.Operand
 operand_of x = record { tree = option_map tree x.expr; height = x.height; nodes = x.nodes }
 
-abbrev pub known_of : Context → Known
-known_of c = record { names = c.names.now; inputs = c.inputs; states = c.states; end = c.end }
+abbrev pub known_in : Context → Known
+known_in c = record { names = c.names.now; inputs = c.inputs; states = c.states; end = c.end }
 
 abbrev pub subject_of : Subject → ranges.Subject
-subject_of s = record { name = s.name.now; at = s.at; lo = option_map numeral_value s.lo; hi = option_map numeral_value s.hi; err = option_map numeral_value s.err }
+subject_of s = record { name = s.name.now; at = s.at; lo = option_map numeral_decimal s.lo; hi = option_map numeral_decimal s.hi; err = option_map numeral_decimal s.err }
 
 abbrev pub subjects_of : Vec Subject Global → ranges.Subjects
 subjects_of v = map subject_of v.items
@@ -52,17 +53,17 @@ subjects_of v = map subject_of v.items
 abbrev pub IsNamed : Named → Type 0
 IsNamed n = n.names ≡ ranges.names_of (subjects_of n.subjects)
 
-abbrev pub conditions_of : Conditions → ranges.Conditions
-conditions_of c = record { depth = c.depth; wants = c.wants; subjects = subjects_of c.subjects }
+abbrev pub conditions_in : Conditions → ranges.Conditions
+conditions_in c = record { depth = c.depth; wants = c.wants; subjects = subjects_of c.subjects }
 
 abbrev pub inputs_value : Vec Subject Global → List model.Input
-inputs_value v = map ranges.input_of (subjects_of v)
+inputs_value v = map ranges.declared_input (subjects_of v)
 
 abbrev pub demand_value : Option Numeral → Option Rational
-demand_value d = option_map decimal_value (option_map numeral_value d)
+demand_value d = option_map decimal_value (option_map numeral_decimal d)
 
 abbrev pub state_value : State → model.State
-state_value s = record { name = s.name.now; start = decimal_value (numeral_value s.start) }
+state_value s = record { name = s.name.now; start = decimal_value (numeral_decimal s.start) }
 
 abbrev pub declared_of : Declared → fronts.Declared
 declared_of h = record { names = h.names; states = map state_value h.states.items }
@@ -75,7 +76,7 @@ body_value b = record { names = b.names; inputs = b.inputs; states = b.states; t
 
 -- the names are few: inputs, states and temps keep their limits
 abbrev pub HasRoom : Body → Type 0
-HasRoom b = (length b.names ≤ 96 + length b.temps.items) × (length b.temps.items ≤ 1000)
+HasRoom b = (length b.names ≤ input_limit + state_limit + length b.temps.items) × (length b.temps.items ≤ temp_limit)
 
 abbrev pub results_value : Results → bodies.Results
 results_value r = record { trees = map tree r.trees.items; nodes = r.nodes }
@@ -94,8 +95,8 @@ draft_of f = record {
 }
 
 -- a function of so many nodes, and the tokens behind it
-abbrev pub bounded : ℕ → ℕ → model.Function → Tokens → Reads model.Function
-bounded word nodes f ts = if nat_lt 4000 nodes then Err (fault word TooMany) else Ok (f, ts)
+abbrev pub bounded : ℕ → ℕ → model.Function → Tokens → Parsed model.Function
+bounded word nodes f ts = if nat_lt node_limit nodes then Err (fault word TooMany) else Ok (f, ts)
 
 abbrev pub drafts_of : Drafts → List model.Function
 drafts_of d = map draft_of d.list.items

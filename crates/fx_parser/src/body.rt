@@ -6,8 +6,8 @@ ghost use Rattle.std.specs.Prelude.{◌≡◌, ◌≤◌, ◌<◌, ◌+◌, ◌^
 ghost use Rattle.fx_lexer.specs.Faults.{Gives};
 ghost use Rattle.fx_parser.specs.Views.{lexemes, operand_of};
 ghost use Rattle.fx_parser.specs.Views.{body_value, results_value, HasRoom};
-ghost use Rattle.fx_parser.specs.Texts.{texts};
-ghost use Rattle.fx_grammar.specs.Steps.{place_of};
+ghost use Rattle.fx_parser.specs.Texts.{all_texts};
+ghost use Rattle.fx_grammar.specs.Steps.{name_place};
 ghost use Rattle.fx_expr.specs.TreeOf.{tree};
 ghost use Rattle.fx_grammar.specs.Operands.{is_high};
 ghost use Rattle.fx_grammar.specs.Expressions.{expr_at};
@@ -17,6 +17,7 @@ ghost use Rattle.fx_grammar.specs.Bodies.{too_high, whole_at, typed_at, with_tem
 ghost use Rattle.fx_grammar.specs.declared.head.Head.TheVariants.{Comma};
 
 use crate::expr::expression;
+use crate::limits::{HEIGHT_LIMIT, NODE_LIMIT, TEMP_LIMIT};
 use crate::names::{Names, free, with_name};
 use crate::operand::{Context, Operand};
 use crate::steps::{Parsed, behind, next_is, past_semicolon, peek, place_at, real, want, wrong};
@@ -64,17 +65,17 @@ fn tree_or(expr: Option<Expr>) -> Expr
 fn with_nodes(a: u32, b: u32) -> u32
     ensures { result ≡ min 4001 (a + b) }
 {
-    if a < 4001 && b < 4001 && a + b < 4001 {
+    if a <= NODE_LIMIT && b <= NODE_LIMIT && a + b <= NODE_LIMIT {
         a + b
     } else {
-        4001
+        NODE_LIMIT + 1
     }
 }
 
 fn is_high(x: &Operand) -> bool
     ensures { result ≡ is_high (operand_of x.now) }
 {
-    x.height == 201
+    x.height == HEIGHT_LIMIT + 1
 }
 
 /// The fault of a tree that is too high, found at the token behind it.
@@ -145,7 +146,7 @@ fn typed<'t, 'a>(end: u32, tokens: &'t [Token<'a>]) -> Result<&'t [Token<'a>], S
 }
 
 fn with_temp<'a>(body: Body<'a>, name: &'a str, operand: Operand) -> Result<Body<'a>, SourceFault>
-    requires { place_of body.names name.now ≡ None }
+    requires { name_place body.names name.now ≡ None }
     ensures value { Gives body_value result (Ok (with_temp (body_value body.entry) name.now (operand_of operand))) }
     ensures room { IfOk result (λ b. (length b.names ≡ length body.entry.names + 1) × (length b.temps.items ≡ length body.entry.temps.items + 1)) }
     ensures kept { IfOk result (λ b. (b.inputs ≡ body.entry.inputs) × (b.states ≡ body.entry.states)) }
@@ -191,7 +192,7 @@ fn val<'t, 'a>(
     ensures kept { IfOk result (λ x. (x.0.inputs ≡ body.entry.inputs) × (x.0.states ≡ body.entry.states)) }
 {
     let (token, rest) = want(end, Head::Name, tokens)?;
-    free(1000, body.temps.len(), &body.names, &token)?;
+    free(TEMP_LIMIT, body.temps.len(), &body.names, &token)?;
     let rest = typed(end, rest)?;
     let (_, rest) = want(end, Head::Equals, rest)?;
     let (operand, rest) = whole(alloc, end, &body, rest)?;
@@ -247,7 +248,7 @@ fn single_high(
 {
     if peek(rest) == Head::CloseBrace
         && peek(behind(rest)) != Head::Ensuring
-        && body.inputs + body.states + 1 + with_nodes(body.nodes, nodes) > 4000
+        && body.inputs + body.states + 1 + with_nodes(body.nodes, nodes) > NODE_LIMIT
     {
         return SourceFault {
             at: word,

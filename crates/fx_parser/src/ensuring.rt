@@ -6,7 +6,7 @@ ghost use Rattle.fx_parser.specs.Views.{lexemes};
 ghost use Rattle.fx_parser.specs.Views.{subject_of, subjects_of, demand_value, IsNamed};
 ghost use Rattle.fx_lexer.specs.Tokens.{lexeme_of};
 ghost use Rattle.fx_grammar.specs.Steps.{separated, listed};
-ghost use Rattle.fx_grammar.specs.Ensuring.{demand_at, no_demand, past_minus, output_at, first_place, counted, outputs_at, ensuring_at, maybe_ensuring_at};
+ghost use Rattle.fx_grammar.specs.Ensuring.{demand_at, no_demand, past_minus, output_at, first_place, of_arity, outputs_at, ensuring_at, maybe_ensuring_at};
 ghost use Rattle.fx_grammar.specs.declared.head.Head.TheVariants.{Comma, And};
 
 use crate::condition::{error_at, is_relation, is_signed};
@@ -123,7 +123,7 @@ fn counted<'t, 'a>(
     named: Named<'a>,
     rest: &'t [Token<'a>],
 ) -> Parsed<'t, 'a, Vec<Subject<'a>>>
-    ensures value { Gives (λ x. (subjects_of x.0, lexemes x.1.now)) result (counted outputs (subjects_of named.entry.subjects, lexemes rest.now)) }
+    ensures value { Gives (λ x. (subjects_of x.0, lexemes x.1.now)) result (of_arity outputs (subjects_of named.entry.subjects, lexemes rest.now)) }
     ensures shorter { IfOk result (λ x. length x.1.now ≤ length rest.now) }
 {
     let Named { subjects, .. } = named;

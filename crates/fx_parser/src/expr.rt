@@ -5,13 +5,14 @@
 ghost use Rattle.std.specs.Prelude.{◌≡◌, ◌≤◌, ◌<◌, ◌+◌, ◌^◌, length, drop, IfOk, option_map};
 ghost use Rattle.fx_lexer.specs.Faults.{Gives};
 ghost use Rattle.fx_lexer.specs.Tokens.{lexeme_of};
-ghost use Rattle.fx_parser.specs.Texts.{texts};
-ghost use Rattle.fx_parser.specs.Views.{lexemes, operand_of, known_of};
+ghost use Rattle.fx_parser.specs.Texts.{all_texts};
+ghost use Rattle.fx_parser.specs.Views.{lexemes, operand_of, known_in};
 ghost use Rattle.fx_expr.specs.TreeOf.{tree};
-ghost use Rattle.fx_grammar.specs.Steps.{place_of};
-ghost use Rattle.fx_grammar.specs.Expressions.{is_call, meant, named, closed, opened, atom_of, negated, factor_of, term_of, sum_of, expr_at, inner_at, goes_on_product, goes_on_sum};
+ghost use Rattle.fx_grammar.specs.Steps.{name_place};
+ghost use Rattle.fx_grammar.specs.Expressions.{is_call, meant, named, closed, opened, atom_of, behind_minus, factor_of, term_of, sum_from, expr_at, inner_at, goes_on_product, goes_on_sum};
 ghost use Rattle.fx_grammar.specs.Operands as grammar;
 
+use crate::limits::HEIGHT_LIMIT;
 use crate::names::place;
 use crate::numeral::{decimal, minus};
 use crate::operand::{Context, Operand, joined, leaf, literal, negation};
@@ -42,7 +43,7 @@ fn goes_on_sum(outside: bool, tokens: &[Token<'_>]) -> bool
 
 /// What the name at a place stands for.
 fn meant(context: &Context<'_>, place: u32) -> Expr
-    ensures { tree result ≡ meant (known_of context.now) place }
+    ensures { tree result ≡ meant (known_in context.now) place }
 {
     if place < context.inputs {
         Expr::Input(place)
@@ -60,7 +61,7 @@ fn named<'t, 'a>(
     rest: &'t [Token<'a>],
 ) -> Parsed<'t, 'a, Operand>
     requires { length context.now.names.now < 2 ^ 32 }
-    ensures value { Gives (λ x. (operand_of x.0, lexemes x.1.now)) result (named (known_of context.now) (lexeme_of token.now) (lexemes rest.now)) }
+    ensures value { Gives (λ x. (operand_of x.0, lexemes x.1.now)) result (named (known_in context.now) (lexeme_of token.now) (lexemes rest.now)) }
     ensures shorter { IfOk result (λ x. length x.1.now ≤ length rest.now) }
 {
     if is_call(rest) {
@@ -85,7 +86,7 @@ fn closed<'t, 'a>(
     operand: Operand,
     tokens: &'t [Token<'a>],
 ) -> Parsed<'t, 'a, Operand>
-    ensures value { Gives (λ x. (operand_of x.0, lexemes x.1.now)) result (closed (known_of context.now) (operand_of operand) (lexemes tokens.now)) }
+    ensures value { Gives (λ x. (operand_of x.0, lexemes x.1.now)) result (closed (known_in context.now) (operand_of operand) (lexemes tokens.now)) }
     ensures shorter { IfOk result (λ x. length x.1.now < length tokens.now) }
 {
     let (_, rest) = want(context.end, Head::Close, tokens)?;
@@ -102,7 +103,7 @@ fn opened<'t, 'a>(
     rest: &'t [Token<'a>],
 ) -> Parsed<'t, 'a, Operand>
     requires { length context.now.names.now < 2 ^ 32 }
-    ensures value { Gives (λ x. (operand_of x.0, lexemes x.1.now)) result (opened (known_of context.now) (inner_at (known_of context.now) room) (lexeme_of token.now) (lexemes rest.now)) }
+    ensures value { Gives (λ x. (operand_of x.0, lexemes x.1.now)) result (opened (known_in context.now) (inner_at (known_in context.now) room) (lexeme_of token.now) (lexemes rest.now)) }
     ensures shorter { IfOk result (λ x. length x.1.now ≤ length rest.now) }
 {
     if room == 0 {
@@ -123,7 +124,7 @@ fn atom<'t, 'a>(
     tokens: &'t [Token<'a>],
 ) -> Parsed<'t, 'a, Operand>
     requires { length context.now.names.now < 2 ^ 32 }
-    ensures value { Gives (λ x. (operand_of x.0, lexemes x.1.now)) result (atom_of (known_of context.now) (inner_at (known_of context.now) room) (lexemes tokens.now)) }
+    ensures value { Gives (λ x. (operand_of x.0, lexemes x.1.now)) result (atom_of (known_in context.now) (inner_at (known_in context.now) room) (lexemes tokens.now)) }
     ensures shorter { IfOk result (λ x. length x.1.now < length tokens.now) }
 {
     let Some((token, rest)) = tokens.split_first() else {
@@ -142,14 +143,14 @@ fn atom<'t, 'a>(
 
 /// What stands behind a minus.
 #[cycle(parser)]
-#[tactic(auto, unfolding(fx_grammar::specs::Expressions::negated))]
+#[tactic(auto, unfolding(fx_grammar::specs::Expressions::behind_minus))]
 fn negated<'t, 'a>(
     context: &Context<'_>,
     room: u32,
     tokens: &'t [Token<'a>],
 ) -> Parsed<'t, 'a, Operand>
     requires { length context.now.names.now < 2 ^ 32 }
-    ensures value { Gives (λ x. (operand_of x.0, lexemes x.1.now)) result (negated (known_of context.now) (inner_at (known_of context.now) room) (lexemes tokens.now)) }
+    ensures value { Gives (λ x. (operand_of x.0, lexemes x.1.now)) result (behind_minus (known_in context.now) (inner_at (known_in context.now) room) (lexemes tokens.now)) }
     ensures shorter { IfOk result (λ x. length x.1.now < length tokens.now) }
 {
     if peek(tokens) == Head::Number {
@@ -169,7 +170,7 @@ fn factor<'t, 'a>(
     tokens: &'t [Token<'a>],
 ) -> Parsed<'t, 'a, Operand>
     requires { length context.now.names.now < 2 ^ 32 }
-    ensures value { Gives (λ x. (operand_of x.0, lexemes x.1.now)) result (factor_of (known_of context.now) (inner_at (known_of context.now) room) (lexemes tokens.now)) }
+    ensures value { Gives (λ x. (operand_of x.0, lexemes x.1.now)) result (factor_of (known_in context.now) (inner_at (known_in context.now) room) (lexemes tokens.now)) }
     ensures shorter { IfOk result (λ x. length x.1.now < length tokens.now) }
 {
     if peek(tokens) == Head::Minus {
@@ -187,7 +188,7 @@ fn term<'t, 'a>(
     tokens: &'t [Token<'a>],
 ) -> Parsed<'t, 'a, Operand>
     requires { length context.now.names.now < 2 ^ 32 }
-    ensures value { Gives (λ x. (operand_of x.0, lexemes x.1.now)) result (term_of (known_of context.now) (inner_at (known_of context.now) room) (lexemes tokens.now)) }
+    ensures value { Gives (λ x. (operand_of x.0, lexemes x.1.now)) result (term_of (known_in context.now) (inner_at (known_in context.now) room) (lexemes tokens.now)) }
     ensures shorter { IfOk result (λ x. length x.1.now < length tokens.now) }
 {
     let (mut left, mut rest) = factor(context, room, tokens)?;
@@ -202,7 +203,7 @@ fn term<'t, 'a>(
 
 /// An expression, in which so many parentheses may still be opened.
 #[cycle(parser)]
-#[tactic(auto, unfolding(fx_grammar::specs::Expressions::sum_of))]
+#[tactic(auto, unfolding(fx_grammar::specs::Expressions::sum_from))]
 fn sum<'t, 'a>(
     context: &Context<'_>,
     outside: bool,
@@ -210,7 +211,7 @@ fn sum<'t, 'a>(
     tokens: &'t [Token<'a>],
 ) -> Parsed<'t, 'a, Operand>
     requires { length context.now.names.now < 2 ^ 32 }
-    ensures value { Gives (λ x. (operand_of x.0, lexemes x.1.now)) result (sum_of (known_of context.now) outside (inner_at (known_of context.now) room) (lexemes tokens.now)) }
+    ensures value { Gives (λ x. (operand_of x.0, lexemes x.1.now)) result (sum_from (known_in context.now) outside (inner_at (known_in context.now) room) (lexemes tokens.now)) }
     ensures shorter { IfOk result (λ x. length x.1.now < length tokens.now) }
 {
     let (mut left, mut rest) = term(context, room, tokens)?;
@@ -223,9 +224,6 @@ fn sum<'t, 'a>(
     Ok((left, rest))
 }
 
-/// So many parentheses may be open.
-const ROOM: u32 = 200;
-
 /// The expression at the front, and the tokens behind it.
 pub fn expression<'t, 'a>(
     context: &Context<'_>,
@@ -233,8 +231,8 @@ pub fn expression<'t, 'a>(
     tokens: &'t [Token<'a>],
 ) -> Parsed<'t, 'a, Operand>
     requires { length context.now.names.now < 2 ^ 32 }
-    ensures value { Gives (λ x. (operand_of x.0, lexemes x.1.now)) result (expr_at (known_of context.now) outside 200 (lexemes tokens.now)) }
+    ensures value { Gives (λ x. (operand_of x.0, lexemes x.1.now)) result (expr_at (known_in context.now) outside 200 (lexemes tokens.now)) }
     ensures shorter { IfOk result (λ x. length x.1.now < length tokens.now) }
 {
-    sum(context, outside, ROOM, tokens)
+    sum(context, outside, HEIGHT_LIMIT, tokens)
 }

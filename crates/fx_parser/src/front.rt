@@ -2,16 +2,17 @@
 ghost use Rattle.std.specs.Prelude.{◌≡◌, ◌≤◌, ◌<◌, ◌+◌, ◌^◌, length, map, IfOk, [], IfNone, IfSome, Ok};
 ghost use Rattle.fx_lexer.specs.Faults.{Gives};
 ghost use Rattle.fx_lexer.specs.Tokens.{lexeme_of};
-ghost use Rattle.fx_parser.specs.Texts.{texts};
+ghost use Rattle.fx_parser.specs.Texts.{all_texts};
 ghost use Rattle.fx_parser.specs.Views.{lexemes};
 ghost use Rattle.fx_parser.specs.Views.{subjects_of, IsNamed};
 ghost use Rattle.fx_parser.specs.Views.{declared_of, state_value};
 ghost use Rattle.fx_grammar.specs.Ranges.{names_of};
 ghost use Rattle.fx_grammar.specs.Steps.{has_name, free_at, separated, listed, real_at};
-ghost use Rattle.fx_grammar.specs.Fronts.{param_at, state_at, states_at, one_real, type_at, more_than};
+ghost use Rattle.fx_grammar.specs.Fronts.{param_at, declared_state, states_at, one_real, type_at, more_than};
 ghost use Rattle.fx_grammar.specs.Functions.{new_name};
 ghost use Rattle.fx_grammar.specs.declared.head.Head.TheVariants.{Comma};
 
+use crate::limits::{INPUT_LIMIT, OUTPUT_LIMIT, STATE_LIMIT};
 use crate::names::{Names, free, with_name};
 use crate::numeral::Numeral;
 use crate::steps::{Parsed, behind, next_is, peek, place_at, real, signed, want, wrong};
@@ -51,7 +52,7 @@ fn param<'t, 'a>(end: u32, named: Named<'a>, tokens: &'t [Token<'a>]) -> Parsed<
     ensures same { IfOk result (λ x. IsNamed x.0) }
 {
     let (token, rest) = want(end, Head::Name, tokens)?;
-    free(64, named.subjects.len(), &named.names, &token)?;
+    free(INPUT_LIMIT, named.subjects.len(), &named.names, &token)?;
     let (_, rest) = want(end, Head::Colon, rest)?;
     let (_, rest) = real(end, rest)?;
     let named = with_subject(named, &token)?;
@@ -92,7 +93,7 @@ fn open_params<'t, 'a>(
 }
 
 /// A state behind those that were read.
-#[tactic(auto, unfolding(fx_grammar::specs::Fronts::state_at))]
+#[tactic(auto, unfolding(fx_grammar::specs::Fronts::declared_state))]
 fn one_state<'t, 'a>(
     end: u32,
     declared: Declared<'a>,
@@ -100,13 +101,13 @@ fn one_state<'t, 'a>(
 ) -> Parsed<'t, 'a, Declared<'a>>
     requires states { length declared.states.items ≤ 32 }
     requires names { length declared.names ≤ 64 + length declared.states.items }
-    ensures value { Gives (λ x. (declared_of x.0, lexemes x.1.now)) result (state_at end (declared_of declared.entry) (lexemes tokens.now)) }
+    ensures value { Gives (λ x. (declared_of x.0, lexemes x.1.now)) result (declared_state end (declared_of declared.entry) (lexemes tokens.now)) }
     ensures shorter { IfOk result (λ x. length x.1.now < length tokens.now) }
     ensures few { IfOk result (λ x. (length x.0.states.items ≤ 32) × (length x.0.names ≤ 64 + length x.0.states.items)) }
 {
     let Declared { names, mut states } = declared;
     let (token, rest) = want(end, Head::Name, tokens)?;
-    free(32, states.len(), &names, &token)?;
+    free(STATE_LIMIT, states.len(), &names, &token)?;
     let (_, rest) = want(end, Head::Colon, rest)?;
     let (_, rest) = real(end, rest)?;
     let (_, rest) = want(end, Head::Equals, rest)?;
@@ -134,7 +135,7 @@ fn one_real<'t, 'a>(
     ensures shorter { IfOk result (λ x. (length x.1.now < length tokens.now) × (x.0 ≤ 96)) }
 {
     let (_, rest) = real(end, tokens)?;
-    if reals + 1 > states + 64 {
+    if reals + 1 > states + OUTPUT_LIMIT {
         return Err(fault(first, SourceKind::TooMany));
     }
     Ok((reals + 1, rest))
@@ -217,7 +218,7 @@ fn open_states<'t, 'a>(
 ) -> Parsed<'t, 'a, Declared<'a>>
     requires states { length declared.states.items ≤ 32 }
     requires names { length declared.names ≤ 64 + length declared.states.items }
-    ensures value { Gives (λ x. (declared_of x.0, lexemes x.1.now)) result (separated Comma (state_at end) (declared_of declared.entry) (lexemes tokens.now)) }
+    ensures value { Gives (λ x. (declared_of x.0, lexemes x.1.now)) result (separated Comma (declared_state end) (declared_of declared.entry) (lexemes tokens.now)) }
     ensures shorter { IfOk result (λ x. length x.1.now < length tokens.now) }
     ensures few { IfOk result (λ x. (length x.0.states.items ≤ 32) × (length x.0.names ≤ 64 + length x.0.states.items)) }
 {

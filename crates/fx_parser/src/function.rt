@@ -1,9 +1,9 @@
 //! One function, from its name to the brace that closes it and its demands.
 ghost use Rattle.std.specs.Prelude.{◌≡◌, ◌≤◌, ◌<◌, ◌+◌, ◌-◌, ◌^◌, length, map, IfOk, Ok, None, []};
 ghost use Rattle.fx_lexer.specs.Faults.{Gives};
-ghost use Rattle.fx_parser.specs.Texts.{texts};
+ghost use Rattle.fx_parser.specs.Texts.{all_texts};
 ghost use Rattle.fx_parser.specs.Views.{lexemes, subject_of, subjects_of, draft_of, front_value, body_value, results_value, HasRoom, bounded};
-ghost use Rattle.fx_grammar.specs.Steps.{has_name, place_of};
+ghost use Rattle.fx_grammar.specs.Steps.{has_name, name_place};
 ghost use Rattle.fx_grammar.specs.Functions.{front_at, body_of, require_word_at, body_at};
 ghost use Rattle.fx_grammar.specs.Bodies.{count_of};
 
@@ -11,6 +11,7 @@ use crate::body::{Body, Results, Temp, outcome, vals};
 use crate::ensuring::{first_place, maybe_ensuring};
 use crate::front::{Declared, State, params, states, type_at};
 use crate::inputs::require;
+use crate::limits::NODE_LIMIT;
 use crate::names::{Names, place};
 use crate::numeral::Numeral;
 use crate::steps::{Parsed, behind, past_semicolon, peek, want, wrong};
@@ -51,7 +52,7 @@ pub fn read_front<'t, 'a>(
     ensures value { Gives (λ x. (front_value x.0, lexemes x.1.now)) result (front_at end functions.now (lexemes tokens.now)) }
     ensures shorter { IfOk result (λ x. length x.1.now < length tokens.now) }
     ensures few { IfOk result (λ x. (length x.0.subjects.items ≤ 64) × (length x.0.declared.states.items ≤ 32) × (length x.0.declared.names ≤ 96) × (length x.0.declared.states.items < x.0.reals)) }
-    ensures fresh { IfOk result (λ x. place_of functions.now x.0.name.now ≡ None) }
+    ensures fresh { IfOk result (λ x. name_place functions.now x.0.name.now ≡ None) }
 {
     let (token, rest) = want(end, Head::Name, tokens)?;
     if place(functions, token.text).is_some() {
@@ -171,7 +172,7 @@ fn within_nodes<'t, 'a>(
     ensures shorter { IfOk result (λ x. length x.1.now ≤ length rest.now) }
     ensures name { IfOk result (λ x. x.0.name.now ≡ draft.entry.name.now) }
 {
-    if nodes > 4000 {
+    if nodes > NODE_LIMIT as usize {
         return Err(SourceFault {
             at: word,
             kind: SourceKind::TooMany,

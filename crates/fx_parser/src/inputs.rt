@@ -6,12 +6,12 @@ ghost use Rattle.fx_rational.specs.Rational.{is_at_most};
 ghost use Rattle.fx_rational.specs.Decimal.{decimal_value};
 ghost use Rattle.fx_lexer.specs.Faults.{Gives};
 ghost use Rattle.fx_lexer.specs.declared.fault.SourceKind.TheVariants.{NoRange, EmptyRange};
-ghost use Rattle.fx_parser.specs.Texts.{numeral_value};
+ghost use Rattle.fx_parser.specs.Texts.{numeral_decimal};
 ghost use Rattle.fx_parser.specs.Views.{lexemes};
 ghost use Rattle.fx_parser.specs.Views.{subject_of, subjects_of};
 ghost use Rattle.fx_parser.specs.Views.{inputs_value};
 ghost use Rattle.fx_grammar.specs.Steps.{fault};
-ghost use Rattle.fx_grammar.specs.Ranges.{is_lacking, is_empty_range, or_zero, input_of, all_pass, inputs_at, require_at};
+ghost use Rattle.fx_grammar.specs.Ranges.{is_lacking, is_empty_range, or_zero, declared_input, all_pass, inputs_at, require_at};
 
 use crate::condition::{Conditions, all_conditions};
 use crate::numeral::{Numeral, numeral_value};
@@ -23,7 +23,7 @@ use fx_lexer::{SourceFault, SourceKind, Token};
 
 /// What wasn't said is zero.
 pub fn or_zero(x: Option<Numeral<'_>>) -> Decimal
-    ensures { result ≡ or_zero (option_map numeral_value x.entry) }
+    ensures { result ≡ or_zero (option_map numeral_decimal x.entry) }
 {
     match x {
         Some(x) => numeral_value(&x),

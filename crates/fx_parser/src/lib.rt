@@ -14,6 +14,7 @@ mod expr;
 mod front;
 mod function;
 mod inputs;
+mod limits;
 mod names;
 mod numeral;
 mod operand;

@@ -4,7 +4,7 @@
 //! slices of the text.
 ghost use Rattle.std.specs.Prelude.{◌≡◌, ◌≢◌, ◌<◌, ◌+◌, length, None, Ok, IfSome, IfOk, ◌++◌, ◌∷◌, []};
 ghost use Rattle.fx_lexer.specs.Faults.{Gives};
-ghost use Rattle.fx_grammar.specs.Steps.{place_of, free_at};
+ghost use Rattle.fx_grammar.specs.Steps.{name_place, free_at};
 ghost use Rattle.fx_lexer.specs.Tokens.{lexeme_of};
 
 use fx_lexer::{SourceFault, SourceKind, Token};
@@ -20,11 +20,11 @@ pub struct Names<'a> {
 
 impl<'a> Model for Names<'a> {
     ghost use Rattle.std.specs.Prelude.{List, ℕ};
-    ghost use Rattle.fx_parser.specs.Texts.{texts};
+    ghost use Rattle.fx_parser.specs.Texts.{all_texts};
 
     ghost Value = { List (List ℕ) };
 
-    ghost view = { λ n. texts n.set.keys };
+    ghost view = { λ n. all_texts n.set.keys };
 }
 
 /// No names.
@@ -38,7 +38,7 @@ pub fn no_names<'a>(alloc: Global) -> Names<'a>
 
 /// The place of a name.
 pub fn place(names: &Names<'_>, text: &str) -> Option<usize>
-    ensures value { result ≡ place_of names.now text.now }
+    ensures value { result ≡ name_place names.now text.now }
     ensures within { IfSome result (λ i. i < length names.now) }
 {
     names.set.get_index_of(text)
@@ -54,7 +54,7 @@ pub fn free(
 ) -> Result<(), SourceFault>
     ensures value { Gives (λ _. tt) result (free_at limit count names.now (lexeme_of token.now)) }
     ensures few { IfOk result (λ _. count ≢ limit) }
-    ensures new { IfOk result (λ _. place_of names.now token.now.text.now ≡ None) }
+    ensures new { IfOk result (λ _. name_place names.now token.now.text.now ≡ None) }
 {
     if count == limit {
         return Err(SourceFault {
@@ -73,7 +73,7 @@ pub fn free(
 
 /// The names and a new one.
 pub fn with_name<'a>(names: Names<'a>, name: &'a str) -> Result<Names<'a>, SourceFault>
-    requires { place_of names name.now ≡ None }
+    requires { name_place names name.now ≡ None }
     ensures value { Gives (λ more. more) result (Ok (names.entry ++ name.now ∷ [])) }
     ensures count { IfOk result (λ more. length more ≡ length names.entry + 1) }
 {

@@ -2,8 +2,8 @@
 //!
 //! What is read keeps the digits' slice, and the decimal is read of it where it is used.
 ghost use Rattle.std.specs.Prelude.{◌≡◌};
-ghost use Rattle.fx_grammar.specs.Steps.{decimal, minus};
-ghost use Rattle.fx_parser.specs.Texts.{numeral_value};
+ghost use Rattle.fx_grammar.specs.Steps.{decimal, negative_decimal};
+ghost use Rattle.fx_parser.specs.Texts.{numeral_decimal};
 
 use fx_fraction::{Decimal, read_decimal};
 
@@ -27,14 +27,14 @@ pub fn decimal(text: &str) -> Decimal
 
 /// The negative number.
 pub fn minus(x: Decimal) -> Decimal
-    ensures { result ≡ minus x }
+    ensures { result ≡ negative_decimal x }
 {
     Decimal { a: -x.a, b: x.b }
 }
 
 /// The number's value.
 pub fn numeral_value(number: &Numeral<'_>) -> Decimal
-    ensures { result ≡ numeral_value number.now }
+    ensures { result ≡ numeral_decimal number.now }
 {
     let value = decimal(number.digits);
     if number.is_negative {

@@ -6,8 +6,9 @@ ghost use Rattle.fx_lexer.specs.Faults.{Gives};
 ghost use Rattle.fx_grammar.specs.Expressions.{literal};
 ghost use Rattle.fx_parser.specs.Views.{operand_of};
 ghost use Rattle.fx_expr.specs.TreeOf.{tree};
-ghost use Rattle.fx_grammar.specs.Operands.{operation, both, joined, negation, negation_of, leaf, kept};
+ghost use Rattle.fx_grammar.specs.Operands.{operation, both, combined_operand, negation, negation_of, leaf, low_tree};
 
+use crate::limits::{HEIGHT_LIMIT, NODE_LIMIT};
 use crate::names::Names;
 use fx_expr::Expr;
 use fx_fraction::{Decimal, to_fraction};
@@ -37,16 +38,20 @@ fn higher(a: u32, b: u32) -> u32
     ensures { result ≡ min 201 (1 + max a b) }
 {
     let most = if a < b { b } else { a };
-    if most < 201 { most + 1 } else { 201 }
+    if most <= HEIGHT_LIMIT {
+        most + 1
+    } else {
+        HEIGHT_LIMIT + 1
+    }
 }
 
 fn more_nodes(a: u32, b: u32) -> u32
     ensures { result ≡ min 4001 (1 + a + b) }
 {
-    if a < 4001 && b < 4001 && 1 + a + b < 4001 {
+    if a <= NODE_LIMIT && b <= NODE_LIMIT && 1 + a + b <= NODE_LIMIT {
         1 + a + b
     } else {
-        4001
+        NODE_LIMIT + 1
     }
 }
 
@@ -86,11 +91,11 @@ pub fn joined(
     left: Operand,
     right: Operand,
 ) -> Result<Operand, SourceFault>
-    ensures { Gives operand_of result (Ok (joined op (operand_of left) (operand_of right))) }
+    ensures { Gives operand_of result (Ok (combined_operand op (operand_of left) (operand_of right))) }
 {
     let height = higher(left.height, right.height);
     let nodes = more_nodes(left.nodes, right.nodes);
-    if height > 200 {
+    if height > HEIGHT_LIMIT {
         return Ok(Operand {
             expr: None,
             height,
@@ -117,9 +122,17 @@ fn negation_of(alloc: Global, expr: Option<Expr>) -> Result<Option<Expr>, Source
 pub fn negation(alloc: Global, x: Operand) -> Result<Operand, SourceFault>
     ensures { Gives operand_of result (Ok (negation (operand_of x))) }
 {
-    let height = if x.height < 201 { x.height + 1 } else { 201 };
-    let nodes = if x.nodes < 4001 { x.nodes + 1 } else { 4001 };
-    if height > 200 {
+    let height = if x.height <= HEIGHT_LIMIT {
+        x.height + 1
+    } else {
+        HEIGHT_LIMIT + 1
+    };
+    let nodes = if x.nodes <= NODE_LIMIT {
+        x.nodes + 1
+    } else {
+        NODE_LIMIT + 1
+    };
+    if height > HEIGHT_LIMIT {
         return Ok(Operand {
             expr: None,
             height,

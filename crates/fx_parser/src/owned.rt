@@ -5,11 +5,11 @@ ghost use Rattle.std.specs.Prelude.{◌≡◌, map, Ok};
 ghost use Rattle.std.specs.List.{All};
 ghost use Rattle.fx_model.specs.Names.{IsName};
 ghost use Rattle.fx_expr.specs.Parts as parts;
-ghost use Rattle.fx_grammar.specs.Ranges.{input_of};
+ghost use Rattle.fx_grammar.specs.Ranges.{declared_input};
 ghost use Rattle.fx_rational.specs.Decimal.{decimal_value};
 ghost use Rattle.std.specs.Option.{option_map};
 ghost use Rattle.fx_lexer.specs.Faults.{Gives};
-ghost use Rattle.fx_parser.specs.LawfulNames.{IsWhole};
+ghost use Rattle.fx_parser.specs.LawfulNames.{IsLawfulAndNamed};
 ghost use Rattle.fx_parser.specs.Views.{subject_of, state_value, temp_value, demand_value, draft_of};
 
 use crate::function::Draft;
@@ -17,9 +17,10 @@ use crate::inputs::or_zero;
 use crate::numeral::{Numeral, numeral_value};
 use crate::subject::Subject;
 use crate::{body, front};
-use fx_expr::{Function, Input, Items, Name, State, Temp};
+use fx_expr::{Function, Input, Items, State, Temp};
 use fx_fraction::Decimal;
 use fx_lexer::SourceFault;
+use fx_name::Name;
 use std::alloc::Global;
 
 fn owned_name(alloc: Global, text: &str) -> Result<Name, SourceFault>
@@ -31,7 +32,7 @@ fn owned_name(alloc: Global, text: &str) -> Result<Name, SourceFault>
 
 fn owned_inputs(alloc: Global, subjects: &[Subject<'_>]) -> Result<Vec<Input>, SourceFault>
     requires { All (λ s. IsName s.name.now) subjects.now }
-    ensures { Gives (λ v. map parts.input_of v.items) result (Ok (map input_of (map subject_of subjects.now))) }
+    ensures { Gives (λ v. map parts.input_of v.items) result (Ok (map declared_input (map subject_of subjects.now))) }
 {
     let mut inputs = Vec::new(alloc);
     for subject in subjects {
@@ -96,7 +97,7 @@ fn owned_demands(
 
 /// The function that was read.
 pub fn owned(alloc: Global, draft: Draft<'_>) -> Result<Function, SourceFault>
-    requires { IsWhole (draft_of draft) }
+    requires { IsLawfulAndNamed (draft_of draft) }
     ensures { Gives (λ f. f) result (Ok (draft_of draft.entry)) }
 {
     let Draft {
@@ -112,12 +113,12 @@ pub fn owned(alloc: Global, draft: Draft<'_>) -> Result<Function, SourceFault>
     let states = owned_states(alloc, &states)?;
     let temps = owned_temps(alloc, temps)?;
     let demands = owned_demands(alloc, &demands)?;
-    Ok(Function {
+    Ok(Function::new(
         name,
-        inputs: Items::from_vec(inputs),
-        states: Items::from_vec(states),
-        temps: Items::from_vec(temps),
-        results: Items::from_vec(results),
-        demands: Items::from_vec(demands),
-    })
+        Items::from_vec(inputs),
+        Items::from_vec(states),
+        Items::from_vec(temps),
+        Items::from_vec(results),
+        Items::from_vec(demands),
+    ))
 }

@@ -6,9 +6,9 @@ ghost use Rattle.std.specs.Prelude.{bytes_eq};
 ghost use Rattle.fx_lexer.specs.Faults.{Gives};
 ghost use Rattle.fx_lexer.specs.Tokens.{lexeme_of};
 ghost use Rattle.fx_parser.specs.Views.{lexemes};
-ghost use Rattle.fx_parser.specs.Texts.{numeral_value};
+ghost use Rattle.fx_parser.specs.Texts.{numeral_decimal};
 ghost use Rattle.fx_grammar.specs.Heads.{◌==ₕ◌};
-ghost use Rattle.fx_grammar.specs.Steps.{next_head, is_fresh, place_at, wrong, want, real_at, decimal, minus, number_at, signed_at, past_semicolon};
+ghost use Rattle.fx_grammar.specs.Steps.{next_head, is_fresh, next_place, wrong, want, real_at, decimal, negative_decimal, numeral_at, signed_at, past_semicolon};
 
 use crate::numeral::Numeral;
 use fx_grammar::{Head, head_of};
@@ -43,7 +43,7 @@ pub fn is_fresh(tokens: &[Token<'_>]) -> bool
 }
 
 pub fn place_at(end: u32, tokens: &[Token<'_>]) -> u32
-    ensures { result ≡ place_at end (lexemes tokens.now) }
+    ensures { result ≡ next_place end (lexemes tokens.now) }
 {
     match tokens.first() {
         Some(token) => token.at,
@@ -124,9 +124,9 @@ pub fn real<'t, 'a>(end: u32, tokens: &'t [Token<'a>]) -> Parsed<'t, 'a, Token<'
     Ok((token, rest))
 }
 
-#[tactic(auto, unfolding(fx_grammar::specs::Steps::number_at))]
+#[tactic(auto, unfolding(fx_grammar::specs::Steps::numeral_at))]
 pub fn number<'t, 'a>(end: u32, tokens: &'t [Token<'a>]) -> Parsed<'t, 'a, Numeral<'a>>
-    ensures value { Gives (λ x. (numeral_value x.0, lexemes x.1.now)) result (number_at end (lexemes tokens.now)) }
+    ensures value { Gives (λ x. (numeral_decimal x.0, lexemes x.1.now)) result (numeral_at end (lexemes tokens.now)) }
     ensures shorter { IfOk result (λ x. length x.1.now < length tokens.now) }
 {
     let (token, rest) = want(end, Head::Number, tokens)?;
@@ -138,9 +138,9 @@ pub fn number<'t, 'a>(end: u32, tokens: &'t [Token<'a>]) -> Parsed<'t, 'a, Numer
 }
 
 /// A number, with or without a minus.
-#[tactic(auto, unfolding(fx_grammar::specs::Steps::signed_at, fx_grammar::specs::Steps::number_at))]
+#[tactic(auto, unfolding(fx_grammar::specs::Steps::signed_at, fx_grammar::specs::Steps::numeral_at))]
 pub fn signed<'t, 'a>(end: u32, tokens: &'t [Token<'a>]) -> Parsed<'t, 'a, Numeral<'a>>
-    ensures value { Gives (λ x. (numeral_value x.0, lexemes x.1.now)) result (signed_at end (lexemes tokens.now)) }
+    ensures value { Gives (λ x. (numeral_decimal x.0, lexemes x.1.now)) result (signed_at end (lexemes tokens.now)) }
     ensures shorter { IfOk result (λ x. length x.1.now < length tokens.now) }
 {
     if peek(tokens) == Head::Minus {

@@ -4,10 +4,10 @@
 ghost use Rattle.std.specs.Prelude.{◌≡◌, ◌<◌, ◌+◌, length, map, IfSome, IfOk, None, Ok, ◌++◌, ◌∷◌, []};
 ghost use Rattle.fx_lexer.specs.Faults.{Gives};
 ghost use Rattle.fx_lexer.specs.Tokens.{lexeme_of};
-ghost use Rattle.fx_parser.specs.Texts.{numeral_value, texts};
+ghost use Rattle.fx_parser.specs.Texts.{numeral_decimal, all_texts};
 ghost use Rattle.fx_parser.specs.Views.{subject_of, subjects_of, IsNamed};
-ghost use Rattle.fx_grammar.specs.Steps.{place_of};
-ghost use Rattle.fx_grammar.specs.Ranges.{names_of, new_subject, side_of, with_side, is_given, said, subject_at};
+ghost use Rattle.fx_grammar.specs.Steps.{name_place};
+ghost use Rattle.fx_grammar.specs.Ranges.{names_of, new_subject, side_of, with_side, is_said, said, subject_at};
 
 use crate::names::{Names, no_names, with_name};
 use crate::numeral::Numeral;
@@ -58,7 +58,7 @@ pub fn no_subjects<'a>(alloc: Global) -> Named<'a>
 /// One more, whose name is new.
 pub fn with_subject<'a>(named: Named<'a>, token: &Token<'a>) -> Result<Named<'a>, SourceFault>
     requires same { IsNamed named }
-    requires new { place_of named.names token.now.text.now ≡ None }
+    requires new { name_place named.names token.now.text.now ≡ None }
     ensures value { Gives (λ more. subjects_of more.subjects) result (Ok (subjects_of named.entry.subjects ++ new_subject (lexeme_of token.now) ∷ [])) }
     ensures same { IfOk result (λ more. IsNamed more) }
     ensures count { IfOk result (λ more. length more.subjects.items ≡ length named.entry.subjects.items + 1) }
@@ -74,7 +74,7 @@ pub fn with_subject<'a>(named: Named<'a>, token: &Token<'a>) -> Result<Named<'a>
 
 /// The place of a name.
 pub fn subject_place(subjects: &[Subject<'_>], text: &str) -> Option<usize>
-    ensures value { result ≡ place_of (names_of (map subject_of subjects.now)) text.now }
+    ensures value { result ≡ name_place (names_of (map subject_of subjects.now)) text.now }
     ensures within { IfSome result (λ k. k < length subjects.now) }
 {
     for (i, subject) in subjects.iter().enumerate() {
@@ -97,8 +97,8 @@ pub fn subject_at(subjects: &[Subject<'_>], token: &Token<'_>) -> Result<usize, 
     })
 }
 
-fn is_given(side: Side, subject: &Subject<'_>) -> bool
-    ensures { result ≡ is_given (side_of side (subject_of subject.now)) }
+fn is_said(side: Side, subject: &Subject<'_>) -> bool
+    ensures { result ≡ is_said (side_of side (subject_of subject.now)) }
 {
     match side {
         Side::Low => subject.lo.is_some(),
@@ -108,7 +108,7 @@ fn is_given(side: Side, subject: &Subject<'_>) -> bool
 }
 
 fn with_side<'a>(side: Side, value: Numeral<'a>, subject: &Subject<'a>) -> Subject<'a>
-    ensures { subject_of result ≡ with_side side (numeral_value value.entry) (subject_of subject.now) }
+    ensures { subject_of result ≡ with_side side (numeral_decimal value.entry) (subject_of subject.now) }
 {
     let Subject {
         name,
@@ -151,10 +151,10 @@ pub fn said<'a>(
     k: usize,
 ) -> Result<Vec<Subject<'a>>, SourceFault>
     requires { k < length subjects.items }
-    ensures { Gives (λ v. subjects_of v) result (said side (numeral_value value.entry) (lexeme_of token.now) (subjects_of subjects.entry) k) }
+    ensures { Gives (λ v. subjects_of v) result (said side (numeral_decimal value.entry) (lexeme_of token.now) (subjects_of subjects.entry) k) }
 {
     let subject = subjects[k];
-    if is_given(side, &subject) {
+    if is_said(side, &subject) {
         return Err(SourceFault {
             at: token.at,
             kind: SourceKind::NamedTwice,

@@ -4,7 +4,7 @@ ghost use Rattle.std.specs.List.{All};
 ghost use Rattle.std.specs.Option.{option_map};
 ghost use Rattle.fx_lexer.specs.Faults.{Gives};
 ghost use Rattle.fx_grammar.specs.Sources.{chosen, functions_of, parsed};
-ghost use Rattle.fx_parser.specs.LawfulNames.{IsWhole};
+ghost use Rattle.fx_parser.specs.LawfulNames.{IsLawfulAndNamed};
 ghost use Rattle.fx_parser.specs.Choice.{IsChoice, wanted_in};
 ghost use Rattle.fx_parser.specs.Views.{draft_of, drafts_of, AreNamed};
 

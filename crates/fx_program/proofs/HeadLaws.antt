@@ -1,15 +1,10 @@
 -- The lines above the codes have one spelling each.
 use Rattle.std.proofs.Common.{◌≡◌, ◌==◌, ℕ, ◌+◌, ◌<◌, ◌≤◌, true, false, List, [], ◌∷◌, Ok, refl, subst, ◌∙◌, arith, tests, rules, codes}
-use Rattle.std.specs.Prelude.{◌&&◌, ◌||◌, not}
+use Rattle.std.specs.Prelude.{◌&&◌, not}
 use Rattle.std.specs.Fmt.{decimal}
-use Rattle.std.specs.List.{list_all, list_any}
-use Rattle.std.specs.Char.{is_ascii_digit}
-use Rattle.std.specs.Str.{bytes_eq, IsUtf8}
-use Rattle.std.proofs.lemmas.Str.{IsUtf8-from_ascii}
-use Rattle.std.proofs.lemmas.Str.Ascii.{IsAscii-from_all}
-use Rattle.std.proofs.lemmas.List.Elements.{All-from_recursion}
-use Rattle.std.specs.List.{AllByRecursion}
-use Rattle.fx_model.specs.Names.{is_letter, is_name, IsName, reserved_words}
+use Rattle.std.specs.List.{list_all}
+use Rattle.fx_model.specs.Names.{is_letter, is_word_byte, is_name, IsName, is_reserved}
+use Rattle.fx_model.specs.Limits.{input_limit, state_limit, output_limit, node_limit}
 use Rattle.fx_text.specs.declared.fault.TextKind.TheVariants.{BadLine, OutOfRange}
 use Rattle.fx_text.specs.Cutting.{Line}
 use Rattle.fx_text.specs.Spelling.{IsField, Lacks}
@@ -98,46 +93,25 @@ width_law = record { takes = width_takes; again = width_again; clean = λ w h. l
 
 -- ---- the name
 -- a letter or a digit is neither a space nor a line feed
-letters_lack : (c : ℕ) (cs : List ℕ) → c < 48 → list_all (λ x. is_letter x || is_ascii_digit x) cs ≡ true → Lacks c cs
+letters_lack : (c : ℕ) (cs : List ℕ) → c < 48 → list_all is_word_byte cs ≡ true → Lacks c cs
 letters_lack c [] lt h = tt
 letters_lack c (x ∷ cs) lt h =
-    let t = both_true (is_letter x || is_ascii_digit x) (list_all (λ x. is_letter x || is_ascii_digit x) cs) h in
+    let t = both_true (is_word_byte x) (list_all is_word_byte cs) h in
     (other x t.0, letters_lack c cs lt t.1)
   where
-    other : (x : ℕ) → (is_letter x || is_ascii_digit x) ≡ true → (x == c) ≡ false
+    other : (x : ℕ) → (is_word_byte x) ≡ true → (x == c) ≡ false
     other x h = grind (arith, tests)
 
 name_field : (name : List ℕ) → IsName name → IsField name
 name_field [] h = absurd cc
 name_field (x ∷ cs) h =
-    let all = list_all (λ x. is_letter x || is_ascii_digit x) cs in
-    let t = both_true (is_letter x && all) (not (list_any (λ w. bytes_eq w (x ∷ cs)) reserved_words)) h in
+    let all = list_all is_word_byte cs in
+    let t = both_true (is_letter x && all) (not (is_reserved (x ∷ cs))) h in
     let u = both_true (is_letter x) all t.0 in
     record { spaces = (first 32 u.0 (omega arith), letters_lack 32 cs (omega arith) u.1); line_feeds = (first 10 u.0 (omega arith), letters_lack 10 cs (omega arith) u.1) }
   where
     first : (c : ℕ) → is_letter x ≡ true → c < 48 → (x == c) ≡ false
     first c h lt = grind (arith, tests)
-
--- a name is text
-ascii : (cs : List ℕ) → list_all (λ x. is_letter x || is_ascii_digit x) cs ≡ true → AllByRecursion (λ b. b < 128) cs
-ascii [] h = tt
-ascii (x ∷ cs) h =
-    let t = both_true (is_letter x || is_ascii_digit x) (list_all (λ x. is_letter x || is_ascii_digit x) cs) h in
-    (small x t.0, ascii cs t.1)
-  where
-    small : (x : ℕ) → (is_letter x || is_ascii_digit x) ≡ true → x < 128
-    small x h = grind (arith, tests)
-
-pub name_utf8 : (name : List ℕ) → IsName name → IsUtf8 name
-name_utf8 [] h = absurd cc
-name_utf8 (x ∷ cs) h =
-    let all = list_all (λ x. is_letter x || is_ascii_digit x) cs in
-    let t = both_true (is_letter x && all) (not (list_any (λ w. bytes_eq w (x ∷ cs)) reserved_words)) h in
-    let u = both_true (is_letter x) all t.0 in
-    IsUtf8-from_ascii (x ∷ cs) (IsAscii-from_all (x ∷ cs) (All-from_recursion (λ b. b < 128) (x ∷ cs) (small u.0, ascii cs u.1)))
-  where
-    small : is_letter x ≡ true → x < 128
-    small h = grind (arith, tests)
 
 name_takes : (line : Line) (name : List ℕ) → name_at line ≡ Ok name → (line ≡ name_fields name) × IsName name
 unfolding name_at known_name
@@ -168,10 +142,10 @@ sizes_take line s e =
     on_ok _ _ s e (λ m hm e.
     on_ok _ _ s e (λ n hn e.
     on_ok _ _ s e (λ d hd e.
-    let pi = count_takes 1 64 rest i (omega arith) hi in
-    let pk = count_takes 0 32 i.1 k (omega arith) hk in
-    let pm = count_takes 1 64 k.1 m (omega arith) hm in
-    let pn = count_takes (i.0 + k.0 + (m.0 + k.0)) 4000 m.1 n (omega arith) hn in
+    let pi = count_takes 1 input_limit rest i (omega arith) hi in
+    let pk = count_takes 0 state_limit i.1 k (omega arith) hk in
+    let pm = count_takes 1 output_limit k.1 m (omega arith) hm in
+    let pn = count_takes (i.0 + k.0 + (m.0 + k.0)) node_limit m.1 n (omega arith) hn in
     let made : record { inputs = i.0; states = k.0; outputs = m.0; count = n.0 } ≡ s = cc in
     subst (λ s. (line ≡ sizes_fields s) × AreSizes s) made (
       front (word_takes (codes "sizes") line rest hr) (front pi.0 (front pk.0 (front pm.0 (front pn.0 (ended_is n.1 d hd))))),
@@ -183,10 +157,10 @@ unfolding sizes_at
 sizes_again s h =
     rw (
       word_again (codes "sizes") (decimal s.inputs ∷ decimal s.states ∷ decimal s.outputs ∷ decimal s.count ∷ []),
-      count_again 1 64 s.inputs (decimal s.states ∷ decimal s.outputs ∷ decimal s.count ∷ []) (omega arith) h.some_input h.inputs,
-      count_again 0 32 s.states (decimal s.outputs ∷ decimal s.count ∷ []) (omega arith) (omega arith) h.states,
-      count_again 1 64 s.outputs (decimal s.count ∷ []) (omega arith) h.some_output h.outputs,
-      count_again (s.inputs + s.states + (s.outputs + s.states)) 4000 s.count [] (omega arith) h.enough h.count,
+      count_again 1 input_limit s.inputs (decimal s.states ∷ decimal s.outputs ∷ decimal s.count ∷ []) (omega arith) h.some_input h.inputs,
+      count_again 0 state_limit s.states (decimal s.outputs ∷ decimal s.count ∷ []) (omega arith) (omega arith) h.states,
+      count_again 1 output_limit s.outputs (decimal s.count ∷ []) (omega arith) h.some_output h.outputs,
+      count_again (s.inputs + s.states + (s.outputs + s.states)) node_limit s.count [] (omega arith) h.enough h.count,
     ) refl
 
 pub sizes_law : IsLineOf sizes_at sizes_fields AreSizes

@@ -7,7 +7,7 @@ use Rattle.std.proofs.lemmas.List.{take-append-drop, take_more, map-append}
 use Rattle.fx_model.specs.Machine.{Code, Input, State, Const, Neg, Add, Sub, Mul, Div, Copy, point_of, points_after, points_of}
 use Rattle.fx_model.specs.LawfulProgram.{IsPoint, IsLawfulCode, AreLawful, IsCopy}
 use Rattle.fx_word.specs.Words.{IsWidth}
-use Rattle.fx_program.specs.Points.{IsNear, AreNear}
+use Rattle.fx_program.specs.Points.{HasNearOperands, AreNear}
 use Rattle.fx_text.specs.Many.{AreEach}
 use Rattle.fx_program.specs.CodeReading.{Sizes}
 use Rattle.fx_program.specs.ProgramReading.{with_point}
@@ -81,12 +81,12 @@ pub points_front : (xs ys : List Code) → All IsPoint (points_of (xs ++ ys)) �
 points_front xs ys h = points_kept ys (points_of xs) (subst (All IsPoint) (points_append xs ys []) h)
 
 -- a code among them
-pub near_at : (n : ℕ) (xs : List Code) (c : Code) (ys : List Code) → AreNear n (xs ++ c ∷ ys) → IsNear (n + length xs) c
-near_at n [] c ys h = let e : n ≡ n + 0 = omega arith in subst (λ n. IsNear n c) e h.0
-near_at n (x ∷ xs) c ys h = let e : n + 1 + length xs ≡ n + length (x ∷ xs) = omega arith in subst (λ n. IsNear n c) e (near_at (n + 1) xs c ys h.1)
+pub near_at : (n : ℕ) (xs : List Code) (c : Code) (ys : List Code) → AreNear n (xs ++ c ∷ ys) → HasNearOperands (n + length xs) c
+near_at n [] c ys h = let e : n ≡ n + 0 = omega arith in subst (λ n. HasNearOperands n c) e h.0
+near_at n (x ∷ xs) c ys h = let e : n + 1 + length xs ≡ n + length (x ∷ xs) = omega arith in subst (λ n. HasNearOperands n c) e (near_at (n + 1) xs c ys h.1)
 
 -- a lawful code is near
-near : (w n : ℕ) (c : Code) → IsWidth w → IsLawfulCode w n c → IsNear n c
+near : (w n : ℕ) (c : Code) → IsWidth w → IsLawfulCode w n c → HasNearOperands n c
 near w n (Input j f) h l = tt
 near w n (State j f z) h l = tt
 near w n (Const z f) h l = tt
@@ -112,11 +112,11 @@ seen f xs i d lt = ap (map f) (around xs i d lt) ∙ map-append f (take i xs) (s
 pub front_points : {X : Type 0} (f : X → Code) (xs : List X) (i : ℕ) (d : X) → i < length xs → All IsPoint (points_of (map f xs)) → All IsPoint (points_of (map f (take i xs)))
 front_points f xs i d lt h = points_front (map f (take i xs)) (f (slice_index_or xs i d) ∷ map f (drop (i + 1) xs)) (subst (λ cs. All IsPoint (points_of cs)) (seen f xs i d lt) h)
 
-pub front_near : {X : Type 0} (f : X → Code) (xs : List X) (i : ℕ) (d : X) (ps : List ℤ) → i < length xs → AreNear 0 (map f xs) → ps ≡ points_of (map f (take i xs)) → IsNear (length ps) (f (slice_index_or xs i d))
+pub front_near : {X : Type 0} (f : X → Code) (xs : List X) (i : ℕ) (d : X) (ps : List ℤ) → i < length xs → AreNear 0 (map f xs) → ps ≡ points_of (map f (take i xs)) → HasNearOperands (length ps) (f (slice_index_or xs i d))
 front_near f xs i d ps lt h e =
     let front = map f (take i xs) in
     let so_many : 0 + length front ≡ length ps = omega (arith, ap length e, points_length front []) in
-    subst (λ n. IsNear n (f (slice_index_or xs i d))) so_many (near_at 0 front (f (slice_index_or xs i d)) (map f (drop (i + 1) xs)) (subst (AreNear 0) (seen f xs i d lt) h))
+    subst (λ n. HasNearOperands n (f (slice_index_or xs i d))) so_many (near_at 0 front (f (slice_index_or xs i d)) (map f (drop (i + 1) xs)) (subst (AreNear 0) (seen f xs i d lt) h))
 
 pub front_more : {X : Type 0} (f : X → Code) (xs : List X) (i : ℕ) (d : X) (ps : List ℤ) (p : ℤ) → i < length xs → ps ≡ points_of (map f (take i xs)) → p ≡ point_of (f (slice_index_or xs i d)) ps → ps ++ p ∷ [] ≡ points_of (map f (take (i + 1) xs))
 front_more f xs i d ps p lt e h =

@@ -4,13 +4,14 @@ use Rattle.std.specs.Prelude.{All, Contains, slice_index_or, ◌==◌}
 use Rattle.std.specs.List.{flat_map}
 use Rattle.std.proofs.lemmas.List.{append-nil}
 use Rattle.std.proofs.lemmas.List.Elements.{All-push, All-nil, All-get_or, All-from_recursion}
-use Rattle.fx_model.specs.Machine.{Code, Program, point_of}
+use Rattle.fx_model.specs.Machine.{Code, Program, first_copy, point_of}
 use Rattle.fx_model.specs.LawfulProgram.{IsPoint, widths}
 use Rattle.fx_model.specs.Names.{IsName}
 use Rattle.fx_model.specs.ProgramText.{code_fields, program_text}
 use Rattle.fx_text.specs.Lines.{line_by, text_ended_at}
 use Rattle.fx_text.specs.Many.{AreEach}
-use Rattle.fx_text.specs.Spelling.{IsOneSpelling, line_text}
+use Rattle.fx_model.specs.LineText.{line_text}
+use Rattle.fx_text.specs.Spelling.{IsOneSpelling}
 use Rattle.fx_text.proofs.Choices.{on_ok, some_true}
 use Rattle.fx_text.proofs.LineLaws.{line_spelling, text_ended-is}
 use Rattle.fx_text.proofs.ManyLaws.{HasOneSpelling, many_spelling}
@@ -111,7 +112,7 @@ number n h = subst IsWidthNumber h.2 (All-get_or IsWidthNumber widths h.0 n h.1 
 
 pub spelled : (p : Program) → HasParts p → IsSpelled p
 spelled p h =
-    let s = h.sizes in let border = length p.codes - (p.outputs + p.states) in
+    let s = h.sizes in let border = first_copy p in
     record {
       name = h.name;
       lawful = record {
@@ -130,7 +131,7 @@ parts p h =
       width = number p.width l.width;
       name = h.name;
       sizes = record { some_input = k.some_input; inputs = k.inputs; states = k.states; some_output = k.some_output; outputs = k.outputs; enough = k.enough; count = k.codes };
-      codes = are_each p.width (sizes_in p) 0 (length p.codes - (p.outputs + p.states)) [] p.codes refl (omega arith) l.codes l.points l.copies;
+      codes = are_each p.width (sizes_in p) 0 (first_copy p) [] p.codes refl (omega arith) l.codes l.points l.copies;
     }
 
 -- ---- whole programs

@@ -2,11 +2,12 @@
 use Rattle.std.proofs.Common.{◌≡◌, ℕ, ◌+◌, ◌-◌, ◌<◌, ◌≤◌, List, [], ◌∷◌, ◌++◌, length, Result, Ok, Err, ℤ, ◌⊎◌, refl, sym, ap, subst, ◌∙◌, arith, length-append}
 use Rattle.std.specs.Prelude.{All}
 use Rattle.std.proofs.lemmas.List.Elements.{All-push, All-nil}
+use Rattle.fx_model.specs.Limits.{node_limit}
 use Rattle.fx_model.specs.Machine.{Code, points_of}
 use Rattle.fx_model.specs.LawfulProgram.{IsPoint}
 use Rattle.fx_text.specs.declared.fault.TextFault.{TextFault}
-use Rattle.fx_text.specs.Many.{many}
-use Rattle.fx_text.proofs.ManyLaws.{with_front, many_goes_on, many_ends, many_is_done}
+use Rattle.fx_text.specs.Many.{many, with_front}
+use Rattle.fx_text.proofs.ManyLaws.{many_goes_on, many_ends, many_is_done}
 use Rattle.fx_program.specs.CodeReading.{Sizes}
 use Rattle.fx_program.specs.ProgramReading.{code_line, with_point, codes_at}
 use Rattle.fx_program.specs.Points.{HasPoint, ArePoints}
@@ -50,5 +51,5 @@ ends {Other} {first} {w} {s} {text} {cs} {ps} {k} {rest} e h lt read = many_ends
 pub is_done : {first w : ℕ} {s : Sizes} {text : List ℕ} {cs : List Code} {ps : List ℤ} {k : ℕ} {rest : List ℕ} → SoFar first w s text cs ps k rest → s.count ≤ k → codes_at first w s text ≡ Ok (cs, rest)
 is_done {first} {w} {s} {text} {cs} {ps} {k} {rest} h le = many_is_done (code_line first w s) with_point cs s.count k ps rest (codes_at first w s text) le h.so_far
 
-pub before : {first w : ℕ} {s : Sizes} {text : List ℕ} {cs : List Code} {ps : List ℤ} {k : ℕ} {rest : List ℕ} → SoFar first w s text cs ps k rest → k < s.count → s.count ≤ 4000 → ArePoints ps
+pub before : {first w : ℕ} {s : Sizes} {text : List ℕ} {cs : List Code} {ps : List ℤ} {k : ℕ} {rest : List ℕ} → SoFar first w s text cs ps k rest → k < s.count → s.count ≤ node_limit → ArePoints ps
 before h lt most = record { few = omega (arith, h.few); points = h.points }

@@ -1,6 +1,7 @@
 -- Reading a program from the front of a text, whose first line has a number. The first fault decides.
 use Rattle.std.specs.Prelude.{ℕ, ℤ, ◌==◌, ◌+◌, List, [], ◌∷◌, ◌++◌, length, Result, Ok, Err, if◌then◌else◌, codes, Bool}
 use Rattle.std.specs.List.{list_any}
+use Rattle.fx_model.specs.Limits.{input_limit, state_limit, output_limit, node_limit}
 use Rattle.fx_model.specs.Machine.{Code, Program, point_of}
 use Rattle.fx_model.specs.LawfulProgram.{widths}
 use Rattle.fx_model.specs.Names.{is_name}
@@ -56,10 +57,10 @@ name_at line = do
 unfoldable pub sizes_at : Line → Result Sizes TextKind
 sizes_at line = do
   rest ← word_at (codes "sizes") line
-  i ← count_at 1 64 rest
-  k ← count_at 0 32 i.1
-  m ← count_at 1 64 k.1
-  n ← count_at (i.0 + k.0 + (m.0 + k.0)) 4000 m.1
+  i ← count_at 1 input_limit rest
+  k ← count_at 0 state_limit i.1
+  m ← count_at 1 output_limit k.1
+  n ← count_at (i.0 + k.0 + (m.0 + k.0)) node_limit m.1
   _ ← ended_at n.1
   Ok (record { inputs = i.0; states = k.0; outputs = m.0; count = n.0 })
 

@@ -8,12 +8,12 @@ use Rattle.fx_program.specs.declared.code.Code.{Code}
 use Rattle.fx_program.specs.declared.program.Program.TheInside.{Inside}
 
 -- the machine's program of these parts
-abbrev pub made : ℕ → List ℕ → ℕ → ℕ → ℕ → List Code → Program
-made width name inputs states outputs cs = record { width = width; name = name; inputs = inputs; states = states; outputs = outputs; codes = map code_of cs }
+abbrev pub program_with : ℕ → List ℕ → ℕ → ℕ → ℕ → List Code → Program
+program_with width name inputs states outputs cs = record { width = width; name = name; inputs = inputs; states = states; outputs = outputs; codes = map code_of cs }
 
 -- all but the points
 abbrev pub program_of : Inside → Program
-program_of p = made p.width p.name p.inputs p.states p.outputs p.codes.items
+program_of p = program_with p.width p.name p.inputs p.states p.outputs p.codes.items
 
 -- what a text can spell
 pub record IsSpelled (p : Program) : Type 0 where

@@ -1,14 +1,27 @@
 //! Reading the four lines that stand above the codes.
 
 ghost use Rattle.std.specs.Prelude.{◌≡◌, IfOk};
-ghost use Rattle.fx_model.specs.Names.{IsName, is_name};
 ghost use Rattle.fx_word.specs.Words.{IsWidth};
+ghost use Rattle.fx_text.specs.Lines.{GivesLine};
 ghost use Rattle.fx_text.specs.Reading.{ReadsAll};
 ghost use Rattle.fx_program.specs.ProgramReading.{headline_at, is_width, known_width, width_at, known_name, name_at, sizes_at};
 ghost use Rattle.fx_program.specs.SizesView.{AreSizes, sizes_of};
 
-use crate::name::is_name;
+use fx_name::Name;
 use fx_text::{Fields, TextKind, count, ended, place, word};
+use std::alloc::Global;
+
+/// The most inputs.
+pub const INPUT_LIMIT: u32 = 64;
+
+/// The most states.
+pub const STATE_LIMIT: u32 = 32;
+
+/// The most outputs.
+pub const OUTPUT_LIMIT: u32 = 64;
+
+/// The most codes of a program, which are as many as a function's nodes.
+pub const NODE_LIMIT: u32 = 4000;
 
 /// The counts that a program's text names.
 #[derive(Clone, Copy)]
@@ -62,28 +75,22 @@ pub fn read_width(fields: &mut Fields<'_>) -> Result<u32, TextKind>
     Ok(width)
 }
 
-/// That text, where it is a name. BadLine else.
+/// The name that this text is. BadLine where it is none.
 #[tactic(auto, unfolding(crate::specs::ProgramReading::known_name))]
-fn known_name(text: &[u8]) -> Result<&[u8], TextKind>
-    ensures value { ReadsAll (λ name. name.now) result (known_name text.now) }
-    ensures name { IfOk result (λ name. IsName name.now) }
+fn known_name(alloc: Global, text: &[u8]) -> Result<Name, TextKind>
+    ensures { GivesLine (λ name. name) result (known_name text.now) }
 {
-    if is_name(text) {
-        Ok(text)
-    } else {
-        Err(TextKind::BadLine)
-    }
+    Name::read(alloc, text)?.ok_or(TextKind::BadLine)
 }
 
 /// `name NAME`.
 #[tactic(auto, unfolding(crate::specs::ProgramReading::name_at))]
-pub fn read_name<'a>(fields: &mut Fields<'a>) -> Result<&'a [u8], TextKind>
-    ensures value { ReadsAll (λ name. name.now) result (name_at fields.old) }
-    ensures name { IfOk result (λ name. IsName name.now) }
+pub fn read_name(alloc: Global, fields: &mut Fields<'_>) -> Result<Name, TextKind>
+    ensures { GivesLine (λ name. name) result (name_at fields.old) }
 {
     word(fields, b"name")?;
     let text = fields.next().ok_or(TextKind::BadLine)?;
-    let name = known_name(text)?;
+    let name = known_name(alloc, text)?;
     ended(fields)?;
     Ok(name)
 }
@@ -95,10 +102,10 @@ pub fn read_sizes(fields: &mut Fields<'_>) -> Result<Sizes, TextKind>
     ensures range { IfOk result (λ s. AreSizes (sizes_of s)) }
 {
     word(fields, b"sizes")?;
-    let inputs = count(fields, 1, 64)?;
-    let states = count(fields, 0, 32)?;
-    let outputs = count(fields, 1, 64)?;
-    let count = count(fields, inputs + states + (outputs + states), 4000)?;
+    let inputs = count(fields, 1, INPUT_LIMIT)?;
+    let states = count(fields, 0, STATE_LIMIT)?;
+    let outputs = count(fields, 1, OUTPUT_LIMIT)?;
+    let count = count(fields, inputs + states + (outputs + states), NODE_LIMIT)?;
     ended(fields)?;
     Ok(Sizes {
         inputs,

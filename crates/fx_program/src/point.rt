@@ -8,7 +8,7 @@ ghost use Rattle.fx_model.specs.Tree.{at};
 ghost use Rattle.fx_model.specs.LawfulProgram.{IsPoint};
 ghost use Rattle.fx_text.specs.Reading.{IsWithin};
 ghost use Rattle.fx_program.specs.CodeView.{code_of};
-ghost use Rattle.fx_program.specs.Points.{ArePoints, IsNear, AreNear};
+ghost use Rattle.fx_program.specs.Points.{ArePoints, HasNearOperands, AreNear};
 
 use crate::code::Code;
 use std::alloc::{AllocError, Global};
@@ -48,7 +48,7 @@ pub fn quotient_point(points: &[i32], a: u32, b: u32, s: u32) -> i32
 /// The point of a code behind codes with these points.
 fn code_point(points: &[i32], code: Code) -> i32
     requires points { All IsPoint points.now }
-    requires near { IsNear (length points.now) (code_of code) }
+    requires near { HasNearOperands (length points.now) (code_of code) }
     ensures { result ≡ point_of (code_of code) points.now }
 {
     match code {

@@ -4,10 +4,9 @@
 
 ghost use Rattle.std.specs.Prelude.{◌≡◌, ◌++◌, ◌∷◌, [], codes, OnOk, IfOk};
 ghost use Rattle.std.specs.List.{flat_map};
-ghost use Rattle.fx_model.specs.ProgramText.{code_fields, program_text};
-ghost use Rattle.fx_text.specs.Spelling.{line_text};
+ghost use Rattle.fx_model.specs.LineText.{line_text};
+ghost use Rattle.fx_model.specs.ProgramText.{code_fields, head_text, program_text};
 ghost use Rattle.fx_program.specs.CodeView.{code_of};
-ghost use Rattle.fx_program.specs.HeadText.{head_text};
 
 use crate::code::Code;
 use crate::program::Program;
@@ -126,12 +125,20 @@ fn put_codes(out: &mut Vec<u8>, codes: &[Code]) -> Result<(), AllocError>
     Ok(())
 }
 
+/// The text of the program, behind what was written before.
+pub fn put_program(out: &mut Vec<u8>, program: &Program) -> Result<(), AllocError>
+    ensures { OnOk result (out.new.items ≡ out.old.items ++ program_text program.now) }
+{
+    put_head(out, program)?;
+    put_codes(out, &program.codes)?;
+    Ok(())
+}
+
 fn text_of(alloc: Global, program: &Program) -> Result<Vec<u8>, AllocError>
     ensures { IfOk result (λ text. text.items ≡ program_text program.now) }
 {
     let mut out = Vec::new(alloc);
-    put_head(&mut out, program)?;
-    put_codes(&mut out, &program.codes)?;
+    put_program(&mut out, program)?;
     Ok(out)
 }
 

@@ -3,15 +3,18 @@
 //! Contracts see a program of the machine. The points of its codes are kept beside them, so that `point` takes no time.
 
 ghost use Rattle.std.specs.Prelude.{◌≡◌, ◌<◌, length, map, pos, IfOk};
+ghost use Rattle.fx_model.specs.LawfulProgram.{IsLawfulProgram};
 ghost use Rattle.fx_model.specs.Machine.{points_of};
+ghost use Rattle.fx_model.specs.Names.{IsName};
 ghost use Rattle.fx_model.specs.Tree.{at};
 ghost use Rattle.fx_program.specs.CodeView.{code_of};
-ghost use Rattle.fx_program.specs.ProgramView.{IsSpelled, made};
+ghost use Rattle.fx_program.specs.ProgramView.{IsSpelled, program_with};
 
 use crate::code::Code;
 use crate::point::code_points;
-use fx_base::Name;
-use std::alloc::{AllocError, Global};
+use fx_name::Name;
+use fx_num::Memory;
+use std::alloc::Global;
 use std::marker::Model;
 
 /// A program in words of `width` bits.
@@ -54,9 +57,9 @@ impl Program {
         states: u32,
         outputs: u32,
         codes: Vec<Code>,
-    ) -> Result<Program, AllocError>
-        requires { IsSpelled (made width name inputs states outputs codes.items) }
-        ensures { IfOk result (λ p. p ≡ made width name inputs states outputs codes.items) }
+    ) -> Result<Program, Memory>
+        requires { IsSpelled (program_with width name inputs states outputs codes.items) }
+        ensures { IfOk result (λ p. p ≡ program_with width name inputs states outputs codes.items) }
     {
         let points = code_points(alloc, &codes)?;
         Ok(Program::with_points(width, name, inputs, states, outputs, codes, points))
@@ -72,9 +75,9 @@ impl Program {
         codes: Vec<Code>,
         points: Vec<i32>,
     ) -> Program
-        requires spelled { IsSpelled (made width name inputs states outputs codes.items) }
+        requires spelled { IsSpelled (program_with width name inputs states outputs codes.items) }
         requires points { points.items ≡ points_of (map code_of codes.items) }
-        ensures { result ≡ made width name inputs states outputs codes.items }
+        ensures { result ≡ program_with width name inputs states outputs codes.items }
     {
         Program {
             width,
@@ -85,6 +88,14 @@ impl Program {
             codes,
             points,
         }
+    }
+
+    /// What each program keeps: it is lawful, and its name is one.
+    pub fn keeps(&self)
+        ensures lawful { IsLawfulProgram self.now }
+        ensures name { IsName self.now.name }
+    {
+        let _ = &self.codes;
     }
 
     /// The binary point of code `n`.

@@ -5,7 +5,6 @@
 
 ghost use Rattle.std.specs.Prelude.{◌≡◌, ◌≤◌, ◌^◌, map, length, IfOk};
 ghost use Rattle.fx_model.specs.Machine.{points_of};
-ghost use Rattle.fx_model.specs.Names.{IsName};
 ghost use Rattle.fx_model.specs.ProgramText.{program_text};
 ghost use Rattle.fx_word.specs.Words.{IsWidth};
 ghost use Rattle.fx_text.specs.Reading.{ReadsAll};
@@ -20,10 +19,9 @@ use crate::code::Code;
 use crate::head::{Sizes, read_headline, read_name, read_sizes, read_width};
 use crate::operation::read_code;
 use crate::program::Program;
-use fx_base::Name;
+use fx_name::Name;
 use fx_text::{TextFault, fields_at, text_ended};
-use std::alloc::{AllocError, Global};
-use std::str;
+use std::alloc::Global;
 
 /// The first line of a program, and the text behind it.
 #[tactic(auto, unfolding(fx_text::specs::Lines::line_by))]
@@ -46,12 +44,11 @@ fn width_line(line: u32, text: &[u8]) -> Result<(u32, &[u8]), TextFault>
 }
 
 #[tactic(auto, unfolding(fx_text::specs::Lines::line_by))]
-fn name_line(line: u32, text: &[u8]) -> Result<(&[u8], &[u8]), TextFault>
-    ensures value { ReadsAll (λ x. (x.0.now, x.1.now)) result (line_by name_at line text.now) }
-    ensures name { IfOk result (λ x. IsName x.0.now) }
+fn name_line(alloc: Global, line: u32, text: &[u8]) -> Result<(Name, &[u8]), TextFault>
+    ensures { Gives (λ x. (x.0, x.1.now)) result (line_by name_at line text.now) }
 {
     let (mut fields, rest) = fields_at(line, text)?;
-    let name = read_name(&mut fields).map_err(|kind| TextFault::at(line, kind))?;
+    let name = read_name(alloc, &mut fields).map_err(|kind| TextFault::at(line, kind))?;
     Ok((name, rest))
 }
 
@@ -118,9 +115,9 @@ fn codes_in<'a>(
 
 /// What a program's text names, before it's known to be lawful.
 #[derive(Drop)]
-struct Parts<'a> {
+struct Parts {
     width: u32,
-    name: &'a [u8],
+    name: Name,
     sizes: Sizes,
     codes: Vec<Code>,
     points: Vec<i32>,
@@ -128,19 +125,14 @@ struct Parts<'a> {
 
 /// The parts of a program from line `line` on, and the text behind them.
 #[tactic(auto, unfolding(crate::specs::ProgramReading::program_at))]
-fn parts_at<'a>(
-    alloc: Global,
-    line: u32,
-    text: &'a [u8],
-) -> Result<(Parts<'a>, &'a [u8]), TextFault>
+fn parts_at<'a>(alloc: Global, line: u32, text: &'a [u8]) -> Result<(Parts, &'a [u8]), TextFault>
     requires { line ≤ 2 ^ 29 }
     ensures value { Gives (λ x. (made_of x.0, x.1.now)) result (program_at line text.now) }
-    ensures name { IfOk result (λ x. IsName x.0.name.now) }
     ensures points { IfOk result (λ x. x.0.points.items ≡ points_of (map code_of x.0.codes.items)) }
 {
     let rest = headline_line(line, text)?;
     let (width, rest) = width_line(line + 1, rest)?;
-    let (name, rest) = name_line(line + 2, rest)?;
+    let (name, rest) = name_line(alloc, line + 2, rest)?;
     let (sizes, rest) = sizes_line(line + 3, rest)?;
     let (codes, points, rest) = codes_in(alloc, line + 4, width, sizes, rest)?;
     let parts = Parts {
@@ -151,18 +143,6 @@ fn parts_at<'a>(
         points,
     };
     Ok((parts, rest))
-}
-
-/// The name that these bytes are.
-#[tactic(auto, using(crate::proofs::HeadLaws::name_utf8))]
-fn name_of(alloc: Global, text: &[u8]) -> Result<Name, AllocError>
-    requires { IsName text.now }
-    ensures { IfOk result (λ name. name ≡ text.now) }
-{
-    match str::from_utf8(text) {
-        Ok(text) => Ok(Name::new(String::from_str(alloc, text)?)),
-        Err(_) => unreachable!(),
-    }
 }
 
 /// The program at the front of the text, whose first line has the number `line`, and the text behind it.
@@ -188,7 +168,6 @@ pub fn program_at<'a>(
         outputs,
         ..
     } = sizes;
-    let name = name_of(alloc, name)?;
     let program = Program::with_points(width, name, inputs, states, outputs, codes, points);
     Ok((program, rest))
 }

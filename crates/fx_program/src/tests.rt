@@ -2,7 +2,6 @@
 
 use super::*;
 use TextKind::{BadLine, BadNumber, Extra, OutOfRange, TooMany};
-use fx_text::{TextFault, TextKind};
 use std::alloc::{AllocError, Global};
 use std::test::Fail;
 

@@ -12,10 +12,17 @@ pub record IsDyadic (m : ℤ) (e : ℕ) : Type 0 where
   pub of_zero : m ≡ pos 0 → e ≡ 0
   pub small : e ≤ 2 ^ 20
 
+-- what the mantissa of a written dyadic stays below, either side of zero, and the most of its exponent
+abbrev pub mantissa_end : ℕ
+mantissa_end = 2 ^ 62
+
+abbrev pub exponent_limit : ℕ
+exponent_limit = 96
+
 -- what a text can spell, each in its one spelling: the exponent is 0 or the mantissa odd, so that zero has exponent 0
 pub record IsWritten (d : Dyadic) : Type 0 where
-  pub small : unsigned_abs d.m < 2 ^ 62
-  pub places : d.e ≤ 96
+  pub small : unsigned_abs d.m < mantissa_end
+  pub places : d.e ≤ exponent_limit
   pub one_spelling : 0 < d.e → unsigned_abs d.m % 2 ≡ 1
 
 -- its value
@@ -46,6 +53,10 @@ dyadic_difference a b = let e = max a.e b.e in dyadic (aligned a e -ℤ aligned 
 -- mantissas are multiplied and exponents added
 unfoldable pub dyadic_product : Dyadic → Dyadic → Dyadic
 dyadic_product a b = dyadic (a.m *ℤ b.m) (a.e + b.e)
+
+-- with the other sign
+abbrev pub negated : Dyadic → Dyadic
+negated d = record { m = neg_ℤ d.m; e = d.e }
 
 -- by value, whatever the exponents
 abbrev pub is_dyadic_at_most : Dyadic → Dyadic → Bool

@@ -15,7 +15,7 @@ use Rattle.fx_rational.proofs.Ring.{by_quotes, quotes}
 use Rattle.fx_rational.proofs.Laws.{equal_refl, equal_sym, equal_trans, plus_same, minus_same}
 use Rattle.fx_bounds.proofs.Spans.{within_same, within_sum, within_difference}
 use Rattle.fx_bounds.proofs.Sums.{combined_plus, combined_minus, combined_times, combined_zero}
-use Rattle.fx_bounds.proofs.Operations.{within_negative, negation_error, sum_error, difference_error, copy_error, product_rest, product_error_rest}
+use Rattle.fx_bounds.proofs.Operations.{within_negative, within_negation_error, within_sum_error, within_difference_error, within_copy_error, within_product_rest, within_product_error_rest}
 
 form_negated : (n : ℕ) (c : ℕ → Formula) (v : ℕ → Rational) → Equal (negative (combined n (λ j. formula_value (c j)) v)) (combined n (λ j. formula_value (Difference (Num record { m = pos 0; e = 0 }) (c j))) v)
 unfolding formula_value dyadic_value over
@@ -54,7 +54,7 @@ module _ (v : ℕ) (ls : List NodeLine) (vx ve : ℕ → Rational) (form : Form)
         rest = within_same (equal_trans (by_quotes {ρ = x ∷ c ∷ []} {b = minus (negative x) (negative c)} (search quotes depth 20) (search quotes depth 20) refl) (minus_same (equal_refl (negative x)) (form_negated v p_a.coef vx)))
             (within_negative h.rest);
         error_rest = within_same (equal_trans (by_quotes {ρ = r ∷ x ∷ d ∷ []} {b = minus (minus r (negative x)) (negative d)} (search quotes depth 20) (search quotes depth 20) refl) (minus_same (equal_refl (minus r (negative x))) (form_negated v p_a.coef ve)))
-            (negation_error w f p (plus x d) p_a.error_rest e (within_same (shifted_error (word_value w p) x d) h.error_rest));
+            (within_negation_error w f p (plus x d) p_a.error_rest e (within_same (shifted_error (word_value w p) x d) h.error_rest));
       }
 
   pub sum_form : (u w f p q sa sb : ℤ) (a b : ℕ) (x y : Rational) → f ≡ p -ℤ sa → f ≡ q -ℤ sb → AffineHolds v (affine_at v ls a) vx ve x (minus (word_value u p) x) → AffineHolds v (affine_at v ls b) vx ve y (minus (word_value w q) y) →
@@ -68,7 +68,7 @@ module _ (v : ℕ) (ls : List NodeLine) (vx ve : ℕ → Rational) (form : Form)
         rest = within_same (equal_trans (by_quotes {ρ = x ∷ y ∷ c ∷ d ∷ []} {b = minus (plus x y) (plus c d)} (search quotes depth 20) (search quotes depth 20) refl) (minus_same (equal_refl (plus x y)) (form_sum v p_a.coef p_b.coef vx)))
             (within_sum h.rest g.rest);
         error_rest = within_same (equal_trans (by_quotes {ρ = r ∷ x ∷ y ∷ c' ∷ d' ∷ []} {b = minus (minus r (plus x y)) (plus c' d')} (search quotes depth 20) (search quotes depth 20) refl) (minus_same (equal_refl (minus r (plus x y))) (form_sum v p_a.coef p_b.coef ve)))
-            (sum_error u w f p q sa sb (plus x c') (plus y d') p_a.error_rest p_b.error_rest e k (within_same (shifted_error (word_value u p) x c') h.error_rest) (within_same (shifted_error (word_value w q) y d') g.error_rest));
+            (within_sum_error u w f p q sa sb (plus x c') (plus y d') p_a.error_rest p_b.error_rest e k (within_same (shifted_error (word_value u p) x c') h.error_rest) (within_same (shifted_error (word_value w q) y d') g.error_rest));
       }
 
   pub difference_form : (u w f p q sa sb : ℤ) (a b : ℕ) (x y : Rational) → f ≡ p -ℤ sa → f ≡ q -ℤ sb → AffineHolds v (affine_at v ls a) vx ve x (minus (word_value u p) x) → AffineHolds v (affine_at v ls b) vx ve y (minus (word_value w q) y) →
@@ -82,7 +82,7 @@ module _ (v : ℕ) (ls : List NodeLine) (vx ve : ℕ → Rational) (form : Form)
         rest = within_same (equal_trans (by_quotes {ρ = x ∷ y ∷ c ∷ d ∷ []} {b = minus (minus x y) (minus c d)} (search quotes depth 20) (search quotes depth 20) refl) (minus_same (equal_refl (minus x y)) (form_difference v p_a.coef p_b.coef vx)))
             (within_difference h.rest g.rest);
         error_rest = within_same (equal_trans (by_quotes {ρ = r ∷ x ∷ y ∷ c' ∷ d' ∷ []} {b = minus (minus r (minus x y)) (minus c' d')} (search quotes depth 20) (search quotes depth 20) refl) (minus_same (equal_refl (minus r (minus x y))) (form_difference v p_a.coef p_b.coef ve)))
-            (difference_error u w f p q sa sb (plus x c') (plus y d') p_a.error_rest p_b.error_rest e k (within_same (shifted_error (word_value u p) x c') h.error_rest) (within_same (shifted_error (word_value w q) y d') g.error_rest));
+            (within_difference_error u w f p q sa sb (plus x c') (plus y d') p_a.error_rest p_b.error_rest e k (within_same (shifted_error (word_value u p) x c') h.error_rest) (within_same (shifted_error (word_value w q) y d') g.error_rest));
       }
 
   pub copy_form : (w f p s : ℤ) (a : ℕ) (x : Rational) → f ≡ p -ℤ s → AffineHolds v (affine_at v ls a) vx ve x (minus (word_value w p) x) →
@@ -92,7 +92,7 @@ module _ (v : ℕ) (ls : List NodeLine) (vx ve : ℕ → Rational) (form : Form)
       record {
         rest = h.rest;
         error_rest = within_same (equal_sym (shifted_error (word_value (shifted w s) f) x d))
-            (copy_error w f p s (plus x d) p_a.error_rest e (within_same (shifted_error (word_value w p) x d) h.error_rest));
+            (within_copy_error w f p s (plus x d) p_a.error_rest e (within_same (shifted_error (word_value w p) x d) h.error_rest));
       }
 
   pub product_form : (u w f p q : ℤ) (s a b : ℕ) (x y : Rational) → f ≡ (p +ℤ q) -ℤ pos s → Within (range_at ls a) x → Within (range_at ls b) y → Within (error_at ls a) (minus (word_value u p) x) → Within (error_at ls b) (minus (word_value w q) y) →
@@ -105,7 +105,7 @@ module _ (v : ℕ) (ls : List NodeLine) (vx ve : ℕ → Rational) (form : Form)
       let ma = Num form.centre_a in let mb = Num form.centre_b in
       record {
         rest = within_same (minus_same (equal_refl (times x y)) (form_product v ma mb p_a.coef p_b.coef vx))
-            (product_rest x y c d ma mb (range_at ls a) (range_at ls b) p_a.rest p_b.rest in_x in_y h.rest g.rest);
+            (within_product_rest x y c d ma mb (range_at ls a) (range_at ls b) p_a.rest p_b.rest in_x in_y h.rest g.rest);
         error_rest = within_same (minus_same (equal_refl (minus (word_value (floor_div (u *ℤ w) (2 ^ s)) f) (times x y))) (form_product v ma mb p_a.coef p_b.coef ve))
-            (product_error_rest u w f p q s x y c' d' ma mb (range_at ls a) (range_at ls b) (error_at ls a) (error_at ls b) p_a.error_rest p_b.error_rest e in_x in_y in_ex in_ey h.error_rest g.error_rest);
+            (within_product_error_rest u w f p q s x y c' d' ma mb (range_at ls a) (range_at ls b) (error_at ls a) (error_at ls b) p_a.error_rest p_b.error_rest e in_x in_y in_ex in_ey h.error_rest g.error_rest);
       }

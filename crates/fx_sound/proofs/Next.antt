@@ -1,10 +1,10 @@
 -- A step keeps words near.
-use Rattle.std.proofs.Common.{◌≡◌, ◌⊎◌, ⊎_elim, ℕ, zero, suc, ◌+◌, ◌-◌, ◌<◌, ◌≤◌, ℤ, pos, true, false, List, [], ◌∷◌, length, take, drop, arith, refl, sym, ap, ◌∙◌, ltb}
+use Rattle.std.proofs.Common.{◌≡◌, ◌⊎◌, ⊎_elim, ℕ, zero, suc, ◌+◌, ◌-◌, ◌<◌, ◌≤◌, ℤ, pos, true, false, List, [], ◌∷◌, length, take, drop, arith, refl, sym, ap, ◌∙◌, ltb, Some}
 use Rattle.std.proofs.lemmas.List.{length-drop, get_or-drop, get_or-take}
 use Rattle.fx_rational.specs.Rational.{Rational, whole, plus, minus, times, Equal}
 use Rattle.fx_model.specs.Function.{Function, Step, step_of}
 use Rattle.fx_model.specs.Rows.{IsTrueOf}
-use Rattle.fx_model.specs.Machine.{Program, points_of}
+use Rattle.fx_model.specs.Machine.{Program, first_copy, points_of}
 use Rattle.fx_model.specs.Tree.{at}
 use Rattle.fx_model.specs.Nodes.{nodes_of}
 use Rattle.fx_inequalities.specs.Formula.{Formula, Num, Product, formula_value, Span, zero_span, Within, span}
@@ -145,6 +145,7 @@ step_near fn p cert g t z x valid lawful lawful_cert a true_row near =
     let word_is : (s : ℕ) → at (pos 0) (drop m (drop (length h.words - (m + q)) h.words)) s ≡ at (pos 0) h.words (next_code p s) = λ s. tail_at (pos 0) h.words n m q s words_count room in
     let value_is : (s : ℕ) → at (whole (pos 0)) (drop m (drop (length h.values - (m + q)) h.values)) s ≡ at (whole (pos 0)) h.values (next_code p s) = λ s. tail_at (whole (pos 0)) h.values n m q s values_count room in
     let made : Step ℤ = step_of m (drop (length h.words - (m + q)) h.words) in
+    let copies : first_copy p ≡ length h.words - (m + q) = ap (λ (l : ℕ). l - (m + q)) (sym words_count) in
     let exact_made : Step Rational = step_of m (drop (length h.values - (m + q)) h.values) in
     let form = λ (s : ℕ). affine_at (variables fn) cert.lines (next_code p s) in
     let error_is : (s : ℕ) → s < k → error_of ps h.words h.values (next_code p s) ≡ state_error fn p made.next exact_made.next s = λ s l.
@@ -158,7 +159,7 @@ step_near fn p cert g t z x valid lawful lawful_cert a true_row near =
     record {
       made = made;
       exact_made = exact_made;
-      not_stuck = rw h.not_stuck refl;
+      not_stuck = rw h.not_stuck (ap (λ (b : ℕ). Some (step_of m (drop b h.words))) copies);
       defined = exact_is fn t x valid ∙ rw (← a.outputs, results_count, h.defined) refl;
       words = record {
         made = h.words;

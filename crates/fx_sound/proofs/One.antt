@@ -23,7 +23,7 @@ use Rattle.fx_rational.proofs.Quotient.{quotient_is}
 use Rattle.fx_bounds.proofs.Losses.{divided_is}
 use Rattle.fx_bounds.proofs.Spans.{within_same, within_sum, within_difference, within_product}
 use Rattle.fx_bounds.proofs.Claims.{Each, Claimed, both_left, both_right, within_inside}
-use Rattle.fx_bounds.proofs.Operations.{input_error, const_error, within_negative, negation_error, sum_error, difference_error, copy_error, product_error, divisor_top, divisor_word, within_quotient, quotient_error}
+use Rattle.fx_bounds.proofs.Operations.{within_input_error, within_const_error, within_negative, within_negation_error, within_sum_error, within_difference_error, within_copy_error, within_product_error, divisor_top, divisor_word, within_quotient, within_quotient_error}
 use Rattle.fx_model.proofs.Wide.{shifted_wide, product_wide, left_wide}
 use Rattle.fx_sound.proofs.Forms.{negation_form, sum_form, difference_form, copy_form, product_form}
 use Rattle.fx_sound.proofs.Points.{Front, at_front}
@@ -92,7 +92,7 @@ pub record One (fn : Function) (n : ℕ) (ps : List ℤ) (cert : Certificate) (g
   pub value_is : node_value v t s xs ≡ Some value
   pub range : (gs : Span) → Each Claimed (plain_range_claims fn cert v gs) → Within gs value
   pub error : (gs hs : Span) → Within gs value → Each Claimed (plain_error_claims fn cert v c f gs hs) → Within hs (minus (word_value word f) value)
-  pub star : FormsHold (variables fn) ps cert.lines vx ve ws xs → (form : Form) → has_form v ≡ true → AffineHolds (variables fn) (operation_form (variables fn) cert.lines v c f form) vx ve value (minus (word_value word f) value)
+  pub star : FormsHold (variables fn) ps cert.lines vx ve ws xs → (form : Form) → has_form v c ≡ true → AffineHolds (variables fn) (operation_form (variables fn) cert.lines v c f form) vx ve value (minus (word_value word f) value)
   pub state_is : (k : ℕ) → k < length fn.states → length ws ≡ length fn.inputs + k → (word ≡ at (pos 0) z k) × (value ≡ at (whole (pos 0)) s k)
 
 -- no node of another kind stands where a state does
@@ -118,7 +118,7 @@ module _ (fn : Function) (n : ℕ) (big : 8 ≤ n) (ps : List ℤ) (cert : Certi
         word_is = λ fits. kept_fits n [] _ refl fits;
         value_is = refl;
         range = λ gs claims. record { low = le_trans claims.0 k_known.above; high = le_trans k_known.below claims.1.0 };
-        error = λ gs hs in_x claims. let e : Within hs (minus (word_value (floor (scaled given f)) f_n) exact) = rw (← point) (input_error f_n given exact i.err hs k_known.not_under k_known.not_over claims.0 claims.1.0) in e;
+        error = λ gs hs in_x claims. let e : Within hs (minus (word_value (floor (scaled given f)) f_n) exact) = rw (← point) (within_input_error f_n given exact i.err hs k_known.not_under k_known.not_over claims.0 claims.1.0) in e;
         star = λ forms form e. absurd cc;
         state_is = λ j l e. no_state _ _ _ j (inl (omega (arith, placed.0, placed.1))) l e;
       }
@@ -141,7 +141,7 @@ module _ (fn : Function) (n : ℕ) (big : 8 ≤ n) (ps : List ℤ) (cert : Certi
     word_is = λ fits. kept_fits n [] w refl fits;
     value_is = refl;
     range = λ gs claims. record { low = claims.0; high = claims.1.0 };
-    error = λ gs hs in_x claims. const_error w (at (pos 0) ps (length ws)) c hs claims.0 claims.1.0;
+    error = λ gs hs in_x claims. within_const_error w (at (pos 0) ps (length ws)) c hs claims.0 claims.1.0;
     star = λ forms form e. absurd cc;
     state_is = λ j l e. no_state _ _ _ j (inr placed) l e;
   }
@@ -156,7 +156,7 @@ module _ (fn : Function) (n : ℕ) (big : 8 ≤ n) (ps : List ℤ) (cert : Certi
         word_is = λ fits. kept_fits n [] _ refl fits;
         value_is = refl;
         range = λ gs claims. within_inside _ gs claims (within_negative x.range);
-        error = λ gs hs in_x claims. within_inside _ hs claims (negation_error w f (at (pos 0) ps a) (at (whole (pos 0)) xs a) (error_at cert.lines a) same x.error);
+        error = λ gs hs in_x claims. within_inside _ hs claims (within_negation_error w f (at (pos 0) ps a) (at (whole (pos 0)) xs a) (error_at cert.lines a) same x.error);
         star = λ forms form e. negation_form (variables fn) cert.lines vx ve form w f (at (pos 0) ps a) a (at (whole (pos 0)) xs a) same (forms.form a lawful);
         state_is = λ j l e. no_state _ _ _ j (inr placed) l e;
       }
@@ -173,7 +173,7 @@ module _ (fn : Function) (n : ℕ) (big : 8 ≤ n) (ps : List ℤ) (cert : Certi
         word_is = λ fits. kept_fits n (shifted u sa ∷ shifted w sb ∷ []) _ (rw (shifted_wide n u sa big h.word lawful.2.low, shifted_wide n w sb big k.word lawful.3.low) refl) fits;
         value_is = refl;
         range = λ gs claims. within_inside _ gs claims (within_sum h.range k.range);
-        error = λ gs hs in_x claims. within_inside _ hs claims (sum_error u w f p q sa sb x y (error_at cert.lines a) (error_at cert.lines b) same_a same_b h.error k.error);
+        error = λ gs hs in_x claims. within_inside _ hs claims (within_sum_error u w f p q sa sb x y (error_at cert.lines a) (error_at cert.lines b) same_a same_b h.error k.error);
         star = λ forms form e. sum_form (variables fn) cert.lines vx ve form u w f p q sa sb a b x y same_a same_b (forms.form a lawful.0) (forms.form b lawful.1);
         state_is = λ j l e. no_state _ _ _ j (inr placed) l e;
       }
@@ -190,7 +190,7 @@ module _ (fn : Function) (n : ℕ) (big : 8 ≤ n) (ps : List ℤ) (cert : Certi
         word_is = λ fits. kept_fits n (shifted u sa ∷ shifted w sb ∷ []) _ (rw (shifted_wide n u sa big h.word lawful.2.low, shifted_wide n w sb big k.word lawful.3.low) refl) fits;
         value_is = refl;
         range = λ gs claims. within_inside _ gs claims (within_difference h.range k.range);
-        error = λ gs hs in_x claims. within_inside _ hs claims (difference_error u w f p q sa sb x y (error_at cert.lines a) (error_at cert.lines b) same_a same_b h.error k.error);
+        error = λ gs hs in_x claims. within_inside _ hs claims (within_difference_error u w f p q sa sb x y (error_at cert.lines a) (error_at cert.lines b) same_a same_b h.error k.error);
         star = λ forms form e. difference_form (variables fn) cert.lines vx ve form u w f p q sa sb a b x y same_a same_b (forms.form a lawful.0) (forms.form b lawful.1);
         state_is = λ j l e. no_state _ _ _ j (inr placed) l e;
       }
@@ -207,7 +207,7 @@ module _ (fn : Function) (n : ℕ) (big : 8 ≤ n) (ps : List ℤ) (cert : Certi
         word_is = λ fits. kept_fits n ((u *ℤ w) ∷ []) _ (rw (product_wide n u w big h.word k.word) refl) fits;
         value_is = refl;
         range = λ gs claims. within_inside _ gs claims (within_product h.range k.range);
-        error = λ gs hs in_x claims. within_inside _ hs claims (product_error u w f p q sh x y (range_at cert.lines a) (range_at cert.lines b) (error_at cert.lines a) (error_at cert.lines b) same h.range k.range h.error k.error);
+        error = λ gs hs in_x claims. within_inside _ hs claims (within_product_error u w f p q sh x y (range_at cert.lines a) (range_at cert.lines b) (error_at cert.lines a) (error_at cert.lines b) same h.range k.range h.error k.error);
         star = λ forms form e. product_form (variables fn) cert.lines vx ve form u w f p q sh a b x y same h.range k.range h.error k.error (forms.form a lawful.0) (forms.form b lawful.1);
         state_is = λ j l e. no_state _ _ _ j (inr placed) l e;
       }
@@ -228,7 +228,7 @@ module _ (fn : Function) (n : ℕ) (big : 8 ≤ n) (ps : List ℤ) (cert : Certi
         word_is = λ fits. rw (divided_is n_d w (divisor_word w q sides.1 in_word_b)) (kept_fits n (n_d ∷ []) _ (rw (left_wide n sh u big h.word lawful.2) refl) fits);
         value_is = z_is.is;
         range = λ gs claims. within_quotient (range_at cert.lines a) (range_at cert.lines b) gs y z_is.value sides.0 claims k.range (within_same (equal_sym z_is.back) h.range);
-        error = λ gs hs in_z claims. quotient_error u w f p q sh x y z_is.value gs (range_at cert.lines b) (error_at cert.lines a) (error_at cert.lines b) hs same z_is.back sides.1 in_z k.range h.error k.error claims;
+        error = λ gs hs in_z claims. within_quotient_error u w f p q sh x y z_is.value gs (range_at cert.lines b) (error_at cert.lines a) (error_at cert.lines b) hs same z_is.back sides.1 in_z k.range h.error k.error claims;
         star = λ forms form e. absurd cc;
         state_is = λ j l e. no_state _ _ _ j (inr placed) l e;
       }
@@ -243,7 +243,7 @@ module _ (fn : Function) (n : ℕ) (big : 8 ≤ n) (ps : List ℤ) (cert : Certi
         word_is = λ fits. kept_fits n (shifted w sh ∷ []) _ (rw (shifted_wide n w sh big h.word lawful.1.low) refl) fits;
         value_is = refl;
         range = λ gs claims. within_inside _ gs claims h.range;
-        error = λ gs hs in_x claims. within_inside _ hs claims (copy_error w f p sh x (error_at cert.lines a) same h.error);
+        error = λ gs hs in_x claims. within_inside _ hs claims (within_copy_error w f p sh x (error_at cert.lines a) same h.error);
         star = λ forms form e. copy_form (variables fn) cert.lines vx ve form w f p sh a x same (forms.form a lawful.0);
         state_is = λ j l e. no_state _ _ _ j (inr placed) l e;
       }

@@ -20,7 +20,7 @@ use Rattle.fx_bounds.proofs.Losses.{within_zero}
 use Rattle.fx_bounds.proofs.Spans.{within_same}
 use Rattle.fx_bounds.proofs.Sums.{within_weighted_sum, combined_same}
 use Rattle.fx_bounds.proofs.Claims.{Each, Claimed, within_inside}
-use Rattle.fx_bounds.proofs.Operations.{const_error}
+use Rattle.fx_bounds.proofs.Operations.{within_const_error}
 use Rattle.fx_sound.proofs.Accepts.{Accepts}
 
 -- what lies in the boxes meets the rows
@@ -69,5 +69,5 @@ start_near fn p cert lawful lawful_cert a =
       error_rows = meets_same k (rows_of k cert.error_rows) (length cert.error_rows) (λ j. minus (word_value (at (pos 0) (start_words p.codes) j) (at (pos 0) (points_of p.codes) (length fn.inputs + j))) (start_of fn j)) (state_error fn p (start_words p.codes) x)
           (λ j l. rw (start_value fn j) refl)
           (start_meets k (rows_of k cert.error_rows) (length cert.error_rows) (λ s. span (at no_box cert.starts s).error) _
-          (λ j l. let c = a.starts j l in const_error (at (pos 0) (start_words p.codes) j) (at (pos 0) (points_of p.codes) (length fn.inputs + j)) (start_of fn j) (span (at no_box cert.starts j).error) c.1.1.0 c.1.1.1.0) a.start_error_rows);
+          (λ j l. let c = a.starts j l in within_const_error (at (pos 0) (start_words p.codes) j) (at (pos 0) (points_of p.codes) (length fn.inputs + j)) (start_of fn j) (span (at no_box cert.starts j).error) c.1.1.0 c.1.1.1.0) a.start_error_rows);
     }

@@ -67,7 +67,7 @@ module _ (fn : Function) (n : ℕ) (big : 8 ≤ n) (next : ℕ) (ps : List ℤ) 
       let before = front (c ∷ cs) so_far ps points_are in
       let l = at no_line cert.lines (length ws) in
       let o = one fn n big ps cert g t true_row z s state_range state_error vx ve ws xs so_far (matches v c shapes.0.test) all lawful.0.0 lawful.0.1 before len here_point (both_left _ _ shapes.1.0.test) nodes_met.1.0.claims in
-      let here = settled fn n ps cert g t z s vx ve vars l (form_of (variables fn) cert.lines (length ws)) (at (pos 0) ps (length ws)) v c ws xs forms o nodes_met.0.test nodes_met.0.claims nodes_met.1.1.0.claims nodes_met.1.1.1.0.claims in
+      let here = settled fn n ps cert g t z s vx ve vars l (form_of (variables fn) cert.lines (length ws)) (at (pos 0) ps (length ws)) v c ws xs forms o nodes_met.0.claims nodes_met.1.1.0.claims nodes_met.1.1.1.0.claims in
       let kept_word = node_holds n (at (pos 0) ps (length ws)) o.word o.value l here.range here.error nodes_met.1.1.1.1.0.claims in
       let affine : AffineHolds (variables fn) (affine_at (variables fn) cert.lines (length ws)) vx ve o.value (minus (word_value o.word (at (pos 0) ps (length ws))) o.value) = rw (own_form (variables fn) cert.lines (length ws) after) here.affine in
       let grown : length (ws ++ o.word ∷ []) ≡ length ws + 1 = length-append ws (o.word ∷ []) in

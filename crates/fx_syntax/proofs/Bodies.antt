@@ -14,7 +14,7 @@ use Rattle.fx_syntax.specs.Leaves.{IsNext, IsMaybeSemicolon, left_out, written}
 use Rattle.fx_syntax.specs.Runs.{IsRun, IsBehind, IsListed}
 use Rattle.fx_syntax.specs.Expressions.{Scope, all_names}
 use Rattle.fx_syntax.specs.Bodies as syntax
-use Rattle.fx_syntax.specs.Bodies.{with_temps, IsWhole, IsMaybeTyped, IsVal, IsElement, IsResult, single, tuple}
+use Rattle.fx_syntax.specs.Bodies.{with_temps, IsWholeExpr, IsMaybeTyped, IsVal, IsElement, IsResult, single, tuple}
 use Rattle.fx_syntax.proofs.Outcomes.{OnOk, done, failed, and_then, choose, weaken, with_both, steps, on_true, on_false}
 use Rattle.fx_syntax.proofs.Marks.{mark, same_head, next_is, is_next, not_next, next_head_is, behind_is, next_shorter, real_shorter, want_spells, want_reads, real_spells, real_reads, semicolon_spells, semicolon_reads}
 use Rattle.fx_syntax.proofs.Repeats.{Seen, Any, keeps_any, Spells, Keeps, many_spells, many_reads, many_fits, listed_spells, listed_reads, listed_shorter, behind_run_shorter}
@@ -70,7 +70,7 @@ minus_stops : (p q : Bool) → (p || q) ≡ false → q ≡ false
 minus_stops true q e = absurd cc
 minus_stops false q e = e
 
-pub whole_spells : (scope : Scope) (temps : List Temp) (end : ℕ) (ts : Tokens) → OnOk (Seen operand_of (IsWhole (with_temps scope temps) ts)) (whole_at end (body_at scope temps) ts)
+pub whole_spells : (scope : Scope) (temps : List Temp) (end : ℕ) (ts : Tokens) → OnOk (Seen operand_of (IsWholeExpr (with_temps scope temps) ts)) (whole_at end (body_at scope temps) ts)
 unfolding whole_at
 whole_spells scope temps end ts =
     and_then (with_both (expr_spells (with_temps scope temps) end true 200 ts) (expr_ends (with_temps scope temps) end true 200 ts)) (λ x both.
@@ -82,14 +82,14 @@ whole_spells scope temps end ts =
     })))
 
 -- nothing goes on behind it
-pub whole_stops : {scope : Scope} {ts : Tokens} {x : Tree} {rest : Tokens} → IsWhole scope ts x rest → Follows rest → Stops true rest
+pub whole_stops : {scope : Scope} {ts : Tokens} {x : Tree} {rest : Tokens} → IsWholeExpr scope ts x rest → Follows rest → Stops true rest
 whole_stops {rest = rest} i f = record { term = f.term; sum = by (next_head rest ==ₕ heads.Plus) f.plus }
   where
     by : (p : Bool) → p ≡ false → (p || ((next_head rest ==ₕ heads.Minus) && not (is_fresh rest))) ≡ false
     by true e = absurd cc
     by false e = i.ends
 
-pub whole_reads : (scope : Scope) (temps : List Temp) (end : ℕ) (ts : Tokens) (x : Tree) (rest : Tokens) → IsWhole (with_temps scope temps) ts x rest → Stops true rest → whole_at end (body_at scope temps) ts ≡ Ok (operand_of x, rest)
+pub whole_reads : (scope : Scope) (temps : List Temp) (end : ℕ) (ts : Tokens) (x : Tree) (rest : Tokens) → IsWholeExpr (with_temps scope temps) ts x rest → Stops true rest → whole_at end (body_at scope temps) ts ≡ Ok (operand_of x, rest)
 unfolding whole_at
 whole_reads scope temps end ts x rest i stop = steps _ (expr_reads (with_temps scope temps) end true 200 ts x rest i.expression stop) (on_false _ (low_not_high x i.low) refl)
 
@@ -154,7 +154,7 @@ unfolding vals_at
 vals_spell scope end ts = many_spells (body_at scope) HasRoom (IsVal scope) (val_at end) (val_spells scope end) (val_room scope) heads.Val refl [] (omega arith) ts
 
 -- what is behind an expression that a semicolon may end
-ends_stop : {scope : Scope} {es : Tokens} {x : Tree} {ts rest : Tokens} → IsWhole scope es x ts → IsMaybeSemicolon ts rest → Follows rest → Stops true ts
+ends_stop : {scope : Scope} {es : Tokens} {x : Tree} {ts rest : Tokens} → IsWholeExpr scope es x ts → IsMaybeSemicolon ts rest → Follows rest → Stops true ts
 ends_stop i left_out f = whole_stops i f
 ends_stop i (written n) f = stops_next true n.next refl refl
 
@@ -210,7 +210,7 @@ one_result n xs x low =
 first_nodes : (n : ℕ) (m : ℕ) → counted_nodes (min 4001 n + m) ≡ counted_nodes (min 4001 (n + 0) + m)
 first_nodes n m = omega arith
 
-single_spells : (scope : Scope) (temps : List Temp) (end word : ℕ) (ts : Tokens) → OnOk (Seen (results_of (sizes temps)) (λ xs rest. (x : Tree) × (xs ≡ x ∷ []) × IsWhole (with_temps scope temps) ts x rest)) (single_at end word (body_at scope temps) ts)
+single_spells : (scope : Scope) (temps : List Temp) (end word : ℕ) (ts : Tokens) → OnOk (Seen (results_of (sizes temps)) (λ xs rest. (x : Tree) × (xs ≡ x ∷ []) × IsWholeExpr (with_temps scope temps) ts x rest)) (single_at end word (body_at scope temps) ts)
 unfolding single_at results
 single_spells scope temps end word ts =
     and_then (with_both (expr_spells (with_temps scope temps) end true 200 ts) (expr_ends (with_temps scope temps) end true 200 ts)) (λ x both.

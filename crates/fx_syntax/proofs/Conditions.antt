@@ -13,8 +13,8 @@ use Rattle.fx_grammar.specs.declared.head.Head.TheVariants as heads
 use Rattle.fx_grammar.specs.declared.side.Side.{Side}
 use Rattle.fx_grammar.specs.declared.side.Side.TheVariants.{Low, High, Error}
 use Rattle.fx_grammar.specs.Heads.{◌==ₕ◌}
-use Rattle.fx_grammar.specs.Steps.{Tokens, fault, next_head, place_at, place_of, when}
-use Rattle.fx_grammar.specs.Ranges.{Subject, Subjects, names_of, is_given, side_of, subject_or, said, found_or, subject_at, is_relation, is_upward, error_at, bound_at, name_first, is_signed, behind_relation, number_first, condition_at, input_of, or_zero, is_lacking, is_empty_range, all_pass, inputs_at}
+use Rattle.fx_grammar.specs.Steps.{Tokens, fault, next_head, next_place, name_place, when}
+use Rattle.fx_grammar.specs.Ranges.{Subject, Subjects, names_of, is_said, side_of, subject_or, said, found_or, subject_at, is_relation, is_upward, stated_error, bound_at, name_first, is_signed, behind_relation, number_first, condition_at, declared_input, or_zero, is_lacking, is_empty_range, all_pass, inputs_at}
 use Rattle.fx_syntax.specs.Leaves.{IsNext, IsNumber, IsSigned, plain, negative}
 use Rattle.fx_syntax.specs.Conditions as syntax
 use Rattle.fx_syntax.specs.Conditions.{IsSaid, IsRelation, below, at_most, above, at_least, IsNameFirst, IsNumberFirst, IsErrorOf, IsInputOf, AreInputsOf, none, one_more}
@@ -29,26 +29,26 @@ pub found_spells : (t : Lexeme) (o : Option ℕ) → OnOk (λ k. o ≡ Some k) (
 found_spells t None = failed
 found_spells t (Some k) = done refl
 
-pub subject_spells : (subjects : Subjects) (t : Lexeme) → OnOk (λ k. place_of (names_of subjects) t.text ≡ Some k) (subject_at subjects t)
+pub subject_spells : (subjects : Subjects) (t : Lexeme) → OnOk (λ k. name_place (names_of subjects) t.text ≡ Some k) (subject_at subjects t)
 unfolding subject_at
-subject_spells subjects t = found_spells t (place_of (names_of subjects) t.text)
+subject_spells subjects t = found_spells t (name_place (names_of subjects) t.text)
 
-pub subject_reads : (subjects : Subjects) (t : Lexeme) (k : ℕ) → place_of (names_of subjects) t.text ≡ Some k → subject_at subjects t ≡ Ok k
+pub subject_reads : (subjects : Subjects) (t : Lexeme) (k : ℕ) → name_place (names_of subjects) t.text ≡ Some k → subject_at subjects t ≡ Ok k
 unfolding subject_at
 subject_reads subjects t k e = ap (found_or t) e
 
-none_is : (o : Option Decimal) → is_given o ≡ false → o ≡ None
+none_is : (o : Option Decimal) → is_said o ≡ false → o ≡ None
 none_is None e = refl
 none_is (Some d) e = absurd cc
 
-pub said_spells : (side : Side) (d : Decimal) (t : Lexeme) (subjects : Subjects) (k : ℕ) → place_of (names_of subjects) t.text ≡ Some k → OnOk (IsSaid side d t subjects) (said side d t subjects k)
+pub said_spells : (side : Side) (d : Decimal) (t : Lexeme) (subjects : Subjects) (k : ℕ) → name_place (names_of subjects) t.text ≡ Some k → OnOk (IsSaid side d t subjects) (said side d t subjects k)
 unfolding said
 said_spells side d t subjects k p =
-    choose (is_given (side_of side (subject_or subjects k))) (λ e. failed) (λ e. done (record { place = k; known = p; fresh = none_is _ e; value = refl }))
+    choose (is_said (side_of side (subject_or subjects k))) (λ e. failed) (λ e. done (record { place = k; known = p; fresh = none_is _ e; value = refl }))
 
 pub said_reads : (side : Side) (d : Decimal) (t : Lexeme) (before after : Subjects) (i : IsSaid side d t before after) → said side d t before i.place ≡ Ok after
 unfolding said
-said_reads side d t before after i = on_false _ (ap is_given i.fresh) (ap (λ (s : Subjects). Ok s) (sym i.value))
+said_reads side d t before after i = on_false _ (ap is_said i.fresh) (ap (λ (s : Subjects). Ok s) (sym i.value))
 
 -- ---- relations
 
@@ -89,17 +89,17 @@ relation_some _ e = refl
 -- ---- conditions without parentheses around them
 
 pub error_spells : (end : ℕ) (subjects : Subjects) (ts : Tokens) (t u : Lexeme) (k : ℕ) (signs numbers : Tokens)
-    → IsNext heads.Name ts t signs → IsNext heads.PlusMinus signs u numbers → place_of (names_of subjects) t.text ≡ Some k
-    → OnOk (λ x. IsErrorOf subjects ts x.0 x.1) (error_at end subjects t k numbers)
-unfolding error_at
+    → IsNext heads.Name ts t signs → IsNext heads.PlusMinus signs u numbers → name_place (names_of subjects) t.text ≡ Some k
+    → OnOk (λ x. IsErrorOf subjects ts x.0 x.1) (stated_error end subjects t k numbers)
+unfolding stated_error
 error_spells end subjects ts t u k signs numbers n sign p =
     and_then (number_spells end numbers) (λ d number.
     and_then (said_spells Error d.0 t subjects k p) (λ s said.
     done (record { name = t; number = d.0; signs = signs; numbers = numbers; name_next = n; sign = mark sign; number_is = number; said = said })))
 
 pub error_reads : (end : ℕ) (before : Subjects) (after : Subjects) (numbers : Tokens) (t : Lexeme) (d : Decimal) (rest : Tokens) → IsNumber numbers d rest → (i : IsSaid Error d t before after)
-    → error_at end before t i.place numbers ≡ Ok (after, rest)
-unfolding error_at
+    → stated_error end before t i.place numbers ≡ Ok (after, rest)
+unfolding stated_error
 error_reads end before after numbers t d rest n i = steps _ (number_reads end n) (steps _ (said_reads Error d t before after i) refl)
 
 -- what one condition says
@@ -206,9 +206,9 @@ number_first_reads end s ts after rest i =
     on_false _ (signed_head i.number_is).0 (
     steps _ (signed_reads end i.number_is) (
     on_true _ (ap is_relation head ∙ sign.relation) (
-    ap (λ side. behind_relation end (place_at end ts) s i.number side (drop 1 i.signs)) (ap on_right head ∙ sign.on_right)
-    ∙ ap (behind_relation end (place_at end ts) s i.number i.right) (behind_is i.sign.next)
-    ∙ behind_reads end (place_at end ts) s after i.names rest i.name i.number i.right i.name_next i.said)))
+    ap (λ side. behind_relation end (next_place end ts) s i.number side (drop 1 i.signs)) (ap on_right head ∙ sign.on_right)
+    ∙ ap (behind_relation end (next_place end ts) s i.number i.right) (behind_is i.sign.next)
+    ∙ behind_reads end (next_place end ts) s after i.names rest i.name i.number i.right i.name_next i.said)))
 
 pub error_of_reads : (end : ℕ) (s : Subjects) (ts : Tokens) (after : Subjects) (rest : Tokens) → IsErrorOf s ts after rest → condition_at end s ts ≡ Ok (after, rest)
 unfolding condition_at name_first
@@ -217,7 +217,7 @@ error_of_reads end s ts after rest i =
     steps _ (want_reads end i.name_next) (
     steps _ (subject_reads s i.name i.said.place i.said.known) (
     on_true _ (is_next i.sign.next) (
-    ap (error_at end s i.name i.said.place) (behind_is i.sign.next)
+    ap (stated_error end s i.name i.said.place) (behind_is i.sign.next)
     ∙ error_reads end s after i.numbers i.name i.number rest i.number_is i.said))))
 
 -- ---- how long a condition is, and how it begins
@@ -258,7 +258,7 @@ pass_spells fails faulty s subjects u e = by (fails s) refl e
     by true p e = absurd cc
     by false p e = (p, e)
 
-given_is : (o : Option Decimal) → is_given o ≡ true → (d : Decimal) × (o ≡ Some d)
+given_is : (o : Option Decimal) → is_said o ≡ true → (d : Decimal) × (o ≡ Some d)
 given_is None e = absurd cc
 given_is (Some d) e = (d, refl)
 
@@ -266,9 +266,9 @@ not_true : (b : Bool) → not b ≡ false → b ≡ true
 not_true true e = refl
 not_true false e = absurd cc
 
-input_is : (s : Subject) → is_lacking s ≡ false → is_empty_range s ≡ false → IsInputOf s (input_of s)
+input_is : (s : Subject) → is_lacking s ≡ false → is_empty_range s ≡ false → IsInputOf s (declared_input s)
 input_is s lacking empty =
-    let given = both_true (is_given s.lo) (is_given s.hi) (not_true _ lacking) in
+    let given = both_true (is_said s.lo) (is_said s.hi) (not_true _ lacking) in
     let lo = given_is s.lo given.0 in
     let hi = given_is s.hi given.1 in
     let le : is_at_most (decimal_value (or_zero s.lo)) (decimal_value (or_zero s.hi)) ≡ true = not_true _ empty in
@@ -282,7 +282,7 @@ input_is s lacking empty =
           ∙ ap (λ o. record { name = s.name; lo = decimal_value lo.0; hi = decimal_value (or_zero o); err = decimal_value (or_zero s.err) }) hi.1;
     }
 
-ranges_are : (lacks empties : ℕ → SourceFault) (subjects : Subjects) (u v : Unit {0}) → all_pass is_lacking lacks subjects ≡ Ok u → all_pass is_empty_range empties subjects ≡ Ok v → AreInputsOf subjects (map input_of subjects)
+ranges_are : (lacks empties : ℕ → SourceFault) (subjects : Subjects) (u v : Unit {0}) → all_pass is_lacking lacks subjects ≡ Ok u → all_pass is_empty_range empties subjects ≡ Ok v → AreInputsOf subjects (map declared_input subjects)
 ranges_are lacks empties [] u v e f = none
 ranges_are lacks empties (s ∷ subjects) u v e f =
     let a = pass_spells is_lacking lacks s subjects u e in
@@ -295,9 +295,9 @@ ranges_spell subjects =
     and_then (answered (all_pass is_lacking (λ at. fault at kinds.NoRange) subjects)) (λ u e.
     and_then (answered (all_pass is_empty_range (λ at. fault at kinds.EmptyRange) subjects)) (λ v f. done (ranges_are _ _ subjects u v e f)))
 
-range_reads : (s : Subject) (x : Input) → IsInputOf s x → (is_lacking s ≡ false) × (is_empty_range s ≡ false) × (input_of s ≡ x)
+range_reads : (s : Subject) (x : Input) → IsInputOf s x → (is_lacking s ≡ false) × (is_empty_range s ≡ false) × (declared_input s ≡ x)
 range_reads s x i = (
-  ap (λ o. not (is_given o && is_given s.hi)) i.low ∙ ap (λ o. not (is_given o)) i.high,
+  ap (λ o. not (is_said o && is_said s.hi)) i.low ∙ ap (λ o. not (is_said o)) i.high,
   ap (λ o. not (is_at_most (decimal_value (or_zero o)) (decimal_value (or_zero s.hi)))) i.low
       ∙ ap (λ o. not (is_at_most (decimal_value i.lo) (decimal_value (or_zero o)))) i.high
       ∙ ap not (true_is (is_at_most (decimal_value i.lo) (decimal_value i.hi)) ((at_most_test _ _).1 i.ordered)),
@@ -316,7 +316,7 @@ passes fails faulty s subjects e f = when_false _ _ e ∙ f
 record Ranged (lacks empties : ℕ → SourceFault) (subjects : Subjects) (inputs : List Input) : Type 0 where
   lacking : all_pass is_lacking lacks subjects ≡ Ok tt
   empty : all_pass is_empty_range empties subjects ≡ Ok tt
-  same : map input_of subjects ≡ inputs
+  same : map declared_input subjects ≡ inputs
 
 ranged : (lacks empties : ℕ → SourceFault) {subjects : Subjects} {inputs : List Input} → AreInputsOf subjects inputs → Ranged lacks empties subjects inputs
 unfolding all_pass
@@ -327,7 +327,7 @@ ranged lacks empties (one_more {s = s} {x = x} {subjects = subjects} {inputs = i
     record {
       lacking = passes is_lacking lacks s subjects a.0 b.lacking;
       empty = passes is_empty_range empties s subjects a.1 b.empty;
-      same = ap (λ y. y ∷ map input_of subjects) a.2 ∙ ap (λ ys. x ∷ ys) b.same;
+      same = ap (λ y. y ∷ map declared_input subjects) a.2 ∙ ap (λ ys. x ∷ ys) b.same;
     }
 
 pub ranges_read : {subjects : Subjects} {inputs : List Input} → AreInputsOf subjects inputs → inputs_at subjects ≡ Ok inputs

@@ -4,8 +4,8 @@ use Rattle.fx_rational.specs.Rational.{Rational}
 use Rattle.fx_grammar.specs.declared.head.Head.TheVariants as heads
 use Rattle.fx_grammar.specs.Heads.{◌==ₕ◌}
 use Rattle.fx_grammar.specs.Steps.{Tokens, next_head, has_name, listed as listed_by}
-use Rattle.fx_grammar.specs.Ranges.{Subjects, names_of, error_at}
-use Rattle.fx_grammar.specs.Ensuring.{demand_at, output_at, counted, outputs_at, ensuring_at, maybe_ensuring_at}
+use Rattle.fx_grammar.specs.Ranges.{Subjects, names_of, stated_error}
+use Rattle.fx_grammar.specs.Ensuring.{demand_at, output_at, of_arity, outputs_at, ensuring_at, maybe_ensuring_at}
 use Rattle.fx_syntax.specs.Conditions.{IsErrorOf}
 use Rattle.fx_syntax.specs.Ensuring.{IsOutput, IsOutputs, one, several, IsEnsuring, IsMaybeEnsuring, left_out, written}
 use Rattle.fx_syntax.proofs.Outcomes.{OnOk, done, failed, and_then, choose, weaken, steps, on_true, on_false}
@@ -30,7 +30,7 @@ demand_reads end s ts after rest i =
     steps _ (want_reads end i.name_next) (
     steps _ (subject_reads s i.name i.said.place i.said.known) (
     on_true _ (is_next i.sign.next) (
-    ap (error_at end s i.name i.said.place) (behind_is i.sign.next)
+    ap (stated_error end s i.name i.said.place) (behind_is i.sign.next)
     ∙ error_reads end s after i.numbers i.name i.number rest i.number_is i.said))))
 
 output_spells : (end : ℕ) → Spells itself Any IsOutput (output_at end)
@@ -43,10 +43,10 @@ output_reads : (end : ℕ) (s : Subjects) (ts : Tokens) (after : Subjects) (rest
 unfolding output_at
 output_reads end s ts after rest i = steps _ (want_reads end i.next) (on_false _ i.fresh (ap (λ (s : Subjects). Ok (s, rest)) (sym i.value)))
 
-counted_spells : (count : ℕ) {P : Subjects × Tokens → Type 0} (x : Subjects × Tokens) → P x → OnOk (λ y. (length y.0 ≡ count) × P y) (counted count x)
+counted_spells : (count : ℕ) {P : Subjects × Tokens → Type 0} (x : Subjects × Tokens) → P x → OnOk (λ y. (length y.0 ≡ count) × P y) (of_arity count x)
 counted_spells count {P} x p = choose (eqb (length x.0) count) (λ e. let same : length x.0 ≡ count = search (rules, tests) in done (same, p)) (λ e. failed)
 
-counted_reads : (count : ℕ) (s : Subjects) (us : Tokens) → length s ≡ count → counted count (s, us) ≡ Ok (s, us)
+counted_reads : (count : ℕ) (s : Subjects) (us : Tokens) → length s ≡ count → of_arity count (s, us) ≡ Ok (s, us)
 counted_reads count s us same = let e : eqb (length s) count ≡ true = search (rules, tests) in on_true _ e refl
 
 outputs_spell : (end count : ℕ) (ts : Tokens) → OnOk (λ y. (length y.0 ≡ count) × IsOutputs ts y.0 y.1) (outputs_at end count ts)

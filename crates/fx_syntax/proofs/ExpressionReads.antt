@@ -7,12 +7,12 @@ use Rattle.fx_lexer.specs.Tokens.{Lexeme}
 use Rattle.fx_grammar.specs.declared.head.Head.{Head}
 use Rattle.fx_grammar.specs.declared.head.Head.TheVariants as heads
 use Rattle.fx_grammar.specs.Heads.{◌==ₕ◌}
-use Rattle.fx_grammar.specs.Steps.{Tokens, next_head, is_fresh, minus}
-use Rattle.fx_grammar.specs.Operands.{Operand, leaf, joined}
-use Rattle.fx_grammar.specs.Expressions.{Reader, is_call, found, named, closed, opened, atom_by, atom_of, negated, factor_of, one_more, goes_on_product, goes_on_sum, term_of, sum_of, expr_at, inner_at}
+use Rattle.fx_grammar.specs.Steps.{Tokens, next_head, is_fresh, negative_decimal}
+use Rattle.fx_grammar.specs.Operands.{Operand, leaf, combined_operand}
+use Rattle.fx_grammar.specs.Expressions.{Reader, is_call, found, named, closed, opened, atom_by, atom_of, behind_minus, factor_of, one_more, goes_on_product, goes_on_sum, term_of, sum_from, expr_at, inner_at}
 use Rattle.fx_syntax.specs.Leaves.{IsNext, IsNumber}
 use Rattle.fx_syntax.specs.Runs.{Rule, IsRun, over, more}
-use Rattle.fx_syntax.specs.Expressions.{Scope, IsMeant, literal, IsExpr, one_term, sum, difference, IsTerm, one_factor, product, quotient, IsFactor, one_atom, negative, negation as negated_atom, IsAtom, number, name, parens}
+use Rattle.fx_syntax.specs.Expressions.{Scope, IsMeant, literal_tree, IsExpr, one_term, sum, difference, IsTerm, one_factor, product, quotient, IsFactor, one_atom, negative, negation as negated_atom, IsAtom, number, name, parens}
 use Rattle.fx_syntax.proofs.Outcomes.{steps, on_false}
 use Rattle.fx_syntax.proofs.Marks.{is_next, not_next, next_head_is, behind_is, want_reads}
 use Rattle.fx_syntax.proofs.Repeats.{when_true, when_false, repeat_reads, run_fits, Takes}
@@ -96,7 +96,7 @@ atom_at scope end inner h ts t us n = ap (atom_of (known_of end scope) inner) n.
 
 atom_reads : {scope : Scope} {room : ℕ} {ts : Tokens} {x : Tree} {rest : Tokens} → IsAtom scope room ts x rest → (end : ℕ) → Below scope end room → atom_of (known_of end scope) (inner_at (known_of end scope) room) ts ≡ Ok (operand_of x, rest)
 atom_reads {scope} (number {room = room} {ts = ts} {rest = rest} {d = d} i) end below =
-    atom_at scope end (inner_at (known_of end scope) room) heads.Number ts i.number rest i.next ∙ ap (λ (d : Decimal). Ok (operand_of (literal d), rest)) (sym i.value)
+    atom_at scope end (inner_at (known_of end scope) room) heads.Number ts i.number rest i.next ∙ ap (λ (d : Decimal). Ok (operand_of (literal_tree d), rest)) (sym i.value)
 atom_reads {scope} (name {room = room} {ts = ts} {rest = rest} {used = t} {x = x} n c m) end below =
     atom_at scope end (inner_at (known_of end scope) room) heads.Name ts t rest n ∙ named_reads scope end t x rest c m
 atom_reads {scope} (parens {room = room} {ts = ts} {us = us} {vs = vs} {rest = rest} {x = x} n e close) end below =
@@ -108,31 +108,31 @@ atom_head (number i) = not_next i.next heads.Minus refl
 atom_head (name n c m) = not_next n heads.Minus refl
 atom_head (parens n e c) = not_next n.next heads.Minus refl
 
-negated_reads : (scope : Scope) (end room : ℕ) (us : Tokens) (d : Decimal) (rest : Tokens) → IsNumber us d rest → negated (known_of end scope) (inner_at (known_of end scope) room) us ≡ Ok (operand_of (literal (minus d)), rest)
-unfolding negated
-negated_reads scope end room us d rest i = when_true _ _ (is_next i.next) ∙ steps _ (want_reads end i.next) (ap (λ (d : Decimal). Ok (operand_of (literal (minus d)), rest)) (sym i.value))
+negated_reads : (scope : Scope) (end room : ℕ) (us : Tokens) (d : Decimal) (rest : Tokens) → IsNumber us d rest → behind_minus (known_of end scope) (inner_at (known_of end scope) room) us ≡ Ok (operand_of (literal_tree (negative_decimal d)), rest)
+unfolding behind_minus
+negated_reads scope end room us d rest i = when_true _ _ (is_next i.next) ∙ steps _ (want_reads end i.next) (ap (λ (d : Decimal). Ok (operand_of (literal_tree (negative_decimal d)), rest)) (sym i.value))
 
 negation_reads : (scope : Scope) (end room : ℕ) (us : Tokens) (x : Tree) (rest : Tokens) → (next_head us ==ₕ heads.Number) ≡ false
-    → atom_of (known_of end scope) (inner_at (known_of end scope) room) us ≡ Ok (operand_of x, rest) → negated (known_of end scope) (inner_at (known_of end scope) room) us ≡ Ok (operand_of (Negation x), rest)
-unfolding negated
+    → atom_of (known_of end scope) (inner_at (known_of end scope) room) us ≡ Ok (operand_of x, rest) → behind_minus (known_of end scope) (inner_at (known_of end scope) room) us ≡ Ok (operand_of (Negation x), rest)
+unfolding behind_minus
 negation_reads scope end room us x rest f e = when_false _ _ f ∙ steps _ e (ap (λ (o : Operand). Ok (o, rest)) (negation_is x))
 
 factor_reads : {scope : Scope} {room : ℕ} {ts : Tokens} {x : Tree} {rest : Tokens} → IsFactor scope room ts x rest → (end : ℕ) → Below scope end room → factor_of (known_of end scope) (inner_at (known_of end scope) room) ts ≡ Ok (operand_of x, rest)
 unfolding factor_of
 factor_reads (one_atom i) end below = when_false _ _ (atom_head i) ∙ atom_reads i end below
 factor_reads {scope} (negative {room = room} {us = us} {rest = rest} {d = d} n i) end below =
-    when_true _ _ (is_next n.next) ∙ ap (negated (known_of end scope) (inner_at (known_of end scope) room)) (behind_is n.next) ∙ negated_reads scope end room us d rest i
+    when_true _ _ (is_next n.next) ∙ ap (behind_minus (known_of end scope) (inner_at (known_of end scope) room)) (behind_is n.next) ∙ negated_reads scope end room us d rest i
 factor_reads {scope} (negated_atom {room = room} {us = us} {rest = rest} {x = x} n f i) end below =
-    when_true _ _ (is_next n.next) ∙ ap (negated (known_of end scope) (inner_at (known_of end scope) room)) (behind_is n.next) ∙ negation_reads scope end room us x rest f (atom_reads i end below)
+    when_true _ _ (is_next n.next) ∙ ap (behind_minus (known_of end scope) (inner_at (known_of end scope) room)) (behind_is n.next) ∙ negation_reads scope end room us x rest f (atom_reads i end below)
 
 module _ (scope : Scope) (end room : ℕ) (below : Below scope end room) where
   one_product : (x : Tree) (ts : Tokens) (z : Tree) (us : Tokens) → IsMoreProduct scope room x ts z us → one_more (factor_of (known_of end scope) (inner_at (known_of end scope) room)) (operand_of x) ts ≡ Ok (operand_of z, us)
   one_product x ts z us (times {y = y} n t) =
       steps _ (ap (factor_of (known_of end scope) (inner_at (known_of end scope) room)) (behind_is n.next) ∙ factor_reads t end below)
-      (ap (λ (o : Operand). Ok (o, us)) (ap (λ h. joined h (operand_of x) (operand_of y)) (next_head_is n.next) ∙ joined_is heads.Star x y (Product x y) (record { tree = refl; height = refl; size = refl })))
+      (ap (λ (o : Operand). Ok (o, us)) (ap (λ h. combined_operand h (operand_of x) (operand_of y)) (next_head_is n.next) ∙ joined_is heads.Star x y (Product x y) (record { tree = refl; height = refl; size = refl })))
   one_product x ts z us (over' {y = y} n t) =
       steps _ (ap (factor_of (known_of end scope) (inner_at (known_of end scope) room)) (behind_is n.next) ∙ factor_reads t end below)
-      (ap (λ (o : Operand). Ok (o, us)) (ap (λ h. joined h (operand_of x) (operand_of y)) (next_head_is n.next) ∙ joined_is heads.Slash x y (Quotient x y) (record { tree = refl; height = refl; size = refl })))
+      (ap (λ (o : Operand). Ok (o, us)) (ap (λ h. combined_operand h (operand_of x) (operand_of y)) (next_head_is n.next) ∙ joined_is heads.Slash x y (Quotient x y) (record { tree = refl; height = refl; size = refl })))
 
   on_product : (x : Tree) (ts : Tokens) (z : Tree) (us : Tokens) → IsMoreProduct scope room x ts z us → goes_on_product (operand_of x) ts ≡ true
   on_product x ts z us (times n t) = ap (λ h. (h ==ₕ heads.Star) || (h ==ₕ heads.Slash)) (next_head_is n.next)
@@ -156,10 +156,10 @@ module _ (scope : Scope) (end room : ℕ) (below : Below scope end room) where
   one_sum : (outside : Bool) (x : Tree) (ts : Tokens) (z : Tree) (us : Tokens) → IsMoreSum scope outside room x ts z us → StopsTerm us → one_more (term_of (known_of end scope) (inner_at (known_of end scope) room)) (operand_of x) ts ≡ Ok (operand_of z, us)
   one_sum outside x ts z us (plus {us = vs} {y = y} n t) stop =
       steps _ (ap (term_of (known_of end scope) (inner_at (known_of end scope) room)) (behind_is n.next) ∙ term_reads vs y us t stop)
-      (ap (λ (o : Operand). Ok (o, us)) (ap (λ h. joined h (operand_of x) (operand_of y)) (next_head_is n.next) ∙ joined_is heads.Plus x y (Sum x y) (record { tree = refl; height = refl; size = refl })))
+      (ap (λ (o : Operand). Ok (o, us)) (ap (λ h. combined_operand h (operand_of x) (operand_of y)) (next_head_is n.next) ∙ joined_is heads.Plus x y (Sum x y) (record { tree = refl; height = refl; size = refl })))
   one_sum outside x ts z us (less {us = vs} {y = y} n f t) stop =
       steps _ (ap (term_of (known_of end scope) (inner_at (known_of end scope) room)) (behind_is n.next) ∙ term_reads vs y us t stop)
-      (ap (λ (o : Operand). Ok (o, us)) (ap (λ h. joined h (operand_of x) (operand_of y)) (next_head_is n.next) ∙ joined_is heads.Minus x y (Difference x y) (record { tree = refl; height = refl; size = refl })))
+      (ap (λ (o : Operand). Ok (o, us)) (ap (λ h. combined_operand h (operand_of x) (operand_of y)) (next_head_is n.next) ∙ joined_is heads.Minus x y (Difference x y) (record { tree = refl; height = refl; size = refl })))
 
   on_sum : (outside : Bool) (x : Tree) (ts : Tokens) (z : Tree) (us : Tokens) → IsMoreSum scope outside room x ts z us → goes_on_sum outside (operand_of x) ts ≡ true
   on_sum outside x ts z us (plus n t) = ap (λ h. (h ==ₕ heads.Plus) || ((h ==ₕ heads.Minus) && not (outside && is_fresh ts))) (next_head_is n.next)
@@ -174,8 +174,8 @@ module _ (scope : Scope) (end room : ℕ) (below : Below scope end room) where
   sum_takes : (outside : Bool) → Takes operand_of (IsMoreSum scope outside room) (goes_on_sum outside) (one_more (term_of (known_of end scope) (inner_at (known_of end scope) room))) StopsTerm
   sum_takes outside = record { one = one_sum outside; on = on_sum outside; fits = sum_fits outside; shorter = more_sum_shorter scope outside room }
 
-  sum_reads : (outside : Bool) (ts : Tokens) (x : Tree) (rest : Tokens) → IsExpr scope outside room ts x rest → Stops outside rest → sum_of (known_of end scope) outside (inner_at (known_of end scope) room) ts ≡ Ok (operand_of x, rest)
-  unfolding sum_of
+  sum_reads : (outside : Bool) (ts : Tokens) (x : Tree) (rest : Tokens) → IsExpr scope outside room ts x rest → Stops outside rest → sum_from (known_of end scope) outside (inner_at (known_of end scope) room) ts ≡ Ok (operand_of x, rest)
+  unfolding sum_from
   sum_reads outside ts x rest i stop =
       let p = sums i in
       steps _ (term_reads ts p.first p.behind p.term (run_fits operand_of (IsMoreSum scope outside room) (goes_on_sum outside) (one_more (term_of (known_of end scope) (inner_at (known_of end scope) room))) StopsTerm (sum_takes outside) p.others stop.term))

@@ -7,10 +7,10 @@ use Rattle.fx_lexer.specs.Tokens.{Lexeme}
 use Rattle.fx_grammar.specs.declared.head.Head.{Head}
 use Rattle.fx_grammar.specs.declared.head.Head.TheVariants as heads
 use Rattle.fx_grammar.specs.Heads.{head_of, ◌==ₕ◌}
-use Rattle.fx_grammar.specs.Steps.{Tokens, next_head, is_fresh, decimal, minus, place_of, many}
-use Rattle.fx_grammar.specs.Operands.{Operand, leaf, negation, joined}
-use Rattle.fx_grammar.specs.Expressions.{Known, Reader, is_call, found, named, closed, opened, atom_by, atom_of, negated, factor_of, one_more, goes_on_product, goes_on_sum, term_of, sum_of, expr_at, inner_at}
-use Rattle.fx_syntax.specs.Expressions.{Scope, all_names, literal, IsExpr, one_term, IsTerm, one_factor, IsFactor, one_atom, negative, negation as negated_atom, IsAtom, number, name, parens}
+use Rattle.fx_grammar.specs.Steps.{Tokens, next_head, is_fresh, decimal, negative_decimal, name_place, repeated}
+use Rattle.fx_grammar.specs.Operands.{Operand, leaf, negation, combined_operand}
+use Rattle.fx_grammar.specs.Expressions.{Known, Reader, is_call, found, named, closed, opened, atom_by, atom_of, behind_minus, factor_of, one_more, goes_on_product, goes_on_sum, term_of, sum_from, expr_at, inner_at}
+use Rattle.fx_syntax.specs.Expressions.{Scope, all_names, literal_tree, IsExpr, one_term, IsTerm, one_factor, IsFactor, one_atom, negative, negation as negated_atom, IsAtom, number, name, parens}
 use Rattle.fx_syntax.proofs.Outcomes.{OnOk, done, failed, and_then, choose, weaken, both_true, some_true}
 use Rattle.fx_syntax.proofs.Marks.{mark, same_head, next_is, want_spells}
 use Rattle.fx_syntax.proofs.Repeats.{Seen, Any, keeps_any, when_choose, repeat_spells, repeat_ends}
@@ -18,7 +18,7 @@ use Rattle.fx_syntax.proofs.Chains.{IsMoreSum, plus, less, IsMoreProduct, times,
 use Rattle.fx_syntax.proofs.Operands.{operand_of, negation_is, joined_is}
 use Rattle.fx_syntax.proofs.Names.{known_of, meant_spells, leaf_is}
 
-pub expr_is : (known : Known) (outside : Bool) (room : ℕ) → expr_at known outside room ≡ sum_of known outside (inner_at known room)
+pub expr_is : (known : Known) (outside : Bool) (room : ℕ) → expr_at known outside room ≡ sum_from known outside (inner_at known room)
 unfolding expr_at inner_at
 expr_is known outside zero = refl
 expr_is known outside (suc room) = refl
@@ -38,9 +38,9 @@ module _ (scope : Scope) (end room : ℕ) (inner : Option Reader) (inside : Inne
   known = known_of end scope
 
   named_spells : (t : Lexeme) (ts : Tokens) → head_of t ≡ heads.Name → OnOk (Seen operand_of (IsAtom scope room (t ∷ ts))) (named (known_of end scope) t ts)
-  named_spells t ts h = choose (is_call ts) (λ e. failed) (λ e. by (place_of (all_names scope) t.text) refl e)
+  named_spells t ts h = choose (is_call ts) (λ e. failed) (λ e. by (name_place (all_names scope) t.text) refl e)
     where
-      by : (o : Option ℕ) → place_of (all_names scope) t.text ≡ o → is_call ts ≡ false → OnOk (Seen operand_of (IsAtom scope room (t ∷ ts))) (found (known_of end scope) t o ts)
+      by : (o : Option ℕ) → name_place (all_names scope) t.text ≡ o → is_call ts ≡ false → OnOk (Seen operand_of (IsAtom scope room (t ∷ ts))) (found (known_of end scope) t o ts)
       by None p e = failed
       by (Some k) p e =
           let m = meant_spells end scope t.text k p in
@@ -64,18 +64,18 @@ module _ (scope : Scope) (end room : ℕ) (inner : Option Reader) (inside : Inne
   atom_spells (t ∷ ts) = by (head_of t) refl
     where
       by : (h : Head) → head_of t ≡ h → OnOk (Seen operand_of (IsAtom scope room (t ∷ ts))) (atom_by (known_of end scope) inner t ts h)
-      by heads.Number e = done (record { value = literal (decimal t.text); same = refl; is = number (record { number = t; next = record { tokens = refl; is = e }; value = refl }) })
+      by heads.Number e = done (record { value = literal_tree (decimal t.text); same = refl; is = number (record { number = t; next = record { tokens = refl; is = e }; value = refl }) })
       by heads.Name e = named_spells t ts e
       by heads.Open e = opened_spells t ts e
       by _ e = failed
 
   factor_spells : (ts : Tokens) → OnOk (Seen operand_of (IsFactor scope room ts)) (factor_of (known_of end scope) inner ts)
-  unfolding factor_of negated
+  unfolding factor_of behind_minus
   factor_spells ts = when_choose _ _ (next_head ts ==ₕ heads.Minus)
       (λ e. let s = next_is ts heads.Minus (same_head _ _ e) refl in
       when_choose _ _ (next_head (drop 1 ts) ==ₕ heads.Number)
       (λ e. and_then (want_spells end heads.Number (drop 1 ts)) (λ t n.
-      done (record { value = literal (minus (decimal t.0.text)); same = refl; is = negative (mark s.1) (record { number = t.0; next = n; value = refl }) })))
+      done (record { value = literal_tree (negative_decimal (decimal t.0.text)); same = refl; is = negative (mark s.1) (record { number = t.0; next = n; value = refl }) })))
       (λ e. and_then (atom_spells (drop 1 ts)) (λ x seen.
       done (record { value = Negation seen.value; same = ap negation seen.same ∙ negation_is seen.value; is = negated_atom (mark s.1) e seen.is }))))
       (λ e. weaken (λ x seen. record { value = seen.value; same = seen.same; is = one_atom seen.is }) (atom_spells ts))
@@ -86,13 +86,13 @@ module _ (scope : Scope) (end room : ℕ) (inner : Option Reader) (inside : Inne
   more_product x any ts on = and_then (factor_spells (drop 1 ts)) (λ y seen. by y seen (some_true (next_head ts ==ₕ heads.Star) (next_head ts ==ₕ heads.Slash) on))
     where
       by : (y : Operand × Tokens) → Seen operand_of (IsFactor scope room (drop 1 ts)) y → ((next_head ts ==ₕ heads.Star) ≡ true) ⊎ ((next_head ts ==ₕ heads.Slash) ≡ true)
-          → OnOk {E = SourceFault} (Seen operand_of (IsMoreProduct scope room x ts)) (Ok (joined (next_head ts) (operand_of x) y.0, y.1))
+          → OnOk {E = SourceFault} (Seen operand_of (IsMoreProduct scope room x ts)) (Ok (combined_operand (next_head ts) (operand_of x) y.0, y.1))
       by y seen (inl e) =
           let h = same_head _ _ e in
           let t = next_is ts heads.Star h refl in
           done (record {
             value = Product x seen.value;
-            same = ap (λ g. joined g (operand_of x) y.0) h ∙ ap (joined heads.Star (operand_of x)) seen.same ∙ joined_is heads.Star x seen.value (Product x seen.value) (record { tree = refl; height = refl; size = refl });
+            same = ap (λ g. combined_operand g (operand_of x) y.0) h ∙ ap (combined_operand heads.Star (operand_of x)) seen.same ∙ joined_is heads.Star x seen.value (Product x seen.value) (record { tree = refl; height = refl; size = refl });
             is = times (mark t.1) seen.is;
           })
       by y seen (inr e) =
@@ -100,7 +100,7 @@ module _ (scope : Scope) (end room : ℕ) (inner : Option Reader) (inside : Inne
           let t = next_is ts heads.Slash h refl in
           done (record {
             value = Quotient x seen.value;
-            same = ap (λ g. joined g (operand_of x) y.0) h ∙ ap (joined heads.Slash (operand_of x)) seen.same ∙ joined_is heads.Slash x seen.value (Quotient x seen.value) (record { tree = refl; height = refl; size = refl });
+            same = ap (λ g. combined_operand g (operand_of x) y.0) h ∙ ap (combined_operand heads.Slash (operand_of x)) seen.same ∙ joined_is heads.Slash x seen.value (Quotient x seen.value) (record { tree = refl; height = refl; size = refl });
             is = over' (mark t.1) seen.is;
           })
 
@@ -108,7 +108,7 @@ module _ (scope : Scope) (end room : ℕ) (inner : Option Reader) (inside : Inne
   unfolding term_of
   term_spells ts =
       and_then (factor_spells ts) (λ x first.
-      subst (λ s. OnOk (Seen operand_of (IsTerm scope room ts)) (many goes_on_product (one_more (factor_of (known_of end scope) inner)) s x.1)) (sym first.same)
+      subst (λ s. OnOk (Seen operand_of (IsTerm scope room ts)) (repeated goes_on_product (one_more (factor_of (known_of end scope) inner)) s x.1)) (sym first.same)
       (weaken (λ y others. record { value = others.value; same = others.same; is = products_fold others.is (one_factor first.is) })
       (repeat_spells operand_of Any (IsMoreProduct scope room) goes_on_product (one_more (factor_of (known_of end scope) inner)) more_product (keeps_any (IsMoreProduct scope room)) (suc (length x.1)) first.value (tt {0}) x.1)))
 
@@ -117,13 +117,13 @@ module _ (scope : Scope) (end room : ℕ) (inner : Option Reader) (inside : Inne
   more_sum outside x any ts on = and_then (term_spells (drop 1 ts)) (λ y seen. by y seen (some_true (next_head ts ==ₕ heads.Plus) ((next_head ts ==ₕ heads.Minus) && not (outside && is_fresh ts)) on))
     where
       by : (y : Operand × Tokens) → Seen operand_of (IsTerm scope room (drop 1 ts)) y → ((next_head ts ==ₕ heads.Plus) ≡ true) ⊎ (((next_head ts ==ₕ heads.Minus) && not (outside && is_fresh ts)) ≡ true)
-          → OnOk {E = SourceFault} (Seen operand_of (IsMoreSum scope outside room x ts)) (Ok (joined (next_head ts) (operand_of x) y.0, y.1))
+          → OnOk {E = SourceFault} (Seen operand_of (IsMoreSum scope outside room x ts)) (Ok (combined_operand (next_head ts) (operand_of x) y.0, y.1))
       by y seen (inl e) =
           let h = same_head _ _ e in
           let t = next_is ts heads.Plus h refl in
           done (record {
             value = Sum x seen.value;
-            same = ap (λ g. joined g (operand_of x) y.0) h ∙ ap (joined heads.Plus (operand_of x)) seen.same ∙ joined_is heads.Plus x seen.value (Sum x seen.value) (record { tree = refl; height = refl; size = refl });
+            same = ap (λ g. combined_operand g (operand_of x) y.0) h ∙ ap (combined_operand heads.Plus (operand_of x)) seen.same ∙ joined_is heads.Plus x seen.value (Sum x seen.value) (record { tree = refl; height = refl; size = refl });
             is = plus (mark t.1) seen.is;
           })
       by y seen (inr e) =
@@ -132,23 +132,23 @@ module _ (scope : Scope) (end room : ℕ) (inner : Option Reader) (inside : Inne
           let t = next_is ts heads.Minus h refl in
           done (record {
             value = Difference x seen.value;
-            same = ap (λ g. joined g (operand_of x) y.0) h ∙ ap (joined heads.Minus (operand_of x)) seen.same ∙ joined_is heads.Minus x seen.value (Difference x seen.value) (record { tree = refl; height = refl; size = refl });
+            same = ap (λ g. combined_operand g (operand_of x) y.0) h ∙ ap (combined_operand heads.Minus (operand_of x)) seen.same ∙ joined_is heads.Minus x seen.value (Difference x seen.value) (record { tree = refl; height = refl; size = refl });
             is = less (mark t.1) (not_true _ both.1) seen.is;
           })
 
-  sum_spells : (outside : Bool) (ts : Tokens) → OnOk (Seen operand_of (IsExpr scope outside room ts)) (sum_of (known_of end scope) outside inner ts)
-  unfolding sum_of
+  sum_spells : (outside : Bool) (ts : Tokens) → OnOk (Seen operand_of (IsExpr scope outside room ts)) (sum_from (known_of end scope) outside inner ts)
+  unfolding sum_from
   sum_spells outside ts =
       and_then (term_spells ts) (λ x first.
-      subst (λ s. OnOk (Seen operand_of (IsExpr scope outside room ts)) (many (goes_on_sum outside) (one_more (term_of (known_of end scope) inner)) s x.1)) (sym first.same)
+      subst (λ s. OnOk (Seen operand_of (IsExpr scope outside room ts)) (repeated (goes_on_sum outside) (one_more (term_of (known_of end scope) inner)) s x.1)) (sym first.same)
       (weaken (λ y others. record { value = others.value; same = others.same; is = sums_fold others.is (one_term first.is) })
       (repeat_spells operand_of Any (IsMoreSum scope outside room) (goes_on_sum outside) (one_more (term_of (known_of end scope) inner)) (more_sum outside) (keeps_any (IsMoreSum scope outside room)) (suc (length x.1)) first.value (tt {0}) x.1)))
 
-  sum_ends : (outside : Bool) (ts : Tokens) → OnOk (λ y. goes_on_sum outside y.0 y.1 ≡ false) (sum_of (known_of end scope) outside inner ts)
-  unfolding sum_of
+  sum_ends : (outside : Bool) (ts : Tokens) → OnOk (λ y. goes_on_sum outside y.0 y.1 ≡ false) (sum_from (known_of end scope) outside inner ts)
+  unfolding sum_from
   sum_ends outside ts =
       and_then (term_spells ts) (λ x first.
-      subst (λ s. OnOk (λ y. goes_on_sum outside y.0 y.1 ≡ false) (many (goes_on_sum outside) (one_more (term_of (known_of end scope) inner)) s x.1)) (sym first.same)
+      subst (λ s. OnOk (λ y. goes_on_sum outside y.0 y.1 ≡ false) (repeated (goes_on_sum outside) (one_more (term_of (known_of end scope) inner)) s x.1)) (sym first.same)
       (repeat_ends operand_of Any (IsMoreSum scope outside room) (goes_on_sum outside) (one_more (term_of (known_of end scope) inner)) (more_sum outside) (keeps_any (IsMoreSum scope outside room)) (more_sum_shorter scope outside room) (suc (length x.1)) first.value (tt {0}) x.1 (omega arith)))
 
 some_is : (a b : Reader) → ◌≡◌ {A = Option Reader} (Some a) (Some b) → a ≡ b

@@ -7,9 +7,9 @@ use Rattle.fx_rational.specs.Decimal.{decimal_value}
 use Rattle.fx_lexer.specs.Tokens.{Lexeme}
 use Rattle.fx_grammar.specs.declared.head.Head.TheVariants as heads
 use Rattle.fx_grammar.specs.Heads.{◌==ₕ◌}
-use Rattle.fx_grammar.specs.Steps.{Text, Tokens, next_head, place_at, free_at, has_name, listed as listed_by}
+use Rattle.fx_grammar.specs.Steps.{Text, Tokens, next_head, next_place, free_at, has_name, listed as listed_by}
 use Rattle.fx_grammar.specs.Ranges.{Subjects, new_subject, names_of}
-use Rattle.fx_grammar.specs.Fronts.{Declared, param_at, state_at, states_at, one_real, more_than, type_at}
+use Rattle.fx_grammar.specs.Fronts.{Declared, param_at, declared_state, states_at, one_real, more_than, type_at}
 use Rattle.fx_syntax.specs.Runs.{IsListed}
 use Rattle.fx_syntax.specs.Fronts.{IsTyped, IsParam, IsState, IsStates, none, listed, IsOneReal, IsType, single, several}
 use Rattle.fx_syntax.proofs.Outcomes.{OnOk, done, failed, and_then, choose, weaken, steps, on_true, on_false}
@@ -79,8 +79,8 @@ param_shorter s ts more us i = typed_shorter i.typed
 abbrev HasPlace : Declared → Type 0
 HasPlace d = length d.states ≤ 32
 
-pub state_spells : (end : ℕ) → Spells itself HasPlace IsState (state_at end)
-unfolding state_at
+pub state_spells : (end : ℕ) → Spells itself HasPlace IsState (declared_state end)
+unfolding declared_state
 state_spells end h room ts = as_seen (
     and_then (want_spells end heads.Name ts) (λ t n.
     and_then (free_spells 32 (length h.states) h.names t.0 room) (λ u free.
@@ -104,8 +104,8 @@ state_spells end h room ts = as_seen (
 state_room : Keeps HasPlace IsState
 state_room h ts more us i = subst HasPlace (sym i.value) (let e = length-append h.states (record { name = i.name.text; start = decimal_value i.start } ∷ []) in let few = i.few in omega arith)
 
-pub state_reads : (end : ℕ) (h : Declared) (ts : Tokens) (more : Declared) (us : Tokens) → IsState h ts more us → state_at end h ts ≡ Ok (more, us)
-unfolding state_at
+pub state_reads : (end : ℕ) (h : Declared) (ts : Tokens) (more : Declared) (us : Tokens) → IsState h ts more us → declared_state end h ts ≡ Ok (more, us)
+unfolding declared_state
 state_reads end h ts more us i =
     steps _ (want_reads end i.typed.name_next) (
     steps _ (free_reads 32 (length h.states) h.names i.name i.few i.fresh) (
@@ -122,15 +122,15 @@ pub states_spells : (end : ℕ) (inputs : List Text) (ts : Tokens) → OnOk (λ 
 unfolding states_at
 states_spells end inputs ts = choose (next_head ts ==ₕ heads.Open)
     (λ e. let t = next_is ts heads.Open (same_head _ _ e) refl in
-    weaken (λ x i. listed (mark t.1) i) (from_seen (listed_spells itself HasPlace IsState (state_at end) (state_spells end) state_room end (record { names = inputs; states = [] }) (omega arith) (drop 1 ts))))
+    weaken (λ x i. listed (mark t.1) i) (from_seen (listed_spells itself HasPlace IsState (declared_state end) (state_spells end) state_room end (record { names = inputs; states = [] }) (omega arith) (drop 1 ts))))
     (λ e. done none)
 
 pub states_reads : (end : ℕ) {inputs : List Text} {ts : Tokens} {d : Declared} {rest : Tokens} → IsStates inputs ts d rest → (next_head rest ==ₕ heads.Open) ≡ false → states_at end inputs ts ≡ Ok (d, rest)
 unfolding states_at
 states_reads end none off = on_false _ off refl
 states_reads end {inputs = inputs} (listed n i) off = on_true _ (is_next n.next) (
-    ap (λ us. listed_by (state_at end) end (record { names = inputs; states = [] }) us) (behind_is n.next)
-    ∙ listed_reads itself IsState (state_at end) (λ ts. Unit {0}) (λ a ts b us i fits. state_reads end a ts b us i) state_shorter end (λ ts t us n. tt {0}) (λ ts t us n. tt {0}) i)
+    ap (λ us. listed_by (declared_state end) end (record { names = inputs; states = [] }) us) (behind_is n.next)
+    ∙ listed_reads itself IsState (declared_state end) (λ ts. Unit {0}) (λ a ts b us i fits. state_reads end a ts b us i) state_shorter end (λ ts t us n. tt {0}) (λ ts t us n. tt {0}) i)
 
 pub states_shorter : {inputs : List Text} {ts : Tokens} {d : Declared} {rest : Tokens} → IsStates inputs ts d rest → length rest ≤ length ts
 states_shorter none = omega arith
@@ -185,10 +185,10 @@ pub type_spells : (end states : ℕ) (ts : Tokens) → OnOk (λ x. IsType states
 unfolding type_at
 type_spells end states ts = choose (next_head ts ==ₕ heads.Open)
     (λ e. let t = next_is ts heads.Open (same_head _ _ e) refl in
-    and_then (from_seen (listed_spells itself Any (IsOneReal states) (one_real end (place_at end ts) states) (one_spells end (place_at end ts) states) (keeps_any (IsOneReal states)) end 0 (tt {0}) (drop 1 ts)))
-    (λ x i. weaken (λ y p. several (mark t.1) p.1 p.0) (more_spells (place_at end ts) states {P = λ y. IsListed (IsOneReal states) 0 (drop 1 ts) y.0 y.1} x i)))
-    (λ e. and_then (from_seen (one_spells end (place_at end ts) states 0 (tt {0}) ts))
-    (λ x i. weaken (λ y p. single p.1 p.0) (more_spells (place_at end ts) states {P = λ y. IsOneReal states 0 ts y.0 y.1} x i)))
+    and_then (from_seen (listed_spells itself Any (IsOneReal states) (one_real end (next_place end ts) states) (one_spells end (next_place end ts) states) (keeps_any (IsOneReal states)) end 0 (tt {0}) (drop 1 ts)))
+    (λ x i. weaken (λ y p. several (mark t.1) p.1 p.0) (more_spells (next_place end ts) states {P = λ y. IsListed (IsOneReal states) 0 (drop 1 ts) y.0 y.1} x i)))
+    (λ e. and_then (from_seen (one_spells end (next_place end ts) states 0 (tt {0}) ts))
+    (λ x i. weaken (λ y p. single p.1 p.0) (more_spells (next_place end ts) states {P = λ y. IsOneReal states 0 ts y.0 y.1} x i)))
 
 pub type_shorter : (states : ℕ) {ts : Tokens} {n : ℕ} {us : Tokens} → IsType states ts n us → length us < length ts
 type_shorter states (single i lt) = real_shorter i.real
@@ -200,8 +200,8 @@ type_more states (several o i lt) = omega arith
 
 pub type_reads : (end states : ℕ) {ts : Tokens} {n : ℕ} {us : Tokens} → IsType states ts n us → type_at end states ts ≡ Ok (n, us)
 unfolding type_at
-type_reads end states {ts = ts} {n = n} {us = us} (single i lt) = on_false _ (not_next i.real.next heads.Open refl) (steps _ (one_reads end (place_at end ts) states 0 ts n us i) (more_reads (place_at end ts) states n us lt))
+type_reads end states {ts = ts} {n = n} {us = us} (single i lt) = on_false _ (not_next i.real.next heads.Open refl) (steps _ (one_reads end (next_place end ts) states 0 ts n us i) (more_reads (next_place end ts) states n us lt))
 type_reads end states {ts = ts} {n = n} {us = us} (several o i lt) = on_true _ (is_next o.next) (steps _
-    (ap (λ us. listed_by (one_real end (place_at end ts) states) end 0 us) (behind_is o.next)
-    ∙ listed_reads itself (IsOneReal states) (one_real end (place_at end ts) states) (λ ts. Unit {0}) (λ a ts' b us i fits. one_reads end (place_at end ts) states a ts' b us i) (one_shorter states) end (λ ts t us n. tt {0}) (λ ts t us n. tt {0}) i)
-    (more_reads (place_at end ts) states n us lt))
+    (ap (λ us. listed_by (one_real end (next_place end ts) states) end 0 us) (behind_is o.next)
+    ∙ listed_reads itself (IsOneReal states) (one_real end (next_place end ts) states) (λ ts. Unit {0}) (λ a ts' b us i fits. one_reads end (next_place end ts) states a ts' b us i) (one_shorter states) end (λ ts t us n. tt {0}) (λ ts t us n. tt {0}) i)
+    (more_reads (next_place end ts) states n us lt))

@@ -9,7 +9,7 @@ use Rattle.fx_model.specs.Nodes.{nodes_of}
 use Rattle.fx_lexer.specs.Tokens.{Lexeme}
 use Rattle.fx_grammar.specs.declared.head.Head.TheVariants as heads
 use Rattle.fx_grammar.specs.Heads.{◌==ₕ◌}
-use Rattle.fx_grammar.specs.Steps.{◌>>=◌, Text, Tokens, Reads, next_head, want, past_semicolon, has_name}
+use Rattle.fx_grammar.specs.Steps.{◌>>=◌, Text, Tokens, Parsed, next_head, want, past_semicolon, has_name}
 use Rattle.fx_grammar.specs.Ranges.{Subjects, names_of}
 use Rattle.fx_grammar.specs.Fronts.{param_at}
 use Rattle.fx_grammar.specs.Bodies.{Body, Results, vals_at, result_at, count_of}
@@ -125,13 +125,13 @@ body_is f e =
 function_of : Front → List Input → List Temp → List Tree → List (Option Rational) → Function
 function_of f inputs temps xs demands = record { name = f.name; inputs = inputs; states = f.declared.states; temps = temps; results = xs; demands = demands }
 
-closing : ℕ → ℕ → Front → List Input → Body → Results → Tokens → Reads Function
+closing : ℕ → ℕ → Front → List Input → Body → Results → Tokens → Parsed Function
 closing end word f inputs b r us = do
   c ← want end heads.CloseBrace (past_semicolon us)
   demands ← maybe_ensuring_at end (f.reals - length f.declared.states) c.1
   within_nodes word b r (record { name = f.name; inputs = inputs; states = f.declared.states; temps = b.temps; results = r.trees; demands = demands.0 }) demands.1
 
-ending : ℕ → ℕ → Front → List Input → Body → Tokens → Reads Function
+ending : ℕ → ℕ → Front → List Input → Body → Tokens → Parsed Function
 ending end word f inputs b us = result_at end word f.reals b us >>= λ r. closing end word f inputs b r.0 r.1
 
 -- the brace that closes, and the demands

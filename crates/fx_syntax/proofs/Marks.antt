@@ -7,8 +7,8 @@ use Rattle.fx_rational.specs.Decimal.{Decimal}
 use Rattle.fx_lexer.specs.Tokens.{Lexeme}
 use Rattle.fx_grammar.specs.declared.head.Head.{Head}
 use Rattle.fx_grammar.specs.declared.head.Head.TheVariants as heads
-use Rattle.fx_grammar.specs.Heads.{head_of, code_of, ◌==ₕ◌}
-use Rattle.fx_grammar.specs.Steps.{Tokens, next_head, want, real_at, number_at, signed_at, past_semicolon}
+use Rattle.fx_grammar.specs.Heads.{head_of, head_number, ◌==ₕ◌}
+use Rattle.fx_grammar.specs.Steps.{Tokens, next_head, want, real_at, numeral_at, signed_at, past_semicolon}
 use Rattle.fx_syntax.specs.Leaves.{IsNext, IsMark, IsReal, IsNumber, IsSigned, plain, negative, IsMaybeSemicolon, left_out, written}
 use Rattle.fx_syntax.proofs.Outcomes.{OnOk, done, failed, and_then, choose, weaken, steps, on_true, on_false}
 
@@ -16,7 +16,7 @@ use Rattle.fx_syntax.proofs.Outcomes.{OnOk, done, failed, and_then, choose, weak
 decode : ℕ → Head
 decode n = cond (eqb n 0) heads.End (cond (eqb n 1) heads.Name (cond (eqb n 2) heads.Number (cond (eqb n 3) heads.Plus (cond (eqb n 4) heads.Minus (cond (eqb n 5) heads.Star (cond (eqb n 6) heads.Slash (cond (eqb n 7) heads.Open (cond (eqb n 8) heads.Close (cond (eqb n 9) heads.OpenBrace (cond (eqb n 10) heads.CloseBrace (cond (eqb n 11) heads.Colon (cond (eqb n 12) heads.Comma (cond (eqb n 13) heads.Dot (cond (eqb n 14) heads.Semicolon (cond (eqb n 15) heads.Equals (cond (eqb n 16) heads.Arrow (cond (eqb n 17) heads.PlusMinus (cond (eqb n 18) heads.And (cond (eqb n 19) heads.Below (cond (eqb n 20) heads.AtMost (cond (eqb n 21) heads.Above (cond (eqb n 22) heads.AtLeast (cond (eqb n 23) heads.Import (cond (eqb n 24) heads.Object (cond (eqb n 25) heads.Def (cond (eqb n 26) heads.Val (cond (eqb n 27) heads.Require (cond (eqb n 28) heads.Ensuring heads.Unsupported))))))))))))))))))))))))))))
 
-back : (h : Head) → decode (code_of h) ≡ h
+back : (h : Head) → decode (head_number h) ≡ h
 unfolding decode
 back heads.End = refl
 back heads.Name = refl
@@ -50,7 +50,7 @@ back heads.Ensuring = refl
 back heads.Unsupported = refl
 
 pub same_head : (a b : Head) → (a ==ₕ b) ≡ true → a ≡ b
-same_head a b e = sym (back a) ∙ ap decode (eqb-true (code_of a) (code_of b) e) ∙ back b
+same_head a b e = sym (back a) ∙ ap decode (eqb-true (head_number a) (head_number b) e) ∙ back b
 
 -- ---- the next token
 
@@ -108,12 +108,12 @@ pub real_reads : (end : ℕ) {ts us : Tokens} (i : IsReal ts us) → real_at end
 unfolding real_at
 real_reads end n = steps _ (want_reads end n.next) (on_true _ (same_text _ _ n.text) refl)
 
-pub number_spells : (end : ℕ) (ts : Tokens) → OnOk (λ x. IsNumber ts x.0 x.1) (number_at end ts)
-unfolding number_at
+pub number_spells : (end : ℕ) (ts : Tokens) → OnOk (λ x. IsNumber ts x.0 x.1) (numeral_at end ts)
+unfolding numeral_at
 number_spells end ts = and_then (want_spells end heads.Number ts) (λ t n. done (record { number = t.0; next = n; value = refl }))
 
-pub number_reads : (end : ℕ) {ts : Tokens} {d : Decimal} {us : Tokens} → IsNumber ts d us → number_at end ts ≡ Ok (d, us)
-unfolding number_at
+pub number_reads : (end : ℕ) {ts : Tokens} {d : Decimal} {us : Tokens} → IsNumber ts d us → numeral_at end ts ≡ Ok (d, us)
+unfolding numeral_at
 number_reads end {us = us} n = steps _ (want_reads end n.next) (ap (λ (d : Decimal). Ok (d, us)) (sym n.value))
 
 pub signed_spells : (end : ℕ) (ts : Tokens) → OnOk (λ x. IsSigned ts x.0 x.1) (signed_at end ts)
@@ -126,7 +126,7 @@ signed_spells end ts =
 pub signed_reads : (end : ℕ) {ts : Tokens} {d : Decimal} {us : Tokens} → IsSigned ts d us → signed_at end ts ≡ Ok (d, us)
 unfolding signed_at
 signed_reads end (plain n) = on_false _ (not_next n.next heads.Minus refl) (number_reads end n)
-signed_reads end (negative s n) = on_true _ (is_next s.next) (steps _ (ap (number_at end) (behind_is s.next) ∙ number_reads end n) refl)
+signed_reads end (negative s n) = on_true _ (is_next s.next) (steps _ (ap (numeral_at end) (behind_is s.next) ∙ number_reads end n) refl)
 
 pub semicolon_spells : (ts : Tokens) → IsMaybeSemicolon ts (past_semicolon ts)
 semicolon_spells ts = by (next_head ts ==ₕ heads.Semicolon) refl

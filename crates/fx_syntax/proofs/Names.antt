@@ -5,7 +5,7 @@ use Rattle.std.specs.List.{position_or_len, prefix_len}
 use Rattle.std.proofs.lemmas.List.Folds.{prefix_len-append}
 use Rattle.std.proofs.lemmas.List.Sums.{prefix_len-le-length}
 use Rattle.fx_model.specs.Tree.{Tree, Input, State, Temp}
-use Rattle.fx_grammar.specs.Steps.{Text, place_of}
+use Rattle.fx_grammar.specs.Steps.{Text, name_place}
 use Rattle.fx_grammar.specs.Operands.{leaf}
 use Rattle.fx_grammar.specs.Expressions.{Known, meant}
 use Rattle.fx_syntax.specs.Expressions.{Scope, all_names, IsMeant, input, state, temp}
@@ -47,7 +47,7 @@ numbers a b m n le le' = by (nat_lt a m) (nat_lt b n) refl refl
         let more : nat_lt (m + b) (m + n) ≡ false = search (rules, tests, arith) in
         rw (eq, more) refl
 
-pub place-append : (xs ys : List Text) (name : Text) → place_of (xs ++ ys) name ≡ behind_place (length xs) (place_of xs name) (place_of ys name)
+pub place-append : (xs ys : List Text) (name : Text) → name_place (xs ++ ys) name ≡ behind_place (length xs) (name_place xs name) (name_place ys name)
 place-append xs ys name =
     let p : Text → Bool = λ x. not (bytes_eq x name) in
     let e = prefix_len-append p xs ys in
@@ -55,7 +55,7 @@ place-append xs ys name =
     ap (λ c. at_or_none c (length (xs ++ ys))) e ∙ ap (at_or_none (cond (eqb (prefix_len p xs) (length xs)) (length xs + prefix_len p ys) (prefix_len p xs))) l
     ∙ numbers (prefix_len p xs) (prefix_len p ys) (length xs) (length ys) (prefix_len-le-length p xs) (prefix_len-le-length p ys)
 
-place_lt : (xs : List Text) (name : Text) (k : ℕ) → place_of xs name ≡ Some k → k < length xs
+place_lt : (xs : List Text) (name : Text) (k : ℕ) → name_place xs name ≡ Some k → k < length xs
 place_lt xs name k e = by (nat_lt n (length xs)) refl e
   where
     n : ℕ
@@ -67,10 +67,10 @@ place_lt xs name k e = by (nat_lt n (length xs)) refl e
 
 -- ---- what a name stands for
 
-all_place : (scope : Scope) (name : Text) → place_of (all_names scope) name
-    ≡ behind_place (length (scope.inputs ++ scope.states)) (behind_place (length scope.inputs) (place_of scope.inputs name) (place_of scope.states name)) (place_of scope.temps name)
+all_place : (scope : Scope) (name : Text) → name_place (all_names scope) name
+    ≡ behind_place (length (scope.inputs ++ scope.states)) (behind_place (length scope.inputs) (name_place scope.inputs name) (name_place scope.states name)) (name_place scope.temps name)
 all_place scope name = place-append (scope.inputs ++ scope.states) scope.temps name
-    ∙ ap (λ o. behind_place (length (scope.inputs ++ scope.states)) o (place_of scope.temps name)) (place-append scope.inputs scope.states name)
+    ∙ ap (λ o. behind_place (length (scope.inputs ++ scope.states)) o (name_place scope.temps name)) (place-append scope.inputs scope.states name)
 
 input_at : (end : ℕ) (scope : Scope) (k : ℕ) → k < length scope.inputs → meant (known_of end scope) k ≡ Input k
 input_at end scope k lt = let e : nat_lt k (length scope.inputs) ≡ true = search (rules, tests) in rw e refl
@@ -95,17 +95,17 @@ pub record IsFound (end : ℕ) (scope : Scope) (name : Text) (k : ℕ) : Type 0 
   pub is : IsMeant scope name tree
   pub same : meant (known_of end scope) k ≡ tree
 
-pub meant_spells : (end : ℕ) (scope : Scope) (name : Text) (k : ℕ) → place_of (all_names scope) name ≡ Some k → IsFound end scope name k
-meant_spells end scope name k e = by (place_of scope.inputs name) (place_of scope.states name) (place_of scope.temps name) refl refl refl (sym (all_place scope name) ∙ e)
+pub meant_spells : (end : ℕ) (scope : Scope) (name : Text) (k : ℕ) → name_place (all_names scope) name ≡ Some k → IsFound end scope name k
+meant_spells end scope name k e = by (name_place scope.inputs name) (name_place scope.states name) (name_place scope.temps name) refl refl refl (sym (all_place scope name) ∙ e)
   where
-    by : (p q r : Option ℕ) → place_of scope.inputs name ≡ p → place_of scope.states name ≡ q → place_of scope.temps name ≡ r
+    by : (p q r : Option ℕ) → name_place scope.inputs name ≡ p → name_place scope.states name ≡ q → name_place scope.temps name ≡ r
         → behind_place (length (scope.inputs ++ scope.states)) (behind_place (length scope.inputs) p q) r ≡ Some k → IsFound end scope name k
     by (Some i) q r pe qe re e = let same : i ≡ k = cc in record { tree = Input i; is = input i pe; same = ap (meant (known_of end scope)) (sym same) ∙ input_at end scope i (place_lt scope.inputs name i pe) }
     by None (Some i) r pe qe re e = let same : length scope.inputs + i ≡ k = cc in record { tree = State i; is = state i pe qe; same = ap (meant (known_of end scope)) (sym same) ∙ state_at end scope i (place_lt scope.states name i qe) }
     by None None (Some i) pe qe re e = let same : length (scope.inputs ++ scope.states) + i ≡ k = cc in record { tree = Temp i; is = temp i pe qe re; same = ap (meant (known_of end scope)) (sym same) ∙ temp_at end scope i }
     by None None None pe qe re e = absurd cc
 
-pub meant_reads : (end : ℕ) (scope : Scope) (name : Text) (x : Tree) → IsMeant scope name x → (k : ℕ) × (place_of (all_names scope) name ≡ Some k) × (meant (known_of end scope) k ≡ x)
+pub meant_reads : (end : ℕ) (scope : Scope) (name : Text) (x : Tree) → IsMeant scope name x → (k : ℕ) × (name_place (all_names scope) name ≡ Some k) × (meant (known_of end scope) k ≡ x)
 meant_reads end scope name x (input i p) = (i, all_place scope name ∙ rw p refl, input_at end scope i (place_lt scope.inputs name i p))
 meant_reads end scope name x (state i p q) = (length scope.inputs + i, all_place scope name ∙ rw (p, q) refl, state_at end scope i (place_lt scope.states name i q))
 meant_reads end scope name x (temp i p q r) = (length (scope.inputs ++ scope.states) + i, all_place scope name ∙ rw (p, q, r) refl, temp_at end scope i)

@@ -3,9 +3,9 @@ use Rattle.std.proofs.Common.{◌≡◌, ◌≢◌, ◌⊎◌, inl, inr, ℕ, su
 use Rattle.std.specs.Prelude.{min, max, nat_le}
 use Rattle.fx_model.specs.Tree.{Tree, Literal, Input, State, Temp, Negation, Sum, Difference, Product, Quotient}
 use Rattle.fx_model.specs.Nodes.{flat}
-use Rattle.fx_expr.specs.LawfulFunction.{height}
+use Rattle.fx_model.specs.Paths.{height}
 use Rattle.fx_grammar.specs.declared.head.Head.{Head}
-use Rattle.fx_grammar.specs.Operands.{Operand, kept, negation_of, negation, operation, both, joined, is_high, tree_or}
+use Rattle.fx_grammar.specs.Operands.{Operand, low_tree, negation_of, negation, operation, both, combined_operand, is_high, tree_or}
 
 -- how many nodes a tree adds
 abbrev pub size : Tree → ℕ
@@ -20,7 +20,7 @@ size (Product a b) = 1 + size a + size b
 size (Quotient a b) = 1 + size a + size b
 
 abbrev pub operand_of : Tree → Operand
-operand_of x = record { tree = kept (min 201 (height x)) (Some x); height = min 201 (height x); nodes = min 4001 (size x) }
+operand_of x = record { tree = low_tree (min 201 (height x)) (Some x); height = min 201 (height x); nodes = min 4001 (size x) }
 
 made : Option Tree → ℕ → ℕ → Operand
 made x h n = record { tree = x; height = h; nodes = n }
@@ -31,17 +31,17 @@ same_operand {x = x} {y = y} {g = g} {h = h} {m = m} {n = n} p q r = ap (λ z. m
 abbrev no_tree : Option Tree
 no_tree = None
 
-kept_none : (h : ℕ) → kept h no_tree ≡ no_tree
+kept_none : (h : ℕ) → low_tree h no_tree ≡ no_tree
 kept_none h = by (nat_le h 200)
   where
     by : (b : Bool) → cond b no_tree no_tree ≡ no_tree
     by true = refl
     by false = refl
 
-kept_low : (h : ℕ) (x : Option Tree) → h ≤ 200 → kept h x ≡ x
+kept_low : (h : ℕ) (x : Option Tree) → h ≤ 200 → low_tree h x ≡ x
 kept_low h x le = let e : nat_le h 200 ≡ true = search (rules, tests) in rw e refl
 
-kept_high : (h : ℕ) (x : Option Tree) → 200 < h → kept h x ≡ None
+kept_high : (h : ℕ) (x : Option Tree) → 200 < h → low_tree h x ≡ None
 kept_high h x lt = let e : nat_le h 200 ≡ false = search (rules, tests, arith) in rw e refl
 
 cut : ℕ → ℕ
@@ -66,10 +66,10 @@ negation_is x = same_operand (by (low_or_high (height x))) higher nodes
     nodes : min 4001 (1 + min 4001 (size x)) ≡ min 4001 (1 + size x)
     nodes = omega arith
 
-    by : (height x ≤ 200) ⊎ (200 < height x) → kept (min 201 (1 + min 201 (height x))) (negation_of (kept (min 201 (height x)) (Some x))) ≡ kept (min 201 (suc (height x))) (Some (Negation x))
-    by (inl le) = let small : min 201 (height x) ≤ 200 = omega arith in ap (λ o. kept (min 201 (1 + min 201 (height x))) (negation_of o)) (kept_low (min 201 (height x)) (Some x) small) ∙ ap (λ h. kept h (Some (Negation x))) higher
+    by : (height x ≤ 200) ⊎ (200 < height x) → low_tree (min 201 (1 + min 201 (height x))) (negation_of (low_tree (min 201 (height x)) (Some x))) ≡ low_tree (min 201 (suc (height x))) (Some (Negation x))
+    by (inl le) = let small : min 201 (height x) ≤ 200 = omega arith in ap (λ o. low_tree (min 201 (1 + min 201 (height x))) (negation_of o)) (kept_low (min 201 (height x)) (Some x) small) ∙ ap (λ h. low_tree h (Some (Negation x))) higher
     by (inr lt) = let great : 200 < min 201 (height x) = omega arith in let great' : 200 < min 201 (suc (height x)) = omega arith in
-        ap (λ o. kept (min 201 (1 + min 201 (height x))) (negation_of o)) (kept_high (min 201 (height x)) (Some x) great) ∙ kept_none (min 201 (1 + min 201 (height x))) ∙ sym (kept_high (min 201 (suc (height x))) (Some (Negation x)) great')
+        ap (λ o. low_tree (min 201 (1 + min 201 (height x))) (negation_of o)) (kept_high (min 201 (height x)) (Some x) great) ∙ kept_none (min 201 (1 + min 201 (height x))) ∙ sym (kept_high (min 201 (suc (height x))) (Some (Negation x)) great')
 
 -- ---- two operands
 
@@ -83,7 +83,7 @@ pub record IsOperation (sign : Head) (x y z : Tree) : Type 0 where
   pub height : height z ≡ suc (max (height x) (height y))
   pub size : size z ≡ 1 + size x + size y
 
-pub joined_is : (sign : Head) (x y z : Tree) → IsOperation sign x y z → joined sign (operand_of x) (operand_of y) ≡ operand_of z
+pub joined_is : (sign : Head) (x y z : Tree) → IsOperation sign x y z → combined_operand sign (operand_of x) (operand_of y) ≡ operand_of z
 unfolding made
 joined_is sign x y z i = same_operand (by (low_or_high (height x)) (low_or_high (height y))) higher nodes
   where
@@ -101,23 +101,23 @@ joined_is sign x y z i = same_operand (by (low_or_high (height x)) (low_or_high 
     great (inr lt) = let e = i.height in omega arith
 
     by : (height x ≤ 200) ⊎ (200 < height x) → (height y ≤ 200) ⊎ (200 < height y)
-        → kept (min 201 (1 + max (min 201 (height x)) (min 201 (height y)))) (both sign (kept (min 201 (height x)) (Some x)) (kept (min 201 (height y)) (Some y))) ≡ kept (min 201 (height z)) (Some z)
+        → low_tree (min 201 (1 + max (min 201 (height x)) (min 201 (height y)))) (both sign (low_tree (min 201 (height x)) (Some x)) (low_tree (min 201 (height y)) (Some y))) ≡ low_tree (min 201 (height z)) (Some z)
     by (inr lt) q =
         let g : 200 < min 201 (height x) = omega arith in
-        ap (λ o. kept (min 201 (1 + max (min 201 (height x)) (min 201 (height y)))) (both sign o (kept (min 201 (height y)) (Some y)))) (kept_high (min 201 (height x)) (Some x) g)
+        ap (λ o. low_tree (min 201 (1 + max (min 201 (height x)) (min 201 (height y)))) (both sign o (low_tree (min 201 (height y)) (Some y)))) (kept_high (min 201 (height x)) (Some x) g)
         ∙ kept_none (min 201 (1 + max (min 201 (height x)) (min 201 (height y)))) ∙ sym (kept_high (min 201 (height z)) (Some z) (great (inl lt)))
     by (inl le) (inr lt) =
         let g : 200 < min 201 (height y) = omega arith in
-        ap (λ o. kept (min 201 (1 + max (min 201 (height x)) (min 201 (height y)))) (both sign (kept (min 201 (height x)) (Some x)) o)) (kept_high (min 201 (height y)) (Some y) g)
-        ∙ ap (kept (min 201 (1 + max (min 201 (height x)) (min 201 (height y))))) (both_none sign (kept (min 201 (height x)) (Some x)))
+        ap (λ o. low_tree (min 201 (1 + max (min 201 (height x)) (min 201 (height y)))) (both sign (low_tree (min 201 (height x)) (Some x)) o)) (kept_high (min 201 (height y)) (Some y) g)
+        ∙ ap (low_tree (min 201 (1 + max (min 201 (height x)) (min 201 (height y))))) (both_none sign (low_tree (min 201 (height x)) (Some x)))
         ∙ kept_none (min 201 (1 + max (min 201 (height x)) (min 201 (height y)))) ∙ sym (kept_high (min 201 (height z)) (Some z) (great (inr lt)))
     by (inl le) (inl le') =
         let a : min 201 (height x) ≤ 200 = omega arith in
         let b : min 201 (height y) ≤ 200 = omega arith in
-        ap (λ o. kept (min 201 (1 + max (min 201 (height x)) (min 201 (height y)))) (both sign o (kept (min 201 (height y)) (Some y)))) (kept_low (min 201 (height x)) (Some x) a)
-        ∙ ap (λ o. kept (min 201 (1 + max (min 201 (height x)) (min 201 (height y)))) (both sign (Some x) o)) (kept_low (min 201 (height y)) (Some y) b)
-        ∙ ap (λ t. kept (min 201 (1 + max (min 201 (height x)) (min 201 (height y)))) (Some t)) i.tree
-        ∙ ap (λ k. kept k (Some z)) higher
+        ap (λ o. low_tree (min 201 (1 + max (min 201 (height x)) (min 201 (height y)))) (both sign o (low_tree (min 201 (height y)) (Some y)))) (kept_low (min 201 (height x)) (Some x) a)
+        ∙ ap (λ o. low_tree (min 201 (1 + max (min 201 (height x)) (min 201 (height y)))) (both sign (Some x) o)) (kept_low (min 201 (height y)) (Some y) b)
+        ∙ ap (λ t. low_tree (min 201 (1 + max (min 201 (height x)) (min 201 (height y)))) (Some t)) i.tree
+        ∙ ap (λ k. low_tree k (Some z)) higher
 
 -- ---- whole expressions
 

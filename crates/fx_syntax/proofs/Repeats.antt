@@ -5,7 +5,7 @@ use Rattle.fx_lexer.specs.Tokens.{Lexeme}
 use Rattle.fx_grammar.specs.declared.head.Head.{Head}
 use Rattle.fx_grammar.specs.declared.head.Head.TheVariants as heads
 use Rattle.fx_grammar.specs.Heads.{◌==ₕ◌}
-use Rattle.fx_grammar.specs.Steps.{Tokens, Reads, when, next_head, repeat, many, at, behind, separated, listed}
+use Rattle.fx_grammar.specs.Steps.{Tokens, Parsed, when, next_head, repeat, repeated, stands_next, behind, separated, listed}
 use Rattle.fx_syntax.specs.Leaves.{IsNext}
 use Rattle.fx_syntax.specs.Runs.{Rule, IsRun, over, more, IsBehind, IsSeparated, IsListed}
 use Rattle.fx_syntax.proofs.Outcomes.{OnOk, done, and_then, weaken, steps}
@@ -33,14 +33,14 @@ when_false {b = false} f g e = refl
 abbrev pub itself : {A : Type 0} → A → A
 itself a = a
 
-pub as_seen : {A : Type 0} {Is : A → Tokens → Type 0} {r : Reads A} → OnOk (λ x. Is x.0 x.1) r → OnOk (Seen itself Is) r
+pub as_seen : {A : Type 0} {Is : A → Tokens → Type 0} {r : Parsed A} → OnOk (λ x. Is x.0 x.1) r → OnOk (Seen itself Is) r
 as_seen p = weaken (λ x i. record { value = x.0; same = refl; is = i }) p
 
-pub from_seen : {A : Type 0} {Is : A → Tokens → Type 0} {r : Reads A} → OnOk (Seen itself Is) r → OnOk (λ x. Is x.0 x.1) r
+pub from_seen : {A : Type 0} {Is : A → Tokens → Type 0} {r : Parsed A} → OnOk (Seen itself Is) r → OnOk (λ x. Is x.0 x.1) r
 from_seen {Is = Is} p = weaken (λ x seen. subst (λ a. Is a x.1) (sym seen.same) seen.is) p
 
 -- each item that is read behind a lawful start is in the grammar
-abbrev pub Spells : {A S : Type 0} → (A → S) → (A → Type 0) → Rule A → (S → Tokens → Reads S) → Type 0
+abbrev pub Spells : {A S : Type 0} → (A → S) → (A → Type 0) → Rule A → (S → Tokens → Parsed S) → Type 0
 Spells view Fit Item item = (a : _) → Fit a → (ts : Tokens) → OnOk (Seen view (Item a ts)) (item (view a) ts)
 
 -- nothing is asked of a start
@@ -54,7 +54,7 @@ Keeps Fit Item = (a : _) (ts : Tokens) (b : _) (us : Tokens) → Item a ts b us 
 pub keeps_any : {A : Type 0} (Item : Rule A) → Keeps Any Item
 keeps_any Item a ts b us i = tt {0}
 
-module _ {A S : Type 0} (view : A → S) (Fit : A → Type 0) (Item : Rule A) (goes_on : S → Tokens → Bool) (step : S → Tokens → Reads S)
+module _ {A S : Type 0} (view : A → S) (Fit : A → Type 0) (Item : Rule A) (goes_on : S → Tokens → Bool) (step : S → Tokens → Parsed S)
     (one : (a : A) → Fit a → (ts : Tokens) → goes_on (view a) ts ≡ true → OnOk (Seen view (Item a ts)) (step (view a) ts)) (keeps : Keeps Fit Item) where
   pub repeat_spells : (n : ℕ) (a : A) → Fit a → (ts : Tokens) → OnOk (Seen view (IsRun Item a ts)) (repeat goes_on step n (view a) ts)
   unfolding repeat
@@ -76,13 +76,13 @@ module _ {A S : Type 0} (view : A → S) (Fit : A → Type 0) (Item : Rule A) (g
       (λ e. done e)
 
 -- a step reads each item of the grammar, if what stands behind fits
-pub record Takes {A S : Type 0} (view : A → S) (Item : Rule A) (goes_on : S → Tokens → Bool) (step : S → Tokens → Reads S) (Fits : Tokens → Type 0) : Type 0 where
+pub record Takes {A S : Type 0} (view : A → S) (Item : Rule A) (goes_on : S → Tokens → Bool) (step : S → Tokens → Parsed S) (Fits : Tokens → Type 0) : Type 0 where
   pub one : (a : A) (ts : Tokens) (b : A) (us : Tokens) → Item a ts b us → Fits us → step (view a) ts ≡ Ok (view b, us)
   pub on : (a : A) (ts : Tokens) (b : A) (us : Tokens) → Item a ts b us → goes_on (view a) ts ≡ true
   pub fits : (a : A) (ts : Tokens) (b : A) (us : Tokens) → Item a ts b us → Fits ts
   pub shorter : (a : A) (ts : Tokens) (b : A) (us : Tokens) → Item a ts b us → length us < length ts
 
-module _ {A S : Type 0} (view : A → S) (Item : Rule A) (goes_on : S → Tokens → Bool) (step : S → Tokens → Reads S) (Fits : Tokens → Type 0) (takes : Takes view Item goes_on step Fits) where
+module _ {A S : Type 0} (view : A → S) (Item : Rule A) (goes_on : S → Tokens → Bool) (step : S → Tokens → Parsed S) (Fits : Tokens → Type 0) (takes : Takes view Item goes_on step Fits) where
   pub run_fits : {a : A} {ts : Tokens} {b : A} {rest : Tokens} → IsRun Item a ts b rest → Fits rest → Fits ts
   run_fits over fit = fit
   run_fits (more item items) fit = takes.fits _ _ _ _ item
@@ -99,21 +99,21 @@ module _ {A S : Type 0} (view : A → S) (Item : Rule A) (goes_on : S → Tokens
 
 -- ---- items with a sign between
 
-module _ {A S : Type 0} (view : A → S) (Fit : A → Type 0) (Item : Rule A) (item : S → Tokens → Reads S) (spells : Spells view Fit Item item) (keeps : Keeps Fit Item) where
-  pub behind_spells : (head : Head) → (head ==ₕ heads.End) ≡ false → (a : A) → Fit a → (ts : Tokens) → at head (view a) ts ≡ true → OnOk (Seen view (IsBehind head Item a ts)) (behind item (view a) ts)
+module _ {A S : Type 0} (view : A → S) (Fit : A → Type 0) (Item : Rule A) (item : S → Tokens → Parsed S) (spells : Spells view Fit Item item) (keeps : Keeps Fit Item) where
+  pub behind_spells : (head : Head) → (head ==ₕ heads.End) ≡ false → (a : A) → Fit a → (ts : Tokens) → stands_next head (view a) ts ≡ true → OnOk (Seen view (IsBehind head Item a ts)) (behind item (view a) ts)
   behind_spells head some a fit ts e =
       let t = next_is ts head (same_head _ _ e) some in
       weaken (λ x seen. record { value = seen.value; same = seen.same; is = record { behind = drop 1 ts; sign = mark t.1; item = seen.is } }) (spells a fit (drop 1 ts))
 
-  pub many_spells : (head : Head) → (head ==ₕ heads.End) ≡ false → Spells view Fit (IsRun (IsBehind head Item)) (λ s ts. many (at head) (behind item) s ts)
+  pub many_spells : (head : Head) → (head ==ₕ heads.End) ≡ false → Spells view Fit (IsRun (IsBehind head Item)) (λ s ts. repeated (stands_next head) (behind item) s ts)
   many_spells head some a fit ts =
-      repeat_spells view Fit (IsBehind head Item) (at head) (behind item) (behind_spells head some) (λ a ts b us i. keeps a i.behind b us i.item) (suc (length ts)) a fit ts
+      repeat_spells view Fit (IsBehind head Item) (stands_next head) (behind item) (behind_spells head some) (λ a ts b us i. keeps a i.behind b us i.item) (suc (length ts)) a fit ts
 
   pub separated_spells : (head : Head) → (head ==ₕ heads.End) ≡ false → Spells view Fit (IsSeparated head Item) (separated head item)
   unfolding separated
   separated_spells head some a fit ts =
       and_then (spells a fit ts) (λ x first.
-      subst (λ s. OnOk (Seen view (IsSeparated head Item a ts)) (repeat (at head) (behind item) (suc (length x.1)) s x.1)) (sym first.same)
+      subst (λ s. OnOk (Seen view (IsSeparated head Item a ts)) (repeat (stands_next head) (behind item) (suc (length x.1)) s x.1)) (sym first.same)
       (weaken (λ y others. record { value = others.value; same = others.same; is = record { between = first.value; behind = x.1; first = first.is; others = others.is } })
       (many_spells head some first.value (keeps _ _ _ _ first.is) x.1)))
 
@@ -124,10 +124,10 @@ module _ {A S : Type 0} (view : A → S) (Fit : A → Type 0) (Item : Rule A) (i
       and_then (want_spells end heads.Close x.1) (λ c n.
       done (record { value = items.value; same = items.same; is = record { behind = x.1; items = items.is; close = mark n } })))
 
-module _ {A S : Type 0} (view : A → S) (Item : Rule A) (item : S → Tokens → Reads S) (Fits : Tokens → Type 0)
+module _ {A S : Type 0} (view : A → S) (Item : Rule A) (item : S → Tokens → Parsed S) (Fits : Tokens → Type 0)
     (reads : (a : A) (ts : Tokens) (b : A) (us : Tokens) → Item a ts b us → Fits us → item (view a) ts ≡ Ok (view b, us))
     (shorter : (a : A) (ts : Tokens) (b : A) (us : Tokens) → Item a ts b us → length us < length ts) where
-  behind_takes : (head : Head) → ((ts : Tokens) (t : Lexeme) (us : Tokens) → IsNext head ts t us → Fits ts) → Takes view (IsBehind head Item) (at head) (behind item) Fits
+  behind_takes : (head : Head) → ((ts : Tokens) (t : Lexeme) (us : Tokens) → IsNext head ts t us → Fits ts) → Takes view (IsBehind head Item) (stands_next head) (behind item) Fits
   behind_takes head fit = record {
     one = λ a ts b us i fits. ap (item (view a)) (behind_is i.sign.next) ∙ reads a i.behind b us i.item fits;
     on = λ a ts b us i. is_next i.sign.next;
@@ -136,18 +136,18 @@ module _ {A S : Type 0} (view : A → S) (Item : Rule A) (item : S → Tokens �
   }
 
   pub many_reads : (head : Head) → ((ts : Tokens) (t : Lexeme) (us : Tokens) → IsNext head ts t us → Fits ts)
-      → {a : A} {ts : Tokens} {b : A} {rest : Tokens} → IsRun (IsBehind head Item) a ts b rest → Fits rest → (next_head rest ==ₕ head) ≡ false → many (at head) (behind item) (view a) ts ≡ Ok (view b, rest)
-  many_reads head fit {ts = ts} i fits off = repeat_reads view (IsBehind head Item) (at head) (behind item) Fits (behind_takes head fit) i fits off (suc (length ts)) (omega arith)
+      → {a : A} {ts : Tokens} {b : A} {rest : Tokens} → IsRun (IsBehind head Item) a ts b rest → Fits rest → (next_head rest ==ₕ head) ≡ false → repeated (stands_next head) (behind item) (view a) ts ≡ Ok (view b, rest)
+  many_reads head fit {ts = ts} i fits off = repeat_reads view (IsBehind head Item) (stands_next head) (behind item) Fits (behind_takes head fit) i fits off (suc (length ts)) (omega arith)
 
   pub many_fits : (head : Head) → ((ts : Tokens) (t : Lexeme) (us : Tokens) → IsNext head ts t us → Fits ts) → {a : A} {ts : Tokens} {b : A} {rest : Tokens} → IsRun (IsBehind head Item) a ts b rest → Fits rest → Fits ts
-  many_fits head fit i fits = run_fits view (IsBehind head Item) (at head) (behind item) Fits (behind_takes head fit) i fits
+  many_fits head fit i fits = run_fits view (IsBehind head Item) (stands_next head) (behind item) Fits (behind_takes head fit) i fits
 
   pub separated_reads : (head : Head) → ((ts : Tokens) (t : Lexeme) (us : Tokens) → IsNext head ts t us → Fits ts)
       → {a : A} {ts : Tokens} {b : A} {rest : Tokens} → IsSeparated head Item a ts b rest → Fits rest → (next_head rest ==ₕ head) ≡ false → separated head item (view a) ts ≡ Ok (view b, rest)
   unfolding separated
   separated_reads head fit {a} {ts} i fits off =
-      steps _ (reads a ts i.between i.behind i.first (run_fits view (IsBehind head Item) (at head) (behind item) Fits (behind_takes head fit) i.others fits))
-      (repeat_reads view (IsBehind head Item) (at head) (behind item) Fits (behind_takes head fit) i.others fits off (suc (length i.behind)) (omega arith))
+      steps _ (reads a ts i.between i.behind i.first (run_fits view (IsBehind head Item) (stands_next head) (behind item) Fits (behind_takes head fit) i.others fits))
+      (repeat_reads view (IsBehind head Item) (stands_next head) (behind item) Fits (behind_takes head fit) i.others fits off (suc (length i.behind)) (omega arith))
 
   pub listed_reads : (end : ℕ) → ((ts : Tokens) (t : Lexeme) (us : Tokens) → IsNext heads.Comma ts t us → Fits ts) → ((ts : Tokens) (t : Lexeme) (us : Tokens) → IsNext heads.Close ts t us → Fits ts)
       → {a : A} {ts : Tokens} {b : A} {rest : Tokens} → IsListed Item a ts b rest → listed item end (view a) ts ≡ Ok (view b, rest)

@@ -7,7 +7,7 @@ use Rattle.fx_lexer.proofs.Layouts.{layout}
 use Rattle.fx_grammar.specs.declared.head.Head.{Head}
 use Rattle.fx_grammar.specs.declared.head.Head.TheVariants as heads
 use Rattle.fx_grammar.specs.Heads.{◌==ₕ◌}
-use Rattle.fx_grammar.specs.Steps.{Tokens, next_head, place_at, at}
+use Rattle.fx_grammar.specs.Steps.{Tokens, next_head, next_place, stands_next}
 use Rattle.fx_grammar.specs.Sources.{dot_at, import_at, imports_at, function_names, one_def, defs_at, ended, object_at, source_of, functions_of}
 use Rattle.fx_grammar.specs.Functions.{def_at}
 use Rattle.fx_syntax.specs.Runs.{IsRun, over, more, IsSeparated}
@@ -54,16 +54,16 @@ imports_read end i dot off =
 
 -- ---- functions
 
-one_spells : (end : ℕ) (fs : List Function) → Any fs → (ts : Tokens) → at heads.Def (itself fs) ts ≡ true → OnOk (Seen itself (IsNewDef fs ts)) (one_def end fs ts)
+one_spells : (end : ℕ) (fs : List Function) → Any fs → (ts : Tokens) → stands_next heads.Def (itself fs) ts ≡ true → OnOk (Seen itself (IsNewDef fs ts)) (one_def end fs ts)
 unfolding one_def
 one_spells end fs any ts e =
     let t = next_is ts heads.Def (same_head _ _ e) refl in
-    as_seen (and_then (def_spells end (place_at end ts) (function_names fs) (drop 1 ts)) (λ f def.
+    as_seen (and_then (def_spells end (next_place end ts) (function_names fs) (drop 1 ts)) (λ f def.
     done (record { function = f.0; behind = drop 1 ts; word = mark t.1; def_is = def; value = refl })))
 
 defs_spell : (end : ℕ) (ts : Tokens) → OnOk (λ x. AreDefs ts x.0 x.1) (defs_at end ts)
 unfolding defs_at
-defs_spell end ts = from_seen (repeat_spells itself Any IsNewDef (at heads.Def) (one_def end) (one_spells end) (keeps_any IsNewDef) (suc (length ts)) [] (tt {0}) ts)
+defs_spell end ts = from_seen (repeat_spells itself Any IsNewDef (stands_next heads.Def) (one_def end) (one_spells end) (keeps_any IsNewDef) (suc (length ts)) [] (tt {0}) ts)
 
 -- no demands stand here
 abbrev EndsDef : Tokens → Type 0
@@ -72,10 +72,10 @@ EndsDef ts = (next_head ts ==ₕ heads.Ensuring) ≡ false
 one_reads : (end : ℕ) (fs : List Function) (ts : Tokens) (gs : List Function) (us : Tokens) → IsNewDef fs ts gs us → EndsDef us → one_def end fs ts ≡ Ok (gs, us)
 unfolding one_def
 one_reads end fs ts gs us i off =
-    steps _ (ap (def_at end (place_at end ts) (function_names fs)) (behind_is i.word.next) ∙ def_reads end (place_at end ts) (function_names fs) i.behind i.function us i.def_is off)
+    steps _ (ap (def_at end (next_place end ts) (function_names fs)) (behind_is i.word.next) ∙ def_reads end (next_place end ts) (function_names fs) i.behind i.function us i.def_is off)
     (ap (λ (gs : List Function). Ok (gs, us)) (sym i.value))
 
-def_takes : (end : ℕ) → Takes itself IsNewDef (at heads.Def) (one_def end) EndsDef
+def_takes : (end : ℕ) → Takes itself IsNewDef (stands_next heads.Def) (one_def end) EndsDef
 def_takes end = record {
   one = one_reads end;
   on = λ fs ts gs us i. is_next i.word.next;
@@ -85,7 +85,7 @@ def_takes end = record {
 
 defs_read : (end : ℕ) {ts : Tokens} {fs : List Function} {us : Tokens} → AreDefs ts fs us → EndsDef us → (next_head us ==ₕ heads.Def) ≡ false → defs_at end ts ≡ Ok (fs, us)
 unfolding defs_at
-defs_read end {ts} i off over' = repeat_reads itself IsNewDef (at heads.Def) (one_def end) EndsDef (def_takes end) i off over' (suc (length ts)) (omega arith)
+defs_read end {ts} i off over' = repeat_reads itself IsNewDef (stands_next heads.Def) (one_def end) EndsDef (def_takes end) i off over' (suc (length ts)) (omega arith)
 
 -- where functions begin no other head stands: either "def", or what stands behind them
 defs_begin : {fs : List Function} {ts : Tokens} {gs : List Function} {us : Tokens} → IsRun IsNewDef fs ts gs us → (h : Head) → (heads.Def ==ₕ h) ≡ false → (next_head us ==ₕ h) ≡ false → (next_head ts ==ₕ h) ≡ false

@@ -6,7 +6,7 @@ use Rattle.std.specs.Str.{is_utf8}
 use Rattle.std.proofs.lemmas.List.{map-append}
 use Rattle.std.proofs.lemmas.Slice.Eq.{bytes_eq-Decides}
 use Rattle.fx_model.specs.Function.{Function}
-use Rattle.fx_grammar.specs.Steps.{Text, Tokens, place_of, is_there, has_name}
+use Rattle.fx_grammar.specs.Steps.{Text, Tokens, name_place, is_there, has_name}
 use Rattle.fx_grammar.specs.Sources.{functions_of, called, chosen, parsed, function_names}
 use Rattle.fx_syntax.specs.Runs.{IsRun, over, more}
 use Rattle.fx_syntax.specs.Sources.{IsNewDef, IsSource, object, functions}
@@ -18,7 +18,7 @@ use Rattle.fx_syntax.proofs.Sources.{text_law}
 -- ---- names among names
 
 has-append : (xs ys : List Text) (name : Text) → has_name (xs ++ ys) name ≡ (has_name xs name || has_name ys name)
-has-append xs ys name = ap is_there (place-append xs ys name) ∙ by (place_of xs name) (place_of ys name)
+has-append xs ys name = ap is_there (place-append xs ys name) ∙ by (name_place xs name) (name_place ys name)
   where
     by : (p q : Option ℕ) → is_there (behind_place (length xs) p q) ≡ (is_there p || is_there q)
     by (Some i) q = refl

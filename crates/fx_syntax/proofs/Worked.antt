@@ -17,22 +17,22 @@ use Rattle.fx_lexer.specs.declared.token.TokenKind.{TokenKind}
 use Rattle.fx_lexer.specs.declared.token.TokenKind.TheVariants as token_kinds
 use Rattle.fx_lexer.specs.Tokens.{Lexeme, first_item, tokens_from, tokens_of}
 use Rattle.fx_grammar.specs.Heads.{head_of}
-use Rattle.fx_grammar.specs.Steps.{Text, Tokens, fault, want, real_at, decimal, number_at, signed_at, repeat, separated, listed, free_at}
-use Rattle.fx_grammar.specs.Ranges.{said, subject_at, error_at, bound_at, name_first, behind_relation, number_first, condition_at, conditions_step, conditions_at, all_pass, inputs_at, require_at}
-use Rattle.fx_grammar.specs.Expressions.{closed, opened, atom_of, negated, factor_of, term_of, sum_of, expr_at, inner_at}
-use Rattle.fx_grammar.specs.Fronts.{param_at, state_at, states_at, one_real, type_at}
+use Rattle.fx_grammar.specs.Steps.{Text, Tokens, fault, want, real_at, decimal, numeral_at, signed_at, repeat, separated, listed, free_at}
+use Rattle.fx_grammar.specs.Ranges.{said, subject_at, stated_error, bound_at, name_first, behind_relation, number_first, condition_at, conditions_step, conditions_at, all_pass, inputs_at, require_at}
+use Rattle.fx_grammar.specs.Expressions.{closed, opened, atom_of, behind_minus, factor_of, term_of, sum_from, expr_at, inner_at}
+use Rattle.fx_grammar.specs.Fronts.{param_at, declared_state, states_at, one_real, type_at}
 use Rattle.fx_grammar.specs.Bodies.{whole_at, typed_at, val_at, vals_at, single_at, element_at, tuple_at, result_at}
 use Rattle.fx_grammar.specs.Ensuring.{demand_at, output_at, outputs_at, ensuring_at, maybe_ensuring_at}
 use Rattle.fx_grammar.specs.Functions.{require_word_at, front_at, body_at, def_at}
 use Rattle.fx_grammar.specs.Sources.{dot_at, import_at, imports_at, one_def, defs_at, object_at, source_of, functions_of}
-use Rattle.fx_syntax.specs.Expressions.{Scope, literal, IsExpr, one_term, difference, one_factor, product, one_atom, IsAtom, number}
+use Rattle.fx_syntax.specs.Expressions.{Scope, literal_tree, IsExpr, one_term, difference, one_factor, product, one_atom, IsAtom, number}
 use Rattle.fx_syntax.specs.Laws.{IsSourceText}
 use Rattle.std.specs.Prelude.{true, false}
 use Rattle.fx_syntax.proofs.Sources.{text_law}
 
 -- what is read of a text, with every definition opened
 unfoldable pub read : Text → Result (List Function) SourceFault
-unfolding gcd over is_at_most lowest decimal_value numeral_of trimmed decimal_of digits_at part_len mark_len power_len number_len comment_end first_item tokens_from tokens_of head_of want real_at decimal number_at signed_at repeat separated listed free_at said subject_at error_at bound_at name_first behind_relation number_first condition_at conditions_step conditions_at all_pass inputs_at require_at closed opened atom_of negated factor_of term_of sum_of expr_at inner_at param_at state_at states_at one_real type_at whole_at typed_at val_at vals_at single_at element_at tuple_at result_at demand_at output_at outputs_at ensuring_at maybe_ensuring_at require_word_at front_at body_at def_at dot_at import_at imports_at one_def defs_at object_at source_of
+unfolding gcd over is_at_most lowest decimal_value numeral_of trimmed decimal_of digits_at part_len mark_len power_len number_len comment_end first_item tokens_from tokens_of head_of want real_at decimal numeral_at signed_at repeat separated listed free_at said subject_at stated_error bound_at name_first behind_relation number_first condition_at conditions_step conditions_at all_pass inputs_at require_at closed opened atom_of behind_minus factor_of term_of sum_from expr_at inner_at param_at declared_state states_at one_real type_at whole_at typed_at val_at vals_at single_at element_at tuple_at result_at demand_at output_at outputs_at ensuring_at maybe_ensuring_at require_word_at front_at body_at def_at dot_at import_at imports_at one_def defs_at object_at source_of
 read text = functions_of text
 
 -- ---- expressions: the body of a function of x and y
@@ -129,12 +129,12 @@ sign text = token token_kinds.Sign text
 abbrev scope : Scope
 scope = record { inputs = []; states = []; temps = [] }
 
-number_atom : (text : Text) (rest : Tokens) → IsAtom scope 200 (numeral text ∷ rest) (literal (decimal text)) rest
+number_atom : (text : Text) (rest : Tokens) → IsAtom scope 200 (numeral text ∷ rest) (literal_tree (decimal text)) rest
 unfolding token head_of
 number_atom text rest = number (record { number = numeral text; next = record { tokens = refl; is = refl }; value = refl })
 
 by_hand : IsExpr scope true 200 (numeral (codes "1") ∷ sign (codes "-") ∷ numeral (codes "2") ∷ sign (codes "*") ∷ numeral (codes "3") ∷ [])
-    (Difference (literal (decimal (codes "1"))) (Product (literal (decimal (codes "2"))) (literal (decimal (codes "3"))))) []
+    (Difference (literal_tree (decimal (codes "1"))) (Product (literal_tree (decimal (codes "2"))) (literal_tree (decimal (codes "3"))))) []
 unfolding token head_of
 by_hand =
     difference (one_term (one_factor (one_atom (number_atom (codes "1") (sign (codes "-") ∷ numeral (codes "2") ∷ sign (codes "*") ∷ numeral (codes "3") ∷ [])))))

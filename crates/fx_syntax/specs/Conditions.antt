@@ -8,14 +8,14 @@ use Rattle.fx_grammar.specs.declared.head.Head.{Head}
 use Rattle.fx_grammar.specs.declared.head.Head.TheVariants as heads
 use Rattle.fx_grammar.specs.declared.side.Side.{Side}
 use Rattle.fx_grammar.specs.declared.side.Side.TheVariants.{Low, High, Error}
-use Rattle.fx_grammar.specs.Steps.{Tokens, place_of}
+use Rattle.fx_grammar.specs.Steps.{Tokens, name_place}
 use Rattle.fx_grammar.specs.Ranges.{Subject, Subjects, names_of, side_of, with_side, subject_or, or_zero}
 use Rattle.fx_syntax.specs.Leaves.{IsNext, IsMark, IsNumber, IsSigned}
 
 -- one thing is said of the subject of this name, for the first time
 pub record IsSaid (side : Side) (d : Decimal) (name : Lexeme) (before after : Subjects) : Type 0 where
   pub place : ℕ
-  pub known : place_of (names_of before) name.text ≡ Some place
+  pub known : name_place (names_of before) name.text ≡ Some place
   pub fresh : side_of side (subject_or before place) ≡ None
   pub value : after ≡ slice_set before place (with_side side d (subject_or before place))
 

@@ -6,7 +6,7 @@ use Rattle.fx_model.specs.Tree.{Tree, Literal, Input, State, Temp, Negation, Sum
 use Rattle.fx_lexer.specs.Tokens.{Lexeme}
 use Rattle.fx_grammar.specs.declared.head.Head.TheVariants as heads
 use Rattle.fx_grammar.specs.Heads.{◌==ₕ◌}
-use Rattle.fx_grammar.specs.Steps.{Text, Tokens, minus, place_of, next_head, is_fresh}
+use Rattle.fx_grammar.specs.Steps.{Text, Tokens, negative_decimal, name_place, next_head, is_fresh}
 use Rattle.fx_grammar.specs.Expressions.{is_call}
 use Rattle.fx_syntax.specs.Leaves.{IsNext, IsMark, IsNumber}
 
@@ -22,13 +22,13 @@ all_names scope = scope.inputs ++ scope.states ++ scope.temps
 
 -- what a name stands for: its place among the inputs, else among the states, else among the temps
 pub data IsMeant (scope : Scope) (name : Text) : Tree → Type 0 where
-  input : (k : ℕ) → place_of scope.inputs name ≡ Some k → IsMeant scope name (Input k)
-  state : (k : ℕ) → place_of scope.inputs name ≡ None → place_of scope.states name ≡ Some k → IsMeant scope name (State k)
-  temp : (k : ℕ) → place_of scope.inputs name ≡ None → place_of scope.states name ≡ None → place_of scope.temps name ≡ Some k → IsMeant scope name (Temp k)
+  input : (k : ℕ) → name_place scope.inputs name ≡ Some k → IsMeant scope name (Input k)
+  state : (k : ℕ) → name_place scope.inputs name ≡ None → name_place scope.states name ≡ Some k → IsMeant scope name (State k)
+  temp : (k : ℕ) → name_place scope.inputs name ≡ None → name_place scope.states name ≡ None → name_place scope.temps name ≡ Some k → IsMeant scope name (Temp k)
 
 -- a literal is its decimal in lowest terms
-abbrev pub literal : Decimal → Tree
-literal d = Literal (lowest (decimal_value d))
+abbrev pub literal_tree : Decimal → Tree
+literal_tree d = Literal (lowest (decimal_value d))
 
 -- An expression outside all parentheses or inside one, in which so many more parentheses may be open at a time.
 mutual
@@ -51,13 +51,13 @@ mutual
   -- factor = [ "-" ] atom; directly before a number the minus belongs to the literal
   pub data IsFactor (scope : Scope) : ℕ → Tokens → Tree → Tokens → Type 0 where
     one_atom : {room : ℕ} {ts rest : Tokens} {x : Tree} → IsAtom scope room ts x rest → IsFactor scope room ts x rest
-    negative : {room : ℕ} {ts us rest : Tokens} {d : Decimal} → IsMark heads.Minus ts us → IsNumber us d rest → IsFactor scope room ts (literal (minus d)) rest
+    negative : {room : ℕ} {ts us rest : Tokens} {d : Decimal} → IsMark heads.Minus ts us → IsNumber us d rest → IsFactor scope room ts (literal_tree (negative_decimal d)) rest
     negation : {room : ℕ} {ts us rest : Tokens} {x : Tree}
         → IsMark heads.Minus ts us → (next_head us ==ₕ heads.Number) ≡ false → IsAtom scope room us x rest → IsFactor scope room ts (Negation x) rest
 
   -- atom = number | name | "(" expr ")"; a name with a parenthesis behind it on its line would be a call
   pub data IsAtom (scope : Scope) : ℕ → Tokens → Tree → Tokens → Type 0 where
-    number : {room : ℕ} {ts rest : Tokens} {d : Decimal} → IsNumber ts d rest → IsAtom scope room ts (literal d) rest
+    number : {room : ℕ} {ts rest : Tokens} {d : Decimal} → IsNumber ts d rest → IsAtom scope room ts (literal_tree d) rest
     name : {room : ℕ} {ts rest : Tokens} {used : Lexeme} {x : Tree} → IsNext heads.Name ts used rest → is_call rest ≡ false → IsMeant scope used.text x → IsAtom scope room ts x rest
     parens : {room : ℕ} {ts us vs rest : Tokens} {x : Tree}
         → IsMark heads.Open ts us → IsExpr scope false room us x vs → IsMark heads.Close vs rest → IsAtom scope (suc room) ts x rest

@@ -8,6 +8,7 @@ use Rattle.fx_grammar.specs.Ranges.{Subjects, new_subject, names_of}
 use Rattle.fx_grammar.specs.Fronts.{Declared}
 use Rattle.fx_syntax.specs.Leaves.{IsNext, IsMark, IsReal, IsSigned}
 use Rattle.fx_syntax.specs.Runs.{IsListed}
+use Rattle.fx_model.specs.Limits.{input_limit, state_limit, output_limit}
 
 -- name ":" "Real"
 pub record IsTyped (ts : Tokens) (name : Lexeme) (rest : Tokens) : Type 0 where
@@ -21,7 +22,7 @@ pub record IsTyped (ts : Tokens) (name : Lexeme) (rest : Tokens) : Type 0 where
 pub record IsParam (before : Subjects) (ts : Tokens) (after : Subjects) (rest : Tokens) : Type 0 where
   pub name : Lexeme
   pub typed : IsTyped ts name rest
-  pub few : length before < 64
+  pub few : length before < input_limit
   pub fresh : has_name (names_of before) name.text ≡ false
   pub value : after ≡ before ++ new_subject name ∷ []
 
@@ -38,7 +39,7 @@ pub record IsState (before : Declared) (ts : Tokens) (after : Declared) (rest : 
   pub typed : IsTyped ts name signs
   pub equals : IsMark heads.Equals signs starts
   pub start_is : IsSigned starts start rest
-  pub few : length before.states < 32
+  pub few : length before.states < state_limit
   pub fresh : has_name before.names name.text ≡ false
   pub value : after ≡ with_state before name.text start
 
@@ -51,7 +52,7 @@ pub data IsStates (inputs : List Text) : Tokens → Declared → Tokens → Type
 -- "Real", one more than so many, and at most 64 more than the states
 pub record IsOneReal (states : ℕ) (before : ℕ) (ts : Tokens) (after : ℕ) (rest : Tokens) : Type 0 where
   pub real : IsReal ts rest
-  pub few : before < states + 64
+  pub few : before < states + output_limit
   pub value : after ≡ before + 1
 
 -- type = "Real" | "(" "Real" { "," "Real" } ")", of so many Real, more than the states

@@ -1,5 +1,6 @@
 -- Whole functions.
 use Rattle.std.specs.Prelude.{◌≡◌, ◌-◌, ◌≤◌, false, List, [], length, map}
+use Rattle.fx_model.specs.Limits.{node_limit}
 use Rattle.fx_model.specs.Function.{Function}
 use Rattle.fx_model.specs.Nodes.{nodes_of}
 use Rattle.fx_lexer.specs.Tokens.{Lexeme}
@@ -59,7 +60,7 @@ pub record IsBody (front : Front) (ts : Tokens) (f : Function) (rest : Tokens) :
   pub ensuring_is : IsMaybeEnsuring (front.reals - length front.declared.states) bounds f.demands rest
   pub name : f.name ≡ front.name
   pub states : f.states ≡ front.declared.states
-  pub nodes : length (nodes_of f) ≤ 4000
+  pub nodes : length (nodes_of f) ≤ node_limit
 
 -- def, behind the word
 pub record IsDef (functions : List Text) (ts : Tokens) (f : Function) (rest : Tokens) : Type 0 where

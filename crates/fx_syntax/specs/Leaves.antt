@@ -6,7 +6,7 @@ use Rattle.fx_lexer.specs.Tokens.{Lexeme}
 use Rattle.fx_grammar.specs.declared.head.Head.{Head}
 use Rattle.fx_grammar.specs.declared.head.Head.TheVariants as heads
 use Rattle.fx_grammar.specs.Heads.{head_of}
-use Rattle.fx_grammar.specs.Steps.{Tokens, decimal, minus}
+use Rattle.fx_grammar.specs.Steps.{Tokens, decimal, negative_decimal}
 
 -- a token of this sort
 pub record IsNext (head : Head) (ts : Tokens) (t : Lexeme) (rest : Tokens) : Type 0 where
@@ -33,7 +33,7 @@ pub record IsNumber (ts : Tokens) (d : Decimal) (rest : Tokens) : Type 0 where
 -- signed = [ "-" ] number
 pub data IsSigned : Tokens → Decimal → Tokens → Type 0 where
   plain : {ts rest : Tokens} {d : Decimal} → IsNumber ts d rest → IsSigned ts d rest
-  negative : {ts us rest : Tokens} {d : Decimal} → IsMark heads.Minus ts us → IsNumber us d rest → IsSigned ts (minus d) rest
+  negative : {ts us rest : Tokens} {d : Decimal} → IsMark heads.Minus ts us → IsNumber us d rest → IsSigned ts (negative_decimal d) rest
 
 -- [ ";" ]
 pub data IsMaybeSemicolon : Tokens → Tokens → Type 0 where

@@ -1,7 +1,7 @@
 -- Cutting at a byte: what is found there, and which fields that leaves.
 use Rattle.std.proofs.Common.{◌≡◌, ℕ, ◌+◌, ◌<◌, Bool, true, false, eqb, ltb, List, [], ◌∷◌, length, take, drop, Option, Some, None, Bor, refl, ◌∙◌, inl, inr, arith, rules, tests}
 use Rattle.std.specs.Prelude.{not, is_some}
-use Rattle.std.specs.List.{before_first, after_first, position_or_len}
+use Rattle.std.specs.List.{before_first, after_first, position_or_len, slice_split}
 use Rattle.std.proofs.lemmas.Option.{some_pair_parts}
 use Rattle.std.proofs.lemmas.Bool.{ltb-true, ltb-false}
 use Rattle.std.proofs.lemmas.Bool.Decides.{nat_tests}
@@ -35,13 +35,20 @@ cut_at-none c xs e =
       | inr h ↦ let past = ltb-false _ _ h.0 in omega (arith, past, prefix_len-le-length (λ b. not (eqb b c)) xs)
     ]
 
--- the first field ends at a space, and the others stand behind it
-pub fields_of-more : (xs f rest : List ℕ) → cut_at 32 xs ≡ Some (f, rest) → fields_of xs ≡ f ∷ fields_of rest
-fields_of-more xs f rest e = let h = cut_at-parts 32 xs f rest e in slice_split_first (λ b. eqb b 32) xs 0 h.0 ∙ rw (h.1, h.2) refl
+-- the first piece ends at such a byte, and the others stand behind it
+pub split-more : (c : ℕ) (xs f rest : List ℕ) → cut_at c xs ≡ Some (f, rest) → slice_split (λ b. eqb b c) xs ≡ f ∷ slice_split (λ b. eqb b c) rest
+split-more c xs f rest e = let h = cut_at-parts c xs f rest e in slice_split_first (λ b. eqb b c) xs 0 h.0 ∙ rw (h.1, h.2) refl
 
--- a line without a space is one field
+-- a text without such a byte is one piece
+pub split-last : (c : ℕ) (xs : List ℕ) → cut_at c xs ≡ None → slice_split (λ b. eqb b c) xs ≡ xs ∷ []
+split-last c xs e = slice_split_none (λ b. eqb b c) xs (λ k d lt. fails_before_first (λ b. eqb b c) xs k d (omega (arith, cut_at-none c xs e)))
+
+-- the same of the fields of a line, which end at spaces
+pub fields_of-more : (xs f rest : List ℕ) → cut_at 32 xs ≡ Some (f, rest) → fields_of xs ≡ f ∷ fields_of rest
+fields_of-more = split-more 32
+
 pub fields_of-last : (xs : List ℕ) → cut_at 32 xs ≡ None → fields_of xs ≡ xs ∷ []
-fields_of-last xs e = slice_split_none (λ b. eqb b 32) xs (λ k d lt. fails_before_first (λ b. eqb b 32) xs k d (omega (arith, cut_at-none 32 xs e)))
+fields_of-last = split-last 32
 
 -- one more than a number isn't zero
 none_of : (n : ℕ) → false ≡ eqb (n + 1) 0

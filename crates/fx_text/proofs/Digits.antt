@@ -10,7 +10,7 @@ use Rattle.std.proofs.lemmas.Str.Parse.{IsNumeralModel, numerals_by_value, tells
 use Rattle.std.proofs.lemmas.Int.Digits.{digits_value_more, digits_more}
 use Rattle.std.proofs.lemmas.Bool.{cases_Bool}
 use Rattle.std.proofs.lemmas.List.{take_all}
-use Rattle.fx_text.specs.Numbers.{digits_of, kept}
+use Rattle.fx_text.specs.Numbers.{digits_of, clamped}
 
 -- a text of digits, by std's test and value
 pub own : IsNumeralModel (λ ds. all_ascii_digits ds ≡ true) (digits_value 10)
@@ -40,8 +40,8 @@ one_more : (n v d : ℕ) → v ≡ min n top → min (min (v * 10) top + d) top 
 one_more n v d e = omega arith
 
 -- a loop that has read i digits goes on by one
-pub digits_go_on : (f : List ℕ) (i v : ℕ) → i < length f → is_ascii_digit (get_or f i 0) ≡ true → AllDigits 10 (take i f) → v ≡ kept (digits_value 10 (take i f))
-    → AllDigits 10 (take (i + 1) f) × (min (min (v * 10) top + (get_or f i 0 - 48)) top ≡ kept (digits_value 10 (take (i + 1) f)))
+pub digits_go_on : (f : List ℕ) (i v : ℕ) → i < length f → is_ascii_digit (get_or f i 0) ≡ true → AllDigits 10 (take i f) → v ≡ clamped (digits_value 10 (take i f))
+    → AllDigits 10 (take (i + 1) f) × (min (min (v * 10) top + (get_or f i 0 - 48)) top ≡ clamped (digits_value 10 (take (i + 1) f)))
 digits_go_on f i v lt is_one before e =
     let r = in_range (get_or f i 0) is_one in
     let d = digit_value_digit (get_or f i 0) r in
@@ -49,7 +49,7 @@ digits_go_on f i v lt is_one before e =
     (digits_more 10 f i lt before (omega arith), one_more (digits_value 10 (take i f)) v (get_or f i 0 - 48) e ∙ rw (digits_value_more 10 f i lt, n) refl)
 
 -- it ends with all digits read
-pub digits_end : (f : List ℕ) (i v : ℕ) → length f ≤ i → AllDigits 10 (take i f) → v ≡ kept (digits_value 10 (take i f)) → Some v ≡ option_map kept (digits_of f)
+pub digits_end : (f : List ℕ) (i v : ℕ) → length f ≤ i → AllDigits 10 (take i f) → v ≡ clamped (digits_value 10 (take i f)) → Some v ≡ option_map clamped (digits_of f)
 digits_end f i v le before e =
     let whole = take_all i f le in
     let is_one : all_ascii_digits f ≡ true = own.from f (subst (λ ds. AllDigits 10 ds) whole before) in

@@ -1,5 +1,5 @@
 -- A dyadic has one spelling, and so has an interval.
-use Rattle.std.proofs.Common.{◌≡◌, ℕ, zero, suc, ◌%◌, ◌^◌, ◌<◌, ◌≤◌, true, false, eqb, List, [], ◌∷◌, ◌++◌, length, All, Option, Some, None, Ok, ℤ, pos, negsuc, ◌⊎◌, refl, sym, ap, subst, ◌∙◌, inl, inr, arith}
+use Rattle.std.proofs.Common.{◌≡◌, ℕ, zero, suc, ◌%◌, ◌<◌, ◌≤◌, true, false, eqb, List, [], ◌∷◌, ◌++◌, length, All, Option, Some, None, Ok, ℤ, pos, negsuc, ◌⊎◌, refl, sym, ap, subst, ◌∙◌, inl, inr, arith}
 use Rattle.std.specs.Prelude.{nat_lt, nat_le, ◌&&◌, ◌||◌, unsigned_abs}
 use Rattle.std.specs.Fmt.{decimal, signed_decimal}
 use Rattle.std.specs.Prelude.{map}
@@ -8,14 +8,15 @@ use Rattle.std.proofs.lemmas.List.Concat.{flat_map_single}
 use Rattle.std.proofs.lemmas.List.Elements.{All-from_recursion, recursion_from_All}
 use Rattle.std.proofs.lemmas.Bool.Decides.{nat_tests}
 use Rattle.std.proofs.lemmas.Int.{ints}
-use Rattle.fx_rational.specs.Dyadic.{Dyadic, IsWritten}
+use Rattle.fx_rational.specs.Dyadic.{Dyadic, IsWritten, mantissa_end, exponent_limit}
 use Rattle.fx_rational.specs.Interval.{Interval, IsWrittenInterval}
 use Rattle.fx_text.specs.declared.fault.TextKind.TheVariants.{OutOfRange}
 use Rattle.fx_text.specs.Cutting.{Line, cut_at}
-use Rattle.fx_text.specs.Numbers.{whole_of, integer_of, spelled, dyadic_in, dyadic_of}
+use Rattle.fx_text.specs.Numbers.{whole_of, integer_of, lowest_spelled, dyadic_in, dyadic_of}
 use Rattle.fx_text.specs.Reading.{dyadic_at, interval_at}
 use Rattle.fx_text.specs.Many.{AreEach, dyadics_at}
-use Rattle.fx_text.specs.Spelling.{IsField, IsOneSpelling, Lacks, dyadic_text, interval_fields}
+use Rattle.fx_model.specs.LineText.{dyadic_text, interval_fields}
+use Rattle.fx_text.specs.Spelling.{IsField, IsOneSpelling, Lacks}
 use Rattle.fx_text.specs.Laws.{IsNarrow}
 use Rattle.fx_text.proofs.Choices.{on_ok, passed, chosen, both_true}
 use Rattle.fx_text.proofs.NumberLaws.{whole_takes, whole_again, integer_takes, integer_again}
@@ -25,12 +26,12 @@ use Rattle.fx_text.proofs.ManyLaws.{many_spelling}
 use Rattle.fx_text.proofs.LineLaws.{Lacks-append, cut_at-takes, cut_at-again, decimal-lacks}
 
 -- a mantissa of a written dyadic is within 64 bits
-narrow_mantissa : (m : ℤ) → unsigned_abs m < 2 ^ 62 → IsNarrow m
+narrow_mantissa : (m : ℤ) → unsigned_abs m < mantissa_end → IsNarrow m
 narrow_mantissa (pos n) lt = (omega (arith, ints), omega (arith, ints))
 narrow_mantissa (negsuc n) lt = (omega (arith, ints), omega (arith, ints))
 
 -- the parts that a dyadic was spelled of
-spelled_is : (m : Option ℤ) (e : Option ℕ) (d : Dyadic) → spelled m e ≡ Some d → (m ≡ Some d.m) × (e ≡ Some d.e)
+spelled_is : (m : Option ℤ) (e : Option ℕ) (d : Dyadic) → lowest_spelled m e ≡ Some d → (m ≡ Some d.m) × (e ≡ Some d.e)
 spelled_is None e d h = absurd cc
 spelled_is (Some m) None d h = absurd cc
 spelled_is (Some m) (Some e) d h =
@@ -40,7 +41,7 @@ spelled_is (Some m) (Some e) d h =
     ]
 
 -- the text of a dyadic that a field spells
-pub dyadic_of-takes : (f : List ℕ) (d : Dyadic) → unsigned_abs d.m < 2 ^ 62 → d.e ≤ 96 → dyadic_of f ≡ Some d → f ≡ dyadic_text d
+pub dyadic_of-takes : (f : List ℕ) (d : Dyadic) → unsigned_abs d.m < mantissa_end → d.e ≤ exponent_limit → dyadic_of f ≡ Some d → f ≡ dyadic_text d
 unfolding dyadic_of
 dyadic_of-takes f d small places h = by (cut_at 58 f) refl h
   where
@@ -60,7 +61,7 @@ pub IsField-signed_decimal : (z : ℤ) → IsNarrow z → IsField (signed_decima
 IsField-signed_decimal z narrow = record { spaces = signed_decimal-lacks 32 z refl (inl (omega arith)) narrow; line_feeds = signed_decimal-lacks 10 z refl (inl (omega arith)) narrow }
 
 -- a dyadic in its one spelling is spelled
-spelled_again : (m : ℤ) (e : ℕ) → (0 < e → unsigned_abs m % 2 ≡ 1) → spelled (Some m) (Some e) ≡ Some (record { m = m; e = e })
+spelled_again : (m : ℤ) (e : ℕ) → (0 < e → unsigned_abs m % 2 ≡ 1) → lowest_spelled (Some m) (Some e) ≡ Some (record { m = m; e = e })
 spelled_again m zero odd = refl
 spelled_again m (suc e) odd = let one = odd (omega arith) in let above : eqb (suc e) 0 ≡ false = grind (arith, nat_tests) in let test : eqb (unsigned_abs m % 2) 1 ≡ true = grind (arith, nat_tests) in rw (above, test) refl
 
@@ -78,10 +79,10 @@ unfolding dyadic_at
 dyadic_takes line x e =
     on_ok _ _ x e (λ f hf e.
     on_ok _ _ x e (λ d hd e.
-    let t = passed (nat_lt (unsigned_abs d.m) (2 ^ 62) && nat_le d.e 96) OutOfRange (d, f.1) x e in
-    let tests = both_true (nat_lt (unsigned_abs d.m) (2 ^ 62)) (nat_le d.e 96) t.0 in
-    let small : unsigned_abs d.m < 2 ^ 62 = grind (arith, nat_tests, tests.0) in
-    let places : d.e ≤ 96 = grind (arith, nat_tests, tests.1) in
+    let t = passed (nat_lt (unsigned_abs d.m) mantissa_end && nat_le d.e exponent_limit) OutOfRange (d, f.1) x e in
+    let tests = both_true (nat_lt (unsigned_abs d.m) mantissa_end) (nat_le d.e exponent_limit) t.0 in
+    let small : unsigned_abs d.m < mantissa_end = grind (arith, nat_tests, tests.0) in
+    let places : d.e ≤ exponent_limit = grind (arith, nat_tests, tests.1) in
     let is = known_is (dyadic_of f.0) d hd in
     subst (λ (y : Dyadic × Line). (line ≡ dyadic_text y.0 ∷ y.1) × IsWritten y.0) t.1
     (field_is line f hf ∙ ap (λ g. g ∷ f.1) (dyadic_of-takes f.0 d small places is), record { small = small; places = places; one_spelling = dyadic_of-odd f.0 d is })))
@@ -89,8 +90,8 @@ dyadic_takes line x e =
 pub dyadic_again : (d : Dyadic) (rest : Line) → IsWritten d → dyadic_at (dyadic_text d ∷ rest) ≡ Ok (d, rest)
 unfolding dyadic_at
 dyadic_again d rest w =
-    let small : nat_lt (unsigned_abs d.m) (2 ^ 62) ≡ true = grind (arith, nat_tests, w.small) in
-    let places : nat_le d.e 96 ≡ true = grind (arith, nat_tests, w.places) in
+    let small : nat_lt (unsigned_abs d.m) mantissa_end ≡ true = grind (arith, nat_tests, w.small) in
+    let places : nat_le d.e exponent_limit ≡ true = grind (arith, nat_tests, w.places) in
     rw (dyadic_of-again d w, small, places) refl
 
 -- an interval
@@ -109,11 +110,11 @@ unfolding interval_at
 interval_again i rest (lo, hi) = rw (dyadic_again i.lo (dyadic_text i.hi ∷ rest) lo, dyadic_again i.hi rest hi) refl
 
 -- what holds of each value whatever stands before it holds of all
-All-from_each : {I A : Type 0} (P : A → Type 0) (next : I → A → I) (i : I) (xs : List A) → AreEach (λ _ x. P x) next i xs → AllByRecursion P xs
+pub All-from_each : {I A : Type 0} (P : A → Type 0) (next : I → A → I) (i : I) (xs : List A) → AreEach (λ _ x. P x) next i xs → AllByRecursion P xs
 All-from_each P next i [] h = tt
 All-from_each P next i (x ∷ xs) (h, hs) = (h, All-from_each P next (next i x) xs hs)
 
-each-from_All : {I A : Type 0} (P : A → Type 0) (next : I → A → I) (i : I) (xs : List A) → AllByRecursion P xs → AreEach (λ _ x. P x) next i xs
+pub each-from_All : {I A : Type 0} (P : A → Type 0) (next : I → A → I) (i : I) (xs : List A) → AllByRecursion P xs → AreEach (λ _ x. P x) next i xs
 each-from_All P next i [] h = tt
 each-from_All P next i (x ∷ xs) (h, hs) = (h, each-from_All P next (next i x) xs hs)
 

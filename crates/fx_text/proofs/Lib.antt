@@ -6,4 +6,5 @@ pub mod Mantissas
 pub mod FieldLaws
 pub mod ManyLaws
 pub mod LineLaws
+pub mod LinesLaws
 pub mod DyadicLaws

@@ -14,7 +14,8 @@ use Rattle.std.proofs.lemmas.Fmt.{digits_decimal}
 use Rattle.fx_text.specs.declared.fault.TextKind.{TextKind}
 use Rattle.fx_text.specs.Cutting.{Line, cut_at, fields_of, line_at}
 use Rattle.fx_text.specs.Lines.{fields_in, fields_at, line_by, on_line, text_ended_at}
-use Rattle.fx_text.specs.Spelling.{AreFields, IsField, IsOneSpelling, Lacks, line_text}
+use Rattle.fx_model.specs.LineText.{line_text}
+use Rattle.fx_text.specs.Spelling.{AreFields, IsField, IsOneSpelling, Lacks}
 use Rattle.fx_text.proofs.Choices.{on_ok}
 use Rattle.fx_text.proofs.Cuts.{cut_at-parts, cut_at-found}
 use Rattle.fx_text.proofs.Digits.{own}
@@ -64,7 +65,7 @@ cut_at-takes c text xs rest e =
 -- ---- fields
 
 -- fields joined by spaces have no line feed
-join-lacks : (fs : Line) → AllByRecursion IsField fs → Lacks 10 (join_with_byte 32 fs)
+pub join-lacks : (fs : Line) → AllByRecursion IsField fs → Lacks 10 (join_with_byte 32 fs)
 join-lacks [] h = tt
 join-lacks (f ∷ []) (h, hs) = h.line_feeds
 join-lacks (f ∷ g ∷ fs) (h, hs) = Lacks-append 10 f (32 ∷ join_with_byte 32 (g ∷ fs)) h.line_feeds (refl, join-lacks (g ∷ fs) hs)
@@ -78,7 +79,7 @@ line_text-cons f fs = ap (λ t. t ++ 10 ∷ []) (by f fs)
     by f (g ∷ fs) = ap (λ t. f ++ 32 ∷ t) (by g fs) ∙ ap (λ t. f ++ t) (sym (flat_map-cons (λ g. 32 ∷ g) g fs))
 
 -- joined fields are cut again
-fields_of-join : (f : List ℕ) (fs : Line) → AreFields (f ∷ fs) → fields_of (join_with_byte 32 (f ∷ fs)) ≡ f ∷ fs
+pub fields_of-join : (f : List ℕ) (fs : Line) → AreFields (f ∷ fs) → fields_of (join_with_byte 32 (f ∷ fs)) ≡ f ∷ fs
 fields_of-join f [] (h, hs) = slice_split_none (λ b. eqb b 32) f (All-from_recursion (λ b. eqb b 32 ≡ false) f h.spaces)
 fields_of-join f (g ∷ fs) (h, hs) =
     slice_split_at (λ b. eqb b 32) f 32 (join_with_byte 32 (g ∷ fs)) (All-from_recursion (λ b. eqb b 32 ≡ false) f h.spaces) refl ∙ ap (λ r. f ∷ r) (fields_of-join g fs hs)
@@ -125,7 +126,7 @@ fields_at-takes n text x e = by (line_at text) refl e
         (cut.0 ∙ sym (append_assoc line (10 ∷ []) rest) ∙ ap (λ l. (l ++ 10 ∷ []) ++ rest) (sym (join_with_byte-slice_split 32 line)), AreFields-fields_of line cut.1)
 
 -- what was read of a line, without its number
-on_line-is : {A : Type 0} (n : ℕ) (r : Result A TextKind) (x : A) → on_line n r ≡ Ok x → r ≡ Ok x
+pub on_line-is : {A : Type 0} (n : ℕ) (r : Result A TextKind) (x : A) → on_line n r ≡ Ok x → r ≡ Ok x
 on_line-is n (Ok y) x e = cc
 on_line-is n (Err k) x e = absurd cc
 

@@ -4,13 +4,9 @@ use Rattle.std.specs.List.{flat_map}
 use Rattle.std.proofs.lemmas.List.{append-nil}
 use Rattle.std.proofs.lemmas.List.Concat.{flat_map-cons}
 use Rattle.fx_text.specs.Reading.{◌>>=◌}
-use Rattle.fx_text.specs.Many.{AreEach, many}
+use Rattle.fx_text.specs.Many.{AreEach, many, with_front}
 use Rattle.fx_text.specs.Spelling.{IsOneSpelling}
 use Rattle.fx_text.proofs.Choices.{on_ok}
-
--- what was read before, and what is still read
-abbrev pub with_front : {A X E : Type 0} → List A → Result (List A × List X) E → Result (List A × List X) E
-with_front front reading = reading >>= λ x. Ok (front ++ x.0, x.1)
 
 regroup : {A X E : Type 0} (front : List A) (a : A) (reading : Result (List A × List X) E) → with_front front (reading >>= λ x. Ok (a ∷ x.0, x.1)) ≡ with_front (front ++ a ∷ []) reading
 regroup {A} front a (Ok x) = ap (λ (all : List A). Ok (all, x.1)) (simp append_assoc)

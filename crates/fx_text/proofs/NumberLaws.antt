@@ -9,7 +9,7 @@ use Rattle.std.proofs.lemmas.Bool.{eqb-true}
 use Rattle.std.proofs.lemmas.Int.{ints}
 use Rattle.std.proofs.lemmas.Str.Parse.{digit_at}
 use Rattle.std.proofs.lemmas.Option.{cond_some}
-use Rattle.fx_text.specs.Numbers.{has_good_front, digits_of, whole_of, negative, integer_of}
+use Rattle.fx_text.specs.Numbers.{has_good_front, digits_of, whole_of, negative_number, integer_of}
 use Rattle.fx_text.specs.Laws.{IsNarrow}
 use Rattle.fx_text.proofs.Choices.{chosen}
 use Rattle.fx_text.proofs.Digits.{own}
@@ -57,7 +57,7 @@ cons_drop c [] e = absurd (search (rules, tests))
 cons_drop c (x ∷ xs) e = ap (λ y. y ∷ xs) (eqb-true x (suc c) e)
 
 -- the size of a number below zero, and of another
-pub negative_is : (o : Option ℕ) (z : ℤ) → negative o ≡ Some z → (n : ℕ) × (o ≡ Some (suc n)) × (z ≡ negsuc n)
+pub negative_is : (o : Option ℕ) (z : ℤ) → negative_number o ≡ Some z → (n : ℕ) × (o ≡ Some (suc n)) × (z ≡ negsuc n)
 negative_is None z e = absurd cc
 negative_is (Some zero) z e = absurd cc
 negative_is (Some (suc n)) z e = (n, refl, cc)
@@ -77,7 +77,7 @@ narrow_neg n h = omega (arith, ints, h.0, h.1)
 pub integer_takes : (f : List ℕ) (z : ℤ) → IsNarrow z → integer_of f ≡ Some z → f ≡ signed_decimal z
 unfolding integer_of
 integer_takes f z narrow e =
-    elim (chosen (eqb (get_or f 0 0) 45) (negative (whole_of (drop 1 f))) (option_map pos (whole_of f)) (Some z) e) [
+    elim (chosen (eqb (get_or f 0 0) 45) (negative_number (whole_of (drop 1 f))) (option_map pos (whole_of f)) (Some z) e) [
       | inl h ↦
           let n = negative_is (whole_of (drop 1 f)) z h.1 in
           let small = narrow_neg n.0 (subst IsNarrow n.2 narrow) in

@@ -4,12 +4,13 @@ use Rattle.std.specs.Fmt.{decimal, signed_decimal}
 use Rattle.std.specs.List.{flat_map}
 use Rattle.fx_rational.specs.Dyadic.{IsWritten}
 use Rattle.fx_rational.specs.Interval.{IsWrittenInterval}
+use Rattle.fx_model.specs.LineText.{dyadic_text, interval_fields, line_text}
 use Rattle.fx_text.specs.Cutting.{Line}
 use Rattle.fx_text.specs.Numbers.{whole_of, integer_of}
 use Rattle.fx_text.specs.Reading.{IsWithin, word_at, number_at, place_at, count_at, dyadic_at, interval_at}
 use Rattle.fx_text.specs.Lines.{fields_at}
 use Rattle.fx_text.specs.Many.{dyadics_at}
-use Rattle.fx_text.specs.Spelling.{AreFields, IsOneSpelling, dyadic_text, interval_fields, line_text}
+use Rattle.fx_text.specs.Spelling.{AreFields, IsOneSpelling}
 
 -- a number of 64 bits
 abbrev pub IsNarrow : ℤ → Type 0

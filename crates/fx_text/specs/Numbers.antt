@@ -20,38 +20,38 @@ unfoldable pub whole_of : List ℕ → Option ℕ
 whole_of field = if has_good_front field then digits_of field else None
 
 -- a number below zero, from the digits behind its sign: there is no -0
-abbrev pub negative : Option ℕ → Option ℤ
-negative None = None
-negative (Some zero) = None
-negative (Some (suc n)) = Some (negsuc n)
+abbrev pub negative_number : Option ℕ → Option ℤ
+negative_number None = None
+negative_number (Some zero) = None
+negative_number (Some (suc n)) = Some (negsuc n)
 
 -- the whole number that a field spells
 unfoldable pub integer_of : List ℕ → Option ℤ
-integer_of field = if slice_index field 0 == 45 then negative (whole_of (drop 1 field)) else option_map pos (whole_of field)
+integer_of field = if slice_index field 0 == 45 then negative_number (whole_of (drop 1 field)) else option_map pos (whole_of field)
 
 -- m / 2^e in its one spelling: e is 0 or m is odd
-abbrev pub spelled : Option ℤ → Option ℕ → Option Dyadic
-spelled (Some m) (Some e) = if e == 0 || unsigned_abs m % 2 == 1 then Some (record { m = m; e = e }) else None
-spelled m e = None
+abbrev pub lowest_spelled : Option ℤ → Option ℕ → Option Dyadic
+lowest_spelled (Some m) (Some e) = if e == 0 || unsigned_abs m % 2 == 1 then Some (record { m = m; e = e }) else None
+lowest_spelled m e = None
 
 -- the same from what stands before and behind the colon
 abbrev pub dyadic_in : Option (List ℕ × List ℕ) → Option Dyadic
 dyadic_in None = None
-dyadic_in (Some parts) = spelled (integer_of parts.0) (whole_of parts.1)
+dyadic_in (Some parts) = lowest_spelled (integer_of parts.0) (whole_of parts.1)
 
 -- the dyadic that a field m:e spells
 unfoldable pub dyadic_of : List ℕ → Option Dyadic
 dyadic_of field = dyadic_in (cut_at 58 field)
 
 -- what the code keeps of a number: one past the end of 64 bits is kept as that end
-abbrev pub kept : ℕ → ℕ
-kept n = min n (2 ^ 64 - 1)
+abbrev pub clamped : ℕ → ℕ
+clamped n = min n (2 ^ 64 - 1)
 
 -- the same with a sign
 abbrev pub kept_signed : ℤ → ℤ
-kept_signed (pos n) = pos (kept n)
+kept_signed (pos n) = pos (clamped n)
 kept_signed (negsuc n) = negsuc (min n (2 ^ 64 - 2))
 
 -- and of a dyadic's parts
 abbrev pub kept_dyadic : Dyadic → ℤ × ℕ
-kept_dyadic d = (kept_signed d.m, kept d.e)
+kept_dyadic d = (kept_signed d.m, clamped d.e)

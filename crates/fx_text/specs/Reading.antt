@@ -1,7 +1,7 @@
 -- Reading the fields of a line from left to right: the value and the fields behind it, or the first fault.
-use Rattle.std.specs.Prelude.{◌≡◌, ℕ, ℤ, pos, ◌-ℤ◌, ◌≤ℤ◌, ◌^◌, ◌&&◌, List, [], ◌∷◌, Option, Some, None, Result, Ok, Err, if◌then◌else◌, int_le, nat_lt, nat_le, unsigned_abs}
+use Rattle.std.specs.Prelude.{◌≡◌, ℕ, ℤ, pos, ◌-ℤ◌, ◌≤ℤ◌, ◌&&◌, List, [], ◌∷◌, Option, Some, None, Result, Ok, Err, if◌then◌else◌, int_le, nat_lt, nat_le, unsigned_abs}
 use Rattle.std.specs.Str.{bytes_eq}
-use Rattle.fx_rational.specs.Dyadic.{Dyadic}
+use Rattle.fx_rational.specs.Dyadic.{Dyadic, mantissa_end, exponent_limit}
 use Rattle.fx_rational.specs.Interval.{Interval}
 use Rattle.fx_text.specs.declared.fault.TextKind.{TextKind}
 use Rattle.fx_text.specs.declared.fault.TextKind.TheVariants.{BadLine, BadNumber, OutOfRange, TooMany}
@@ -59,12 +59,12 @@ count_at low limit line = do
   z ← known (integer_of field.0)
   if int_le z (pos limit) then (if int_le (pos low) z then Ok (unsigned_abs z, field.1) else Err OutOfRange) else Err TooMany
 
--- a dyadic whose mantissa is below 2^62 and whose exponent is at most 96
+-- a dyadic within the limits of written ones
 unfoldable pub dyadic_at : Line → Result (Dyadic × Line) TextKind
 dyadic_at line = do
   field ← field_at line
   d ← known (dyadic_of field.0)
-  if nat_lt (unsigned_abs d.m) (2 ^ 62) && nat_le d.e 96 then Ok (d, field.1) else Err OutOfRange
+  if nat_lt (unsigned_abs d.m) mantissa_end && nat_le d.e exponent_limit then Ok (d, field.1) else Err OutOfRange
 
 -- the lower end, and then the upper one
 unfoldable pub interval_at : Line → Result (Interval × Line) TextKind

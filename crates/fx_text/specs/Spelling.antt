@@ -1,22 +1,7 @@
--- The one text of a line, a dyadic and an interval, and what it means that values have one spelling.
+-- What a field may hold, and what it means that values have one spelling.
 use Rattle.std.specs.Prelude.{◌≡◌, ◌==◌, ℕ, false, List, [], ◌∷◌, ◌++◌, Result, Ok}
-use Rattle.std.specs.Fmt.{decimal, signed_decimal}
-use Rattle.std.specs.List.{AllByRecursion, join_with_byte}
-use Rattle.fx_rational.specs.Dyadic.{Dyadic}
-use Rattle.fx_rational.specs.Interval.{Interval}
+use Rattle.std.specs.List.{AllByRecursion}
 use Rattle.fx_text.specs.Cutting.{Line}
-
--- fields with a space between each two, and a line feed
-abbrev pub line_text : Line → List ℕ
-line_text fields = join_with_byte 32 fields ++ 10 ∷ []
-
--- m:e
-abbrev pub dyadic_text : Dyadic → List ℕ
-dyadic_text d = signed_decimal d.m ++ 58 ∷ decimal d.e
-
--- the lower end and the upper one
-abbrev pub interval_fields : Interval → Line
-interval_fields i = dyadic_text i.lo ∷ dyadic_text i.hi ∷ []
 
 -- no such byte stands there
 abbrev pub Lacks : ℕ → List ℕ → Type 0

@@ -59,6 +59,14 @@ impl<T: Drop> From<AllocFailed<T>> for TextKind {
     }
 }
 
+impl From<fx_num::Memory> for TextKind {
+    ghost from_gives = { λ _ kind. kind ≡ Memory };
+
+    fn from(_e: fx_num::Memory) -> TextKind {
+        TextKind::Memory
+    }
+}
+
 /// The first fault of a text.
 #[derive(Clone, Copy, Debug, PartialEq, Eq)]
 pub struct TextFault {

@@ -6,7 +6,7 @@
 
 ghost use Rattle.std.specs.Prelude.{◌≡◌, ◌++◌, ◌∷◌, [], OnOk};
 ghost use Rattle.std.specs.List.{flat_map};
-ghost use Rattle.fx_text.specs.Spelling.{dyadic_text};
+ghost use Rattle.fx_model.specs.LineText.{dyadic_text};
 
 use fx_num::Dyadic;
 use itoa::{Buffer, Integer};

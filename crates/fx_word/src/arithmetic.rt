@@ -34,16 +34,6 @@ fn is_word_in_64<const B: u32>(v: i64) -> bool
     is_word::<B>(i128::from(v))
 }
 
-/// The floor of `v / 2^s`.
-#[inline]
-fn lowered(v: i64, s: u32) -> i64
-    requires { s ≤ 64 }
-    ensures { result ≡ floor_div v (2 ^ s) }
-{
-    // by 63 all but the sign is gone
-    v >> s.min(63)
-}
-
 #[inline]
 fn raised_in_64<const B: u32>(v: Word<B>, s: u32) -> i64
     requires width { IsWidth B }
@@ -73,8 +63,11 @@ pub fn shifted<const B: u32>(v: Word<B>, s: i32) -> i128
     ensures value { result ≡ shifted v.entry s }
     ensures wide { IsDoubleWord B (shifted v.entry s) }
 {
-    if s >= 0 {
-        i128::from(lowered(v.get(), s as u32))
+    // one test takes all shifts to the right but that by 64, which leaves the sign alone
+    if 0 <= s && s < 64 {
+        i128::from(v.get() >> s)
+    } else if s >= 64 {
+        i128::from(v.get() >> 63)
     } else if B <= NARROW {
         i128::from(raised_in_64(v, s.unsigned_abs()))
     } else {
@@ -107,7 +100,7 @@ pub fn lowered_product<const B: u32>(v: Word<B>, w: Word<B>, s: u32) -> i128
     ensures { result ≡ floor_div (v.entry *ℤ w.entry) (2 ^ s) }
 {
     if B <= NARROW {
-        i128::from(lowered(product_in_64(v, w), s))
+        i128::from(product_in_64(v, w) >> s)
     } else {
         product_in_128(v, w) >> s
     }

@@ -205,19 +205,20 @@ pub fn width_law()
     ensures above_32 { (⟦<Word<40> as Width>⟧.BITS ≡ 40) × (⟦<Word<48> as Width>⟧.BITS ≡ 48) × (⟦<Word<56> as Width>⟧.BITS ≡ 56) × (⟦<Word<64> as Width>⟧.BITS ≡ 64) }
 {}
 
-/// Calls generic code at a width that is known when the program runs: `widths!(width, call(arguments), otherwise)`.
+/// Calls generic code at a width that is known when the program runs: `widths!(width, call(arguments), otherwise)`, or
+/// `call::<K>(arguments)` where it takes further types behind the width.
 #[macro_export]
 macro_rules! widths {
-    ($width:expr, $call:ident($($argument:expr),*), $other:expr) => {
+    ($width:expr, $call:ident $(::<$($more:ty),*>)?($($argument:expr),*), $other:expr) => {
         match $width {
-            8 => $call::<8>($($argument),*),
-            16 => $call::<16>($($argument),*),
-            24 => $call::<24>($($argument),*),
-            32 => $call::<32>($($argument),*),
-            40 => $call::<40>($($argument),*),
-            48 => $call::<48>($($argument),*),
-            56 => $call::<56>($($argument),*),
-            64 => $call::<64>($($argument),*),
+            8 => $call::<8 $($(, $more)*)?>($($argument),*),
+            16 => $call::<16 $($(, $more)*)?>($($argument),*),
+            24 => $call::<24 $($(, $more)*)?>($($argument),*),
+            32 => $call::<32 $($(, $more)*)?>($($argument),*),
+            40 => $call::<40 $($(, $more)*)?>($($argument),*),
+            48 => $call::<48 $($(, $more)*)?>($($argument),*),
+            56 => $call::<56 $($(, $more)*)?>($($argument),*),
+            64 => $call::<64 $($(, $more)*)?>($($argument),*),
             _ => $other,
         }
     };

@@ -10,7 +10,7 @@ left c = front tree c.function.inside.results c.as_slice-result-items.result.now
     (ap (λ f. f.results) c.function.view_is) c.as_slice-result-items.ensures c.loop-result-test.true c.result-item.is
 
 lawful : (c : goal.After-put_tree-arg-1) → IsLawfulFunction c.args.function.now
-lawful c = rw (sym c.function.view_is) c.function.invariant
+lawful c = rw (sym c.function.view_is) c.function.invariant.lawful
 
 pub put_tree-requires-clause-few : goal.put_tree-requires-clause-few
 put_tree-requires-clause-few c =

@@ -10,7 +10,7 @@ left c = front temp_of c.function.inside.temps c.as_slice-temp-items.result.now 
     (ap (λ f. f.temps) c.function.view_is) c.as_slice-temp-items.ensures c.loop-temp-test.true c.temp-item.is
 
 lawful : (c : goal.After-deref) → IsLawfulFunction c.args.function.now
-lawful c = rw (sym c.function.view_is) c.function.invariant
+lawful c = rw (sym c.function.view_is) c.function.invariant.lawful
 
 pub put_tree-requires-clause-few : goal.put_tree-requires-clause-few
 put_tree-requires-clause-few c =

@@ -1,6 +1,6 @@
 use Rattle.std.proofs.Common.{length, sym, arith}
 use Rattle.std.proofs.lemmas.List.Sums.{prefix_len_is}
-use Rattle.fx_lexer.specs.Characters.{is_word_byte}
+use Rattle.fx_model.specs.Names.{is_word_byte}
 use Rattle.fx_lexer.proofs.word.word_len.Goals as goal
 
 pub returns-then-not-is_word_byte : goal.returns-then-not-is_word_byte

@@ -1,5 +1,5 @@
 use Rattle.std.proofs.Common.{◌≡◌, ℕ, ◌<◌, get_or, true}
-use Rattle.fx_lexer.specs.Characters.{is_word_byte}
+use Rattle.fx_model.specs.Names.{is_word_byte}
 use Rattle.fx_lexer.proofs.word.word_len.Given as goal
 
 abbrev pub invariant-loop-i : goal.invariant-loop-i

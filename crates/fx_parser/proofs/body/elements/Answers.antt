@@ -1,7 +1,7 @@
 use Rattle.std.proofs.Common.{◌≡◌, true, false, sym, ◌∙◌, arith, []}
 use Rattle.std.proofs.lemmas.Result.{err_from_is_err_and}
 use Rattle.fx_grammar.specs.declared.head.Head.TheVariants as heads
-use Rattle.fx_grammar.specs.Steps.{separated, at, behind}
+use Rattle.fx_grammar.specs.Steps.{separated, stands_next, behind}
 use Rattle.fx_parser.specs.Views.{lexemes}
 use Rattle.fx_grammar.specs.Bodies.{element_at}
 use Rattle.fx_parser.specs.Views.{body_value, results_value}
@@ -11,20 +11,20 @@ use Rattle.fx_parser.proofs.body.elements.Goals as goal
 pub returns-in_err-more-clause-value : goal.returns-in_err-more-clause-value
 returns-in_err-more-clause-value c =
     let p = err_from_is_err_and c.from_residual-in_err-more.result c.from_residual-in_err-more.ensures.1 in
-    let on : at heads.Comma (results_value c.items.results) (lexemes c.items.rest.now) ≡ true = sym c.next_is.ensures ∙ c.items-test.true in
-    rw (p.1, p.2) (fails (at heads.Comma) (behind (element_at c.args.end c.args.first c.args.reals (body_value c.args.body.now))) (results_value c.items.results) (lexemes c.items.rest.now) (separated heads.Comma (element_at c.args.end c.args.first c.args.reals (body_value c.args.body.now)) (record { trees = []; nodes = c.args.body.now.nodes }) (lexemes c.args.tokens.now)) c.in_err-more.field-0.0 on
+    let on : stands_next heads.Comma (results_value c.items.results) (lexemes c.items.rest.now) ≡ true = sym c.next_is.ensures ∙ c.items-test.true in
+    rw (p.1, p.2) (fails (stands_next heads.Comma) (behind (element_at c.args.end c.args.first c.args.reals (body_value c.args.body.now))) (results_value c.items.results) (lexemes c.items.rest.now) (separated heads.Comma (element_at c.args.end c.args.first c.args.reals (body_value c.args.body.now)) (record { trees = []; nodes = c.args.body.now.nodes }) (lexemes c.args.tokens.now)) c.in_err-more.field-0.0 on
     (rw c.behind.ensures.value at c.in_err-more.ensures.value) c.items.invariant.on)
 
 pub items-preserved : goal.items-preserved
 items-preserved c =
-    let on : at heads.Comma (results_value c.items.results) (lexemes c.items.rest.now) ≡ true = sym c.next_is.ensures ∙ c.items-test.true in
+    let on : stands_next heads.Comma (results_value c.items.results) (lexemes c.items.rest.now) ≡ true = sym c.next_is.ensures ∙ c.items-test.true in
     record {
       shorter = omega (arith, c.in_ok-more.ensures.shorter, c.behind.ensures.shorter);
-      on = goes_further (at heads.Comma) (behind (element_at c.args.end c.args.first c.args.reals (body_value c.args.body.now))) (results_value c.items.results) (lexemes c.items.rest.now) (separated heads.Comma (element_at c.args.end c.args.first c.args.reals (body_value c.args.body.now)) (record { trees = []; nodes = c.args.body.now.nodes }) (lexemes c.args.tokens.now))
+      on = goes_further (stands_next heads.Comma) (behind (element_at c.args.end c.args.first c.args.reals (body_value c.args.body.now))) (results_value c.items.results) (lexemes c.items.rest.now) (separated heads.Comma (element_at c.args.end c.args.first c.args.reals (body_value c.args.body.now)) (record { trees = []; nodes = c.args.body.now.nodes }) (lexemes c.args.tokens.now))
           (results_value c.in_ok-more.more, lexemes c.in_ok-more.after.now) on (rw c.behind.ensures.value at c.in_ok-more.ensures.value) (lengths _ _ (omega (arith, c.in_ok-more.ensures.shorter, c.behind.ensures.shorter))) c.items.invariant.on;
     }
 
 pub returns-clause-value : goal.returns-clause-value
 returns-clause-value c =
-    let off : at heads.Comma (results_value c.items.results) (lexemes c.items.rest.now) ≡ false = sym c.next_is.ensures ∙ c.items-test.false in
-    is_over (at heads.Comma) (behind (element_at c.args.end c.args.first c.args.reals (body_value c.args.body.now))) (results_value c.items.results) (lexemes c.items.rest.now) (separated heads.Comma (element_at c.args.end c.args.first c.args.reals (body_value c.args.body.now)) (record { trees = []; nodes = c.args.body.now.nodes }) (lexemes c.args.tokens.now)) off c.items.invariant.on
+    let off : stands_next heads.Comma (results_value c.items.results) (lexemes c.items.rest.now) ≡ false = sym c.next_is.ensures ∙ c.items-test.false in
+    is_over (stands_next heads.Comma) (behind (element_at c.args.end c.args.first c.args.reals (body_value c.args.body.now))) (results_value c.items.results) (lexemes c.items.rest.now) (separated heads.Comma (element_at c.args.end c.args.first c.args.reals (body_value c.args.body.now)) (record { trees = []; nodes = c.args.body.now.nodes }) (lexemes c.args.tokens.now)) off c.items.invariant.on

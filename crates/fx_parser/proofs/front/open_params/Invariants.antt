@@ -1,6 +1,6 @@
 use Rattle.std.proofs.Common.{◌<◌, ◌≤◌, length, []}
 use Rattle.fx_grammar.specs.declared.head.Head.TheVariants as heads
-use Rattle.fx_grammar.specs.Steps.{separated, at, behind}
+use Rattle.fx_grammar.specs.Steps.{separated, stands_next, behind}
 use Rattle.fx_parser.specs.Views.{lexemes}
 use Rattle.fx_parser.specs.Views.{subjects_of, IsNamed}
 use Rattle.fx_grammar.specs.Fronts.{param_at}
@@ -12,7 +12,7 @@ invariant-items l = record {
   shorter : length l.rest < length l.tokens;
   few : length l.named.subjects.items ≤ 64;
   same : IsNamed l.named;
-  on : IsOn (at heads.Comma) (behind (param_at l.end)) (subjects_of l.named.subjects) (lexemes l.rest) (separated heads.Comma (param_at l.end) [] (lexemes l.tokens));
+  on : IsOn (stands_next heads.Comma) (behind (param_at l.end)) (subjects_of l.named.subjects) (lexemes l.rest) (separated heads.Comma (param_at l.end) [] (lexemes l.tokens));
 }
 
 abbrev pub decreases-items : goal.decreases-items

@@ -1,7 +1,7 @@
 use Rattle.std.proofs.Common.{◌≡◌, true, false, arith, rules, tests}
 use Rattle.std.proofs.lemmas.Result.{err_from_is_err_and}
 use Rattle.fx_grammar.specs.declared.head.Head.TheVariants as heads
-use Rattle.fx_grammar.specs.Steps.{separated, at, behind}
+use Rattle.fx_grammar.specs.Steps.{separated, stands_next, behind}
 use Rattle.fx_parser.specs.Views.{lexemes}
 use Rattle.fx_grammar.specs.Fronts.{one_real}
 use Rattle.fx_parser.proofs.Turns.{goes_further, fails, is_over, lengths}
@@ -10,21 +10,21 @@ use Rattle.fx_parser.proofs.front.open_reals.Goals as goal
 pub returns-in_err-more-clause-value : goal.returns-in_err-more-clause-value
 returns-in_err-more-clause-value c =
     let p = err_from_is_err_and c.from_residual-in_err-more.result c.from_residual-in_err-more.ensures.1 in
-    let on : at heads.Comma (c.items.reals) (lexemes c.items.rest.now) ≡ true = search (rules, tests) in
-    rw (p.1, p.2) (fails (at heads.Comma) (behind (one_real c.args.end c.args.first c.args.states)) (c.items.reals) (lexemes c.items.rest.now) (separated heads.Comma (one_real c.args.end c.args.first c.args.states) 0 (lexemes c.args.tokens.now)) c.in_err-more.field-0.0 on
+    let on : stands_next heads.Comma (c.items.reals) (lexemes c.items.rest.now) ≡ true = search (rules, tests) in
+    rw (p.1, p.2) (fails (stands_next heads.Comma) (behind (one_real c.args.end c.args.first c.args.states)) (c.items.reals) (lexemes c.items.rest.now) (separated heads.Comma (one_real c.args.end c.args.first c.args.states) 0 (lexemes c.args.tokens.now)) c.in_err-more.field-0.0 on
     (rw c.behind.ensures.value at c.in_err-more.ensures.value) c.items.invariant.on)
 
 pub items-preserved : goal.items-preserved
 items-preserved c =
-    let on : at heads.Comma (c.items.reals) (lexemes c.items.rest.now) ≡ true = search (rules, tests) in
+    let on : stands_next heads.Comma (c.items.reals) (lexemes c.items.rest.now) ≡ true = search (rules, tests) in
     record {
       shorter = omega (arith, c.in_ok-more.ensures.shorter, c.behind.ensures.shorter);
       few = omega (arith, c.in_ok-more.ensures.shorter);
-      on = goes_further (at heads.Comma) (behind (one_real c.args.end c.args.first c.args.states)) (c.items.reals) (lexemes c.items.rest.now) (separated heads.Comma (one_real c.args.end c.args.first c.args.states) 0 (lexemes c.args.tokens.now))
+      on = goes_further (stands_next heads.Comma) (behind (one_real c.args.end c.args.first c.args.states)) (c.items.reals) (lexemes c.items.rest.now) (separated heads.Comma (one_real c.args.end c.args.first c.args.states) 0 (lexemes c.args.tokens.now))
           (c.in_ok-more.more, lexemes c.in_ok-more.after.now) on (rw c.behind.ensures.value at c.in_ok-more.ensures.value) (lengths _ _ (omega (arith, c.in_ok-more.ensures.shorter, c.behind.ensures.shorter))) c.items.invariant.on;
     }
 
 pub returns-clause-value : goal.returns-clause-value
 returns-clause-value c =
-    let off : at heads.Comma (c.items.reals) (lexemes c.items.rest.now) ≡ false = search (rules, tests) in
-    is_over (at heads.Comma) (behind (one_real c.args.end c.args.first c.args.states)) (c.items.reals) (lexemes c.items.rest.now) (separated heads.Comma (one_real c.args.end c.args.first c.args.states) 0 (lexemes c.args.tokens.now)) off c.items.invariant.on
+    let off : stands_next heads.Comma (c.items.reals) (lexemes c.items.rest.now) ≡ false = search (rules, tests) in
+    is_over (stands_next heads.Comma) (behind (one_real c.args.end c.args.first c.args.states)) (c.items.reals) (lexemes c.items.rest.now) (separated heads.Comma (one_real c.args.end c.args.first c.args.states) 0 (lexemes c.args.tokens.now)) off c.items.invariant.on

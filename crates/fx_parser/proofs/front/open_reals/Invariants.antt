@@ -1,6 +1,6 @@
 use Rattle.std.proofs.Common.{◌<◌, ◌≤◌, length}
 use Rattle.fx_grammar.specs.declared.head.Head.TheVariants as heads
-use Rattle.fx_grammar.specs.Steps.{separated, at, behind}
+use Rattle.fx_grammar.specs.Steps.{separated, stands_next, behind}
 use Rattle.fx_parser.specs.Views.{lexemes}
 use Rattle.fx_grammar.specs.Fronts.{one_real}
 use Rattle.fx_parser.proofs.Turns.{IsOn}
@@ -10,7 +10,7 @@ abbrev pub invariant-items : goal.invariant-items
 invariant-items l = record {
   shorter : length l.rest < length l.tokens;
   few : l.reals ≤ 96;
-  on : IsOn (at heads.Comma) (behind (one_real l.end l.first l.states)) (l.reals) (lexemes l.rest) (separated heads.Comma (one_real l.end l.first l.states) 0 (lexemes l.tokens));
+  on : IsOn (stands_next heads.Comma) (behind (one_real l.end l.first l.states)) (l.reals) (lexemes l.rest) (separated heads.Comma (one_real l.end l.first l.states) 0 (lexemes l.tokens));
 }
 
 abbrev pub decreases-items : goal.decreases-items

@@ -1,9 +1,9 @@
 use Rattle.std.proofs.Common.{◌≡◌, true, false, sym, ◌∙◌, arith}
 use Rattle.std.proofs.lemmas.Result.{err_from_is_err_and}
 use Rattle.fx_grammar.specs.declared.head.Head.TheVariants as heads
-use Rattle.fx_grammar.specs.Steps.{separated, at, behind}
+use Rattle.fx_grammar.specs.Steps.{separated, stands_next, behind}
 use Rattle.fx_parser.specs.Views.{lexemes}
-use Rattle.fx_grammar.specs.Fronts.{state_at}
+use Rattle.fx_grammar.specs.Fronts.{declared_state}
 use Rattle.fx_parser.specs.Views.{declared_of}
 use Rattle.fx_parser.proofs.Turns.{goes_further, fails, is_over, lengths}
 use Rattle.fx_parser.proofs.front.open_states.Goals as goal
@@ -11,21 +11,21 @@ use Rattle.fx_parser.proofs.front.open_states.Goals as goal
 pub returns-in_err-more-clause-value : goal.returns-in_err-more-clause-value
 returns-in_err-more-clause-value c =
     let p = err_from_is_err_and c.from_residual-in_err-more.result c.from_residual-in_err-more.ensures.1 in
-    let on : at heads.Comma (declared_of c.items.now) (lexemes c.items.rest.now) ≡ true = sym c.next_is.ensures ∙ c.items-test.true in
-    rw (p.1, p.2) (fails (at heads.Comma) (behind (state_at c.args.end)) (declared_of c.items.now) (lexemes c.items.rest.now) (separated heads.Comma (state_at c.args.end) (declared_of c.args.declared) (lexemes c.args.tokens.now)) c.in_err-more.field-0.0 on
+    let on : stands_next heads.Comma (declared_of c.items.now) (lexemes c.items.rest.now) ≡ true = sym c.next_is.ensures ∙ c.items-test.true in
+    rw (p.1, p.2) (fails (stands_next heads.Comma) (behind (declared_state c.args.end)) (declared_of c.items.now) (lexemes c.items.rest.now) (separated heads.Comma (declared_state c.args.end) (declared_of c.args.declared) (lexemes c.args.tokens.now)) c.in_err-more.field-0.0 on
     (rw c.behind.ensures.value at c.in_err-more.ensures.value) c.items.invariant.on)
 
 pub items-preserved : goal.items-preserved
 items-preserved c =
-    let on : at heads.Comma (declared_of c.items.now) (lexemes c.items.rest.now) ≡ true = sym c.next_is.ensures ∙ c.items-test.true in
+    let on : stands_next heads.Comma (declared_of c.items.now) (lexemes c.items.rest.now) ≡ true = sym c.next_is.ensures ∙ c.items-test.true in
     record {
       shorter = omega (arith, c.in_ok-more.ensures.shorter, c.behind.ensures.shorter);
       few = c.in_ok-more.ensures.few;
-      on = goes_further (at heads.Comma) (behind (state_at c.args.end)) (declared_of c.items.now) (lexemes c.items.rest.now) (separated heads.Comma (state_at c.args.end) (declared_of c.args.declared) (lexemes c.args.tokens.now))
+      on = goes_further (stands_next heads.Comma) (behind (declared_state c.args.end)) (declared_of c.items.now) (lexemes c.items.rest.now) (separated heads.Comma (declared_state c.args.end) (declared_of c.args.declared) (lexemes c.args.tokens.now))
           (declared_of c.in_ok-more.more, lexemes c.in_ok-more.after.now) on (rw c.behind.ensures.value at c.in_ok-more.ensures.value) (lengths _ _ (omega (arith, c.in_ok-more.ensures.shorter, c.behind.ensures.shorter))) c.items.invariant.on;
     }
 
 pub returns-clause-value : goal.returns-clause-value
 returns-clause-value c =
-    let off : at heads.Comma (declared_of c.items.now) (lexemes c.items.rest.now) ≡ false = sym c.next_is.ensures ∙ c.items-test.false in
-    is_over (at heads.Comma) (behind (state_at c.args.end)) (declared_of c.items.now) (lexemes c.items.rest.now) (separated heads.Comma (state_at c.args.end) (declared_of c.args.declared) (lexemes c.args.tokens.now)) off c.items.invariant.on
+    let off : stands_next heads.Comma (declared_of c.items.now) (lexemes c.items.rest.now) ≡ false = sym c.next_is.ensures ∙ c.items-test.false in
+    is_over (stands_next heads.Comma) (behind (declared_state c.args.end)) (declared_of c.items.now) (lexemes c.items.rest.now) (separated heads.Comma (declared_state c.args.end) (declared_of c.args.declared) (lexemes c.args.tokens.now)) off c.items.invariant.on

@@ -1,6 +1,6 @@
 use Rattle.std.proofs.Common.{map}
 use Rattle.fx_model.specs.Names.{IsName}
-use Rattle.fx_grammar.specs.Ranges.{input_of}
+use Rattle.fx_grammar.specs.Ranges.{declared_input}
 use Rattle.fx_parser.specs.Views.{subject_of, state_value, temp_value}
 use Rattle.fx_parser.proofs.Unmapped.{unmapped}
 use Rattle.fx_parser.proofs.owned.owned.Goals as goal
@@ -8,7 +8,7 @@ use Rattle.fx_parser.proofs.owned.owned.Goals as goal
 pub owned_inputs-requires : goal.owned_inputs-requires
 owned_inputs-requires c =
     rw c.deref.ensures.value (unmapped subject_of (λ s. IsName s.name) c.args.draft.inputs.items
-    (unmapped input_of (λ i. IsName i.name) (map subject_of c.args.draft.inputs.items) c.requires.1.inputs))
+    (unmapped declared_input (λ i. IsName i.name) (map subject_of c.args.draft.inputs.items) c.requires.1.inputs))
 
 pub owned_states-requires : goal.owned_states-requires
 owned_states-requires c = rw c.deref-2.ensures.value (unmapped state_value (λ s. IsName s.name) c.args.draft.states.items c.requires.1.states)

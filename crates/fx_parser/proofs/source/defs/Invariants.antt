@@ -1,6 +1,6 @@
 use Rattle.std.proofs.Common.{◌<◌, ◌≤◌, ◌^◌, length}
 use Rattle.fx_grammar.specs.declared.head.Head.TheVariants as heads
-use Rattle.fx_grammar.specs.Steps.{at}
+use Rattle.fx_grammar.specs.Steps.{stands_next}
 use Rattle.fx_parser.specs.Views.{lexemes}
 use Rattle.fx_grammar.specs.Sources.{one_def, defs_at}
 use Rattle.fx_parser.specs.Views.{drafts_of, AreNamed}
@@ -12,7 +12,7 @@ invariant-items l = record {
   shorter : length l.rest ≤ length l.tokens;
   total : length l.tokens < 2 ^ 32;
   same : AreNamed l.drafts;
-  on : IsOn (at heads.Def) (one_def l.end) (drafts_of l.drafts) (lexemes l.rest) (defs_at l.end (lexemes l.tokens));
+  on : IsOn (stands_next heads.Def) (one_def l.end) (drafts_of l.drafts) (lexemes l.rest) (defs_at l.end (lexemes l.tokens));
 }
 
 abbrev pub decreases-items : goal.decreases-items

@@ -1,6 +1,6 @@
 use Rattle.std.proofs.Common.{◌≤◌, length}
 use Rattle.fx_grammar.specs.declared.head.Head.TheVariants as heads
-use Rattle.fx_grammar.specs.Steps.{at, behind}
+use Rattle.fx_grammar.specs.Steps.{stands_next, behind}
 use Rattle.fx_parser.specs.Views.{lexemes}
 use Rattle.fx_grammar.specs.Sources.{import_at, imports_at}
 use Rattle.fx_parser.proofs.Turns.{IsOn}
@@ -9,7 +9,7 @@ use Rattle.fx_parser.proofs.source.imports.Given as goal
 abbrev pub invariant-items : goal.invariant-items
 invariant-items l = record {
   shorter : length l.rest ≤ length l.tokens;
-  on : IsOn (at heads.Import) (behind (import_at l.end)) ((tt {0})) (lexemes l.rest) (imports_at l.end (lexemes l.tokens));
+  on : IsOn (stands_next heads.Import) (behind (import_at l.end)) ((tt {0})) (lexemes l.rest) (imports_at l.end (lexemes l.tokens));
 }
 
 abbrev pub decreases-items : goal.decreases-items

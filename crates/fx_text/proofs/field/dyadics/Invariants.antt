@@ -1,7 +1,6 @@
 use Rattle.std.proofs.Common.{◌≡◌, ◌-◌, All}
 use Rattle.fx_rational.specs.Dyadic.{IsWritten}
-use Rattle.fx_text.specs.Many.{dyadics_at}
-use Rattle.fx_text.proofs.ManyLaws.{with_front}
+use Rattle.fx_text.specs.Many.{dyadics_at, with_front}
 use Rattle.fx_text.proofs.field.dyadics.Given as goal
 
 abbrev pub invariant-loop : goal.invariant-loop

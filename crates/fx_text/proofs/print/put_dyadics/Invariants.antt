@@ -1,6 +1,6 @@
 use Rattle.std.proofs.Common.{◌≡◌, ◌++◌, ◌∷◌, take}
 use Rattle.std.specs.List.{flat_map}
-use Rattle.fx_text.specs.Spelling.{dyadic_text}
+use Rattle.fx_model.specs.LineText.{dyadic_text}
 use Rattle.fx_text.proofs.print.put_dyadics.Given as goal
 
 abbrev pub invariant-loop-d : goal.invariant-loop-d

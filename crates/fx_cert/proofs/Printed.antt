@@ -1,0 +1,73 @@
+-- What is written field by field is the line's text.
+use Rattle.std.proofs.Common.{◌≡◌, ℕ, ◌+◌, ◌<◌, List, [], ◌∷◌, ◌++◌, length, map, arith, refl, sym, ap, ◌∙◌, append_assoc}
+use Rattle.std.specs.Prelude.{min}
+use Rattle.std.specs.Fmt.{decimal}
+use Rattle.std.specs.List.{flat_map}
+use Rattle.std.proofs.lemmas.List.Concat.{flat_map-cons}
+use Rattle.fx_inequalities.specs.CertificateText.{path_field}
+use Rattle.fx_model.specs.LineText.{line_text, dyadic_text}
+use Rattle.fx_text.specs.Cutting.{Line}
+use Rattle.fx_text.proofs.LineLaws.{line_text-cons}
+use Rattle.fx_cert.specs.declared.certificate.Share.{Share}
+use Rattle.fx_cert.specs.CertificateView.{shares_of}
+use Rattle.fx_cert.specs.Printing.{spaced}
+use Rattle.fx_cert.proofs.ShareLaws.{pairs}
+
+-- some fields and some more
+pub spaced_append : (xs ys : Line) → spaced (xs ++ ys) ≡ spaced xs ++ spaced ys
+spaced_append [] ys = refl
+spaced_append (x ∷ xs) ys =
+    flat_map-cons (λ f. 32 ∷ f) x (xs ++ ys) ∙ ap (λ t. (32 ∷ x) ++ t) (spaced_append xs ys) ∙ sym (append_assoc (32 ∷ x) (spaced xs) (spaced ys)) ∙ ap (λ t. t ++ spaced ys) (sym (flat_map-cons (λ f. 32 ∷ f) x xs))
+
+pub spaced_cons : (x : List ℕ) (xs : Line) → spaced (x ∷ xs) ≡ (32 ∷ x) ++ spaced xs
+spaced_cons x xs = flat_map-cons (λ f. 32 ∷ f) x xs
+
+-- shares, each written as its row and its times
+pub spaced_pairs : (shares : List Share) → spaced (flat_map pairs (shares_of shares)) ≡ flat_map (λ s. (32 ∷ decimal s.row) ++ 32 ∷ dyadic_text s.times) shares
+spaced_pairs [] = refl
+spaced_pairs (s ∷ shares) =
+    let row = decimal s.row in let times = dyadic_text s.times in let rest = flat_map pairs (shares_of shares) in
+    ap spaced (flat_map-cons pairs (record { row = s.row; times = s.times }) (shares_of shares))
+    ∙ spaced_cons row (times ∷ rest) ∙ ap (λ t. (32 ∷ row) ++ t) (spaced_cons times rest ∙ ap (λ t. (32 ∷ times) ++ t) (spaced_pairs shares))
+    ∙ sym (append_assoc (32 ∷ row) (32 ∷ times) (flat_map (λ s. (32 ∷ decimal s.row) ++ 32 ∷ dyadic_text s.times) shares))
+    ∙ sym (flat_map-cons (λ s. (32 ∷ decimal s.row) ++ 32 ∷ dyadic_text s.times) s shares)
+
+-- a line is a word, its fields and a line feed
+pub line_is : (word : List ℕ) (fields : Line) → line_text (word ∷ fields) ≡ (word ++ spaced fields) ++ 10 ∷ []
+line_is word fields = line_text-cons word fields
+
+-- parts written one behind the other
+pub two : (o0 o1 o2 a b : List ℕ) → o1 ≡ o0 ++ a → o2 ≡ o1 ++ b → o2 ≡ o0 ++ (a ++ b)
+two o0 o1 o2 a b p q = q ∙ ap (λ o. o ++ b) p ∙ append_assoc o0 a b
+
+-- a path, whose turns are written as digits
+pub digits_of : (path : List ℕ) → map (λ d. 48 + min d 1) path ≡ map (λ k. 48 + k) (map (λ d. min d 1) path)
+digits_of [] = refl
+digits_of (d ∷ ds) = ap (λ t. (48 + min d 1) ∷ t) (digits_of ds)
+
+-- a path of some turns
+pub path_text : (path : List ℕ) → 0 < length path → path_field (map (λ d. min d 1) path) ≡ map (λ d. 48 + min d 1) path
+path_text [] lt = absurd (omega arith)
+path_text (d ∷ ds) lt = sym (digits_of (d ∷ ds))
+
+-- the fields of a line in two and in three parts
+pub two_parts : (word : List ℕ) (a b : Line) → line_text (word ∷ (a ++ b)) ≡ ((word ++ spaced a) ++ spaced b) ++ 10 ∷ []
+two_parts word a b = line_is word (a ++ b) ∙ ap (λ t. (word ++ t) ++ 10 ∷ []) (spaced_append a b) ∙ ap (λ t. t ++ 10 ∷ []) (sym (append_assoc word (spaced a) (spaced b)))
+
+pub three_parts : (word : List ℕ) (a b c : Line) → line_text (word ∷ ((a ++ b) ++ c)) ≡ (((word ++ spaced a) ++ spaced b) ++ spaced c) ++ 10 ∷ []
+three_parts word a b c = two_parts word (a ++ b) c ∙ ap (λ t. ((word ++ t) ++ spaced c) ++ 10 ∷ []) (spaced_append a b) ∙ ap (λ t. (t ++ spaced c) ++ 10 ∷ []) (sym (append_assoc word (spaced a) (spaced b)))
+
+-- what is appended in four and in five parts
+pub four : (o0 o1 o2 o3 o4 a b c d : List ℕ) → o1 ≡ o0 ++ a → o2 ≡ o1 ++ b → o3 ≡ o2 ++ c → o4 ≡ o3 ++ d → o4 ≡ o0 ++ (((a ++ b) ++ c) ++ d)
+four o0 o1 o2 o3 o4 a b c d p q r s = two o0 o3 o4 ((a ++ b) ++ c) d (two o0 o2 o3 (a ++ b) c (two o0 o1 o2 a b p q) r) s
+
+pub five : (o0 o1 o2 o3 o4 o5 a b c d e : List ℕ) → o1 ≡ o0 ++ a → o2 ≡ o1 ++ b → o3 ≡ o2 ++ c → o4 ≡ o3 ++ d → o5 ≡ o4 ++ e → o5 ≡ o0 ++ ((((a ++ b) ++ c) ++ d) ++ e)
+five o0 o1 o2 o3 o4 o5 a b c d e p q r s t = two o0 o4 o5 (((a ++ b) ++ c) ++ d) e (four o0 o1 o2 o3 o4 a b c d p q r s) t
+
+-- the fields of a form
+pub form_spaced : (x y : List ℕ) (a b c d e : Line) → spaced (x ∷ y ∷ ((((a ++ b) ++ c) ++ d) ++ e)) ≡ ((32 ∷ x) ++ (32 ∷ y)) ++ ((((spaced a ++ spaced b) ++ spaced c) ++ spaced d) ++ spaced e)
+form_spaced x y a b c d e =
+    let rest = (((a ++ b) ++ c) ++ d) ++ e in
+    let parts : spaced rest ≡ (((spaced a ++ spaced b) ++ spaced c) ++ spaced d) ++ spaced e =
+    spaced_append (((a ++ b) ++ c) ++ d) e ∙ ap (λ t. t ++ spaced e) (spaced_append ((a ++ b) ++ c) d ∙ ap (λ t. t ++ spaced d) (spaced_append (a ++ b) c ∙ ap (λ t. t ++ spaced c) (spaced_append a b))) in
+    spaced_cons x (y ∷ rest) ∙ ap (λ t. (32 ∷ x) ++ t) (spaced_cons y rest ∙ ap (λ t. (32 ∷ y) ++ t) parts) ∙ sym (append_assoc (32 ∷ x) (32 ∷ y) ((((spaced a ++ spaced b) ++ spaced c) ++ spaced d) ++ spaced e))

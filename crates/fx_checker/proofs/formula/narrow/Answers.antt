@@ -1,7 +1,0 @@
-use Rattle.std.proofs.Common.{subst}
-use Rattle.fx_checker.specs.Judging.{IsNarrowInterval}
-use Rattle.fx_checker.proofs.Judged.{both_again}
-use Rattle.fx_checker.proofs.formula.narrow.Goals as goal
-
-pub returns : goal.returns
-returns c = subst IsNarrowInterval c.value.view_is (both_again _ _ c.mantissa-lo.ensures c.mantissa-hi.ensures)

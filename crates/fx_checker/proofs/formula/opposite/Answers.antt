@@ -1,7 +1,0 @@
-use Rattle.std.proofs.Common.{ap, ◌∙◌}
-use Rattle.fx_rational.specs.Rational.{negative}
-use Rattle.fx_checker.proofs.LowestTerms.{lowest_negative}
-use Rattle.fx_checker.proofs.formula.opposite.Goals as goal
-
-pub returns : goal.returns
-returns c = λ r e. c.fneg.ensures ∙ ap negative e ∙ lowest_negative r

@@ -1,7 +1,0 @@
-use Rattle.std.proofs.Common.{◌≡◌, subst}
-use Rattle.fx_rational.specs.Rational.{Rational, lowest}
-use Rattle.fx_checker.proofs.LowestTerms.{reduced_is}
-use Rattle.fx_checker.proofs.formula.reduced.Goals as goal
-
-pub returns : goal.returns
-returns c = subst (λ (r : Rational). r ≡ lowest r) c.c.view_is (reduced_is c.c.inside.p c.c.inside.q c.c.invariant)

@@ -1,0 +1,9 @@
+use Rattle.fx_command.proofs.Honest.{honest}
+use Rattle.fx_command.proofs.Missing.{missing_file}
+use Rattle.fx_command.proofs.call.fixd.Goals as goal
+
+pub returns-clause-honest : goal.returns-clause-honest
+returns-clause-honest g c = λ name e t some. honest _ _ _ _ _ _ _ _ _ _ _ name c.rows_in_range_law.ensures c.perform.ensures.ended e t some
+
+pub returns-clause-missing : goal.returns-clause-missing
+returns-clause-missing g c = λ name opens missing. missing_file _ _ _ _ _ _ _ _ _ _ _ name c.perform.ensures.ended opens missing

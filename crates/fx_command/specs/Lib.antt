@@ -1,0 +1,11 @@
+pub mod Command
+pub mod CommandView
+pub mod Notes
+pub mod KindTexts
+pub mod Ends
+pub mod EndView
+pub mod Outside
+pub mod Opening
+pub mod OpeningView
+pub mod commands
+pub mod Promise

@@ -1,0 +1,95 @@
+-- What `fixd` promises of what it prints: the headline, and when a run is whole.
+use Rattle.std.specs.Prelude.{◌≡◌, ◌⊎◌, ◌==◌, ◌||◌, Bool, ℕ, ◌≤◌, ℤ, List, ◌++◌, length, Option, Some, None}
+use Rattle.fx_base.specs.Shelf.{Files, paper_of}
+use Rattle.fx_rational.specs.Rational.{Rational}
+use Rattle.fx_model.specs.Function.{Function, Run}
+use Rattle.fx_model.specs.Limits.{rows_limit}
+use Rattle.fx_model.specs.Rows.{AreTrueOf}
+use Rattle.fx_model.specs.Machine.{machine_run}
+use Rattle.fx_model.specs.Page.{page}
+use Rattle.fx_cert.specs.BundleView.{Parts}
+use Rattle.fx_rows.specs.ReadRows.{AreInRange, read_rows}
+use Rattle.fx_run.specs.Printed.{given_values, IsWithinBounds}
+use Rattle.fx_command.specs.Command as commands
+use Rattle.fx_command.specs.Command.{Command}
+use Rattle.fx_command.specs.Outside.{Streams, AreUntouched}
+use Rattle.fx_command.specs.Ends.{End, Usage, status_of, line_of}
+use Rattle.fx_command.specs.Notes.{AreNotes}
+use Rattle.fx_command.specs.Opening.{Spells, IsAcceptedAs, IsBundle}
+use Rattle.fx_command.specs.commands.Run.{RunEnds}
+use Rattle.fx_command.specs.commands.Check.{CheckEnds}
+
+-- how a call ends, by its command
+abbrev pub CallEnds : Option Files → ℕ → ℕ → Streams → Streams → Option Command → End → Type 0
+CallEnds papers before after old new None end = end ≡ Usage
+CallEnds papers before after old new (Some (commands.Run name)) end = RunEnds papers before after old new name end
+CallEnds papers before after old new (Some (commands.Check name)) end = CheckEnds papers before after old new name end
+
+-- how a call of these words ended: its status and its line are those of one end, whose cause holds
+pub record HasEnded (papers : Option Files) (before after : ℕ) (old new : Streams) (noted noted' : Option (List ℕ)) (failed failed' : ℕ) (command : Option Command) (status : ℕ) : Type 0 where
+  pub end : End
+  pub status_is : status ≡ status_of end
+  pub line : AreNotes noted noted' failed failed' (line_of end)
+  pub cause : CallEnds papers before after old new command end
+
+-- ---- the statuses at which nothing was begun
+-- the words are no command's, or FILE's bundle isn't accepted
+abbrev pub is_early : ℕ → Bool
+is_early status = (status == 1) || (status == 2) || (status == 3) || (status == 4)
+
+-- ---- a file that isn't there
+-- a command that opens FILE
+abbrev pub Opens : Option Command → List ℕ → Type 0
+Opens command name = (command ≡ Some (commands.Run name)) ⊎ (command ≡ Some (commands.Check name))
+
+-- the status of a read fault, or of no memory, and both streams tell what they told before
+pub record IsUnopened (old new : Streams) (status : ℕ) : Type 0 where
+  pub failed : (status ≡ 6) ⊎ (status ≡ 8)
+  pub untouched : AreUntouched old new
+
+-- ---- the premise
+-- the outside tells the bytes of FILE, all that the input held when the call began, and what the call appended to the output
+pub record Told (papers : Option Files) (name : List ℕ) (old new : Streams) : Type 0 where
+  pub files : Files
+  pub file : List ℕ
+  pub held : List ℕ
+  pub before : List ℕ
+  pub printed : List ℕ
+  pub files_are : papers ≡ Some files
+  pub file_is : paper_of files name ≡ Some file
+  pub held_is : old.left ≡ Some held
+  pub before_is : old.taken ≡ Some before
+  pub printed_is : new.taken ≡ Some (before ++ printed)
+
+-- ---- the headline
+-- a status at which all rows before a bad line, or all rows, are printed
+abbrev pub IsWhole : ℕ → Type 0
+IsWhole status = (status ≡ 0) ⊎ (status ≡ 5)
+
+-- the rows that an input gives before the first bad line, as rationals
+abbrev pub rows_of : Function → List ℕ → List (List Rational)
+rows_of fn held = given_values (read_rows fn held).given.rows
+
+-- what was printed, where anything was: the output of the accepted program, inside its word and within the bound
+pub record IsHonest (file held printed : List ℕ) (status : ℕ) : Type 0 where
+  pub bundle : Parts
+  pub function : Function
+  pub run : Run ℤ
+  pub spelled : Spells file bundle
+  pub accepted : IsAcceptedAs bundle function
+  pub in_range : AreInRange function (read_rows function held).given.rows
+  pub inside_word : machine_run bundle.program (rows_of function held) ≡ Some run
+  pub own_output : (rest : List ℕ) × (page bundle.program run.outputs ≡ printed ++ rest)
+  pub whole : IsWhole status → printed ≡ page bundle.program run.outputs
+  pub bound : (true_rows : List (List Rational)) → AreTrueOf function.inputs (rows_of function held) true_rows →
+      IsWithinBounds function bundle.program bundle.certificate run true_rows
+
+-- ---- completeness
+-- FILE is an accepted bundle within its limit, and the input is within its own and has no bad line
+pub record IsReady (papers : Option Files) (name held : List ℕ) : Type 0 where
+  pub bundle : Parts
+  pub function : Function
+  pub is_bundle : IsBundle papers name bundle
+  pub accepted : IsAcceptedAs bundle function
+  pub short : length held ≤ rows_limit
+  pub good : (read_rows function held).given.bad ≡ None

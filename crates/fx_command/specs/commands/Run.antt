@@ -1,0 +1,37 @@
+-- What `run FILE` does: it runs the rows of the input, and prints their page.
+use Rattle.std.specs.Prelude.{ℕ, ◌<◌, List, Option, length}
+use Rattle.std.specs.Io.KnownBytes.{Consumes, IsAtEnd}
+use Rattle.fx_base.specs.Causes.{Rose}
+use Rattle.fx_base.specs.Shelf.{Files}
+use Rattle.fx_base.specs.Text.{lines_in}
+use Rattle.fx_model.specs.Function.{Function}
+use Rattle.fx_model.specs.Limits.{rows_limit}
+use Rattle.fx_cert.specs.BundleView.{Parts}
+use Rattle.fx_rows.specs.Faults.{fault_of}
+use Rattle.fx_rows.specs.declared.fault.RowFault.{RowFault}
+use Rattle.fx_filter.specs.Promise.{IfKnown, IsDone, IsDue}
+use Rattle.fx_filter.specs.declared.fault.RunFault.TheVariants as run
+use Rattle.fx_run.specs.Printed.{RowsLaw, run_outcome}
+use Rattle.fx_command.specs.Outside.{Streams}
+use Rattle.fx_command.specs.Ends.{End, Done, BadRow, ReadFault, WriteFault, NoMemory, OverLimit}
+use Rattle.fx_command.specs.Opening.{OpensThen}
+
+-- how the rows of the input end, and what stands written then; b is the bundle whose source means fn
+pub data RowsEnd (old new : Streams) (b : Parts) (fn : Function) : End → Type 0 where
+  all_run : (count : ℕ) → IfKnown old.left (λ all. IsDone (run_outcome fn b.program (lines_in all)) count old.taken new.taken) → IsAtEnd new.left → RowsEnd old new b fn Done
+  bad_row : (line : ℕ) (fault : RowFault) → IsDue (run_outcome fn b.program) old.left new.left old.taken new.taken (run.Row line fault) →
+      RowsEnd old new b fn (BadRow fn.inputs line (fault_of fault))
+  unread : Rose old.read_faults new.read_faults → IsDue (run_outcome fn b.program) old.left new.left old.taken new.taken run.ReadFault → RowsEnd old new b fn ReadFault
+  unwritten : Rose old.write_faults new.write_faults → IsDue (run_outcome fn b.program) old.left new.left old.taken new.taken run.WriteFault → RowsEnd old new b fn WriteFault
+  long : (taken : List ℕ) → Consumes old.left new.left taken → rows_limit < length taken → IsDue (run_outcome fn b.program) old.left new.left old.taken new.taken run.TooLong →
+      RowsEnd old new b fn OverLimit
+  no_memory : IsDue (run_outcome fn b.program) old.left new.left old.taken new.taken run.Memory → RowsEnd old new b fn NoMemory
+
+-- what it does with an accepted bundle: its rows end so, and of the rows of any input its program is worth what is certified
+pub record Runs (old new : Streams) (b : Parts) (fn : Function) (end : End) : Type 0 where
+  pub law : RowsLaw fn b.program b.certificate
+  pub rows : RowsEnd old new b fn end
+
+-- all of it; the shelf's faults are counted before and after
+abbrev pub RunEnds : Option Files → ℕ → ℕ → Streams → Streams → List ℕ → End → Type 0
+RunEnds papers before after old new name = OpensThen papers before after name old new (Runs old new)

@@ -1,0 +1,84 @@
+//! The top call: what the words say is done, and the status says how it ended.
+//!
+//! The stages come in one order: the words, the file, the bundle in it, and then what the command does with it. A stage that
+//! can't go on ends the call, with its own status and its own line on the notes.
+//! The trap: the line is written when the status is decided already, so notes that fail change no status.
+ghost use Rattle.std.specs.Prelude.{◌≡◌, ◌≢◌, ℕ, List, [], Some, true};
+ghost use Rattle.std.specs.Io.KnownBytes.{Consumes};
+ghost use Rattle.fx_base.specs.Shelf.{IsMissing};
+ghost use Rattle.fx_command.specs.Command.{Run, Check, texts, command_of};
+ghost use Rattle.fx_command.specs.Promise.{HasEnded, Told, IsHonest, IsUnopened, Opens, is_early};
+
+use crate::command::{Command, command_of};
+use crate::commands::{check_file, run_file};
+use crate::end::End;
+use fx_base::{Shelf, Sink, Source, Status};
+use fx_cert::bundle_text_law;
+use fx_rows::rows_in_range_law;
+use std::alloc::Global;
+
+// Does what the words say.
+fn perform<H: Shelf, S: Source, K: Sink, N: Sink>(
+    alloc: Global,
+    words: &Vec<String>,
+    shelf: &mut H,
+    input: &mut S,
+    output: &mut K,
+    notes: &mut N,
+) -> Status
+    ensures ended { HasEnded (H.papers shelf.old) (H.faults shelf.old) (H.faults shelf.new)
+        (record { left = S.left input.old; read_faults = S.faults input.old; taken = K.taken output.old; write_faults = K.faults output.old })
+        (record { left = S.left input.new; read_faults = S.faults input.new; taken = K.taken output.new; write_faults = K.faults output.new })
+        (N.taken notes.old) (N.taken notes.new) (N.faults notes.old) (N.faults notes.new) (command_of (texts words.now.items)) result }
+    ensures aside { (name : List ℕ) → command_of (texts words.now.items) ≡ Some (Check name) → input.new ≡ input.old }
+    ensures early { is_early result ≡ true → (input.new ≡ input.old) × (output.new ≡ output.old) }
+    ensures consumed { (taken : List ℕ) × Consumes (S.left input.old) (S.left input.new) taken }
+{
+    match command_of(words.as_slice()) {
+        None => End::Usage.finish(notes),
+        Some(Command::Run(name)) => run_file(alloc, shelf, name, input, output, notes),
+        Some(Command::Check(name)) => check_file(alloc, shelf, name, output).finish(notes),
+    }
+}
+
+/// Does what the words say, and answers with the status of the command: `run FILE` runs the rows of the input through the
+/// bundle in FILE, and `check FILE` prints its bounds.
+pub fn fixd<H: Shelf, S: Source, K: Sink, N: Sink>(
+    alloc: Global,
+    words: &Vec<String>,
+    shelf: &mut H,
+    input: &mut S,
+    output: &mut K,
+    notes: &mut N,
+) -> Status
+    // The headline: whatever `run` printed is the accepted program's own output, inside its words and within the certified bounds.
+    ensures honest { (name : List ℕ) → command_of (texts words.now.items) ≡ Some (Run name) →
+        (t : Told (H.papers shelf.old) name
+        (record { left = S.left input.old; read_faults = S.faults input.old; taken = K.taken output.old; write_faults = K.faults output.old })
+        (record { left = S.left input.new; read_faults = S.faults input.new; taken = K.taken output.new; write_faults = K.faults output.new })) →
+        t.printed ≢ [] → IsHonest t.file t.held t.printed result }
+
+    // Each status, with its line on the notes, has its cause.
+    ensures ended { HasEnded (H.papers shelf.old) (H.faults shelf.old) (H.faults shelf.new)
+        (record { left = S.left input.old; read_faults = S.faults input.old; taken = K.taken output.old; write_faults = K.faults output.old })
+        (record { left = S.left input.new; read_faults = S.faults input.new; taken = K.taken output.new; write_faults = K.faults output.new })
+        (N.taken notes.old) (N.taken notes.new) (N.faults notes.old) (N.faults notes.new) (command_of (texts words.now.items)) result }
+
+    // Where the words are no command's, or the bundle isn't accepted, nothing was read and nothing printed.
+    ensures early { is_early result ≡ true → (input.new ≡ input.old) × (output.new ≡ output.old) }
+
+    // Where the shelf tells its files and FILE is none of them, nothing is touched.
+    ensures missing { (name : List ℕ) → Opens (command_of (texts words.now.items)) name → IsMissing (H.papers shelf.old) name → IsUnopened
+        (record { left = S.left input.old; read_faults = S.faults input.old; taken = K.taken output.old; write_faults = K.faults output.old })
+        (record { left = S.left input.new; read_faults = S.faults input.new; taken = K.taken output.new; write_faults = K.faults output.new }) result }
+
+    // At every status bytes were taken from the front of the input alone.
+    ensures consumed { (taken : List ℕ) × Consumes (S.left input.old) (S.left input.new) taken }
+
+    // `check` leaves the input as it was.
+    ensures aside { (name : List ℕ) → command_of (texts words.now.items) ≡ Some (Check name) → input.new ≡ input.old }
+{
+    rows_in_range_law();
+    bundle_text_law();
+    perform(alloc, words, shelf, input, output, notes)
+}

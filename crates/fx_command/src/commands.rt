@@ -1,0 +1,7 @@
+//! The commands, one a file.
+
+mod check;
+mod run;
+
+pub use check::check_file;
+pub use run::run_file;

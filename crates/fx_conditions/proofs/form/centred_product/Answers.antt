@@ -1,0 +1,15 @@
+use Rattle.std.proofs.Common.{arith}
+use Rattle.fx_inequalities.specs.Formula.{Num, point, span_difference}
+use Rattle.fx_inequalities.specs.Affine.{range_at}
+use Rattle.fx_judging.proofs.Shorts.{shorter, short_point, short_span_difference}
+use Rattle.fx_cert.specs.CertificateView.{lines_in}
+use Rattle.fx_conditions.proofs.Shorts.{range_short}
+use Rattle.fx_conditions.proofs.form.centred_product.Goals as goal
+
+pub returns : goal.returns
+returns c =
+    let ls = lines_in c.args.lines.now in let r = c.requires in
+    let ma = Num c.args.form.now.centre_a in let mb = Num c.args.form.now.centre_b in
+    c.times.ensures (span_difference (range_at ls c.args.a) (point ma)) (span_difference (range_at ls c.args.b) (point mb))
+    (short_span_difference (range_short ls r.lines c.args.a) (short_point (shorter 512 (omega arith) r.form.centre_a))) (short_span_difference (range_short ls r.lines c.args.b) (short_point (shorter 512 (omega arith) r.form.centre_b)))
+    c.centred.ensures c.centred-2.ensures

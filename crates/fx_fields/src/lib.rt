@@ -1,0 +1,11 @@
+//! The fields of one line of rows: those of the one record that `csv` gives for the line's bytes alone.
+//!
+//! A line without quotes, which is nearly every line, is cut at its commas where it stands: nothing is allocated, and
+//! `plain_line_law` says that `csv` would give the same fields. Any other line goes through `csv`.
+#![tactic(auto)]
+
+mod line;
+mod pieces;
+
+pub use line::{Fields, plain_line_law, plain_text, record_of, unmarked_line_law};
+pub use pieces::{Pieces, piece_from};

@@ -1,0 +1,5 @@
+pub mod Outcomes
+pub mod Steps
+pub mod Turns
+pub mod Exits
+pub mod Asking

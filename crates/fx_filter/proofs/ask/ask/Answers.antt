@@ -1,0 +1,114 @@
+use Rattle.std.proofs.Common.{◌≡◌, [], Err, arith, sym, ap, ◌∙◌, not}
+use Rattle.std.proofs.KnownBytes.{Consumes-nil}
+use Rattle.fx_base.specs.declared.answers.LineFault.TheVariants as line
+use Rattle.fx_filter.specs.Running.{IsFlushed}
+use Rattle.fx_filter.specs.declared.fault.RunFault.TheVariants.{WriteFault}
+use Rattle.fx_filter.proofs.Exits.{write-failed}
+use Rattle.fx_filter.proofs.Turns.{on-ok, on-err, up-to}
+use Rattle.fx_filter.proofs.Asking.{Turn, gave, failed, over}
+use Rattle.fx_filter.proofs.ask.ask.Goals as goal
+
+pub returns-then-is_err-clause-asked : goal.returns-then-is_err-clause-asked
+returns-then-is_err-clause-asked g c = λ o now left before count none ran.
+    let left1 = g.S.Source.left c.args.source.now in
+    let mid = g.K.Sink.taken c.flush.new.sink in
+    let r = c.args.lines.now in
+    let after = g.K.Sink.taken c.args.sink.now in
+    let within = ran.within in (
+      write-failed o now r left left1 left1 before after mid c.args.page.now [] count r.limit ran (Consumes-nil left1) (omega (arith, ran.prompt))
+          (on-err c.flush.result (sym c.is_err.ensures.value ∙ c.if-is_err.true) c.flush.ensures.front),
+      up-to o now r left left1 left1 before after c.args.page.now [] count r.limit WriteFault ran (Consumes-nil left1) (omega arith) (λ e. absurd cc),
+    )
+
+pub returns-in-Ok-clause-asked : goal.returns-in-Ok-clause-asked
+returns-in-Ok-clause-asked g c = λ o now left before count none ran.
+    let r = c.args.lines.now in
+    let r' = c.next_line.new.self in
+    let left1 = g.S.Source.left c.args.source.now in
+    let left2 = g.S.Source.left c.next_line.new.source in
+    let after = g.K.Sink.taken c.args.sink.now in
+    let mid = g.K.Sink.taken c.flush.new.sink in
+    let page' = c.flush.new.page in
+    let held = c.holds_line.result in
+    let m = c.next_line.ensures.taken in
+    let flush : IsFlushed (not held) after mid c.args.page.now page' = on-ok c.flush.result (sym c.is_err.ensures.value ∙ c.if-is_err.false) c.flush.ensures.all in
+    let turn : Turn r r' left1 left2 m.0 held c.next_line.result = record {
+      took = m.1;
+      sum = m.2;
+      few = m.3;
+      line = m.4;
+      none = m.5;
+      kept = m.6;
+      counts = c.next_line.ensures.counts;
+      end = c.next_line.ensures.end;
+      ended = c.next_line.ensures.ended;
+      number = λ other. (c.next_line.ensures.stop other).2;
+      within = c.next_line.ensures.within;
+      limit = c.next_line.ensures.limit;
+      lazy = λ e. let l = c.next_line.ensures.lazy (c.holds_line.ensures.0 e) in (l.1, l.2);
+      after_end = λ e. let l = c.next_line.ensures.after_end e in (ap g.S.Source.left l.0, l.1, l.2);
+    } in
+    gave o now r r' left left1 left2 before after mid c.args.page.now page' m.0 count held c.next_line.result none ran c.requires.limit flush turn c.in-Ok.step c.in-Ok.is
+
+pub returns-in-Err-ReadFault-clause-asked : goal.returns-in-Err-ReadFault-clause-asked
+returns-in-Err-ReadFault-clause-asked g c = λ o now left before count none ran.
+    let r = c.args.lines.now in
+    let r' = c.next_line.new.self in
+    let left1 = g.S.Source.left c.args.source.now in
+    let left2 = g.S.Source.left c.next_line.new.source in
+    let after = g.K.Sink.taken c.args.sink.now in
+    let mid = g.K.Sink.taken c.flush.new.sink in
+    let page' = c.flush.new.page in
+    let held = c.holds_line.result in
+    let m = c.next_line.ensures.taken in
+    let flush : IsFlushed (not held) after mid c.args.page.now page' = on-ok c.flush.result (sym c.is_err.ensures.value ∙ c.if-is_err.false) c.flush.ensures.all in
+    let turn : Turn r r' left1 left2 m.0 held c.next_line.result = record {
+      took = m.1;
+      sum = m.2;
+      few = m.3;
+      line = m.4;
+      none = m.5;
+      kept = m.6;
+      counts = c.next_line.ensures.counts;
+      end = c.next_line.ensures.end;
+      ended = c.next_line.ensures.ended;
+      number = λ other. (c.next_line.ensures.stop other).2;
+      within = c.next_line.ensures.within;
+      limit = c.next_line.ensures.limit;
+      lazy = λ e. let l = c.next_line.ensures.lazy (c.holds_line.ensures.0 e) in (l.1, l.2);
+      after_end = λ e. let l = c.next_line.ensures.after_end e in (ap g.S.Source.left l.0, l.1, l.2);
+    } in
+    let fault : c.next_line.result ≡ Err line.ReadFault = c.in-Err-ReadFault.is ∙ ap Err c.in-Err-ReadFault.field-0-is in
+    failed o now r r' left left1 left2 before after mid c.args.page.now page' m.0 count held c.next_line.result none ran c.requires.limit flush turn fault (c.next_line.ensures.read_fault fault).1
+    (λ h. let z = sym fault ∙ c.next_line.ensures.too_long.1 h in absurd cc)
+
+pub returns-in-Err-TooLong-clause-asked : goal.returns-in-Err-TooLong-clause-asked
+returns-in-Err-TooLong-clause-asked g c = λ o now left before count none ran.
+    let r = c.args.lines.now in
+    let r' = c.next_line.new.self in
+    let left1 = g.S.Source.left c.args.source.now in
+    let left2 = g.S.Source.left c.next_line.new.source in
+    let after = g.K.Sink.taken c.args.sink.now in
+    let mid = g.K.Sink.taken c.flush.new.sink in
+    let page' = c.flush.new.page in
+    let held = c.holds_line.result in
+    let m = c.next_line.ensures.taken in
+    let flush : IsFlushed (not held) after mid c.args.page.now page' = on-ok c.flush.result (sym c.is_err.ensures.value ∙ c.if-is_err.false) c.flush.ensures.all in
+    let turn : Turn r r' left1 left2 m.0 held c.next_line.result = record {
+      took = m.1;
+      sum = m.2;
+      few = m.3;
+      line = m.4;
+      none = m.5;
+      kept = m.6;
+      counts = c.next_line.ensures.counts;
+      end = c.next_line.ensures.end;
+      ended = c.next_line.ensures.ended;
+      number = λ other. (c.next_line.ensures.stop other).2;
+      within = c.next_line.ensures.within;
+      limit = c.next_line.ensures.limit;
+      lazy = λ e. let l = c.next_line.ensures.lazy (c.holds_line.ensures.0 e) in (l.1, l.2);
+      after_end = λ e. let l = c.next_line.ensures.after_end e in (ap g.S.Source.left l.0, l.1, l.2);
+    } in
+    let fault : c.next_line.result ≡ Err line.TooLong = c.in-Err-TooLong.is ∙ ap Err c.in-Err-TooLong.field-0-is in
+    over o now r r' left left1 left2 before after mid c.args.page.now page' m.0 count held c.next_line.result none ran c.requires.limit flush turn (c.next_line.ensures.too_long.0 fault)

@@ -1,0 +1,6 @@
+pub mod Rooms
+pub mod Outcome
+pub mod Promise
+pub mod Running
+pub mod Printed
+pub mod RowLaws

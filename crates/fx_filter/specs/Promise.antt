@@ -1,0 +1,81 @@
+-- What stands written, and what was taken, when a run over lines ends.
+use Rattle.std.specs.Prelude.{ℕ, ◌≡◌, ◌+◌, ◌≤◌, ◌<◌, ◌==◌, ◌⊎◌, ◌↔◌, List, [], ◌++◌, length, position, ⊤, Option, Some, None}
+use Rattle.std.specs.Io.KnownBytes.{Consumes, Appends}
+use Rattle.fx_rows.specs.Faults.{Fault, fault_of}
+use Rattle.fx_base.specs.Text.{lines_in}
+use Rattle.fx_base.specs.LineSteps.{EndsLine}
+use Rattle.fx_filter.specs.Outcome.{Outcome}
+use Rattle.fx_filter.specs.declared.fault.RunFault.{RunFault}
+use Rattle.fx_filter.specs.declared.fault.RunFault.TheVariants.{Row, ReadFault, WriteFault, TooLong, Memory}
+
+-- where the bytes are told, P of them
+abbrev pub IfKnown : Option (List ℕ) → (List ℕ → Type 0) → Type 0
+IfKnown None P = ⊤
+IfKnown (Some all) P = P all
+
+-- all is printed, and no line is bad
+pub record IsDone (o : Outcome) (count : ℕ) (before after : Option (List ℕ)) : Type 0 where
+  pub good : o.bad ≡ None
+  pub rows : o.rows ≡ count
+  pub printed : Appends before after o.text
+
+-- the line of this number, from 1, is the first bad one, and all before it is printed
+pub record IsBadAt (o : Outcome) (line : ℕ) (fault : Fault) (before after : Option (List ℕ)) : Type 0 where
+  pub place : ℕ
+  pub number : line ≡ place + 1
+  pub bad : o.bad ≡ Some (place, fault)
+  pub printed : Appends before after o.text
+
+-- a front of the text was printed
+pub record PrintsFront (text : List ℕ) (before after : Option (List ℕ)) : Type 0 where
+  pub sent : List ℕ
+  pub rest : List ℕ
+  pub parts : text ≡ sent ++ rest
+  pub printed : Appends before after sent
+
+-- the bytes are whole lines, or none
+abbrev pub AreWholeLines : List ℕ → Type 0
+AreWholeLines bytes = (bytes ≡ []) ⊎ EndsLine bytes
+
+-- exactly the text of the taken lines that end with a line feed is printed
+pub record PrintsWholeLines (o : List (List ℕ) → Outcome) (left left' before after : Option (List ℕ)) : Type 0 where
+  pub front : List ℕ
+  pub rest : List ℕ
+  pub taken : Consumes left left' (front ++ rest)
+  pub whole : AreWholeLines front
+  pub none : position (λ b. b == 10) rest ≡ None
+  pub printed : Appends before after (o (lines_in front)).text
+
+-- of the taken bytes all but the last 131,072 at most are lines whose text is printed whole
+pub record IsPrompt (o : List (List ℕ) → Outcome) (left left' before after : Option (List ℕ)) : Type 0 where
+  pub front : List ℕ
+  pub rest : List ℕ
+  pub more : List ℕ
+  pub taken : Consumes left left' (front ++ rest)
+  pub whole : AreWholeLines front
+  pub few : length rest ≤ 131072
+  pub printed : Appends before after ((o (lines_in front)).text ++ more)
+
+-- of the taken bytes the last 131,072 at most begin with the line of this number
+pub record IsNear (line : ℕ) (left left' : Option (List ℕ)) : Type 0 where
+  pub front : List ℕ
+  pub rest : List ℕ
+  pub taken : Consumes left left' (front ++ rest)
+  pub number : line ≡ length (lines_in front) + 1
+  pub few : length rest ≤ 131072
+
+-- what holds after each fault
+abbrev pub IsDue : (List (List ℕ) → Outcome) → Option (List ℕ) → Option (List ℕ) → Option (List ℕ) → Option (List ℕ) → RunFault → Type 0
+IsDue o left left' before after (Row line fault) = IfKnown left (λ all. IsBadAt (o (lines_in all)) line (fault_of fault) before after) × IsNear line left left'
+IsDue o left left' before after ReadFault = IfKnown left (λ all. PrintsFront (o (lines_in all)).text before after) × PrintsWholeLines o left left' before after
+IsDue o left left' before after WriteFault = IfKnown left (λ all. PrintsFront (o (lines_in all)).text before after) × IsPrompt o left left' before after
+IsDue o left left' before after TooLong = IfKnown left (λ all. PrintsFront (o (lines_in all)).text before after)
+IsDue o left left' before after Memory = IfKnown left (λ all. PrintsFront (o (lines_in all)).text before after)
+
+-- bytes were taken from the front, and more than `limit` of them exactly where the fault is TooLong
+abbrev pub TakesUpTo : Option (List ℕ) → Option (List ℕ) → ℕ → RunFault → Type 0
+TakesUpTo left left' limit fault = (taken : List ℕ) × Consumes left left' taken × ((fault ≡ TooLong) ↔ (limit < length taken))
+
+-- both
+abbrev pub IsFailed : (List (List ℕ) → Outcome) → Option (List ℕ) → Option (List ℕ) → Option (List ℕ) → Option (List ℕ) → ℕ → RunFault → Type 0
+IsFailed o left left' before after limit fault = IsDue o left left' before after fault × TakesUpTo left left' limit fault

@@ -1,0 +1,77 @@
+//! What is printed and not written yet, in a block of memory that is made once.
+//!
+//! What a line prints goes into the block, and the block goes out before a read that might wait and where another line
+//! might not fit. So no line wants memory for what it prints.
+ghost use Rattle.std.specs.Prelude.{◌≡◌, ◌+◌, ◌≤◌, ◌↔◌, [], ◌++◌, length, IsTrue, IfOk, OnOk, OnErr};
+ghost use Rattle.std.specs.Io.KnownBytes.{Appends};
+ghost use Rattle.fx_base.specs.Causes.{HasCause};
+ghost use Rattle.fx_base.specs.Calls.{AppendsFront};
+ghost use Rattle.fx_filter.specs.Rooms.{HasRoom};
+
+use fx_base::{Failed, Memory, Sink, put_all};
+use std::alloc::Global;
+use std::marker::Model;
+
+// In bytes: few calls of the system for a long page.
+const BLOCK: usize = 65_536;
+
+// What a line may print: 64 fields of 128 bytes, and a byte behind each.
+const LINE: usize = 8_256;
+
+/// What is printed and not written yet.
+#[derive(Drop)]
+pub struct Page {
+    block: Vec<u8>,
+    used: usize,
+}
+
+impl Model for Page {
+    ghost use Rattle.std.specs.Prelude.{◌≡◌, ◌≤◌, ℕ, List, length, take};
+
+    ghost Value = { List ℕ };
+
+    ghost view = { λ p. take p.used p.block.items };
+
+    ghost invariant = { λ p. (p.used ≤ 65536) × (length p.block.items ≡ 65536) };
+}
+
+impl Page {
+    /// An empty page. All room is made here.
+    pub fn new(alloc: Global) -> Result<Page, Memory>
+        ensures { IfOk result (λ page. page ≡ []) }
+    {
+        let Ok(block) = vec![in alloc; 0; BLOCK] else {
+            return Err(Memory);
+        };
+        Ok(Page { block, used: 0 })
+    }
+
+    /// Appends bytes.
+    pub fn put(&mut self, bytes: &[u8])
+        requires { length self.old + length bytes.now ≤ 65536 }
+        ensures { self.new ≡ self.old ++ bytes.now }
+    {
+        let end = self.used + bytes.len();
+        self.block[self.used..end].copy_from_slice(bytes);
+        self.used = end;
+    }
+
+    /// Whether there is room for what a line may print.
+    pub fn has_room(&self) -> bool
+        ensures { IsTrue result ↔ HasRoom self.now }
+    {
+        BLOCK - self.used >= LINE
+    }
+
+    /// Writes all.
+    pub fn write_out<K: Sink>(&mut self, sink: &mut K) -> Result<(), Failed>
+        ensures all { OnOk result (Appends (K.taken sink.old) (K.taken sink.new) self.old) }
+        ensures empty { OnOk result (self.new ≡ []) }
+        ensures front { OnErr result (AppendsFront (K.taken sink.old) (K.taken sink.new) self.old) }
+        ensures cause { HasCause (K.faults sink.old) (K.faults sink.new) result }
+    {
+        put_all(sink, &self.block[..self.used])?;
+        self.used = 0;
+        Ok(())
+    }
+}

@@ -1,0 +1,229 @@
+//! The printer of rows: the header, and then a row for each line that isn't blank.
+//!
+//! What a row does is behind the trait `RowStep`, so that the rows of a text are told apart from the machine.
+//! The trap: the numbers of a row find their room before the first row, and a row keeps it, so that only a line that
+//! `csv` has to read wants memory.
+ghost use Rattle.std.specs.Prelude.{◌≡◌, ◌≢◌, ℕ, List, [], ◌∷◌, ◌++◌, ◌<◌, ◌≤◌, ◌-◌, ◌^◌, ◌⊎◌, ◌↔◌, false, Err, length, map, option_map, IfOk, IfErr, IfSome, OnOk, IsErrOf, None};
+ghost use Rattle.std.specs.List.{list_any};
+ghost use Rattle.std.specs.Vec.{vec_capacity};
+ghost use Rattle.std.specs.Io.KnownBytes.{Consumes, IsAtEnd};
+ghost use Rattle.fx_base.specs.Causes.{Rose};
+ghost use Rattle.fx_rational.specs.Decimal.{decimal_value};
+ghost use Rattle.fx_rational.specs.Decimal as rational;
+ghost use Rattle.fx_model.specs.Function as model;
+ghost use Rattle.fx_model.specs.Rows.{IsInRange};
+ghost use Rattle.fx_fields.specs.Line.{is_special};
+ghost use Rattle.fx_rows.specs.Header.{columns_of};
+ghost use Rattle.fx_rows.specs.ReadRows.{read_rows};
+ghost use Rattle.fx_rows.specs.Faults.{fault_of};
+ghost use Rattle.fx_rows.specs.declared.fault.RowKind.TheVariants as kind;
+ghost use Rattle.fx_filter.specs.Rooms.{HasRoom};
+ghost use Rattle.fx_filter.specs.Outcome.{Outcome, behind, one, stopped, IfBad};
+ghost use Rattle.fx_filter.specs.Printed.{lines_outcome, outcome_of};
+ghost use Rattle.fx_filter.specs.Promise.{IfKnown, IsDone, IsDue};
+ghost use Rattle.fx_filter.specs.declared.printer.Stop.TheVariants as stop;
+
+use crate::fault::{NO_HEADER, RunFault};
+use crate::page::Page;
+use crate::printer::{Printer, Stop};
+use crate::run::run_lines;
+use fx_base::{Sink, Source};
+use fx_expr::Function;
+use fx_fraction::Decimal;
+use fx_rows::{Columns, RowFault, RowKind, read_header, read_row};
+use std::alloc::Global;
+
+/// What a row does: it prints a line, and may leave a state.
+pub trait RowStep {
+    // The function that the rows are for.
+    ghost meaning: { Self → model.Function };
+
+    // Whether it may take a row.
+    ghost can_run: { Self → Type 0 };
+
+    // What stands before the rows.
+    ghost head: { Self → List ℕ };
+
+    // What is printed of these rows, if they are the next ones.
+    ghost printed: { Self → List (List rational.Decimal) → List ℕ };
+
+    /// The function that the rows are for.
+    fn function(&self) -> &Function
+        ensures { result.now ≡ meaning self.now };
+
+    /// Appends what stands before the rows.
+    fn put_head(&self, page: &mut Page)
+        requires can { can_run self.now }
+        requires room { HasRoom page.old }
+        ensures { page.new ≡ page.old ++ head self.now };
+
+    /// Carries out the next row, and appends what is printed of it.
+    fn put_row(&mut self, row: &[Decimal], page: &mut Page)
+        requires can { can_run self.old }
+        requires room { HasRoom page.old }
+        requires in_range { IsInRange (meaning self.old).inputs (map decimal_value row.now) }
+        ensures can { can_run self.new }
+        ensures put { (text : List ℕ) × (page.new ≡ page.old ++ text)
+            × ((rest : List (List rational.Decimal)) → printed self.old (row.now ∷ rest) ≡ text ++ printed self.new rest) }
+        ensures function { meaning self.new ≡ meaning self.old }
+        ensures before { head self.new ≡ head self.old };
+
+    // Nothing is printed of no rows.
+    ghost none: { (s : Self) → printed s [] ≡ [] };
+}
+
+// The header and the rows as they come.
+#[derive(Drop)]
+struct RowPrinter<M> {
+    step: M,
+    columns: Option<Columns>,
+    row: Vec<Decimal>,
+    alloc: Global,
+}
+
+// Want of memory is no fault of the line.
+fn stop_of(fault: RowFault) -> Stop
+    ensures { (fault.kind ≡ kind.Memory × result ≡ stop.Memory) ⊎ (fault.kind ≢ kind.Memory × result ≡ stop.Bad fault) }
+{
+    if fault.kind == RowKind::Memory {
+        Stop::Memory
+    } else {
+        Stop::Bad(fault)
+    }
+}
+
+// The header of a line, if it isn't blank. What stands before the rows is appended.
+fn take_header<M: RowStep>(
+    alloc: Global,
+    line: &[u8],
+    step: &M,
+    page: &mut Page,
+) -> Result<Option<Columns>, Stop>
+    requires can { M.can_run step.now }
+    requires room { HasRoom page.old }
+    ensures many { IfOk result (λ o. IfSome o (λ c. length (columns_of c) ≡ length (M.meaning step.now).inputs)) }
+    ensures taken { IfOk result (λ o. (text : List ℕ) × (page.new ≡ page.old ++ text)
+        × ((rest : List (List ℕ)) → lines_outcome (M.meaning step.now) (M.head step.now) (M.printed step.now) None (line.now ∷ rest)
+        ≡ behind 1 text 0 (lines_outcome (M.meaning step.now) (M.head step.now) (M.printed step.now) (option_map columns_of o) rest))) }
+    ensures bad { IfErr result (IfBad (λ fault. (page.new ≡ page.old)
+        × ((rest : List (List ℕ)) → lines_outcome (M.meaning step.now) (M.head step.now) (M.printed step.now) None (line.now ∷ rest) ≡ stopped (fault_of fault)))) }
+{
+    match read_header(alloc, line, step.function()) {
+        Ok(None) => Ok(None),
+        Ok(Some(columns)) => {
+            step.put_head(page);
+            Ok(Some(columns))
+        }
+        Err(fault) => Err(stop_of(fault)),
+    }
+}
+
+// The row of a line, and whether it is one. Only a line with a quote wants memory.
+fn take_row<M: RowStep>(
+    alloc: Global,
+    line: &[u8],
+    columns: &Columns,
+    step: &mut M,
+    row: &mut Vec<Decimal>,
+    page: &mut Page,
+) -> Result<bool, Stop>
+    requires many { length (columns_of columns.now) ≡ length (M.meaning step.old).inputs }
+    requires can { M.can_run step.old }
+    requires room { HasRoom page.old }
+    requires row_room { length (M.meaning step.old).inputs ≤ vec_capacity row.old }
+    ensures can { OnOk result (M.can_run step.new) }
+    ensures function { OnOk result (M.meaning step.new ≡ M.meaning step.old) }
+    ensures row_room { vec_capacity row.old ≤ vec_capacity row.new }
+    ensures taken { IfOk result (λ is_row. (text : List ℕ) × (page.new ≡ page.old ++ text)
+        × ((rest : List (List ℕ)) → lines_outcome (M.meaning step.old) (M.head step.old) (M.printed step.old) (Some (columns_of columns.now)) (line.now ∷ rest)
+        ≡ behind 1 text (one is_row) (lines_outcome (M.meaning step.new) (M.head step.new) (M.printed step.new) (Some (columns_of columns.now)) rest))) }
+    ensures bad { IfErr result (IfBad (λ fault. (page.new ≡ page.old)
+        × ((rest : List (List ℕ)) → lines_outcome (M.meaning step.old) (M.head step.old) (M.printed step.old) (Some (columns_of columns.now)) (line.now ∷ rest) ≡ stopped (fault_of fault)))) }
+    ensures memory { list_any is_special line.now ≡ false → result ≢ Err stop.Memory }
+{
+    match read_row(alloc, line, columns, step.function(), row) {
+        Ok(false) => Ok(false),
+        Ok(true) => {
+            step.put_row(row, page);
+            Ok(true)
+        }
+        Err(fault) => Err(stop_of(fault)),
+    }
+}
+
+impl<M: RowStep + Drop> Printer for RowPrinter<M> {
+    ghost use Rattle.std.specs.Prelude.{length, option_map, IfSome, ◌≤◌};
+    ghost use Rattle.std.specs.Vec.{vec_capacity};
+    ghost use Rattle.fx_rows.specs.Header.{columns_of};
+    ghost use Rattle.fx_filter.specs.Printed.{lines_outcome};
+    ghost use Rattle.fx_filter.specs.RowLaws.{nothing_printed, long_stops};
+
+    ghost can_take = { λ s. M.can_run s.step × IfSome s.columns (λ c. length (columns_of c) ≡ length (M.meaning s.step).inputs)
+        × (length (M.meaning s.step).inputs ≤ vec_capacity s.row) };
+
+    ghost outcome = { λ s ls. lines_outcome (M.meaning s.step) (M.head s.step) (M.printed s.step) (option_map columns_of s.columns) ls };
+
+    fn take(&mut self, line: &[u8], page: &mut Page) -> Result<bool, Stop> {
+        match &self.columns {
+            None => match take_header(self.alloc, line, &self.step, page) {
+                Ok(columns) => {
+                    self.columns = columns;
+                    Ok(false)
+                }
+                Err(stop) => Err(stop),
+            },
+            Some(columns) => take_row(
+                self.alloc,
+                line,
+                columns,
+                &mut self.step,
+                &mut self.row,
+                page,
+            ),
+        }
+    }
+
+    fn end(&self) -> Option<RowFault> {
+        if self.columns.is_some() {
+            None
+        } else {
+            Some(NO_HEADER)
+        }
+    }
+
+    ghost none = { λ s. nothing_printed (M.meaning s.step) (M.head s.step) (M.printed s.step) (M.none s.step) (option_map columns_of s.columns) };
+
+    ghost long = { λ s line rest h. long_stops (M.meaning s.step) (M.head s.step) (M.printed s.step) (M.none s.step) (option_map columns_of s.columns) line rest h };
+}
+
+/// Runs the rows of a source, and writes their page before each read that might wait. Gives the number of rows.
+pub fn run_steps<M: RowStep + Drop, S: Source, K: Sink>(
+    alloc: Global,
+    step: M,
+    source: &mut S,
+    sink: &mut K,
+    limit: u64,
+) -> Result<u64, RunFault>
+    requires limit { limit < 2 ^ 64 - 1 }
+    requires can { M.can_run step }
+    ensures done { IfOk result (λ n. IfKnown (S.left source.old) (λ all. IsDone (outcome_of (M.head step) (M.printed step) (read_rows (M.meaning step) all)) n (K.taken sink.old) (K.taken sink.new))) }
+    ensures end { OnOk result (IsAtEnd (S.left source.new)) }
+    ensures due { IfErr result (IsDue (lines_outcome (M.meaning step) (M.head step) (M.printed step) None) (S.left source.old) (S.left source.new) (K.taken sink.old) (K.taken sink.new)) }
+    ensures taken { (taken : List ℕ) × Consumes (S.left source.old) (S.left source.new) taken × (IsErrOf result RunFault.TooLong ↔ (limit < length taken)) }
+    ensures read_fault { IsErrOf result RunFault.ReadFault → Rose (S.faults source.old) (S.faults source.new) }
+    ensures write_fault { IsErrOf result RunFault.WriteFault → Rose (K.faults sink.old) (K.faults sink.new) }
+    ensures later { S.faults source.old ≤ S.faults source.new }
+    ensures later_sink { K.faults sink.old ≤ K.faults sink.new }
+{
+    let count = step.function().inputs.len();
+    let Ok(row) = Vec::with_capacity(alloc, count) else {
+        return Err(RunFault::Memory);
+    };
+    let mut printer = RowPrinter {
+        step,
+        columns: None,
+        row,
+        alloc,
+    };
+    run_lines(alloc, &mut printer, source, sink, limit)
+}

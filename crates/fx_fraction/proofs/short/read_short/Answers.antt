@@ -1,0 +1,28 @@
+use Rattle.std.proofs.Common.{◌≡◌, ℕ, ◌<◌, ◌^◌, ◌-◌, take, drop, length, refl, ap, subst, ◌∙◌, arith, rules}
+use Rattle.std.specs.Str.Parse.{digits_value_after}
+use Rattle.fx_fraction.specs.Numeral.{part_digits, part_of}
+use Rattle.fx_fraction.specs.Kept.{Keeps}
+use Rattle.fx_fraction.proofs.Mantissas.{mantissa_is}
+use Rattle.fx_fraction.proofs.short.read_short.Goals as goal
+
+pub returns : goal.returns
+returns c =
+    let w = c.in_ok-whole.ensures in
+    let p = c.in_ok-size.ensures in
+    let short : length c.args.body.now < 2 ^ 63 = search rules in
+    let zeros = c.stripped.ensures.zeros in
+    let tail = take (length c.args.body.now - c.in_ok-whole.count) (drop c.in_ok-whole.count c.args.body.now) in
+    mantissa_is c.args.body.now tail c.in_ok-whole.count c.stripped.result c.in_ok-size.places c.in_ok-size.end
+    (record {
+      count_is = w.count;
+      within = w.within;
+      short = short;
+      tail_is = refl;
+      value = subst (λ (n : ℕ). Keeps n c.stripped.result) (p.value ∙ ap (λ (n : ℕ). digits_value_after 10 n (part_digits (part_of tail))) w.value) c.stripped.ensures.value;
+      zeros = omega arith;
+      fits = c.stripped.ensures.fits;
+      places_are = p.places;
+      end_within = p.within;
+      rest = p.rest;
+    })
+    (omega arith)

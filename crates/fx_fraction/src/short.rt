@@ -1,0 +1,88 @@
+//! The quick form of most numbers: digits that come to less than 2^62 with the zeros at their end.
+//!
+//! They are added up in one word, and the zeros come off at the end, where `Significant` counts them as they come. What
+//! is longer is read as before.
+
+ghost use Rattle.std.specs.Prelude.{◌≡◌, ◌+◌, ◌<◌, ◌≤◌, ◌^◌, length, drop, IfSome};
+ghost use Rattle.std.specs.Str.Parse.{digits_value_after};
+ghost use Rattle.fx_fraction.specs.Numeral.{digit_count, first_digits, part_of, part_digits, behind_part};
+ghost use Rattle.fx_fraction.specs.Kept.{Keeps, FitsFront, zeros_of};
+ghost use Rattle.fx_fraction.specs.ReadParts.{IsMantissa, IsShortPart};
+
+use crate::read::Mantissa;
+use crate::significant::Significant;
+
+// Below this a number and one digit more stay below 2^62.
+const LIMIT: u64 = 461_168_601_842_738_790;
+
+/// The digits that stand first, behind those that came to `start`: what they come to, and how many they are. None where
+/// that might be 2^62 or more.
+fn short_digits(start: u64, text: &[u8]) -> Option<(u64, usize)>
+    requires { start < 2 ^ 62 }
+    ensures count { IfSome result (λ r. r.1 ≡ digit_count text.now) }
+    ensures within { IfSome result (λ r. r.1 ≤ length text.now) }
+    ensures value { IfSome result (λ r. r.0 ≡ digits_value_after 10 start (first_digits text.now)) }
+    ensures small { IfSome result (λ r. r.0 < 2 ^ 62) }
+{
+    let mut now = start;
+    for (i, byte) in text.iter().enumerate() {
+        if !byte.is_ascii_digit() {
+            return Some((now, i));
+        }
+        if now >= LIMIT {
+            return None;
+        }
+        now = now * 10 + u64::from(*byte - b'0');
+    }
+    Some((now, text.len()))
+}
+
+/// The same of the digits behind a point, where a point stands first: what they come to, how many they are, and where
+/// they end.
+fn short_part(start: u64, text: &[u8]) -> Option<(u64, usize, usize)>
+    requires { start < 2 ^ 62 }
+    ensures { IfSome result (IsShortPart start text.now) }
+{
+    match text {
+        [b'.', part @ ..] => {
+            let (size, places) = short_digits(start, part)?;
+            Some((size, places, places + 1))
+        }
+        _ => Some((start, 0, 0)),
+    }
+}
+
+/// A number without the zeros at its end, and how many they are.
+fn stripped(size: u64) -> Significant
+    requires { size < 2 ^ 62 }
+    ensures value { Keeps size result }
+    ensures zeros { zeros_of result < 2 ^ 62 }
+    ensures fits { FitsFront result }
+{
+    if size == 0 {
+        return Significant::Zero;
+    }
+    let mut front = size;
+    let mut zeros = 0;
+    while front % 10 == 0 {
+        front /= 10;
+        zeros += 1;
+    }
+    Significant::Front { front, zeros }
+}
+
+/// The digits behind the sign, with the point among or around them. None where they are long, or there is none.
+pub fn read_short(body: &[u8]) -> Option<Mantissa>
+    ensures { IfSome result (λ m. IsMantissa body.now m.digits m.places m.end) }
+{
+    let (whole, count) = short_digits(0, body)?;
+    let (size, places, end) = short_part(whole, &body[count..])?;
+    if count + places == 0 {
+        return None;
+    }
+    Some(Mantissa {
+        digits: stripped(size),
+        places,
+        end: count + end,
+    })
+}

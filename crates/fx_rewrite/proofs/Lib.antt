@@ -1,0 +1,11 @@
+mod Folds
+mod NoRule
+mod Heights
+mod Twice
+mod Lawful
+mod Within
+mod Judged
+mod Applied
+mod Paths
+mod Firsts
+mod Trees

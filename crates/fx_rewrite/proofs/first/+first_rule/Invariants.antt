@@ -1,0 +1,5 @@
+use Rattle.std.proofs.Common.{◌-◌}
+use Rattle.fx_rewrite.proofs.first.+first_rule.Given as goal
+
+abbrev pub decreases-first_rule : goal.decreases-first_rule
+decreases-first_rule l = 31 - l.from

@@ -1,0 +1,13 @@
+pub mod StepView
+pub mod MeasureOf
+pub mod Turns
+pub mod FoldedOf
+pub mod Ready
+pub mod Refusals
+pub mod SpareOf
+pub mod Prepared
+pub mod Ahead
+pub mod NextPath
+pub mod ForkOf
+pub mod FirstOf
+pub mod Left

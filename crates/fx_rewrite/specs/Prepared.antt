@@ -1,0 +1,16 @@
+-- A step that is there, with the memory that it needs.
+use Rattle.std.specs.Prelude.{◌≡◌, Some}
+use Rattle.fx_model.specs.Tree.{Tree}
+use Rattle.fx_model.specs.Function.{Function}
+use Rattle.fx_model.specs.Paths.{found}
+use Rattle.fx_inequalities.specs.Rewriting.{Rewriting}
+use Rattle.fx_rewrite.specs.Refusals.{IsAdmitted}
+use Rattle.fx_rewrite.specs.SpareOf.{IsReady}
+use Rattle.fx_rewrite.specs.declared.spare.Spare.{Spare}
+
+-- the tree is found, the step is there, and what the rule needs is ready
+pub record IsPrepared (f : Function) (s : Rewriting) (spare : Spare) : Type 0 where
+  pub old : Tree
+  pub there : found f s.place s.path ≡ Some old
+  pub admitted : IsAdmitted f s old
+  pub ready : IsReady s.rule old spare

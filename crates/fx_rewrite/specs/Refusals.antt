@@ -1,0 +1,29 @@
+-- When a step is refused, and by which fault.
+use Rattle.std.specs.Prelude.{◌≡◌, Option, Some, None}
+use Rattle.fx_model.specs.Tree.{Tree}
+use Rattle.fx_model.specs.Function.{Function}
+use Rattle.fx_model.specs.Paths.{found, with_tree}
+use Rattle.fx_inequalities.specs.Rewriting.{Rewriting}
+use Rattle.fx_rules.specs.Rules.{Rewrites}
+use Rattle.fx_rules.specs.Turned.{Becomes, turned}
+use Rattle.fx_rules.specs.Steps.{rewrite, IsUnmatched}
+use Rattle.fx_rewrite.specs.declared.fault.StepFault.{StepFault}
+use Rattle.fx_rewrite.specs.declared.fault.StepFault.TheVariants.{NoPlace, NoMatch, TooLong, Memory}
+
+-- the place or the path leads nowhere; a tree is there and the rule's left side doesn't match it; it matches, and a limit isn't kept
+abbrev pub IsRefused : StepFault → Function → Rewriting → Type 0
+IsRefused NoPlace f s = found f s.place s.path ≡ None
+IsRefused NoMatch f s = (old : Tree) × (found f s.place s.path ≡ Some old) × IsUnmatched s.rule old
+IsRefused TooLong f s = (old : Tree) × (new : Tree) × (found f s.place s.path ≡ Some old) × Rewrites s.rule old new × (rewrite f s ≡ None)
+IsRefused Memory f s = Unit {0}
+
+-- the step is there: a tree is found, it becomes another, and the limits are kept
+pub record IsAdmitted (f : Function) (s : Rewriting) (old : Tree) : Type 0 where
+  pub new : Tree
+  pub becomes : turned s.rule old ≡ Becomes new
+  pub is : rewrite f s ≡ Some (with_tree f s.place s.path new)
+
+-- the verdict on a step at a tree that is found
+abbrev pub Judges : Option StepFault → Function → Rewriting → Tree → Type 0
+Judges None f s old = IsAdmitted f s old
+Judges (Some fault) f s old = IsRefused fault f s × (rewrite f s ≡ None)

@@ -1,0 +1,7 @@
+-- What contracts see of a step.
+use Rattle.fx_inequalities.specs.Rewriting.{Rewriting}
+use Rattle.fx_rewrite.specs.declared.step.Step.{Step}
+
+-- the step of the definitions
+abbrev pub step_of : Step → Rewriting
+step_of s = record { place = s.place; path = s.path; rule = s.rule }

@@ -1,0 +1,50 @@
+//! A step on a function, in place.
+//!
+//! First the step is judged and its memory is taken, by reference; then the subtree is moved out, turned, and moved in. So
+//! a refusal finds the function untouched, and nothing but the subtree is walked over. While the subtree is out, a leaf
+//! stands in its place, by which the function stays lawful.
+ghost use Rattle.std.specs.Prelude.{◌≡◌, Some, IfErr, OnErr, OnOk, MatchResult};
+ghost use Rattle.fx_rules.specs.Steps.{rewrite};
+ghost use Rattle.fx_rewrite.specs.Prepared.{IsPrepared};
+ghost use Rattle.fx_rewrite.specs.Refusals.{IsRefused};
+ghost use Rattle.fx_rewrite.specs.StepView.{step_of};
+
+use crate::fault::StepFault;
+use crate::judge::{find, refusal};
+use crate::spare::{Spare, prepare, turn};
+use crate::step::Step;
+use crate::turn::leaf;
+use fx_expr::Function;
+use std::alloc::Global;
+
+/// Whether the step is there, and then the memory that it needs.
+fn prepared(alloc: Global, function: &Function, step: &Step) -> Result<Spare, StepFault>
+    ensures { MatchResult result (λ s. IsPrepared function.now (step_of step.now) s) (λ fault. IsRefused fault function.now (step_of step.now)) }
+{
+    let path = step.path.as_slice();
+    let Some(old) = find(function, step.place, path) else {
+        return Err(StepFault::NoPlace);
+    };
+    if let Some(fault) = refusal(function, old, path.len(), step.rule) {
+        return Err(fault);
+    }
+    match prepare(alloc, old, step.rule) {
+        Ok(spare) => Ok(spare),
+        Err(_) => Err(StepFault::Memory),
+    }
+}
+
+/// Rewrites the function by a step, or leaves it as it was.
+pub fn apply(alloc: Global, function: &mut Function, step: &Step) -> Result<(), StepFault>
+    ensures rewritten { OnOk result (rewrite function.old (step_of step.now) ≡ Some function.new) }
+    ensures same { OnErr result (function.new ≡ function.old) }
+    ensures refused { IfErr result (λ fault. IsRefused fault function.old (step_of step.now)) }
+{
+    let spare = prepared(alloc, function, step)?;
+    function.keeps();
+    let path = step.path.as_slice();
+    let old = function.replace(step.place, path, leaf());
+    let new = turn(old, step.rule, spare);
+    function.replace(step.place, path, new);
+    Ok(())
+}

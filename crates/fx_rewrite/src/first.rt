@@ -1,0 +1,35 @@
+//! The first rule that can be applied at a tree.
+ghost use Rattle.std.specs.Prelude.{◌≡◌, ◌+◌, ◌≤◌, ◌∷◌, [], ℕ, List, Some, MatchOption, length};
+ghost use Rattle.fx_model.specs.Paths.{found, tree_at};
+ghost use Rattle.fx_inequalities.specs.Rewriting.{Rewriting};
+ghost use Rattle.fx_expr.specs.TreeOf.{tree};
+ghost use Rattle.fx_rules.specs.SingleSteps.{steps_by};
+ghost use Rattle.fx_rewrite.specs.Ahead.{rules_from, there};
+ghost use Rattle.fx_rewrite.specs.FirstOf.{Begins};
+
+use crate::judge::refusal;
+use fx_expr::{Expr, Function, at};
+
+/// The first of the rules from this number on that can be applied to `old`, which is found so deep in the function.
+fn first_rule(function: &Function, old: &Expr, depth: usize, from: u8) -> Option<u8>
+    ensures { (place : ℕ) → (path : List ℕ) → found function.now place path ≡ Some (tree old.now) → depth ≡ length path →
+        Begins function.now place path from result }
+{
+    if from > 30 {
+        return None;
+    }
+    match refusal(function, old, depth, from) {
+        None => Some(from),
+        Some(_) => first_rule(function, old, depth, from + 1),
+    }
+}
+
+/// The same at a path in a tree of the function.
+pub fn first_at(function: &Function, whole: &Expr, path: &[u8], from: u8) -> Option<u8>
+    ensures { (place : ℕ) → tree_at function.now place ≡ Some (tree whole.now) → Begins function.now place path.now from result }
+{
+    let Some(old) = at(whole, path) else {
+        return None;
+    };
+    first_rule(function, old, path.len(), from)
+}

@@ -1,0 +1,68 @@
+//! Whether a step is there, tried by reference.
+//!
+//! The function was lawful, so only the path and the new tree decide the height, and only the old and the new tree the
+//! nodes: nothing else is looked at.
+ghost use Rattle.std.specs.Prelude.{◌≡◌, ◌↔◌, ◌+◌, ◌≤◌, ℕ, List, IsTrue, Some, None, MatchOption, length};
+ghost use Rattle.fx_model.specs.Tree.{Tree};
+ghost use Rattle.fx_model.specs.Paths.{found, with_tree};
+ghost use Rattle.fx_inequalities.specs.Rewriting.{Rewriting};
+ghost use Rattle.fx_expr.specs.SizeOf.{size_of};
+ghost use Rattle.fx_expr.specs.TreeOf.{tree};
+ghost use Rattle.fx_rules.specs.Steps.{is_within};
+ghost use Rattle.fx_rewrite.specs.Refusals.{Judges};
+ghost use Rattle.fx_rewrite.specs.StepView.{step_of};
+
+use crate::fault::StepFault;
+use crate::measure::Measure;
+use crate::rule::measure;
+use crate::step::Step;
+use fx_expr::{Expr, Function, Size, at};
+
+/// The tree that a step speaks of.
+pub fn find<'a>(function: &'a Function, place: u32, path: &[u8]) -> Option<&'a Expr>
+    ensures { MatchOption result (found function.now place path.now ≡ None) (λ e. found function.now place path.now ≡ Some (tree e.now)) }
+{
+    let whole = function.tree(place)?;
+    at(whole, path)
+}
+
+/// Whether a tree of this height may stand so deep.
+fn is_low(depth: usize, height: u32) -> bool
+    ensures { IsTrue result ↔ (depth + height ≤ 200) }
+{
+    depth <= 200 && depth as u32 <= 200 && height <= 200 - depth as u32
+}
+
+/// Whether the nodes keep their limit with so many in place of others.
+fn is_small(nodes: u32, old: u32, new: u32) -> bool
+    ensures { IsTrue result ↔ (nodes + new ≤ 4000 + old) }
+{
+    u64::from(nodes) + u64::from(new) <= 4000 + u64::from(old)
+}
+
+/// Whether the limits are kept with a tree of this size in place of `old`.
+fn fits(function: &Function, old: &Expr, depth: usize, size: Size) -> bool
+    ensures { (place : ℕ) → (path : List ℕ) → (new : Tree) → found function.now place path ≡ Some (tree old.now) → depth ≡ length path → size ≡ size_of new →
+        result ≡ is_within (with_tree function.now place path new) place }
+{
+    function.keeps();
+    is_low(depth, size.height) && is_small(function.nodes(), Size::of(old).nodes, size.nodes)
+}
+
+/// Why the rule of this number can't be applied to `old`, which is found so deep in the function; none where it can.
+pub fn refusal(function: &Function, old: &Expr, depth: usize, rule: u8) -> Option<StepFault>
+    ensures { (place : ℕ) → (path : List ℕ) → found function.now place path ≡ Some (tree old.now) → depth ≡ length path →
+        Judges result function.now (record { place = place; path = path; rule = rule }) (tree old.now) }
+{
+    match measure(old, rule) {
+        Measure::NoMatch => Some(StepFault::NoMatch),
+        Measure::TooLong => Some(StepFault::TooLong),
+        Measure::Gives(size) => {
+            if fits(function, old, depth, size) {
+                None
+            } else {
+                Some(StepFault::TooLong)
+            }
+        }
+    }
+}

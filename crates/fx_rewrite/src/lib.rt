@@ -1,0 +1,23 @@
+//! Rewriting: a function is changed in place by a step of a certificate, and keeps its meaning.
+//!
+//! A `Step` names a tree, a path in it and a rule. What the rules are stands in `fx_rules`, by which contracts say what a
+//! step gives.
+#![tactic(auto)]
+
+mod change;
+mod cursor;
+mod fault;
+mod first;
+mod fold;
+mod judge;
+mod measure;
+mod rule;
+mod spare;
+mod step;
+mod successor;
+mod turn;
+
+pub use change::apply;
+pub use cursor::SingleSteps;
+pub use fault::StepFault;
+pub use step::Step;

@@ -1,0 +1,249 @@
+//! The values of a row.
+ghost use Rattle.std.specs.Prelude.{◌≡◌, ◌≢◌, ◌<◌, ◌≤◌, false, [], map, length, option_map, IfOk, IfErr, IsTrue};
+ghost use Rattle.std.specs.List.{list_any};
+ghost use Rattle.std.specs.Vec.{vec_capacity};
+ghost use Rattle.fx_rows.specs.declared.fault.RowKind.TheVariants as kind;
+ghost use Rattle.fx_rational.specs.Decimal.{decimal_value};
+ghost use Rattle.fx_model.specs.Rows.{IsInRange};
+ghost use Rattle.fx_model.specs.Limits.{input_limit};
+ghost use Rattle.fx_expr.specs.Parts.{input_of};
+ghost use Rattle.fx_fields.specs.Line.{line_fields, is_return, is_special, pieces};
+ghost use Rattle.fx_fields.specs.Seen.{seen};
+ghost use Rattle.fx_rows.specs.Header.{columns_of};
+ghost use Rattle.fx_rows.specs.Results.{IsRead, IsRowRead};
+ghost use Rattle.fx_rows.specs.Values.{field_value, values_from, row_of, row_of_fields};
+
+use crate::blanks::trimmed;
+use crate::columns::Columns;
+use crate::fault::{MEMORY, RowFault, RowKind, line_fault};
+use fx_expr::{Function, Input};
+use fx_fields::{Fields, Pieces, piece_from, plain_text, record_of};
+use fx_fraction::{Decimal, read_decimal, within};
+use fx_num::Memory;
+use std::alloc::Global;
+
+// The value of a field for an input.
+fn read_value(input: &Input, field: Option<&[u8]>) -> Result<Decimal, RowKind>
+    ensures value { result ≡ field_value (input_of input.now) (option_map (λ f. f.now) field.entry) }
+    ensures known { IfErr result (λ k. k ≢ kind.Memory) }
+{
+    let Some(field) = field else {
+        return Err(RowKind::TooFew);
+    };
+    let Ok(given) = read_decimal(trimmed(field)) else {
+        return Err(RowKind::BadNumber);
+    };
+    if within(given, input.lo, input.hi, input.err) {
+        Ok(given)
+    } else {
+        Err(RowKind::OutOfRange)
+    }
+}
+
+// Reads the values of the inputs at their columns into `row`, which is empty, by a walk over the text: one where the
+// columns rise.
+fn read_along(
+    text: &[u8],
+    places: &[u32],
+    inputs: &[Input],
+    row: &mut Vec<Decimal>,
+) -> Result<(), RowFault>
+    requires many { length places.now ≡ length inputs.now }
+    requires few { length inputs.now ≤ input_limit }
+    requires empty { row.old.items ≡ [] }
+    ensures read { IsRead result row.new.items (values_from 0 (map input_of inputs.now) places.now (pieces text.now)) }
+    ensures room { IfErr result (λ e. e.kind ≡ kind.Memory → vec_capacity row.old < length inputs.now) }
+    ensures kept { vec_capacity row.old ≤ vec_capacity row.new }
+{
+    let mut rest = Some(text);
+    let mut column = 0usize;
+    for (i, input) in inputs.iter().enumerate() {
+        let place = places[i] as usize;
+        let (field, others) = piece_from(text, rest, column, place);
+        rest = others;
+        column = place + 1;
+        match read_value(input, field) {
+            Ok(value) => {
+                if row.push(value).is_err() {
+                    row.clear();
+                    return Err(MEMORY);
+                }
+            }
+            Err(kind) => {
+                return Err(RowFault {
+                    kind,
+                    input: i as u32,
+                });
+            }
+        }
+    }
+    Ok(())
+}
+
+// The same from fields that are found in any order at once.
+fn read_values(
+    fields: &Fields,
+    places: &[u32],
+    inputs: &[Input],
+    row: &mut Vec<Decimal>,
+) -> Result<(), RowFault>
+    requires many { length places.now ≡ length inputs.now }
+    requires few { length inputs.now ≤ input_limit }
+    requires empty { row.old.items ≡ [] }
+    ensures read { IsRead result row.new.items (values_from 0 (map input_of inputs.now) places.now (seen fields.now)) }
+    ensures room { IfErr result (λ e. e.kind ≡ kind.Memory → vec_capacity row.old < length inputs.now) }
+    ensures kept { vec_capacity row.old ≤ vec_capacity row.new }
+{
+    for (i, input) in inputs.iter().enumerate() {
+        let place = places[i] as usize;
+        match read_value(input, fields.get(place)) {
+            Ok(value) => {
+                if row.push(value).is_err() {
+                    row.clear();
+                    return Err(MEMORY);
+                }
+            }
+            Err(kind) => {
+                return Err(RowFault {
+                    kind,
+                    input: i as u32,
+                });
+            }
+        }
+    }
+    Ok(())
+}
+
+// Whether each place is behind the one before it.
+fn are_rising(places: &[u32]) -> bool {
+    let mut next = 0u32;
+    for place in places {
+        if *place < next {
+            return false;
+        }
+        next = *place;
+    }
+    true
+}
+
+// The same of a text that isn't empty, by its pieces.
+fn read_pieces(
+    text: &[u8],
+    places: &[u32],
+    inputs: &[Input],
+    row: &mut Vec<Decimal>,
+) -> Result<(), RowFault>
+    requires many { length places.now ≡ length inputs.now }
+    requires few { length inputs.now ≤ input_limit }
+    requires empty { row.old.items ≡ [] }
+    ensures read { IsRead result row.new.items (values_from 0 (map input_of inputs.now) places.now (pieces text.now)) }
+    ensures room { IfErr result (λ e. e.kind ≡ kind.Memory → vec_capacity row.old < length inputs.now) }
+    ensures kept { vec_capacity row.old ≤ vec_capacity row.new }
+{
+    if are_rising(places) {
+        read_along(text, places, inputs, row)
+    } else {
+        read_table(text, places, inputs, row)
+    }
+}
+
+// The table of the pieces is large, and only made where it serves.
+#[inline(never)]
+fn read_table(
+    text: &[u8],
+    places: &[u32],
+    inputs: &[Input],
+    row: &mut Vec<Decimal>,
+) -> Result<(), RowFault>
+    requires many { length places.now ≡ length inputs.now }
+    requires few { length inputs.now ≤ input_limit }
+    requires empty { row.old.items ≡ [] }
+    ensures read { IsRead result row.new.items (values_from 0 (map input_of inputs.now) places.now (pieces text.now)) }
+    ensures room { IfErr result (λ e. e.kind ≡ kind.Memory → vec_capacity row.old < length inputs.now) }
+    ensures kept { vec_capacity row.old ≤ vec_capacity row.new }
+{
+    let fields = Fields::Plain(Pieces::of(text));
+    read_values(&fields, places, inputs, row)
+}
+
+// The same of any line, by `csv`. False at a blank line.
+#[inline(never)]
+fn read_record(
+    alloc: Global,
+    line: &[u8],
+    places: &[u32],
+    inputs: &[Input],
+    row: &mut Vec<Decimal>,
+) -> Result<bool, RowFault>
+    requires many { length places.now ≡ length inputs.now }
+    requires few { length inputs.now ≤ input_limit }
+    requires empty { row.old.items ≡ [] }
+    ensures read { IsRowRead result row.new.items (row_of_fields (map input_of inputs.now) places.now (line_fields line.now)) }
+    ensures kept { vec_capacity row.old ≤ vec_capacity row.new }
+{
+    match record_of(alloc, line) {
+        Ok(Some(record)) => match read_values(&Fields::Record(record), places, inputs, row) {
+            Ok(()) => Ok(true),
+            Err(fault) => Err(fault),
+        },
+        Ok(None) => Ok(false),
+        Err(Memory) => Err(MEMORY),
+    }
+}
+
+// The same, by its pieces where they are its fields.
+fn read_line(
+    alloc: Global,
+    line: &[u8],
+    places: &[u32],
+    inputs: &[Input],
+    row: &mut Vec<Decimal>,
+) -> Result<bool, RowFault>
+    requires many { length places.now ≡ length inputs.now }
+    requires few { length inputs.now ≤ input_limit }
+    requires empty { row.old.items ≡ [] }
+    requires no_return { list_any is_return line.now ≡ false }
+    ensures read { IsRowRead result row.new.items (row_of_fields (map input_of inputs.now) places.now (line_fields line.now)) }
+    ensures room { list_any is_special line.now ≡ false → IfErr result (λ e. e.kind ≡ kind.Memory → vec_capacity row.old < length inputs.now) }
+    ensures kept { vec_capacity row.old ≤ vec_capacity row.new }
+{
+    let Some(text) = plain_text(line) else {
+        return read_record(alloc, line, places, inputs, row);
+    };
+    if text.is_empty() {
+        return Ok(false);
+    }
+    match read_pieces(text, places, inputs, row) {
+        Ok(()) => Ok(true),
+        Err(fault) => Err(fault),
+    }
+}
+
+/// Reads the values of a row, in the order of the inputs, and answers false at a blank line. After a fault of an input
+/// `row` holds the values before it, after any other nothing.
+pub fn read_row(
+    alloc: Global,
+    line: &[u8],
+    columns: &Columns,
+    function: &Function,
+    row: &mut Vec<Decimal>,
+) -> Result<bool, RowFault>
+    requires { length (columns_of columns.now) ≡ length function.now.inputs }
+    ensures read { IsRowRead result row.new.items (row_of function.now (columns_of columns.now) line.now) }
+    ensures room { list_any is_special line.now ≡ false → IfErr result (λ e. e.kind ≡ kind.Memory → vec_capacity row.old < length function.now.inputs) }
+    ensures kept { vec_capacity row.old ≤ vec_capacity row.new }
+    ensures in_range { IfOk result (λ b. IsTrue b → IsInRange function.now.inputs (map decimal_value row.new.items)) }
+{
+    row.clear();
+    if let Some(kind) = line_fault(line) {
+        return Err(RowFault { kind, input: 0 });
+    }
+    function.keeps();
+    read_line(
+        alloc,
+        line,
+        columns.places.as_slice(),
+        function.inputs.as_slice(),
+        row,
+    )
+}

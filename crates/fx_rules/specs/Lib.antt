@@ -1,0 +1,4 @@
+pub mod Rules
+pub mod Turned
+pub mod Steps
+pub mod SingleSteps

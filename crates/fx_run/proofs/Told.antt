@@ -1,0 +1,54 @@
+-- What is promised of a run is promised of the same told in other words.
+use Rattle.std.proofs.Common.{◌≡◌, ℕ, List, ◌++◌, Option, ap, subst}
+use Rattle.std.specs.Prelude.{None, Some, IfErr, IfOk, Result, Ok, Err}
+use Rattle.std.specs.Io.KnownBytes.{Appends}
+use Rattle.fx_base.specs.Text.{lines_in}
+use Rattle.fx_rows.specs.Faults.{fault_of}
+use Rattle.fx_filter.specs.Outcome.{Outcome}
+use Rattle.fx_filter.specs.Promise.{IfKnown, IsBadAt, IsDone, IsDue, IsPrompt, PrintsFront, PrintsWholeLines}
+use Rattle.fx_filter.specs.declared.fault.RunFault.{RunFault}
+use Rattle.fx_filter.specs.declared.fault.RunFault.TheVariants.{Row, ReadFault, WriteFault, TooLong, Memory}
+
+known : (left : Option (List ℕ)) (P Q : List ℕ → Type 0) → ((all : List ℕ) → P all → Q all) → IfKnown left P → IfKnown left Q
+known None P Q f h = tt
+known (Some all) P Q f h = f all h
+
+module _ (o o' : List (List ℕ) → Outcome) (same : (ls : List (List ℕ)) → o ls ≡ o' ls) (left left' before after : Option (List ℕ)) where
+  front : IfKnown left (λ all. PrintsFront (o (lines_in all)).text before after) → IfKnown left (λ all. PrintsFront (o' (lines_in all)).text before after)
+  front = known left _ _ (λ all. subst (λ (x : Outcome). PrintsFront x.text before after) (same (lines_in all)))
+
+  pub done-told : (n : Result ℕ RunFault) → IfOk n (λ k. IfKnown left (λ all. IsDone (o (lines_in all)) k before after)) → IfOk n (λ k. IfKnown left (λ all. IsDone (o' (lines_in all)) k before after))
+  done-told (Ok k) h = known left _ _ (λ all. subst (λ (x : Outcome). IsDone x k before after) (same (lines_in all))) h
+  done-told (Err f) h = tt
+
+  told : (f : RunFault) → IsDue o left left' before after f → IsDue o' left left' before after f
+  told (Row line f) h = (known left _ _ (λ all. subst (λ (x : Outcome). IsBadAt x line (fault_of f) before after) (same (lines_in all))) h.0, h.1)
+  told ReadFault h = (
+    front h.0,
+    record {
+      front = h.1.front;
+      rest = h.1.rest;
+      taken = h.1.taken;
+      whole = h.1.whole;
+      none = h.1.none;
+      printed = subst (λ (x : Outcome). Appends before after x.text) (same (lines_in h.1.front)) h.1.printed;
+    },
+  )
+  told WriteFault h = (
+    front h.0,
+    record {
+      front = h.1.front;
+      rest = h.1.rest;
+      more = h.1.more;
+      taken = h.1.taken;
+      whole = h.1.whole;
+      few = h.1.few;
+      printed = subst (λ (x : Outcome). Appends before after (x.text ++ h.1.more)) (same (lines_in h.1.front)) h.1.printed;
+    },
+  )
+  told TooLong h = front h
+  told Memory h = front h
+
+  pub due-told : (n : Result ℕ RunFault) → IfErr n (IsDue o left left' before after) → IfErr n (IsDue o' left left' before after)
+  due-told (Ok k) h = tt
+  due-told (Err f) h = told f h

@@ -1,0 +1,46 @@
+-- What a run over the rows of an input prints, and what is true of it.
+use Rattle.std.specs.Prelude.{ℕ, ◌≡◌, ℤ, List, [], ◌∷◌, ◌++◌, length, map, Option, Some, None, if◌then◌else◌}
+use Rattle.fx_rational.specs.Rational.{Rational}
+use Rattle.fx_rational.specs.Decimal.{Decimal, decimal_value}
+use Rattle.fx_model.specs.Function.{Function, Step, Run, exact_run}
+use Rattle.fx_model.specs.Machine.{Program, machine_run, machine_step, output_points}
+use Rattle.fx_model.specs.Page.{line_of, page, word_texts}
+use Rattle.fx_model.specs.Rows.{AreTrueOf}
+use Rattle.fx_inequalities.specs.Certificate.{Certificate}
+use Rattle.fx_sound.specs.Soundness.{AllBounded}
+use Rattle.fx_rows.specs.ReadRows.{Read, lines_read}
+use Rattle.fx_filter.specs.Outcome.{Outcome}
+
+-- the given rows as rationals
+abbrev pub given_values : List (List Decimal) → List (List Rational)
+given_values rows = map (map decimal_value) rows
+
+-- the page of a run; nothing where it is stuck
+abbrev pub run_page : Program → Option (Run ℤ) → List ℕ
+run_page p None = []
+run_page p (Some run) = page p run.outputs
+
+-- the page of the program's run over the rows that were read; nothing where no good header stands
+abbrev pub printed : Program → Read → List ℕ
+printed p r = if r.has_header then run_page p (machine_run p (given_values r.given.rows)) else []
+
+-- what comes of lines: their page, how many rows, and the first bad line
+abbrev pub run_outcome : Function → Program → List (List ℕ) → Outcome
+run_outcome f p ls =
+    let r = lines_read f ls in record { text = printed p r; rows = length r.given.rows; bad = r.given.bad }
+
+-- the exact run over these true rows is defined, and each printed output is within its certified bound of it
+pub record IsWithinBounds (f : Function) (p : Program) (cert : Certificate) (run : Run ℤ) (ts : List (List Rational)) : Type 0 where
+  pub exact_made : Run Rational
+  pub defined : exact_run f ts ≡ Some exact_made
+  pub bounded : AllBounded p cert run.outputs exact_made.outputs
+
+-- the machine isn't stuck on these rows, and for all rows that may be the true ones its outputs keep their bounds
+pub record IsHonest (f : Function) (p : Program) (cert : Certificate) (gs : List (List Rational)) : Type 0 where
+  pub run : Run ℤ
+  pub own : machine_run p gs ≡ Some run
+  pub within : (ts : List (List Rational)) → AreTrueOf f.inputs gs ts → IsWithinBounds f p cert run ts
+
+-- so it is for the rows of any lines
+abbrev pub RowsLaw : Function → Program → Certificate → Type 0
+RowsLaw f p cert = (ls : List (List ℕ)) → IsHonest f p cert (given_values (lines_read f ls).given.rows)

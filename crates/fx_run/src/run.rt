@@ -1,0 +1,110 @@
+//! The run of a certified program over a source and a sink.
+ghost use Rattle.std.specs.Prelude.{◌≡◌, ◌-◌, ◌^◌, ◌<◌, ◌≤◌, ◌↔◌, ℕ, List, length, Contains, IfOk, IfErr, OnOk, IsErrOf};
+ghost use Rattle.std.specs.Io.KnownBytes.{Consumes, IsAtEnd};
+ghost use Rattle.fx_base.specs.Causes.{Rose};
+ghost use Rattle.fx_base.specs.Text.{lines_in};
+ghost use Rattle.fx_model.specs.LawfulProgram.{widths};
+ghost use Rattle.fx_model.specs.Machine.{start_words};
+ghost use Rattle.fx_filter.specs.Promise.{IfKnown, IsDone, IsDue};
+ghost use Rattle.fx_filter.specs.declared.fault.RunFault.TheVariants.{ReadFault, WriteFault, TooLong};
+ghost use Rattle.fx_run.specs.Printed.{RowsLaw, run_outcome};
+ghost use Rattle.fx_run.specs.Steps.{CanStep};
+
+use crate::law::rows_law;
+use crate::step::CertifiedStep;
+use fx_base::{Memory, Sink, Source};
+use fx_checker::Certified;
+use fx_filter::{RunFault, run_steps};
+use fx_machine::Registers;
+use fx_word::widths;
+use std::alloc::Global;
+
+// A certified program before its first row.
+fn first_step<'a, const B: u32>(
+    alloc: Global,
+    certified: &'a Certified,
+) -> Result<CertifiedStep<'a, B>, Memory>
+    requires { certified.now.program.width ≡ B }
+    ensures whose { IfOk result (λ s. s.certified.now ≡ certified.now) }
+    ensures can { IfOk result (λ s. CanStep certified.now B s.registers) }
+    ensures start { IfOk result (λ s. s.registers.states ≡ start_words certified.now.program.codes) }
+{
+    certified.certified();
+    match Registers::<B>::new(alloc, certified.program()) {
+        Ok(registers) => Ok(CertifiedStep {
+            certified,
+            registers,
+        }),
+        Err(_) => Err(Memory),
+    }
+}
+
+// `run_rows` at the program's width.
+fn run_at<const B: u32, S: Source, K: Sink>(
+    alloc: Global,
+    certified: &Certified,
+    source: &mut S,
+    sink: &mut K,
+    limit: u64,
+) -> Result<u64, RunFault>
+    requires width { certified.now.program.width ≡ B }
+    requires limit { limit < 2 ^ 64 - 1 }
+    ensures done { let o = run_outcome certified.now.function certified.now.program in
+        IfOk result (λ n. IfKnown (S.left source.old) (λ all. IsDone (o (lines_in all)) n (K.taken sink.old) (K.taken sink.new))) }
+    ensures end { OnOk result (IsAtEnd (S.left source.new)) }
+    ensures due { let o = run_outcome certified.now.function certified.now.program in
+        IfErr result (IsDue o (S.left source.old) (S.left source.new) (K.taken sink.old) (K.taken sink.new)) }
+    ensures taken { (taken : List ℕ) × Consumes (S.left source.old) (S.left source.new) taken × (IsErrOf result TooLong ↔ (limit < length taken)) }
+    ensures read_fault { IsErrOf result ReadFault → Rose (S.faults source.old) (S.faults source.new) }
+    ensures write_fault { IsErrOf result WriteFault → Rose (K.faults sink.old) (K.faults sink.new) }
+    ensures later { S.faults source.old ≤ S.faults source.new }
+    ensures later_sink { K.faults sink.old ≤ K.faults sink.new }
+{
+    rows_law(certified);
+    let Ok(step) = first_step::<B>(alloc, certified) else {
+        return Err(RunFault::Memory);
+    };
+    run_steps(alloc, step, source, sink, limit)
+}
+
+// The width of a certified program, which is one of the eight.
+fn width_of(certified: &Certified) -> u32
+    ensures value { result ≡ certified.now.program.width }
+    ensures lawful { Contains widths result }
+{
+    certified.certified();
+    certified.program().width
+}
+
+/// Runs the rows of a source through a certified program, and writes their page. Gives the number of rows.
+///
+/// Lines end at LF, and a CR before it and the mark EF BB BF at the front are no part of one. The first line that isn't
+/// blank names the columns, in any order; the others are rows, one for each state of the machine after the other. Each
+/// row is written before a line is asked for that the bytes taken don't hold whole. More than `limit` bytes are TooLong.
+pub fn run_rows<S: Source, K: Sink>(
+    alloc: Global,
+    certified: &Certified,
+    source: &mut S,
+    sink: &mut K,
+    limit: u64,
+) -> Result<u64, RunFault>
+    requires limit { limit < 2 ^ 64 - 1 }
+    ensures done { let o = run_outcome certified.now.function certified.now.program in
+        IfOk result (λ n. IfKnown (S.left source.old) (λ all. IsDone (o (lines_in all)) n (K.taken sink.old) (K.taken sink.new))) }
+    ensures end { OnOk result (IsAtEnd (S.left source.new)) }
+    ensures due { let o = run_outcome certified.now.function certified.now.program in
+        IfErr result (IsDue o (S.left source.old) (S.left source.new) (K.taken sink.old) (K.taken sink.new)) }
+    ensures taken { (taken : List ℕ) × Consumes (S.left source.old) (S.left source.new) taken × (IsErrOf result TooLong ↔ (limit < length taken)) }
+    ensures honest { RowsLaw certified.now.function certified.now.program certified.now.certificate }
+    ensures read_fault { IsErrOf result ReadFault → Rose (S.faults source.old) (S.faults source.new) }
+    ensures write_fault { IsErrOf result WriteFault → Rose (K.faults sink.old) (K.faults sink.new) }
+    ensures later { S.faults source.old ≤ S.faults source.new }
+    ensures later_sink { K.faults sink.old ≤ K.faults sink.new }
+{
+    rows_law(certified);
+    widths!(
+        width_of(certified),
+        run_at::<S, K>(alloc, certified, source, sink, limit),
+        unreachable!()
+    )
+}

@@ -1,0 +1,3 @@
+pub mod Shares
+pub mod Boxes
+pub mod Nodes

@@ -1,0 +1,73 @@
+-- Shares of rows, one more at the end a turn, and coefficients in an array.
+use Rattle.std.proofs.Common.{◌≡◌, inl, inr, ℕ, zero, suc, ◌+◌, ◌<◌, List, [], ◌∷◌, ◌++◌, length, take, set, get_or, Option, None, refl, ap, sym, ◌∙◌, subst, arith}
+use Rattle.std.proofs.Math.Seq.{take-suc}
+use Rattle.std.proofs.lemmas.Bool.{cases_lt}
+use Rattle.std.proofs.lemmas.List.{map-append, get_or-set_same, get_or-set_other}
+use Rattle.fx_rational.specs.Dyadic.{Dyadic}
+use Rattle.fx_model.specs.Tree.{at}
+use Rattle.fx_inequalities.specs.Formula.{Formula, Num, Sum, Difference, Product, Span, point, span_sum, span_product}
+use Rattle.fx_inequalities.specs.Certificate.{Share, Row}
+use Rattle.fx_inequalities.specs.Affine.{Rows, left_over, rows_of, shared_sum, sum_of}
+use Rattle.fx_judging.specs.Judging.{Forms}
+use Rattle.fx_judging.specs.Places.{IsShort}
+use Rattle.fx_judging.proofs.Shorts.{short_difference, short_product, short_sum}
+use Rattle.fx_cert.specs.declared.certificate.Share as written
+use Rattle.fx_cert.specs.CertificateView.{share_of, shares_of}
+use Rattle.fx_sharing.specs.Coefficients.{AreFormed}
+use Rattle.fx_conditions.specs.Limits.{AreShortRows, AreShortShares}
+use Rattle.fx_conditions.proofs.Shorts.{row_coef_short}
+
+-- one share more at the end
+pub shared_more : (z : Span) (rows : Rows) (xs : List Share) (s : Share) → shared_sum z rows (xs ++ s ∷ []) ≡ span_sum (shared_sum z rows xs) (span_product (point (Num s.times)) (rows.bound s.row))
+shared_more z rows [] s = refl
+shared_more z rows (x ∷ xs) s = shared_more (span_sum z (span_product (point (Num x.times)) (rows.bound x.row))) rows xs s
+
+pub left_more : (c : Formula) (rows : Rows) (xs : List Share) (s : Share) (k : ℕ) → left_over c rows (xs ++ s ∷ []) k ≡ Difference (left_over c rows xs k) (Product (Num s.times) (rows.coef s.row k))
+left_more c rows [] s k = refl
+left_more c rows (x ∷ xs) s k = left_more (Difference c (Product (Num x.times) (rows.coef x.row k))) rows xs s k
+
+-- shares up to the next one
+pub next_shares : (xs : List written.Share) (n : ℕ) (d : written.Share) → n < length xs → shares_of (take (n + 1) xs) ≡ shares_of (take n xs) ++ share_of (get_or xs n d) ∷ []
+next_shares xs n d lt =
+    let next : suc n ≡ n + 1 = omega arith in
+    ap (λ (m : ℕ). shares_of (take m xs)) (sym next) ∙ ap shares_of (take-suc xs n d lt) ∙ map-append share_of (take n xs) (get_or xs n d ∷ [])
+
+-- each of short shares is short
+pub share_short : (xs : List written.Share) (n : ℕ) (d : written.Share) → AreShortShares (shares_of xs) → n < length xs → IsShort 96 (Num (get_or xs n d).times)
+share_short [] n d h lt = absurd (omega arith)
+share_short (x ∷ xs) zero d h lt = h.0
+share_short (x ∷ xs) (suc n) d h lt = share_short xs n d h.1 (omega arith)
+
+-- what shares leave of a short coefficient is short
+pub left_short : (rows : List Row) → AreShortRows rows → (states : ℕ) (shares : List Share) → AreShortShares shares → (k : ℕ) (c : Formula) → IsShort 192 c → IsShort 192 (left_over c (rows_of states rows) shares k)
+left_short rows h states [] s k c short = short
+left_short rows h states (x ∷ xs) s k c short =
+    left_short rows h states xs s.1 k (Difference c (Product (Num x.times) ((rows_of states rows).coef x.row k))) (short_difference short (short_product s.0 (row_coef_short rows h states x.row k)))
+
+-- one number more
+pub one_number_more : (r : Option Dyadic) (n : ℕ) (c : ℕ → Formula) → Forms r (Sum (sum_of n c) (c n)) → Forms r (sum_of (n + 1) c)
+one_number_more r n c h = let next : suc n ≡ n + 1 = omega arith in subst (λ (m : ℕ). Forms r (sum_of m c)) next h
+
+-- a sum of short numbers is short
+pub sum_short : (n : ℕ) (c : ℕ → Formula) (p : ℕ) → ((k : ℕ) → IsShort p (c k)) → IsShort p (sum_of n c)
+sum_short zero c p h = record { few = omega arith }
+sum_short (suc n) c p h = short_sum (sum_short n c p h) (h n)
+
+-- ---- an array of coefficients, one more at its end
+pub set_formed : (xs : List (Option Dyadic)) (n : ℕ) (c : ℕ → Formula) (x : Option Dyadic) → AreFormed xs n c → n < length xs → Forms x (c n) → IsShort 192 (c n) → AreFormed (set xs n x) (n + 1) c
+set_formed xs n c x h lt f s = record { each = each; short = short }
+  where
+    each : (j : ℕ) → j < n + 1 → Forms (at None (set xs n x) j) (c j)
+    each j le = elim (cases_lt j n) [
+      | inl less ↦ subst (λ o. Forms o (c j)) (sym (get_or-set_other xs n j x None (omega arith))) (h.each j less)
+      | inr more ↦ (let same : n ≡ j = omega arith in subst (λ (k : ℕ). Forms (at None (set xs n x) k) (c k)) same (subst (λ o. Forms o (c n)) (sym (get_or-set_same xs n x None lt)) f))
+    ]
+
+    short : (j : ℕ) → j < n + 1 → IsShort 192 (c j)
+    short j le = elim (cases_lt j n) [
+      | inl less ↦ h.short j less
+      | inr more ↦ (let same : n ≡ j = omega arith in subst (λ (k : ℕ). IsShort 192 (c k)) same s)
+    ]
+
+pub all_formed : (xs : List (Option Dyadic)) (n m : ℕ) (c : ℕ → Formula) → n ≡ m → AreFormed xs n c → AreFormed xs m c
+all_formed xs n m c e h = subst (λ (k : ℕ). AreFormed xs k c) e h

@@ -1,0 +1,12 @@
+-- The coefficients of a combination of the variables, as formulas come to them.
+use Rattle.std.specs.Prelude.{ℕ, ◌<◌, List, Option, None}
+use Rattle.fx_rational.specs.Dyadic.{Dyadic}
+use Rattle.fx_model.specs.Tree.{at}
+use Rattle.fx_inequalities.specs.Formula.{Formula}
+use Rattle.fx_judging.specs.Judging.{Forms}
+use Rattle.fx_judging.specs.Places.{IsShort}
+
+-- the first n numbers are what these formulas come to, which are short
+pub record AreFormed (xs : List (Option Dyadic)) (n : ℕ) (c : ℕ → Formula) : Type 0 where
+  pub each : (j : ℕ) → j < n → Forms (at None xs j) (c j)
+  pub short : (j : ℕ) → j < n → IsShort 192 (c j)
