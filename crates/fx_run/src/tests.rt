@@ -2,7 +2,7 @@
 
 use super::*;
 use RowKind::{BadNumber, LineTooLong, MissingColumn, OutOfRange, StrayReturn, TooFew, TwiceNamed};
-use fx_base::{BytesIn, BytesOut, read_all};
+use fx_base::{BytesIn, BytesOut};
 use fx_cert::read_bundle;
 use fx_checker::{Certified, check};
 use fx_filter::RunFault;
@@ -138,48 +138,13 @@ fn says_what_failed(rt: HostRuntime) -> Result<(), Fail> {
     Ok(())
 }
 
-/// An input of so many rows.
-fn rows(rt: &HostRuntime, header: &[u8], row: &[u8], count: usize) -> Result<Vec<u8>, Fail> {
-    let mut bytes = header.to_vec(rt.alloc())?;
-    for _ in 0..count {
-        bytes.extend_from_slice(row)?;
+/// This header, and a line of so many of this byte.
+fn line(alloc: Global, header: &[u8], byte: u8, length: usize) -> Result<Vec<u8>, Fail> {
+    let mut bytes = header.to_vec(alloc)?;
+    for _ in 0..length {
+        bytes.push(byte)?;
     }
     Ok(bytes)
-}
-
-// Where the first write fails, what can't be printed isn't taken either.
-#[test]
-fn takes_little_ahead(rt: HostRuntime) -> Result<(), Fail> {
-    let alloc = rt.alloc();
-    let certified = certified(alloc, &rt, HALF)?;
-    let bytes = rows(&rt, b"x\n", b"0\n", 100_000)?;
-    let mut source = BytesIn::new(bytes, 200_002, Vec::new(alloc));
-    let mut sink = BytesOut::new(vec![in alloc; 1]?);
-    let result = run_rows(alloc, &certified, &mut source, &mut sink, 1_000_000);
-    assert!(rt; result == Err(RunFault::WriteFault) && sink.bytes().is_empty());
-    let left = read_all(alloc, &mut source, 1_000_000)?;
-    assert!(rt; left.len() >= 200_002 - 131_072);
-    Ok(())
-}
-
-#[test]
-fn carries_the_state_on(rt: HostRuntime) -> Result<(), Fail> {
-    let alloc = rt.alloc();
-    let certified = certified(alloc, &rt, AVERAGER)?;
-    let bytes = rows(&rt, b"u\n", b"1\n", 200_000)?;
-    let mut source = BytesIn::new(bytes, 4_096, Vec::new(alloc));
-    let mut sink = BytesOut::new(Vec::new(alloc));
-    let result = run_rows(alloc, &certified, &mut source, &mut sink, 1_000_000);
-    assert!(rt; result == Ok(200_000));
-    let (first, later) = sink.bytes().split_at(104);
-    assert!(rt; first.ends_with(b"\n0.9990234375\n0.99951171875\n"));
-    let mut count = 0;
-    for line in later.chunks(15) {
-        assert!(rt; line == b"0.999755859375\n".as_slice());
-        count += 1;
-    }
-    assert!(rt; count == 199_989);
-    Ok(())
 }
 
 #[test]
@@ -192,8 +157,7 @@ fn takes_long_lines(rt: HostRuntime) -> Result<(), Fail> {
         (b"", b',', 65_536, Err((1, MissingColumn, 0))),
         (b"", b',', 65_537, Err((1, LineTooLong, 0))),
     ] {
-        let mut bytes = header.to_vec(alloc)?;
-        bytes.resize(header.len() + length, byte)?;
+        let bytes = line(alloc, header, byte, length)?;
         let mut source = BytesIn::new(bytes, 4_096, Vec::new(alloc));
         let mut sink = BytesOut::new(Vec::new(alloc));
         let result = run_rows(alloc, &certified, &mut source, &mut sink, 1_000_000);
