@@ -1,6 +1,5 @@
 -- What was printed is the accepted program's own output.
 use Rattle.std.proofs.Common.{◌≡◌, ◌≢◌, refl, sym, ap, subst, ◌∙◌, ℕ, Bool, true, false, if◌then◌else◌, List, [], ◌∷◌, ◌++◌, drop, append-nil, Option, Some, inl, inr}
-use Rattle.std.specs.Prelude.{IsSomeAnd}
 use Rattle.std.specs.Io.KnownBytes.{Appends}
 use Rattle.fx_base.specs.Shelf.{Files}
 use Rattle.fx_base.specs.Text.{lines_in}
@@ -9,14 +8,14 @@ use Rattle.fx_model.specs.Machine.{Program, machine_run}
 use Rattle.fx_model.specs.Page.{page}
 use Rattle.fx_cert.specs.BundleView.{Parts}
 use Rattle.fx_rows.specs.ReadRows.{Read, RowsInRangeLaw, lines_read}
-use Rattle.fx_filter.specs.Promise.{IfKnown}
 use Rattle.fx_run.specs.Printed.{given_values, printed, run_page, run_outcome}
-use Rattle.fx_command.specs.Outside.{Streams, IfFile}
+use Rattle.fx_command.specs.Outside.{Streams}
 use Rattle.fx_command.specs.Ends.{End, status_of}
 use Rattle.fx_command.specs.Command as commands
 use Rattle.fx_command.specs.Opening.{OpensThen, unopened, opened}
 use Rattle.fx_command.specs.commands.Run.{RowsEnd, Runs, all_run, bad_row, unread, unwritten, long, no_memory}
 use Rattle.fx_command.specs.Promise.{HasEnded, Told, IsHonest, IsWhole}
+use Rattle.fx_command.proofs.Told.{known, in_file}
 
 -- ---- lists
 cancelled : (xs ys zs : List ℕ) → xs ++ ys ≡ xs ++ zs → ys ≡ zs
@@ -38,9 +37,6 @@ record PrintsAs (text : List ℕ) (before after : Option (List ℕ)) (status : �
   parts : text ≡ sent ++ rest
   appended : Appends before after sent
   whole : IsWhole status → rest ≡ []
-
-known : {left : Option (List ℕ)} (P : List ℕ → Type 0) (held : List ℕ) → left ≡ Some held → IfKnown left P → P held
-known P held e k = subst (λ l. IfKnown l P) e k
 
 at_six : {P : Type 0} → IsWhole 6 → P
 at_six (inl e) = absurd cc
@@ -92,9 +88,6 @@ module _ (papers : Option Files) (before after : ℕ) (old new : Streams) (name 
       let e : Appends (Some t.before) (Some (t.before ++ t.printed)) sent = subst (λ a. Appends (Some t.before) a sent) t.printed_is (subst (λ b. Appends b new.taken sent) t.before_is put) in
       cancelled t.before sent t.printed (sym e)
 
-  in_file : (P : List ℕ → Type 0) → IfFile papers name P → P t.file
-  in_file P h = subst (λ paper. IsSomeAnd paper P) t.file_is (subst (λ ps. IfFile ps name P) t.files_are h)
-
   by_end : (status : ℕ) (end : End) → status ≡ status_of end → OpensThen papers before after name old new (Runs old new) end → IsHonest t.file t.held t.printed status
   by_end status end e (unopened end' opening same) = absurd (some (nothing same.taken))
   by_end status end e (opened end' b fn is_bundle accepted runs) =
@@ -106,7 +99,7 @@ module _ (papers : Option Files) (before after : ℕ) (old new : Streams) (name 
         bundle = b;
         function = fn;
         run = h.run;
-        spelled = (in_file _ is_bundle).1;
+        spelled = (in_file papers name t.files t.file t.files_are t.file_is _ is_bundle).1;
         accepted = accepted;
         in_range = law fn (lines_in t.held);
         inside_word = h.own;
@@ -119,4 +112,4 @@ pub honest : (papers : Option Files) (before after : ℕ) (old new : Streams) (n
     HasEnded papers before after old new noted noted' failed failed' command status → command ≡ Some (commands.Run name) → (t : Told papers name old new) → t.printed ≢ [] → IsHonest t.file t.held t.printed status
 honest papers before after old new noted noted' failed failed' command status name law h e t some =
     let is = subst (λ (c : Option commands.Command). HasEnded papers before after old new noted noted' failed failed' c status) e h in
-    by_end papers before after old new name t some law status is.end is.status_is is.cause
+    by_end papers before after old new name t some law status is.end is.answer.status_is is.cause

@@ -2,7 +2,9 @@ mod Noted
 mod Columns
 mod Accepting
 mod BoundLines
+mod Told
 mod Honest
+mod Exact
 mod Early
 mod Missing
 mod Consumed

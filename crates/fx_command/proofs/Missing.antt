@@ -32,6 +32,6 @@ by_end papers before after name old new P end status is missing (opened end' b f
 pub missing_file : (papers : Option Files) (before after : ℕ) (old new : Streams) (noted noted' : Option (List ℕ)) (failed failed' : ℕ) (command : Option commands.Command) (status : ℕ) (name : List ℕ) →
     HasEnded papers before after old new noted noted' failed failed' command status → Opens command name → IsMissing papers name → IsUnopened old new status
 missing_file papers before after old new noted noted' failed failed' command status name h (inl is) missing =
-    let cause = subst (λ (c : Option commands.Command). CallEnds papers before after old new c h.end) is h.cause in by_end papers before after name old new _ h.end status h.status_is missing cause
+    let cause = subst (λ (c : Option commands.Command). CallEnds papers before after old new c h.end) is h.cause in by_end papers before after name old new _ h.end status h.answer.status_is missing cause
 missing_file papers before after old new noted noted' failed failed' command status name h (inr is) missing =
-    let cause = subst (λ (c : Option commands.Command). CallEnds papers before after old new c h.end) is h.cause in by_end papers before after name old new _ h.end status h.status_is missing cause
+    let cause = subst (λ (c : Option commands.Command). CallEnds papers before after old new c h.end) is h.cause in by_end papers before after name old new _ h.end status h.answer.status_is missing cause

@@ -7,5 +7,6 @@ pub mod EndView
 pub mod Outside
 pub mod Opening
 pub mod OpeningView
+pub mod Exact
 pub mod commands
 pub mod Promise

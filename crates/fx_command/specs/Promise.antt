@@ -1,9 +1,8 @@
--- What `fixd` promises of what it prints: the headline, and when a run is whole.
-use Rattle.std.specs.Prelude.{◌≡◌, ◌⊎◌, ◌==◌, ◌||◌, Bool, ℕ, ◌≤◌, ℤ, List, ◌++◌, length, Option, Some, None}
+-- What `fixd` promises: how each call ends, that its cause decides, and the headline.
+use Rattle.std.specs.Prelude.{◌≡◌, ◌⊎◌, ◌==◌, ◌||◌, ⊤, Bool, ℕ, ℤ, List, ◌++◌, Option, Some, None}
 use Rattle.fx_base.specs.Shelf.{Files, paper_of}
 use Rattle.fx_rational.specs.Rational.{Rational}
 use Rattle.fx_model.specs.Function.{Function, Run}
-use Rattle.fx_model.specs.Limits.{rows_limit}
 use Rattle.fx_model.specs.Rows.{AreTrueOf}
 use Rattle.fx_model.specs.Machine.{machine_run}
 use Rattle.fx_model.specs.Page.{page}
@@ -15,9 +14,9 @@ use Rattle.fx_command.specs.Command.{Command}
 use Rattle.fx_command.specs.Outside.{Streams, AreUntouched}
 use Rattle.fx_command.specs.Ends.{End, Usage, status_of, line_of}
 use Rattle.fx_command.specs.Notes.{AreNotes}
-use Rattle.fx_command.specs.Opening.{Spells, IsAcceptedAs, IsBundle}
-use Rattle.fx_command.specs.commands.Run.{RunEnds}
-use Rattle.fx_command.specs.commands.Check.{CheckEnds}
+use Rattle.fx_command.specs.Opening.{Spells, IsAcceptedAs}
+use Rattle.fx_command.specs.commands.Run.{RunEnds, RunCompletes}
+use Rattle.fx_command.specs.commands.Check.{CheckEnds, CheckCompletes}
 
 -- how a call ends, by its command
 abbrev pub CallEnds : Option Files → ℕ → ℕ → Streams → Streams → Option Command → End → Type 0
@@ -25,12 +24,22 @@ CallEnds papers before after old new None end = end ≡ Usage
 CallEnds papers before after old new (Some (commands.Run name)) end = RunEnds papers before after old new name end
 CallEnds papers before after old new (Some (commands.Check name)) end = CheckEnds papers before after old new name end
 
--- how a call of these words ended: its status and its line are those of one end, whose cause holds
-pub record HasEnded (papers : Option Files) (before after : ℕ) (old new : Streams) (noted noted' : Option (List ℕ)) (failed failed' : ℕ) (command : Option Command) (status : ℕ) : Type 0 where
-  pub end : End
+-- the status and the line on the notes are those of this end
+pub record IsAnswer (noted noted' : Option (List ℕ)) (failed failed' : ℕ) (status : ℕ) (end : End) : Type 0 where
   pub status_is : status ≡ status_of end
   pub line : AreNotes noted noted' failed failed' (line_of end)
+
+-- how a call of these words ended: it answers with one end, whose cause holds
+pub record HasEnded (papers : Option Files) (before after : ℕ) (old new : Streams) (noted noted' : Option (List ℕ)) (failed failed' : ℕ) (command : Option Command) (status : ℕ) : Type 0 where
+  pub end : End
+  pub answer : IsAnswer noted noted' failed failed' status end
   pub cause : CallEnds papers before after old new command end
+
+-- what a call comes to, by its command, where FILE's bundle is accepted and nothing outside fails
+abbrev pub CallCompletes : Option Files → ℕ → ℕ → Streams → Streams → Option Command → (End → Type 0) → Type 0
+CallCompletes papers before after old new None IsEnd = ⊤
+CallCompletes papers before after old new (Some (commands.Run name)) IsEnd = RunCompletes papers before after old new name IsEnd
+CallCompletes papers before after old new (Some (commands.Check name)) IsEnd = CheckCompletes papers before after old new name IsEnd
 
 -- ---- the statuses at which nothing was begun
 -- the words are no command's, or FILE's bundle isn't accepted
@@ -83,13 +92,3 @@ pub record IsHonest (file held printed : List ℕ) (status : ℕ) : Type 0 where
   pub whole : IsWhole status → printed ≡ page bundle.program run.outputs
   pub bound : (true_rows : List (List Rational)) → AreTrueOf function.inputs (rows_of function held) true_rows →
       IsWithinBounds function bundle.program bundle.certificate run true_rows
-
--- ---- completeness
--- FILE is an accepted bundle within its limit, and the input is within its own and has no bad line
-pub record IsReady (papers : Option Files) (name held : List ℕ) : Type 0 where
-  pub bundle : Parts
-  pub function : Function
-  pub is_bundle : IsBundle papers name bundle
-  pub accepted : IsAcceptedAs bundle function
-  pub short : length held ≤ rows_limit
-  pub good : (read_rows function held).given.bad ≡ None

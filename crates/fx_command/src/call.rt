@@ -6,8 +6,10 @@
 ghost use Rattle.std.specs.Prelude.{◌≡◌, ◌≢◌, ℕ, List, [], Some, true};
 ghost use Rattle.std.specs.Io.KnownBytes.{Consumes};
 ghost use Rattle.fx_base.specs.Shelf.{IsMissing};
+ghost use Rattle.fx_filter.specs.Promise.{Grows};
+ghost use Rattle.fx_command.specs.Exact.{EndsExactly};
 ghost use Rattle.fx_command.specs.Command.{Run, Check, texts, command_of};
-ghost use Rattle.fx_command.specs.Promise.{HasEnded, Told, IsHonest, IsUnopened, Opens, is_early};
+ghost use Rattle.fx_command.specs.Promise.{HasEnded, IsAnswer, CallCompletes, Told, IsHonest, IsUnopened, Opens, is_early};
 
 use crate::command::{Command, command_of};
 use crate::commands::{check_file, run_file};
@@ -33,6 +35,7 @@ fn perform<H: Shelf, S: Source, K: Sink, N: Sink>(
     ensures aside { (name : List ℕ) → command_of (texts words.now.items) ≡ Some (Check name) → input.new ≡ input.old }
     ensures early { is_early result ≡ true → (input.new ≡ input.old) × (output.new ≡ output.old) }
     ensures consumed { (taken : List ℕ) × Consumes (S.left input.old) (S.left input.new) taken }
+    ensures appended { Grows (K.taken output.old) (K.taken output.new) }
 {
     match command_of(words.as_slice()) {
         None => End::Usage.finish(notes),
@@ -64,6 +67,16 @@ pub fn fixd<H: Shelf, S: Source, K: Sink, N: Sink>(
         (record { left = S.left input.new; read_faults = S.faults input.new; taken = K.taken output.new; write_faults = K.faults output.new })
         (N.taken notes.old) (N.taken notes.new) (N.faults notes.old) (N.faults notes.new) (command_of (texts words.now.items)) result }
 
+    // A cause that FILE gives is how the call ends, where the shelf tells its files and doesn't fail, and there is memory.
+    ensures exact { (name : List ℕ) → Opens (command_of (texts words.now.items)) name → EndsExactly (H.papers shelf.old) (H.faults shelf.old) (H.faults shelf.new) name
+        (IsAnswer (N.taken notes.old) (N.taken notes.new) (N.faults notes.old) (N.faults notes.new) result) }
+
+    // Of an accepted bundle all is printed, up to the first bad row if there is one, where nothing outside fails and there is memory.
+    ensures complete { CallCompletes (H.papers shelf.old) (H.faults shelf.old) (H.faults shelf.new)
+        (record { left = S.left input.old; read_faults = S.faults input.old; taken = K.taken output.old; write_faults = K.faults output.old })
+        (record { left = S.left input.new; read_faults = S.faults input.new; taken = K.taken output.new; write_faults = K.faults output.new })
+        (command_of (texts words.now.items)) (IsAnswer (N.taken notes.old) (N.taken notes.new) (N.faults notes.old) (N.faults notes.new) result) }
+
     // Where the words are no command's, or the bundle isn't accepted, nothing was read and nothing printed.
     ensures early { is_early result ≡ true → (input.new ≡ input.old) × (output.new ≡ output.old) }
 
@@ -72,8 +85,9 @@ pub fn fixd<H: Shelf, S: Source, K: Sink, N: Sink>(
         (record { left = S.left input.old; read_faults = S.faults input.old; taken = K.taken output.old; write_faults = K.faults output.old })
         (record { left = S.left input.new; read_faults = S.faults input.new; taken = K.taken output.new; write_faults = K.faults output.new }) result }
 
-    // At every status bytes were taken from the front of the input alone.
+    // At every status bytes were taken from the front of the input alone, and what the output held stands before what it got.
     ensures consumed { (taken : List ℕ) × Consumes (S.left input.old) (S.left input.new) taken }
+    ensures appended { Grows (K.taken output.old) (K.taken output.new) }
 
     // `check` leaves the input as it was.
     ensures aside { (name : List ℕ) → command_of (texts words.now.items) ≡ Some (Check name) → input.new ≡ input.old }

@@ -3,3 +3,4 @@ pub mod Steps
 pub mod Turns
 pub mod Exits
 pub mod Asking
+pub mod Grown

@@ -26,6 +26,10 @@ pub record IsBadAt (o : Outcome) (line : ℕ) (fault : Fault) (before after : Op
   pub bad : o.bad ≡ Some (place, fault)
   pub printed : Appends before after o.text
 
+-- what was printed before stands, and some bytes behind it
+abbrev pub Grows : Option (List ℕ) → Option (List ℕ) → Type 0
+Grows before after = (sent : List ℕ) × Appends before after sent
+
 -- a front of the text was printed
 pub record PrintsFront (text : List ℕ) (before after : Option (List ℕ)) : Type 0 where
   pub sent : List ℕ

@@ -7,7 +7,7 @@ ghost use Rattle.fx_base.specs.Causes.{Rose, HasCause};
 ghost use Rattle.fx_base.specs.Calls.{AppendsFront};
 ghost use Rattle.fx_filter.specs.Rooms.{HasRoom};
 ghost use Rattle.fx_filter.specs.Outcome.{Outcome, behind, one, IfBad};
-ghost use Rattle.fx_filter.specs.Promise.{IsFailed};
+ghost use Rattle.fx_filter.specs.Promise.{Grows, IsFailed};
 ghost use Rattle.fx_filter.specs.Running.{Ran, IsFlushed, IsAsked, EndsAs, IsBadLine, StopsAs};
 ghost use Rattle.fx_filter.specs.declared.fault.RunFault.TheVariants.{ReadFault, WriteFault};
 
@@ -46,6 +46,7 @@ pub(crate) fn ask<S: Source, K: Sink>(
         (λ step. IsAsked o now lines.old lines.new left (S.left source.old) (S.left source.new) before (K.taken sink.new) page.new count lines.old.limit step)
         (λ fault. IsFailed o left (S.left source.new) before (K.taken sink.new) lines.old.limit fault) }
     ensures room { OnOk result (HasRoom page.new) }
+    ensures grown { Grows (K.taken sink.old) (K.taken sink.new) }
     ensures read_fault { IsErrOf result ReadFault → Rose (S.faults source.old) (S.faults source.new) }
     ensures write_fault { IsErrOf result WriteFault → Rose (K.faults sink.old) (K.faults sink.new) }
     ensures later { S.faults source.old ≤ S.faults source.new }

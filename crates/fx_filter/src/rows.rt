@@ -20,7 +20,7 @@ ghost use Rattle.fx_rows.specs.declared.fault.RowKind.TheVariants as kind;
 ghost use Rattle.fx_filter.specs.Rooms.{HasRoom};
 ghost use Rattle.fx_filter.specs.Outcome.{Outcome, behind, one, stopped, IfBad};
 ghost use Rattle.fx_filter.specs.Printed.{lines_outcome, outcome_of};
-ghost use Rattle.fx_filter.specs.Promise.{IfKnown, IsDone, IsDue};
+ghost use Rattle.fx_filter.specs.Promise.{Grows, IfKnown, IsDone, IsDue};
 ghost use Rattle.fx_filter.specs.declared.printer.Stop.TheVariants as stop;
 
 use crate::fault::{NO_HEADER, RunFault};
@@ -210,6 +210,7 @@ pub fn run_steps<M: RowStep + Drop, S: Source, K: Sink>(
     ensures end { OnOk result (IsAtEnd (S.left source.new)) }
     ensures due { IfErr result (IsDue (lines_outcome (M.meaning step) (M.head step) (M.printed step) None) (S.left source.old) (S.left source.new) (K.taken sink.old) (K.taken sink.new)) }
     ensures taken { (taken : List ℕ) × Consumes (S.left source.old) (S.left source.new) taken × (IsErrOf result RunFault.TooLong ↔ (limit < length taken)) }
+    ensures grown { Grows (K.taken sink.old) (K.taken sink.new) }
     ensures read_fault { IsErrOf result RunFault.ReadFault → Rose (S.faults source.old) (S.faults source.new) }
     ensures write_fault { IsErrOf result RunFault.WriteFault → Rose (K.faults sink.old) (K.faults sink.new) }
     ensures later { S.faults source.old ≤ S.faults source.new }

@@ -4,7 +4,7 @@ ghost use Rattle.std.specs.Io.KnownBytes.{Consumes, IsAtEnd};
 ghost use Rattle.fx_base.specs.Causes.{Rose};
 ghost use Rattle.fx_base.specs.Text.{lines_in};
 ghost use Rattle.fx_filter.specs.Outcome.{one};
-ghost use Rattle.fx_filter.specs.Promise.{IfKnown, IsDone, IsDue};
+ghost use Rattle.fx_filter.specs.Promise.{Grows, IfKnown, IsDone, IsDue};
 
 use crate::ask::{ask, end_at, stop_at, take_line};
 use crate::fault::RunFault;
@@ -34,6 +34,7 @@ pub fn run_lines<P: Printer, S: Source, K: Sink>(
     ensures end { OnOk result (IsAtEnd (S.left source.new)) }
     ensures due { IfErr result (IsDue (P.outcome printer.old) (S.left source.old) (S.left source.new) (K.taken sink.old) (K.taken sink.new)) }
     ensures taken { (taken : List ℕ) × Consumes (S.left source.old) (S.left source.new) taken × (IsErrOf result RunFault.TooLong ↔ (limit < length taken)) }
+    ensures grown { Grows (K.taken sink.old) (K.taken sink.new) }
     ensures read_fault { IsErrOf result RunFault.ReadFault → Rose (S.faults source.old) (S.faults source.new) }
     ensures write_fault { IsErrOf result RunFault.WriteFault → Rose (K.faults sink.old) (K.faults sink.new) }
     ensures later { S.faults source.old ≤ S.faults source.new }

@@ -5,7 +5,7 @@ ghost use Rattle.fx_base.specs.Causes.{Rose};
 ghost use Rattle.fx_base.specs.Text.{lines_in};
 ghost use Rattle.fx_model.specs.LawfulProgram.{widths};
 ghost use Rattle.fx_model.specs.Machine.{start_words};
-ghost use Rattle.fx_filter.specs.Promise.{IfKnown, IsDone, IsDue};
+ghost use Rattle.fx_filter.specs.Promise.{Grows, IfKnown, IsDone, IsDue};
 ghost use Rattle.fx_filter.specs.declared.fault.RunFault.TheVariants.{ReadFault, WriteFault, TooLong};
 ghost use Rattle.fx_run.specs.Printed.{RowsLaw, run_outcome};
 ghost use Rattle.fx_run.specs.Steps.{CanStep};
@@ -55,6 +55,7 @@ fn run_at<const B: u32, S: Source, K: Sink>(
     ensures due { let o = run_outcome certified.now.function certified.now.program in
         IfErr result (IsDue o (S.left source.old) (S.left source.new) (K.taken sink.old) (K.taken sink.new)) }
     ensures taken { (taken : List ℕ) × Consumes (S.left source.old) (S.left source.new) taken × (IsErrOf result TooLong ↔ (limit < length taken)) }
+    ensures grown { Grows (K.taken sink.old) (K.taken sink.new) }
     ensures read_fault { IsErrOf result ReadFault → Rose (S.faults source.old) (S.faults source.new) }
     ensures write_fault { IsErrOf result WriteFault → Rose (K.faults sink.old) (K.faults sink.new) }
     ensures later { S.faults source.old ≤ S.faults source.new }
@@ -96,6 +97,7 @@ pub fn run_rows<S: Source, K: Sink>(
         IfErr result (IsDue o (S.left source.old) (S.left source.new) (K.taken sink.old) (K.taken sink.new)) }
     ensures taken { (taken : List ℕ) × Consumes (S.left source.old) (S.left source.new) taken × (IsErrOf result TooLong ↔ (limit < length taken)) }
     ensures honest { RowsLaw certified.now.function certified.now.program certified.now.certificate }
+    ensures grown { Grows (K.taken sink.old) (K.taken sink.new) }
     ensures read_fault { IsErrOf result ReadFault → Rose (S.faults source.old) (S.faults source.new) }
     ensures write_fault { IsErrOf result WriteFault → Rose (K.faults sink.old) (K.faults sink.new) }
     ensures later { S.faults source.old ≤ S.faults source.new }

@@ -2,6 +2,7 @@
 ghost use Rattle.std.specs.Prelude.{◌≡◌, ℕ, List, map};
 ghost use Rattle.std.specs.Io.KnownBytes.{Consumes};
 ghost use Rattle.fx_expr.specs.Parts.{input_of};
+ghost use Rattle.fx_filter.specs.Promise.{Grows};
 ghost use Rattle.fx_command.specs.Ends as ends;
 ghost use Rattle.fx_command.specs.Ends.{line_of, status_of};
 ghost use Rattle.fx_command.specs.EndView.{end_of};
@@ -41,6 +42,7 @@ fn run_input<'a, S: Source, K: Sink>(
         (with_source certified.now source) certified.now.function (end_of result) }
     ensures loud { IsQuiet (end_of result) → ⊥ }
     ensures consumed { (taken : List ℕ) × Consumes (S.left input.old) (S.left input.new) taken }
+    ensures appended { Grows (K.taken output.old) (K.taken output.new) }
 {
     match run_rows(alloc, certified, input, output, ROWS_LIMIT) {
         Ok(_) => End::Done,
@@ -72,6 +74,7 @@ pub fn run_file<H: Shelf, S: Source, K: Sink, N: Sink>(
         (record { left = S.left input.new; read_faults = S.faults input.new; taken = K.taken output.new; write_faults = K.faults output.new })
         name.now end × (IsQuiet end → (input.new ≡ input.old) × (output.new ≡ output.old)) }
     ensures consumed { (taken : List ℕ) × Consumes (S.left input.old) (S.left input.new) taken }
+    ensures appended { Grows (K.taken output.old) (K.taken output.new) }
 {
     match open(alloc, shelf, name) {
         Err(end) => end.finish(notes),

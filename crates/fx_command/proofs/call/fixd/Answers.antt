@@ -1,5 +1,6 @@
 use Rattle.fx_command.proofs.Honest.{honest}
 use Rattle.fx_command.proofs.Missing.{missing_file}
+use Rattle.fx_command.proofs.Exact.{exact, complete}
 use Rattle.fx_command.proofs.call.fixd.Goals as goal
 
 pub returns-clause-honest : goal.returns-clause-honest
@@ -7,3 +8,9 @@ returns-clause-honest g c = λ name e t some. honest _ _ _ _ _ _ _ _ _ _ _ name 
 
 pub returns-clause-missing : goal.returns-clause-missing
 returns-clause-missing g c = λ name opens missing. missing_file _ _ _ _ _ _ _ _ _ _ _ name c.perform.ensures.ended opens missing
+
+pub returns-clause-exact : goal.returns-clause-exact
+returns-clause-exact g c = λ name opens. exact c.bundle_text_law.ensures.again _ _ _ _ _ _ _ _ _ _ _ name c.perform.ensures.ended opens
+
+pub returns-clause-complete : goal.returns-clause-complete
+returns-clause-complete g c = complete c.bundle_text_law.ensures.again _ _ _ _ _ _ _ _ _ _ _ c.perform.ensures.ended

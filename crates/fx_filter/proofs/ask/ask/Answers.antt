@@ -5,6 +5,7 @@ use Rattle.fx_filter.specs.Running.{IsFlushed}
 use Rattle.fx_filter.specs.declared.fault.RunFault.TheVariants.{WriteFault}
 use Rattle.fx_filter.proofs.Exits.{write-failed}
 use Rattle.fx_filter.proofs.Turns.{on-ok, on-err, up-to}
+use Rattle.fx_filter.proofs.Grown.{flushed_grows}
 use Rattle.fx_filter.proofs.Asking.{Turn, gave, failed, over}
 use Rattle.fx_filter.proofs.ask.ask.Goals as goal
 
@@ -112,3 +113,15 @@ returns-in-Err-TooLong-clause-asked g c = λ o now left before count none ran.
     } in
     let fault : c.next_line.result ≡ Err line.TooLong = c.in-Err-TooLong.is ∙ ap Err c.in-Err-TooLong.field-0-is in
     over o now r r' left left1 left2 before after mid c.args.page.now page' m.0 count held c.next_line.result none ran c.requires.limit flush turn (c.next_line.ensures.too_long.0 fault)
+
+pub returns-then-is_err-clause-grown : goal.returns-then-is_err-clause-grown
+returns-then-is_err-clause-grown g c = flushed_grows (not c.holds_line.result) _ _ c.args.page.now c.flush.new.page c.flush.result c.flush.ensures.all c.flush.ensures.front
+
+pub returns-in-Ok-clause-grown : goal.returns-in-Ok-clause-grown
+returns-in-Ok-clause-grown g c = flushed_grows (not c.holds_line.result) _ _ c.args.page.now c.flush.new.page c.flush.result c.flush.ensures.all c.flush.ensures.front
+
+pub returns-in-Err-ReadFault-clause-grown : goal.returns-in-Err-ReadFault-clause-grown
+returns-in-Err-ReadFault-clause-grown g c = flushed_grows (not c.holds_line.result) _ _ c.args.page.now c.flush.new.page c.flush.result c.flush.ensures.all c.flush.ensures.front
+
+pub returns-in-Err-TooLong-clause-grown : goal.returns-in-Err-TooLong-clause-grown
+returns-in-Err-TooLong-clause-grown g c = flushed_grows (not c.holds_line.result) _ _ c.args.page.now c.flush.new.page c.flush.result c.flush.ensures.all c.flush.ensures.front

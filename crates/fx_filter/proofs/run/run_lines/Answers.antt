@@ -5,6 +5,7 @@ use Rattle.fx_filter.specs.Promise.{IsFailed}
 use Rattle.fx_filter.specs.Running.{EndsAs, HasEnded, HasLine, IsAsked, Ran, StopsAs}
 use Rattle.fx_filter.proofs.Steps.{start, stepped}
 use Rattle.fx_filter.proofs.Turns.{one-few}
+use Rattle.fx_filter.proofs.Grown.{none_grown, grown_on, stopped_grows}
 use Rattle.fx_filter.proofs.Exits.{IsOver, line-stopped, lines-ended, of-result}
 use Rattle.fx_filter.proofs.run.run_lines.Goals as goal
 
@@ -18,6 +19,7 @@ lines-init g c =
           (subst (λ p. Ran o o (record { line = []; held = []; number = 0; taken = 0; limit = c.args.limit; is_ready = true; is_ended = false }) left left before before p 0 c.args.limit) (sym c.in-Ok.ensures) (start o left before c.args.limit (g.met.P.Printer.none c.args.printer.now).0));
       bound = ap (λ r. r.limit) c.in-Ok-new.ensures;
       can = c.requires.can;
+      grown = none_grown before;
       later = omega arith;
       later_sink = omega arith;
     }
@@ -72,6 +74,7 @@ lines-preserved g c =
           line.ended (a.asked.near line.unended) took.2 (one-few is_row))));
       bound = a.limit ∙ c.lines.invariant.bound;
       can = c.in-Ok-take_line.ensures.can;
+      grown = grown_on before (g.K.Sink.taken c.lines.sink) mid c.lines.invariant.grown c.ask.ensures.grown;
       later = omega (arith, c.lines.invariant.later, c.ask.ensures.later);
       later_sink = omega (arith, c.lines.invariant.later_sink, c.ask.ensures.later_sink);
     }
@@ -255,3 +258,17 @@ returns-in-Err-clause-taken g c =
     let nothing = g.met.P.Printer.none c.lines.printer in
     let fails : IsFailed o left left2 before mid r.limit c.in-Err.fault = c.in-Err.ensures.asked o now left before count nothing.0 c.lines.invariant.ran in
     of-result left left2 c.args.limit c.in-Err.fault (subst (λ l. IsFailed o left left2 before mid l c.in-Err.fault) c.lines.invariant.bound fails).1
+
+pub returns-in-Err-take_line-clause-grown : goal.returns-in-Err-take_line-clause-grown
+returns-in-Err-take_line-clause-grown g c =
+    let before = g.K.Sink.taken c.args.sink.now in
+    let mid = g.K.Sink.taken c.ask.new.sink in
+    let last = g.K.Sink.taken c.stop_at.new.sink in
+    grown_on before mid last (grown_on before (g.K.Sink.taken c.lines.sink) mid c.lines.invariant.grown c.ask.ensures.grown)
+        (stopped_grows c.in-Err-take_line.stop _ mid last c.take_line.new.page c.stop_at.result c.stop_at.ensures.stops)
+
+pub returns-in-Ok-End-clause-grown : goal.returns-in-Ok-End-clause-grown
+returns-in-Ok-End-clause-grown g c = grown_on _ _ _ c.lines.invariant.grown c.ask.ensures.grown
+
+pub returns-in-Err-clause-grown : goal.returns-in-Err-clause-grown
+returns-in-Err-clause-grown g c = grown_on _ _ _ c.lines.invariant.grown c.ask.ensures.grown

@@ -1,4 +1,5 @@
 use Rattle.std.proofs.Common.{◌≡◌, ◌-◌, ◌≤◌}
+use Rattle.fx_filter.specs.Promise.{Grows}
 use Rattle.fx_filter.specs.Running.{Ran}
 use Rattle.fx_filter.proofs.run.run_lines.Given as goal
 
@@ -8,6 +9,7 @@ invariant-lines g l = record {
       (g.K.Sink.taken l.initial.sink) (g.K.Sink.taken l.sink) l.page l.count l.lines.limit;
   bound : l.lines.limit ≡ l.limit;
   can : g.P.Printer.can_take l.printer;
+  grown : Grows (g.K.Sink.taken l.initial.sink) (g.K.Sink.taken l.sink);
   later : g.S.Source.faults l.initial.source ≤ g.S.Source.faults l.source;
   later_sink : g.K.Sink.faults l.initial.sink ≤ g.K.Sink.faults l.sink;
 }

@@ -1,0 +1,161 @@
+-- What the bytes of FILE and the rows of the input decide.
+use Rattle.std.proofs.Common.{◌≡◌, ◌≢◌, ◌⊎◌, ◌≤◌, ◌<◌, refl, sym, ap, subst, ◌∙◌, ℕ, List, ◌++◌, length, true, false, nat_lt, if◌then◌else◌, Option, Some, None, Result, Ok, Err, arith, inl, inr}
+use Rattle.std.proofs.lemmas.Bool.{lt-ltb, le-ltb}
+use Rattle.std.proofs.lemmas.List.{length-append}
+use Rattle.std.specs.Io.KnownBytes.{Consumes}
+use Rattle.fx_base.specs.Causes.{Rose}
+use Rattle.fx_base.specs.Shelf.{Files, IsMissing, paper_of}
+use Rattle.fx_base.specs.Text.{lines_in}
+use Rattle.fx_model.specs.Limits.{bundle_limit}
+use Rattle.fx_model.specs.Function.{Function}
+use Rattle.fx_inequalities.specs.Accepted.{first_fault}
+use Rattle.fx_inequalities.specs.Condition.{Fault}
+use Rattle.fx_rules.specs.Steps.{rewrite}
+use Rattle.fx_lexer.specs.declared.fault.SourceFault.{SourceFault}
+use Rattle.fx_text.specs.declared.fault.TextFault.{TextFault}
+use Rattle.fx_cert.specs.BundleView.{Parts}
+use Rattle.fx_cert.specs.BundleReading.{bundle_in}
+use Rattle.fx_cert.specs.Laws.{BundleAgain}
+use Rattle.fx_rows.specs.Faults as rows
+use Rattle.fx_rows.specs.ReadRows.{read_rows}
+use Rattle.fx_command.specs.Outside.{Streams, IfFile}
+use Rattle.fx_command.specs.Ends.{End, Done, ReadFault, NoMemory, OverLimit, BadBundle, Misread, Rejected, BadRow}
+use Rattle.fx_command.specs.Opening.{Spells, meaning_of, IsBundle, IsAcceptedAs, OpeningEnds, unread, long, no_bundle, misread, rejected, no_memory, OpensThen, unopened, opened}
+use Rattle.fx_command.specs.Exact.{IsFound, EndsExactly, IsReady, OrNoMemory}
+use Rattle.fx_command.specs.Command as commands
+use Rattle.fx_command.specs.commands.Run as run
+use Rattle.fx_command.specs.commands.Run.{RowsEnd, Runs, IsReadable, rows_end}
+use Rattle.fx_command.specs.commands.Check.{ReportEnds}
+use Rattle.fx_command.specs.commands.Check as check
+use Rattle.fx_command.specs.Promise.{HasEnded, IsAnswer, CallEnds, CallCompletes, Opens}
+use Rattle.fx_command.proofs.Told.{known, in_file}
+
+-- ---- what bytes come to: an accepted bundle and its function, or the end of a call that opens them
+Verdict : Type 0
+Verdict = Result (Parts × Function) End
+
+judged : Parts → Function → Option Fault → Verdict
+judged b fn None = Ok (b, fn)
+judged b fn (Some fault) = Err (Rejected fault)
+
+understood : Parts → Result Function SourceFault → Verdict
+understood b (Err fault) = Err (Misread fault)
+understood b (Ok fn) = judged b fn (first_fault rewrite fn b.program b.certificate)
+
+spelled : Result Parts TextFault → Verdict
+spelled (Err fault) = Err (BadBundle fault)
+spelled (Ok b) = understood b (meaning_of b)
+
+verdict : List ℕ → Verdict
+verdict file = if nat_lt bundle_limit (length file) then Err OverLimit else spelled (bundle_in file)
+
+within : (file : List ℕ) → length file ≤ bundle_limit → verdict file ≡ spelled (bundle_in file)
+within file h = ap (λ t. if t then Err OverLimit else spelled (bundle_in file)) (le-ltb bundle_limit (length file) h)
+
+of_bundle : BundleAgain → (file : List ℕ) (b : Parts) → (length file ≤ bundle_limit) × Spells file b → verdict file ≡ understood b (meaning_of b)
+of_bundle again file b is = within file is.0 ∙ ap spelled (ap bundle_in is.1.text_is ∙ again b is.1.lawful)
+
+accepted_verdict : BundleAgain → (file : List ℕ) (b : Parts) (fn : Function) → (length file ≤ bundle_limit) × Spells file b → IsAcceptedAs b fn → verdict file ≡ Ok (b, fn)
+accepted_verdict again file b fn is a = of_bundle again file b is ∙ ap (understood b) a.meant ∙ ap (judged b fn) a.accepted
+
+ok_inside : (x y : Parts × Function) → Ok {E = End} x ≡ Ok y → x ≡ y
+ok_inside x y e = cc
+
+err_inside : (x y : End) → Err {T = Parts × Function} x ≡ Err y → x ≡ y
+err_inside x y e = cc
+
+-- ---- the end of a call that opens FILE
+module _ (again : BundleAgain) (papers : Option Files) (before after : ℕ) (name file : List ℕ) (found : IsFound papers before after name file) where
+  told : (P : List ℕ → Type 0) → IfFile papers name P → P file
+  told = in_file papers name found.files file found.told found.found
+
+  is_there : IsMissing papers name → ⊥
+  is_there missing = let none : paper_of found.files name ≡ None = subst (λ ps. IsMissing ps name) found.told missing in let z = sym none ∙ found.found in absurd cc
+
+  -- a cause is want of memory, or what the bytes come to
+  cause_verdict : (end : End) → OpeningEnds papers before after name end → (end ≡ NoMemory) ⊎ (verdict file ≡ Err end)
+  cause_verdict end (unread (inl missing)) = absurd (is_there missing)
+  cause_verdict end (unread (inr rose)) = absurd (found.unfailing rose)
+  cause_verdict end (long over) = inr (ap (λ t. if t then Err OverLimit else spelled (bundle_in file)) (lt-ltb bundle_limit (length file) (told _ over)))
+  cause_verdict end (no_bundle fault is) = let h = told _ is in inr (within file h.0 ∙ ap spelled h.1)
+  cause_verdict end (misread b fault is meant) = inr (of_bundle again file b (told _ is) ∙ ap (understood b) meant)
+  cause_verdict end (rejected b fn fault is meant first) = inr (of_bundle again file b (told _ is) ∙ ap (understood b) meant ∙ ap (judged b fn) first)
+  cause_verdict end no_memory = inl refl
+
+  module _ (IsEnd : End → Type 0) where
+    -- two ends of one cause
+    same_end : (end e : End) → IsEnd end → e ≢ NoMemory → (end ≡ NoMemory) ⊎ (verdict file ≡ Err end) → (e ≡ NoMemory) ⊎ (verdict file ≡ Err e) → OrNoMemory IsEnd e
+    same_end end e h other (inl none) v = inr (subst IsEnd none h)
+    same_end end e h other (inr u) (inl none) = absurd (other none)
+    same_end end e h other (inr u) (inr v) = inl (subst IsEnd (err_inside end e (sym u ∙ v)) h)
+
+    exact_opening : {old new : Streams} {P : Parts → Function → End → Type 0} (end e : End) → IsEnd end → OpensThen papers before after name old new P end → e ≢ NoMemory → OpeningEnds papers before after name e → OrNoMemory IsEnd e
+    exact_opening end e h (unopened end' ends same) other cause = same_end end e h other (cause_verdict end ends) (cause_verdict e cause)
+    exact_opening end e h (opened end' b fn is a ends) other cause = same_end end e h other (by (cause_verdict e cause)) (cause_verdict e cause)
+      where
+        by : (e ≡ NoMemory) ⊎ (verdict file ≡ Err e) → (end ≡ NoMemory) ⊎ (verdict file ≡ Err end)
+        by (inl none) = absurd (other none)
+        by (inr v) = let z = sym (accepted_verdict again file b fn (told _ is) a) ∙ v in absurd cc
+
+  -- an accepted bundle is opened, and then the command does what it does with it
+  completed : {old new : Streams} (P : Parts → Function → End → Type 0) (b : Parts) (fn : Function) (end : End) → IsBundle papers name b → IsAcceptedAs b fn →
+      OpensThen papers before after name old new P end → (end ≡ NoMemory) ⊎ P b fn end
+  completed P b fn end is a (unopened end' ends same) = by (cause_verdict end ends)
+    where
+      by : (end ≡ NoMemory) ⊎ (verdict file ≡ Err end) → (end ≡ NoMemory) ⊎ P b fn end
+      by (inl none) = inl none
+      by (inr v) = let z = sym (accepted_verdict again file b fn (told _ is) a) ∙ v in absurd cc
+  completed P b fn end is a (opened end' b' fn' is' a' ends) =
+      let same = ok_inside (b', fn') (b, fn) (sym (accepted_verdict again file b' fn' (told _ is') a') ∙ accepted_verdict again file b fn (told _ is) a) in
+      inr (subst (λ x. P x.0 x.1 end) same ends)
+
+-- ---- what the commands do with it
+-- what was taken is no longer than what was held
+taken_few : (held taken : List ℕ) (left left' : Option (List ℕ)) → left ≡ Some held → Consumes left left' taken → length taken ≤ length held
+taken_few held taken None left' e took = absurd cc
+taken_few held taken (Some xs) None e took = absurd took
+taken_few held taken (Some xs) (Some rest) e took = let z : xs ≡ held = cc in let sum = sym (ap (λ ys. length ys) (sym z ∙ took)) in omega (arith, sum, length-append taken rest)
+
+rows_decide : (old new : Streams) (b : Parts) (fn : Function) (held : List ℕ) (end : End) → IsReadable old new held → RowsEnd old new b fn end →
+    (end ≡ rows_end fn (read_rows fn held).given.bad) ⊎ (end ≡ NoMemory)
+rows_decide old new b fn held end r (run.all_run count done at_end) = let d = known _ held r.told done in inl (sym (ap (rows_end fn) d.good))
+rows_decide old new b fn held end r (run.bad_row line fault due) =
+    let d = known _ held r.told due.0 in inl (ap (λ n. BadRow fn.inputs n (rows.fault_of fault)) d.number ∙ sym (ap (rows_end fn) d.bad))
+rows_decide old new b fn held end r (run.unread rose due) = absurd (r.reads rose)
+rows_decide old new b fn held end r (run.unwritten rose due) = absurd (r.writes rose)
+rows_decide old new b fn held end r (run.long taken took more due) = absurd (omega (arith, more, r.short, taken_few held taken old.left new.left r.told took))
+rows_decide old new b fn held end r (run.no_memory due) = inr refl
+
+report_decides : (old new : Streams) (b : Parts) (fn : Function) (end : End) → ¬ Rose old.write_faults new.write_faults → ReportEnds old new b fn end → end ≡ Done
+report_decides old new b fn end writes (check.reported put) = refl
+report_decides old new b fn end writes (check.unwritten rose put) = absurd (writes rose)
+
+-- ---- the clauses of the call
+module _ (again : BundleAgain) (papers : Option Files) (before after : ℕ) (old new : Streams) (noted noted' : Option (List ℕ)) (failed failed' : ℕ) (status : ℕ) where
+  IsEnd : End → Type 0
+  IsEnd end = IsAnswer noted noted' failed failed' status end
+
+  pub exact : (command : Option commands.Command) (name : List ℕ) → HasEnded papers before after old new noted noted' failed failed' command status → Opens command name → EndsExactly papers before after name IsEnd
+  exact command name h (inl is) = λ file found e other cause.
+      exact_opening again papers before after name file found IsEnd h.end e h.answer (subst (λ (c : Option commands.Command). CallEnds papers before after old new c h.end) is h.cause) other cause
+  exact command name h (inr is) = λ file found e other cause.
+      exact_opening again papers before after name file found IsEnd h.end e h.answer (subst (λ (c : Option commands.Command). CallEnds papers before after old new c h.end) is h.cause) other cause
+
+  either : (end decided : End) → IsEnd end → (end ≡ decided) ⊎ (end ≡ NoMemory) → OrNoMemory IsEnd decided
+  either end decided h (inl is) = inl (subst IsEnd is h)
+  either end decided h (inr none) = inr (subst IsEnd none h)
+
+  pub complete : (command : Option commands.Command) → HasEnded papers before after old new noted noted' failed failed' command status → CallCompletes papers before after old new command IsEnd
+  complete None h = tt
+  complete (Some (commands.Run name)) h = λ b fn held ready readable.
+      by b fn held readable (completed again papers before after name ready.file ready.found (Runs old new) b fn h.end ready.is_bundle ready.accepted h.cause)
+    where
+      by : (b : Parts) (fn : Function) (held : List ℕ) → IsReadable old new held → (h.end ≡ NoMemory) ⊎ Runs old new b fn h.end → OrNoMemory IsEnd (rows_end fn (read_rows fn held).given.bad)
+      by b fn held readable (inl none) = inr (subst IsEnd none h.answer)
+      by b fn held readable (inr runs) = either h.end _ h.answer (rows_decide old new b fn held h.end readable runs.rows)
+  complete (Some (commands.Check name)) h = λ b fn ready writes.
+      by b fn writes (completed again papers before after name ready.file ready.found (ReportEnds old new) b fn h.end ready.is_bundle ready.accepted h.cause)
+    where
+      by : (b : Parts) (fn : Function) → ¬ Rose old.write_faults new.write_faults → (h.end ≡ NoMemory) ⊎ ReportEnds old new b fn h.end → OrNoMemory IsEnd Done
+      by b fn writes (inl none) = inr (subst IsEnd none h.answer)
+      by b fn writes (inr ends) = inl (subst IsEnd (report_decides old new b fn h.end writes ends) h.answer)
