@@ -5,7 +5,7 @@ use Rattle.std.specs.Int.RustNames.{int_rem, unsigned_abs}
 use Rattle.std.proofs.lemmas.Int.{ints, quot-rem, rem_below}
 use Rattle.fx_algebra.proofs.Quote as int
 use Rattle.fx_rational.specs.Rational.{Rational, whole, over, negative, minus, times, scaled, floor, floor_div, Equal, AtMost}
-use Rattle.fx_model.specs.Machine.{word_value, shifted, divided}
+use Rattle.fx_model.specs.Machine.{word_value, shifted, floor_divided}
 use Rattle.fx_inequalities.specs.Formula.{Num, formula_value, loss_at, Within}
 use Rattle.fx_rational.specs.Dyadic.{dyadic_value}
 use Rattle.fx_rational.proofs.Ring.{by_quotes, quotes}
@@ -162,7 +162,7 @@ quotient_truncated v w p q f s t nonzero e back =
     (times_same (equal_sym (whole_difference (d *ℤ w) n)) (equal_refl u))))))
     r.0 r.1
 
-pub divided_is : (n d : ℤ) → (d ≡ pos 0 → ⊥) → divided n d ≡ Some (int_div n d)
+pub divided_is : (n d : ℤ) → (d ≡ pos 0 → ⊥) → floor_divided n d ≡ Some (int_div n d)
 divided_is n (pos zero) h = absurd (h refl)
 divided_is n (pos (suc k)) h = refl
 divided_is n (negsuc k) h = refl

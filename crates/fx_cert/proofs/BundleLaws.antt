@@ -28,7 +28,7 @@ use Rattle.fx_text.proofs.LineLaws.{cut_at-takes, cut_at-again, fields_at-takes,
 use Rattle.fx_program.specs.ProgramView.{IsSpelled}
 use Rattle.fx_program.proofs.ProgramLaws.{program_law}
 use Rattle.fx_cert.specs.BundleView.{Parts, IsLawfulBundle, text_of}
-use Rattle.fx_cert.specs.BundleReading.{cut_section, section_at, in_section, source_count_at, source_line, source_at, source_lines, counted_source_at, program_lines, proof_lines, program_section_at, certificate_section_at, body_at, bundle_at, bundle_lines, bundle_in}
+use Rattle.fx_cert.specs.BundleReading.{cut_section, section_at, in_section, source_count_at, source_line, source_at, source_lines, counted_source_at, program_lines, proof_lines, program_section_at, certificate_section_at, bundle_body_at, bundle_at, bundle_lines, bundle_in}
 use Rattle.fx_cert.proofs.CertificateLaws.{certificate_law}
 
 -- ---- sections
@@ -159,8 +159,8 @@ body_text p c = line_text (codes "program" ∷ []) ++ (program_text p ++ (line_t
 body_regroup : (a b c d e rest : List ℕ) → a ++ (b ++ (c ++ (d ++ (e ++ rest)))) ≡ (a ++ (b ++ (c ++ (d ++ e)))) ++ rest
 body_regroup a b c d e rest = simp append_assoc
 
-body_takes : (n : ℕ) (text : List ℕ) (x : (Program × Certificate) × List ℕ) → body_at n text ≡ Ok x → (text ≡ body_text x.0.0 x.0.1 ++ x.1) × IsSpelled x.0.0 × IsLawfulCertificate x.0.1
-unfolding body_at program_section_at certificate_section_at
+body_takes : (n : ℕ) (text : List ℕ) (x : (Program × Certificate) × List ℕ) → bundle_body_at n text ≡ Ok x → (text ≡ body_text x.0.0 x.0.1 ++ x.1) × IsSpelled x.0.0 × IsLawfulCertificate x.0.1
+unfolding bundle_body_at program_section_at certificate_section_at
 body_takes n text x e =
     on_ok {A = Program × List ℕ} _ _ x e (λ p hp e.
     on_ok {A = Certificate × List ℕ} _ _ x e (λ c hc e.
@@ -180,8 +180,8 @@ body_takes n text x e =
       tc.1,
     ))))))
 
-body_again : (n : ℕ) (p : Program) (c : Certificate) (rest : List ℕ) → IsSpelled p → IsLawfulCertificate c → body_at n (body_text p c ++ rest) ≡ Ok ((p, c), rest)
-unfolding body_at program_section_at certificate_section_at
+body_again : (n : ℕ) (p : Program) (c : Certificate) (rest : List ℕ) → IsSpelled p → IsLawfulCertificate c → bundle_body_at n (body_text p c ++ rest) ≡ Ok ((p, c), rest)
+unfolding bundle_body_at program_section_at certificate_section_at
 body_again n p c rest hp hc =
     let le = line_text (codes "end" ∷ []) in let lv = line_text (codes "certificate" ∷ []) in
     let t3 = certificate_text c ++ (le ++ rest) in let t2 = lv ++ t3 in let t1 = program_text p ++ t2 in
@@ -251,7 +251,7 @@ text_again b h =
 
 -- a bundle by its parts, and then the text's end
 pub by_parts : (text head : List ℕ) (source behind : List ℕ) (p : Program) (c : Certificate) (rest : List ℕ) (line first : ℕ) → section_at (codes "fixd bundle 1") 1 text ≡ Ok head → counted_source_at 2 head ≡ Ok (source, behind)
-    → first ≡ source_lines source → body_at (3 + first) behind ≡ Ok ((p, c), rest) → line ≡ 1 + (3 + first + program_lines p + proof_lines c)
+    → first ≡ source_lines source → bundle_body_at (3 + first) behind ≡ Ok ((p, c), rest) → line ≡ 1 + (3 + first + program_lines p + proof_lines c)
     → bundle_in text ≡ (text_ended_at line rest >>= λ _. Ok (record { source = source; program = p; certificate = c }))
 unfolding bundle_in bundle_at
-by_parts text head source behind p c rest line first a b f d e = let g = subst (λ n. body_at (3 + n) behind ≡ Ok ((p, c), rest)) f d in rw (a, b, g, e, f) refl
+by_parts text head source behind p c rest line first a b f d e = let g = subst (λ n. bundle_body_at (3 + n) behind ≡ Ok ((p, c), rest)) f d in rw (a, b, g, e, f) refl

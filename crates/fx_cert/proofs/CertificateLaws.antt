@@ -17,8 +17,8 @@ use Rattle.fx_text.proofs.Choices.{on_ok}
 use Rattle.fx_text.proofs.DyadicLaws.{All-from_each, each-from_All}
 use Rattle.fx_text.proofs.LineLaws.{line_spelling, text_ended-is}
 use Rattle.fx_text.proofs.LinesLaws.{following, lines_spelling}
-use Rattle.fx_cert.specs.CountsView.{AreSizes, AreRowCounts}
-use Rattle.fx_cert.specs.LineReading.{Sizes, RowCounts, headline_at, sizes_at, step_count_at, step_at, start_at, row_counts_at, node_at}
+use Rattle.fx_cert.specs.CountsView.{AreCertificateSizes, AreRowCounts}
+use Rattle.fx_cert.specs.LineReading.{CertificateSizes, RowCounts, certificate_headline_at, certificate_sizes_at, step_count_at, step_at, start_at, row_counts_at, node_at}
 use Rattle.fx_cert.specs.CertificateReading.{steps_at, all_rows_at, certificate_at, certificate_lines, certificate_in}
 use Rattle.fx_cert.proofs.CertificateLines.{headline_fields, headline_law, sizes_fields, sizes_law, step_count_fields, step_count_law, step_law, start_law, row_counts_fields, row_counts_law}
 use Rattle.fx_cert.proofs.NodeLines.{IsNode, node_law}
@@ -121,7 +121,7 @@ each_node v rows error_rows n [] h = tt
 each_node v rows error_rows n (l ∷ lines) (h, hs) = (record { range = h.0; error = h.1; form = h.2 }, each_node v rows error_rows (n + 1) lines hs)
 
 -- ---- all of it
-abbrev sizes_in : Certificate → Sizes
+abbrev sizes_in : Certificate → CertificateSizes
 sizes_in c = record { inputs = c.inputs; states = c.states; count = length c.lines }
 
 -- its text by its parts
@@ -143,14 +143,14 @@ takes : (n : ℕ) (text : List ℕ) (x : Certificate × List ℕ) → certificat
 unfolding certificate_at
 takes n text x e =
     on_ok _ _ x e (λ head hh e.
-    on_ok {A = Sizes × List ℕ} _ _ x e (λ sizes hs e.
+    on_ok {A = CertificateSizes × List ℕ} _ _ x e (λ sizes hs e.
     on_ok {A = List Rewriting × List ℕ} _ _ x e (λ steps ht e.
     on_ok {A = List StartBox × List ℕ} _ _ x e (λ starts hb e.
     on_ok {A = (List Row × List Row) × List ℕ} _ _ x e (λ rows hr e.
     on_ok {A = List NodeLine × List ℕ} _ _ x e (λ lines hl e.
     let i = sizes.0.inputs in let k = sizes.0.states in let s = n + 3 + length steps.0 in let r = length rows.0.0 in let f = length rows.0.1 in
-    let th = (line_spelling headline_at headline_fields (λ _. Unit {0}) headline_law n).takes text head hh in
-    let ts = (line_spelling sizes_at sizes_fields AreSizes sizes_law (n + 1)).takes head.1 sizes hs in
+    let th = (line_spelling certificate_headline_at headline_fields (λ _. Unit {0}) headline_law n).takes text head hh in
+    let ts = (line_spelling certificate_sizes_at sizes_fields AreCertificateSizes sizes_law (n + 1)).takes head.1 sizes hs in
     let tt' = (steps_law (n + 2)).takes sizes.1 steps ht in
     let tb = (starts_law s k).takes steps.1 starts hb in
     let tr = (all_rows_law (s + k) k).takes starts.1 rows hr in
@@ -179,7 +179,7 @@ takes n text x e =
     )))))))
 
 -- each part is read behind the one before
-one_by_one : (n : ℕ) (c : Certificate) (t t1 t2 t3 t4 t5 rest : List ℕ) → line_by headline_at n t ≡ Ok (tt, t1) → line_by sizes_at (n + 1) t1 ≡ Ok (sizes_in c, t2) → steps_at (n + 2) t2 ≡ Ok (c.steps, t3)
+one_by_one : (n : ℕ) (c : Certificate) (t t1 t2 t3 t4 t5 rest : List ℕ) → line_by certificate_headline_at n t ≡ Ok (tt, t1) → line_by certificate_sizes_at (n + 1) t1 ≡ Ok (sizes_in c, t2) → steps_at (n + 2) t2 ≡ Ok (c.steps, t3)
     → lines_by (λ _. start_at) (n + 3 + length c.steps) c.states t3 ≡ Ok (c.starts, t4) → all_rows_at (n + 3 + length c.steps + c.states) c.states t4 ≡ Ok ((c.rows, c.error_rows), t5)
     → lines_by (node_at (c.inputs + c.states) (length c.rows) (length c.error_rows)) (n + 3 + length c.steps + c.states + 1 + length c.rows + length c.error_rows) (length c.lines) t5 ≡ Ok (c.lines, rest)
     → certificate_at n t ≡ Ok (c, rest)
@@ -193,8 +193,8 @@ again n c rest h =
     let t1 = line_text (sizes_fields (sizes_in c)) ++ t2 in
     ap (certificate_at n) (in_parts c rest)
     ∙ one_by_one n c (line_text (headline_fields tt) ++ t1) t1 t2 t3 t4 t5 rest
-    ((line_spelling headline_at headline_fields (λ _. Unit {0}) headline_law n).again tt t1 tt)
-    ((line_spelling sizes_at sizes_fields AreSizes sizes_law (n + 1)).again (sizes_in c) t2 (record { some_input = h.some_input; inputs = h.inputs; states = h.states; enough = h.some_lines; count = h.few_lines }))
+    ((line_spelling certificate_headline_at headline_fields (λ _. Unit {0}) headline_law n).again tt t1 tt)
+    ((line_spelling certificate_sizes_at sizes_fields AreCertificateSizes sizes_law (n + 1)).again (sizes_in c) t2 (record { some_input = h.some_input; inputs = h.inputs; states = h.states; enough = h.some_lines; count = h.few_lines }))
     ((steps_law (n + 2)).again c.steps t3 (record { few = h.few_steps; each = h.steps }))
     ((starts_law s k).again c.starts t4 (h.starts_count, each-from_All IsWrittenBox following 0 c.starts (recursion_from_All IsWrittenBox c.starts h.starts)))
     ((all_rows_law (s + k) k).again (c.rows, c.error_rows) t5 (h.rows, h.error_rows))

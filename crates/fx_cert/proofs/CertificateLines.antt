@@ -20,8 +20,8 @@ use Rattle.fx_text.proofs.Choices.{on_ok}
 use Rattle.fx_text.proofs.FieldLaws.{front, ended_is, word_takes, word_again, number_takes, number_again, place_takes, place_again, count_takes, count_again}
 use Rattle.fx_text.proofs.LineLaws.{IsField-decimal, IsLineOf}
 use Rattle.fx_text.proofs.DyadicLaws.{IsField-dyadic_text, interval_takes, interval_again}
-use Rattle.fx_cert.specs.CountsView.{AreSizes, AreRowCounts}
-use Rattle.fx_cert.specs.LineReading.{Sizes, RowCounts, headline_at, sizes_at, step_count_at, step_at, start_at, row_counts_at}
+use Rattle.fx_cert.specs.CountsView.{AreCertificateSizes, AreRowCounts}
+use Rattle.fx_cert.specs.LineReading.{CertificateSizes, RowCounts, certificate_headline_at, certificate_sizes_at, step_count_at, step_at, start_at, row_counts_at}
 use Rattle.fx_cert.proofs.PathLaws.{path_law, clean_path}
 
 -- ---- parts of lines
@@ -45,8 +45,8 @@ clean_dyadics (d ∷ ds) (h, hs) = (IsField-dyadic_text d h, clean_dyadics ds hs
 abbrev pub headline_fields : Unit {0} → Line
 headline_fields _ = codes "fixd" ∷ codes "certificate" ∷ codes "1" ∷ []
 
-pub headline_law : IsLineOf headline_at headline_fields (λ _. Unit {0})
-unfolding headline_at
+pub headline_law : IsLineOf certificate_headline_at headline_fields (λ _. Unit {0})
+unfolding certificate_headline_at
 headline_law = record { takes = λ line x e. (takes line x e, tt); again = λ x h. again; clean = λ x h. (word_fixd, (word_certificate, (word_1, tt))) }
   where
     word_fixd : IsField (codes "fixd")
@@ -58,7 +58,7 @@ headline_law = record { takes = λ line x e. (takes line x e, tt); again = λ x 
     word_1 : IsField (codes "1")
     word_1 = record { spaces = search rules; line_feeds = search rules }
 
-    takes : (line : Line) (x : Unit {0}) → headline_at line ≡ Ok x → line ≡ headline_fields x
+    takes : (line : Line) (x : Unit {0}) → certificate_headline_at line ≡ Ok x → line ≡ headline_fields x
     takes line x e =
         on_ok _ _ x e (λ a ha e.
         on_ok _ _ x e (λ b hb e.
@@ -66,18 +66,18 @@ headline_law = record { takes = λ line x e. (takes line x e, tt); again = λ x 
         on_ok _ _ x e (λ d hd e.
         front (word_takes (codes "fixd") line a ha) (front (word_takes (codes "certificate") a b hb) (front (word_takes (codes "1") b c hc) (ended_is c d hd)))))))
 
-    again : headline_at (headline_fields tt) ≡ Ok tt
+    again : certificate_headline_at (headline_fields tt) ≡ Ok tt
     again = rw (word_again (codes "fixd") (codes "certificate" ∷ codes "1" ∷ []), word_again (codes "certificate") (codes "1" ∷ []), word_again (codes "1") []) refl
 
 -- ---- counts
-abbrev pub sizes_fields : Sizes → Line
+abbrev pub sizes_fields : CertificateSizes → Line
 sizes_fields s = codes "sizes" ∷ decimal s.inputs ∷ decimal s.states ∷ decimal s.count ∷ []
 
-pub sizes_law : IsLineOf sizes_at sizes_fields AreSizes
-unfolding sizes_at
+pub sizes_law : IsLineOf certificate_sizes_at sizes_fields AreCertificateSizes
+unfolding certificate_sizes_at
 sizes_law = record { takes = takes; again = again; clean = clean }
   where
-    takes : (line : Line) (s : Sizes) → sizes_at line ≡ Ok s → (line ≡ sizes_fields s) × AreSizes s
+    takes : (line : Line) (s : CertificateSizes) → certificate_sizes_at line ≡ Ok s → (line ≡ sizes_fields s) × AreCertificateSizes s
     takes line s e =
         on_ok _ _ s e (λ rest hr e.
         on_ok _ _ s e (λ i hi e.
@@ -88,12 +88,12 @@ sizes_law = record { takes = takes; again = again; clean = clean }
         let pk = count_takes 0 state_limit i.1 k (omega arith) hk in
         let pn = count_takes (i.0 + k.0) node_limit k.1 n (omega arith) hn in
         let made : record { inputs = i.0; states = k.0; count = n.0 } ≡ s = cc in
-        subst (λ s. (line ≡ sizes_fields s) × AreSizes s) made (
+        subst (λ s. (line ≡ sizes_fields s) × AreCertificateSizes s) made (
           front (word_takes (codes "sizes") line rest hr) (front pi.0 (front pk.0 (front pn.0 (ended_is n.1 d hd)))),
           record { some_input = pi.1; inputs = pi.2; states = pk.2; enough = pn.1; count = pn.2 },
         ))))))
 
-    again : (s : Sizes) → AreSizes s → sizes_at (sizes_fields s) ≡ Ok s
+    again : (s : CertificateSizes) → AreCertificateSizes s → certificate_sizes_at (sizes_fields s) ≡ Ok s
     again s h =
         rw (
           word_again (codes "sizes") (decimal s.inputs ∷ decimal s.states ∷ decimal s.count ∷ []),
@@ -105,7 +105,7 @@ sizes_law = record { takes = takes; again = again; clean = clean }
     word_sizes : IsField (codes "sizes")
     word_sizes = record { spaces = search rules; line_feeds = search rules }
 
-    clean : (s : Sizes) → AreSizes s → AreFields (sizes_fields s)
+    clean : (s : CertificateSizes) → AreCertificateSizes s → AreFields (sizes_fields s)
     clean s h =
         let i = h.inputs in let k = h.states in let n = h.count in
         (word_sizes, (IsField-decimal s.inputs (omega arith), (IsField-decimal s.states (omega arith), (IsField-decimal s.count (omega arith), tt))))

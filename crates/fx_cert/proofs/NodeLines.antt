@@ -21,7 +21,7 @@ use Rattle.fx_text.proofs.FieldLaws.{front, ended_is, field_is, word_takes, word
 use Rattle.fx_text.proofs.LineLaws.{IsLineOf}
 use Rattle.fx_text.proofs.DyadicLaws.{IsField-dyadic_text, dyadic_takes, dyadic_again, interval_takes, interval_again, dyadics_spelling}
 use Rattle.fx_cert.specs.FieldReading.{shares_at, by_at}
-use Rattle.fx_cert.specs.LineReading.{box_at, row_at, plain_at, form_at, formed_at, node_at}
+use Rattle.fx_cert.specs.LineReading.{box_row_at, row_at, plain_at, form_at, formed_at, node_at}
 use Rattle.fx_cert.proofs.ShareLaws.{shares_law, by_law, clean_shares, clean_by}
 use Rattle.fx_cert.proofs.CertificateLines.{behind, clean_append, clean_interval, clean_dyadics}
 
@@ -32,11 +32,11 @@ pub record IsBox (k end i : ℕ) (r : Row) : Type 0 where
   pub bound : IsWrittenInterval r.bound
   pub shares : AreShares end 0 r.shares
 
-pub box_law : (k end i : ℕ) → end < 2 ^ 32 → IsLineOf (box_at k end i) box_fields (IsBox k end i)
-unfolding box_at
+pub box_law : (k end i : ℕ) → end < 2 ^ 32 → IsLineOf (box_row_at k end i) box_fields (IsBox k end i)
+unfolding box_row_at
 box_law k end i small = record { takes = takes; again = again; clean = clean }
   where
-    takes : (line : Line) (r : Row) → box_at k end i line ≡ Ok r → (line ≡ box_fields r) × IsBox k end i r
+    takes : (line : Line) (r : Row) → box_row_at k end i line ≡ Ok r → (line ≡ box_fields r) × IsBox k end i r
     takes line r e =
         on_ok _ _ r e (λ rest hr e.
         on_ok _ _ r e (λ b hb e.
@@ -50,7 +50,7 @@ box_law k end i small = record { takes = takes; again = again; clean = clean }
           record { coefs = refl; bound = tb.1; shares = ts.1 },
         )))))
 
-    again : (r : Row) → IsBox k end i r → box_at k end i (box_fields r) ≡ Ok r
+    again : (r : Row) → IsBox k end i r → box_row_at k end i (box_fields r) ≡ Ok r
     again r h =
         let shares : shares_at end (share_fields r.shares) ≡ Ok (r.shares, []) = ap (shares_at end) (sym (append-nil (share_fields r.shares))) ∙ (shares_law end small).again r.shares [] h.shares in
         rw (word_again (codes "box") (interval_fields r.bound ++ share_fields r.shares), interval_again r.bound (share_fields r.shares) h.bound, shares) (ap (λ c. Ok (record { coefs = c; bound = r.bound; shares = r.shares })) (sym h.coefs))

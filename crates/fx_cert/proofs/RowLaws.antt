@@ -16,7 +16,7 @@ use Rattle.fx_text.specs.Spelling.{IsOneSpelling}
 use Rattle.fx_text.proofs.Choices.{on_ok}
 use Rattle.fx_text.proofs.DyadicLaws.{All-from_each, each-from_All}
 use Rattle.fx_text.proofs.LinesLaws.{following, lines_spelling}
-use Rattle.fx_cert.specs.LineReading.{box_at, row_at}
+use Rattle.fx_cert.specs.LineReading.{box_row_at, row_at}
 use Rattle.fx_cert.specs.CertificateReading.{rows_at}
 use Rattle.fx_cert.proofs.NodeLines.{IsBox, box_law, row_law}
 
@@ -73,8 +73,8 @@ parts : (k : ℕ) (boxes others : List Row) → length boxes ≡ k → rows_text
 parts k boxes others e =
     subst (λ k. rows_text k (boxes ++ others) ≡ flat_map (λ r. line_text (box_fields r)) boxes ++ flat_map (λ r. line_text (row_fields r)) others) e (rw (take-append_seam boxes others, drop-append_seam boxes others) refl)
 
-boxes_law : (k end n : ℕ) → end < 2 ^ 32 → IsOneSpelling (lines_by (box_at k end) n k) (flat_map (λ r. line_text (box_fields r))) (λ rs. (length rs ≡ k) × AreEach (IsBox k end) following 0 rs)
-boxes_law k end n small = lines_spelling (box_at k end) box_fields (IsBox k end) (λ i. box_law k end i small) n k
+boxes_law : (k end n : ℕ) → end < 2 ^ 32 → IsOneSpelling (lines_by (box_row_at k end) n k) (flat_map (λ r. line_text (box_fields r))) (λ rs. (length rs ≡ k) × AreEach (IsBox k end) following 0 rs)
+boxes_law k end n small = lines_spelling (box_row_at k end) box_fields (IsBox k end) (λ i. box_law k end i small) n k
 
 others_law : (k end n count : ℕ) → end < 2 ^ 32 → IsOneSpelling (lines_by (λ _. row_at k end) n count) (flat_map (λ r. line_text (row_fields r))) (λ rs. (length rs ≡ count) × AreEach (λ _ r. IsWrittenRow k end r) following 0 rs)
 others_law k end n count small = lines_spelling (λ _. row_at k end) row_fields (λ _ r. IsWrittenRow k end r) (λ _. row_law k end small) n count

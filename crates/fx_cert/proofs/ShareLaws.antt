@@ -23,7 +23,7 @@ use Rattle.fx_text.proofs.FieldLaws.{done, field_is, known_is}
 use Rattle.fx_text.proofs.ManyLaws.{HasOneSpelling, many_takes, many_again}
 use Rattle.fx_text.proofs.LineLaws.{IsField-decimal, decimal-lacks}
 use Rattle.fx_text.proofs.DyadicLaws.{IsField-dyadic_text}
-use Rattle.fx_cert.specs.FieldReading.{size_at, share_at, above, shares_at, is_minus, no_shares_at, some_shares_at, by_at}
+use Rattle.fx_cert.specs.FieldReading.{size_at, share_at, above, shares_at, is_dash, no_shares_at, some_shares_at, by_at}
 use Rattle.fx_cert.proofs.Shares.{IsShare, share_takes, share_again, sized}
 
 -- ---- a count
@@ -99,11 +99,11 @@ pub by_law : (end : ℕ) → end < 2 ^ 32 → IsOneSpelling (by_at end) by_field
 unfolding by_at no_shares_at some_shares_at
 by_law end small = record { takes = takes; again = again }
   where
-    none_takes : (line : Line) (x : Option (List Share) × Line) → is_minus line ≡ true → no_shares_at line ≡ Ok x → (line ≡ by_fields x.0 ++ x.1) × AreSharesIfAny end x.0
+    none_takes : (line : Line) (x : Option (List Share) × Line) → is_dash line ≡ true → no_shares_at line ≡ Ok x → (line ≡ by_fields x.0 ++ x.1) × AreSharesIfAny end x.0
     none_takes line x h e =
         on_ok _ _ x e (λ f hf e.
         let l = field_is line f hf in
-        let is = (bytes_eq-Decides f.0 (codes "-")).0 (subst (λ l. is_minus l ≡ true) l h) in
+        let is = (bytes_eq-Decides f.0 (codes "-")).0 (subst (λ l. is_dash l ≡ true) l h) in
         let made : (None, f.1) ≡ x = cc in
         subst (λ (y : Option (List Share) × Line). (line ≡ by_fields y.0 ++ y.1) × AreSharesIfAny end y.0) made (l ∙ ap (λ g. g ∷ f.1) is, tt))
 
@@ -116,7 +116,7 @@ by_law end small = record { takes = takes; again = again }
 
     takes : (line : Line) (x : Option (List Share) × Line) → by_at end line ≡ Ok x → (line ≡ by_fields x.0 ++ x.1) × AreSharesIfAny end x.0
     takes line x e =
-        elim (chosen (is_minus line) (no_shares_at line) (some_shares_at end line) (Ok x) e) [
+        elim (chosen (is_dash line) (no_shares_at line) (some_shares_at end line) (Ok x) e) [
           | inl h ↦ none_takes line x h.0 h.1
           | inr h ↦ some_takes line x h.1
         ]

@@ -6,11 +6,11 @@ use Rattle.fx_text.specs.declared.fault.TextKind.{TextKind}
 use Rattle.fx_text.specs.declared.fault.TextKind.TheVariants.{Extra}
 use Rattle.fx_text.specs.declared.fault.TextFault.{TextFault}
 use Rattle.fx_text.specs.Numbers.{whole_of, integer_of, dyadic_of}
-use Rattle.fx_text.specs.Reading.{word_at, number_at, place_at, count_at, dyadic_at, interval_at}
+use Rattle.fx_text.specs.Reading.{keyword_at, number_at, place_at, count_at, dyadic_at, interval_at}
 use Rattle.fx_text.specs.Lines.{fields_at, line_by, text_ended_at}
 use Rattle.fx_text.specs.Many.{many, numbered_line, lines_by}
 use Rattle.fx_cert.specs.FieldReading.{size_at, share_at, shares_at, some_shares_at, no_shares_at, by_at, known_turns, known_path, path_at}
-use Rattle.fx_cert.specs.LineReading.{headline_at, sizes_at, step_count_at, step_at, start_at, row_counts_at, box_at, row_at, plain_at, form_at, formed_at, node_at}
+use Rattle.fx_cert.specs.LineReading.{certificate_headline_at, certificate_sizes_at, step_count_at, step_at, start_at, row_counts_at, box_row_at, row_at, plain_at, form_at, formed_at, node_at}
 use Rattle.fx_cert.specs.CertificateReading.{rows_at, steps_at, all_rows_at, certificate_at, certificate_in}
 
 abbrev iv : ℤ → ℕ → ℤ → ℕ → Interval
@@ -54,9 +54,9 @@ told = record {
 }
 
 told_is : certificate_in text ≡ Ok told
-unfolding whole_of integer_of dyadic_of word_at number_at place_at count_at dyadic_at interval_at fields_at line_by text_ended_at many numbered_line lines_by size_at share_at shares_at some_shares_at no_shares_at by_at known_turns known_path path_at headline_at sizes_at step_count_at step_at start_at row_counts_at box_at row_at plain_at form_at formed_at node_at rows_at steps_at all_rows_at certificate_at certificate_in
+unfolding whole_of integer_of dyadic_of keyword_at number_at place_at count_at dyadic_at interval_at fields_at line_by text_ended_at many numbered_line lines_by size_at share_at shares_at some_shares_at no_shares_at by_at known_turns known_path path_at certificate_headline_at certificate_sizes_at step_count_at step_at start_at row_counts_at box_row_at row_at plain_at form_at formed_at node_at rows_at steps_at all_rows_at certificate_at certificate_in
 told_is = refl
 
 more_behind : certificate_in (text ++ codes "\n") ≡ fault 13 Extra
-unfolding whole_of integer_of dyadic_of word_at number_at place_at count_at dyadic_at interval_at fields_at line_by text_ended_at many numbered_line lines_by size_at share_at shares_at some_shares_at no_shares_at by_at known_turns known_path path_at headline_at sizes_at step_count_at step_at start_at row_counts_at box_at row_at plain_at form_at formed_at node_at rows_at steps_at all_rows_at certificate_at certificate_in
+unfolding whole_of integer_of dyadic_of keyword_at number_at place_at count_at dyadic_at interval_at fields_at line_by text_ended_at many numbered_line lines_by size_at share_at shares_at some_shares_at no_shares_at by_at known_turns known_path path_at certificate_headline_at certificate_sizes_at step_count_at step_at start_at row_counts_at box_row_at row_at plain_at form_at formed_at node_at rows_at steps_at all_rows_at certificate_at certificate_in
 more_behind = refl

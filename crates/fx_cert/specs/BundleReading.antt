@@ -10,7 +10,7 @@ use Rattle.fx_text.specs.declared.fault.TextKind.TheVariants.{Section}
 use Rattle.fx_text.specs.declared.fault.TextFault.{TextFault}
 use Rattle.fx_text.specs.Faults.{fault_at}
 use Rattle.fx_text.specs.Cutting.{Line, fields_of, line_at}
-use Rattle.fx_text.specs.Reading.{◌>>=◌, word_at, count_at, ended_at}
+use Rattle.fx_text.specs.Reading.{◌>>=◌, keyword_at, count_at, ended_at}
 use Rattle.fx_text.specs.Lines.{on_line, text_ended_at}
 use Rattle.fx_program.specs.ProgramReading.{program_at}
 use Rattle.fx_cert.specs.BundleView.{Parts}
@@ -36,7 +36,7 @@ in_section (Err kind) = Err Section
 -- source COUNT, of which the first field names the section
 unfoldable pub source_count_at : Line → Result ℕ TextKind
 source_count_at line = do
-  rest ← in_section (word_at (codes "source") line)
+  rest ← in_section (keyword_at (codes "source") line)
   count ← count_at 0 source_limit rest
   _ ← ended_at count.1
   Ok count.0
@@ -83,8 +83,8 @@ certificate_section_at n text = do
   certificate_at (n + 1) rest
 
 -- both, and the last line
-unfoldable pub body_at : ℕ → List ℕ → Result ((Program × Certificate) × List ℕ) TextFault
-body_at n text = do
+unfoldable pub bundle_body_at : ℕ → List ℕ → Result ((Program × Certificate) × List ℕ) TextFault
+bundle_body_at n text = do
   p ← program_section_at n text
   c ← certificate_section_at (n + program_lines p.0) p.1
   rest ← section_at (codes "end") (n + program_lines p.0 + proof_lines c.0) c.1
@@ -95,7 +95,7 @@ unfoldable pub bundle_at : List ℕ → Result (Parts × List ℕ) TextFault
 bundle_at text = do
   head ← section_at (codes "fixd bundle 1") 1 text
   source ← counted_source_at 2 head
-  body ← body_at (3 + source_lines source.0) source.1
+  body ← bundle_body_at (3 + source_lines source.0) source.1
   Ok (record { source = source.0; program = body.0.0; certificate = body.0.1 }, body.1)
 
 -- how many lines a bundle's text has

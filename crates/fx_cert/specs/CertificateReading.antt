@@ -6,12 +6,12 @@ use Rattle.fx_text.specs.declared.fault.TextFault.{TextFault}
 use Rattle.fx_text.specs.Reading.{◌>>=◌}
 use Rattle.fx_text.specs.Lines.{line_by, text_ended_at}
 use Rattle.fx_text.specs.Many.{lines_by, with_front}
-use Rattle.fx_cert.specs.LineReading.{headline_at, sizes_at, step_count_at, step_at, start_at, row_counts_at, box_at, row_at, node_at}
+use Rattle.fx_cert.specs.LineReading.{certificate_headline_at, certificate_sizes_at, step_count_at, step_at, start_at, row_counts_at, box_row_at, row_at, node_at}
 
 -- so many rows over k states from line n on: a box for each state, and then the further rows
 unfoldable pub rows_at : ℕ → ℕ → ℕ → List ℕ → Result (List Row × List ℕ) TextFault
 rows_at n k count text = do
-  boxes ← lines_by (box_at k count) n k text
+  boxes ← lines_by (box_row_at k count) n k text
   with_front boxes.0 (lines_by (λ _. row_at k count) (n + k) (count - k) boxes.1)
 
 -- the count of steps, and the steps
@@ -31,8 +31,8 @@ all_rows_at n k text = do
 -- a certificate from line n on, and the text behind it
 unfoldable pub certificate_at : ℕ → List ℕ → Result (Certificate × List ℕ) TextFault
 certificate_at n text = do
-  head ← line_by headline_at n text
-  sizes ← line_by sizes_at (n + 1) head.1
+  head ← line_by certificate_headline_at n text
+  sizes ← line_by certificate_sizes_at (n + 1) head.1
   let i = sizes.0.inputs
   let k = sizes.0.states
   steps ← steps_at (n + 2) sizes.1

@@ -6,15 +6,15 @@ use Rattle.fx_cert.specs.declared.read_line.Sizes.{Sizes}
 use Rattle.fx_cert.specs.declared.read_line.RowCounts.{RowCounts}
 
 -- the counts of inputs, states and nodes
-abbrev pub sizes_of : Sizes → reading.Sizes
-sizes_of s = record { inputs = s.inputs; states = s.states; count = s.count }
+abbrev pub certificate_sizes_of : Sizes → reading.CertificateSizes
+certificate_sizes_of s = record { inputs = s.inputs; states = s.states; count = s.count }
 
 -- those of rows and error rows
 abbrev pub row_counts_of : RowCounts → reading.RowCounts
 row_counts_of s = record { rows = s.rows; error_rows = s.error_rows }
 
 -- within their limits
-pub record AreSizes (s : reading.Sizes) : Type 0 where
+pub record AreCertificateSizes (s : reading.CertificateSizes) : Type 0 where
   pub some_input : 1 ≤ s.inputs
   pub inputs : s.inputs ≤ input_limit
   pub states : s.states ≤ state_limit

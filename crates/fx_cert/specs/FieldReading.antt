@@ -56,9 +56,9 @@ some_shares_at end line = do
   Ok (Some shares.0, shares.1)
 
 -- the next field is a minus
-abbrev pub is_minus : Line → Bool
-is_minus [] = false
-is_minus (field ∷ line) = bytes_eq field (codes "-")
+abbrev pub is_dash : Line → Bool
+is_dash [] = false
+is_dash (field ∷ line) = bytes_eq field (codes "-")
 
 -- a minus
 unfoldable pub no_shares_at : Line → Result (Option (List Share) × Line) TextKind
@@ -68,7 +68,7 @@ no_shares_at line = do
 
 -- a minus, or shares
 unfoldable pub by_at : ℕ → Line → Result (Option (List Share) × Line) TextKind
-by_at end line = if is_minus line then no_shares_at line else some_shares_at end line
+by_at end line = if is_dash line then no_shares_at line else some_shares_at end line
 
 -- ---- a path
 -- digits 0 and 1

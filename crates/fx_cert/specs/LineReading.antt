@@ -8,12 +8,12 @@ use Rattle.fx_inequalities.specs.LawfulCertificate.{unit_vector}
 use Rattle.fx_text.specs.declared.fault.TextKind.{TextKind}
 use Rattle.fx_text.specs.declared.fault.TextKind.TheVariants.{BadLine}
 use Rattle.fx_text.specs.Cutting.{Line}
-use Rattle.fx_text.specs.Reading.{◌>>=◌, field_at, word_at, number_at, place_at, count_at, dyadic_at, interval_at, ended_at}
+use Rattle.fx_text.specs.Reading.{◌>>=◌, field_at, keyword_at, number_at, place_at, count_at, dyadic_at, interval_at, ended_at}
 use Rattle.fx_text.specs.Many.{dyadics_at}
 use Rattle.fx_cert.specs.FieldReading.{shares_at, by_at, path_at}
 
 -- the counts that the second line names: inputs, states and nodes
-pub record Sizes : Type 0 where
+pub record CertificateSizes : Type 0 where
   pub inputs : ℕ
   pub states : ℕ
   pub count : ℕ
@@ -24,18 +24,18 @@ pub record RowCounts : Type 0 where
   pub error_rows : ℕ
 
 -- fixd certificate 1
-unfoldable pub headline_at : Line → Result (Unit {0}) TextKind
-headline_at line = do
-  fixd ← word_at (codes "fixd") line
-  certificate ← word_at (codes "certificate") fixd
-  version ← word_at (codes "1") certificate
+unfoldable pub certificate_headline_at : Line → Result (Unit {0}) TextKind
+certificate_headline_at line = do
+  fixd ← keyword_at (codes "fixd") line
+  certificate ← keyword_at (codes "certificate") fixd
+  version ← keyword_at (codes "1") certificate
   _ ← ended_at version
   Ok tt
 
 -- sizes I K n
-unfoldable pub sizes_at : Line → Result Sizes TextKind
-sizes_at line = do
-  rest ← word_at (codes "sizes") line
+unfoldable pub certificate_sizes_at : Line → Result CertificateSizes TextKind
+certificate_sizes_at line = do
+  rest ← keyword_at (codes "sizes") line
   i ← count_at 1 input_limit rest
   k ← count_at 0 state_limit i.1
   n ← count_at (i.0 + k.0) node_limit k.1
@@ -45,7 +45,7 @@ sizes_at line = do
 -- steps S
 unfoldable pub step_count_at : Line → Result ℕ TextKind
 step_count_at line = do
-  rest ← word_at (codes "steps") line
+  rest ← keyword_at (codes "steps") line
   count ← count_at 0 step_limit rest
   _ ← ended_at count.1
   Ok count.0
@@ -53,7 +53,7 @@ step_count_at line = do
 -- step PLACE PATH RULE
 unfoldable pub step_at : Line → Result Rewriting TextKind
 step_at line = do
-  rest ← word_at (codes "step") line
+  rest ← keyword_at (codes "step") line
   place ← place_at place_end rest
   path ← path_at place.1
   rule ← number_at (pos 1) (pos rule_count) path.1
@@ -63,7 +63,7 @@ step_at line = do
 -- start LO HI ELO EHI
 unfoldable pub start_at : Line → Result StartBox TextKind
 start_at line = do
-  rest ← word_at (codes "start") line
+  rest ← keyword_at (codes "start") line
   range ← interval_at rest
   error ← interval_at range.1
   _ ← ended_at error.1
@@ -72,16 +72,16 @@ start_at line = do
 -- rows R E, at least one of either for each of k states
 unfoldable pub row_counts_at : ℕ → Line → Result RowCounts TextKind
 row_counts_at k line = do
-  rest ← word_at (codes "rows") line
+  rest ← keyword_at (codes "rows") line
   r ← count_at k row_limit rest
   e ← count_at k row_limit r.1
   _ ← ended_at e.1
   Ok (record { rows = r.0; error_rows = e.0 })
 
 -- box LO HI SHARES, the unit row i of k, among rows up to the end
-unfoldable pub box_at : ℕ → ℕ → ℕ → Line → Result Row TextKind
-box_at k end i line = do
-  rest ← word_at (codes "box") line
+unfoldable pub box_row_at : ℕ → ℕ → ℕ → Line → Result Row TextKind
+box_row_at k end i line = do
+  rest ← keyword_at (codes "box") line
   bound ← interval_at rest
   shares ← shares_at end bound.1
   _ ← ended_at shares.1
@@ -90,7 +90,7 @@ box_at k end i line = do
 -- row C1 to CK LO HI SHARES
 unfoldable pub row_at : ℕ → ℕ → Line → Result Row TextKind
 row_at k end line = do
-  rest ← word_at (codes "row") line
+  rest ← keyword_at (codes "row") line
   coefs ← dyadics_at k rest
   bound ← interval_at coefs.1
   shares ← shares_at end bound.1

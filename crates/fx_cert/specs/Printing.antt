@@ -16,8 +16,8 @@ abbrev pub printed_step : Rewriting → Rewriting
 printed_step s = record { place = s.place; path = map (λ d. min d 1) s.path; rule = s.rule }
 
 -- a certificate as it is printed, which is the same where it is lawful
-abbrev pub printed : Certificate → Certificate
-printed c = record { inputs = c.inputs; states = c.states; steps = map printed_step c.steps; starts = c.starts; rows = c.rows; error_rows = c.error_rows; lines = c.lines }
+abbrev pub as_printed : Certificate → Certificate
+as_printed c = record { inputs = c.inputs; states = c.states; steps = map printed_step c.steps; starts = c.starts; rows = c.rows; error_rows = c.error_rows; lines = c.lines }
 
 -- the text down to the starts, and from the rows on
 abbrev pub front_text : Certificate → List ℕ

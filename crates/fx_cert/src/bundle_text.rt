@@ -11,7 +11,7 @@ ghost use Rattle.fx_text.specs.Lines.{Gives};
 ghost use Rattle.fx_inequalities.specs.LawfulCertificate.{IsLawfulCertificate};
 ghost use Rattle.fx_cert.specs.BundleView.{bundle_of, IsLawfulBundle};
 ghost use Rattle.fx_cert.specs.CertificateView.{certificate_of};
-ghost use Rattle.fx_cert.specs.BundleReading.{section_at, source_count_at, source_line, source_at, source_lines, counted_source_at, program_lines, proof_lines, program_section_at, certificate_section_at, body_at, bundle_at, bundle_in};
+ghost use Rattle.fx_cert.specs.BundleReading.{section_at, source_count_at, source_line, source_at, source_lines, counted_source_at, program_lines, proof_lines, program_section_at, certificate_section_at, bundle_body_at, bundle_at, bundle_in};
 
 use crate::bundle::Bundle;
 use crate::certificate::Certificate;
@@ -150,7 +150,7 @@ fn body_at<'a>(
     text: &'a [u8],
 ) -> Result<(Program, Certificate, u32, &'a [u8]), TextFault>
     requires { line ≤ 2 ^ 24 }
-    ensures value { Gives (λ x. ((x.0, certificate_of x.1), x.3.now)) result (body_at line text.now) }
+    ensures value { Gives (λ x. ((x.0, certificate_of x.1), x.3.now)) result (bundle_body_at line text.now) }
     ensures line { IfOk result (λ x. x.2 ≡ 1 + (line + program_lines x.0 + proof_lines (certificate_of x.1))) }
 {
     let (program, rest) = program_section(alloc, line, text)?;

@@ -11,9 +11,9 @@ ghost use Rattle.fx_model.specs.Limits.{source_limit};
 ghost use Rattle.fx_model.specs.LineText.{line_text};
 ghost use Rattle.fx_inequalities.specs.CertificateText.{step_fields, start_fields, box_fields, row_fields, node_fields, rows_text, certificate_text, bundle_text};
 ghost use Rattle.fx_inequalities.specs.LawfulCertificate.{IsLawfulCertificate};
-ghost use Rattle.fx_rewrite.specs.StepView.{step_of};
-ghost use Rattle.fx_cert.specs.CertificateView.{box_of, row_of, rows_in, form_of, line_of, certificate_of};
-ghost use Rattle.fx_cert.specs.Printing.{printed, printed_step, front_text, back_text, source_front};
+ghost use Rattle.fx_rewrite.specs.StepView.{step_view};
+ghost use Rattle.fx_cert.specs.CertificateView.{box_of, row_view, rows_in, form_view, line_view, certificate_of};
+ghost use Rattle.fx_cert.specs.Printing.{as_printed, printed_step, front_text, back_text, source_front};
 
 use crate::certificate::{Certificate, NodeLine, Row, StartBox};
 use crate::print_line::{put_box, put_node, put_row, put_start, put_step};
@@ -63,7 +63,7 @@ fn put_three<A: Integer, B: Integer, C: Integer>(
 }
 
 fn put_steps(out: &mut Vec<u8>, steps: &[Step]) -> Result<(), AllocError>
-    ensures { OnOk result (out.new.items ≡ out.old.items ++ flat_map (λ s. line_text (step_fields (printed_step (step_of s)))) steps.now) }
+    ensures { OnOk result (out.new.items ≡ out.old.items ++ flat_map (λ s. line_text (step_fields (printed_step (step_view s)))) steps.now) }
 {
     for step in steps {
         put_step(out, step)?;
@@ -81,7 +81,7 @@ fn put_starts(out: &mut Vec<u8>, starts: &[StartBox]) -> Result<(), AllocError>
 }
 
 fn put_boxes(out: &mut Vec<u8>, rows: &[Row]) -> Result<(), AllocError>
-    ensures { OnOk result (out.new.items ≡ out.old.items ++ flat_map (λ r. line_text (box_fields (row_of r))) rows.now) }
+    ensures { OnOk result (out.new.items ≡ out.old.items ++ flat_map (λ r. line_text (box_fields (row_view r))) rows.now) }
 {
     for row in rows {
         put_box(out, row)?;
@@ -90,7 +90,7 @@ fn put_boxes(out: &mut Vec<u8>, rows: &[Row]) -> Result<(), AllocError>
 }
 
 fn put_others(out: &mut Vec<u8>, rows: &[Row]) -> Result<(), AllocError>
-    ensures { OnOk result (out.new.items ≡ out.old.items ++ flat_map (λ r. line_text (row_fields (row_of r))) rows.now) }
+    ensures { OnOk result (out.new.items ≡ out.old.items ++ flat_map (λ r. line_text (row_fields (row_view r))) rows.now) }
 {
     for row in rows {
         put_row(out, row)?;
@@ -99,7 +99,7 @@ fn put_others(out: &mut Vec<u8>, rows: &[Row]) -> Result<(), AllocError>
 }
 
 fn put_nodes(out: &mut Vec<u8>, lines: &[NodeLine]) -> Result<(), AllocError>
-    ensures { OnOk result (out.new.items ≡ out.old.items ++ flat_map (λ l. line_text (node_fields (line_of l) (option_map form_of l.form))) lines.now) }
+    ensures { OnOk result (out.new.items ≡ out.old.items ++ flat_map (λ l. line_text (node_fields (line_view l) (option_map form_view l.form))) lines.now) }
 {
     for line in lines {
         put_node(out, line)?;
@@ -119,7 +119,7 @@ fn put_rows(out: &mut Vec<u8>, states: u32, rows: &[Row]) -> Result<(), AllocErr
 
 /// The lines down to the starts.
 fn put_front(out: &mut Vec<u8>, certificate: &Certificate) -> Result<(), AllocError>
-    ensures { OnOk result (out.new.items ≡ out.old.items ++ front_text (printed (certificate_of certificate.now))) }
+    ensures { OnOk result (out.new.items ≡ out.old.items ++ front_text (as_printed (certificate_of certificate.now))) }
 {
     let node_count = certificate.lines.len();
     let step_count = certificate.steps.len();
@@ -139,7 +139,7 @@ fn put_front(out: &mut Vec<u8>, certificate: &Certificate) -> Result<(), AllocEr
 
 /// The lines from the rows on.
 fn put_back(out: &mut Vec<u8>, certificate: &Certificate) -> Result<(), AllocError>
-    ensures { OnOk result (out.new.items ≡ out.old.items ++ back_text (printed (certificate_of certificate.now))) }
+    ensures { OnOk result (out.new.items ≡ out.old.items ++ back_text (as_printed (certificate_of certificate.now))) }
 {
     let row_count = certificate.rows.len();
     let error_count = certificate.error_rows.len();
@@ -152,7 +152,7 @@ fn put_back(out: &mut Vec<u8>, certificate: &Certificate) -> Result<(), AllocErr
 
 /// The text of the certificate, behind what was written before.
 fn put_certificate(out: &mut Vec<u8>, certificate: &Certificate) -> Result<(), AllocError>
-    ensures { OnOk result (out.new.items ≡ out.old.items ++ certificate_text (printed (certificate_of certificate.now))) }
+    ensures { OnOk result (out.new.items ≡ out.old.items ++ certificate_text (as_printed (certificate_of certificate.now))) }
 {
     put_front(out, certificate)?;
     put_back(out, certificate)?;
@@ -160,7 +160,7 @@ fn put_certificate(out: &mut Vec<u8>, certificate: &Certificate) -> Result<(), A
 }
 
 fn text_of(alloc: Global, certificate: &Certificate) -> Result<Vec<u8>, AllocError>
-    ensures { IfOk result (λ text. text.items ≡ certificate_text (printed (certificate_of certificate.now))) }
+    ensures { IfOk result (λ text. text.items ≡ certificate_text (as_printed (certificate_of certificate.now))) }
 {
     let mut out = Vec::new(alloc);
     put_certificate(&mut out, certificate)?;
@@ -196,7 +196,7 @@ fn put_bundle(
     program: &Program,
     certificate: &Certificate,
 ) -> Result<(), AllocError>
-    ensures { OnOk result (out.new.items ≡ out.old.items ++ bundle_text source.now program.now (printed (certificate_of certificate.now))) }
+    ensures { OnOk result (out.new.items ≡ out.old.items ++ bundle_text source.now program.now (as_printed (certificate_of certificate.now))) }
 {
     put_source(out, source)?;
     put_program(out, program)?;
@@ -212,7 +212,7 @@ fn bundle_text_of(
     program: &Program,
     certificate: &Certificate,
 ) -> Result<Vec<u8>, AllocError>
-    ensures { IfOk result (λ text. text.items ≡ bundle_text source.now program.now (printed (certificate_of certificate.now))) }
+    ensures { IfOk result (λ text. text.items ≡ bundle_text source.now program.now (as_printed (certificate_of certificate.now))) }
 {
     let mut out = Vec::new(alloc);
     put_bundle(&mut out, source, program, certificate)?;

@@ -5,14 +5,14 @@
 
 ghost use Rattle.std.specs.Prelude.{◌≡◌, ◌≤◌, ◌<◌, ◌^◌, ◌+◌, ◌-◌, map, length, IfOk};
 ghost use Rattle.fx_model.specs.Limits.{input_limit, state_limit, node_limit, step_limit, row_limit};
-ghost use Rattle.fx_rewrite.specs.StepView.{step_of};
+ghost use Rattle.fx_rewrite.specs.StepView.{step_view};
 ghost use Rattle.fx_inequalities.specs.LawfulCertificate.{IsLawfulCertificate};
 ghost use Rattle.fx_text.specs.Reading.{ReadsAll};
 ghost use Rattle.fx_text.specs.Lines.{line_by, Gives};
 ghost use Rattle.fx_text.specs.Many.{numbered_line, lines_by, with_front};
-ghost use Rattle.fx_cert.specs.CertificateView.{box_of, boxes_in, row_of, rows_in, line_of, lines_in, certificate_of};
-ghost use Rattle.fx_cert.specs.CountsView.{sizes_of, row_counts_of, AreSizes, AreRowCounts};
-ghost use Rattle.fx_cert.specs.LineReading.{headline_at, sizes_at, step_count_at, step_at, start_at, row_counts_at, box_at, row_at, node_at};
+ghost use Rattle.fx_cert.specs.CertificateView.{box_of, boxes_in, row_view, rows_in, line_view, lines_view, certificate_of};
+ghost use Rattle.fx_cert.specs.CountsView.{certificate_sizes_of, row_counts_of, AreCertificateSizes, AreRowCounts};
+ghost use Rattle.fx_cert.specs.LineReading.{certificate_headline_at, certificate_sizes_at, step_count_at, step_at, start_at, row_counts_at, box_row_at, row_at, node_at};
 ghost use Rattle.fx_cert.specs.CertificateReading.{rows_at, steps_at, all_rows_at, certificate_at, certificate_lines, certificate_in};
 
 use crate::certificate::{Certificate, NodeLine, Row, StartBox};
@@ -28,7 +28,7 @@ use std::alloc::Global;
 /// The first line, and the text behind it.
 #[tactic(auto, unfolding(fx_text::specs::Lines::line_by))]
 fn headline_line(line: u32, text: &[u8]) -> Result<&[u8], TextFault>
-    ensures { ReadsAll (λ rest. (tt, rest.now)) result (line_by headline_at line text.now) }
+    ensures { ReadsAll (λ rest. (tt, rest.now)) result (line_by certificate_headline_at line text.now) }
 {
     let (mut fields, rest) = fields_at(line, text)?;
     read_headline(&mut fields).map_err(|kind| TextFault::at(line, kind))?;
@@ -37,8 +37,8 @@ fn headline_line(line: u32, text: &[u8]) -> Result<&[u8], TextFault>
 
 #[tactic(auto, unfolding(fx_text::specs::Lines::line_by))]
 fn sizes_line(line: u32, text: &[u8]) -> Result<(Sizes, &[u8]), TextFault>
-    ensures value { ReadsAll (λ x. (sizes_of x.0, x.1.now)) result (line_by sizes_at line text.now) }
-    ensures range { IfOk result (λ x. AreSizes (sizes_of x.0)) }
+    ensures value { ReadsAll (λ x. (certificate_sizes_of x.0, x.1.now)) result (line_by certificate_sizes_at line text.now) }
+    ensures range { IfOk result (λ x. AreCertificateSizes (certificate_sizes_of x.0)) }
 {
     let (mut fields, rest) = fields_at(line, text)?;
     let sizes = read_sizes(&mut fields).map_err(|kind| TextFault::at(line, kind))?;
@@ -74,7 +74,7 @@ fn step_line<'a>(
 ) -> Result<(Step, &'a [u8]), TextFault>
     requires first { first ≤ 2 ^ 30 }
     requires place { i < step_limit }
-    ensures { Gives (λ x. (step_of x.0, x.1.now)) result (numbered_line (λ _. step_at) first i text.now) }
+    ensures { Gives (λ x. (step_view x.0, x.1.now)) result (numbered_line (λ _. step_at) first i text.now) }
 {
     let line = first + i;
     let (mut fields, rest) = fields_at(line, text)?;
@@ -91,7 +91,7 @@ fn steps_in<'a>(
 ) -> Result<(Vec<Step>, &'a [u8]), TextFault>
     requires first { first ≤ 2 ^ 30 }
     requires count { count ≤ step_limit }
-    ensures value { Gives (λ x. (map step_of x.0.items, x.1.now)) result (lines_by (λ _. step_at) first count text.now) }
+    ensures value { Gives (λ x. (map step_view x.0.items, x.1.now)) result (lines_by (λ _. step_at) first count text.now) }
     ensures count { IfOk result (λ x. length x.0.items ≡ count) }
 {
     let mut found = Vec::new(alloc);
@@ -155,7 +155,7 @@ fn box_line<'a>(
     requires states { states ≤ state_limit }
     requires end { end ≤ row_limit }
     requires place { i < states }
-    ensures { Gives (λ x. (row_of x.0, x.1.now)) result (numbered_line (box_at states end) first i text.now) }
+    ensures { Gives (λ x. (row_view x.0, x.1.now)) result (numbered_line (box_row_at states end) first i text.now) }
 {
     let line = first + i;
     let (mut fields, rest) = fields_at(line, text)?;
@@ -176,7 +176,7 @@ fn boxes_in<'a>(
     requires first { first ≤ 2 ^ 30 }
     requires states { states ≤ state_limit }
     requires end { end ≤ row_limit }
-    ensures value { Gives (λ x. (rows_in x.0.items, x.1.now)) result (lines_by (box_at states end) first states text.now) }
+    ensures value { Gives (λ x. (rows_in x.0.items, x.1.now)) result (lines_by (box_row_at states end) first states text.now) }
     ensures count { IfOk result (λ x. length x.0.items ≡ states) }
 {
     let mut found = Vec::new(alloc);
@@ -201,7 +201,7 @@ fn row_line<'a>(
     requires first { first ≤ 2 ^ 30 }
     requires end { end ≤ row_limit }
     requires place { i < end }
-    ensures { Gives (λ x. (row_of x.0, x.1.now)) result (numbered_line (λ _. row_at states end) first i text.now) }
+    ensures { Gives (λ x. (row_view x.0, x.1.now)) result (numbered_line (λ _. row_at states end) first i text.now) }
 {
     let line = first + i;
     let (mut fields, rest) = fields_at(line, text)?;
@@ -266,7 +266,7 @@ fn node_line<'a>(
     requires first { first ≤ 2 ^ 30 }
     requires counts { AreRowCounts 0 (row_counts_of counts) }
     requires place { i < node_limit }
-    ensures { Gives (λ x. (line_of x.0, x.1.now)) result (numbered_line (node_at variables counts.rows counts.error_rows) first i text.now) }
+    ensures { Gives (λ x. (line_view x.0, x.1.now)) result (numbered_line (node_at variables counts.rows counts.error_rows) first i text.now) }
 {
     let line = first + i;
     let (mut fields, rest) = fields_at(line, text)?;
@@ -288,7 +288,7 @@ fn nodes_in<'a>(
     requires first { first ≤ 2 ^ 30 }
     requires counts { AreRowCounts 0 (row_counts_of counts) }
     requires count { count ≤ node_limit }
-    ensures value { Gives (λ x. (lines_in x.0.items, x.1.now)) result (lines_by (node_at variables counts.rows counts.error_rows) first count text.now) }
+    ensures value { Gives (λ x. (lines_view x.0.items, x.1.now)) result (lines_by (node_at variables counts.rows counts.error_rows) first count text.now) }
     ensures count { IfOk result (λ x. length x.0.items ≡ count) }
 {
     let mut found = Vec::new(alloc);
@@ -309,7 +309,7 @@ fn steps_at<'a>(
     text: &'a [u8],
 ) -> Result<(Vec<Step>, &'a [u8]), TextFault>
     requires { line ≤ 2 ^ 29 + 2 }
-    ensures value { Gives (λ x. (map step_of x.0.items, x.1.now)) result (steps_at line text.now) }
+    ensures value { Gives (λ x. (map step_view x.0.items, x.1.now)) result (steps_at line text.now) }
     ensures count { IfOk result (λ x. length x.0.items ≤ step_limit) }
 {
     let (count, rest) = step_count_line(line, text)?;

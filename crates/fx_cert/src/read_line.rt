@@ -5,13 +5,13 @@
 
 ghost use Rattle.std.specs.Prelude.{◌≡◌, ◌<◌, ◌≤◌, ◌+◌, IfOk};
 ghost use Rattle.fx_model.specs.Limits.{state_limit, row_limit, step_limit};
-ghost use Rattle.fx_rewrite.specs.StepView.{step_of};
+ghost use Rattle.fx_rewrite.specs.StepView.{step_view};
 ghost use Rattle.fx_inequalities.specs.LawfulCertificate.{unit_vector};
 ghost use Rattle.fx_text.specs.Reading.{Reads, ReadsAll, interval_at};
 ghost use Rattle.fx_text.specs.Lines.{GivesLine};
-ghost use Rattle.fx_cert.specs.CertificateView.{box_of, row_of, form_of, line_of};
-ghost use Rattle.fx_cert.specs.CountsView.{sizes_of, row_counts_of, AreSizes, AreRowCounts};
-ghost use Rattle.fx_cert.specs.LineReading.{headline_at, sizes_at, step_count_at, step_at, start_at, row_counts_at, box_at, row_at, plain_at, form_at, formed_at, node_at};
+ghost use Rattle.fx_cert.specs.CertificateView.{box_of, row_view, form_view, line_view};
+ghost use Rattle.fx_cert.specs.CountsView.{certificate_sizes_of, row_counts_of, AreCertificateSizes, AreRowCounts};
+ghost use Rattle.fx_cert.specs.LineReading.{certificate_headline_at, certificate_sizes_at, step_count_at, step_at, start_at, row_counts_at, box_row_at, row_at, plain_at, form_at, formed_at, node_at};
 
 use crate::certificate::{Form, NodeLine, Row, StartBox};
 use crate::limit::{PLACE_END, ROW_LIMIT, RULE_COUNT, STEP_LIMIT};
@@ -45,7 +45,7 @@ pub struct RowCounts {
 /// `fixd certificate 1`.
 #[tactic(auto, unfolding(crate::specs::LineReading::headline_at))]
 pub fn read_headline(fields: &mut Fields<'_>) -> Result<(), TextKind>
-    ensures { ReadsAll (λ _. tt) result (headline_at fields.old) }
+    ensures { ReadsAll (λ _. tt) result (certificate_headline_at fields.old) }
 {
     word(fields, b"fixd")?;
     word(fields, b"certificate")?;
@@ -56,8 +56,8 @@ pub fn read_headline(fields: &mut Fields<'_>) -> Result<(), TextKind>
 /// `sizes I K n`.
 #[tactic(auto, unfolding(crate::specs::LineReading::sizes_at))]
 pub fn read_sizes(fields: &mut Fields<'_>) -> Result<Sizes, TextKind>
-    ensures value { ReadsAll sizes_of result (sizes_at fields.old) }
-    ensures range { IfOk result (λ s. AreSizes (sizes_of s)) }
+    ensures value { ReadsAll certificate_sizes_of result (certificate_sizes_at fields.old) }
+    ensures range { IfOk result (λ s. AreCertificateSizes (certificate_sizes_of s)) }
 {
     word(fields, b"sizes")?;
     let inputs = count(fields, 1, INPUT_LIMIT)?;
@@ -86,7 +86,7 @@ pub fn read_step_count(fields: &mut Fields<'_>) -> Result<u32, TextKind>
 /// `step PLACE PATH RULE`.
 #[tactic(auto, unfolding(crate::specs::LineReading::step_at))]
 pub fn read_step(alloc: Global, fields: &mut Fields<'_>) -> Result<Step, TextKind>
-    ensures { GivesLine step_of result (step_at fields.old) }
+    ensures { GivesLine step_view result (step_at fields.old) }
 {
     word(fields, b"step")?;
     let place = place(fields, PLACE_END)?;
@@ -144,7 +144,7 @@ pub fn read_box(
     requires states { states ≤ state_limit }
     requires end { end ≤ row_limit }
     requires place { i < states }
-    ensures { GivesLine row_of result (box_at states end i fields.old) }
+    ensures { GivesLine row_view result (box_row_at states end i fields.old) }
 {
     word(fields, b"box")?;
     let bound = interval(fields)?;
@@ -167,7 +167,7 @@ pub fn read_row(
     fields: &mut Fields<'_>,
 ) -> Result<Row, TextKind>
     requires { end ≤ row_limit }
-    ensures { GivesLine row_of result (row_at states end fields.old) }
+    ensures { GivesLine row_view result (row_at states end fields.old) }
 {
     word(fields, b"row")?;
     let coefs = Items::from_vec(dyadics(alloc, fields, states)?);
@@ -184,7 +184,7 @@ pub fn read_row(
 /// `LO HI ELO EHI` behind `plain`.
 #[tactic(auto, unfolding(crate::specs::LineReading::plain_at))]
 fn read_plain(fields: &mut Fields<'_>) -> Result<NodeLine, TextKind>
-    ensures { GivesLine line_of result (plain_at fields.old) }
+    ensures { GivesLine line_view result (plain_at fields.old) }
 {
     let range = interval(fields)?;
     let error = interval(fields)?;
@@ -205,7 +205,7 @@ fn read_form(
     fields: &mut Fields<'_>,
 ) -> Result<Form, TextKind>
     requires { AreRowCounts 0 (row_counts_of counts) }
-    ensures { GivesLine form_of result (form_at variables counts.rows counts.error_rows fields.old) }
+    ensures { GivesLine form_view result (form_at variables counts.rows counts.error_rows fields.old) }
 {
     let centre_a = dyadic(fields)?;
     let centre_b = dyadic(fields)?;
@@ -235,7 +235,7 @@ fn read_formed(
     fields: &mut Fields<'_>,
 ) -> Result<NodeLine, TextKind>
     requires { AreRowCounts 0 (row_counts_of counts) }
-    ensures { GivesLine line_of result (formed_at variables counts.rows counts.error_rows fields.old) }
+    ensures { GivesLine line_view result (formed_at variables counts.rows counts.error_rows fields.old) }
 {
     let range = interval(fields)?;
     let error = interval(fields)?;
@@ -257,7 +257,7 @@ pub fn read_node(
     fields: &mut Fields<'_>,
 ) -> Result<NodeLine, TextKind>
     requires { AreRowCounts 0 (row_counts_of counts) }
-    ensures { GivesLine line_of result (node_at variables counts.rows counts.error_rows n fields.old) }
+    ensures { GivesLine line_view result (node_at variables counts.rows counts.error_rows n fields.old) }
 {
     let kind = fields.next().ok_or(TextKind::BadLine)?;
     if kind == b"plain".as_slice() {

@@ -10,7 +10,7 @@ ghost use Rattle.fx_text.specs.Reading.{Reads};
 ghost use Rattle.fx_text.specs.Lines.{GivesFields};
 ghost use Rattle.fx_text.specs.Many.{many};
 ghost use Rattle.fx_cert.specs.CertificateView.{share_of, shares_of};
-ghost use Rattle.fx_cert.specs.FieldReading.{size_up_to, share_at, above, few_shares_at, shares_at, is_minus, no_shares_at, some_shares_at, by_at};
+ghost use Rattle.fx_cert.specs.FieldReading.{size_up_to, share_at, above, few_shares_at, shares_at, is_dash, no_shares_at, some_shares_at, by_at};
 
 use crate::certificate::Share;
 use fx_expr::Items;
@@ -86,7 +86,7 @@ pub fn shares(alloc: Global, fields: &mut Fields<'_>, end: u32) -> Result<Items<
 }
 
 fn is_minus(fields: &Fields<'_>) -> bool
-    ensures { result ≡ is_minus fields.now }
+    ensures { result ≡ is_dash fields.now }
 {
     match fields.peek() {
         Some(field) => field == b"-".as_slice(),

@@ -13,7 +13,7 @@ use Rattle.fx_inequalities.specs.Rewriting.{Rewrites}
 use Rattle.fx_machine.specs.Steps.{step_taken}
 use Rattle.fx_sound.specs.Soundness.{IsCertified, StepIsNear}
 use Rattle.fx_sound.proofs.Accepts.{accepts}
-use Rattle.fx_checker.specs.CertifiedView.{Accepted, IsReady}
+use Rattle.fx_checker.specs.CertifiedView.{Accepted, IsStepReady}
 
 -- a row in range has a value for each input
 pub row_length : (is : List Input) (g : List Rational) → IsInRange is g → length g ≡ length is
@@ -43,7 +43,7 @@ module _ (rewrite : Rewrites) (fn : Function) (p : Program) (cert : Certificate)
 
 -- what is near after a step is what the registers hold
 pub ready_after : (a : Accepted) (g t : List Rational) (z ws zs : List ℤ) (x : List Rational) → StepIsNear a.function a.program a.certificate g t z x
-    → words_of a.program g z ≡ Some ws → machine_step a.program g z ≡ Some (step_taken a.program ws) → zs ≡ (step_taken a.program ws).next → IsReady a ws zs
+    → words_of a.program g z ≡ Some ws → machine_step a.program g z ≡ Some (step_taken a.program ws) → zs ≡ (step_taken a.program ws).next → IsStepReady a ws zs
 ready_after a g t z ws zs x near words taken is = record {
   words = let h = words_counted a.program.width a.program.codes g z [] ws words in omega (arith, h);
   state = near.exact_made.next;

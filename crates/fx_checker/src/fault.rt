@@ -1,7 +1,7 @@
 //! Why a certificate isn't accepted: the first condition that fails, or want of memory.
 
 ghost use Rattle.std.specs.Prelude.{◌≡◌};
-ghost use Rattle.fx_judging.specs.FaultView.{fault_of, kind_of};
+ghost use Rattle.fx_judging.specs.FaultView.{condition_fault_of, kind_of};
 ghost use Rattle.fx_checker.specs.Refusal.{IsToldOf, kind_told};
 
 use fx_judging::{ConditionFault, ConditionKind, Part};
@@ -124,7 +124,7 @@ fn kind_told(kind: ConditionKind) -> CheckKind
 
 /// A condition's fault as a checker tells of it.
 pub fn told(fault: ConditionFault) -> CheckFault
-    ensures { IsToldOf result (fault_of fault) }
+    ensures { IsToldOf result (condition_fault_of fault) }
 {
     CheckFault {
         kind: kind_told(fault.kind),
@@ -135,9 +135,9 @@ pub fn told(fault: ConditionFault) -> CheckFault
 
 impl From<Memory> for CheckFault {
     ghost use Rattle.std.specs.Prelude.{◌≡◌};
-    ghost use Rattle.fx_checker.specs.Refusal.{no_memory};
+    ghost use Rattle.fx_checker.specs.Refusal.{check_memory};
 
-    ghost from_gives = { λ _ fault. fault ≡ no_memory };
+    ghost from_gives = { λ _ fault. fault ≡ check_memory };
 
     fn from(_e: Memory) -> CheckFault {
         CheckFault {

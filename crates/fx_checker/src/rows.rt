@@ -8,7 +8,7 @@ ghost use Rattle.fx_sharing.specs.Boxes.{box_at};
 ghost use Rattle.fx_inequalities.specs.Condition as conditions;
 ghost use Rattle.fx_inequalities.specs.Condition.{each_index, first_fault_of};
 ghost use Rattle.fx_judging.specs.Judging.{judged};
-ghost use Rattle.fx_judging.specs.FaultView.{fault_of};
+ghost use Rattle.fx_judging.specs.FaultView.{condition_fault_of};
 ghost use Rattle.fx_cert.specs.CertificateView.{certificate_of, rows_in};
 ghost use Rattle.fx_conditions.specs.Limits.{IsShortCertificate};
 ghost use Rattle.fx_checker.specs.RowFaults.{kept_row, row_condition, rows_by, start_row_condition};
@@ -81,7 +81,7 @@ fn row_fault(
     requires short { IsShortCertificate (certificate_of certificate.now) }
     requires inputs { program.now.inputs ≡ length function.now.inputs }
     requires states { program.now.states ≡ length function.now.states }
-    ensures { option_map fault_of result ≡ conditions.fault_of (row_condition side.now function.now program.now (certificate_of certificate.now) i) }
+    ensures { option_map condition_fault_of result ≡ conditions.fault_of (row_condition side.now function.now program.now (certificate_of certificate.now) i) }
 {
     let judgement = keeps_row(program, certificate, side, i);
     match side {
@@ -100,7 +100,7 @@ fn start_row_fault(
 ) -> Option<ConditionFault>
     requires short { IsShortCertificate (certificate_of certificate.now) }
     requires states { program.now.states ≡ length function.now.states }
-    ensures { option_map fault_of result ≡ conditions.fault_of (start_row_condition side.now function.now (certificate_of certificate.now) i) }
+    ensures { option_map condition_fault_of result ≡ conditions.fault_of (start_row_condition side.now function.now (certificate_of certificate.now) i) }
 {
     let judgement = starts_in_row(program, certificate, side, i);
     match side {
@@ -128,7 +128,7 @@ pub fn rows_fault(
     requires inputs { program.now.inputs ≡ length function.now.inputs }
     requires states { program.now.states ≡ length function.now.states }
     requires few { length (rows_by side.now (certificate_of certificate.now)) ≤ 512 }
-    ensures { let cert = certificate_of certificate.now in option_map fault_of result ≡ first_fault_of (each_index (length (rows_by side.now cert)) (row_condition side.now function.now program.now cert)) }
+    ensures { let cert = certificate_of certificate.now in option_map condition_fault_of result ≡ first_fault_of (each_index (length (rows_by side.now cert)) (row_condition side.now function.now program.now cert)) }
 {
     for i in 0..row_count(certificate, side) {
         if let Some(fault) = row_fault(function, program, certificate, side, i) {
@@ -148,7 +148,7 @@ pub fn start_rows_fault(
     requires short { IsShortCertificate (certificate_of certificate.now) }
     requires states { program.now.states ≡ length function.now.states }
     requires few { length (rows_by side.now (certificate_of certificate.now)) ≤ 512 }
-    ensures { let cert = certificate_of certificate.now in option_map fault_of result ≡ first_fault_of (each_index (length (rows_by side.now cert)) (start_row_condition side.now function.now cert)) }
+    ensures { let cert = certificate_of certificate.now in option_map condition_fault_of result ≡ first_fault_of (each_index (length (rows_by side.now cert)) (start_row_condition side.now function.now cert)) }
 {
     for i in 0..row_count(certificate, side) {
         if let Some(fault) = start_row_fault(function, program, certificate, side, i) {

@@ -39,14 +39,14 @@ memory_ends bytes end e = subst (ReadingEnds bytes) (sym e) opening.no_memory
 
 -- the text isn't a bundle's
 pub text_ends : (bytes : List ℕ) (fault : TextFault) (end : End) → (end ≡ ends.NoMemory) ⊎ ((end ≡ ends.BadBundle fault) × (fault.kind ≢ texts.Memory)) →
-    (bundle_in bytes ≡ Err fault) ⊎ (fault ≡ text.no_memory) → ReadingEnds bytes end
+    (bundle_in bytes ≡ Err fault) ⊎ (fault ≡ text.text_memory) → ReadingEnds bytes end
 text_ends bytes fault end (inl e) given = memory_ends bytes end e
 text_ends bytes fault end (inr told) (inl read) = subst (ReadingEnds bytes) (sym told.0) (no_bundle fault read)
 text_ends bytes fault end (inr told) (inr none) = absurd (told.1 (ap (λ f. f.kind) none))
 
 -- the source has no such function
 pub source_ends : (bytes : List ℕ) (b : Parts) (fault : SourceFault) (end : End) → Spells bytes b → (end ≡ ends.NoMemory) ⊎ ((end ≡ ends.Misread fault) × (fault.kind ≢ sources.Memory)) →
-    (meaning_of b ≡ Err fault) ⊎ (fault ≡ source.no_memory) → ReadingEnds bytes end
+    (meaning_of b ≡ Err fault) ⊎ (fault ≡ source.source_memory) → ReadingEnds bytes end
 source_ends bytes b fault end spelled (inl e) given = memory_ends bytes end e
 source_ends bytes b fault end spelled (inr told) (inl read) = subst (ReadingEnds bytes) (sym told.0) (misread b fault spelled read)
 source_ends bytes b fault end spelled (inr told) (inr none) = absurd (told.1 (ap (λ f. f.kind) none))

@@ -120,7 +120,7 @@ rows_decide : (old new : Streams) (b : Parts) (fn : Function) (held : List ℕ) 
     (end ≡ rows_end fn (read_rows fn held).given.bad) ⊎ (end ≡ NoMemory)
 rows_decide old new b fn held end r (run.all_run count done at_end) = let d = known _ held r.told done in inl (sym (ap (rows_end fn) d.good))
 rows_decide old new b fn held end r (run.bad_row line fault due) =
-    let d = known _ held r.told due.0 in inl (ap (λ n. BadRow fn.inputs n (rows.fault_of fault)) d.number ∙ sym (ap (rows_end fn) d.bad))
+    let d = known _ held r.told due.0 in inl (ap (λ n. BadRow fn.inputs n (rows.row_fault_of fault)) d.number ∙ sym (ap (rows_end fn) d.bad))
 rows_decide old new b fn held end r (run.unread rose due) = absurd (r.reads rose)
 rows_decide old new b fn held end r (run.unwritten rose due) = absurd (r.writes rose)
 rows_decide old new b fn held end r (run.long taken took more due) = absurd (omega (arith, more, r.short, taken_few held taken old.left new.left r.told took))

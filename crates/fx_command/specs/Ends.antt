@@ -11,7 +11,7 @@ use Rattle.fx_text.specs.declared.fault.TextFault.{TextFault}
 use Rattle.fx_rows.specs.Faults as rows
 use Rattle.fx_rows.specs.declared.fault.RowKind.{RowKind}
 use Rattle.fx_rows.specs.declared.fault.RowKind.TheVariants.{LineTooLong, StrayReturn}
-use Rattle.fx_command.specs.KindTexts.{condition_text, part_text, source_text, bundle_text, row_text}
+use Rattle.fx_command.specs.KindTexts.{condition_text, condition_part_text, source_text, bundle_kind_text, row_text}
 
 -- the inputs are those of the function whose rows were read
 pub data End : Type 0 where
@@ -19,7 +19,7 @@ pub data End : Type 0 where
   Rejected : (fault : Fault) → End
   Misread : (fault : SourceFault) → End
   BadBundle : (fault : TextFault) → End
-  BadRow : (inputs : List Input) (line : ℕ) (fault : rows.Fault) → End
+  BadRow : (inputs : List Input) (line : ℕ) (fault : rows.RowFlaw) → End
 
 -- its status
 abbrev pub status_of : End → ℕ
@@ -47,10 +47,10 @@ row_reason kind line column = codes "row: " ∷ kind ∷ codes " at line " ∷ d
 -- what the line says behind `fixd: `, piece by piece
 abbrev pub reason : End → Option (List (List ℕ))
 reason Done = None
-reason (Rejected fault) = Some (codes "rejected: " ∷ condition_text fault.kind ∷ codes " at " ∷ part_text fault.part ∷ codes " " ∷ decimal fault.index ∷ [])
+reason (Rejected fault) = Some (codes "rejected: " ∷ condition_text fault.kind ∷ codes " at " ∷ condition_part_text fault.part ∷ codes " " ∷ decimal fault.index ∷ [])
 reason Usage = Some (codes "usage: synth, check, run, show or demo" ∷ [])
 reason (Misread fault) = Some (codes "source: " ∷ source_text fault.kind ∷ codes " at byte " ∷ decimal fault.at ∷ [])
-reason (BadBundle fault) = Some (codes "bundle: " ∷ bundle_text fault.kind ∷ codes " at line " ∷ decimal fault.line ∷ [])
+reason (BadBundle fault) = Some (codes "bundle: " ∷ bundle_kind_text fault.kind ∷ codes " at line " ∷ decimal fault.line ∷ [])
 reason (BadRow inputs line fault) = Some (row_reason (row_text fault.kind) line (column_text inputs fault.input fault.kind))
 reason ReadFault = Some (codes "read fault" ∷ [])
 reason WriteFault = Some (codes "write fault" ∷ [])
@@ -58,9 +58,9 @@ reason NoMemory = Some (codes "out of memory" ∷ [])
 reason OverLimit = Some (codes "over the limit" ∷ [])
 
 -- the whole line
-abbrev pub line_text : List (List ℕ) → List ℕ
-line_text why = concat (codes "fixd: " ∷ why ++ (codes "\n" ∷ []))
+abbrev pub note_text : List (List ℕ) → List ℕ
+note_text why = concat (codes "fixd: " ∷ why ++ (codes "\n" ∷ []))
 
 -- where there is one
-abbrev pub line_of : End → Option (List ℕ)
-line_of end = option_map line_text (reason end)
+abbrev pub end_line : End → Option (List ℕ)
+end_line end = option_map note_text (reason end)

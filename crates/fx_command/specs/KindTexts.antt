@@ -26,14 +26,14 @@ condition_text condition.Demand = codes "Demand"
 condition_text condition.Beyond = codes "Beyond"
 
 -- the part of a bundle that a condition speaks of
-abbrev pub part_text : condition.Part → List ℕ
-part_text condition.OfProgram = codes "program"
-part_text condition.OfStep = codes "step"
-part_text condition.OfNode = codes "node"
-part_text condition.OfStart = codes "start"
-part_text condition.OfRow = codes "row"
-part_text condition.OfErrorRow = codes "errorrow"
-part_text condition.OfOutput = codes "output"
+abbrev pub condition_part_text : condition.Part → List ℕ
+condition_part_text condition.OfProgram = codes "program"
+condition_part_text condition.OfStep = codes "step"
+condition_part_text condition.OfNode = codes "node"
+condition_part_text condition.OfStart = codes "start"
+condition_part_text condition.OfRow = codes "row"
+condition_part_text condition.OfErrorRow = codes "errorrow"
+condition_part_text condition.OfOutput = codes "output"
 
 -- what is wrong with a source
 abbrev pub source_text : SourceKind → List ℕ
@@ -56,14 +56,14 @@ source_text source.WrongArity = codes "WrongArity"
 source_text source.Memory = codes "Memory"
 
 -- with a bundle's text
-abbrev pub bundle_text : TextKind → List ℕ
-bundle_text text.BadLine = codes "BadLine"
-bundle_text text.BadNumber = codes "BadNumber"
-bundle_text text.OutOfRange = codes "OutOfRange"
-bundle_text text.Extra = codes "Extra"
-bundle_text text.TooMany = codes "TooMany"
-bundle_text text.Memory = codes "Memory"
-bundle_text text.Section = codes "Section"
+abbrev pub bundle_kind_text : TextKind → List ℕ
+bundle_kind_text text.BadLine = codes "BadLine"
+bundle_kind_text text.BadNumber = codes "BadNumber"
+bundle_kind_text text.OutOfRange = codes "OutOfRange"
+bundle_kind_text text.Extra = codes "Extra"
+bundle_kind_text text.TooMany = codes "TooMany"
+bundle_kind_text text.Memory = codes "Memory"
+bundle_kind_text text.Section = codes "Section"
 
 -- with a line of rows
 abbrev pub row_text : RowKind → List ℕ

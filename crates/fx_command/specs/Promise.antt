@@ -12,7 +12,7 @@ use Rattle.fx_run.specs.Printed.{given_values, IsWithinBounds}
 use Rattle.fx_command.specs.Command as commands
 use Rattle.fx_command.specs.Command.{Command}
 use Rattle.fx_command.specs.Outside.{Streams, AreUntouched}
-use Rattle.fx_command.specs.Ends.{End, Usage, status_of, line_of}
+use Rattle.fx_command.specs.Ends.{End, Usage, status_of, end_line}
 use Rattle.fx_command.specs.Notes.{AreNotes}
 use Rattle.fx_command.specs.Opening.{Spells, IsAcceptedAs}
 use Rattle.fx_command.specs.commands.Run.{RunEnds, RunCompletes}
@@ -27,7 +27,7 @@ CallEnds papers before after old new (Some (commands.Check name)) end = CheckEnd
 -- the status and the line on the notes are those of this end
 pub record IsAnswer (noted noted' : Option (List ℕ)) (failed failed' : ℕ) (status : ℕ) (end : End) : Type 0 where
   pub status_is : status ≡ status_of end
-  pub line : AreNotes noted noted' failed failed' (line_of end)
+  pub line : AreNotes noted noted' failed failed' (end_line end)
 
 -- how a call of these words ended: it answers with one end, whose cause holds
 pub record HasEnded (papers : Option Files) (before after : ℕ) (old new : Streams) (noted noted' : Option (List ℕ)) (failed failed' : ℕ) (command : Option Command) (status : ℕ) : Type 0 where
@@ -76,8 +76,8 @@ abbrev pub IsWhole : ℕ → Type 0
 IsWhole status = (status ≡ 0) ⊎ (status ≡ 5)
 
 -- the rows that an input gives before the first bad line, as rationals
-abbrev pub rows_of : Function → List ℕ → List (List Rational)
-rows_of fn held = given_values (read_rows fn held).given.rows
+abbrev pub given_rows : Function → List ℕ → List (List Rational)
+given_rows fn held = given_values (read_rows fn held).given.rows
 
 -- what was printed, where anything was: the output of the accepted program, inside its word and within the bound
 pub record IsHonest (file held printed : List ℕ) (status : ℕ) : Type 0 where
@@ -87,8 +87,8 @@ pub record IsHonest (file held printed : List ℕ) (status : ℕ) : Type 0 where
   pub spelled : Spells file bundle
   pub accepted : IsAcceptedAs bundle function
   pub in_range : AreInRange function (read_rows function held).given.rows
-  pub inside_word : machine_run bundle.program (rows_of function held) ≡ Some run
+  pub inside_word : machine_run bundle.program (given_rows function held) ≡ Some run
   pub own_output : (rest : List ℕ) × (page bundle.program run.outputs ≡ printed ++ rest)
   pub whole : IsWhole status → printed ≡ page bundle.program run.outputs
-  pub bound : (true_rows : List (List Rational)) → AreTrueOf function.inputs (rows_of function held) true_rows →
+  pub bound : (true_rows : List (List Rational)) → AreTrueOf function.inputs (given_rows function held) true_rows →
       IsWithinBounds function bundle.program bundle.certificate run true_rows

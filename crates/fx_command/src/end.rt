@@ -9,7 +9,7 @@ ghost use Rattle.fx_expr.specs.Parts.{input_of};
 ghost use Rattle.fx_rows.specs.Faults as rows;
 ghost use Rattle.fx_judging.specs.FaultView as conditions;
 ghost use Rattle.fx_command.specs.Ends as ends;
-ghost use Rattle.fx_command.specs.Ends.{line_of, status_of};
+ghost use Rattle.fx_command.specs.Ends.{end_line, status_of};
 ghost use Rattle.fx_command.specs.EndView.{end_of};
 ghost use Rattle.fx_command.specs.Notes.{AreNotes};
 
@@ -63,7 +63,7 @@ fn name_of(inputs: &[Input], input: u32) -> &str
 }
 
 fn note_rejected<N: Sink>(fault: ConditionFault, notes: &mut N)
-    ensures { AreNotes (N.taken notes.old) (N.taken notes.new) (N.faults notes.old) (N.faults notes.new) (line_of (ends.Rejected (conditions.fault_of fault))) }
+    ensures { AreNotes (N.taken notes.old) (N.taken notes.new) (N.faults notes.old) (N.faults notes.new) (end_line (ends.Rejected (conditions.condition_fault_of fault))) }
 {
     let mut digits = Buffer::new();
     note_line(
@@ -82,7 +82,7 @@ fn note_rejected<N: Sink>(fault: ConditionFault, notes: &mut N)
 }
 
 fn note_misread<N: Sink>(fault: SourceFault, notes: &mut N)
-    ensures { AreNotes (N.taken notes.old) (N.taken notes.new) (N.faults notes.old) (N.faults notes.new) (line_of (ends.Misread fault)) }
+    ensures { AreNotes (N.taken notes.old) (N.taken notes.new) (N.faults notes.old) (N.faults notes.new) (end_line (ends.Misread fault)) }
 {
     let mut digits = Buffer::new();
     note_line(
@@ -99,7 +99,7 @@ fn note_misread<N: Sink>(fault: SourceFault, notes: &mut N)
 }
 
 fn note_bundle<N: Sink>(fault: TextFault, notes: &mut N)
-    ensures { AreNotes (N.taken notes.old) (N.taken notes.new) (N.faults notes.old) (N.faults notes.new) (line_of (ends.BadBundle fault)) }
+    ensures { AreNotes (N.taken notes.old) (N.taken notes.new) (N.faults notes.old) (N.faults notes.new) (end_line (ends.BadBundle fault)) }
 {
     let mut digits = Buffer::new();
     note_line(
@@ -117,7 +117,7 @@ fn note_bundle<N: Sink>(fault: TextFault, notes: &mut N)
 
 // Of a fault of a line as a whole.
 fn note_whole_line<N: Sink>(kind: &str, line: u64, notes: &mut N)
-    ensures { AreNotes (N.taken notes.old) (N.taken notes.new) (N.faults notes.old) (N.faults notes.new) (Some (ends.line_text (ends.row_reason kind.now line []))) }
+    ensures { AreNotes (N.taken notes.old) (N.taken notes.new) (N.faults notes.old) (N.faults notes.new) (Some (ends.note_text (ends.row_reason kind.now line []))) }
 {
     let mut digits = Buffer::new();
     note_line(
@@ -135,7 +135,7 @@ fn note_whole_line<N: Sink>(kind: &str, line: u64, notes: &mut N)
 
 // Of a fault at the column of this name.
 fn note_column<N: Sink>(kind: &str, line: u64, name: &str, notes: &mut N)
-    ensures { AreNotes (N.taken notes.old) (N.taken notes.new) (N.faults notes.old) (N.faults notes.new) (Some (ends.line_text (ends.row_reason kind.now line (codes " column " ∷ name.now ∷ [])))) }
+    ensures { AreNotes (N.taken notes.old) (N.taken notes.new) (N.faults notes.old) (N.faults notes.new) (Some (ends.note_text (ends.row_reason kind.now line (codes " column " ∷ name.now ∷ [])))) }
 {
     let mut digits = Buffer::new();
     note_line(
@@ -154,7 +154,7 @@ fn note_column<N: Sink>(kind: &str, line: u64, name: &str, notes: &mut N)
 }
 
 fn note_row<N: Sink>(inputs: &[Input], line: u64, fault: RowFault, notes: &mut N)
-    ensures { AreNotes (N.taken notes.old) (N.taken notes.new) (N.faults notes.old) (N.faults notes.new) (line_of (ends.BadRow (map input_of inputs.now) line (rows.fault_of fault))) }
+    ensures { AreNotes (N.taken notes.old) (N.taken notes.new) (N.faults notes.old) (N.faults notes.new) (end_line (ends.BadRow (map input_of inputs.now) line (rows.row_fault_of fault))) }
 {
     let kind = row_text(fault.kind);
     match fault.kind {
@@ -165,7 +165,7 @@ fn note_row<N: Sink>(inputs: &[Input], line: u64, fault: RowFault, notes: &mut N
 }
 
 fn note_reason<N: Sink>(reason: &str, notes: &mut N)
-    ensures { AreNotes (N.taken notes.old) (N.taken notes.new) (N.faults notes.old) (N.faults notes.new) (Some (ends.line_text (reason.now ∷ []))) }
+    ensures { AreNotes (N.taken notes.old) (N.taken notes.new) (N.faults notes.old) (N.faults notes.new) (Some (ends.note_text (reason.now ∷ []))) }
 {
     note_line(&["fixd: ", reason, "\n"], notes);
 }
@@ -191,7 +191,7 @@ impl<'a> End<'a> {
 
     /// Writes its line on the notes, or a front of it where they fail.
     pub fn note<N: Sink>(&self, notes: &mut N)
-        ensures { AreNotes (N.taken notes.old) (N.taken notes.new) (N.faults notes.old) (N.faults notes.new) (line_of (end_of self.now)) }
+        ensures { AreNotes (N.taken notes.old) (N.taken notes.new) (N.faults notes.old) (N.faults notes.new) (end_line (end_of self.now)) }
     {
         match self {
             End::Done => {}
@@ -214,7 +214,7 @@ impl<'a> End<'a> {
     /// Its status, with its line on the notes.
     pub fn finish<N: Sink>(self, notes: &mut N) -> Status
         ensures status { result ≡ status_of (end_of self.entry) }
-        ensures line { AreNotes (N.taken notes.old) (N.taken notes.new) (N.faults notes.old) (N.faults notes.new) (line_of (end_of self.entry)) }
+        ensures line { AreNotes (N.taken notes.old) (N.taken notes.new) (N.faults notes.old) (N.faults notes.new) (end_line (end_of self.entry)) }
     {
         self.note(notes);
         self.status()

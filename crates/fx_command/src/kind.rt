@@ -1,7 +1,7 @@
 //! How faults are called on the notes.
 ghost use Rattle.std.specs.Prelude.{◌≡◌};
-ghost use Rattle.fx_judging.specs.FaultView.{kind_of, part_of};
-ghost use Rattle.fx_command.specs.KindTexts.{condition_text, part_text, source_text, bundle_text, row_text};
+ghost use Rattle.fx_judging.specs.FaultView.{kind_of, condition_part_of};
+ghost use Rattle.fx_command.specs.KindTexts.{condition_text, condition_part_text, source_text, bundle_kind_text, row_text};
 
 use fx_judging::{ConditionKind, Part};
 use fx_lexer::SourceKind;
@@ -32,7 +32,7 @@ pub fn condition_text(kind: ConditionKind) -> &'static str
 
 /// The part of a bundle that a condition speaks of.
 pub fn part_text(part: Part) -> &'static str
-    ensures { result.now ≡ part_text (part_of part) }
+    ensures { result.now ≡ condition_part_text (condition_part_of part) }
 {
     match part {
         Part::Program => "program",
@@ -72,7 +72,7 @@ pub fn source_text(kind: SourceKind) -> &'static str
 
 /// What is wrong with a bundle's text.
 pub fn bundle_text(kind: TextKind) -> &'static str
-    ensures { result.now ≡ bundle_text kind }
+    ensures { result.now ≡ bundle_kind_text kind }
 {
     match kind {
         TextKind::BadLine => "BadLine",

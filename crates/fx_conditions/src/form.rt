@@ -11,7 +11,7 @@ ghost use Rattle.fx_inequalities.specs.Affine.{affine_at, error_at, form_of, ran
 ghost use Rattle.fx_inequalities.specs.NodeConditions.{form_claims, has_form, operation_form};
 ghost use Rattle.fx_judging.specs.Judging.{Forms, FormsSpan, judged};
 ghost use Rattle.fx_judging.specs.Places.{IsShort, IsShortSpan};
-ghost use Rattle.fx_cert.specs.CertificateView.{form_of as form_view, lines_in};
+ghost use Rattle.fx_cert.specs.CertificateView.{form_view as form_view, lines_view};
 ghost use Rattle.fx_conditions.specs.MatchView.{code_in, node_in};
 ghost use Rattle.fx_conditions.specs.Limits.{AreShortLines, IsShortForm};
 
@@ -43,7 +43,7 @@ pub fn scaled(d: Dyadic, a: Option<Interval>) -> Option<Interval>
 
 /// The range of node `n` less a centre.
 fn centred(lines: &[NodeLine], n: u32, centre: Dyadic) -> Option<Interval>
-    ensures { FormsSpan result (span_difference (range_at (lines_in lines.now) n) (point (Num centre))) }
+    ensures { FormsSpan result (span_difference (range_at (lines_view lines.now) n) (point (Num centre))) }
 {
     minus(range_of(lines, n), point(number(centre)))
 }
@@ -57,9 +57,9 @@ fn product_coef(
     form: &Form,
     j: u32,
 ) -> Option<Dyadic>
-    requires lines { AreShortLines (lines_in lines.now) }
+    requires lines { AreShortLines (lines_view lines.now) }
     requires form { IsShortForm (form_view form.now) }
-    ensures { Forms result (Sum (Product (Num form.now.centre_b) ((affine_at variables (lines_in lines.now) a).coef j)) (Product (Num form.now.centre_a) ((affine_at variables (lines_in lines.now) b).coef j))) }
+    ensures { Forms result (Sum (Product (Num form.now.centre_b) ((affine_at variables (lines_view lines.now) a).coef j)) (Product (Num form.now.centre_a) ((affine_at variables (lines_view lines.now) b).coef j))) }
 {
     sum(
         scaled_number(form.centre_b, coef_of(lines, variables, a, j)),
@@ -75,9 +75,9 @@ fn starred_coef(
     form: &Form,
     j: u32,
 ) -> Option<Dyadic>
-    requires lines { AreShortLines (lines_in lines.now) }
+    requires lines { AreShortLines (lines_view lines.now) }
     requires form { IsShortForm (form_view form.now) }
-    ensures { (f : ℤ) → Forms result ((operation_form variables (lines_in lines.now) (node_in m) (code_in m) f (form_view form.now)).coef j) }
+    ensures { (f : ℤ) → Forms result ((operation_form variables (lines_view lines.now) (node_in m) (code_in m) f (form_view form.now)).coef j) }
 {
     match m {
         Matched::Neg { a } => difference(number(zero_dyadic()), coef_of(lines, variables, a, j)),
@@ -97,9 +97,9 @@ fn starred_coef(
 
 /// The scaled rests of a product's operands.
 fn scaled_rests(lines: &[NodeLine], variables: u32, a: u32, b: u32, form: &Form) -> Option<Interval>
-    requires lines { AreShortLines (lines_in lines.now) }
+    requires lines { AreShortLines (lines_view lines.now) }
     requires form { IsShortForm (form_view form.now) }
-    ensures { FormsSpan result (span_sum (span_product (point (Num form.now.centre_b)) (affine_at variables (lines_in lines.now) a).rest) (span_product (point (Num form.now.centre_a)) (affine_at variables (lines_in lines.now) b).rest)) }
+    ensures { FormsSpan result (span_sum (span_product (point (Num form.now.centre_b)) (affine_at variables (lines_view lines.now) a).rest) (span_product (point (Num form.now.centre_a)) (affine_at variables (lines_view lines.now) b).rest)) }
 {
     plus(
         scaled(form.centre_b, rest_of(lines, variables, a)),
@@ -109,9 +109,9 @@ fn scaled_rests(lines: &[NodeLine], variables: u32, a: u32, b: u32, form: &Form)
 
 /// The product of two ranges less their centres.
 fn centred_product(lines: &[NodeLine], a: u32, b: u32, form: &Form) -> Option<Interval>
-    requires lines { AreShortLines (lines_in lines.now) }
+    requires lines { AreShortLines (lines_view lines.now) }
     requires form { IsShortForm (form_view form.now) }
-    ensures { FormsSpan result (span_product (span_difference (range_at (lines_in lines.now) a) (point (Num form.now.centre_a))) (span_difference (range_at (lines_in lines.now) b) (point (Num form.now.centre_b)))) }
+    ensures { FormsSpan result (span_product (span_difference (range_at (lines_view lines.now) a) (point (Num form.now.centre_a))) (span_difference (range_at (lines_view lines.now) b) (point (Num form.now.centre_b)))) }
 {
     times(
         centred(lines, a, form.centre_a),
@@ -129,9 +129,9 @@ fn centres(form: &Form) -> Option<Interval>
 
 /// The rest of a product.
 fn product_rest(lines: &[NodeLine], variables: u32, a: u32, b: u32, form: &Form) -> Option<Interval>
-    requires lines { AreShortLines (lines_in lines.now) }
+    requires lines { AreShortLines (lines_view lines.now) }
     requires form { IsShortForm (form_view form.now) }
-    ensures { let ls = lines_in lines.now in let ma = Num form.now.centre_a in let mb = Num form.now.centre_b in
+    ensures { let ls = lines_view lines.now in let ma = Num form.now.centre_a in let mb = Num form.now.centre_b in
         FormsSpan result (span_sum (span_difference (span_sum (span_product (point mb) (affine_at variables ls a).rest) (span_product (point ma) (affine_at variables ls b).rest)) (point (Product ma mb)))
         (span_product (span_difference (range_at ls a) (point ma)) (span_difference (range_at ls b) (point mb)))) }
 {
@@ -143,9 +143,9 @@ fn product_rest(lines: &[NodeLine], variables: u32, a: u32, b: u32, form: &Form)
 
 /// The rest of the operation's form.
 fn starred_rest(lines: &[NodeLine], variables: u32, m: Matched, form: &Form) -> Option<Interval>
-    requires lines { AreShortLines (lines_in lines.now) }
+    requires lines { AreShortLines (lines_view lines.now) }
     requires form { IsShortForm (form_view form.now) }
-    ensures { (f : ℤ) → FormsSpan result (operation_form variables (lines_in lines.now) (node_in m) (code_in m) f (form_view form.now)).rest }
+    ensures { (f : ℤ) → FormsSpan result (operation_form variables (lines_view lines.now) (node_in m) (code_in m) f (form_view form.now)).rest }
 {
     match m {
         Matched::Neg { a } => negated(rest_of(lines, variables, a)),
@@ -169,9 +169,9 @@ fn scaled_error_rests(
     b: u32,
     form: &Form,
 ) -> Option<Interval>
-    requires lines { AreShortLines (lines_in lines.now) }
+    requires lines { AreShortLines (lines_view lines.now) }
     requires form { IsShortForm (form_view form.now) }
-    ensures { FormsSpan result (span_sum (span_product (point (Num form.now.centre_b)) (affine_at variables (lines_in lines.now) a).error_rest) (span_product (point (Num form.now.centre_a)) (affine_at variables (lines_in lines.now) b).error_rest)) }
+    ensures { FormsSpan result (span_sum (span_product (point (Num form.now.centre_b)) (affine_at variables (lines_view lines.now) a).error_rest) (span_product (point (Num form.now.centre_a)) (affine_at variables (lines_view lines.now) b).error_rest)) }
 {
     plus(
         scaled(form.centre_b, error_rest_of(lines, variables, a)),
@@ -181,9 +181,9 @@ fn scaled_error_rests(
 
 /// The range of one node less a centre, times the error of another.
 fn centred_error(lines: &[NodeLine], a: u32, centre: Dyadic, b: u32) -> Option<Interval>
-    requires lines { AreShortLines (lines_in lines.now) }
+    requires lines { AreShortLines (lines_view lines.now) }
     requires centre { IsShort 96 (Num centre) }
-    ensures { FormsSpan result (span_product (span_difference (range_at (lines_in lines.now) a) (point (Num centre))) (error_at (lines_in lines.now) b)) }
+    ensures { FormsSpan result (span_product (span_difference (range_at (lines_view lines.now) a) (point (Num centre))) (error_at (lines_view lines.now) b)) }
 {
     times(centred(lines, a, centre), error_of(lines, b))
 }
@@ -198,10 +198,10 @@ fn product_error_rest(
     form: &Form,
     place: i32,
 ) -> Option<Interval>
-    requires lines { AreShortLines (lines_in lines.now) }
+    requires lines { AreShortLines (lines_view lines.now) }
     requires form { IsShortForm (form_view form.now) }
     requires point { IsPoint place }
-    ensures { let ls = lines_in lines.now in let ma = Num form.now.centre_a in let mb = Num form.now.centre_b in
+    ensures { let ls = lines_view lines.now in let ma = Num form.now.centre_a in let mb = Num form.now.centre_b in
         FormsSpan result (span_sum (span_sum (span_sum (span_sum (span_sum (span_product (point mb) (affine_at variables ls a).error_rest) (span_product (point ma) (affine_at variables ls b).error_rest))
         (span_product (span_difference (range_at ls a) (point ma)) (error_at ls b))) (span_product (span_difference (range_at ls b) (point mb)) (error_at ls a))) (span_product (error_at ls a) (error_at ls b))) (loss_at place (pos s))) }
 {
@@ -219,10 +219,10 @@ fn starred_error_rest(
     form: &Form,
     place: i32,
 ) -> Option<Interval>
-    requires lines { AreShortLines (lines_in lines.now) }
+    requires lines { AreShortLines (lines_view lines.now) }
     requires form { IsShortForm (form_view form.now) }
     requires point { IsPoint place }
-    ensures { FormsSpan result (operation_form variables (lines_in lines.now) (node_in m) (code_in m) place (form_view form.now)).error_rest }
+    ensures { FormsSpan result (operation_form variables (lines_view lines.now) (node_in m) (code_in m) place (form_view form.now)).error_rest }
 {
     match m {
         Matched::Neg { a } => negated(error_rest_of(lines, variables, a)),
@@ -248,9 +248,9 @@ fn starred_error_rest(
 
 /// What the form leaves of coefficient `j`.
 fn left_coef(lines: &[NodeLine], variables: u32, m: &Matched, form: &Form, j: u32) -> Option<Dyadic>
-    requires lines { AreShortLines (lines_in lines.now) }
+    requires lines { AreShortLines (lines_view lines.now) }
     requires form { IsShortForm (form_view form.now) }
-    ensures { (f : ℤ) → Forms result (Difference ((operation_form variables (lines_in lines.now) (node_in m.now) (code_in m.now) f (form_view form.now)).coef j) (Num (at zero_dyadic form.now.coefs j))) }
+    ensures { (f : ℤ) → Forms result (Difference ((operation_form variables (lines_view lines.now) (node_in m.now) (code_in m.now) f (form_view form.now)).coef j) (Num (at zero_dyadic form.now.coefs j))) }
 {
     difference(
         starred_coef(lines, variables, *m, form, j),
@@ -266,9 +266,9 @@ fn left_range(
     form: &Form,
     j: u32,
 ) -> Option<Interval>
-    requires lines { AreShortLines (lines_in lines.now) }
+    requires lines { AreShortLines (lines_view lines.now) }
     requires form { IsShortForm (form_view form.now) }
-    ensures { (f : ℤ) → FormsSpan result (span_product (point (Difference ((operation_form variables (lines_in lines.now) (node_in m.now) (code_in m.now) f (form_view form.now)).coef j) (Num (at zero_dyadic form.now.coefs j)))) (range_at (lines_in lines.now) j)) }
+    ensures { (f : ℤ) → FormsSpan result (span_product (point (Difference ((operation_form variables (lines_view lines.now) (node_in m.now) (code_in m.now) f (form_view form.now)).coef j) (Num (at zero_dyadic form.now.coefs j)))) (range_at (lines_view lines.now) j)) }
 {
     times(
         point(left_coef(lines, variables, m, form, j)),
@@ -284,9 +284,9 @@ fn left_error(
     form: &Form,
     j: u32,
 ) -> Option<Interval>
-    requires lines { AreShortLines (lines_in lines.now) }
+    requires lines { AreShortLines (lines_view lines.now) }
     requires form { IsShortForm (form_view form.now) }
-    ensures { (f : ℤ) → FormsSpan result (span_product (point (Difference ((operation_form variables (lines_in lines.now) (node_in m.now) (code_in m.now) f (form_view form.now)).coef j) (Num (at zero_dyadic form.now.coefs j)))) (error_at (lines_in lines.now) j)) }
+    ensures { (f : ℤ) → FormsSpan result (span_product (point (Difference ((operation_form variables (lines_view lines.now) (node_in m.now) (code_in m.now) f (form_view form.now)).coef j) (Num (at zero_dyadic form.now.coefs j)))) (error_at (lines_view lines.now) j)) }
 {
     times(
         point(left_coef(lines, variables, m, form, j)),
@@ -296,10 +296,10 @@ fn left_error(
 
 /// The operation's rest, and what the form leaves of its coefficients times the variables' ranges.
 fn rest_with_left(lines: &[NodeLine], variables: u32, m: &Matched, form: &Form) -> Option<Interval>
-    requires lines { AreShortLines (lines_in lines.now) }
+    requires lines { AreShortLines (lines_view lines.now) }
     requires form { IsShortForm (form_view form.now) }
-    ensures { (f : ℤ) → let s = operation_form variables (lines_in lines.now) (node_in m.now) (code_in m.now) f (form_view form.now) in
-        FormsSpan result (weighted_sum s.rest variables (λ j. Difference (s.coef j) (Num (at zero_dyadic form.now.coefs j))) (range_at (lines_in lines.now))) }
+    ensures { (f : ℤ) → let s = operation_form variables (lines_view lines.now) (node_in m.now) (code_in m.now) f (form_view form.now) in
+        FormsSpan result (weighted_sum s.rest variables (λ j. Difference (s.coef j) (Num (at zero_dyadic form.now.coefs j))) (range_at (lines_view lines.now))) }
 {
     let mut total = starred_rest(lines, variables, *m, form);
     for j in 0..variables {
@@ -316,11 +316,11 @@ fn error_rest_with_left(
     form: &Form,
     place: i32,
 ) -> Option<Interval>
-    requires lines { AreShortLines (lines_in lines.now) }
+    requires lines { AreShortLines (lines_view lines.now) }
     requires form { IsShortForm (form_view form.now) }
     requires point { IsPoint place }
-    ensures { let s = operation_form variables (lines_in lines.now) (node_in m.now) (code_in m.now) place (form_view form.now) in
-        FormsSpan result (weighted_sum s.error_rest variables (λ j. Difference (s.coef j) (Num (at zero_dyadic form.now.coefs j))) (error_at (lines_in lines.now))) }
+    ensures { let s = operation_form variables (lines_view lines.now) (node_in m.now) (code_in m.now) place (form_view form.now) in
+        FormsSpan result (weighted_sum s.error_rest variables (λ j. Difference (s.coef j) (Num (at zero_dyadic form.now.coefs j))) (error_at (lines_view lines.now))) }
 {
     let mut total = starred_error_rest(lines, variables, *m, form, place);
     for j in 0..variables {
@@ -351,11 +351,11 @@ fn lies_in_form(
     form: &Form,
     place: i32,
 ) -> Judgement
-    requires lines { AreShortLines (lines_in lines.now) }
+    requires lines { AreShortLines (lines_view lines.now) }
     requires form { IsShortForm (form_view form.now) }
     requires point { IsPoint place }
     requires some { IsTrue (has_form (node_in m.now) (code_in m.now)) }
-    ensures { (l : certificates.NodeLine) → result ≡ judged (form_claims variables (lines_in lines.now) l (node_in m.now) (code_in m.now) place (Some (form_view form.now))) }
+    ensures { (l : certificates.NodeLine) → result ≡ judged (form_claims variables (lines_view lines.now) l (node_in m.now) (code_in m.now) place (Some (form_view form.now))) }
 {
     let range = within(rest_with_left(lines, variables, m, form), form.rest);
     let error = within(
@@ -367,7 +367,7 @@ fn lies_in_form(
 
 /// The form of node `n`, if it has one.
 pub fn form_at(lines: &[NodeLine], variables: u32, n: u32) -> Option<&Form>
-    ensures { option_map (λ form. form_view form.now) result ≡ form_of variables (lines_in lines.now) n }
+    ensures { option_map (λ form. form_view form.now) result ≡ form_of variables (lines_view lines.now) n }
 {
     if n < variables {
         return None;
@@ -386,10 +386,10 @@ pub fn form_judgement(
     form: &Form,
     place: i32,
 ) -> Judgement
-    requires lines { AreShortLines (lines_in lines.now) }
+    requires lines { AreShortLines (lines_view lines.now) }
     requires form { IsShortForm (form_view form.now) }
     requires point { IsPoint place }
-    ensures { (l : certificates.NodeLine) → result ≡ judged (form_claims variables (lines_in lines.now) l (node_in m.now) (code_in m.now) place (Some (form_view form.now))) }
+    ensures { (l : certificates.NodeLine) → result ≡ judged (form_claims variables (lines_view lines.now) l (node_in m.now) (code_in m.now) place (Some (form_view form.now))) }
 {
     if has_form(*m) {
         lies_in_form(lines, variables, m, form, place)

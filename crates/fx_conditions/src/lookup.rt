@@ -5,7 +5,7 @@ ghost use Rattle.fx_model.specs.Tree.{at};
 ghost use Rattle.fx_rational.specs.Dyadic.{zero_dyadic};
 ghost use Rattle.fx_inequalities.specs.Formula.{Num, span};
 ghost use Rattle.fx_inequalities.specs.Affine.{affine_at, error_at, of_line, range_at, rows_of, unit_coef};
-ghost use Rattle.fx_cert.specs.CertificateView.{form_of as form_view, line_of, lines_in, rows_in};
+ghost use Rattle.fx_cert.specs.CertificateView.{form_view as form_view, line_view, lines_view, rows_in};
 
 use fx_cert::{Form, NodeLine, Row};
 use fx_interval::Interval;
@@ -40,7 +40,7 @@ pub fn coef_at(coefs: &[Dyadic], j: u32) -> Dyadic
 
 /// The range of node `n`.
 pub fn range_at(lines: &[NodeLine], n: u32) -> Interval
-    ensures { span result ≡ range_at (lines_in lines.now) n }
+    ensures { span result ≡ range_at (lines_view lines.now) n }
 {
     match lines.get(n as usize) {
         Some(line) => line.range,
@@ -50,7 +50,7 @@ pub fn range_at(lines: &[NodeLine], n: u32) -> Interval
 
 /// The error of node `n`.
 pub fn error_at(lines: &[NodeLine], n: u32) -> Interval
-    ensures { span result ≡ error_at (lines_in lines.now) n }
+    ensures { span result ≡ error_at (lines_view lines.now) n }
 {
     match lines.get(n as usize) {
         Some(line) => line.error,
@@ -71,7 +71,7 @@ fn unit_coef(n: u32, j: u32) -> Dyadic
 
 /// Coefficient `j` of a line's form.
 fn line_coef(line: &NodeLine, j: u32) -> Dyadic
-    ensures { Num result ≡ (of_line (line_of line.now) (line_of line.now).form).coef j }
+    ensures { Num result ≡ (of_line (line_view line.now) (line_view line.now).form).coef j }
 {
     match &line.form {
         Some(form) => coef_at(form.coefs.as_slice(), j),
@@ -81,7 +81,7 @@ fn line_coef(line: &NodeLine, j: u32) -> Dyadic
 
 /// The rest of a line's form.
 fn line_rest(line: &NodeLine) -> Interval
-    ensures { span result ≡ (of_line (line_of line.now) (line_of line.now).form).rest }
+    ensures { span result ≡ (of_line (line_view line.now) (line_view line.now).form).rest }
 {
     match &line.form {
         Some(form) => form.rest,
@@ -91,7 +91,7 @@ fn line_rest(line: &NodeLine) -> Interval
 
 /// The rest of errors of a line's form.
 fn line_error_rest(line: &NodeLine) -> Interval
-    ensures { span result ≡ (of_line (line_of line.now) (line_of line.now).form).error_rest }
+    ensures { span result ≡ (of_line (line_view line.now) (line_view line.now).form).error_rest }
 {
     match &line.form {
         Some(form) => form.error_rest,
@@ -101,7 +101,7 @@ fn line_error_rest(line: &NodeLine) -> Interval
 
 /// Coefficient `j` of the form of node `n`, of which the first `variables` are the variables.
 pub fn affine_coef(lines: &[NodeLine], variables: u32, n: u32, j: u32) -> Dyadic
-    ensures { Num result ≡ (affine_at variables (lines_in lines.now) n).coef j }
+    ensures { Num result ≡ (affine_at variables (lines_view lines.now) n).coef j }
 {
     if n < variables {
         return unit_coef(n, j);
@@ -114,7 +114,7 @@ pub fn affine_coef(lines: &[NodeLine], variables: u32, n: u32, j: u32) -> Dyadic
 
 /// The rest of the form of node `n`.
 pub fn affine_rest(lines: &[NodeLine], variables: u32, n: u32) -> Interval
-    ensures { span result ≡ (affine_at variables (lines_in lines.now) n).rest }
+    ensures { span result ≡ (affine_at variables (lines_view lines.now) n).rest }
 {
     if n < variables {
         return zero_alone();
@@ -127,7 +127,7 @@ pub fn affine_rest(lines: &[NodeLine], variables: u32, n: u32) -> Interval
 
 /// The rest of errors of the form of node `n`.
 pub fn affine_error_rest(lines: &[NodeLine], variables: u32, n: u32) -> Interval
-    ensures { span result ≡ (affine_at variables (lines_in lines.now) n).error_rest }
+    ensures { span result ≡ (affine_at variables (lines_view lines.now) n).error_rest }
 {
     if n < variables {
         return zero_alone();

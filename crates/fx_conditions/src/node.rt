@@ -10,7 +10,7 @@ ghost use Rattle.fx_inequalities.specs.Claim.{AboveFraction, BelowFraction, insi
 ghost use Rattle.fx_inequalities.specs.NodeConditions.{divisor_claims, no_input, plain_error_claims, plain_range_claims, quotient_claims, word_claims};
 ghost use Rattle.fx_word.specs.Words.{IsWidth};
 ghost use Rattle.fx_judging.specs.Judging.{FormsSpan, judged};
-ghost use Rattle.fx_cert.specs.CertificateView.{certificate_of, lines_in};
+ghost use Rattle.fx_cert.specs.CertificateView.{certificate_of, lines_view};
 ghost use Rattle.fx_conditions.specs.MatchView.{code_in, node_in};
 ghost use Rattle.fx_conditions.specs.Limits.{AreShortLines, IsShortCertificate};
 ghost use Rattle.fx_judging.specs.Places.{IsShortSpan};
@@ -123,33 +123,33 @@ fn word_error(literal: Fraction, word: i64, point: i32, error: Interval) -> Judg
 
 /// The product of the range of one node with the range of another.
 fn range_product(lines: &[NodeLine], a: u32, b: u32) -> Option<Interval>
-    requires { AreShortLines (lines_in lines.now) }
-    ensures { FormsSpan result (span_product (range_at (lines_in lines.now) a) (range_at (lines_in lines.now) b)) }
+    requires { AreShortLines (lines_view lines.now) }
+    ensures { FormsSpan result (span_product (range_at (lines_view lines.now) a) (range_at (lines_view lines.now) b)) }
 {
     times(range_of(lines, a), range_of(lines, b))
 }
 
 /// The product of the range of one node with the error of another.
 fn mixed_product(lines: &[NodeLine], a: u32, b: u32) -> Option<Interval>
-    requires { AreShortLines (lines_in lines.now) }
-    ensures { FormsSpan result (span_product (range_at (lines_in lines.now) a) (error_at (lines_in lines.now) b)) }
+    requires { AreShortLines (lines_view lines.now) }
+    ensures { FormsSpan result (span_product (range_at (lines_view lines.now) a) (error_at (lines_view lines.now) b)) }
 {
     times(range_of(lines, a), error_of(lines, b))
 }
 
 /// The product of the error of one node with the error of another.
 pub fn error_product(lines: &[NodeLine], a: u32, b: u32) -> Option<Interval>
-    requires { AreShortLines (lines_in lines.now) }
-    ensures { FormsSpan result (span_product (error_at (lines_in lines.now) a) (error_at (lines_in lines.now) b)) }
+    requires { AreShortLines (lines_view lines.now) }
+    ensures { FormsSpan result (span_product (error_at (lines_view lines.now) a) (error_at (lines_view lines.now) b)) }
 {
     times(error_of(lines, a), error_of(lines, b))
 }
 
 /// The error of a product.
 fn product_error(lines: &[NodeLine], a: u32, b: u32, s: u32, point: i32) -> Option<Interval>
-    requires short { AreShortLines (lines_in lines.now) }
+    requires short { AreShortLines (lines_view lines.now) }
     requires point { IsPoint point }
-    ensures { let ls = lines_in lines.now in
+    ensures { let ls = lines_view lines.now in
         FormsSpan result (span_sum (span_sum (span_sum (span_product (range_at ls a) (error_at ls b)) (span_product (range_at ls b) (error_at ls a))) (span_product (error_at ls a) (error_at ls b))) (loss_at point (pos s))) }
 {
     let mixed = plus(mixed_product(lines, a, b), mixed_product(lines, b, a));
@@ -158,9 +158,9 @@ fn product_error(lines: &[NodeLine], a: u32, b: u32, s: u32, point: i32) -> Opti
 
 /// What the dividend's error leaves after the exact quotient times the divisor's.
 fn quotient_rest(lines: &[NodeLine], a: u32, b: u32, range: Interval) -> Option<Interval>
-    requires short { AreShortLines (lines_in lines.now) }
+    requires short { AreShortLines (lines_view lines.now) }
     requires range { IsShortSpan 96 (span range) }
-    ensures { FormsSpan result (span_difference (error_at (lines_in lines.now) a) (span_product (span range) (error_at (lines_in lines.now) b))) }
+    ensures { FormsSpan result (span_difference (error_at (lines_view lines.now) a) (span_product (span range) (error_at (lines_view lines.now) b))) }
 {
     minus(
         error_of(lines, a),
@@ -170,7 +170,7 @@ fn quotient_rest(lines: &[NodeLine], a: u32, b: u32, range: Interval) -> Option<
 
 /// The divisor of the machine.
 fn divisor(lines: &[NodeLine], b: u32) -> Option<Interval>
-    ensures { FormsSpan result (span_sum (range_at (lines_in lines.now) b) (error_at (lines_in lines.now) b)) }
+    ensures { FormsSpan result (span_sum (range_at (lines_view lines.now) b) (error_at (lines_view lines.now) b)) }
 {
     plus(range_of(lines, b), error_of(lines, b))
 }
@@ -195,11 +195,11 @@ fn quotient_error(
     range: Interval,
     error: Interval,
 ) -> Judgement
-    requires short { AreShortLines (lines_in lines.now) }
+    requires short { AreShortLines (lines_view lines.now) }
     requires range { IsShortSpan 96 (span range) }
     requires error { IsShortSpan 96 (span error) }
     requires point { IsPoint point }
-    ensures { let ls = lines_in lines.now in
+    ensures { let ls = lines_view lines.now in
         result ≡ judged (quotient_claims (span_difference (error_at ls a) (span_product (span range) (error_at ls b))) (span_sum (range_at ls b) (error_at ls b))
         (record { lo = Sum (Num error.lo) (unit_at point); hi = Difference (Num error.hi) (unit_at point) })) }
 {

@@ -14,7 +14,7 @@ use Rattle.fx_expr.specs.LawfulFunction.{IsLawfulFunction}
 use Rattle.fx_expr.specs.FunctionOf.{function_of, IsFunction}
 use Rattle.fx_expr.specs.declared.function.Function.TheInside.{Inside}
 use Rattle.fx_expr.specs.declared.size.Size.{Size}
-use Rattle.fx_expr.specs.SizeOf.{counted, size_of}
+use Rattle.fx_expr.specs.SizeOf.{size_counted, size_of}
 use Rattle.fx_expr.proofs.Sizes.{nodes_counted}
 
 pub some_then : {A B : Type 0} (f : A → Option B) (p : Option A) (b : B) → option_and_then f p ≡ Some b → (a : A) × (p ≡ Some a) × (f a ≡ Some b)
@@ -61,7 +61,7 @@ nodes_after f k path old new there =
 pub part_nodes : (f : Function) (k : ℕ) (path : List ℕ) (old : Tree) → found f k path ≡ Some old → tree_nodes old ≤ node_count f
 part_nodes f k path old there = let q = nodes_after f k path old (model.Input 0) there in omega arith
 
-exact_count : (n : ℕ) → n ≤ 4000 → counted n ≡ n
+exact_count : (n : ℕ) → n ≤ 4000 → size_counted n ≡ n
 exact_count n h = omega arith
 
 pub few_nodes : (t : Tree) → tree_nodes t ≤ 4000 → (size_of t).nodes ≡ tree_nodes t
@@ -84,7 +84,7 @@ recounted f k path old new n a b there is few fewer p q =
     record { below = omega arith; is = omega arith; small = omega arith }
 
 -- the count of a function that is made of its parts
-pub all_counted : (f : Function) (v a b n : ℕ) → v ≡ length f.inputs + length f.states → a ≡ counted (temp_nodes f.temps) → b ≡ counted (result_nodes f.results) → n ≡ min (min (v + a) 4294967295 + b) 4294967295 → length (nodes_of f) ≤ 4000 → n ≡ length (nodes_of f)
+pub all_counted : (f : Function) (v a b n : ℕ) → v ≡ length f.inputs + length f.states → a ≡ size_counted (temp_nodes f.temps) → b ≡ size_counted (result_nodes f.results) → n ≡ min (min (v + a) 4294967295 + b) 4294967295 → length (nodes_of f) ≤ 4000 → n ≡ length (nodes_of f)
 all_counted f v a b n p q r e few = let c = node_count_is f in omega arith
 
 -- the same of a function in memory

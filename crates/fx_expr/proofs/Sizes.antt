@@ -9,15 +9,15 @@ use Rattle.fx_expr.specs.TreeOf.{tree}
 use Rattle.fx_expr.specs.Parts.{temp_of}
 use Rattle.fx_expr.specs.declared.expr.Expr.{Expr}
 use Rattle.fx_expr.specs.declared.parts.Temp.{Temp as Declared}
-use Rattle.fx_expr.specs.SizeOf.{counted, size_of}
+use Rattle.fx_expr.specs.SizeOf.{size_counted, size_of}
 
-one_more : (n a : ℕ) → n ≡ counted a → counted (n + 1) ≡ counted (a + 1)
+one_more : (n a : ℕ) → n ≡ size_counted a → size_counted (n + 1) ≡ size_counted (a + 1)
 one_more n a e = omega arith
 
-two_more : (n m a b : ℕ) → n ≡ counted a → m ≡ counted b → counted (counted (n + m) + 1) ≡ counted (a + b + 1)
+two_more : (n m a b : ℕ) → n ≡ size_counted a → m ≡ size_counted b → size_counted (size_counted (n + m) + 1) ≡ size_counted (a + b + 1)
 two_more n m a b e f = omega arith
 
-pub nodes_counted : (t : Tree) → (size_of t).nodes ≡ counted (tree_nodes t)
+pub nodes_counted : (t : Tree) → (size_of t).nodes ≡ size_counted (tree_nodes t)
 nodes_counted (Literal c) = refl
 nodes_counted (Input k) = refl
 nodes_counted (State k) = refl
@@ -28,13 +28,13 @@ nodes_counted (Difference a b) = two_more (size_of a).nodes (size_of b).nodes (t
 nodes_counted (Product a b) = two_more (size_of a).nodes (size_of b).nodes (tree_nodes a) (tree_nodes b) (nodes_counted a) (nodes_counted b)
 nodes_counted (Quotient a b) = two_more (size_of a).nodes (size_of b).nodes (tree_nodes a) (tree_nodes b) (nodes_counted a) (nodes_counted b)
 
-higher_one : (n a : ℕ) → n ≡ counted a → counted (n + 1) ≡ counted (suc a)
+higher_one : (n a : ℕ) → n ≡ size_counted a → size_counted (n + 1) ≡ size_counted (suc a)
 higher_one n a e = omega arith
 
-higher : (n m a b : ℕ) → n ≡ counted a → m ≡ counted b → counted (max n m + 1) ≡ counted (suc (max a b))
+higher : (n m a b : ℕ) → n ≡ size_counted a → m ≡ size_counted b → size_counted (max n m + 1) ≡ size_counted (suc (max a b))
 higher n m a b e f = omega arith
 
-pub height_counted : (t : Tree) → (size_of t).height ≡ counted (height t)
+pub height_counted : (t : Tree) → (size_of t).height ≡ size_counted (height t)
 height_counted (Literal c) = refl
 height_counted (Input k) = refl
 height_counted (State k) = refl
@@ -50,17 +50,17 @@ whole_rest : {X : Type 0} (x : X) (xs : List X) → take (length (x ∷ xs) - 1)
 whole_rest x xs = let e : length (x ∷ xs) - 1 ≡ length xs = omega arith in ap (λ n. take n xs) e ∙ take-length xs
 
 -- of temps, one after another
-first_and_rest : (n m a b : ℕ) → n ≡ counted a → m ≡ counted b → min (n + m) 4294967295 ≡ counted (a + b)
+first_and_rest : (n m a b : ℕ) → n ≡ size_counted a → m ≡ size_counted b → min (n + m) 4294967295 ≡ size_counted (a + b)
 first_and_rest n m a b e f = omega arith
 
-pub first_temp : (ts : List Declared) (x : Declared) (n m r : ℕ) → 1 ≤ length ts → x ≡ slice_index_or ts 0 x → n ≡ (size_of (tree x.expr)).nodes → m ≡ counted (temp_nodes (map temp_of (take (length ts - 1) (drop 1 ts)))) → r ≡ min (n + m) 4294967295 → r ≡ counted (temp_nodes (map temp_of ts))
+pub first_temp : (ts : List Declared) (x : Declared) (n m r : ℕ) → 1 ≤ length ts → x ≡ slice_index_or ts 0 x → n ≡ (size_of (tree x.expr)).nodes → m ≡ size_counted (temp_nodes (map temp_of (take (length ts - 1) (drop 1 ts)))) → r ≡ min (n + m) 4294967295 → r ≡ size_counted (temp_nodes (map temp_of ts))
 first_temp [] x n m r h e p q s = absurd (omega arith)
-first_temp (t ∷ ts) x n m r h e p q s = s ∙ first_and_rest n m (tree_nodes (tree t.expr)) (temp_nodes (map temp_of ts)) (p ∙ ap (λ (y : Declared). (size_of (tree y.expr)).nodes) e ∙ nodes_counted (tree t.expr)) (q ∙ ap (λ (us : List Declared). counted (temp_nodes (map temp_of us))) (whole_rest t ts))
+first_temp (t ∷ ts) x n m r h e p q s = s ∙ first_and_rest n m (tree_nodes (tree t.expr)) (temp_nodes (map temp_of ts)) (p ∙ ap (λ (y : Declared). (size_of (tree y.expr)).nodes) e ∙ nodes_counted (tree t.expr)) (q ∙ ap (λ (us : List Declared). size_counted (temp_nodes (map temp_of us))) (whole_rest t ts))
 
 -- of results, each with its copy
-first_with_copy : (n m a b : ℕ) → n ≡ counted a → m ≡ counted b → min (min (n + 1) 4294967295 + m) 4294967295 ≡ counted (a + 1 + b)
+first_with_copy : (n m a b : ℕ) → n ≡ size_counted a → m ≡ size_counted b → min (min (n + 1) 4294967295 + m) 4294967295 ≡ size_counted (a + 1 + b)
 first_with_copy n m a b e f = omega arith
 
-pub first_result : (es : List Expr) (x : Expr) (n k m r : ℕ) → 1 ≤ length es → x ≡ slice_index_or es 0 x → n ≡ (size_of (tree x)).nodes → k ≡ min (n + 1) 4294967295 → m ≡ counted (result_nodes (map tree (take (length es - 1) (drop 1 es)))) → r ≡ min (k + m) 4294967295 → r ≡ counted (result_nodes (map tree es))
+pub first_result : (es : List Expr) (x : Expr) (n k m r : ℕ) → 1 ≤ length es → x ≡ slice_index_or es 0 x → n ≡ (size_of (tree x)).nodes → k ≡ min (n + 1) 4294967295 → m ≡ size_counted (result_nodes (map tree (take (length es - 1) (drop 1 es)))) → r ≡ min (k + m) 4294967295 → r ≡ size_counted (result_nodes (map tree es))
 first_result [] x n k m r h e p w q s = absurd (omega arith)
-first_result (t ∷ es) x n k m r h e p w q s = s ∙ ap (λ (z : ℕ). min (z + m) 4294967295) w ∙ first_with_copy n m (tree_nodes (tree t)) (result_nodes (map tree es)) (p ∙ ap (λ (y : Expr). (size_of (tree y)).nodes) e ∙ nodes_counted (tree t)) (q ∙ ap (λ (us : List Expr). counted (result_nodes (map tree us))) (whole_rest t es))
+first_result (t ∷ es) x n k m r h e p w q s = s ∙ ap (λ (z : ℕ). min (z + m) 4294967295) w ∙ first_with_copy n m (tree_nodes (tree t)) (result_nodes (map tree es)) (p ∙ ap (λ (y : Expr). (size_of (tree y)).nodes) e ∙ nodes_counted (tree t)) (q ∙ ap (λ (us : List Expr). size_counted (result_nodes (map tree us))) (whole_rest t es))

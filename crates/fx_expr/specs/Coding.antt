@@ -26,15 +26,15 @@ abbrev pub joined : (Tree → Tree → Tree) → List Tree → List Tree
 joined op (b ∷ a ∷ stack) = op a b ∷ stack
 joined op stack = stack
 
-abbrev pub negated : List Tree → List Tree
-negated (a ∷ stack) = Negation a ∷ stack
-negated [] = []
+abbrev pub negated_tree : List Tree → List Tree
+negated_tree (a ∷ stack) = Negation a ∷ stack
+negated_tree [] = []
 
 abbrev pub acted : ℕ → ℕ → List Tree → List Tree
 acted zero k stack = Input k ∷ stack
 acted (suc zero) k stack = State k ∷ stack
 acted (suc (suc zero)) k stack = Temp k ∷ stack
-acted (suc (suc (suc zero))) k stack = negated stack
+acted (suc (suc (suc zero))) k stack = negated_tree stack
 acted (suc (suc (suc (suc zero)))) k stack = joined Sum stack
 acted (suc (suc (suc (suc (suc zero))))) k stack = joined Difference stack
 acted (suc (suc (suc (suc (suc (suc zero)))))) k stack = joined Product stack

@@ -14,8 +14,8 @@ use Rattle.fx_expr.specs.declared.parts.Temp.{Temp}
 use Rattle.fx_expr.specs.declared.function.Function.TheInside.{Inside}
 
 -- the record of the definitions, with trees for expressions and rationals for decimals
-abbrev pub made : List ℕ → List Input → List State → List Temp → List Expr → List (Option Decimal) → model.Function
-made name inputs states temps results demands = record {
+abbrev pub made_function : List ℕ → List Input → List State → List Temp → List Expr → List (Option Decimal) → model.Function
+made_function name inputs states temps results demands = record {
   name = name;
   inputs = map input_of inputs;
   states = map state_of states;
@@ -26,7 +26,7 @@ made name inputs states temps results demands = record {
 
 -- all but the count of nodes
 abbrev pub function_of : Inside → model.Function
-function_of f = made f.name f.inputs f.states f.temps f.results f.demands
+function_of f = made_function f.name f.inputs f.states f.temps f.results f.demands
 
 -- a function in memory has the count of its nodes at hand
 pub record IsFunction (f : Inside) : Type 0 where

@@ -4,16 +4,16 @@ use Rattle.fx_model.specs.Tree.{Tree, Literal, Input, State, Temp, Negation, Sum
 use Rattle.fx_expr.specs.declared.size.Size.{Size}
 
 -- a count past the greatest number of 32 bits is that number
-abbrev pub counted : ℕ → ℕ
-counted n = min n (2 ^ 32 - 1)
+abbrev pub size_counted : ℕ → ℕ
+size_counted n = min n (2 ^ 32 - 1)
 
 -- an operation on one operand
 abbrev pub above_one : Size → Size
-above_one a = record { nodes = counted (a.nodes + 1); height = counted (a.height + 1) }
+above_one a = record { nodes = size_counted (a.nodes + 1); height = size_counted (a.height + 1) }
 
 -- an operation on two
 abbrev pub above_two : Size → Size → Size
-above_two a b = record { nodes = counted (counted (a.nodes + b.nodes) + 1); height = counted (max a.height b.height + 1) }
+above_two a b = record { nodes = size_counted (size_counted (a.nodes + b.nodes) + 1); height = size_counted (max a.height b.height + 1) }
 
 -- of a tree: a use of a name adds no node
 abbrev pub size_of : Tree → Size

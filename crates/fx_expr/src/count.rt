@@ -3,7 +3,7 @@ ghost use Rattle.std.specs.Prelude.{◌≡◌, map};
 ghost use Rattle.fx_model.specs.Counts.{temp_nodes, result_nodes};
 ghost use Rattle.fx_expr.specs.TreeOf.{tree};
 ghost use Rattle.fx_expr.specs.Parts.{temp_of};
-ghost use Rattle.fx_expr.specs.SizeOf.{counted};
+ghost use Rattle.fx_expr.specs.SizeOf.{size_counted};
 
 use crate::expr::Expr;
 use crate::parts::Temp;
@@ -11,7 +11,7 @@ use crate::size::Size;
 
 /// The nodes of all temps, of which there are at most 1,000.
 pub fn count_temps(temps: &[Temp]) -> u32
-    ensures { result ≡ counted (temp_nodes (map temp_of temps.now)) }
+    ensures { result ≡ size_counted (temp_nodes (map temp_of temps.now)) }
 {
     match temps {
         [] => 0,
@@ -24,7 +24,7 @@ pub fn count_temps(temps: &[Temp]) -> u32
 
 /// The nodes of all results, each with its copy.
 pub fn count_results(results: &[Expr]) -> u32
-    ensures { result ≡ counted (result_nodes (map tree results.now)) }
+    ensures { result ≡ size_counted (result_nodes (map tree results.now)) }
 {
     match results {
         [] => 0,

@@ -10,7 +10,7 @@ ghost use Rattle.fx_model.specs.Function as model;
 ghost use Rattle.fx_model.specs.Paths as paths;
 ghost use Rattle.fx_model.specs.Paths.{found, put, subtree, tree_at, temps_changed, results_changed, with_tree};
 ghost use Rattle.fx_expr.specs.LawfulFunction.{IsLawfulFunction};
-ghost use Rattle.fx_expr.specs.FunctionOf.{made};
+ghost use Rattle.fx_expr.specs.FunctionOf.{made_function};
 
 use crate::count::{count_results, count_temps};
 use crate::expr::Expr;
@@ -110,8 +110,8 @@ impl Function {
         results: Items<Expr>,
         demands: Items<Option<Decimal>>,
     ) -> Function
-        requires { IsLawfulFunction (made name inputs states temps results demands) }
-        ensures { result ≡ made name inputs states temps results demands }
+        requires { IsLawfulFunction (made_function name inputs states temps results demands) }
+        ensures { result ≡ made_function name inputs states temps results demands }
     {
         let variables = (inputs.len() + states.len()) as u32;
         let nodes = variables

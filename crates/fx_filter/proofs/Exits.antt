@@ -6,15 +6,15 @@ use Rattle.std.specs.Str.Lines.{lines}
 use Rattle.std.proofs.KnownBytes.{Consumes-trans, Appends-nil, Appends-trans}
 use Rattle.std.proofs.lemmas.List.{length-append, take-append-drop, nil_from_length}
 use Rattle.fx_base.specs.Calls.{AppendsFront}
-use Rattle.fx_rows.specs.Faults.{fault_of}
+use Rattle.fx_rows.specs.Faults.{row_fault_of}
 use Rattle.fx_rows.specs.declared.fault.RowFault.{RowFault}
 use Rattle.fx_base.specs.Text.{text_at, lines_in}
 use Rattle.fx_base.specs.LineSteps.{LinesState, IsFirstLine, TakesLine}
-use Rattle.fx_filter.specs.Outcome.{Outcome, behind, stopped}
-use Rattle.fx_rows.specs.ReadRows.{shifted}
-use Rattle.fx_filter.specs.Promise.{IfKnown, IsDone, IsBadAt, PrintsFront, IsDue, IsFailed, TakesUpTo}
+use Rattle.fx_filter.specs.Outcome.{Outcome, behind_lines, stopped_lines}
+use Rattle.fx_rows.specs.ReadRows.{moved_down}
+use Rattle.fx_filter.specs.Promise.{IfKnown, IsDone, IsBadAt, PrintsFront, IsDue, IsFailed, RunTakesUpTo}
 use Rattle.fx_filter.specs.Outcome.{IfBad}
-use Rattle.fx_filter.specs.Running.{Ran, Asked, EndsAs, HasEnded, HasLine, IsBadLine, StopsAs}
+use Rattle.fx_filter.specs.Running.{Ran, Asked, EndsAs, HasNoLine, HasLine, IsBadLine, StopsAs}
 use Rattle.fx_filter.specs.declared.printer.Stop.{Stop}
 use Rattle.fx_filter.specs.declared.printer.Stop.TheVariants.{Bad}
 use Rattle.fx_filter.specs.declared.printer.Stop.TheVariants as stop
@@ -101,26 +101,26 @@ read-failed o now r left left1 left2 before after page more count bound none ran
 pub line-failed : (o now : List (List ℕ) → Outcome) (r r' : LinesState) (left left1 left2 before after after' : Option (List ℕ)) (page more : List ℕ) (count bound : ℕ) (fault : RowFault)
     → (ran : Ran o now r left left1 before after page count bound) → r.is_ended ≡ false → Consumes left1 left2 more → TakesLine r r' more
     → (r'.is_ended ≡ true → IsAtEnd left2) → length r.held + length more ≤ 131072 → Appends after after' page
-    → ((whole : List ℕ) (rest : List (List ℕ)) → r'.line ≡ take 65537 whole → r'.is_ready ≡ nat_lt (length whole) 65537 → now (whole ∷ rest) ≡ stopped (fault_of fault))
+    → ((whole : List ℕ) (rest : List (List ℕ)) → r'.line ≡ take 65537 whole → r'.is_ready ≡ nat_lt (length whole) 65537 → now (whole ∷ rest) ≡ stopped_lines (row_fault_of fault))
     → IsDue o left left2 before after' (Row r'.number fault)
 line-failed o now r r' left left1 left2 before after after' page more count bound fault ran unended took t ended few put stops =
     let raw = t.raw in
     let taken : Consumes left left2 (ran.front ++ (r.held ++ more)) =
     subst (Consumes left left2) (append_assoc ran.front r.held more) (Consumes-trans left left1 left2 (ran.front ++ r.held) more ran.taken took) in
     let next : r'.number ≡ length ran.done + 1 = t.number ∙ ap (λ k. k + 1) ran.number in (
-      known left left2 (ran.front ++ (r.held ++ more)) (λ all. IsBadAt (o (lines_in all)) r'.number (fault_of fault) before after') taken (λ ys e.
+      known left left2 (ran.front ++ (r.held ++ more)) (λ all. IsBadAt (o (lines_in all)) r'.number (row_fault_of fault) before after') taken (λ ys e.
           let rest = r'.held ++ ys in
           let first : IsFirstLine r' (lines (text_at (r.number == 0) (raw ++ rest))) (lines rest) =
           t.line rest (λ f. ended-rest r'.held ys left2 (t.ended f) (ended f) e) in
           let split : (ran.front ++ (r.held ++ more)) ++ ys ≡ ran.front ++ (raw ++ rest) =
           append_assoc ran.front (r.held ++ more) ys ∙ ap (λ x. ran.front ++ (x ++ ys)) t.parts ∙ ap (λ x. ran.front ++ x) (append_assoc raw r'.held ys) in
-          let all : o (lines_in ((ran.front ++ (r.held ++ more)) ++ ys)) ≡ behind (length ran.done) (ran.sent ++ page) count (stopped (fault_of fault)) =
+          let all : o (lines_in ((ran.front ++ (r.held ++ more)) ++ ys)) ≡ behind_lines (length ran.done) (ran.sent ++ page) count (stopped_lines (row_fault_of fault)) =
           ap (λ x. o (lines_in x)) split ∙ ap o (ran.cuts (raw ++ rest) (λ f. absurd (cc)) ∙ ap (λ x. ran.done ++ x) first.cut) ∙ ran.printed (first.whole ∷ first.behind)
-          ∙ ap (behind (length ran.done) (ran.sent ++ page) count) (stops first.whole first.behind first.line first.ready) in
+          ∙ ap (behind_lines (length ran.done) (ran.sent ++ page) count) (stops first.whole first.behind first.line first.ready) in
           record {
             place = length ran.done;
             number = next;
-            bad = ap (λ (x : Outcome). x.bad) all ∙ ap (λ k. Some (k, fault_of fault)) (let z : length ran.done + 0 ≡ length ran.done = omega arith in z);
+            bad = ap (λ (x : Outcome). x.bad) all ∙ ap (λ k. Some (k, row_fault_of fault)) (let z : length ran.done + 0 ≡ length ran.done = omega arith in z);
             printed = subst (Appends before after') (sym (ap (λ (x : Outcome). x.text) all ∙ append-nil (ran.sent ++ page)))
                 (Appends-trans before after after' ran.sent page ran.written put);
           }),
@@ -144,7 +144,7 @@ all-lines o now r left left1 before after page more count bound ran none quiet =
 all-outcome : (o now : List (List ℕ) → Outcome) (r : LinesState) (left left1 left2 before after : Option (List ℕ)) (page more ys : List ℕ) (count bound : ℕ)
     → (ran : Ran o now r left left1 before after page count bound) → text_at (r.number == 0) (r.held ++ more) ≡ [] → (r.is_ended ≡ true → length more ≡ 0)
     → IsAtEnd left2 → left2 ≡ Some ys
-    → o (lines_in ((ran.front ++ (r.held ++ more)) ++ ys)) ≡ behind (length ran.done) (ran.sent ++ page) count (now [])
+    → o (lines_in ((ran.front ++ (r.held ++ more)) ++ ys)) ≡ behind_lines (length ran.done) (ran.sent ++ page) count (now [])
 all-outcome o now r left left1 left2 before after page more ys count bound ran none quiet end e =
     ap (λ t. o (lines_in t)) (ap (λ t. (ran.front ++ (r.held ++ more)) ++ t) (subst IsAtEnd e end) ∙ append-nil (ran.front ++ (r.held ++ more)))
     ∙ ap o (all-lines o now r left left1 before after page more count bound ran none quiet ∙ sym (append-nil ran.done)) ∙ ran.printed []
@@ -159,7 +159,7 @@ all-done o now r left left1 left2 before after page more count bound nothing goo
     (subst (Consumes left left2) (append_assoc ran.front r.held more) (Consumes-trans left left1 left2 (ran.front ++ r.held) more ran.taken took)) (λ ys e.
     let all = all-outcome o now r left left1 left2 before after page more ys count bound ran none quiet end e in
     record {
-      good = ap (λ (x : Outcome). x.bad) all ∙ ap (shifted (length ran.done)) good;
+      good = ap (λ (x : Outcome). x.bad) all ∙ ap (moved_down (length ran.done)) good;
       rows = ap (λ (x : Outcome). x.rows) all ∙ ap (λ n. count + n) nothing.1 ∙ (let z : count + 0 ≡ count = omega arith in z);
       printed = subst (Appends before after)
           (sym (ap (λ (x : Outcome). x.text) all ∙ ap (λ t. (ran.sent ++ page) ++ t) nothing.0 ∙ append-nil (ran.sent ++ page) ∙ ap (λ t. ran.sent ++ t) empty ∙ append-nil ran.sent))
@@ -168,19 +168,19 @@ all-done o now r left left1 left2 before after page more count bound nothing goo
 
 -- the input has ended, and something is missing
 pub end-failed : (o now : List (List ℕ) → Outcome) (r : LinesState) (left left1 left2 before after : Option (List ℕ)) (page more : List ℕ) (count bound : ℕ) (fault : RowFault)
-    → ((now []).text ≡ []) × ((now []).rows ≡ 0) → (now []).bad ≡ Some (0, fault_of fault) → (ran : Ran o now r left left1 before after page count bound) → page ≡ []
+    → ((now []).text ≡ []) × ((now []).rows ≡ 0) → (now []).bad ≡ Some (0, row_fault_of fault) → (ran : Ran o now r left left1 before after page count bound) → page ≡ []
     → Consumes left1 left2 more → text_at (r.number == 0) (r.held ++ more) ≡ [] → (r.is_ended ≡ true → length more ≡ 0) → IsAtEnd left2
     → IsDue o left left2 before after (Row (r.number + 1) fault)
 end-failed o now r left left1 left2 before after page more count bound fault nothing bad ran empty took none quiet end =
     let bytes = ran.front ++ (r.held ++ more) in
     let taken : Consumes left left2 bytes =
     subst (Consumes left left2) (append_assoc ran.front r.held more) (Consumes-trans left left1 left2 (ran.front ++ r.held) more ran.taken took) in (
-      known left left2 bytes (λ all. IsBadAt (o (lines_in all)) (r.number + 1) (fault_of fault) before after) taken (λ ys e.
+      known left left2 bytes (λ all. IsBadAt (o (lines_in all)) (r.number + 1) (row_fault_of fault) before after) taken (λ ys e.
           let all = all-outcome o now r left left1 left2 before after page more ys count bound ran none quiet end e in
           record {
             place = length ran.done;
             number = ap (λ k. k + 1) ran.number;
-            bad = ap (λ (x : Outcome). x.bad) all ∙ ap (shifted (length ran.done)) bad ∙ ap (λ k. Some (k, fault_of fault)) (let z : length ran.done + 0 ≡ length ran.done = omega arith in z);
+            bad = ap (λ (x : Outcome). x.bad) all ∙ ap (moved_down (length ran.done)) bad ∙ ap (λ k. Some (k, row_fault_of fault)) (let z : length ran.done + 0 ≡ length ran.done = omega arith in z);
             printed = subst (Appends before after)
                 (sym (ap (λ (x : Outcome). x.text) all ∙ ap (λ t. (ran.sent ++ page) ++ t) nothing.0 ∙ append-nil (ran.sent ++ page) ∙ ap (λ t. ran.sent ++ t) empty ∙ append-nil ran.sent))
                 ran.written;
@@ -216,7 +216,7 @@ line-stopped o now r r' left left1 left2 before mid last page page' more count b
 )
 
 -- the same told of the answer
-pub of-result : (left left' : Option (List ℕ)) (limit : ℕ) (f : RunFault) → TakesUpTo left left' limit f
+pub of-result : (left left' : Option (List ℕ)) (limit : ℕ) (f : RunFault) → RunTakesUpTo left left' limit f
     → (taken : List ℕ) × Consumes left left' taken × (IsErrOf {T = ℕ} (Err f) fault.TooLong ↔ (limit < length taken))
 of-result left left' limit f t = (t.0, t.1, ((λ e. t.2.0 (let same : f ≡ fault.TooLong = cc in same)), (λ h. ap Err (t.2.1 h))))
 
@@ -229,7 +229,7 @@ pub record IsOver (o : List (List ℕ) → Outcome) (left left' before after : O
 
 -- no line is left
 pub lines-ended : (o now : List (List ℕ) → Outcome) (r r' : LinesState) (left left1 left2 before mid : Option (List ℕ)) (page more : List ℕ) (count bound : ℕ) (result : Result ℕ RunFault)
-    → ((now []).text ≡ []) × ((now []).rows ≡ 0) → (asked : Asked o now r left left1 left2 before mid page more count bound) → HasEnded r r' left2 page more → r.taken + length more ≤ bound
+    → ((now []).text ≡ []) × ((now []).rows ≡ 0) → (asked : Asked o now r left left1 left2 before mid page more count bound) → HasNoLine r r' left2 page more → r.taken + length more ≤ bound
     → EndsAs (now []) r'.number count result → IsOver o left left2 before mid bound result
 lines-ended o now r r' left left1 left2 before mid page more count bound (Ok n) nothing asked over within ends = record {
   done = subst (λ k. IfKnown left (λ all. IsDone (o (lines_in all)) k before mid)) (sym ends.1)

@@ -9,7 +9,7 @@ use Rattle.std.proofs.Common.{inl, inr}
 use borrow.Author.Tests.{ltb-true}
 use Rattle.fx_base.specs.Text.{text_at, lines_in}
 use Rattle.fx_base.specs.LineSteps.{LinesState, IsFirstLine, EndsLine, TakesLine}
-use Rattle.fx_filter.specs.Outcome.{Outcome, behind}
+use Rattle.fx_filter.specs.Outcome.{Outcome, behind_lines}
 use Rattle.fx_filter.specs.Promise.{AreWholeLines}
 use Rattle.fx_filter.specs.Running.{Ran, IsFlushed}
 use Rattle.fx_filter.proofs.Outcomes.{behind-twice, behind-same, behind-nothing}
@@ -149,7 +149,7 @@ pub stepped : (o now now' : List (List ℕ) → Outcome) (r r' : LinesState) (le
     → (ran : Ran o now r left left1 before after page count bound) → r.is_ended ≡ false → Consumes left1 left2 more → TakesLine r r' more
     → r'.taken ≡ r.taken + length more → r'.number + length r'.held ≤ r'.taken → r'.limit ≡ r.limit → r'.taken ≤ bound → r'.is_ready ≡ true
     → (r'.is_ended ≡ true → IsAtEnd left2) → length ran.late + (length r.held + length more) ≤ 131072
-    → ((rest : List (List ℕ)) → now (r'.line ∷ rest) ≡ behind 1 text n (now' rest)) → n ≤ 1
+    → ((rest : List (List ℕ)) → now (r'.line ∷ rest) ≡ behind_lines 1 text n (now' rest)) → n ≤ 1
     → Ran o now' r' left left2 before after (page ++ text) (count + n) bound
 stepped o now now' r r' left left1 left2 before after page text more count n bound ran unended took t taken counts limit within ready ended prompt prints few =
     let raw = t.raw in
@@ -177,7 +177,7 @@ stepped o now now' r r' left left1 left2 before after page text more count n bou
       whole = λ e. fed-behind ran.front raw (t.fed ready e);
       ended = λ e. (t.ended e, ended e);
       printed = λ rest. ap o (append_assoc ran.done (r'.line ∷ []) rest) ∙ ran.printed (r'.line ∷ rest)
-          ∙ ap (behind (length ran.done) (ran.sent ++ page) count) (prints rest)
+          ∙ ap (behind_lines (length ran.done) (ran.sent ++ page) count) (prints rest)
           ∙ behind-twice (length ran.done) 1 (ran.sent ++ page) text count n (now' rest)
           ∙ behind-same _ _ _ _ _ _ (now' rest) (sym (length-append ran.done (r'.line ∷ []))) (append_assoc ran.sent page text) refl;
       written = ran.written;

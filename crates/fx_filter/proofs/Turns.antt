@@ -7,9 +7,9 @@ use Rattle.std.proofs.KnownBytes.{Consumes-trans}
 use Rattle.std.proofs.lemmas.List.{length-append, take_all}
 use borrow.Author.Tests.{ltb-true, ltb-false}
 use Rattle.fx_base.specs.LineSteps.{LinesState}
-use Rattle.fx_filter.specs.Outcome.{Outcome, one, stopped, IfBad}
-use Rattle.fx_filter.specs.Promise.{TakesUpTo}
-use Rattle.fx_rows.specs.Faults.{fault_of}
+use Rattle.fx_filter.specs.Outcome.{Outcome, one, stopped_lines, IfBad}
+use Rattle.fx_filter.specs.Promise.{RunTakesUpTo}
+use Rattle.fx_rows.specs.Faults.{row_fault_of}
 use Rattle.fx_filter.specs.Running.{Asked, IsBadLine, Ran, IsFlushed}
 use Rattle.fx_filter.specs.declared.printer.Stop.{Stop}
 use Rattle.fx_filter.specs.declared.printer.Stop.TheVariants.{Bad, Memory}
@@ -82,7 +82,7 @@ one-few false = omega arith
 
 -- a line that is shown whole is bad where it is as it was shown
 pub told-bad : (r : Result Bool Stop) (page' page : List ℕ) (now : List (List ℕ) → Outcome) (lines : LinesState) (line : List ℕ) → line ≡ lines.line → lines.is_ready ≡ true
-    → IfErr r (IfBad (λ f. (page' ≡ page) × ((rest : List (List ℕ)) → now (line ∷ rest) ≡ stopped (fault_of f))))
+    → IfErr r (IfBad (λ f. (page' ≡ page) × ((rest : List (List ℕ)) → now (line ∷ rest) ≡ stopped_lines (row_fault_of f))))
     → IfErr r (IfBad (λ f. (page' ≡ page) × IsBadLine now lines f))
 told-bad (Ok x) page' page now lines line same ready h = tt
 told-bad (Err Memory) page' page now lines line same ready h = tt
@@ -102,7 +102,7 @@ total o now r left left1 left2 before after page more count bound ran took = (
 -- all bytes that were taken, and that they are within the limit
 pub up-to : (o now : List (List ℕ) → Outcome) (r : LinesState) (left left1 left2 before after : Option (List ℕ)) (page more : List ℕ) (count bound : ℕ) (f : RunFault)
     → Ran o now r left left1 before after page count bound → Consumes left1 left2 more → r.taken + length more ≤ bound → (f ≡ fault.TooLong → ⊥)
-    → TakesUpTo left left2 bound f
+    → RunTakesUpTo left left2 bound f
 up-to o now r left left1 left2 before after page more count bound f ran took within other =
     let all = total o now r left left1 left2 before after page more count bound ran took in
     let size : length all.0 ≡ r.taken + length more = all.2 in

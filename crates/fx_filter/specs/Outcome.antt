@@ -1,7 +1,7 @@
 -- What comes of lines: the text that is printed, how many rows, and the first bad line.
 use Rattle.std.specs.Prelude.{ℕ, ◌+◌, List, [], ◌++◌, ⊤, Bool, if◌then◌else◌, Option, Some}
-use Rattle.fx_rows.specs.Faults.{Fault, at_input}
-use Rattle.fx_rows.specs.ReadRows.{shifted}
+use Rattle.fx_rows.specs.Faults.{RowFlaw, at_input}
+use Rattle.fx_rows.specs.ReadRows.{moved_down}
 use Rattle.fx_rows.specs.declared.fault.RowFault.{RowFault}
 use Rattle.fx_rows.specs.declared.fault.RowKind.TheVariants.{LineTooLong}
 use Rattle.fx_filter.specs.declared.printer.Stop.{Stop}
@@ -11,19 +11,19 @@ use Rattle.fx_filter.specs.declared.printer.Stop.TheVariants.{Bad, Memory}
 pub record Outcome : Type 0 where
   pub text : List ℕ
   pub rows : ℕ
-  pub bad : Option (ℕ × Fault)
+  pub bad : Option (ℕ × RowFlaw)
 
-abbrev pub stopped : Fault → Outcome
-stopped f = record { text = []; rows = 0; bad = Some (0, f) }
+abbrev pub stopped_lines : RowFlaw → Outcome
+stopped_lines f = record { text = []; rows = 0; bad = Some (0, f) }
 
 -- the outcome of lines behind k others, which printed this text and were so many rows
-abbrev pub behind : ℕ → List ℕ → ℕ → Outcome → Outcome
-behind k text rows more = record { text = text ++ more.text; rows = rows + more.rows; bad = shifted k more.bad }
+abbrev pub behind_lines : ℕ → List ℕ → ℕ → Outcome → Outcome
+behind_lines k text rows more = record { text = text ++ more.text; rows = rows + more.rows; bad = moved_down k more.bad }
 
 abbrev pub one : Bool → ℕ
 one is_row = if is_row then 1 else 0
 
-abbrev pub too_long : Fault
+abbrev pub too_long : RowFlaw
 too_long = at_input LineTooLong 0
 
 abbrev pub IfBad : (RowFault → Type 0) → Stop → Type 0

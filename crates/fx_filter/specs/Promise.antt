@@ -1,7 +1,7 @@
 -- What stands written, and what was taken, when a run over lines ends.
 use Rattle.std.specs.Prelude.{ℕ, ◌≡◌, ◌+◌, ◌≤◌, ◌<◌, ◌==◌, ◌⊎◌, ◌↔◌, List, [], ◌++◌, length, position, ⊤, Option, Some, None}
 use Rattle.std.specs.Io.KnownBytes.{Consumes, Appends}
-use Rattle.fx_rows.specs.Faults.{Fault, fault_of}
+use Rattle.fx_rows.specs.Faults.{RowFlaw, row_fault_of}
 use Rattle.fx_base.specs.Text.{lines_in}
 use Rattle.fx_base.specs.LineSteps.{EndsLine}
 use Rattle.fx_filter.specs.Outcome.{Outcome}
@@ -20,7 +20,7 @@ pub record IsDone (o : Outcome) (count : ℕ) (before after : Option (List ℕ))
   pub printed : Appends before after o.text
 
 -- the line of this number, from 1, is the first bad one, and all before it is printed
-pub record IsBadAt (o : Outcome) (line : ℕ) (fault : Fault) (before after : Option (List ℕ)) : Type 0 where
+pub record IsBadAt (o : Outcome) (line : ℕ) (fault : RowFlaw) (before after : Option (List ℕ)) : Type 0 where
   pub place : ℕ
   pub number : line ≡ place + 1
   pub bad : o.bad ≡ Some (place, fault)
@@ -61,7 +61,7 @@ pub record IsPrompt (o : List (List ℕ) → Outcome) (left left' before after :
   pub printed : Appends before after ((o (lines_in front)).text ++ more)
 
 -- of the taken bytes the last 131,072 at most begin with the line of this number
-pub record IsNear (line : ℕ) (left left' : Option (List ℕ)) : Type 0 where
+pub record IsLineNear (line : ℕ) (left left' : Option (List ℕ)) : Type 0 where
   pub front : List ℕ
   pub rest : List ℕ
   pub taken : Consumes left left' (front ++ rest)
@@ -70,16 +70,16 @@ pub record IsNear (line : ℕ) (left left' : Option (List ℕ)) : Type 0 where
 
 -- what holds after each fault
 abbrev pub IsDue : (List (List ℕ) → Outcome) → Option (List ℕ) → Option (List ℕ) → Option (List ℕ) → Option (List ℕ) → RunFault → Type 0
-IsDue o left left' before after (Row line fault) = IfKnown left (λ all. IsBadAt (o (lines_in all)) line (fault_of fault) before after) × IsNear line left left'
+IsDue o left left' before after (Row line fault) = IfKnown left (λ all. IsBadAt (o (lines_in all)) line (row_fault_of fault) before after) × IsLineNear line left left'
 IsDue o left left' before after ReadFault = IfKnown left (λ all. PrintsFront (o (lines_in all)).text before after) × PrintsWholeLines o left left' before after
 IsDue o left left' before after WriteFault = IfKnown left (λ all. PrintsFront (o (lines_in all)).text before after) × IsPrompt o left left' before after
 IsDue o left left' before after TooLong = IfKnown left (λ all. PrintsFront (o (lines_in all)).text before after)
 IsDue o left left' before after Memory = IfKnown left (λ all. PrintsFront (o (lines_in all)).text before after)
 
 -- bytes were taken from the front, and more than `limit` of them exactly where the fault is TooLong
-abbrev pub TakesUpTo : Option (List ℕ) → Option (List ℕ) → ℕ → RunFault → Type 0
-TakesUpTo left left' limit fault = (taken : List ℕ) × Consumes left left' taken × ((fault ≡ TooLong) ↔ (limit < length taken))
+abbrev pub RunTakesUpTo : Option (List ℕ) → Option (List ℕ) → ℕ → RunFault → Type 0
+RunTakesUpTo left left' limit fault = (taken : List ℕ) × Consumes left left' taken × ((fault ≡ TooLong) ↔ (limit < length taken))
 
 -- both
 abbrev pub IsFailed : (List (List ℕ) → Outcome) → Option (List ℕ) → Option (List ℕ) → Option (List ℕ) → Option (List ℕ) → ℕ → RunFault → Type 0
-IsFailed o left left' before after limit fault = IsDue o left left' before after fault × TakesUpTo left left' limit fault
+IsFailed o left left' before after limit fault = IsDue o left left' before after fault × RunTakesUpTo left left' limit fault

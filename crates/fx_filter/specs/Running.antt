@@ -7,8 +7,8 @@ use Rattle.fx_base.specs.LineSteps.{LinesState, TakesLine}
 use Rattle.fx_base.specs.Calls.{AppendsFront}
 use Rattle.fx_base.specs.declared.lines.LineStep.{LineStep}
 use Rattle.fx_base.specs.declared.lines.LineStep.TheVariants.{Line, End}
-use Rattle.fx_filter.specs.Outcome.{Outcome, behind, stopped}
-use Rattle.fx_rows.specs.Faults.{fault_of}
+use Rattle.fx_filter.specs.Outcome.{Outcome, behind_lines, stopped_lines}
+use Rattle.fx_rows.specs.Faults.{row_fault_of}
 use Rattle.fx_rows.specs.declared.fault.RowFault.{RowFault}
 use Rattle.fx_filter.specs.Promise.{AreWholeLines}
 use Rattle.fx_filter.specs.declared.fault.RunFault.{RunFault}
@@ -26,7 +26,7 @@ pub record Ran (first now : List (List ℕ) → Outcome) (r : LinesState) (left 
   pub cuts : (rest : List ℕ) → (r.is_ended ≡ true → rest ≡ []) → lines_in (front ++ rest) ≡ done ++ lines (text_at (r.number == 0) rest)
   pub whole : r.is_ended ≡ false → AreWholeLines front
   pub ended : r.is_ended ≡ true → (r.held ≡ []) × IsAtEnd left'
-  pub printed : (rest : List (List ℕ)) → first (done ++ rest) ≡ behind (length done) (sent ++ page) count (now rest)
+  pub printed : (rest : List (List ℕ)) → first (done ++ rest) ≡ behind_lines (length done) (sent ++ page) count (now rest)
   pub written : Appends before after sent
   pub number : r.number ≡ length done
   pub counts : r.number + length r.held ≤ r.taken
@@ -62,7 +62,7 @@ pub record HasLine (r r' : LinesState) (left : Option (List ℕ)) (more : List �
   pub counts : r'.is_ready ≡ true → r'.number + length r'.held ≤ r'.taken
 
 -- no line is left, and all is written
-pub record HasEnded (r r' : LinesState) (left : Option (List ℕ)) (page more : List ℕ) : Type 0 where
+pub record HasNoLine (r r' : LinesState) (left : Option (List ℕ)) (page more : List ℕ) : Type 0 where
   pub empty : page ≡ []
   pub none : text_at (r.number == 0) (r.held ++ more) ≡ []
   pub end : IsAtEnd left
@@ -70,7 +70,7 @@ pub record HasEnded (r r' : LinesState) (left : Option (List ℕ)) (page more : 
 
 abbrev pub HasStepped : LineStep → LinesState → LinesState → Option (List ℕ) → List ℕ → List ℕ → Type 0
 HasStepped Line r r' left page more = HasLine r r' left more
-HasStepped End r r' left page more = HasEnded r r' left page more
+HasStepped End r r' left page more = HasNoLine r r' left page more
 
 -- what asking for a line gives
 pub record IsAsked (o now : List (List ℕ) → Outcome) (r r' : LinesState) (left left1 left2 before mid : Option (List ℕ)) (page : List ℕ) (count bound : ℕ) (step : LineStep) : Type 0 where
@@ -88,7 +88,7 @@ IsShown r whole = (r.line ≡ take 65537 whole) × (r.is_ready ≡ nat_lt (lengt
 
 -- what a bad line comes to, told of the lines that it may be
 abbrev pub IsBadLine : (List (List ℕ) → Outcome) → LinesState → RowFault → Type 0
-IsBadLine now r f = (whole : List ℕ) (rest : List (List ℕ)) → IsShown r whole → now (whole ∷ rest) ≡ stopped (fault_of f)
+IsBadLine now r f = (whole : List ℕ) (rest : List (List ℕ)) → IsShown r whole → now (whole ∷ rest) ≡ stopped_lines (row_fault_of f)
 
 -- how the run ends at a line that stops it: what was printed before is written, or the write fails
 abbrev pub StopsAs : Stop → ℕ → Option (List ℕ) → Option (List ℕ) → List ℕ → RunFault → Type 0
@@ -98,4 +98,4 @@ StopsAs Memory number before after page g = (g ≡ fault.Memory) × (after ≡ b
 -- how it ends where no line is left: with the number of rows, or with what is missing
 abbrev pub EndsAs : Outcome → ℕ → ℕ → Result ℕ RunFault → Type 0
 EndsAs o number count (Ok n) = (o.bad ≡ None) × (n ≡ count)
-EndsAs o number count (Err g) = (f : RowFault) × (g ≡ fault.Row (number + 1) f) × (o.bad ≡ Some (0, fault_of f))
+EndsAs o number count (Err g) = (f : RowFault) × (g ≡ fault.Row (number + 1) f) × (o.bad ≡ Some (0, row_fault_of f))

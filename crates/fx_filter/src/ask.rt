@@ -6,7 +6,7 @@ ghost use Rattle.std.specs.Prelude.{◌≡◌, ◌≢◌, ◌+◌, ◌-◌, ◌^
 ghost use Rattle.fx_base.specs.Causes.{Rose, HasCause};
 ghost use Rattle.fx_base.specs.Calls.{AppendsFront};
 ghost use Rattle.fx_filter.specs.Rooms.{HasRoom};
-ghost use Rattle.fx_filter.specs.Outcome.{Outcome, behind, one, IfBad};
+ghost use Rattle.fx_filter.specs.Outcome.{Outcome, behind_lines, one, IfBad};
 ghost use Rattle.fx_filter.specs.Promise.{Grows, IsFailed};
 ghost use Rattle.fx_filter.specs.Running.{Ran, IsFlushed, IsAsked, EndsAs, IsBadLine, StopsAs};
 ghost use Rattle.fx_filter.specs.declared.fault.RunFault.TheVariants.{ReadFault, WriteFault};
@@ -73,7 +73,7 @@ pub(crate) fn take_line<P: Printer>(
     ensures can { OnOk result (P.can_take printer.new) }
     ensures ready { OnOk result (lines.now.is_ready ≡ true) }
     ensures taken { IfOk result (λ is_row. (text : List ℕ) × (page.new ≡ page.old ++ text)
-        × ((rest : List (List ℕ)) → P.outcome printer.old (lines.now.line ∷ rest) ≡ behind 1 text (one is_row) (P.outcome printer.new rest))) }
+        × ((rest : List (List ℕ)) → P.outcome printer.old (lines.now.line ∷ rest) ≡ behind_lines 1 text (one is_row) (P.outcome printer.new rest))) }
     ensures bad { IfErr result (IfBad (λ fault. (page.new ≡ page.old) × IsBadLine (P.outcome printer.old) lines.now fault)) }
 {
     if !lines.ready() {

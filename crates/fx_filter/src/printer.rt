@@ -1,9 +1,9 @@
 //! What is printed of lines that come one at a time.
 ghost use Rattle.std.specs.Prelude.{◌≡◌, ℕ, List, [], ◌∷◌, ◌++◌, ◌<◌, length, option_map, IfOk, IfErr, OnOk};
 ghost use Rattle.fx_model.specs.Limits.{line_limit};
-ghost use Rattle.fx_rows.specs.Faults.{fault_of};
+ghost use Rattle.fx_rows.specs.Faults.{row_fault_of};
 ghost use Rattle.fx_filter.specs.Rooms.{HasRoom};
-ghost use Rattle.fx_filter.specs.Outcome.{Outcome, behind, one, stopped, too_long, IfBad};
+ghost use Rattle.fx_filter.specs.Outcome.{Outcome, behind_lines, one, stopped_lines, too_long, IfBad};
 
 use crate::page::Page;
 use fx_rows::RowFault;
@@ -31,17 +31,17 @@ pub trait Printer {
         requires room { HasRoom page.old }
         ensures can { OnOk result (can_take self.new) }
         ensures taken { IfOk result (λ is_row. (text : List ℕ) × (page.new ≡ page.old ++ text)
-            × ((rest : List (List ℕ)) → outcome self.old (line.now ∷ rest) ≡ behind 1 text (one is_row) (outcome self.new rest))) }
+            × ((rest : List (List ℕ)) → outcome self.old (line.now ∷ rest) ≡ behind_lines 1 text (one is_row) (outcome self.new rest))) }
         ensures bad { IfErr result (IfBad (λ fault. (page.new ≡ page.old)
-            × ((rest : List (List ℕ)) → outcome self.old (line.now ∷ rest) ≡ stopped (fault_of fault)))) };
+            × ((rest : List (List ℕ)) → outcome self.old (line.now ∷ rest) ≡ stopped_lines (row_fault_of fault)))) };
 
     /// What is wrong where no line is left.
     fn end(&self) -> Option<RowFault>
-        ensures { (outcome self.now []).bad ≡ option_map (λ f. (0, fault_of f)) result };
+        ensures { (outcome self.now []).bad ≡ option_map (λ f. (0, row_fault_of f)) result };
 
     // Where no line is left nothing is printed.
     ghost none: { (s : Self) → ((outcome s []).text ≡ []) × ((outcome s []).rows ≡ 0) };
 
     // A line that is too long is bad, whatever it holds.
-    ghost long: { (s : Self) (line : List ℕ) (rest : List (List ℕ)) → line_limit < length line → outcome s (line ∷ rest) ≡ stopped too_long };
+    ghost long: { (s : Self) (line : List ℕ) (rest : List (List ℕ)) → line_limit < length line → outcome s (line ∷ rest) ≡ stopped_lines too_long };
 }

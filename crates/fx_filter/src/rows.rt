@@ -15,10 +15,10 @@ ghost use Rattle.fx_model.specs.Rows.{IsInRange};
 ghost use Rattle.fx_fields.specs.Line.{is_special};
 ghost use Rattle.fx_rows.specs.Header.{columns_of};
 ghost use Rattle.fx_rows.specs.ReadRows.{read_rows};
-ghost use Rattle.fx_rows.specs.Faults.{fault_of};
+ghost use Rattle.fx_rows.specs.Faults.{row_fault_of};
 ghost use Rattle.fx_rows.specs.declared.fault.RowKind.TheVariants as kind;
 ghost use Rattle.fx_filter.specs.Rooms.{HasRoom};
-ghost use Rattle.fx_filter.specs.Outcome.{Outcome, behind, one, stopped, IfBad};
+ghost use Rattle.fx_filter.specs.Outcome.{Outcome, behind_lines, one, stopped_lines, IfBad};
 ghost use Rattle.fx_filter.specs.Printed.{lines_outcome, outcome_of};
 ghost use Rattle.fx_filter.specs.Promise.{Grows, IfKnown, IsDone, IsDue};
 ghost use Rattle.fx_filter.specs.declared.printer.Stop.TheVariants as stop;
@@ -104,9 +104,9 @@ fn take_header<M: RowStep>(
     ensures many { IfOk result (λ o. IfSome o (λ c. length (columns_of c) ≡ length (M.meaning step.now).inputs)) }
     ensures taken { IfOk result (λ o. (text : List ℕ) × (page.new ≡ page.old ++ text)
         × ((rest : List (List ℕ)) → lines_outcome (M.meaning step.now) (M.head step.now) (M.printed step.now) None (line.now ∷ rest)
-        ≡ behind 1 text 0 (lines_outcome (M.meaning step.now) (M.head step.now) (M.printed step.now) (option_map columns_of o) rest))) }
+        ≡ behind_lines 1 text 0 (lines_outcome (M.meaning step.now) (M.head step.now) (M.printed step.now) (option_map columns_of o) rest))) }
     ensures bad { IfErr result (IfBad (λ fault. (page.new ≡ page.old)
-        × ((rest : List (List ℕ)) → lines_outcome (M.meaning step.now) (M.head step.now) (M.printed step.now) None (line.now ∷ rest) ≡ stopped (fault_of fault)))) }
+        × ((rest : List (List ℕ)) → lines_outcome (M.meaning step.now) (M.head step.now) (M.printed step.now) None (line.now ∷ rest) ≡ stopped_lines (row_fault_of fault)))) }
 {
     match read_header(alloc, line, step.function()) {
         Ok(None) => Ok(None),
@@ -136,9 +136,9 @@ fn take_row<M: RowStep>(
     ensures row_room { vec_capacity row.old ≤ vec_capacity row.new }
     ensures taken { IfOk result (λ is_row. (text : List ℕ) × (page.new ≡ page.old ++ text)
         × ((rest : List (List ℕ)) → lines_outcome (M.meaning step.old) (M.head step.old) (M.printed step.old) (Some (columns_of columns.now)) (line.now ∷ rest)
-        ≡ behind 1 text (one is_row) (lines_outcome (M.meaning step.new) (M.head step.new) (M.printed step.new) (Some (columns_of columns.now)) rest))) }
+        ≡ behind_lines 1 text (one is_row) (lines_outcome (M.meaning step.new) (M.head step.new) (M.printed step.new) (Some (columns_of columns.now)) rest))) }
     ensures bad { IfErr result (IfBad (λ fault. (page.new ≡ page.old)
-        × ((rest : List (List ℕ)) → lines_outcome (M.meaning step.old) (M.head step.old) (M.printed step.old) (Some (columns_of columns.now)) (line.now ∷ rest) ≡ stopped (fault_of fault)))) }
+        × ((rest : List (List ℕ)) → lines_outcome (M.meaning step.old) (M.head step.old) (M.printed step.old) (Some (columns_of columns.now)) (line.now ∷ rest) ≡ stopped_lines (row_fault_of fault)))) }
     ensures memory { list_any is_special line.now ≡ false → result ≢ Err stop.Memory }
 {
     match read_row(alloc, line, columns, step.function(), row) {

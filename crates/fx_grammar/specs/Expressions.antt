@@ -36,13 +36,13 @@ abbrev pub is_call : Tokens → Bool
 is_call ts = (next_head ts ==ₕ heads.Open) && not (is_fresh ts)
 
 -- a use of the name at this place, or the fault that nothing has the name
-abbrev pub found : Known → Lexeme → Option ℕ → Reader
-found known t None ts = Err (fault t.at kinds.UnknownName)
-found known t (Some p) ts = Ok (leaf (meant known p) 0, ts)
+abbrev pub found_name : Known → Lexeme → Option ℕ → Reader
+found_name known t None ts = Err (fault t.at kinds.UnknownName)
+found_name known t (Some p) ts = Ok (leaf (meant known p) 0, ts)
 
 -- a name, which is no call
 abbrev pub named : Known → Lexeme → Reader
-named known t ts = if is_call ts then Err (fault t.at kinds.Unsupported) else found known t (name_place known.names t.text) ts
+named known t ts = if is_call ts then Err (fault t.at kinds.Unsupported) else found_name known t (name_place known.names t.text) ts
 
 -- the parenthesis that closes
 unfoldable pub closed : Known → Operand → Reader

@@ -137,13 +137,13 @@ abbrev pub name_place : List Text → Text → Option ℕ
 name_place names text = position (λ name. bytes_eq name text) names
 
 -- a place was found
-abbrev pub is_there : Option ℕ → Bool
-is_there None = false
-is_there (Some k) = true
+abbrev pub is_found : Option ℕ → Bool
+is_found None = false
+is_found (Some k) = true
 
 -- one of the names is this
 abbrev pub has_name : List Text → Text → Bool
-has_name names name = is_there (name_place names name)
+has_name names name = is_found (name_place names name)
 
 -- a new name where so many of its sort are read, of at most limit
 unfoldable pub free_at : ℕ → ℕ → List Text → Lexeme → Result (Unit {0}) SourceFault

@@ -4,7 +4,7 @@
 //! come at any byte and is no fault of the text, so it has the place 0.
 
 ghost use Rattle.std.specs.Prelude.{◌≡◌};
-ghost use Rattle.fx_lexer.specs.Faults.{no_memory};
+ghost use Rattle.fx_lexer.specs.Faults.{source_memory};
 
 use std::alloc::{AllocError, AllocFailed};
 use std::error::Error;
@@ -92,7 +92,7 @@ impl fmt::Display for SourceFault {
 impl Error for SourceFault {}
 
 impl From<AllocError> for SourceFault {
-    ghost from_gives = { λ _ fault. fault ≡ no_memory };
+    ghost from_gives = { λ _ fault. fault ≡ source_memory };
 
     fn from(_e: AllocError) -> SourceFault {
         SourceFault {
@@ -103,7 +103,7 @@ impl From<AllocError> for SourceFault {
 }
 
 impl<T: Drop> From<AllocFailed<T>> for SourceFault {
-    ghost from_gives = { λ _ fault. fault ≡ no_memory };
+    ghost from_gives = { λ _ fault. fault ≡ source_memory };
 
     fn from(_e: AllocFailed<T>) -> SourceFault {
         SourceFault {

@@ -5,7 +5,7 @@
 //! sets it, also one in a comment.
 
 ghost use Rattle.std.specs.Prelude.{◌≡◌, ◌<◌, ◌≤◌, ◌^◌, length, map, IfOk};
-ghost use Rattle.fx_lexer.specs.Faults.{Gives};
+ghost use Rattle.fx_lexer.specs.Faults.{GivesParsed};
 ghost use Rattle.fx_lexer.specs.Characters.{has_line_feed};
 ghost use Rattle.fx_lexer.specs.Tokens.{lexeme_of, place_of, tokens_of};
 
@@ -65,7 +65,7 @@ fn place_of(kind: SourceKind, at: u32, end: u32) -> u32
 /// none was left.
 pub fn tokens<'a>(alloc: Global, text: &'a str) -> Result<Vec<Token<'a>>, SourceFault>
     requires { length text.now < 2 ^ 32 }
-    ensures value { Gives (λ found. map lexeme_of found.items) result (tokens_of text.now) }
+    ensures value { GivesParsed (λ found. map lexeme_of found.items) result (tokens_of text.now) }
     ensures count { IfOk result (λ found. length found.items ≤ length text.now) }
 {
     let mut found = Vec::new(alloc);

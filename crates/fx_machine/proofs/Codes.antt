@@ -11,7 +11,7 @@ use Rattle.fx_rational.specs.Rational.{Rational, whole, scaled, floor, floor_div
 use Rattle.fx_rational.specs.Decimal.{Decimal, decimal_value, quantised}
 use Rattle.fx_model.specs.Tree.{at}
 use Rattle.fx_model.specs.Machine as machine
-use Rattle.fx_model.specs.Machine.{Code, Made, made, kept, is_word, IsWord, shifted, divided, words_after}
+use Rattle.fx_model.specs.Machine.{Code, Made, made, kept, is_word, IsWord, shifted, floor_divided, words_after}
 use Rattle.fx_word.specs.Words.{IsSomeWord}
 use Rattle.fx_machine.specs.Codes.{word_of}
 
@@ -94,11 +94,11 @@ on_quotient n code g z ws p (Some w) e h =
     record { fits = r.fits; gives = λ v k. r.gives ∙ k }
 
 pub runs_div : (n : ℕ) (code : Code) (g : List Rational) (z ws : List ℤ) (a b s : ℕ) (x y : ℤ) → code ≡ machine.Div a b s → IsSome (word_of n code g z ws) → x ≡ at (pos 0) ws a → y ≡ at (pos 0) ws b
-    → RunsDiv n code g z ws (divided (x *ℤ pos (2 ^ s)) y)
+    → RunsDiv n code g z ws (floor_divided (x *ℤ pos (2 ^ s)) y)
 runs_div n code g z ws a b s x y e h ex ey =
     let p = at (pos 0) ws a *ℤ pos (2 ^ s) in
-    let q : divided p (at (pos 0) ws b) ≡ divided (x *ℤ pos (2 ^ s)) y = sym (rw (ex, ey) refl) in
-    on_quotient n code g z ws p (divided (x *ℤ pos (2 ^ s)) y)
+    let q : floor_divided p (at (pos 0) ws b) ≡ floor_divided (x *ℤ pos (2 ^ s)) y = sym (rw (ex, ey) refl) in
+    on_quotient n code g z ws p (floor_divided (x *ℤ pos (2 ^ s)) y)
     (ap (λ c. made c g z ws) e ∙ ap (option_map (λ (r : ℤ). (let m : Made = record { wide = p ∷ []; word = r } in m))) q) h
 
 -- ---- a list of codes

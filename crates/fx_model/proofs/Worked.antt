@@ -78,7 +78,7 @@ left_shift : shifted (negsuc 6) (negsuc 2) ≡ negsuc 55
 left_shift = refl
 
 -- -7 / 2 is -3 in the machine, toward zero
-quotient_of_minus_seven : machine.divided (negsuc 6) (pos 2) ≡ Some (negsuc 2)
+quotient_of_minus_seven : machine.floor_divided (negsuc 6) (pos 2) ≡ Some (negsuc 2)
 quotient_of_minus_seven = refl
 
 -- ---- stuck steps: a word and a double word that don't fit, and a zero divisor

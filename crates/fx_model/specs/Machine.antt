@@ -55,9 +55,9 @@ shifted w (pos s) = floor_div w (2 ^ s)
 shifted w (negsuc s) = w *ℤ pos (2 ^ suc s)
 
 -- rounded toward zero; none where the divisor is zero
-abbrev pub divided : ℤ → ℤ → Option ℤ
-divided n (pos zero) = None
-divided n d = Some (int_div n d)
+abbrev pub floor_divided : ℤ → ℤ → Option ℤ
+floor_divided n (pos zero) = None
+floor_divided n d = Some (int_div n d)
 
 -- a code's word, with the shifted operands, the product or the dividend on the way to it
 pub record Made : Type 0 where
@@ -80,7 +80,7 @@ made (Mul a b s) g z ws =
     let p = at (pos 0) ws a *ℤ at (pos 0) ws b in Some record { wide = p ∷ []; word = floor_div p (2 ^ s) }
 made (Div a b s) g z ws =
     let n = at (pos 0) ws a *ℤ pos (2 ^ s) in
-    option_map (λ q. record { wide = n ∷ []; word = q }) (divided n (at (pos 0) ws b))
+    option_map (λ q. record { wide = n ∷ []; word = q }) (floor_divided n (at (pos 0) ws b))
 made (Copy a s) g z ws =
     let x = shifted (at (pos 0) ws a) s in Some record { wide = x ∷ []; word = x }
 

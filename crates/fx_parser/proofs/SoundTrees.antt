@@ -13,7 +13,7 @@ use Rattle.fx_grammar.specs.declared.head.Head.TheVariants as heads
 use Rattle.fx_grammar.specs.Heads.{head_of, ◌==ₕ◌}
 use Rattle.fx_grammar.specs.Steps.{Tokens, name_place, next_head, decimal, negative_decimal}
 use Rattle.fx_grammar.specs.Operands.{Operand, leaf, low_tree, negation, negation_of, combined_operand, both, operation, counted_nodes}
-use Rattle.fx_grammar.specs.Expressions.{Known, Reader, literal, meant, is_call, found, named, closed, opened, atom_by, atom_of, behind_minus, factor_of, one_more, goes_on_product, goes_on_sum, term_of, sum_from, expr_at}
+use Rattle.fx_grammar.specs.Expressions.{Known, Reader, literal, meant, is_call, found_name, named, closed, opened, atom_by, atom_of, behind_minus, factor_of, one_more, goes_on_product, goes_on_sum, term_of, sum_from, expr_at}
 use Rattle.fx_parser.specs.LawfulTokens.{IsSound, AreSound}
 use Rattle.fx_parser.proofs.Reading.{fine, on_ok, on_when, refused, same_ok, sound_drop, want_ok, repeat_ok}
 use Rattle.fx_parser.proofs.NodeCounts.{nodes_in}
@@ -124,12 +124,12 @@ module _ (known : Known) (m : ℕ) (size : length known.names ≡ known.inputs +
     by false false e f =
         let g : known.inputs + known.states ≤ p = search (rules, tests) in (omega (arith, g, lt, size), refl, omega arith, refl)
 
-  found_ok : (t : Lexeme) (ts : Tokens) (o : Option ℕ) → name_place known.names t.text ≡ o → (x : Operand × Tokens) → AreSound ts → found known t o ts ≡ Ok x → Good x.0 × AreSound x.1
+  found_ok : (t : Lexeme) (ts : Tokens) (o : Option ℕ) → name_place known.names t.text ≡ o → (x : Operand × Tokens) → AreSound ts → found_name known t o ts ≡ Ok x → Good x.0 × AreSound x.1
   found_ok t ts None q x s e = absurd cc
   found_ok t ts (Some p) q x s e = done _ ts x e (meant_ok p (position-Some (λ name. bytes_eq name t.text) known.names p [] q).0) s
 
   named_ok : (t : Lexeme) → Reads_well (named known t)
-  named_ok t ts x s e = let r = refused (is_call ts) _ (found known t (name_place known.names t.text) ts) x e in found_ok t ts _ refl x s r.1
+  named_ok t ts x s e = let r = refused (is_call ts) _ (found_name known t (name_place known.names t.text) ts) x e in found_ok t ts _ refl x s r.1
 
   closed_ok : (y : Operand) → Good y → Reads_well (closed known y)
   unfolding closed

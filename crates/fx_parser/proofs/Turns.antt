@@ -1,7 +1,7 @@
 -- Steps one after the other, as a loop takes them.
 use Rattle.std.proofs.Common.{◌≡◌, ℕ, zero, suc, ◌<◌, Bool, true, false, List, length, drop, Ok, Err, ◌⊎◌, inl, inr, refl, sym, ◌∙◌, arith}
 use Rattle.fx_lexer.specs.declared.fault.SourceFault.{SourceFault}
-use Rattle.fx_lexer.specs.Faults.{no_memory}
+use Rattle.fx_lexer.specs.Faults.{source_memory}
 use Rattle.std.proofs.lemmas.List.{length-map}
 use Rattle.fx_lexer.specs.declared.token.Token.{Token}
 use Rattle.fx_parser.specs.Views.{lexemes}
@@ -31,7 +31,7 @@ module _ {S : Type 0} (goes_on : S → Tokens → Bool) (step : S → Tokens →
         same = sym (let e : repeat goes_on step (suc turns) s ts ≡ repeat goes_on step turns x.0 x.1 = rw (on, taken) refl in sym same ∙ e);
       }
 
-  pub fails : (e : SourceFault) → goes_on s ts ≡ true → (step s ts ≡ Err e) ⊎ e ≡ no_memory → IsOn goes_on step s ts whole → (whole ≡ Err e) ⊎ e ≡ no_memory
+  pub fails : (e : SourceFault) → goes_on s ts ≡ true → (step s ts ≡ Err e) ⊎ e ≡ source_memory → IsOn goes_on step s ts whole → (whole ≡ Err e) ⊎ e ≡ source_memory
   unfolding repeat
   fails e on (inr m) h = inr m
   fails e on (inl taken) h = inl (go h.turns h.enough h.same)
@@ -52,7 +52,7 @@ module _ {S : Type 0} (goes_on : S → Tokens → Bool) (step : S → Tokens →
 pub operand_read : (operand : Reader) (left : Operand) (ts : Tokens) (x : Operand × Tokens) → operand (drop 1 ts) ≡ Ok x → one_more operand left ts ≡ Ok (combined_operand (next_head ts) left x.0, x.1)
 operand_read operand left ts x e = rw e refl
 
-pub operand_fails : (operand : Reader) (left : Operand) (ts : Tokens) (f : SourceFault) → (operand (drop 1 ts) ≡ Err f) ⊎ f ≡ no_memory → (one_more operand left ts ≡ Err f) ⊎ f ≡ no_memory
+pub operand_fails : (operand : Reader) (left : Operand) (ts : Tokens) (f : SourceFault) → (operand (drop 1 ts) ≡ Err f) ⊎ f ≡ source_memory → (one_more operand left ts ≡ Err f) ⊎ f ≡ source_memory
 operand_fails operand left ts f (inl e) = inl (rw e refl)
 operand_fails operand left ts f (inr m) = inr m
 

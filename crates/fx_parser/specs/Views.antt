@@ -75,8 +75,8 @@ abbrev pub body_value : Body → bodies.Body
 body_value b = record { names = b.names; inputs = b.inputs; states = b.states; temps = map temp_value b.temps.items; nodes = b.nodes }
 
 -- the names are few: inputs, states and temps keep their limits
-abbrev pub HasRoom : Body → Type 0
-HasRoom b = (length b.names ≤ input_limit + state_limit + length b.temps.items) × (length b.temps.items ≤ temp_limit)
+abbrev pub HasBodyRoom : Body → Type 0
+HasBodyRoom b = (length b.names ≤ input_limit + state_limit + length b.temps.items) × (length b.temps.items ≤ temp_limit)
 
 abbrev pub results_value : Results → bodies.Results
 results_value r = record { trees = map tree r.trees.items; nodes = r.nodes }

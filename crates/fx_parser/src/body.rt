@@ -3,9 +3,9 @@
 //! The nodes are counted as they come, up to one past the limit, so that no tree is walked again. The trap: the fault of a
 //! tree that is too high is found at the token behind its expression, and loses there to some others.
 ghost use Rattle.std.specs.Prelude.{◌≡◌, ◌≤◌, ◌<◌, ◌+◌, ◌^◌, length, map, min, option_map, IfOk, [], ◌∷◌, ◌++◌, Ok, IsOk, None};
-ghost use Rattle.fx_lexer.specs.Faults.{Gives};
+ghost use Rattle.fx_lexer.specs.Faults.{GivesParsed};
 ghost use Rattle.fx_parser.specs.Views.{lexemes, operand_of};
-ghost use Rattle.fx_parser.specs.Views.{body_value, results_value, HasRoom};
+ghost use Rattle.fx_parser.specs.Views.{body_value, results_value, HasBodyRoom};
 ghost use Rattle.fx_parser.specs.Texts.{all_texts};
 ghost use Rattle.fx_grammar.specs.Steps.{name_place};
 ghost use Rattle.fx_expr.specs.TreeOf.{tree};
@@ -100,7 +100,7 @@ fn read<'t, 'a>(
     tokens: &'t [Token<'a>],
 ) -> Parsed<'t, 'a, Operand>
     requires { length body.now.names < 2 ^ 32 }
-    ensures value { Gives (λ x. (operand_of x.0, lexemes x.1.now)) result (expr_at (known_of end (body_value body.now)) outside 200 (lexemes tokens.now)) }
+    ensures value { GivesParsed (λ x. (operand_of x.0, lexemes x.1.now)) result (expr_at (known_of end (body_value body.now)) outside 200 (lexemes tokens.now)) }
     ensures shorter { IfOk result (λ x. length x.1.now < length tokens.now) }
 {
     let context = Context {
@@ -122,7 +122,7 @@ fn whole<'t, 'a>(
     tokens: &'t [Token<'a>],
 ) -> Parsed<'t, 'a, Operand>
     requires { length body.now.names < 2 ^ 32 }
-    ensures value { Gives (λ x. (operand_of x.0, lexemes x.1.now)) result (whole_at end (body_value body.now) (lexemes tokens.now)) }
+    ensures value { GivesParsed (λ x. (operand_of x.0, lexemes x.1.now)) result (whole_at end (body_value body.now) (lexemes tokens.now)) }
     ensures shorter { IfOk result (λ x. length x.1.now < length tokens.now) }
 {
     let (operand, rest) = read(alloc, end, true, body, tokens)?;
@@ -135,7 +135,7 @@ fn whole<'t, 'a>(
 /// Behind the type that may come next.
 #[tactic(auto, unfolding(fx_grammar::specs::Bodies::typed_at))]
 fn typed<'t, 'a>(end: u32, tokens: &'t [Token<'a>]) -> Result<&'t [Token<'a>], SourceFault>
-    ensures value { Gives (λ r. lexemes r.now) result (typed_at end (lexemes tokens.now)) }
+    ensures value { GivesParsed (λ r. lexemes r.now) result (typed_at end (lexemes tokens.now)) }
     ensures shorter { IfOk result (λ r. length r.now ≤ length tokens.now) }
 {
     if peek(tokens) == Head::Colon {
@@ -147,7 +147,7 @@ fn typed<'t, 'a>(end: u32, tokens: &'t [Token<'a>]) -> Result<&'t [Token<'a>], S
 
 fn with_temp<'a>(body: Body<'a>, name: &'a str, operand: Operand) -> Result<Body<'a>, SourceFault>
     requires { name_place body.names name.now ≡ None }
-    ensures value { Gives body_value result (Ok (with_temp (body_value body.entry) name.now (operand_of operand))) }
+    ensures value { GivesParsed body_value result (Ok (with_temp (body_value body.entry) name.now (operand_of operand))) }
     ensures room { IfOk result (λ b. (length b.names ≡ length body.entry.names + 1) × (length b.temps.items ≡ length body.entry.temps.items + 1)) }
     ensures kept { IfOk result (λ b. (b.inputs ≡ body.entry.inputs) × (b.states ≡ body.entry.states)) }
 {
@@ -185,10 +185,10 @@ fn val<'t, 'a>(
     body: Body<'a>,
     tokens: &'t [Token<'a>],
 ) -> Parsed<'t, 'a, Body<'a>>
-    requires room { HasRoom body }
-    ensures value { Gives (λ x. (body_value x.0, lexemes x.1.now)) result (val_at end (body_value body.entry) (lexemes tokens.now)) }
+    requires room { HasBodyRoom body }
+    ensures value { GivesParsed (λ x. (body_value x.0, lexemes x.1.now)) result (val_at end (body_value body.entry) (lexemes tokens.now)) }
     ensures shorter { IfOk result (λ x. length x.1.now < length tokens.now) }
-    ensures room { IfOk result (λ x. HasRoom x.0) }
+    ensures room { IfOk result (λ x. HasBodyRoom x.0) }
     ensures kept { IfOk result (λ x. (x.0.inputs ≡ body.entry.inputs) × (x.0.states ≡ body.entry.states)) }
 {
     let (token, rest) = want(end, Head::Name, tokens)?;
@@ -217,10 +217,10 @@ pub fn vals<'t, 'a>(
     body: Body<'a>,
     tokens: &'t [Token<'a>],
 ) -> Parsed<'t, 'a, Body<'a>>
-    requires { HasRoom body }
-    ensures value { Gives (λ x. (body_value x.0, lexemes x.1.now)) result (vals_at end (body_value body.entry) (past_semicolon (lexemes tokens.now))) }
+    requires { HasBodyRoom body }
+    ensures value { GivesParsed (λ x. (body_value x.0, lexemes x.1.now)) result (vals_at end (body_value body.entry) (past_semicolon (lexemes tokens.now))) }
     ensures shorter { IfOk result (λ x. length x.1.now ≤ length tokens.now) }
-    ensures room { IfOk result (λ x. HasRoom x.0) }
+    ensures room { IfOk result (λ x. HasBodyRoom x.0) }
     ensures kept { IfOk result (λ x. (x.0.inputs ≡ body.entry.inputs) × (x.0.states ≡ body.entry.states)) }
 {
     let (mut now, mut rest) = begun(body, tokens)?;
@@ -259,7 +259,7 @@ fn single_high(
 }
 
 fn one_tree(alloc: Global, expr: Expr, nodes: u32) -> Result<Results, SourceFault>
-    ensures { Gives results_value result (Ok (record { trees = tree expr ∷ []; nodes = nodes })) }
+    ensures { GivesParsed results_value result (Ok (record { trees = tree expr ∷ []; nodes = nodes })) }
 {
     let mut trees = Vec::new(alloc);
     trees.push(expr)?;
@@ -278,7 +278,7 @@ fn single<'t, 'a>(
     requires room { length body.now.names < 2 ^ 32 }
     requires inputs { body.now.inputs ≤ 64 }
     requires states { body.now.states ≤ 32 }
-    ensures value { Gives (λ x. (results_value x.0, lexemes x.1.now)) result (single_at end word (body_value body.now) (lexemes tokens.now)) }
+    ensures value { GivesParsed (λ x. (results_value x.0, lexemes x.1.now)) result (single_at end word (body_value body.now) (lexemes tokens.now)) }
     ensures shorter { IfOk result (λ x. length x.1.now < length tokens.now) }
 {
     let (operand, rest) = read(alloc, end, true, body, tokens)?;
@@ -292,7 +292,7 @@ fn single<'t, 'a>(
 }
 
 fn with_tree(results: Results, expr: Expr, nodes: u32) -> Result<Results, SourceFault>
-    ensures { Gives results_value result (Ok (record { trees = map tree results.trees.items ++ tree expr ∷ []; nodes = min 4001 (results.nodes + nodes) })) }
+    ensures { GivesParsed results_value result (Ok (record { trees = map tree results.trees.items ++ tree expr ∷ []; nodes = min 4001 (results.nodes + nodes) })) }
 {
     let Results {
         mut trees,
@@ -317,7 +317,7 @@ fn element<'t, 'a>(
     tokens: &'t [Token<'a>],
 ) -> Parsed<'t, 'a, Results>
     requires { length body.now.names < 2 ^ 32 }
-    ensures value { Gives (λ x. (results_value x.0, lexemes x.1.now)) result (element_at end first reals (body_value body.now) (results_value results) (lexemes tokens.now)) }
+    ensures value { GivesParsed (λ x. (results_value x.0, lexemes x.1.now)) result (element_at end first reals (body_value body.now) (results_value results) (lexemes tokens.now)) }
     ensures shorter { IfOk result (λ x. length x.1.now < length tokens.now) }
 {
     let (operand, rest) = read(alloc, end, false, body, tokens)?;
@@ -345,7 +345,7 @@ fn elements<'t, 'a>(
     tokens: &'t [Token<'a>],
 ) -> Parsed<'t, 'a, Results>
     requires { length body.now.names < 2 ^ 32 }
-    ensures value { Gives (λ x. (results_value x.0, lexemes x.1.now)) result (separated Comma (element_at end first reals (body_value body.now)) (record { trees = []; nodes = body.now.nodes }) (lexemes tokens.now)) }
+    ensures value { GivesParsed (λ x. (results_value x.0, lexemes x.1.now)) result (separated Comma (element_at end first reals (body_value body.now)) (record { trees = []; nodes = body.now.nodes }) (lexemes tokens.now)) }
     ensures shorter { IfOk result (λ x. length x.1.now < length tokens.now) }
 {
     let none = Results {
@@ -370,7 +370,7 @@ fn tuple<'t, 'a>(
     tokens: &'t [Token<'a>],
 ) -> Parsed<'t, 'a, Results>
     requires { length body.now.names < 2 ^ 32 }
-    ensures value { Gives (λ x. (results_value x.0, lexemes x.1.now)) result (tuple_at end reals (body_value body.now) (lexemes tokens.now)) }
+    ensures value { GivesParsed (λ x. (results_value x.0, lexemes x.1.now)) result (tuple_at end reals (body_value body.now) (lexemes tokens.now)) }
     ensures shorter { IfOk result (λ x. length x.1.now < length tokens.now) }
 {
     let (open, rest) = want(end, Head::Open, tokens)?;
@@ -398,7 +398,7 @@ pub fn outcome<'t, 'a>(
     requires room { length body.now.names < 2 ^ 32 }
     requires inputs { body.now.inputs ≤ 64 }
     requires states { body.now.states ≤ 32 }
-    ensures value { Gives (λ x. (results_value x.0, lexemes x.1.now)) result (result_at end word reals (body_value body.now) (lexemes tokens.now)) }
+    ensures value { GivesParsed (λ x. (results_value x.0, lexemes x.1.now)) result (result_at end word reals (body_value body.now) (lexemes tokens.now)) }
     ensures shorter { IfOk result (λ x. length x.1.now < length tokens.now) }
 {
     if reals < 2 {

@@ -3,7 +3,7 @@
 //! Parentheses are counted, not followed, so that a million of them need no stack. The trap: a relation with a number or a name
 //! on both sides is found at its second side, and told at its first token.
 ghost use Rattle.std.specs.Prelude.{◌≡◌, ◌≤◌, ◌<◌, ◌+◌, ◌^◌, length, IfOk, Bool, true, false};
-ghost use Rattle.fx_lexer.specs.Faults.{Gives};
+ghost use Rattle.fx_lexer.specs.Faults.{GivesParsed};
 ghost use Rattle.fx_lexer.specs.Tokens.{lexeme_of};
 ghost use Rattle.fx_parser.specs.Texts.{numeral_decimal};
 ghost use Rattle.fx_parser.specs.Views.{lexemes};
@@ -46,7 +46,7 @@ pub fn error_at<'t, 'a>(
     tokens: &'t [Token<'a>],
 ) -> Parsed<'t, 'a, Vec<Subject<'a>>>
     requires { k < length subjects.items }
-    ensures value { Gives (λ x. (subjects_of x.0, lexemes x.1.now)) result (stated_error end (subjects_of subjects.entry) (lexeme_of token.now) k (lexemes tokens.now)) }
+    ensures value { GivesParsed (λ x. (subjects_of x.0, lexemes x.1.now)) result (stated_error end (subjects_of subjects.entry) (lexeme_of token.now) k (lexemes tokens.now)) }
     ensures shorter { IfOk result (λ x. length x.1.now < length tokens.now) }
 {
     let (value, rest) = number(end, tokens)?;
@@ -64,7 +64,7 @@ fn bound_at<'t, 'a>(
     tokens: &'t [Token<'a>],
 ) -> Parsed<'t, 'a, Vec<Subject<'a>>>
     requires { k < length subjects.items }
-    ensures value { Gives (λ x. (subjects_of x.0, lexemes x.1.now)) result (bound_at end (subjects_of subjects.entry) (lexeme_of token.now) k side (lexemes tokens.now)) }
+    ensures value { GivesParsed (λ x. (subjects_of x.0, lexemes x.1.now)) result (bound_at end (subjects_of subjects.entry) (lexeme_of token.now) k side (lexemes tokens.now)) }
     ensures shorter { IfOk result (λ x. length x.1.now < length tokens.now) }
 {
     if peek(tokens) == Head::Name {
@@ -85,7 +85,7 @@ fn name_first<'t, 'a>(
     subjects: Vec<Subject<'a>>,
     tokens: &'t [Token<'a>],
 ) -> Parsed<'t, 'a, Vec<Subject<'a>>>
-    ensures value { Gives (λ x. (subjects_of x.0, lexemes x.1.now)) result (name_first end (subjects_of subjects.entry) (lexemes tokens.now)) }
+    ensures value { GivesParsed (λ x. (subjects_of x.0, lexemes x.1.now)) result (name_first end (subjects_of subjects.entry) (lexemes tokens.now)) }
     ensures shorter { IfOk result (λ x. length x.1.now < length tokens.now) }
 {
     let (token, rest) = want(end, Head::Name, tokens)?;
@@ -114,7 +114,7 @@ fn behind_relation<'t, 'a>(
     side: Side,
     tokens: &'t [Token<'a>],
 ) -> Parsed<'t, 'a, Vec<Subject<'a>>>
-    ensures value { Gives (λ x. (subjects_of x.0, lexemes x.1.now)) result (behind_relation end first (subjects_of subjects.entry) (numeral_decimal value.entry) side (lexemes tokens.now)) }
+    ensures value { GivesParsed (λ x. (subjects_of x.0, lexemes x.1.now)) result (behind_relation end first (subjects_of subjects.entry) (numeral_decimal value.entry) side (lexemes tokens.now)) }
     ensures shorter { IfOk result (λ x. length x.1.now < length tokens.now) }
 {
     if is_signed(tokens) {
@@ -136,7 +136,7 @@ fn number_first<'t, 'a>(
     subjects: Vec<Subject<'a>>,
     tokens: &'t [Token<'a>],
 ) -> Parsed<'t, 'a, Vec<Subject<'a>>>
-    ensures value { Gives (λ x. (subjects_of x.0, lexemes x.1.now)) result (number_first end (subjects_of subjects.entry) (lexemes tokens.now)) }
+    ensures value { GivesParsed (λ x. (subjects_of x.0, lexemes x.1.now)) result (number_first end (subjects_of subjects.entry) (lexemes tokens.now)) }
     ensures shorter { IfOk result (λ x. length x.1.now < length tokens.now) }
 {
     let (value, rest) = signed(end, tokens)?;
@@ -165,7 +165,7 @@ fn condition_at<'t, 'a>(
     subjects: Vec<Subject<'a>>,
     tokens: &'t [Token<'a>],
 ) -> Parsed<'t, 'a, Vec<Subject<'a>>>
-    ensures value { Gives (λ x. (subjects_of x.0, lexemes x.1.now)) result (condition_at end (subjects_of subjects.entry) (lexemes tokens.now)) }
+    ensures value { GivesParsed (λ x. (subjects_of x.0, lexemes x.1.now)) result (condition_at end (subjects_of subjects.entry) (lexemes tokens.now)) }
     ensures shorter { IfOk result (λ x. length x.1.now < length tokens.now) }
 {
     if peek(tokens) == Head::Name {
@@ -191,7 +191,7 @@ fn wanted_at<'t, 'a>(
     tokens: &'t [Token<'a>],
 ) -> Parsed<'t, 'a, Conditions<'a>>
     requires { depth + length tokens.now < 2 ^ 63 }
-    ensures value { Gives (λ x. (conditions_in x.0, lexemes x.1.now)) result (wanted_at end (record { depth = depth; wants = true; subjects = subjects_of subjects.entry }) (lexemes tokens.now)) }
+    ensures value { GivesParsed (λ x. (conditions_in x.0, lexemes x.1.now)) result (wanted_at end (record { depth = depth; wants = true; subjects = subjects_of subjects.entry }) (lexemes tokens.now)) }
     ensures room { IfOk result (λ x. (length x.1.now < length tokens.now) × (x.0.depth + length x.1.now ≤ depth + length tokens.now)) }
 {
     let Some((token, rest)) = tokens.split_first() else {
@@ -224,7 +224,7 @@ fn read_at<'t, 'a>(
     tokens: &'t [Token<'a>],
 ) -> Parsed<'t, 'a, Conditions<'a>>
     requires { 0 < depth }
-    ensures value { Gives (λ x. (conditions_in x.0, lexemes x.1.now)) result (read_at end (record { depth = depth; wants = false; subjects = subjects_of subjects.entry }) (lexemes tokens.now)) }
+    ensures value { GivesParsed (λ x. (conditions_in x.0, lexemes x.1.now)) result (read_at end (record { depth = depth; wants = false; subjects = subjects_of subjects.entry }) (lexemes tokens.now)) }
     ensures room { IfOk result (λ x. (length x.1.now < length tokens.now) × (x.0.depth + length x.1.now ≤ depth + length tokens.now)) }
 {
     let Some((token, rest)) = tokens.split_first() else {
@@ -262,7 +262,7 @@ fn conditions_step<'t, 'a>(
 ) -> Parsed<'t, 'a, Conditions<'a>>
     requires open { 0 < conditions.depth }
     requires room { conditions.depth + length tokens.now < 2 ^ 63 }
-    ensures value { Gives (λ x. (conditions_in x.0, lexemes x.1.now)) result (conditions_step end (conditions_in conditions.entry) (lexemes tokens.now)) }
+    ensures value { GivesParsed (λ x. (conditions_in x.0, lexemes x.1.now)) result (conditions_step end (conditions_in conditions.entry) (lexemes tokens.now)) }
     ensures room { IfOk result (λ x. (length x.1.now < length tokens.now) × (x.0.depth + length x.1.now ≤ conditions.entry.depth + length tokens.now)) }
 {
     let Conditions {
@@ -286,7 +286,7 @@ pub fn all_conditions<'t, 'a>(
 ) -> Parsed<'t, 'a, Conditions<'a>>
     requires open { 0 < conditions.depth }
     requires room { conditions.depth + length tokens.now < 2 ^ 63 }
-    ensures value { Gives (λ x. (conditions_in x.0, lexemes x.1.now)) result (conditions_at end (conditions_in conditions.entry) (lexemes tokens.now)) }
+    ensures value { GivesParsed (λ x. (conditions_in x.0, lexemes x.1.now)) result (conditions_at end (conditions_in conditions.entry) (lexemes tokens.now)) }
     ensures shorter { IfOk result (λ x. length x.1.now < length tokens.now) }
 {
     let (mut now, mut rest) = conditions_step(end, conditions, tokens)?;

@@ -1,7 +1,7 @@
 //! `ensuring`: the names of the outputs in order, and what is demanded of them.
 ghost use Rattle.std.specs.Prelude.{◌≡◌, ◌≤◌, ◌<◌, ◌+◌, ◌^◌, ℕ, length, map, replicate, option_map, IfOk, [], Ok, None};
 ghost use Rattle.fx_rational.specs.Decimal.{decimal_value};
-ghost use Rattle.fx_lexer.specs.Faults.{Gives};
+ghost use Rattle.fx_lexer.specs.Faults.{GivesParsed};
 ghost use Rattle.fx_parser.specs.Views.{lexemes};
 ghost use Rattle.fx_parser.specs.Views.{subject_of, subjects_of, demand_value, IsNamed};
 ghost use Rattle.fx_lexer.specs.Tokens.{lexeme_of};
@@ -25,7 +25,7 @@ fn demand<'t, 'a>(
     subjects: Vec<Subject<'a>>,
     tokens: &'t [Token<'a>],
 ) -> Parsed<'t, 'a, Vec<Subject<'a>>>
-    ensures value { Gives (λ x. (subjects_of x.0, lexemes x.1.now)) result (demand_at end (subjects_of subjects.entry) (lexemes tokens.now)) }
+    ensures value { GivesParsed (λ x. (subjects_of x.0, lexemes x.1.now)) result (demand_at end (subjects_of subjects.entry) (lexemes tokens.now)) }
     ensures shorter { IfOk result (λ x. length x.1.now < length tokens.now) }
 {
     if peek(tokens) != Head::Name {
@@ -75,7 +75,7 @@ fn past_minus<'t, 'a>(tokens: &'t [Token<'a>]) -> &'t [Token<'a>]
 #[tactic(auto, unfolding(fx_grammar::specs::Ensuring::output_at))]
 fn output<'t, 'a>(end: u32, named: Named<'a>, tokens: &'t [Token<'a>]) -> Parsed<'t, 'a, Named<'a>>
     requires { IsNamed named }
-    ensures value { Gives (λ x. (subjects_of x.0.subjects, lexemes x.1.now)) result (output_at end (subjects_of named.entry.subjects) (lexemes tokens.now)) }
+    ensures value { GivesParsed (λ x. (subjects_of x.0.subjects, lexemes x.1.now)) result (output_at end (subjects_of named.entry.subjects) (lexemes tokens.now)) }
     ensures shorter { IfOk result (λ x. length x.1.now < length tokens.now) }
     ensures same { IfOk result (λ x. IsNamed x.0) }
 {
@@ -96,7 +96,7 @@ fn open_outputs<'t, 'a>(
     end: u32,
     tokens: &'t [Token<'a>],
 ) -> Parsed<'t, 'a, Named<'a>>
-    ensures value { Gives (λ x. (subjects_of x.0.subjects, lexemes x.1.now)) result (separated Comma (output_at end) [] (lexemes tokens.now)) }
+    ensures value { GivesParsed (λ x. (subjects_of x.0.subjects, lexemes x.1.now)) result (separated Comma (output_at end) [] (lexemes tokens.now)) }
     ensures shorter { IfOk result (λ x. length x.1.now < length tokens.now) }
 {
     let (mut named, mut rest) = output(end, no_subjects(alloc), tokens)?;
@@ -123,7 +123,7 @@ fn counted<'t, 'a>(
     named: Named<'a>,
     rest: &'t [Token<'a>],
 ) -> Parsed<'t, 'a, Vec<Subject<'a>>>
-    ensures value { Gives (λ x. (subjects_of x.0, lexemes x.1.now)) result (of_arity outputs (subjects_of named.entry.subjects, lexemes rest.now)) }
+    ensures value { GivesParsed (λ x. (subjects_of x.0, lexemes x.1.now)) result (of_arity outputs (subjects_of named.entry.subjects, lexemes rest.now)) }
     ensures shorter { IfOk result (λ x. length x.1.now ≤ length rest.now) }
 {
     let Named { subjects, .. } = named;
@@ -144,7 +144,7 @@ fn outputs_at<'t, 'a>(
     outputs: usize,
     tokens: &'t [Token<'a>],
 ) -> Parsed<'t, 'a, Vec<Subject<'a>>>
-    ensures value { Gives (λ x. (subjects_of x.0, lexemes x.1.now)) result (outputs_at end outputs (lexemes tokens.now)) }
+    ensures value { GivesParsed (λ x. (subjects_of x.0, lexemes x.1.now)) result (outputs_at end outputs (lexemes tokens.now)) }
     ensures shorter { IfOk result (λ x. length x.1.now < length tokens.now) }
 {
     if peek(tokens) == Head::Open {
@@ -162,7 +162,7 @@ fn demands<'t, 'a>(
     subjects: Vec<Subject<'a>>,
     tokens: &'t [Token<'a>],
 ) -> Parsed<'t, 'a, Vec<Subject<'a>>>
-    ensures value { Gives (λ x. (subjects_of x.0, lexemes x.1.now)) result (separated And (demand_at end) (subjects_of subjects.entry) (lexemes tokens.now)) }
+    ensures value { GivesParsed (λ x. (subjects_of x.0, lexemes x.1.now)) result (separated And (demand_at end) (subjects_of subjects.entry) (lexemes tokens.now)) }
     ensures shorter { IfOk result (λ x. length x.1.now < length tokens.now) }
 {
     let (mut now, mut rest) = demand(end, subjects, tokens)?;
@@ -178,7 +178,7 @@ fn errors_in<'a>(
     alloc: Global,
     subjects: &[Subject<'a>],
 ) -> Result<Vec<Option<Numeral<'a>>>, SourceFault>
-    ensures { Gives (λ v. map demand_value v.items) result (Ok (map (λ s. option_map decimal_value s.err) (map subject_of subjects.now))) }
+    ensures { GivesParsed (λ v. map demand_value v.items) result (Ok (map (λ s. option_map decimal_value s.err) (map subject_of subjects.now))) }
 {
     let mut errors = Vec::new(alloc);
     for subject in subjects {
@@ -188,7 +188,7 @@ fn errors_in<'a>(
 }
 
 fn no_demands<'a>(alloc: Global, outputs: usize) -> Result<Vec<Option<Numeral<'a>>>, SourceFault>
-    ensures { Gives (λ v. map demand_value v.items) result (Ok (replicate outputs None)) }
+    ensures { GivesParsed (λ v. map demand_value v.items) result (Ok (replicate outputs None)) }
 {
     let mut demands = Vec::new(alloc);
     for _ in 0..outputs {
@@ -205,7 +205,7 @@ fn ensuring_at<'t, 'a>(
     outputs: usize,
     tokens: &'t [Token<'a>],
 ) -> Parsed<'t, 'a, Vec<Option<Numeral<'a>>>>
-    ensures value { Gives (λ x. (map demand_value x.0.items, lexemes x.1.now)) result (ensuring_at end outputs (lexemes tokens.now)) }
+    ensures value { GivesParsed (λ x. (map demand_value x.0.items, lexemes x.1.now)) result (ensuring_at end outputs (lexemes tokens.now)) }
     ensures shorter { IfOk result (λ x. length x.1.now < length tokens.now) }
 {
     let (_, rest) = want(end, Head::Open, tokens)?;
@@ -225,7 +225,7 @@ pub fn maybe_ensuring<'t, 'a>(
     outputs: usize,
     tokens: &'t [Token<'a>],
 ) -> Parsed<'t, 'a, Vec<Option<Numeral<'a>>>>
-    ensures value { Gives (λ x. (map demand_value x.0.items, lexemes x.1.now)) result (maybe_ensuring_at end outputs (lexemes tokens.now)) }
+    ensures value { GivesParsed (λ x. (map demand_value x.0.items, lexemes x.1.now)) result (maybe_ensuring_at end outputs (lexemes tokens.now)) }
     ensures shorter { IfOk result (λ x. length x.1.now ≤ length tokens.now) }
 {
     if peek(tokens) == Head::Ensuring {

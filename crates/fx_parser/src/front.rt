@@ -1,6 +1,6 @@
 //! What stands before a function's body: its name, its parameters, its states and its type.
 ghost use Rattle.std.specs.Prelude.{◌≡◌, ◌≤◌, ◌<◌, ◌+◌, ◌^◌, length, map, IfOk, [], IfNone, IfSome, Ok};
-ghost use Rattle.fx_lexer.specs.Faults.{Gives};
+ghost use Rattle.fx_lexer.specs.Faults.{GivesParsed};
 ghost use Rattle.fx_lexer.specs.Tokens.{lexeme_of};
 ghost use Rattle.fx_parser.specs.Texts.{all_texts};
 ghost use Rattle.fx_parser.specs.Views.{lexemes};
@@ -46,7 +46,7 @@ fn fault(at: u32, kind: SourceKind) -> SourceFault
 fn param<'t, 'a>(end: u32, named: Named<'a>, tokens: &'t [Token<'a>]) -> Parsed<'t, 'a, Named<'a>>
     requires few { length named.subjects.items ≤ 64 }
     requires same { IsNamed named }
-    ensures value { Gives (λ x. (subjects_of x.0.subjects, lexemes x.1.now)) result (param_at end (subjects_of named.entry.subjects) (lexemes tokens.now)) }
+    ensures value { GivesParsed (λ x. (subjects_of x.0.subjects, lexemes x.1.now)) result (param_at end (subjects_of named.entry.subjects) (lexemes tokens.now)) }
     ensures shorter { IfOk result (λ x. length x.1.now < length tokens.now) }
     ensures few { IfOk result (λ x. length x.0.subjects.items ≤ 64) }
     ensures same { IfOk result (λ x. IsNamed x.0) }
@@ -62,7 +62,7 @@ fn param<'t, 'a>(end: u32, named: Named<'a>, tokens: &'t [Token<'a>]) -> Parsed<
 /// All parameters, and the parenthesis that closes them.
 #[tactic(auto, unfolding(fx_grammar::specs::Steps::listed))]
 pub fn params<'t, 'a>(alloc: Global, end: u32, tokens: &'t [Token<'a>]) -> Parsed<'t, 'a, Named<'a>>
-    ensures value { Gives (λ x. (subjects_of x.0.subjects, lexemes x.1.now)) result (listed (param_at end) end [] (lexemes tokens.now)) }
+    ensures value { GivesParsed (λ x. (subjects_of x.0.subjects, lexemes x.1.now)) result (listed (param_at end) end [] (lexemes tokens.now)) }
     ensures shorter { IfOk result (λ x. length x.1.now < length tokens.now) }
     ensures few { IfOk result (λ x. length x.0.subjects.items ≤ 64) }
     ensures same { IfOk result (λ x. IsNamed x.0) }
@@ -78,7 +78,7 @@ fn open_params<'t, 'a>(
     end: u32,
     tokens: &'t [Token<'a>],
 ) -> Parsed<'t, 'a, Named<'a>>
-    ensures value { Gives (λ x. (subjects_of x.0.subjects, lexemes x.1.now)) result (separated Comma (param_at end) [] (lexemes tokens.now)) }
+    ensures value { GivesParsed (λ x. (subjects_of x.0.subjects, lexemes x.1.now)) result (separated Comma (param_at end) [] (lexemes tokens.now)) }
     ensures shorter { IfOk result (λ x. length x.1.now < length tokens.now) }
     ensures few { IfOk result (λ x. length x.0.subjects.items ≤ 64) }
     ensures same { IfOk result (λ x. IsNamed x.0) }
@@ -101,7 +101,7 @@ fn one_state<'t, 'a>(
 ) -> Parsed<'t, 'a, Declared<'a>>
     requires states { length declared.states.items ≤ 32 }
     requires names { length declared.names ≤ 64 + length declared.states.items }
-    ensures value { Gives (λ x. (declared_of x.0, lexemes x.1.now)) result (declared_state end (declared_of declared.entry) (lexemes tokens.now)) }
+    ensures value { GivesParsed (λ x. (declared_of x.0, lexemes x.1.now)) result (declared_state end (declared_of declared.entry) (lexemes tokens.now)) }
     ensures shorter { IfOk result (λ x. length x.1.now < length tokens.now) }
     ensures few { IfOk result (λ x. (length x.0.states.items ≤ 32) × (length x.0.names ≤ 64 + length x.0.states.items)) }
 {
@@ -131,7 +131,7 @@ fn one_real<'t, 'a>(
 ) -> Parsed<'t, 'a, usize>
     requires states { states ≤ 32 }
     requires reals { reals ≤ 96 }
-    ensures value { Gives (λ x. (x.0, lexemes x.1.now)) result (one_real end first states reals (lexemes tokens.now)) }
+    ensures value { GivesParsed (λ x. (x.0, lexemes x.1.now)) result (one_real end first states reals (lexemes tokens.now)) }
     ensures shorter { IfOk result (λ x. (length x.1.now < length tokens.now) × (x.0 ≤ 96)) }
 {
     let (_, rest) = real(end, tokens)?;
@@ -149,7 +149,7 @@ fn open_reals<'t, 'a>(
     tokens: &'t [Token<'a>],
 ) -> Parsed<'t, 'a, usize>
     requires states { states ≤ 32 }
-    ensures value { Gives (λ x. (x.0, lexemes x.1.now)) result (separated Comma (one_real end first states) 0 (lexemes tokens.now)) }
+    ensures value { GivesParsed (λ x. (x.0, lexemes x.1.now)) result (separated Comma (one_real end first states) 0 (lexemes tokens.now)) }
     ensures shorter { IfOk result (λ x. length x.1.now < length tokens.now) }
 {
     let (mut reals, mut rest) = one_real(end, first, states, 0, tokens)?;
@@ -169,7 +169,7 @@ fn reals<'t, 'a>(
     tokens: &'t [Token<'a>],
 ) -> Parsed<'t, 'a, usize>
     requires states { states ≤ 32 }
-    ensures value { Gives (λ x. (x.0, lexemes x.1.now)) result (listed (one_real end first states) end 0 (lexemes tokens.now)) }
+    ensures value { GivesParsed (λ x. (x.0, lexemes x.1.now)) result (listed (one_real end first states) end 0 (lexemes tokens.now)) }
     ensures shorter { IfOk result (λ x. length x.1.now < length tokens.now) }
 {
     let (reals, rest) = open_reals(end, first, states, tokens)?;
@@ -181,7 +181,7 @@ fn reals<'t, 'a>(
 #[tactic(auto, unfolding(fx_grammar::specs::Fronts::type_at))]
 pub fn type_at<'t, 'a>(end: u32, states: usize, tokens: &'t [Token<'a>]) -> Parsed<'t, 'a, usize>
     requires states { states ≤ 32 }
-    ensures value { Gives (λ x. (x.0, lexemes x.1.now)) result (type_at end states (lexemes tokens.now)) }
+    ensures value { GivesParsed (λ x. (x.0, lexemes x.1.now)) result (type_at end states (lexemes tokens.now)) }
     ensures shorter { IfOk result (λ x. length x.1.now < length tokens.now) }
     ensures more { IfOk result (λ x. states < x.0) }
 {
@@ -200,7 +200,7 @@ fn more_than<'t, 'a>(
     count: usize,
     rest: &'t [Token<'a>],
 ) -> Parsed<'t, 'a, usize>
-    ensures value { Gives (λ x. (x.0, lexemes x.1.now)) result (more_than first states (count, lexemes rest.now)) }
+    ensures value { GivesParsed (λ x. (x.0, lexemes x.1.now)) result (more_than first states (count, lexemes rest.now)) }
     ensures shorter { IfOk result (λ x. length x.1.now ≤ length rest.now) }
     ensures more { IfOk result (λ x. states < x.0) }
 {
@@ -218,7 +218,7 @@ fn open_states<'t, 'a>(
 ) -> Parsed<'t, 'a, Declared<'a>>
     requires states { length declared.states.items ≤ 32 }
     requires names { length declared.names ≤ 64 + length declared.states.items }
-    ensures value { Gives (λ x. (declared_of x.0, lexemes x.1.now)) result (separated Comma (declared_state end) (declared_of declared.entry) (lexemes tokens.now)) }
+    ensures value { GivesParsed (λ x. (declared_of x.0, lexemes x.1.now)) result (separated Comma (declared_state end) (declared_of declared.entry) (lexemes tokens.now)) }
     ensures shorter { IfOk result (λ x. length x.1.now < length tokens.now) }
     ensures few { IfOk result (λ x. (length x.0.states.items ≤ 32) × (length x.0.names ≤ 64 + length x.0.states.items)) }
 {
@@ -240,7 +240,7 @@ pub fn states<'t, 'a>(
     tokens: &'t [Token<'a>],
 ) -> Parsed<'t, 'a, Declared<'a>>
     requires { length names ≤ 64 }
-    ensures value { Gives (λ x. (declared_of x.0, lexemes x.1.now)) result (states_at end names.entry (lexemes tokens.now)) }
+    ensures value { GivesParsed (λ x. (declared_of x.0, lexemes x.1.now)) result (states_at end names.entry (lexemes tokens.now)) }
     ensures shorter { IfOk result (λ x. length x.1.now ≤ length tokens.now) }
     ensures few { IfOk result (λ x. (length x.0.states.items ≤ 32) × (length x.0.names ≤ 64 + length x.0.states.items)) }
 {

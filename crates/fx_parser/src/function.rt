@@ -1,8 +1,8 @@
 //! One function, from its name to the brace that closes it and its demands.
 ghost use Rattle.std.specs.Prelude.{◌≡◌, ◌≤◌, ◌<◌, ◌+◌, ◌-◌, ◌^◌, length, map, IfOk, Ok, None, []};
-ghost use Rattle.fx_lexer.specs.Faults.{Gives};
+ghost use Rattle.fx_lexer.specs.Faults.{GivesParsed};
 ghost use Rattle.fx_parser.specs.Texts.{all_texts};
-ghost use Rattle.fx_parser.specs.Views.{lexemes, subject_of, subjects_of, draft_of, front_value, body_value, results_value, HasRoom, bounded};
+ghost use Rattle.fx_parser.specs.Views.{lexemes, subject_of, subjects_of, draft_of, front_value, body_value, results_value, HasBodyRoom, bounded};
 ghost use Rattle.fx_grammar.specs.Steps.{has_name, name_place};
 ghost use Rattle.fx_grammar.specs.Functions.{front_at, body_of, require_word_at, body_at};
 ghost use Rattle.fx_grammar.specs.Bodies.{count_of};
@@ -49,7 +49,7 @@ pub fn read_front<'t, 'a>(
     functions: &Names<'_>,
     tokens: &'t [Token<'a>],
 ) -> Parsed<'t, 'a, Front<'a>>
-    ensures value { Gives (λ x. (front_value x.0, lexemes x.1.now)) result (front_at end functions.now (lexemes tokens.now)) }
+    ensures value { GivesParsed (λ x. (front_value x.0, lexemes x.1.now)) result (front_at end functions.now (lexemes tokens.now)) }
     ensures shorter { IfOk result (λ x. length x.1.now < length tokens.now) }
     ensures few { IfOk result (λ x. (length x.0.subjects.items ≤ 64) × (length x.0.declared.states.items ≤ 32) × (length x.0.declared.names ≤ 96) × (length x.0.declared.states.items < x.0.reals)) }
     ensures fresh { IfOk result (λ x. name_place functions.now x.0.name.now ≡ None) }
@@ -85,7 +85,7 @@ fn require_word<'t, 'a>(
     subjects: &[Subject<'_>],
     tokens: &'t [Token<'a>],
 ) -> Result<&'t [Token<'a>], SourceFault>
-    ensures value { Gives (λ r. lexemes r.now) result (require_word_at end (map subject_of subjects.now) (lexemes tokens.now)) }
+    ensures value { GivesParsed (λ r. lexemes r.now) result (require_word_at end (map subject_of subjects.now) (lexemes tokens.now)) }
     ensures shorter { IfOk result (λ r. length r.now ≤ length tokens.now) }
 {
     let head = peek(tokens);
@@ -105,7 +105,7 @@ fn require_word<'t, 'a>(
 fn first_body<'a>(alloc: Global, names: Names<'a>, inputs: usize, states: usize) -> Body<'a>
     requires { (inputs ≤ 64) × (states ≤ 32) × (length names ≤ 96) }
     ensures value { body_value result ≡ record { names = names.entry; inputs = inputs; states = states; temps = []; nodes = 0 } }
-    ensures room { HasRoom result }
+    ensures room { HasBodyRoom result }
     ensures few { (result.inputs ≡ inputs) × (result.states ≡ states) }
 {
     Body {
@@ -128,7 +128,7 @@ pub fn read_body<'t, 'a>(
 ) -> Parsed<'t, 'a, Draft<'a>>
     requires tokens { length tokens.now < 2 ^ 32 }
     requires few { (length front.subjects.items ≤ 64) × (length front.declared.states.items ≤ 32) × (length front.declared.names ≤ 96) × (length front.declared.states.items < front.reals) }
-    ensures value { Gives (λ x. (draft_of x.0, lexemes x.1.now)) result (body_at end word (front_value front.entry) (lexemes tokens.now)) }
+    ensures value { GivesParsed (λ x. (draft_of x.0, lexemes x.1.now)) result (body_at end word (front_value front.entry) (lexemes tokens.now)) }
     ensures shorter { IfOk result (λ x. length x.1.now ≤ length tokens.now) }
     ensures name { IfOk result (λ x. x.0.name.now ≡ front.entry.name.now) }
 {
@@ -168,7 +168,7 @@ fn within_nodes<'t, 'a>(
     draft: Draft<'a>,
     rest: &'t [Token<'a>],
 ) -> Parsed<'t, 'a, Draft<'a>>
-    ensures value { Gives (λ x. (draft_of x.0, lexemes x.1.now)) result (bounded word nodes (draft_of draft.entry) (lexemes rest.now)) }
+    ensures value { GivesParsed (λ x. (draft_of x.0, lexemes x.1.now)) result (bounded word nodes (draft_of draft.entry) (lexemes rest.now)) }
     ensures shorter { IfOk result (λ x. length x.1.now ≤ length rest.now) }
     ensures name { IfOk result (λ x. x.0.name.now ≡ draft.entry.name.now) }
 {

@@ -4,7 +4,7 @@
 ghost use Rattle.std.specs.Prelude.{◌≡◌, ◌≤◌, ◌<◌, ◌+◌, ◌^◌, length, map, pos, ◌*ℤ◌, IfOk, Ok, option_map};
 ghost use Rattle.fx_rational.specs.Rational.{is_at_most};
 ghost use Rattle.fx_rational.specs.Decimal.{decimal_value};
-ghost use Rattle.fx_lexer.specs.Faults.{Gives};
+ghost use Rattle.fx_lexer.specs.Faults.{GivesParsed};
 ghost use Rattle.fx_lexer.specs.declared.fault.SourceKind.TheVariants.{NoRange, EmptyRange};
 ghost use Rattle.fx_parser.specs.Texts.{numeral_decimal};
 ghost use Rattle.fx_parser.specs.Views.{lexemes};
@@ -67,7 +67,7 @@ fn is_empty_range(subject: &Subject<'_>) -> bool
 }
 
 fn none_lacks(subjects: &[Subject<'_>]) -> Result<(), SourceFault>
-    ensures { Gives (λ u. tt) result (all_pass is_lacking (λ at. fault at NoRange) (map subject_of subjects.now)) }
+    ensures { GivesParsed (λ u. tt) result (all_pass is_lacking (λ at. fault at NoRange) (map subject_of subjects.now)) }
 {
     for subject in subjects {
         if is_lacking(subject) {
@@ -81,7 +81,7 @@ fn none_lacks(subjects: &[Subject<'_>]) -> Result<(), SourceFault>
 }
 
 fn none_is_empty(subjects: &[Subject<'_>]) -> Result<(), SourceFault>
-    ensures { Gives (λ u. tt) result (all_pass is_empty_range (λ at. fault at EmptyRange) (map subject_of subjects.now)) }
+    ensures { GivesParsed (λ u. tt) result (all_pass is_empty_range (λ at. fault at EmptyRange) (map subject_of subjects.now)) }
 {
     for subject in subjects {
         if is_empty_range(subject) {
@@ -97,7 +97,7 @@ fn none_is_empty(subjects: &[Subject<'_>]) -> Result<(), SourceFault>
 /// The subjects, each with both ends in order.
 #[tactic(auto, unfolding(fx_grammar::specs::Ranges::inputs_at))]
 fn ranged<'a>(subjects: Vec<Subject<'a>>) -> Result<Vec<Subject<'a>>, SourceFault>
-    ensures { Gives inputs_value result (inputs_at (subjects_of subjects.entry)) }
+    ensures { GivesParsed inputs_value result (inputs_at (subjects_of subjects.entry)) }
 {
     none_lacks(&subjects)?;
     none_is_empty(&subjects)?;
@@ -112,7 +112,7 @@ pub fn require<'t, 'a>(
     tokens: &'t [Token<'a>],
 ) -> Parsed<'t, 'a, Vec<Subject<'a>>>
     requires { length tokens.now < 2 ^ 32 }
-    ensures value { Gives (λ x. (inputs_value x.0, lexemes x.1.now)) result (require_at end (subjects_of subjects.entry) (lexemes tokens.now)) }
+    ensures value { GivesParsed (λ x. (inputs_value x.0, lexemes x.1.now)) result (require_at end (subjects_of subjects.entry) (lexemes tokens.now)) }
     ensures shorter { IfOk result (λ x. length x.1.now < length tokens.now) }
 {
     let (_, rest) = want(end, Head::Open, tokens)?;

@@ -3,7 +3,7 @@
 //! A source may have thousands of names, and each use of one asks for its place; so the names stand in an `IndexSet` of
 //! slices of the text.
 ghost use Rattle.std.specs.Prelude.{◌≡◌, ◌≢◌, ◌<◌, ◌+◌, length, None, Ok, IfSome, IfOk, ◌++◌, ◌∷◌, []};
-ghost use Rattle.fx_lexer.specs.Faults.{Gives};
+ghost use Rattle.fx_lexer.specs.Faults.{GivesParsed};
 ghost use Rattle.fx_grammar.specs.Steps.{name_place, free_at};
 ghost use Rattle.fx_lexer.specs.Tokens.{lexeme_of};
 
@@ -52,7 +52,7 @@ pub fn free(
     names: &Names<'_>,
     token: &Token<'_>,
 ) -> Result<(), SourceFault>
-    ensures value { Gives (λ _. tt) result (free_at limit count names.now (lexeme_of token.now)) }
+    ensures value { GivesParsed (λ _. tt) result (free_at limit count names.now (lexeme_of token.now)) }
     ensures few { IfOk result (λ _. count ≢ limit) }
     ensures new { IfOk result (λ _. name_place names.now token.now.text.now ≡ None) }
 {
@@ -74,7 +74,7 @@ pub fn free(
 /// The names and a new one.
 pub fn with_name<'a>(names: Names<'a>, name: &'a str) -> Result<Names<'a>, SourceFault>
     requires { name_place names name.now ≡ None }
-    ensures value { Gives (λ more. more) result (Ok (names.entry ++ name.now ∷ [])) }
+    ensures value { GivesParsed (λ more. more) result (Ok (names.entry ++ name.now ∷ [])) }
     ensures count { IfOk result (λ more. length more ≡ length names.entry + 1) }
 {
     let Names { mut set } = names;

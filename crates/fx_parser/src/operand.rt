@@ -2,7 +2,7 @@
 //!
 //! A tree that is too high is no tree: its operands are dropped as they come, so that nothing deep is ever built.
 ghost use Rattle.std.specs.Prelude.{◌≡◌, ◌+◌, ◌≤◌, ◌<◌, ◌^◌, min, max, option_map, Ok};
-ghost use Rattle.fx_lexer.specs.Faults.{Gives};
+ghost use Rattle.fx_lexer.specs.Faults.{GivesParsed};
 ghost use Rattle.fx_grammar.specs.Expressions.{literal};
 ghost use Rattle.fx_parser.specs.Views.{operand_of};
 ghost use Rattle.fx_expr.specs.TreeOf.{tree};
@@ -56,7 +56,7 @@ fn more_nodes(a: u32, b: u32) -> u32
 }
 
 fn operation(alloc: Global, op: Head, left: Expr, right: Expr) -> Result<Expr, SourceFault>
-    ensures { Gives tree result (Ok (operation op (tree left) (tree right))) }
+    ensures { GivesParsed tree result (Ok (operation op (tree left) (tree right))) }
 {
     let left = Box::new(alloc, left)?;
     let right = Box::new(alloc, right)?;
@@ -74,7 +74,7 @@ fn both(
     left: Option<Expr>,
     right: Option<Expr>,
 ) -> Result<Option<Expr>, SourceFault>
-    ensures { Gives (λ x. option_map tree x) result (Ok (both op (option_map tree left) (option_map tree right))) }
+    ensures { GivesParsed (λ x. option_map tree x) result (Ok (both op (option_map tree left) (option_map tree right))) }
 {
     let Some(left) = left else {
         return Ok(None);
@@ -91,7 +91,7 @@ pub fn joined(
     left: Operand,
     right: Operand,
 ) -> Result<Operand, SourceFault>
-    ensures { Gives operand_of result (Ok (combined_operand op (operand_of left) (operand_of right))) }
+    ensures { GivesParsed operand_of result (Ok (combined_operand op (operand_of left) (operand_of right))) }
 {
     let height = higher(left.height, right.height);
     let nodes = more_nodes(left.nodes, right.nodes);
@@ -111,7 +111,7 @@ pub fn joined(
 }
 
 fn negation_of(alloc: Global, expr: Option<Expr>) -> Result<Option<Expr>, SourceFault>
-    ensures { Gives (λ x. option_map tree x) result (Ok (negation_of (option_map tree expr))) }
+    ensures { GivesParsed (λ x. option_map tree x) result (Ok (negation_of (option_map tree expr))) }
 {
     let Some(expr) = expr else {
         return Ok(None);
@@ -120,7 +120,7 @@ fn negation_of(alloc: Global, expr: Option<Expr>) -> Result<Option<Expr>, Source
 }
 
 pub fn negation(alloc: Global, x: Operand) -> Result<Operand, SourceFault>
-    ensures { Gives operand_of result (Ok (negation (operand_of x))) }
+    ensures { GivesParsed operand_of result (Ok (negation (operand_of x))) }
 {
     let height = if x.height <= HEIGHT_LIMIT {
         x.height + 1

@@ -8,7 +8,7 @@ ghost use Rattle.fx_expr.specs.Parts as parts;
 ghost use Rattle.fx_grammar.specs.Ranges.{declared_input};
 ghost use Rattle.fx_rational.specs.Decimal.{decimal_value};
 ghost use Rattle.std.specs.Option.{option_map};
-ghost use Rattle.fx_lexer.specs.Faults.{Gives};
+ghost use Rattle.fx_lexer.specs.Faults.{GivesParsed};
 ghost use Rattle.fx_parser.specs.LawfulNames.{IsLawfulAndNamed};
 ghost use Rattle.fx_parser.specs.Views.{subject_of, state_value, temp_value, demand_value, draft_of};
 
@@ -25,14 +25,14 @@ use std::alloc::Global;
 
 fn owned_name(alloc: Global, text: &str) -> Result<Name, SourceFault>
     requires { IsName text.now }
-    ensures { Gives (λ name. name) result (Ok text.now) }
+    ensures { GivesParsed (λ name. name) result (Ok text.now) }
 {
     Ok(Name::new(String::from_str(alloc, text)?))
 }
 
 fn owned_inputs(alloc: Global, subjects: &[Subject<'_>]) -> Result<Vec<Input>, SourceFault>
     requires { All (λ s. IsName s.name.now) subjects.now }
-    ensures { Gives (λ v. map parts.input_of v.items) result (Ok (map declared_input (map subject_of subjects.now))) }
+    ensures { GivesParsed (λ v. map parts.input_of v.items) result (Ok (map declared_input (map subject_of subjects.now))) }
 {
     let mut inputs = Vec::new(alloc);
     for subject in subjects {
@@ -48,7 +48,7 @@ fn owned_inputs(alloc: Global, subjects: &[Subject<'_>]) -> Result<Vec<Input>, S
 
 fn owned_states(alloc: Global, states: &[front::State<'_>]) -> Result<Vec<State>, SourceFault>
     requires { All (λ s. IsName s.name.now) states.now }
-    ensures { Gives (λ v. map parts.state_of v.items) result (Ok (map state_value states.now)) }
+    ensures { GivesParsed (λ v. map parts.state_of v.items) result (Ok (map state_value states.now)) }
 {
     let mut owned = Vec::new(alloc);
     for state in states {
@@ -62,7 +62,7 @@ fn owned_states(alloc: Global, states: &[front::State<'_>]) -> Result<Vec<State>
 
 fn owned_temps(alloc: Global, temps: Vec<body::Temp<'_>>) -> Result<Vec<Temp>, SourceFault>
     requires { All (λ t. IsName t.name.now) temps.items }
-    ensures { Gives (λ v. map parts.temp_of v.items) result (Ok (map temp_value temps.entry.items)) }
+    ensures { GivesParsed (λ v. map parts.temp_of v.items) result (Ok (map temp_value temps.entry.items)) }
 {
     let mut owned = Vec::new(alloc);
     for temp in temps {
@@ -86,7 +86,7 @@ fn owned_demands(
     alloc: Global,
     numerals: &[Option<Numeral<'_>>],
 ) -> Result<Vec<Option<Decimal>>, SourceFault>
-    ensures { Gives (λ v. map (option_map decimal_value) v.items) result (Ok (map demand_value numerals.now)) }
+    ensures { GivesParsed (λ v. map (option_map decimal_value) v.items) result (Ok (map demand_value numerals.now)) }
 {
     let mut demands = Vec::new(alloc);
     for numeral in numerals {
@@ -98,7 +98,7 @@ fn owned_demands(
 /// The function that was read.
 pub fn owned(alloc: Global, draft: Draft<'_>) -> Result<Function, SourceFault>
     requires { IsLawfulAndNamed (draft_of draft) }
-    ensures { Gives (λ f. f) result (Ok (draft_of draft.entry)) }
+    ensures { GivesParsed (λ f. f) result (Ok (draft_of draft.entry)) }
 {
     let Draft {
         name,

@@ -1,6 +1,6 @@
 //! A source: imports, an object, functions.
 ghost use Rattle.std.specs.Prelude.{◌≡◌, ◌≤◌, ◌<◌, ◌^◌, length, IfOk, IsOk, []};
-ghost use Rattle.fx_lexer.specs.Faults.{Gives};
+ghost use Rattle.fx_lexer.specs.Faults.{GivesParsed};
 ghost use Rattle.fx_parser.specs.Views.{lexemes, drafts_of, AreNamed};
 ghost use Rattle.fx_grammar.specs.Sources.{dot_at, import_at, imports_at, one_def, defs_at, ended, object_at, source_of};
 
@@ -15,7 +15,7 @@ type Rest<'t, 'a> = Result<&'t [Token<'a>], SourceFault>;
 
 #[tactic(auto, unfolding(fx_grammar::specs::Sources::dot_at))]
 fn dot<'t, 'a>(end: u32, tokens: &'t [Token<'a>]) -> Rest<'t, 'a>
-    ensures value { Gives (λ r. (tt, lexemes r.now)) result (dot_at end tt (lexemes tokens.now)) }
+    ensures value { GivesParsed (λ r. (tt, lexemes r.now)) result (dot_at end tt (lexemes tokens.now)) }
     ensures shorter { IfOk result (λ r. length r.now < length tokens.now) }
 {
     let (_, rest) = want(end, Head::Name, tokens)?;
@@ -25,7 +25,7 @@ fn dot<'t, 'a>(end: u32, tokens: &'t [Token<'a>]) -> Rest<'t, 'a>
 /// One import, behind its word.
 #[tactic(auto, unfolding(fx_grammar::specs::Sources::import_at, fx_grammar::specs::Steps::separated))]
 fn import<'t, 'a>(end: u32, tokens: &'t [Token<'a>]) -> Rest<'t, 'a>
-    ensures value { Gives (λ r. (tt, lexemes r.now)) result (import_at end tt (lexemes tokens.now)) }
+    ensures value { GivesParsed (λ r. (tt, lexemes r.now)) result (import_at end tt (lexemes tokens.now)) }
     ensures shorter { IfOk result (λ r. length r.now < length tokens.now) }
 {
     let mut rest = dot(end, tokens)?;
@@ -48,7 +48,7 @@ fn begun<'t, 'a>(tokens: &'t [Token<'a>]) -> Rest<'t, 'a>
 /// All imports.
 #[tactic(auto, unfolding(fx_grammar::specs::Sources::imports_at))]
 fn imports<'t, 'a>(end: u32, tokens: &'t [Token<'a>]) -> Rest<'t, 'a>
-    ensures value { Gives (λ r. (tt, lexemes r.now)) result (imports_at end (lexemes tokens.now)) }
+    ensures value { GivesParsed (λ r. (tt, lexemes r.now)) result (imports_at end (lexemes tokens.now)) }
     ensures shorter { IfOk result (λ r. length r.now ≤ length tokens.now) }
 {
     let mut rest = begun(tokens)?;
@@ -76,7 +76,7 @@ fn one_def<'t, 'a>(
 ) -> Parsed<'t, 'a, Drafts<'a>>
     requires tokens { length tokens.now < 2 ^ 32 }
     requires same { AreNamed drafts }
-    ensures value { Gives (λ x. (drafts_of x.0, lexemes x.1.now)) result (one_def end (drafts_of drafts.entry) (lexemes tokens.now)) }
+    ensures value { GivesParsed (λ x. (drafts_of x.0, lexemes x.1.now)) result (one_def end (drafts_of drafts.entry) (lexemes tokens.now)) }
     ensures shorter { IfOk result (λ x. length x.1.now < length tokens.now) }
     ensures same { IfOk result (λ x. AreNamed x.0) }
 {
@@ -106,7 +106,7 @@ fn none_yet<'t, 'a>(alloc: Global, tokens: &'t [Token<'a>]) -> Parsed<'t, 'a, Dr
 #[tactic(auto, unfolding(fx_grammar::specs::Sources::defs_at))]
 fn defs<'t, 'a>(alloc: Global, end: u32, tokens: &'t [Token<'a>]) -> Parsed<'t, 'a, Drafts<'a>>
     requires { length tokens.now < 2 ^ 32 }
-    ensures value { Gives (λ x. (drafts_of x.0, lexemes x.1.now)) result (defs_at end (lexemes tokens.now)) }
+    ensures value { GivesParsed (λ x. (drafts_of x.0, lexemes x.1.now)) result (defs_at end (lexemes tokens.now)) }
     ensures shorter { IfOk result (λ x. length x.1.now ≤ length tokens.now) }
     ensures same { IfOk result (λ x. AreNamed x.0) }
 {
@@ -123,7 +123,7 @@ fn defs<'t, 'a>(alloc: Global, end: u32, tokens: &'t [Token<'a>]) -> Parsed<'t, 
 #[tactic(auto, unfolding(fx_grammar::specs::Sources::object_at))]
 fn object<'t, 'a>(alloc: Global, end: u32, tokens: &'t [Token<'a>]) -> Parsed<'t, 'a, Drafts<'a>>
     requires { length tokens.now < 2 ^ 32 }
-    ensures value { Gives (λ x. (drafts_of x.0, lexemes x.1.now)) result (object_at end (lexemes tokens.now)) }
+    ensures value { GivesParsed (λ x. (drafts_of x.0, lexemes x.1.now)) result (object_at end (lexemes tokens.now)) }
     ensures shorter { IfOk result (λ x. length x.1.now ≤ length tokens.now) }
     ensures same { IfOk result (λ x. AreNamed x.0) }
 {
@@ -137,7 +137,7 @@ fn object<'t, 'a>(alloc: Global, end: u32, tokens: &'t [Token<'a>]) -> Parsed<'t
 
 fn ended<'a>(end: u32, drafts: Drafts<'a>, tokens: &[Token<'_>]) -> Result<Drafts<'a>, SourceFault>
     requires { AreNamed drafts }
-    ensures value { Gives drafts_of result (ended end (drafts_of drafts.entry) (lexemes tokens.now)) }
+    ensures value { GivesParsed drafts_of result (ended end (drafts_of drafts.entry) (lexemes tokens.now)) }
     ensures same { IfOk result (λ more. AreNamed more) }
 {
     if !tokens.is_empty() {
@@ -154,7 +154,7 @@ pub fn functions_in<'a>(
     tokens: &[Token<'a>],
 ) -> Result<Drafts<'a>, SourceFault>
     requires { length tokens.now < 2 ^ 32 }
-    ensures value { Gives drafts_of result (source_of end (lexemes tokens.now)) }
+    ensures value { GivesParsed drafts_of result (source_of end (lexemes tokens.now)) }
     ensures same { IfOk result (λ drafts. AreNamed drafts) }
 {
     let rest = imports(end, tokens)?;

@@ -3,7 +3,7 @@
 //! A step gives its value and the tokens behind it. The trap: at the end of the tokens the fault is told at the text's length.
 ghost use Rattle.std.specs.Prelude.{◌≡◌, ◌≤◌, ◌<◌, ◌^◌, length, drop, OnOk, IfOk, codes, negsuc, ◌≤ℤ◌};
 ghost use Rattle.std.specs.Prelude.{bytes_eq};
-ghost use Rattle.fx_lexer.specs.Faults.{Gives};
+ghost use Rattle.fx_lexer.specs.Faults.{GivesParsed};
 ghost use Rattle.fx_lexer.specs.Tokens.{lexeme_of};
 ghost use Rattle.fx_parser.specs.Views.{lexemes};
 ghost use Rattle.fx_parser.specs.Texts.{numeral_decimal};
@@ -84,7 +84,7 @@ pub fn wrong(end: u32, tokens: &[Token<'_>]) -> SourceFault
 /// The next token, which has to be of this sort.
 #[tactic(auto, unfolding(fx_grammar::specs::Steps::want))]
 pub fn want<'t, 'a>(end: u32, head: Head, tokens: &'t [Token<'a>]) -> Parsed<'t, 'a, Token<'a>>
-    ensures value { Gives (λ x. (lexeme_of x.0, lexemes x.1.now)) result (want end head (lexemes tokens.now)) }
+    ensures value { GivesParsed (λ x. (lexeme_of x.0, lexemes x.1.now)) result (want end head (lexemes tokens.now)) }
     ensures shorter { IfOk result (λ x. length x.1.now < length tokens.now) }
 {
     match tokens.split_first() {
@@ -111,7 +111,7 @@ fn is_real(text: &str) -> bool
 /// The name `Real`.
 #[tactic(auto, unfolding(fx_grammar::specs::Steps::real_at))]
 pub fn real<'t, 'a>(end: u32, tokens: &'t [Token<'a>]) -> Parsed<'t, 'a, Token<'a>>
-    ensures value { Gives (λ x. (lexeme_of x.0, lexemes x.1.now)) result (real_at end (lexemes tokens.now)) }
+    ensures value { GivesParsed (λ x. (lexeme_of x.0, lexemes x.1.now)) result (real_at end (lexemes tokens.now)) }
     ensures shorter { IfOk result (λ x. length x.1.now < length tokens.now) }
 {
     let (token, rest) = want(end, Head::Name, tokens)?;
@@ -126,7 +126,7 @@ pub fn real<'t, 'a>(end: u32, tokens: &'t [Token<'a>]) -> Parsed<'t, 'a, Token<'
 
 #[tactic(auto, unfolding(fx_grammar::specs::Steps::numeral_at))]
 pub fn number<'t, 'a>(end: u32, tokens: &'t [Token<'a>]) -> Parsed<'t, 'a, Numeral<'a>>
-    ensures value { Gives (λ x. (numeral_decimal x.0, lexemes x.1.now)) result (numeral_at end (lexemes tokens.now)) }
+    ensures value { GivesParsed (λ x. (numeral_decimal x.0, lexemes x.1.now)) result (numeral_at end (lexemes tokens.now)) }
     ensures shorter { IfOk result (λ x. length x.1.now < length tokens.now) }
 {
     let (token, rest) = want(end, Head::Number, tokens)?;
@@ -140,7 +140,7 @@ pub fn number<'t, 'a>(end: u32, tokens: &'t [Token<'a>]) -> Parsed<'t, 'a, Numer
 /// A number, with or without a minus.
 #[tactic(auto, unfolding(fx_grammar::specs::Steps::signed_at, fx_grammar::specs::Steps::numeral_at))]
 pub fn signed<'t, 'a>(end: u32, tokens: &'t [Token<'a>]) -> Parsed<'t, 'a, Numeral<'a>>
-    ensures value { Gives (λ x. (numeral_decimal x.0, lexemes x.1.now)) result (signed_at end (lexemes tokens.now)) }
+    ensures value { GivesParsed (λ x. (numeral_decimal x.0, lexemes x.1.now)) result (signed_at end (lexemes tokens.now)) }
     ensures shorter { IfOk result (λ x. length x.1.now < length tokens.now) }
 {
     if peek(tokens) == Head::Minus {

@@ -2,7 +2,7 @@
 //!
 //! There are at most 64, so that a name is found by going over them.
 ghost use Rattle.std.specs.Prelude.{◌≡◌, ◌<◌, ◌+◌, length, map, IfSome, IfOk, None, Ok, ◌++◌, ◌∷◌, []};
-ghost use Rattle.fx_lexer.specs.Faults.{Gives};
+ghost use Rattle.fx_lexer.specs.Faults.{GivesParsed};
 ghost use Rattle.fx_lexer.specs.Tokens.{lexeme_of};
 ghost use Rattle.fx_parser.specs.Texts.{numeral_decimal, all_texts};
 ghost use Rattle.fx_parser.specs.Views.{subject_of, subjects_of, IsNamed};
@@ -59,7 +59,7 @@ pub fn no_subjects<'a>(alloc: Global) -> Named<'a>
 pub fn with_subject<'a>(named: Named<'a>, token: &Token<'a>) -> Result<Named<'a>, SourceFault>
     requires same { IsNamed named }
     requires new { name_place named.names token.now.text.now ≡ None }
-    ensures value { Gives (λ more. subjects_of more.subjects) result (Ok (subjects_of named.entry.subjects ++ new_subject (lexeme_of token.now) ∷ [])) }
+    ensures value { GivesParsed (λ more. subjects_of more.subjects) result (Ok (subjects_of named.entry.subjects ++ new_subject (lexeme_of token.now) ∷ [])) }
     ensures same { IfOk result (λ more. IsNamed more) }
     ensures count { IfOk result (λ more. length more.subjects.items ≡ length named.entry.subjects.items + 1) }
 {
@@ -88,7 +88,7 @@ pub fn subject_place(subjects: &[Subject<'_>], text: &str) -> Option<usize>
 /// The place of a name that must be known.
 #[tactic(auto, unfolding(fx_grammar::specs::Ranges::subject_at))]
 pub fn subject_at(subjects: &[Subject<'_>], token: &Token<'_>) -> Result<usize, SourceFault>
-    ensures value { Gives (λ k. k) result (subject_at (map subject_of subjects.now) (lexeme_of token.now)) }
+    ensures value { GivesParsed (λ k. k) result (subject_at (map subject_of subjects.now) (lexeme_of token.now)) }
     ensures within { IfOk result (λ k. k < length subjects.now) }
 {
     subject_place(subjects, token.text).ok_or(SourceFault {
@@ -151,7 +151,7 @@ pub fn said<'a>(
     k: usize,
 ) -> Result<Vec<Subject<'a>>, SourceFault>
     requires { k < length subjects.items }
-    ensures { Gives (λ v. subjects_of v) result (said side (numeral_decimal value.entry) (lexeme_of token.now) (subjects_of subjects.entry) k) }
+    ensures { GivesParsed (λ v. subjects_of v) result (said side (numeral_decimal value.entry) (lexeme_of token.now) (subjects_of subjects.entry) k) }
 {
     let subject = subjects[k];
     if is_said(side, &subject) {

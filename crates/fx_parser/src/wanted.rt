@@ -2,7 +2,7 @@
 ghost use Rattle.std.specs.Prelude.{◌≡◌, ◌<◌, ◌^◌, length, map, IfOk, Some, None};
 ghost use Rattle.std.specs.List.{All};
 ghost use Rattle.std.specs.Option.{option_map};
-ghost use Rattle.fx_lexer.specs.Faults.{Gives};
+ghost use Rattle.fx_lexer.specs.Faults.{GivesParsed};
 ghost use Rattle.fx_grammar.specs.Sources.{chosen, functions_of, parsed};
 ghost use Rattle.fx_parser.specs.LawfulNames.{IsLawfulAndNamed};
 ghost use Rattle.fx_parser.specs.Choice.{IsChoice, wanted_in};
@@ -19,7 +19,7 @@ use std::alloc::Global;
 /// The functions of a text.
 fn drafts<'a>(alloc: Global, text: &'a str) -> Result<Drafts<'a>, SourceFault>
     requires { length text.now < 2 ^ 32 }
-    ensures value { Gives drafts_of result (functions_of text.now) }
+    ensures value { GivesParsed drafts_of result (functions_of text.now) }
     ensures same { IfOk result (λ drafts. AreNamed drafts) }
 {
     let tokens = tokens(alloc, text)?;
@@ -68,7 +68,7 @@ fn number_of(drafts: &Drafts<'_>, name: Option<&str>) -> Result<usize, SourceKin
 /// The wanted function.
 fn chosen<'a>(drafts: Drafts<'a>, name: Option<&str>) -> Result<Draft<'a>, SourceFault>
     requires { AreNamed drafts }
-    ensures { Gives draft_of result (chosen (option_map (λ n. n.now) name.entry) (drafts_of drafts.entry)) }
+    ensures { GivesParsed draft_of result (chosen (option_map (λ n. n.now) name.entry) (drafts_of drafts.entry)) }
 {
     match number_of(&drafts, name) {
         Ok(k) => {
@@ -83,7 +83,7 @@ fn chosen<'a>(drafts: Drafts<'a>, name: Option<&str>) -> Result<Draft<'a>, Sourc
 #[tactic(auto, using(crate::proofs::Choices::is_whole))]
 fn function_in(alloc: Global, text: &str, name: Option<&str>) -> Result<Function, SourceFault>
     requires { length text.now < 2 ^ 32 }
-    ensures { Gives (λ f. f) result (wanted_in text.now (option_map (λ n. n.now) name.entry)) }
+    ensures { GivesParsed (λ f. f) result (wanted_in text.now (option_map (λ n. n.now) name.entry)) }
 {
     let drafts = drafts(alloc, text)?;
     let draft = chosen(drafts, name)?;
@@ -95,7 +95,7 @@ fn function_in(alloc: Global, text: &str, name: Option<&str>) -> Result<Function
 #[tactic(auto, unfolding(fx_grammar::specs::Sources::parsed))]
 pub fn parse(alloc: Global, bytes: &[u8], name: Option<&str>) -> Result<Function, SourceFault>
     requires { length bytes.now < 2 ^ 32 }
-    ensures { Gives (λ f. f) result (parsed bytes.now (option_map (λ n. n.now) name.entry)) }
+    ensures { GivesParsed (λ f. f) result (parsed bytes.now (option_map (λ n. n.now) name.entry)) }
 {
     match str::from_utf8(bytes) {
         Ok(text) => function_in(alloc, text, name),

@@ -6,7 +6,7 @@ use Rattle.fx_model.specs.Tree.{at}
 use Rattle.fx_text.specs.declared.fault.TextKind.{TextKind}
 use Rattle.fx_text.specs.declared.fault.TextKind.TheVariants.{BadLine, OutOfRange}
 use Rattle.fx_text.specs.Cutting.{Line}
-use Rattle.fx_text.specs.Reading.{◌>>=◌, field_at, word_at, number_at, place_at, ended_at}
+use Rattle.fx_text.specs.Reading.{◌>>=◌, field_at, keyword_at, number_at, place_at, ended_at}
 
 -- the counts that a program's text names: inputs, states, outputs and codes
 pub record Sizes : Type 0 where
@@ -43,7 +43,7 @@ operands_at n line = do
 -- in k f, where input k is due
 unfoldable pub input_at : ℕ → Line → Result Code TextKind
 input_at k line = do
-  rest ← word_at (codes "in") line
+  rest ← keyword_at (codes "in") line
   place ← number_at (pos k) (pos k) rest
   f ← point_at place.1
   _ ← ended_at f.1
@@ -52,7 +52,7 @@ input_at k line = do
 -- st k f w, where state k is due
 unfoldable pub state_at : ℕ → ℕ → Line → Result Code TextKind
 state_at n k line = do
-  rest ← word_at (codes "st") line
+  rest ← keyword_at (codes "st") line
   place ← number_at (pos k) (pos k) rest
   f ← point_at place.1
   w ← constant_at n f.1
@@ -139,7 +139,7 @@ operation_at n ps line = do
 -- a line at the end of a program
 unfoldable pub last_at : ℕ → List ℤ → Line → Result Code TextKind
 last_at n ps line = do
-  rest ← word_at (codes "copy") line
+  rest ← keyword_at (codes "copy") line
   copy_at n ps rest
 
 -- the code of words of n bits after codes with these points: the inputs first, then the states, and the copies last

@@ -9,7 +9,7 @@ use Rattle.fx_text.specs.declared.fault.TextKind.{TextKind}
 use Rattle.fx_text.specs.declared.fault.TextKind.TheVariants.{BadLine, OutOfRange}
 use Rattle.fx_text.specs.declared.fault.TextFault.{TextFault}
 use Rattle.fx_text.specs.Cutting.{Line}
-use Rattle.fx_text.specs.Reading.{◌>>=◌, field_at, word_at, place_at, count_at, ended_at}
+use Rattle.fx_text.specs.Reading.{◌>>=◌, field_at, keyword_at, place_at, count_at, ended_at}
 use Rattle.fx_text.specs.Lines.{line_by, text_ended_at}
 use Rattle.fx_text.specs.Many.{many}
 use Rattle.fx_program.specs.CodeReading.{Sizes, code_at}
@@ -17,9 +17,9 @@ use Rattle.fx_program.specs.CodeReading.{Sizes, code_at}
 -- fixd program 1
 unfoldable pub headline_at : Line → Result (Unit {0}) TextKind
 headline_at line = do
-  fixd ← word_at (codes "fixd") line
-  program ← word_at (codes "program") fixd
-  version ← word_at (codes "1") program
+  fixd ← keyword_at (codes "fixd") line
+  program ← keyword_at (codes "program") fixd
+  version ← keyword_at (codes "1") program
   _ ← ended_at version
   Ok tt
 
@@ -34,7 +34,7 @@ known_width n = if is_width n then Ok n else Err OutOfRange
 -- width N
 unfoldable pub width_at : Line → Result ℕ TextKind
 width_at line = do
-  rest ← word_at (codes "width") line
+  rest ← keyword_at (codes "width") line
   n ← place_at 65 rest
   w ← known_width n.0
   _ ← ended_at n.1
@@ -47,7 +47,7 @@ known_name text = if is_name text then Ok text else Err BadLine
 -- name NAME
 unfoldable pub name_at : Line → Result (List ℕ) TextKind
 name_at line = do
-  rest ← word_at (codes "name") line
+  rest ← keyword_at (codes "name") line
   text ← field_at rest
   name ← known_name text.0
   _ ← ended_at text.1
@@ -56,7 +56,7 @@ name_at line = do
 -- sizes I K M n
 unfoldable pub sizes_at : Line → Result Sizes TextKind
 sizes_at line = do
-  rest ← word_at (codes "sizes") line
+  rest ← keyword_at (codes "sizes") line
   i ← count_at 1 input_limit rest
   k ← count_at 0 state_limit i.1
   m ← count_at 1 output_limit k.1

@@ -10,7 +10,7 @@ use Rattle.fx_expr.specs.SizeOf.{size_of}
 use Rattle.fx_expr.specs.declared.size.Size.{Size}
 use Rattle.fx_rules.specs.Turned as rules
 use Rattle.fx_rules.specs.Turned.{Turned, turned}
-use Rattle.fx_rules.specs.Steps.{is_within, after, rewrite}
+use Rattle.fx_rules.specs.Steps.{is_within_limits, after, rewrite}
 use Rattle.fx_rules.proofs.Turns.{turned_judges}
 use Rattle.fx_rewrite.specs.MeasureOf.{measure_of}
 use Rattle.fx_rewrite.specs.Refusals.{IsRefused, IsAdmitted}
@@ -50,7 +50,7 @@ overlong f s old m there n e =
     ((old, j.0, there, j.1, none), none)
 
 pub overfull : (f : Function) (s : Rewriting) (old : Tree) (m : Measure) (size : Size) → found f s.place s.path ≡ Some old → m ≡ Gives size → m ≡ measure_of (turned s.rule old) →
-    ((new : Tree) → size ≡ size_of new → false ≡ is_within (with_tree f s.place s.path new) s.place) → IsRefused faults.TooLong f s × (rewrite f s ≡ None)
+    ((new : Tree) → size ≡ size_of new → false ≡ is_within_limits (with_tree f s.place s.path new) s.place) → IsRefused faults.TooLong f s × (rewrite f s ≡ None)
 overfull f s old m size there n e out =
     let g = gives (turned s.rule old) size (sym n ∙ e) in
     let j = turned_judges s.rule old (rules.Becomes g.0) g.1 in
@@ -58,7 +58,7 @@ overfull f s old m size there n e out =
     ((old, g.0, there, j.0, none), none)
 
 pub admitted : (f : Function) (s : Rewriting) (old : Tree) (m : Measure) (size : Size) → found f s.place s.path ≡ Some old → m ≡ Gives size → m ≡ measure_of (turned s.rule old) →
-    ((new : Tree) → size ≡ size_of new → true ≡ is_within (with_tree f s.place s.path new) s.place) → IsAdmitted f s old
+    ((new : Tree) → size ≡ size_of new → true ≡ is_within_limits (with_tree f s.place s.path new) s.place) → IsAdmitted f s old
 admitted f s old m size there n e within =
     let g = gives (turned s.rule old) size (sym n ∙ e) in
     record { new = g.0; becomes = g.1; is = rewrite_is f s old (rules.Becomes g.0) there g.1 ∙ ap (λ (b : Bool). if b then Some (with_tree f s.place s.path g.0) else None) (sym (within g.0 g.2)) }

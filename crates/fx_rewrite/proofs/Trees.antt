@@ -10,7 +10,7 @@ use Rattle.fx_model.specs.Paths.{tree_in, tree_at}
 use Rattle.fx_inequalities.specs.Rewriting.{Rewriting}
 use Rattle.fx_expr.specs.LawfulFunction.{IsLawfulFunction}
 use Rattle.fx_rules.specs.SingleSteps.{steps_by, steps_along, steps_in, trees_of, is_there, single_steps}
-use Rattle.fx_rewrite.specs.Ahead.{rules_from, paths_after, ahead_in, ahead, behind, there}
+use Rattle.fx_rewrite.specs.Ahead.{rules_from, paths_after, ahead_in, ahead, steps_behind, there}
 use Rattle.fx_rewrite.specs.NextPath.{next_path}
 use Rattle.fx_rewrite.specs.FirstOf.{Begins}
 use Rattle.fx_rewrite.proofs.Paths.{root_first, Follows, next_follows}
@@ -39,7 +39,7 @@ in_none (t ∷ ts) es (suc k) h = in_none ts es k h
 
 -- ---- what is ahead
 -- at a tree: what is left at the path, and what is behind it
-pub ahead_is : (f : Function) (k : ℕ) (path : List ℕ) (r : ℕ) (e : Tree) → tree_at f k ≡ Some e → ahead f k path r ≡ steps_by k path (rules_from r) ++ behind f k path e
+pub ahead_is : (f : Function) (k : ℕ) (path : List ℕ) (r : ℕ) (e : Tree) → tree_at f k ≡ Some e → ahead f k path r ≡ steps_by k path (rules_from r) ++ steps_behind f k path e
 ahead_is f k path r e h = ap (λ (es : List Tree). ahead_in es k path r) (in_from f.temps f.results k e h)
 
 pub ahead_none : (f : Function) (k : ℕ) (path : List ℕ) (r : ℕ) → tree_at f k ≡ None → ahead f k path r ≡ []
@@ -54,7 +54,7 @@ pub all_ahead : (f : Function) → there f (ahead f 0 [] 1) ≡ single_steps f
 all_ahead f = ap (there f) (sym (from_root 0 (trees_of f)))
 
 -- on to the next path
-pub on_path : (f : Function) (k : ℕ) (path q : List ℕ) (e : Tree) → tree_at f k ≡ Some e → next_path path e ≡ Some q → behind f k path e ≡ ahead f k q 1
+pub on_path : (f : Function) (k : ℕ) (path q : List ℕ) (e : Tree) → tree_at f k ≡ Some e → next_path path e ≡ Some q → steps_behind f k path e ≡ ahead f k q 1
 on_path f k path q e h n =
     let b : paths_after path e ≡ q ∷ paths_after q e = subst (λ (o : Option (List ℕ)). Follows e o (paths_after path e)) n (next_follows path e) in
     ap (λ (ps : List (List ℕ)). steps_along k ps ++ steps_in (k + 1) (drop (suc k) (trees_of f))) b
@@ -62,7 +62,7 @@ on_path f k path q e h n =
     ∙ sym (ahead_is f k q 1 e h)
 
 -- on to the next place
-pub on_place : (f : Function) (k : ℕ) (path : List ℕ) (e : Tree) → next_path path e ≡ None → behind f k path e ≡ ahead f (k + 1) [] 1
+pub on_place : (f : Function) (k : ℕ) (path : List ℕ) (e : Tree) → next_path path e ≡ None → steps_behind f k path e ≡ ahead f (k + 1) [] 1
 on_place f k path e n =
     let b : paths_after path e ≡ [] = subst (λ (o : Option (List ℕ)). Follows e o (paths_after path e)) n (next_follows path e) in
     let one : suc k ≡ k + 1 = omega arith in
@@ -71,21 +71,21 @@ on_place f k path e n =
 -- a step that is there at the path
 pub begins_some : (f : Function) (k : ℕ) (path : List ℕ) (r n : ℕ) (e : Tree) → tree_at f k ≡ Some e → Begins f k path r (Some n) → there f (ahead f k path r) ≡ record { place = k; path = path; rule = n } ∷ there f (ahead f k path (n + 1))
 begins_some f k path r n e h b =
-    ap (there f) (ahead_is f k path r e h) ∙ filter-append (is_there f) (steps_by k path (rules_from r)) (behind f k path e)
-    ∙ ap (λ (ss : List Rewriting). ss ++ there f (behind f k path e)) b.1
-    ∙ ap (λ (ss : List Rewriting). record { place = k; path = path; rule = n } ∷ ss) (sym (filter-append (is_there f) (steps_by k path (rules_from (n + 1))) (behind f k path e)) ∙ ap (there f) (sym (ahead_is f k path (n + 1) e h)))
+    ap (there f) (ahead_is f k path r e h) ∙ filter-append (is_there f) (steps_by k path (rules_from r)) (steps_behind f k path e)
+    ∙ ap (λ (ss : List Rewriting). ss ++ there f (steps_behind f k path e)) b.1
+    ∙ ap (λ (ss : List Rewriting). record { place = k; path = path; rule = n } ∷ ss) (sym (filter-append (is_there f) (steps_by k path (rules_from (n + 1))) (steps_behind f k path e)) ∙ ap (there f) (sym (ahead_is f k path (n + 1) e h)))
 
 -- none is
-pub begins_none : (f : Function) (k : ℕ) (path : List ℕ) (r : ℕ) (e : Tree) → tree_at f k ≡ Some e → Begins f k path r None → there f (ahead f k path r) ≡ there f (behind f k path e)
+pub begins_none : (f : Function) (k : ℕ) (path : List ℕ) (r : ℕ) (e : Tree) → tree_at f k ≡ Some e → Begins f k path r None → there f (ahead f k path r) ≡ there f (steps_behind f k path e)
 begins_none f k path r e h b =
-    ap (there f) (ahead_is f k path r e h) ∙ filter-append (is_there f) (steps_by k path (rules_from r)) (behind f k path e) ∙ ap (λ (ss : List Rewriting). ss ++ there f (behind f k path e)) b
+    ap (there f) (ahead_is f k path r e h) ∙ filter-append (is_there f) (steps_by k path (rules_from r)) (steps_behind f k path e) ∙ ap (λ (ss : List Rewriting). ss ++ there f (steps_behind f k path e)) b
 
 -- ---- the measure: fewer are ahead behind the rules of a path
 thirty : (k : ℕ) (path : List ℕ) (xs : List Rewriting) → length xs < length (steps_by k path (rules_from 1) ++ xs)
 thirty k path xs = omega arith
 
-pub fewer : (f : Function) (k : ℕ) (path : List ℕ) (e : Tree) (xs : List Rewriting) → tree_at f k ≡ Some e → behind f k path e ≡ xs → length xs < length (ahead f k path 1)
-fewer f k path e xs h b = subst (λ (ys : List Rewriting). length ys < length (ahead f k path 1)) b (subst (λ (ys : List Rewriting). length (behind f k path e) < length ys) (sym (ahead_is f k path 1 e h)) (thirty k path (behind f k path e)))
+pub fewer : (f : Function) (k : ℕ) (path : List ℕ) (e : Tree) (xs : List Rewriting) → tree_at f k ≡ Some e → steps_behind f k path e ≡ xs → length xs < length (ahead f k path 1)
+fewer f k path e xs h b = subst (λ (ys : List Rewriting). length ys < length (ahead f k path 1)) b (subst (λ (ys : List Rewriting). length (steps_behind f k path e) < length ys) (sym (ahead_is f k path 1 e h)) (thirty k path (steps_behind f k path e)))
 
 -- ---- places are small
 list_place : (es : List Tree) (k : ℕ) (e : Tree) → slice_get es k ≡ Some e → k < length es

@@ -10,7 +10,7 @@ use Rattle.fx_expr.specs.LawfulFunction.{IsLawfulFunction}
 use Rattle.fx_expr.specs.SizeOf.{size_of}
 use Rattle.fx_expr.proofs.Sizes.{nodes_counted, height_counted}
 use Rattle.fx_expr.proofs.Nodes.{nodes_after, part_nodes}
-use Rattle.fx_rules.specs.Steps.{is_low, is_within}
+use Rattle.fx_rules.specs.Steps.{is_low, is_within_limits}
 use Rattle.fx_rules.proofs.Under.{some_then}
 use Rattle.fx_rewrite.proofs.Heights.{low_after, high_after}
 use Rattle.fx_rewrite.proofs.Twice.{tree_there}
@@ -54,8 +54,8 @@ and_false true = refl
 and_false false = refl
 
 -- both at once, where the height is tested first
-pub within_low : (f : Function) (k : ℕ) (path : List ℕ) (new : Tree) (low small : Bool) → low ≡ is_low (tree_at (with_tree f k path new) k) → small ≡ nat_le (length (nodes_of (with_tree f k path new))) 4000 → low ≡ true → small ≡ is_within (with_tree f k path new) k
+pub within_low : (f : Function) (k : ℕ) (path : List ℕ) (new : Tree) (low small : Bool) → low ≡ is_low (tree_at (with_tree f k path new) k) → small ≡ nat_le (length (nodes_of (with_tree f k path new))) 4000 → low ≡ true → small ≡ is_within_limits (with_tree f k path new) k
 within_low f k path new low small p q t = and_true small ∙ ap (λ b. b && true) q ∙ ap (λ b. nat_le (length (nodes_of (with_tree f k path new))) 4000 && b) (sym t ∙ p)
 
-pub not_within : (f : Function) (k : ℕ) (path : List ℕ) (new : Tree) (low : Bool) → low ≡ is_low (tree_at (with_tree f k path new) k) → low ≡ false → low ≡ is_within (with_tree f k path new) k
+pub not_within : (f : Function) (k : ℕ) (path : List ℕ) (new : Tree) (low : Bool) → low ≡ is_low (tree_at (with_tree f k path new) k) → low ≡ false → low ≡ is_within_limits (with_tree f k path new) k
 not_within f k path new low p t = t ∙ and_false (nat_le (length (nodes_of (with_tree f k path new))) 4000) ∙ ap (λ b. nat_le (length (nodes_of (with_tree f k path new))) 4000 && b) (sym t ∙ p)

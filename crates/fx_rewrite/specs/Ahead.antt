@@ -37,8 +37,8 @@ abbrev pub ahead : Function → ℕ → List ℕ → ℕ → List Rewriting
 ahead f k path r = ahead_in (drop k (trees_of f)) k path r
 
 -- those behind a path in the tree e at a place
-abbrev pub behind : Function → ℕ → List ℕ → Tree → List Rewriting
-behind f k path e = steps_along k (paths_after path e) ++ steps_in (k + 1) (drop (suc k) (trees_of f))
+abbrev pub steps_behind : Function → ℕ → List ℕ → Tree → List Rewriting
+steps_behind f k path e = steps_along k (paths_after path e) ++ steps_in (k + 1) (drop (suc k) (trees_of f))
 
 -- those that are there
 abbrev pub there : Function → List Rewriting → List Rewriting

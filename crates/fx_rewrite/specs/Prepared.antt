@@ -5,7 +5,7 @@ use Rattle.fx_model.specs.Function.{Function}
 use Rattle.fx_model.specs.Paths.{found}
 use Rattle.fx_inequalities.specs.Rewriting.{Rewriting}
 use Rattle.fx_rewrite.specs.Refusals.{IsAdmitted}
-use Rattle.fx_rewrite.specs.SpareOf.{IsReady}
+use Rattle.fx_rewrite.specs.SpareOf.{IsSpareReady}
 use Rattle.fx_rewrite.specs.declared.spare.Spare.{Spare}
 
 -- the tree is found, the step is there, and what the rule needs is ready
@@ -13,4 +13,4 @@ pub record IsPrepared (f : Function) (s : Rewriting) (spare : Spare) : Type 0 wh
   pub old : Tree
   pub there : found f s.place s.path ≡ Some old
   pub admitted : IsAdmitted f s old
-  pub ready : IsReady s.rule old spare
+  pub ready : IsSpareReady s.rule old spare

@@ -4,7 +4,7 @@ use Rattle.fx_model.specs.Tree.{Tree}
 use Rattle.fx_model.specs.Function.{Function}
 use Rattle.fx_model.specs.Paths.{found, with_tree}
 use Rattle.fx_inequalities.specs.Rewriting.{Rewriting}
-use Rattle.fx_rules.specs.Rules.{Rewrites}
+use Rattle.fx_rules.specs.Rules.{RewritesTree}
 use Rattle.fx_rules.specs.Turned.{Becomes, turned}
 use Rattle.fx_rules.specs.Steps.{rewrite, IsUnmatched}
 use Rattle.fx_rewrite.specs.declared.fault.StepFault.{StepFault}
@@ -14,7 +14,7 @@ use Rattle.fx_rewrite.specs.declared.fault.StepFault.TheVariants.{NoPlace, NoMat
 abbrev pub IsRefused : StepFault → Function → Rewriting → Type 0
 IsRefused NoPlace f s = found f s.place s.path ≡ None
 IsRefused NoMatch f s = (old : Tree) × (found f s.place s.path ≡ Some old) × IsUnmatched s.rule old
-IsRefused TooLong f s = (old : Tree) × (new : Tree) × (found f s.place s.path ≡ Some old) × Rewrites s.rule old new × (rewrite f s ≡ None)
+IsRefused TooLong f s = (old : Tree) × (new : Tree) × (found f s.place s.path ≡ Some old) × RewritesTree s.rule old new × (rewrite f s ≡ None)
 IsRefused Memory f s = Unit {0}
 
 -- the step is there: a tree is found, it becomes another, and the limits are kept

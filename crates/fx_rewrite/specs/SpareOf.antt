@@ -8,7 +8,7 @@ use Rattle.fx_rewrite.specs.declared.spare.Spare.{Spare}
 use Rattle.fx_rewrite.specs.declared.spare.Spare.TheVariants.{Nothing, One, Double}
 
 -- what the rule needs, and no more
-abbrev pub IsReady : ℕ → Tree → Spare → Type 0
-IsReady n old Nothing = IsPlain n
-IsReady n old (One more) = IsBoxed n
-IsReady n old (Double copy more) = IsDoubling n × (child (doubled n) old ≡ Some (tree copy.value))
+abbrev pub IsSpareReady : ℕ → Tree → Spare → Type 0
+IsSpareReady n old Nothing = IsPlain n
+IsSpareReady n old (One more) = IsBoxed n
+IsSpareReady n old (Double copy more) = IsDoubling n × (child (doubled n) old ≡ Some (tree copy.value))

@@ -3,5 +3,5 @@ use Rattle.fx_inequalities.specs.Rewriting.{Rewriting}
 use Rattle.fx_rewrite.specs.declared.step.Step.{Step}
 
 -- the step of the definitions
-abbrev pub step_of : Step → Rewriting
-step_of s = record { place = s.place; path = s.path; rule = s.rule }
+abbrev pub step_view : Step → Rewriting
+step_view s = record { place = s.place; path = s.path; rule = s.rule }

@@ -7,7 +7,7 @@ ghost use Rattle.std.specs.Prelude.{◌≡◌, Some, IfErr, OnErr, OnOk, MatchRe
 ghost use Rattle.fx_rules.specs.Steps.{rewrite};
 ghost use Rattle.fx_rewrite.specs.Prepared.{IsPrepared};
 ghost use Rattle.fx_rewrite.specs.Refusals.{IsRefused};
-ghost use Rattle.fx_rewrite.specs.StepView.{step_of};
+ghost use Rattle.fx_rewrite.specs.StepView.{step_view};
 
 use crate::fault::StepFault;
 use crate::judge::{find, refusal};
@@ -19,7 +19,7 @@ use std::alloc::Global;
 
 /// Whether the step is there, and then the memory that it needs.
 fn prepared(alloc: Global, function: &Function, step: &Step) -> Result<Spare, StepFault>
-    ensures { MatchResult result (λ s. IsPrepared function.now (step_of step.now) s) (λ fault. IsRefused fault function.now (step_of step.now)) }
+    ensures { MatchResult result (λ s. IsPrepared function.now (step_view step.now) s) (λ fault. IsRefused fault function.now (step_view step.now)) }
 {
     let path = step.path.as_slice();
     let Some(old) = find(function, step.place, path) else {
@@ -36,9 +36,9 @@ fn prepared(alloc: Global, function: &Function, step: &Step) -> Result<Spare, St
 
 /// Rewrites the function by a step, or leaves it as it was.
 pub fn apply(alloc: Global, function: &mut Function, step: &Step) -> Result<(), StepFault>
-    ensures rewritten { OnOk result (rewrite function.old (step_of step.now) ≡ Some function.new) }
+    ensures rewritten { OnOk result (rewrite function.old (step_view step.now) ≡ Some function.new) }
     ensures same { OnErr result (function.new ≡ function.old) }
-    ensures refused { IfErr result (λ fault. IsRefused fault function.old (step_of step.now)) }
+    ensures refused { IfErr result (λ fault. IsRefused fault function.old (step_view step.now)) }
 {
     let spare = prepared(alloc, function, step)?;
     function.keeps();

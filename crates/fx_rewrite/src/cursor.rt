@@ -4,7 +4,7 @@
 //! value is the list of the steps that are left.
 ghost use Rattle.std.specs.Prelude.{◌≡◌, ◌∷◌, [], IfOk, OnErr, MatchOption};
 ghost use Rattle.fx_rules.specs.SingleSteps.{single_steps};
-ghost use Rattle.fx_rewrite.specs.StepView.{step_of};
+ghost use Rattle.fx_rewrite.specs.StepView.{step_view};
 ghost use Rattle.fx_rewrite.specs.Left.{left};
 
 use crate::first::first_at;
@@ -38,7 +38,7 @@ impl<'a> SingleSteps<'a> {
 
     /// The next one, if there is one.
     pub fn next(&mut self, alloc: Global) -> Result<Option<Step>, Memory>
-        ensures next { IfOk result (λ o. MatchOption o (left self.old ≡ []) (λ s. left self.old ≡ step_of s ∷ left self.new)) }
+        ensures next { IfOk result (λ o. MatchOption o (left self.old ≡ []) (λ s. left self.old ≡ step_view s ∷ left self.new)) }
         ensures same { OnErr result (left self.new ≡ left self.old) }
     {
         while let Some(whole) = self.function.tree(self.place) {

@@ -8,9 +8,9 @@ ghost use Rattle.fx_model.specs.Paths.{found, with_tree};
 ghost use Rattle.fx_inequalities.specs.Rewriting.{Rewriting};
 ghost use Rattle.fx_expr.specs.SizeOf.{size_of};
 ghost use Rattle.fx_expr.specs.TreeOf.{tree};
-ghost use Rattle.fx_rules.specs.Steps.{is_within};
+ghost use Rattle.fx_rules.specs.Steps.{is_within_limits};
 ghost use Rattle.fx_rewrite.specs.Refusals.{Judges};
-ghost use Rattle.fx_rewrite.specs.StepView.{step_of};
+ghost use Rattle.fx_rewrite.specs.StepView.{step_view};
 
 use crate::fault::StepFault;
 use crate::measure::Measure;
@@ -43,7 +43,7 @@ fn is_small(nodes: u32, old: u32, new: u32) -> bool
 /// Whether the limits are kept with a tree of this size in place of `old`.
 fn fits(function: &Function, old: &Expr, depth: usize, size: Size) -> bool
     ensures { (place : ℕ) → (path : List ℕ) → (new : Tree) → found function.now place path ≡ Some (tree old.now) → depth ≡ length path → size ≡ size_of new →
-        result ≡ is_within (with_tree function.now place path new) place }
+        result ≡ is_within_limits (with_tree function.now place path new) place }
 {
     function.keeps();
     is_low(depth, size.height) && is_small(function.nodes(), Size::of(old).nodes, size.nodes)

@@ -5,7 +5,7 @@ ghost use Rattle.fx_model.specs.Paths.{child};
 ghost use Rattle.fx_expr.specs.TreeOf.{tree};
 ghost use Rattle.fx_rules.specs.Turned.{Becomes, turned};
 ghost use Rattle.fx_rewrite.specs.Ready.{doubled, IsBoxed, IsDoubling};
-ghost use Rattle.fx_rewrite.specs.SpareOf.{IsReady};
+ghost use Rattle.fx_rewrite.specs.SpareOf.{IsSpareReady};
 ghost use Rattle.fx_rewrite.specs.Turns.{Turns};
 
 use crate::rule::{turn_boxed, turn_doubled, turn_plain};
@@ -35,7 +35,7 @@ fn doubled_operand(rule: u8) -> u8
 /// A copy of the letter, and a box.
 fn double(alloc: Global, e: &Expr, rule: u8) -> Result<Spare, Memory>
     requires { IsDoubling rule }
-    ensures { IfOk result (λ s. (new : Tree) → turned rule (tree e.now) ≡ Becomes new → IsReady rule (tree e.now) s) }
+    ensures { IfOk result (λ s. (new : Tree) → turned rule (tree e.now) ≡ Becomes new → IsSpareReady rule (tree e.now) s) }
 {
     let path = [doubled_operand(rule)];
     let Some(letter) = at(e, &path) else {
@@ -48,7 +48,7 @@ fn double(alloc: Global, e: &Expr, rule: u8) -> Result<Spare, Memory>
 
 /// What the rule of this number needs for a tree that it matches.
 pub fn prepare(alloc: Global, e: &Expr, rule: u8) -> Result<Spare, Memory>
-    ensures { IfOk result (λ s. (new : Tree) → turned rule (tree e.now) ≡ Becomes new → IsReady rule (tree e.now) s) }
+    ensures { IfOk result (λ s. (new : Tree) → turned rule (tree e.now) ≡ Becomes new → IsSpareReady rule (tree e.now) s) }
 {
     if rule == 15 || rule == 20 {
         return Ok(Spare::One(Box::new(alloc, leaf())?));
@@ -61,7 +61,7 @@ pub fn prepare(alloc: Global, e: &Expr, rule: u8) -> Result<Spare, Memory>
 
 /// The tree turned by the rule of this number.
 pub fn turn(e: Expr, rule: u8, spare: Spare) -> Expr
-    requires { IsReady rule (tree e) spare }
+    requires { IsSpareReady rule (tree e) spare }
     ensures { Turns (turned rule) (tree e) (tree result) }
 {
     match spare {

@@ -3,7 +3,7 @@ ghost use Rattle.std.specs.Prelude.{◌≡◌, ◌∷◌, ◌++◌, [], Some, If
 ghost use Rattle.std.specs.Option.{option_map};
 ghost use Rattle.fx_model.specs.Paths.{tree_at};
 ghost use Rattle.fx_expr.specs.TreeOf.{tree};
-ghost use Rattle.fx_rewrite.specs.Ahead.{ahead, behind};
+ghost use Rattle.fx_rewrite.specs.Ahead.{ahead, steps_behind};
 ghost use Rattle.fx_rewrite.specs.NextPath.{next_path};
 ghost use Rattle.fx_rewrite.specs.ForkOf.{Forks};
 
@@ -80,7 +80,7 @@ pub fn position_after(
     path: &[u8],
 ) -> Result<Position, Memory>
     requires { tree_at function.now place ≡ Some (tree whole.now) }
-    ensures { IfOk result (λ p. behind function.now place path.now (tree whole.now) ≡ ahead function.now p.place p.path.items 1) }
+    ensures { IfOk result (λ p. steps_behind function.now place path.now (tree whole.now) ≡ ahead function.now p.place p.path.items 1) }
 {
     function.keeps();
     match next_in(alloc, whole, path)? {

@@ -8,14 +8,14 @@ use Rattle.fx_model.specs.Rows.{is_given, IsInRange, IsGivenValue}
 use Rattle.fx_model.proofs.InRange.{given_is}
 use Rattle.fx_fraction.specs.DecimalOf.{decimal_of}
 use Rattle.fx_fraction.specs.declared.fault.NumberFault.{NumberFault}
-use Rattle.fx_rows.specs.Blanks.{trimmed}
+use Rattle.fx_rows.specs.Blanks.{without_blanks}
 use Rattle.fx_rows.specs.Results.{IsRowRead}
-use Rattle.fx_rows.specs.Values.{after_value, field_value, row_of_fields, value_of, values_from}
+use Rattle.fx_rows.specs.Values.{after_value, field_value, row_of_fields, value_in_range, values_from}
 use Rattle.fx_rows.specs.declared.fault.RowFault.{RowFault}
 use Rattle.fx_rows.specs.declared.fault.RowKind.{RowKind}
 use Rattle.fx_rows.specs.declared.fault.RowKind.TheVariants.{OutOfRange}
 
-given_value : (i : Input) (r : Result Decimal NumberFault) (v : Decimal) → value_of i r ≡ Ok v → IsGivenValue i (decimal_value v)
+given_value : (i : Input) (r : Result Decimal NumberFault) (v : Decimal) → value_in_range i r ≡ Ok v → IsGivenValue i (decimal_value v)
 given_value i (Err fault) v e = absurd (cc)
 given_value i (Ok d) v e = by (is_given i (decimal_value d)) refl e where
   tested : Bool → Result Decimal RowKind
@@ -27,7 +27,7 @@ given_value i (Ok d) v e = by (is_given i (decimal_value d)) refl e where
 
 given_field : (i : Input) (o : Option (List ℕ)) (v : Decimal) → field_value i o ≡ Ok v → IsGivenValue i (decimal_value v)
 given_field i None v e = absurd (cc)
-given_field i (Some f) v e = given_value i (decimal_of (trimmed f)) v e
+given_field i (Some f) v e = given_value i (decimal_of (without_blanks f)) v e
 
 pub values_in_range : (k : ℕ) (is : List Input) (ps : List ℕ) (fields : List (List ℕ)) → length ps ≡ length is → (values_from k is ps fields).fault ≡ None →
     IsInRange is (map decimal_value (values_from k is ps fields).values)

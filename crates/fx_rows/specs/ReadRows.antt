@@ -4,7 +4,7 @@ use Rattle.fx_rational.specs.Decimal.{Decimal, decimal_value}
 use Rattle.fx_model.specs.Function.{Function}
 use Rattle.fx_model.specs.Rows.{IsInRange}
 use Rattle.fx_base.specs.Text.{lines_in}
-use Rattle.fx_rows.specs.Faults.{Fault, at_input}
+use Rattle.fx_rows.specs.Faults.{RowFlaw, at_input}
 use Rattle.fx_rows.specs.Header.{header_of}
 use Rattle.fx_rows.specs.Values.{Values, row_of}
 use Rattle.fx_rows.specs.declared.fault.RowKind.TheVariants.{MissingColumn}
@@ -12,22 +12,22 @@ use Rattle.fx_rows.specs.declared.fault.RowKind.TheVariants.{MissingColumn}
 -- the rows before the first bad line; that line is told by how many lines stand before it, so its number is one more
 pub record Given : Type 0 where
   pub rows : List (List Decimal)
-  pub bad : Option (ℕ × Fault)
+  pub bad : Option (ℕ × RowFlaw)
 
-abbrev pub bad_here : Fault → Given
+abbrev pub bad_here : RowFlaw → Given
 bad_here f = record { rows = []; bad = Some (0, f) }
 
 -- the place of a bad line, where so many more lines stand before it
-abbrev pub shifted : ℕ → Option (ℕ × Fault) → Option (ℕ × Fault)
-shifted k None = None
-shifted k (Some p) = Some (k + p.0, p.1)
+abbrev pub moved_down : ℕ → Option (ℕ × RowFlaw) → Option (ℕ × RowFlaw)
+moved_down k None = None
+moved_down k (Some p) = Some (k + p.0, p.1)
 
 -- behind a line that is no row
 abbrev pub behind_line : Given → Given
-behind_line more = record { rows = more.rows; bad = shifted 1 more.bad }
+behind_line more = record { rows = more.rows; bad = moved_down 1 more.bad }
 
-abbrev pub after_values : List Decimal → Option Fault → Given → Given
-after_values vs None more = record { rows = vs ∷ more.rows; bad = shifted 1 more.bad }
+abbrev pub after_values : List Decimal → Option RowFlaw → Given → Given
+after_values vs None more = record { rows = vs ∷ more.rows; bad = moved_down 1 more.bad }
 after_values vs (Some fault) more = bad_here fault
 
 -- a blank line is skipped
@@ -45,7 +45,7 @@ pub record Read : Type 0 where
   pub has_header : Bool
   pub given : Given
 
-abbrev pub after_header : Function → Result (Option (List ℕ)) Fault → List (List ℕ) → Read → Read
+abbrev pub after_header : Function → Result (Option (List ℕ)) RowFlaw → List (List ℕ) → Read → Read
 after_header f (Err fault) ls more = record { has_header = false; given = bad_here fault }
 after_header f (Ok None) ls more = record { has_header = more.has_header; given = behind_line more.given }
 after_header f (Ok (Some columns)) ls more = record { has_header = true; given = behind_line (rows_from f columns ls) }

@@ -9,27 +9,27 @@ use Rattle.fx_model.specs.Rows.{is_given}
 use Rattle.fx_fraction.specs.DecimalOf.{decimal_of}
 use Rattle.fx_fraction.specs.declared.fault.NumberFault.{NumberFault}
 use Rattle.fx_fields.specs.Line.{line_fields, is_return}
-use Rattle.fx_rows.specs.Blanks.{trimmed}
-use Rattle.fx_rows.specs.Faults.{Fault, at_input}
+use Rattle.fx_rows.specs.Blanks.{without_blanks}
+use Rattle.fx_rows.specs.Faults.{RowFlaw, at_input}
 use Rattle.fx_rows.specs.declared.fault.RowKind.{RowKind}
 use Rattle.fx_rows.specs.declared.fault.RowKind.TheVariants.{TooFew, BadNumber, OutOfRange, LineTooLong, StrayReturn}
 
 -- the value of a field for an input, or what is wrong with it
-abbrev pub value_of : Input → Result Decimal NumberFault → Result Decimal RowKind
-value_of i (Err fault) = Err BadNumber
-value_of i (Ok d) = if is_given i (decimal_value d) then Ok d else Err OutOfRange
+abbrev pub value_in_range : Input → Result Decimal NumberFault → Result Decimal RowKind
+value_in_range i (Err fault) = Err BadNumber
+value_in_range i (Ok d) = if is_given i (decimal_value d) then Ok d else Err OutOfRange
 
 -- the same of the field at the input's column, if there is one
 abbrev pub field_value : Input → Option (List ℕ) → Result Decimal RowKind
 field_value i None = Err TooFew
-field_value i (Some f) = value_of i (decimal_of (trimmed f))
+field_value i (Some f) = value_in_range i (decimal_of (without_blanks f))
 
 -- the values that were read, and the first fault
 pub record Values : Type 0 where
   pub values : List Decimal
-  pub fault : Option Fault
+  pub fault : Option RowFlaw
 
-abbrev pub stopped : Fault → Values
+abbrev pub stopped : RowFlaw → Values
 stopped f = record { values = []; fault = Some f }
 
 abbrev pub value_before : Decimal → Values → Values

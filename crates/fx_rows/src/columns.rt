@@ -5,7 +5,7 @@ ghost use Rattle.csv.specs.Records.{fields_of};
 ghost use Rattle.indexmap.specs.IndexMap.{get_by};
 ghost use Rattle.fx_model.specs.Limits.{input_limit, line_limit};
 ghost use Rattle.fx_expr.specs.Parts.{input_of};
-ghost use Rattle.fx_rows.specs.Blanks.{trimmed};
+ghost use Rattle.fx_rows.specs.Blanks.{without_blanks};
 ghost use Rattle.fx_rows.specs.Header.{columns_of, columns_from, header_of, IsHeaderFault};
 ghost use Rattle.fx_rows.specs.Places.{places_of, kept_of};
 
@@ -37,7 +37,7 @@ fn seen_columns<'r>(
     row: &'r ByteRecord,
 ) -> Result<IndexMap<&'r [u8], Option<u32>>, Memory>
     requires { length (fields_of row.now) ≤ line_limit + 1 }
-    ensures { IfOk result (λ m. (name : List ℕ) → get_by (λ k. bytes_eq name k.now) m ≡ kept_of (places_of name (map trimmed (fields_of row.now)))) }
+    ensures { IfOk result (λ m. (name : List ℕ) → get_by (λ k. bytes_eq name k.now) m ≡ kept_of (places_of name (map without_blanks (fields_of row.now)))) }
 {
     let mut seen = IndexMap::new(alloc);
     for i in 0..row.len() {
@@ -60,8 +60,8 @@ fn columns_in(alloc: Global, row: &ByteRecord, inputs: &[Input]) -> Result<Colum
     requires few_inputs { length inputs.now ≤ input_limit }
     requires few_fields { length (fields_of row.now) ≤ line_limit + 1 }
     ensures { MatchResult result
-        (λ cs. columns_from 0 (map (λ i. i.name) (map input_of inputs.now)) (map trimmed (fields_of row.now)) ≡ Ok cs.places)
-        (λ e. IsHeaderFault e (columns_from 0 (map (λ i. i.name) (map input_of inputs.now)) (map trimmed (fields_of row.now)))) }
+        (λ cs. columns_from 0 (map (λ i. i.name) (map input_of inputs.now)) (map without_blanks (fields_of row.now)) ≡ Ok cs.places)
+        (λ e. IsHeaderFault e (columns_from 0 (map (λ i. i.name) (map input_of inputs.now)) (map without_blanks (fields_of row.now)))) }
 {
     let seen = match seen_columns(alloc, row) {
         Ok(seen) => seen,

@@ -2,7 +2,7 @@
 use Rattle.std.proofs.Common.{◌≡◌, ℕ, zero, suc, Bool, true, false, List, [], ◌∷◌, Option, Some, None, refl, sym, ap, subst, ◌∙◌}
 use Rattle.std.specs.Prelude.{slice_get}
 use Rattle.fx_model.specs.Tree.{Tree}
-use Rattle.fx_rules.specs.Rules.{Letters, Rule, rules, filled, IsFolded, folding_fits, Rewrites}
+use Rattle.fx_rules.specs.Rules.{Letters, Rule, rules, filled, IsFolded, folding_fits, RewritesTree}
 use Rattle.fx_rules.specs.Turned.{Turned, NoMatch, TooLong, Becomes, where_fits, turns, turned_by, turned}
 use Rattle.fx_rules.specs.Steps.{IsUnmatched}
 use Rattle.fx_rules.proofs.Agreement.{Matches, Says, checked, Agrees}
@@ -39,7 +39,7 @@ transport_says : (r : Rule) (old : Tree) (turn : Tree → Turned) {o : Turned} �
 transport_says r old turn e says = subst (Says r old) e says
 
 -- where the rule matches
-pub turned_there : (n : ℕ) (old new : Tree) (r : Rewrites n old new) → turned n old ≡ where_fits (folding_fits r.by.folding r.letters) new
+pub turned_there : (n : ℕ) (old new : Tree) (r : RewritesTree n old new) → turned n old ≡ where_fits (folding_fits r.by.folding r.letters) new
 turned_there zero old new r = let e = r.is in absurd cc
 turned_there (suc n) old new r =
     let x = turn_at rules turns n r.by all_agree r.is in
@@ -48,8 +48,8 @@ turned_there (suc n) old new r =
 -- what each outcome says
 abbrev pub Judges : ℕ → Tree → Turned → Type 0
 Judges n old NoMatch = IsUnmatched n old
-Judges n old TooLong = (new : Tree) × (r : Rewrites n old new) × (folding_fits r.by.folding r.letters ≡ false)
-Judges n old (Becomes new) = (r : Rewrites n old new) × (folding_fits r.by.folding r.letters ≡ true)
+Judges n old TooLong = (new : Tree) × (r : RewritesTree n old new) × (folding_fits r.by.folding r.letters ≡ false)
+Judges n old (Becomes new) = (r : RewritesTree n old new) × (folding_fits r.by.folding r.letters ≡ true)
 
 matched : (b : Bool) (new : Tree) → where_fits b new ≡ NoMatch → ⊥
 matched true new e = cc

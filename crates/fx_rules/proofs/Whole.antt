@@ -10,9 +10,9 @@ use Rattle.fx_model.specs.Valid.{IsValid}
 use Rattle.fx_model.specs.Sameness.{HasMeaningOf}
 use Rattle.fx_model.specs.Paths.{height, found, tree_at, subtree, put, with_tree}
 use Rattle.fx_inequalities.specs.Rewriting.{Rewriting}
-use Rattle.fx_rules.specs.Rules.{Rewrites, folding_fits}
+use Rattle.fx_rules.specs.Rules.{RewritesTree, folding_fits}
 use Rattle.fx_rules.specs.Turned.{Turned, NoMatch, TooLong, Becomes, where_fits, turned}
-use Rattle.fx_rules.specs.Steps.{IsRewritten, is_low, kept, after, rewrite, RewriteLaw}
+use Rattle.fx_rules.specs.Steps.{IsRewritten, is_low, kept_within, after, rewrite, RewriteLaw}
 use Rattle.fx_rules.proofs.Turns.{turned_there, turned_judges}
 use Rattle.fx_rules.proofs.Sound.{rewrites_sound}
 use Rattle.fx_rules.proofs.Under.{some_then, put_same, changed_same}
@@ -36,7 +36,7 @@ record Kept (h : Function) (place : ℕ) (g : Function) : Type 0 where
   nodes : length (nodes_of h) ≤ node_limit
   height : IfSome (tree_at h place) (λ e. height e ≤ height_limit)
 
-kept_is : (h : Function) (place : ℕ) (g : Function) → kept h place ≡ Some g → Kept h place g
+kept_is : (h : Function) (place : ℕ) (g : Function) → kept_within h place ≡ Some g → Kept h place g
 kept_is h place g e = by (nat_le (length (nodes_of h)) node_limit && is_low (tree_at h place)) refl e
   where
     by : (b : Bool) → (nat_le (length (nodes_of h)) node_limit && is_low (tree_at h place)) ≡ b → cond b (Some h) None ≡ Some g → Kept h place g
@@ -45,7 +45,7 @@ kept_is h place g e = by (nat_le (length (nodes_of h)) node_limit && is_low (tre
         let p = both (nat_le (length (nodes_of h)) node_limit) (is_low (tree_at h place)) is in
         record { same = cc; nodes = (let q = p.0 in search (rules, tests)); height = low_is (tree_at h place) p.1 }
 
-kept_from : (h : Function) (place : ℕ) → length (nodes_of h) ≤ node_limit → IfSome (tree_at h place) (λ e. height e ≤ height_limit) → kept h place ≡ Some h
+kept_from : (h : Function) (place : ℕ) → length (nodes_of h) ≤ node_limit → IfSome (tree_at h place) (λ e. height e ≤ height_limit) → kept_within h place ≡ Some h
 kept_from h place n l =
     let few : nat_le (length (nodes_of h)) node_limit ≡ true = search (rules, tests) in
     let low : is_low (tree_at h place) ≡ true = is_low_from (tree_at h place) l in
@@ -67,7 +67,7 @@ forward f s h e =
 backward : (f : Function) (s : Rewriting) (h : Function) → IsRewritten f s h → rewrite f s ≡ Some h
 backward f s h r =
     let to : turned s.rule r.old ≡ Becomes r.new = turned_there s.rule r.old r.new r.rewrites ∙ ap (λ b. where_fits b r.new) r.literal in
-    ap (option_and_then (λ old. after f s (turned s.rule old))) r.there ∙ ap (after f s) to ∙ ap (λ (g : Function). kept g s.place) (sym r.result) ∙ kept_from h s.place r.nodes r.height
+    ap (option_and_then (λ old. after f s (turned s.rule old))) r.there ∙ ap (after f s) to ∙ ap (λ (g : Function). kept_within g s.place) (sym r.result) ∙ kept_from h s.place r.nodes r.height
 
 keeps : (f : Function) (s : Rewriting) (h : Function) → rewrite f s ≡ Some h → IsValid f → IsValid h × HasMeaningOf f h
 keeps f s h e v =

@@ -97,7 +97,7 @@ IsFolded None s = Unit {0}
 IsFolded (Some f) s = (q : Rational) × (f s.l s.k ≡ Some q) × (s.made ≡ lowest q)
 
 -- rule n turns old into new
-pub record Rewrites (n : ℕ) (old new : Tree) : Type 0 where
+pub record RewritesTree (n : ℕ) (old new : Tree) : Type 0 where
   pub by : Rule
   pub letters : Letters
   pub is : rule n ≡ Some by

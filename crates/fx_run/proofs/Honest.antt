@@ -16,7 +16,7 @@ use Rattle.fx_rows.specs.ReadRows.{Given, Read, RowsInRangeLaw, lines_read}
 use Rattle.fx_filter.specs.Outcome.{Outcome}
 use Rattle.fx_filter.specs.Printed.{lines_outcome, page_of}
 use Rattle.fx_checker.specs.CertifiedView.{Accepted}
-use Rattle.fx_run.specs.Printed.{IsHonest, IsWithinBounds, RowsLaw, given_values, printed, run_outcome, run_page}
+use Rattle.fx_run.specs.Printed.{IsHonestRun, IsWithinBounds, RowsLaw, given_values, printed, run_outcome, run_page}
 use Rattle.fx_run.specs.Steps.{lines_from, line_then, step_line}
 
 -- ---- the law

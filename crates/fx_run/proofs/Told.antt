@@ -3,7 +3,7 @@ use Rattle.std.proofs.Common.{◌≡◌, ℕ, List, ◌++◌, Option, ap, subst}
 use Rattle.std.specs.Prelude.{None, Some, IfErr, IfOk, Result, Ok, Err}
 use Rattle.std.specs.Io.KnownBytes.{Appends}
 use Rattle.fx_base.specs.Text.{lines_in}
-use Rattle.fx_rows.specs.Faults.{fault_of}
+use Rattle.fx_rows.specs.Faults.{row_fault_of}
 use Rattle.fx_filter.specs.Outcome.{Outcome}
 use Rattle.fx_filter.specs.Promise.{IfKnown, IsBadAt, IsDone, IsDue, IsPrompt, PrintsFront, PrintsWholeLines}
 use Rattle.fx_filter.specs.declared.fault.RunFault.{RunFault}
@@ -22,7 +22,7 @@ module _ (o o' : List (List ℕ) → Outcome) (same : (ls : List (List ℕ)) →
   done-told (Err f) h = tt
 
   told : (f : RunFault) → IsDue o left left' before after f → IsDue o' left left' before after f
-  told (Row line f) h = (known left _ _ (λ all. subst (λ (x : Outcome). IsBadAt x line (fault_of f) before after) (same (lines_in all))) h.0, h.1)
+  told (Row line f) h = (known left _ _ (λ all. subst (λ (x : Outcome). IsBadAt x line (row_fault_of f) before after) (same (lines_in all))) h.0, h.1)
   told ReadFault h = (
     front h.0,
     record {

@@ -36,11 +36,11 @@ pub record IsWithinBounds (f : Function) (p : Program) (cert : Certificate) (run
   pub bounded : AllBounded p cert run.outputs exact_made.outputs
 
 -- the machine isn't stuck on these rows, and for all rows that may be the true ones its outputs keep their bounds
-pub record IsHonest (f : Function) (p : Program) (cert : Certificate) (gs : List (List Rational)) : Type 0 where
+pub record IsHonestRun (f : Function) (p : Program) (cert : Certificate) (gs : List (List Rational)) : Type 0 where
   pub run : Run ℤ
   pub own : machine_run p gs ≡ Some run
   pub within : (ts : List (List Rational)) → AreTrueOf f.inputs gs ts → IsWithinBounds f p cert run ts
 
 -- so it is for the rows of any lines
 abbrev pub RowsLaw : Function → Program → Certificate → Type 0
-RowsLaw f p cert = (ls : List (List ℕ)) → IsHonest f p cert (given_values (lines_read f ls).given.rows)
+RowsLaw f p cert = (ls : List (List ℕ)) → IsHonestRun f p cert (given_values (lines_read f ls).given.rows)

@@ -5,7 +5,7 @@ use Rattle.fx_model.specs.Function.{Step}
 use Rattle.fx_model.specs.Machine.{Program, machine_step, output_points}
 use Rattle.fx_model.specs.Page.{line_of, word_texts}
 use Rattle.fx_machine.specs.Registers.{Contents}
-use Rattle.fx_checker.specs.CertifiedView.{Accepted, IsReady}
+use Rattle.fx_checker.specs.CertifiedView.{Accepted, IsStepReady}
 
 -- the line of a step's outputs
 abbrev pub step_line : Program → Step ℤ → List ℕ
@@ -24,7 +24,7 @@ lines_from p (row ∷ rows) z = line_then p (λ s. lines_from p rows s.next) (ma
 -- the words of a program of this width may be carried on
 pub record CanStep (a : Accepted) (bits : ℕ) (r : Contents) : Type 0 where
   pub width : a.program.width ≡ bits
-  pub ready : IsReady a r.words r.states
+  pub ready : IsStepReady a r.words r.states
 
 -- nothing is printed of no rows
 pub nothing_from : (p : Program) (z : List ℤ) → lines_from p [] z ≡ []

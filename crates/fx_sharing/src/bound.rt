@@ -7,7 +7,7 @@ ghost use Rattle.fx_inequalities.specs.Formula.{Formula, Num, Product, Span, poi
 ghost use Rattle.fx_inequalities.specs.Affine.{bound_by_rows, left_over, rows_of, shared_sum, weighted_sum};
 ghost use Rattle.fx_judging.specs.Judging.{Forms, FormsSpan};
 ghost use Rattle.fx_judging.specs.Places.{IsShort};
-ghost use Rattle.fx_cert.specs.CertificateView.{form_of as form_view, lines_in, rows_in, shares_of};
+ghost use Rattle.fx_cert.specs.CertificateView.{form_view as form_view, lines_view, rows_in, shares_of};
 ghost use Rattle.fx_sharing.specs.Coefficients.{AreFormed};
 ghost use Rattle.fx_conditions.specs.Sides.{side_at};
 ghost use Rattle.fx_conditions.specs.Limits.{AreShortLines, AreShortRows, AreShortShares, IsShortForm};
@@ -51,8 +51,8 @@ fn variable_product(
     lines: &[NodeLine],
     j: u32,
 ) -> Option<Interval>
-    requires { AreShortLines (lines_in lines.now) }
-    ensures { (n : ℕ) (c : ℕ → Formula) → j < n → AreFormed coefs.now n c → FormsSpan result (span_product (point (c j)) (side_at side.now (lines_in lines.now) j)) }
+    requires { AreShortLines (lines_view lines.now) }
+    ensures { (n : ℕ) (c : ℕ → Formula) → j < n → AreFormed coefs.now n c → FormsSpan result (span_product (point (c j)) (side_at side.now (lines_view lines.now) j)) }
 {
     times(point(coefficient(coefs, j)), side_of(side, lines, j))
 }
@@ -65,8 +65,8 @@ fn with_inputs(
     lines: &[NodeLine],
     inputs: u32,
 ) -> Option<Interval>
-    requires { AreShortLines (lines_in lines.now) }
-    ensures { (n : ℕ) (c : ℕ → Formula) (z : Span) → inputs ≤ n → AreFormed coefs.now n c → FormsSpan start z → FormsSpan result (weighted_sum z inputs c (side_at side.now (lines_in lines.now))) }
+    requires { AreShortLines (lines_view lines.now) }
+    ensures { (n : ℕ) (c : ℕ → Formula) (z : Span) → inputs ≤ n → AreFormed coefs.now n c → FormsSpan start z → FormsSpan result (weighted_sum z inputs c (side_at side.now (lines_view lines.now))) }
 {
     let mut total = start;
     for j in 0..inputs {
@@ -182,12 +182,12 @@ pub fn bound_by_rows(
     states: u32,
     shares: &[Share],
 ) -> Option<Interval>
-    requires lines { AreShortLines (lines_in lines.now) }
+    requires lines { AreShortLines (lines_view lines.now) }
     requires rows { AreShortRows (rows_in rows.now) }
     requires shares { AreShortShares (shares_of shares.now) }
     requires few { inputs + states < 2 ^ 32 }
     ensures { (c : ℕ → Formula) (z : Span) → AreFormed coefs.now (inputs + states) c → FormsSpan start z →
-        FormsSpan result (bound_by_rows inputs states c z (side_at side.now (lines_in lines.now)) (rows_of states (rows_in rows.now)) (shares_of shares.now)) }
+        FormsSpan result (bound_by_rows inputs states c z (side_at side.now (lines_view lines.now)) (rows_of states (rows_in rows.now)) (shares_of shares.now)) }
 {
     let first = with_inputs(start, coefs, side, lines, inputs);
     let second = with_shares(first, rows, states, shares);

@@ -8,7 +8,7 @@ ghost use Rattle.fx_inequalities.specs.Claim.{inside};
 ghost use Rattle.fx_inequalities.specs.Formula.{Formula, Num, Product, Span, point, span, span_product, zero_span};
 ghost use Rattle.fx_inequalities.specs.Affine.{affine_at, bound_by_rows, rows_of, sum_of, weighted_sum};
 ghost use Rattle.fx_judging.specs.Judging.{Forms, FormsSpan, judged};
-ghost use Rattle.fx_cert.specs.CertificateView.{boxes_in, form_of as form_view, lines_in, rows_in, shares_of};
+ghost use Rattle.fx_cert.specs.CertificateView.{boxes_in, form_view as form_view, lines_view, rows_in, shares_of};
 ghost use Rattle.fx_sharing.specs.Coefficients.{AreFormed};
 ghost use Rattle.fx_sharing.specs.Boxes.{box_at};
 ghost use Rattle.fx_conditions.specs.Sides.{side_at, side_rest};
@@ -44,9 +44,9 @@ fn summand(
     n: u32,
     j: u32,
 ) -> Option<Dyadic>
-    requires lines { AreShortLines (lines_in lines.now) }
+    requires lines { AreShortLines (lines_view lines.now) }
     requires rows { AreShortRows (rows_in rows.now) }
-    ensures { Forms result (Product ((rows_of states (rows_in rows.now)).coef i s) ((affine_at variables (lines_in lines.now) n).coef j)) }
+    ensures { Forms result (Product ((rows_of states (rows_in rows.now)).coef i s) ((affine_at variables (lines_view lines.now) n).coef j)) }
 {
     product(
         row_coef_of(rows, states, i, s),
@@ -64,10 +64,10 @@ fn row_coefficient(
     i: u32,
     j: u32,
 ) -> Option<Dyadic>
-    requires lines { AreShortLines (lines_in lines.now) }
+    requires lines { AreShortLines (lines_view lines.now) }
     requires rows { AreShortRows (rows_in rows.now) }
     requires few { next + states < 2 ^ 32 }
-    ensures { Forms result (sum_of states (λ s. Product ((rows_of states (rows_in rows.now)).coef i s) ((affine_at variables (lines_in lines.now) (next + s)).coef j))) }
+    ensures { Forms result (sum_of states (λ s. Product ((rows_of states (rows_in rows.now)).coef i s) ((affine_at variables (lines_view lines.now) (next + s)).coef j))) }
 {
     let mut total = number(zero_dyadic());
     for s in 0..states {
@@ -88,11 +88,11 @@ fn row_coefs(
     next: u32,
     i: u32,
 ) -> [Option<Dyadic>; 96]
-    requires lines { AreShortLines (lines_in lines.now) }
+    requires lines { AreShortLines (lines_view lines.now) }
     requires rows { AreShortRows (rows_in rows.now) }
     requires few { next + states < 2 ^ 32 }
     requires variables { variables ≤ 96 }
-    ensures { AreFormed result variables (λ j. sum_of states (λ s. Product ((rows_of states (rows_in rows.now)).coef i s) ((affine_at variables (lines_in lines.now) (next + s)).coef j))) }
+    ensures { AreFormed result variables (λ j. sum_of states (λ s. Product ((rows_of states (rows_in rows.now)).coef i s) ((affine_at variables (lines_view lines.now) (next + s)).coef j))) }
 {
     let mut coefs: [Option<Dyadic>; 96] = [None; VARIABLES];
     for j in 0..variables {
@@ -112,9 +112,9 @@ fn rest_summand(
     s: u32,
     n: u32,
 ) -> Option<Interval>
-    requires lines { AreShortLines (lines_in lines.now) }
+    requires lines { AreShortLines (lines_view lines.now) }
     requires rows { AreShortRows (rows_in rows.now) }
-    ensures { FormsSpan result (span_product (point ((rows_of states (rows_in rows.now)).coef i s)) (side_rest side.now (affine_at variables (lines_in lines.now) n))) }
+    ensures { FormsSpan result (span_product (point ((rows_of states (rows_in rows.now)).coef i s)) (side_rest side.now (affine_at variables (lines_view lines.now) n))) }
 {
     times(
         point(row_coef_of(rows, states, i, s)),
@@ -132,10 +132,10 @@ fn row_rest(
     next: u32,
     i: u32,
 ) -> Option<Interval>
-    requires lines { AreShortLines (lines_in lines.now) }
+    requires lines { AreShortLines (lines_view lines.now) }
     requires rows { AreShortRows (rows_in rows.now) }
     requires few { next + states < 2 ^ 32 }
-    ensures { FormsSpan result (weighted_sum zero_span states ((rows_of states (rows_in rows.now)).coef i) (λ s. side_rest side.now (affine_at variables (lines_in lines.now) (next + s)))) }
+    ensures { FormsSpan result (weighted_sum zero_span states ((rows_of states (rows_in rows.now)).coef i) (λ s. side_rest side.now (affine_at variables (lines_view lines.now) (next + s)))) }
 {
     let mut total = zero();
     for s in 0..states {
@@ -157,11 +157,11 @@ fn row_bound_of(
     next: u32,
     i: u32,
 ) -> Option<Interval>
-    requires lines { AreShortLines (lines_in lines.now) }
+    requires lines { AreShortLines (lines_view lines.now) }
     requires rows { AreShortRows (rows_in rows.now) }
     requires few { next + states < 2 ^ 32 }
     requires variables { inputs + states ≤ 96 }
-    ensures { let ls = lines_in lines.now in let rs = rows_of states (rows_in rows.now) in let form = λ (s : ℕ). affine_at (inputs + states) ls (next + s) in
+    ensures { let ls = lines_view lines.now in let rs = rows_of states (rows_in rows.now) in let form = λ (s : ℕ). affine_at (inputs + states) ls (next + s) in
         FormsSpan result (bound_by_rows inputs states (λ j. sum_of states (λ s. Product (rs.coef i s) ((form s).coef j))) (weighted_sum zero_span states (rs.coef i) (λ s. side_rest side.now (form s)))
         (side_at side.now ls) rs (at no_row (rows_in rows.now) i).shares) }
 {
@@ -190,11 +190,11 @@ pub fn row_judgement(
     next: u32,
     i: u32,
 ) -> Judgement
-    requires lines { AreShortLines (lines_in lines.now) }
+    requires lines { AreShortLines (lines_view lines.now) }
     requires rows { AreShortRows (rows_in rows.now) }
     requires few { next + states < 2 ^ 32 }
     requires variables { inputs + states ≤ 96 }
-    ensures { let ls = lines_in lines.now in let rs = rows_of states (rows_in rows.now) in let form = λ (s : ℕ). affine_at (inputs + states) ls (next + s) in
+    ensures { let ls = lines_view lines.now in let rs = rows_of states (rows_in rows.now) in let form = λ (s : ℕ). affine_at (inputs + states) ls (next + s) in
         result ≡ judged (inside (bound_by_rows inputs states (λ j. sum_of states (λ s. Product (rs.coef i s) ((form s).coef j))) (weighted_sum zero_span states (rs.coef i) (λ s. side_rest side.now (form s)))
         (side_at side.now ls) rs (at no_row (rows_in rows.now) i).shares) (rs.bound i)) }
 {

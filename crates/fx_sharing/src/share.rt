@@ -14,8 +14,8 @@ ghost use Rattle.fx_inequalities.specs.Condition as conditions;
 ghost use Rattle.fx_inequalities.specs.NodeConditions.{error_claims, form_claims, range_claims};
 ghost use Rattle.fx_judging.specs.Judging.{FormsSpan, judged};
 ghost use Rattle.fx_judging.specs.Places.{IsShortSpan};
-ghost use Rattle.fx_judging.specs.FaultView.{fault_of};
-ghost use Rattle.fx_cert.specs.CertificateView.{certificate_of, form_of as form_view, lines_in, rows_in, shares_of};
+ghost use Rattle.fx_judging.specs.FaultView.{condition_fault_of};
+ghost use Rattle.fx_cert.specs.CertificateView.{certificate_of, form_view as form_view, lines_view, rows_in, shares_of};
 ghost use Rattle.fx_conditions.specs.MatchView.{code_in, node_in};
 ghost use Rattle.fx_conditions.specs.Sides.{side_at, side_rest};
 ghost use Rattle.fx_conditions.specs.Limits.{AreShortLines, AreShortRows, AreShortShares, IsShortCertificate, IsShortForm};
@@ -51,12 +51,12 @@ fn form_bound(
     shares: &[Share],
 ) -> Option<Interval>
     requires form { IsShortForm (form_view form.now) }
-    requires lines { AreShortLines (lines_in lines.now) }
+    requires lines { AreShortLines (lines_view lines.now) }
     requires rows { AreShortRows (rows_in rows.now) }
     requires shares { AreShortShares (shares_of shares.now) }
     requires variables { inputs + states ≤ 96 }
     ensures { (l : certificates.NodeLine) → FormsSpan result (bound_by_rows inputs states (λ j. Num (at zero_dyadic form.now.coefs j)) (side_rest side.now (of_line l (Some (form_view form.now))))
-        (side_at side.now (lines_in lines.now)) (rows_of states (rows_in rows.now)) (shares_of shares.now)) }
+        (side_at side.now (lines_view lines.now)) (rows_of states (rows_in rows.now)) (shares_of shares.now)) }
 {
     let coefs = form_coefs(form, inputs + states);
     bound_by_rows(
@@ -83,12 +83,12 @@ fn by_shares(
     limit: Interval,
 ) -> Judgement
     requires form { IsShortForm (form_view form.now) }
-    requires lines { AreShortLines (lines_in lines.now) }
+    requires lines { AreShortLines (lines_view lines.now) }
     requires rows { AreShortRows (rows_in rows.now) }
     requires shares { AreShortShares (shares_of shares.now) }
     requires variables { inputs + states ≤ 96 }
     ensures { (l : certificates.NodeLine) → result ≡ judged (inside (bound_by_rows inputs states (λ j. Num (at zero_dyadic form.now.coefs j)) (side_rest side.now (of_line l (Some (form_view form.now))))
-        (side_at side.now (lines_in lines.now)) (rows_of states (rows_in rows.now)) (shares_of shares.now)) (span limit)) }
+        (side_at side.now (lines_view lines.now)) (rows_of states (rows_in rows.now)) (shares_of shares.now)) (span limit)) }
 {
     let bound = form_bound(side, form, lines, inputs, rows, states, shares);
     within(bound, limit)
@@ -232,15 +232,15 @@ fn form_fault(
     place: i32,
     n: u32,
 ) -> Option<ConditionFault>
-    requires lines { AreShortLines (lines_in lines.now) }
+    requires lines { AreShortLines (lines_view lines.now) }
     requires form { IsShortForm (form_view form.now) }
     requires point { IsPoint place }
-    ensures { (l : certificates.NodeLine) → option_map fault_of result ≡ conditions.fault_of (record {
+    ensures { (l : certificates.NodeLine) → option_map condition_fault_of result ≡ conditions.fault_of (record {
       kind = conditions.Form;
       part = conditions.OfNode;
       index = n;
       test = true;
-      claims = form_claims variables (lines_in lines.now) l (node_in m.now) (code_in m.now) place (Some (form_view form.now));
+      claims = form_claims variables (lines_view lines.now) l (node_in m.now) (code_in m.now) place (Some (form_view form.now));
     }) }
 {
     fault(
@@ -259,9 +259,9 @@ pub fn node_form(
     place: i32,
     n: u32,
 ) -> Option<ConditionFault>
-    requires lines { AreShortLines (lines_in lines.now) }
+    requires lines { AreShortLines (lines_view lines.now) }
     requires point { IsPoint place }
-    ensures { let ls = lines_in lines.now in let form = form_of variables ls n in option_map fault_of result ≡ conditions.fault_of (record {
+    ensures { let ls = lines_view lines.now in let form = form_of variables ls n in option_map condition_fault_of result ≡ conditions.fault_of (record {
       kind = conditions.Form;
       part = conditions.OfNode;
       index = n;

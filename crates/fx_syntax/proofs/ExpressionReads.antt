@@ -9,9 +9,9 @@ use Rattle.fx_grammar.specs.declared.head.Head.TheVariants as heads
 use Rattle.fx_grammar.specs.Heads.{◌==ₕ◌}
 use Rattle.fx_grammar.specs.Steps.{Tokens, next_head, is_fresh, negative_decimal}
 use Rattle.fx_grammar.specs.Operands.{Operand, leaf, combined_operand}
-use Rattle.fx_grammar.specs.Expressions.{Reader, is_call, found, named, closed, opened, atom_by, atom_of, behind_minus, factor_of, one_more, goes_on_product, goes_on_sum, term_of, sum_from, expr_at, inner_at}
+use Rattle.fx_grammar.specs.Expressions.{Reader, is_call, found_name, named, closed, opened, atom_by, atom_of, behind_minus, factor_of, one_more, goes_on_product, goes_on_sum, term_of, sum_from, expr_at, inner_at}
 use Rattle.fx_syntax.specs.Leaves.{IsNext, IsNumber}
-use Rattle.fx_syntax.specs.Runs.{Rule, IsRun, over, more}
+use Rattle.fx_syntax.specs.Runs.{GrammarRule, IsRun, over, more}
 use Rattle.fx_syntax.specs.Expressions.{Scope, IsMeant, literal_tree, IsExpr, one_term, sum, difference, IsTerm, one_factor, product, quotient, IsFactor, one_atom, negative, negation as negated_atom, IsAtom, number, name, parens}
 use Rattle.fx_syntax.proofs.Outcomes.{steps, on_false}
 use Rattle.fx_syntax.proofs.Marks.{is_next, not_next, next_head_is, behind_is, want_reads}
@@ -23,7 +23,7 @@ use Rattle.fx_syntax.proofs.Expressions.{expr_is}
 
 -- ---- runs, from their last operand
 
-pub run_snoc : {A : Type 0} {Item : Rule A} {a b c : A} {ts us rest : Tokens} → IsRun Item a ts b us → Item b us c rest → IsRun Item a ts c rest
+pub run_snoc : {A : Type 0} {Item : GrammarRule A} {a b c : A} {ts us rest : Tokens} → IsRun Item a ts b us → Item b us c rest → IsRun Item a ts c rest
 run_snoc over i = more i over
 run_snoc (more j others) i = more j (run_snoc others i)
 
@@ -83,7 +83,7 @@ Below scope end room = (r : ℕ) → room ≡ suc r → (ts : Tokens) (x : Tree)
 named_reads : (scope : Scope) (end : ℕ) (t : Lexeme) (x : Tree) (rest : Tokens) → is_call rest ≡ false → IsMeant scope t.text x → named (known_of end scope) t rest ≡ Ok (operand_of x, rest)
 named_reads scope end t x rest call m =
     let p = meant_reads end scope t.text x m in
-    on_false _ call (ap (λ o. found (known_of end scope) t o rest) p.1 ∙ ap (λ (y : Tree). Ok (leaf y 0, rest)) p.2 ∙ ap (λ (o : Operand). Ok (o, rest)) (leaf_is scope t.text x m))
+    on_false _ call (ap (λ o. found_name (known_of end scope) t o rest) p.1 ∙ ap (λ (y : Tree). Ok (leaf y 0, rest)) p.2 ∙ ap (λ (o : Operand). Ok (o, rest)) (leaf_is scope t.text x m))
 
 opened_reads : (scope : Scope) (end room : ℕ) (t c : Lexeme) (us vs rest : Tokens) (x : Tree) → expr_at (known_of end scope) false room us ≡ Ok (operand_of x, vs) → IsNext heads.Close vs c rest
     → opened (known_of end scope) (inner_at (known_of end scope) (suc room)) t us ≡ Ok (operand_of x, rest)

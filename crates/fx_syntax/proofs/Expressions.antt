@@ -9,7 +9,7 @@ use Rattle.fx_grammar.specs.declared.head.Head.TheVariants as heads
 use Rattle.fx_grammar.specs.Heads.{head_of, ◌==ₕ◌}
 use Rattle.fx_grammar.specs.Steps.{Tokens, next_head, is_fresh, decimal, negative_decimal, name_place, repeated}
 use Rattle.fx_grammar.specs.Operands.{Operand, leaf, negation, combined_operand}
-use Rattle.fx_grammar.specs.Expressions.{Known, Reader, is_call, found, named, closed, opened, atom_by, atom_of, behind_minus, factor_of, one_more, goes_on_product, goes_on_sum, term_of, sum_from, expr_at, inner_at}
+use Rattle.fx_grammar.specs.Expressions.{Known, Reader, is_call, found_name, named, closed, opened, atom_by, atom_of, behind_minus, factor_of, one_more, goes_on_product, goes_on_sum, term_of, sum_from, expr_at, inner_at}
 use Rattle.fx_syntax.specs.Expressions.{Scope, all_names, literal_tree, IsExpr, one_term, IsTerm, one_factor, IsFactor, one_atom, negative, negation as negated_atom, IsAtom, number, name, parens}
 use Rattle.fx_syntax.proofs.Outcomes.{OnOk, done, failed, and_then, choose, weaken, both_true, some_true}
 use Rattle.fx_syntax.proofs.Marks.{mark, same_head, next_is, want_spells}
@@ -40,7 +40,7 @@ module _ (scope : Scope) (end room : ℕ) (inner : Option Reader) (inside : Inne
   named_spells : (t : Lexeme) (ts : Tokens) → head_of t ≡ heads.Name → OnOk (Seen operand_of (IsAtom scope room (t ∷ ts))) (named (known_of end scope) t ts)
   named_spells t ts h = choose (is_call ts) (λ e. failed) (λ e. by (name_place (all_names scope) t.text) refl e)
     where
-      by : (o : Option ℕ) → name_place (all_names scope) t.text ≡ o → is_call ts ≡ false → OnOk (Seen operand_of (IsAtom scope room (t ∷ ts))) (found (known_of end scope) t o ts)
+      by : (o : Option ℕ) → name_place (all_names scope) t.text ≡ o → is_call ts ≡ false → OnOk (Seen operand_of (IsAtom scope room (t ∷ ts))) (found_name (known_of end scope) t o ts)
       by None p e = failed
       by (Some k) p e =
           let m = meant_spells end scope t.text k p in

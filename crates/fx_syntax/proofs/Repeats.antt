@@ -7,7 +7,7 @@ use Rattle.fx_grammar.specs.declared.head.Head.TheVariants as heads
 use Rattle.fx_grammar.specs.Heads.{◌==ₕ◌}
 use Rattle.fx_grammar.specs.Steps.{Tokens, Parsed, when, next_head, repeat, repeated, stands_next, behind, separated, listed}
 use Rattle.fx_syntax.specs.Leaves.{IsNext}
-use Rattle.fx_syntax.specs.Runs.{Rule, IsRun, over, more, IsBehind, IsSeparated, IsListed}
+use Rattle.fx_syntax.specs.Runs.{GrammarRule, IsRun, over, more, IsBehind, IsSeparated, IsListed}
 use Rattle.fx_syntax.proofs.Outcomes.{OnOk, done, and_then, weaken, steps}
 use Rattle.fx_syntax.proofs.Marks.{mark, same_head, next_is, is_next, not_next, behind_is, next_shorter, want_spells, want_reads}
 
@@ -40,7 +40,7 @@ pub from_seen : {A : Type 0} {Is : A → Tokens → Type 0} {r : Parsed A} → O
 from_seen {Is = Is} p = weaken (λ x seen. subst (λ a. Is a x.1) (sym seen.same) seen.is) p
 
 -- each item that is read behind a lawful start is in the grammar
-abbrev pub Spells : {A S : Type 0} → (A → S) → (A → Type 0) → Rule A → (S → Tokens → Parsed S) → Type 0
+abbrev pub Spells : {A S : Type 0} → (A → S) → (A → Type 0) → GrammarRule A → (S → Tokens → Parsed S) → Type 0
 Spells view Fit Item item = (a : _) → Fit a → (ts : Tokens) → OnOk (Seen view (Item a ts)) (item (view a) ts)
 
 -- nothing is asked of a start
@@ -48,13 +48,13 @@ abbrev pub Any : {A : Type 0} → A → Type 0
 Any a = Unit {0}
 
 -- an item gives a lawful start of the next
-abbrev pub Keeps : {A : Type 0} → (A → Type 0) → Rule A → Type 0
+abbrev pub Keeps : {A : Type 0} → (A → Type 0) → GrammarRule A → Type 0
 Keeps Fit Item = (a : _) (ts : Tokens) (b : _) (us : Tokens) → Item a ts b us → Fit b
 
-pub keeps_any : {A : Type 0} (Item : Rule A) → Keeps Any Item
+pub keeps_any : {A : Type 0} (Item : GrammarRule A) → Keeps Any Item
 keeps_any Item a ts b us i = tt {0}
 
-module _ {A S : Type 0} (view : A → S) (Fit : A → Type 0) (Item : Rule A) (goes_on : S → Tokens → Bool) (step : S → Tokens → Parsed S)
+module _ {A S : Type 0} (view : A → S) (Fit : A → Type 0) (Item : GrammarRule A) (goes_on : S → Tokens → Bool) (step : S → Tokens → Parsed S)
     (one : (a : A) → Fit a → (ts : Tokens) → goes_on (view a) ts ≡ true → OnOk (Seen view (Item a ts)) (step (view a) ts)) (keeps : Keeps Fit Item) where
   pub repeat_spells : (n : ℕ) (a : A) → Fit a → (ts : Tokens) → OnOk (Seen view (IsRun Item a ts)) (repeat goes_on step n (view a) ts)
   unfolding repeat
@@ -76,13 +76,13 @@ module _ {A S : Type 0} (view : A → S) (Fit : A → Type 0) (Item : Rule A) (g
       (λ e. done e)
 
 -- a step reads each item of the grammar, if what stands behind fits
-pub record Takes {A S : Type 0} (view : A → S) (Item : Rule A) (goes_on : S → Tokens → Bool) (step : S → Tokens → Parsed S) (Fits : Tokens → Type 0) : Type 0 where
+pub record Takes {A S : Type 0} (view : A → S) (Item : GrammarRule A) (goes_on : S → Tokens → Bool) (step : S → Tokens → Parsed S) (Fits : Tokens → Type 0) : Type 0 where
   pub one : (a : A) (ts : Tokens) (b : A) (us : Tokens) → Item a ts b us → Fits us → step (view a) ts ≡ Ok (view b, us)
   pub on : (a : A) (ts : Tokens) (b : A) (us : Tokens) → Item a ts b us → goes_on (view a) ts ≡ true
   pub fits : (a : A) (ts : Tokens) (b : A) (us : Tokens) → Item a ts b us → Fits ts
   pub shorter : (a : A) (ts : Tokens) (b : A) (us : Tokens) → Item a ts b us → length us < length ts
 
-module _ {A S : Type 0} (view : A → S) (Item : Rule A) (goes_on : S → Tokens → Bool) (step : S → Tokens → Parsed S) (Fits : Tokens → Type 0) (takes : Takes view Item goes_on step Fits) where
+module _ {A S : Type 0} (view : A → S) (Item : GrammarRule A) (goes_on : S → Tokens → Bool) (step : S → Tokens → Parsed S) (Fits : Tokens → Type 0) (takes : Takes view Item goes_on step Fits) where
   pub run_fits : {a : A} {ts : Tokens} {b : A} {rest : Tokens} → IsRun Item a ts b rest → Fits rest → Fits ts
   run_fits over fit = fit
   run_fits (more item items) fit = takes.fits _ _ _ _ item
@@ -99,7 +99,7 @@ module _ {A S : Type 0} (view : A → S) (Item : Rule A) (goes_on : S → Tokens
 
 -- ---- items with a sign between
 
-module _ {A S : Type 0} (view : A → S) (Fit : A → Type 0) (Item : Rule A) (item : S → Tokens → Parsed S) (spells : Spells view Fit Item item) (keeps : Keeps Fit Item) where
+module _ {A S : Type 0} (view : A → S) (Fit : A → Type 0) (Item : GrammarRule A) (item : S → Tokens → Parsed S) (spells : Spells view Fit Item item) (keeps : Keeps Fit Item) where
   pub behind_spells : (head : Head) → (head ==ₕ heads.End) ≡ false → (a : A) → Fit a → (ts : Tokens) → stands_next head (view a) ts ≡ true → OnOk (Seen view (IsBehind head Item a ts)) (behind item (view a) ts)
   behind_spells head some a fit ts e =
       let t = next_is ts head (same_head _ _ e) some in
@@ -124,7 +124,7 @@ module _ {A S : Type 0} (view : A → S) (Fit : A → Type 0) (Item : Rule A) (i
       and_then (want_spells end heads.Close x.1) (λ c n.
       done (record { value = items.value; same = items.same; is = record { behind = x.1; items = items.is; close = mark n } })))
 
-module _ {A S : Type 0} (view : A → S) (Item : Rule A) (item : S → Tokens → Parsed S) (Fits : Tokens → Type 0)
+module _ {A S : Type 0} (view : A → S) (Item : GrammarRule A) (item : S → Tokens → Parsed S) (Fits : Tokens → Type 0)
     (reads : (a : A) (ts : Tokens) (b : A) (us : Tokens) → Item a ts b us → Fits us → item (view a) ts ≡ Ok (view b, us))
     (shorter : (a : A) (ts : Tokens) (b : A) (us : Tokens) → Item a ts b us → length us < length ts) where
   behind_takes : (head : Head) → ((ts : Tokens) (t : Lexeme) (us : Tokens) → IsNext head ts t us → Fits ts) → Takes view (IsBehind head Item) (stands_next head) (behind item) Fits
@@ -156,12 +156,12 @@ module _ {A S : Type 0} (view : A → S) (Item : Rule A) (item : S → Tokens �
       steps _ (separated_reads heads.Comma comma i.items (close _ _ _ i.close.next) (not_next i.close.next heads.Comma refl)) (steps _ (want_reads end i.close.next) refl)
 
 -- what is behind a list is shorter
-module _ {A : Type 0} (Item : Rule A) (shorter : (a : A) (ts : Tokens) (b : A) (us : Tokens) → Item a ts b us → length us < length ts) where
+module _ {A : Type 0} (Item : GrammarRule A) (shorter : (a : A) (ts : Tokens) (b : A) (us : Tokens) → Item a ts b us → length us < length ts) where
   pub run_shorter : {a : A} {ts : Tokens} {b : A} {rest : Tokens} → IsRun Item a ts b rest → length rest ≤ length ts
   run_shorter over = omega arith
   run_shorter (more item items) = let less = shorter _ _ _ _ item in let less' = run_shorter items in omega arith
 
-module _ {A : Type 0} (head : Head) (Item : Rule A) (shorter : (a : A) (ts : Tokens) (b : A) (us : Tokens) → Item a ts b us → length us < length ts) where
+module _ {A : Type 0} (head : Head) (Item : GrammarRule A) (shorter : (a : A) (ts : Tokens) (b : A) (us : Tokens) → Item a ts b us → length us < length ts) where
   behind_shorter : (a : A) (ts : Tokens) (b : A) (us : Tokens) → IsBehind head Item a ts b us → length us < length ts
   behind_shorter a ts b us i = let less = next_shorter i.sign.next in let less' = shorter a i.behind b us i.item in omega arith
 
@@ -171,12 +171,12 @@ module _ {A : Type 0} (head : Head) (Item : Rule A) (shorter : (a : A) (ts : Tok
   pub separated_shorter : {a : A} {ts : Tokens} {b : A} {rest : Tokens} → IsSeparated head Item a ts b rest → length rest < length ts
   separated_shorter {a} {ts} i = let less = shorter a ts i.between i.behind i.first in let less' = run_shorter (IsBehind head Item) behind_shorter i.others in omega arith
 
-pub listed_shorter : {A : Type 0} (Item : Rule A) → ((a : A) (ts : Tokens) (b : A) (us : Tokens) → Item a ts b us → length us < length ts)
+pub listed_shorter : {A : Type 0} (Item : GrammarRule A) → ((a : A) (ts : Tokens) (b : A) (us : Tokens) → Item a ts b us → length us < length ts)
     → {a : A} {ts : Tokens} {b : A} {rest : Tokens} → IsListed Item a ts b rest → length rest < length ts
 listed_shorter Item shorter i = let less = separated_shorter heads.Comma Item shorter i.items in let less' = next_shorter i.close.next in omega arith
 
 -- what each item keeps, a list keeps
-module _ {A : Type 0} (Item : Rule A) (P : A → Type 0) (keeps : (a : A) (ts : Tokens) (b : A) (us : Tokens) → Item a ts b us → P a → P b) where
+module _ {A : Type 0} (Item : GrammarRule A) (P : A → Type 0) (keeps : (a : A) (ts : Tokens) (b : A) (us : Tokens) → Item a ts b us → P a → P b) where
   run_keeps : {head : Head} {a : A} {ts : Tokens} {b : A} {rest : Tokens} → IsRun (IsBehind head Item) a ts b rest → P a → P b
   run_keeps over p = p
   run_keeps (more item items) p = run_keeps items (keeps _ _ _ _ item.item p)

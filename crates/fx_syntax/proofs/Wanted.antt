@@ -6,7 +6,7 @@ use Rattle.std.specs.Str.{is_utf8}
 use Rattle.std.proofs.lemmas.List.{map-append}
 use Rattle.std.proofs.lemmas.Slice.Eq.{bytes_eq-Decides}
 use Rattle.fx_model.specs.Function.{Function}
-use Rattle.fx_grammar.specs.Steps.{Text, Tokens, name_place, is_there, has_name}
+use Rattle.fx_grammar.specs.Steps.{Text, Tokens, name_place, is_found, has_name}
 use Rattle.fx_grammar.specs.Sources.{functions_of, called, chosen, parsed, function_names}
 use Rattle.fx_syntax.specs.Runs.{IsRun, over, more}
 use Rattle.fx_syntax.specs.Sources.{IsNewDef, IsSource, object, functions}
@@ -18,9 +18,9 @@ use Rattle.fx_syntax.proofs.Sources.{text_law}
 -- ---- names among names
 
 has-append : (xs ys : List Text) (name : Text) → has_name (xs ++ ys) name ≡ (has_name xs name || has_name ys name)
-has-append xs ys name = ap is_there (place-append xs ys name) ∙ by (name_place xs name) (name_place ys name)
+has-append xs ys name = ap is_found (place-append xs ys name) ∙ by (name_place xs name) (name_place ys name)
   where
-    by : (p q : Option ℕ) → is_there (behind_place (length xs) p q) ≡ (is_there p || is_there q)
+    by : (p q : Option ℕ) → is_found (behind_place (length xs) p q) ≡ (is_found p || is_found q)
     by (Some i) q = refl
     by None (Some i) = refl
     by None None = refl
@@ -28,7 +28,7 @@ has-append xs ys name = ap is_there (place-append xs ys name) ∙ by (name_place
 has-one : (x name : Text) → has_name (x ∷ []) name ≡ bytes_eq x name
 has-one x name = by (bytes_eq x name)
   where
-    by : (b : Bool) → is_there (cond (nat_lt (cond (not b) 1 0) 1) (Some (cond (not b) 1 0)) None) ≡ b
+    by : (b : Bool) → is_found (cond (nat_lt (cond (not b) 1 0) 1) (Some (cond (not b) 1 0)) None) ≡ b
     by true = refl
     by false = refl
 

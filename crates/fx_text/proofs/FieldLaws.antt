@@ -9,7 +9,7 @@ use Rattle.fx_text.specs.declared.fault.TextKind.{TextKind}
 use Rattle.fx_text.specs.declared.fault.TextKind.TheVariants.{BadLine, OutOfRange, TooMany}
 use Rattle.fx_text.specs.Cutting.{Line}
 use Rattle.fx_text.specs.Numbers.{integer_of}
-use Rattle.fx_text.specs.Reading.{IsWithin, field_at, known, word_at, number_at, place_at, count_at, ended_at}
+use Rattle.fx_text.specs.Reading.{IsWithin, field_at, known, keyword_at, number_at, place_at, count_at, ended_at}
 use Rattle.fx_text.specs.Laws.{AreNarrow}
 use Rattle.fx_text.proofs.Choices.{on_ok, passed, chosen, both_true}
 use Rattle.fx_text.proofs.NumberLaws.{integer_takes, integer_again}
@@ -43,15 +43,15 @@ within_test : (low high z : ℤ) → IsWithin low high z → (int_le low z && in
 within_test low high z h = let a : int_le low z ≡ true = grind (arith, ints, h.0) in let b : int_le z high ≡ true = grind (arith, ints, h.1) in rw (a, b) refl
 
 -- a fixed word
-pub word_takes : (word : List ℕ) (line rest : Line) → word_at word line ≡ Ok rest → line ≡ word ∷ rest
-unfolding word_at
+pub word_takes : (word : List ℕ) (line rest : Line) → keyword_at word line ≡ Ok rest → line ≡ word ∷ rest
+unfolding keyword_at
 word_takes word line rest e =
     on_ok _ _ rest e (λ f hf e.
     let t = passed (bytes_eq f.0 word) BadLine f.1 rest e in
     field_is line f hf ∙ ap (λ g. g ∷ f.1) ((bytes_eq-Decides f.0 word).0 t.0) ∙ ap (λ r. word ∷ r) t.1)
 
-pub word_again : (word : List ℕ) (rest : Line) → word_at word (word ∷ rest) ≡ Ok rest
-unfolding word_at
+pub word_again : (word : List ℕ) (rest : Line) → keyword_at word (word ∷ rest) ≡ Ok rest
+unfolding keyword_at
 word_again word rest = rw ((bytes_eq-Decides word word).1 refl) refl
 
 -- a number of a range

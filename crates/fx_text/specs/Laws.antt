@@ -7,7 +7,7 @@ use Rattle.fx_rational.specs.Interval.{IsWrittenInterval}
 use Rattle.fx_model.specs.LineText.{dyadic_text, interval_fields, line_text}
 use Rattle.fx_text.specs.Cutting.{Line}
 use Rattle.fx_text.specs.Numbers.{whole_of, integer_of}
-use Rattle.fx_text.specs.Reading.{IsWithin, word_at, number_at, place_at, count_at, dyadic_at, interval_at}
+use Rattle.fx_text.specs.Reading.{IsWithin, keyword_at, number_at, place_at, count_at, dyadic_at, interval_at}
 use Rattle.fx_text.specs.Lines.{fields_at}
 use Rattle.fx_text.specs.Many.{dyadics_at}
 use Rattle.fx_text.specs.Spelling.{AreFields, IsOneSpelling}
@@ -38,10 +38,10 @@ IntegerAgain = (z : ℤ) → IsNarrow z → integer_of (signed_decimal z) ≡ So
 
 -- a fixed word is read of that word alone
 abbrev pub WordTakes : Type 0
-WordTakes = (word : List ℕ) (line rest : Line) → word_at word line ≡ Ok rest → line ≡ word ∷ rest
+WordTakes = (word : List ℕ) (line rest : Line) → keyword_at word line ≡ Ok rest → line ≡ word ∷ rest
 
 abbrev pub WordAgain : Type 0
-WordAgain = (word : List ℕ) (rest : Line) → word_at word (word ∷ rest) ≡ Ok rest
+WordAgain = (word : List ℕ) (rest : Line) → keyword_at word (word ∷ rest) ≡ Ok rest
 
 -- a number of a range, a place below an end, a count between its limits
 abbrev pub NumberLaw : Type 0
@@ -50,8 +50,8 @@ NumberLaw = (low high : ℤ) → AreNarrow low high → IsOneSpelling (number_at
 abbrev pub PlaceLaw : Type 0
 PlaceLaw = (end : ℕ) → end < 2 ^ 32 → IsOneSpelling (place_at end) (λ n. decimal n ∷ []) (λ n. n < end)
 
-abbrev pub CountLaw : Type 0
-CountLaw = (low limit : ℕ) → limit < 2 ^ 32 → IsOneSpelling (count_at low limit) (λ n. decimal n ∷ []) (λ n. (low ≤ n) × (n ≤ limit))
+abbrev pub CountTextLaw : Type 0
+CountTextLaw = (low limit : ℕ) → limit < 2 ^ 32 → IsOneSpelling (count_at low limit) (λ n. decimal n ∷ []) (λ n. (low ≤ n) × (n ≤ limit))
 
 -- a written dyadic, so many of them, and an interval
 abbrev pub DyadicLaw : Type 0

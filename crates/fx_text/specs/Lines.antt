@@ -3,7 +3,7 @@ use Rattle.std.specs.Prelude.{◌≡◌, ◌⊎◌, ℕ, List, [], ◌∷◌, Op
 use Rattle.fx_text.specs.declared.fault.TextKind.{TextKind}
 use Rattle.fx_text.specs.declared.fault.TextKind.TheVariants.{BadLine, Extra, Memory}
 use Rattle.fx_text.specs.declared.fault.TextFault.{TextFault}
-use Rattle.fx_text.specs.Faults.{fault_at, no_memory}
+use Rattle.fx_text.specs.Faults.{fault_at, text_memory}
 use Rattle.fx_text.specs.Cutting.{Line, fields_of, line_at}
 use Rattle.fx_text.specs.Reading.{◌>>=◌}
 
@@ -36,7 +36,7 @@ text_ended_at n (byte ∷ text) = Err (fault_at n Extra)
 -- what a call that allocates read of a text, seen by view: memory may run out
 abbrev pub Gives : {A B : Type 0} → (A → B) → Result A TextFault → Result B TextFault → Type 0
 Gives view (Ok x) reading = reading ≡ Ok (view x)
-Gives view (Err e) reading = (reading ≡ Err e) ⊎ (e ≡ no_memory)
+Gives view (Err e) reading = (reading ≡ Err e) ⊎ (e ≡ text_memory)
 
 -- the same of the fields at a line's front, whose reader doesn't know the line's number
 abbrev pub GivesFields : {A B : Type 0} → (A → B) → Result A TextKind → Line → Result (B × Line) TextKind → Type 0

@@ -30,8 +30,8 @@ known None = Err BadNumber
 known (Some x) = Ok x
 
 -- a fixed word
-unfoldable pub word_at : List ℕ → Line → Result Line TextKind
-word_at word line = do
+unfoldable pub keyword_at : List ℕ → Line → Result Line TextKind
+keyword_at word line = do
   field ← field_at line
   if bytes_eq field.0 word then Ok field.1 else Err BadLine
 

@@ -4,7 +4,7 @@
 //! once. The trap: want of memory may come on any line and is no fault of the text, so it has the line 0.
 
 ghost use Rattle.std.specs.Prelude.{◌≡◌};
-ghost use Rattle.fx_text.specs.Faults.{fault_at, no_memory};
+ghost use Rattle.fx_text.specs.Faults.{fault_at, text_memory};
 ghost use Rattle.fx_text.specs.declared.fault.TextKind.TheVariants.{Memory};
 
 use std::alloc::{AllocError, AllocFailed};
@@ -89,7 +89,7 @@ impl TextFault {
 }
 
 impl From<AllocError> for TextFault {
-    ghost from_gives = { λ _ fault. fault ≡ no_memory };
+    ghost from_gives = { λ _ fault. fault ≡ text_memory };
 
     fn from(_e: AllocError) -> TextFault {
         TextFault {
@@ -100,7 +100,7 @@ impl From<AllocError> for TextFault {
 }
 
 impl<T: Drop> From<AllocFailed<T>> for TextFault {
-    ghost from_gives = { λ _ fault. fault ≡ no_memory };
+    ghost from_gives = { λ _ fault. fault ≡ text_memory };
 
     fn from(_e: AllocFailed<T>) -> TextFault {
         TextFault {

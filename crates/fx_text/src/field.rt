@@ -5,7 +5,7 @@
 
 ghost use Rattle.std.specs.Prelude.{◌≡◌, ◌<◌, ◌≤◌, All, IfOk};
 ghost use Rattle.fx_rational.specs.Dyadic.{IsWritten};
-ghost use Rattle.fx_text.specs.Reading.{IsWithin, Reads, ReadsRest, word_at, number_at, place_at, count_at, ended_at, dyadic_at, interval_at};
+ghost use Rattle.fx_text.specs.Reading.{IsWithin, Reads, ReadsRest, keyword_at, number_at, place_at, count_at, ended_at, dyadic_at, interval_at};
 ghost use Rattle.fx_text.specs.Lines.{GivesFields};
 ghost use Rattle.fx_text.specs.Many.{dyadics_at};
 
@@ -23,7 +23,7 @@ const EXPONENT_LIMIT: u64 = 96;
 /// A fixed word. BadLine where the field is missing or another.
 #[tactic(auto, unfolding(crate::specs::Reading::word_at))]
 pub fn word(fields: &mut Fields<'_>, word: &[u8]) -> Result<(), TextKind>
-    ensures { ReadsRest result fields.new (word_at word.now fields.old) }
+    ensures { ReadsRest result fields.new (keyword_at word.now fields.old) }
 {
     let field = fields.next().ok_or(TextKind::BadLine)?;
     if field != word {

@@ -4,7 +4,7 @@
 //! reader takes is what is printed of the value, and the value is in its range; what is printed of a value in its range
 //! is read again, whatever follows.
 
-ghost use Rattle.fx_text.specs.Laws.{WholeTakes, WholeAgain, IntegerTakes, IntegerAgain, WordTakes, WordAgain, NumberLaw, PlaceLaw, CountLaw, DyadicLaw, DyadicsLaw, IntervalLaw, LineLaw, LineTextLaw};
+ghost use Rattle.fx_text.specs.Laws.{WholeTakes, WholeAgain, IntegerTakes, IntegerAgain, WordTakes, WordAgain, NumberLaw, PlaceLaw, CountTextLaw, DyadicLaw, DyadicsLaw, IntervalLaw, LineLaw, LineTextLaw};
 
 /// A number without sign has one spelling.
 pub fn whole_law()
@@ -36,7 +36,7 @@ pub fn place_law()
 
 /// A count has one spelling.
 pub fn count_law()
-    ensures { CountLaw }
+    ensures { CountTextLaw }
 {}
 
 /// A dyadic has one spelling.

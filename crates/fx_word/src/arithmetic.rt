@@ -7,7 +7,7 @@
 ghost use Rattle.std.specs.Prelude.{◌≡◌, ◌≤◌, ◌*◌, ◌-◌, ◌^◌, ◌+ℤ◌, ◌-ℤ◌, ◌*ℤ◌, pos, Some, FitsSigned};
 ghost use Rattle.std.specs.Int.{w64, w128};
 ghost use Rattle.fx_rational.specs.Rational.{floor_div};
-ghost use Rattle.fx_model.specs.Machine.{is_word, IsWord, IsDoubleWord, shifted, divided};
+ghost use Rattle.fx_model.specs.Machine.{is_word, IsWord, IsDoubleWord, shifted, floor_divided};
 ghost use Rattle.fx_model.specs.LawfulProgram.{IsShift};
 ghost use Rattle.fx_word.specs.Words.{IsWidth, is_some_word, IsSomeWord};
 
@@ -109,8 +109,8 @@ pub fn lowered_product<const B: u32>(v: Word<B>, w: Word<B>, s: u32) -> i128
 #[inline]
 fn quotient_in_64<const B: u32>(v: i64, w: i64) -> Word<B>
     requires width { IsWidth B }
-    requires fits { IsSomeWord B (divided v w) }
-    ensures { divided v w ≡ Some result }
+    requires fits { IsSomeWord B (floor_divided v w) }
+    ensures { floor_divided v w ≡ Some result }
 {
     Word::of(v / w)
 }
@@ -118,8 +118,8 @@ fn quotient_in_64<const B: u32>(v: i64, w: i64) -> Word<B>
 #[inline]
 fn quotient_in_128<const B: u32>(v: i128, w: i128) -> Word<B>
     requires width { IsWidth B }
-    requires fits { IsSomeWord B (divided v w) }
-    ensures { divided v w ≡ Some result }
+    requires fits { IsSomeWord B (floor_divided v w) }
+    ensures { floor_divided v w ≡ Some result }
 {
     Word::of_wide(v / w)
 }
@@ -129,8 +129,8 @@ fn quotient_in_128<const B: u32>(v: i128, w: i128) -> Word<B>
 pub fn quotient<const B: u32>(v: Word<B>, s: u32, w: Word<B>) -> Word<B>
     requires width { IsWidth B }
     requires shift { s ≤ B }
-    requires fits { IsSomeWord B (divided (v *ℤ pos (2 ^ s)) w) }
-    ensures { divided (v.entry *ℤ pos (2 ^ s)) w.entry ≡ Some result }
+    requires fits { IsSomeWord B (floor_divided (v *ℤ pos (2 ^ s)) w) }
+    ensures { floor_divided (v.entry *ℤ pos (2 ^ s)) w.entry ≡ Some result }
 {
     if B <= NARROW {
         quotient_in_64(raised_in_64(v, s), w.get())
@@ -142,7 +142,7 @@ pub fn quotient<const B: u32>(v: Word<B>, s: u32, w: Word<B>) -> Word<B>
 #[inline]
 fn quotient_fits_in_64<const B: u32>(v: i64, w: i64) -> bool
     requires { IsWidth B }
-    ensures { result ≡ is_some_word B (divided v w) }
+    ensures { result ≡ is_some_word B (floor_divided v w) }
 {
     match v.checked_div(w) {
         Some(quotient) => is_word_in_64::<B>(quotient),
@@ -153,7 +153,7 @@ fn quotient_fits_in_64<const B: u32>(v: i64, w: i64) -> bool
 #[inline]
 fn quotient_fits_in_128<const B: u32>(v: i128, w: i128) -> bool
     requires { IsWidth B }
-    ensures { result ≡ is_some_word B (divided v w) }
+    ensures { result ≡ is_some_word B (floor_divided v w) }
 {
     match v.checked_div(w) {
         Some(quotient) => is_word::<B>(quotient),
@@ -166,7 +166,7 @@ fn quotient_fits_in_128<const B: u32>(v: i128, w: i128) -> bool
 pub fn quotient_fits<const B: u32>(v: Word<B>, s: u32, w: Word<B>) -> bool
     requires width { IsWidth B }
     requires shift { s ≤ B }
-    ensures { result ≡ is_some_word B (divided (v.entry *ℤ pos (2 ^ s)) w.entry) }
+    ensures { result ≡ is_some_word B (floor_divided (v.entry *ℤ pos (2 ^ s)) w.entry) }
 {
     if B <= NARROW {
         quotient_fits_in_64::<B>(raised_in_64(v, s), w.get())

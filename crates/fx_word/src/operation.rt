@@ -5,7 +5,7 @@
 
 ghost use Rattle.std.specs.Prelude.{◌≡◌, ◌≤◌, ◌*◌, ◌-◌, ◌^◌, ◌+ℤ◌, ◌-ℤ◌, ◌*ℤ◌, neg_ℤ, pos, Some};
 ghost use Rattle.fx_rational.specs.Rational.{floor_div};
-ghost use Rattle.fx_model.specs.Machine.{is_word, IsWord, shifted, divided};
+ghost use Rattle.fx_model.specs.Machine.{is_word, IsWord, shifted, floor_divided};
 ghost use Rattle.fx_model.specs.LawfulProgram.{IsShift};
 ghost use Rattle.fx_word.specs.Words.{IsWidth, is_some_word, IsSomeWord};
 
@@ -107,8 +107,8 @@ impl<const B: u32> Word<B> {
     pub fn div_shift(self, other: Word<B>, s: u32) -> Word<B>
         requires width { IsWidth B }
         requires shift { s ≤ B }
-        requires fits { IsSomeWord B (divided (self *ℤ pos (2 ^ s)) other) }
-        ensures { divided (self.entry *ℤ pos (2 ^ s)) other.entry ≡ Some result }
+        requires fits { IsSomeWord B (floor_divided (self *ℤ pos (2 ^ s)) other) }
+        ensures { floor_divided (self.entry *ℤ pos (2 ^ s)) other.entry ≡ Some result }
     {
         quotient(self, s, other)
     }
@@ -118,7 +118,7 @@ impl<const B: u32> Word<B> {
     pub fn div_fits_word(self, other: Word<B>, s: u32) -> bool
         requires width { IsWidth B }
         requires shift { s ≤ B }
-        ensures { result ≡ is_some_word B (divided (self.entry *ℤ pos (2 ^ s)) other.entry) }
+        ensures { result ≡ is_some_word B (floor_divided (self.entry *ℤ pos (2 ^ s)) other.entry) }
     {
         quotient_fits(self, s, other)
     }

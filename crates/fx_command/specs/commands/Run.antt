@@ -8,7 +8,7 @@ use Rattle.fx_model.specs.Function.{Function}
 use Rattle.fx_model.specs.Limits.{rows_limit}
 use Rattle.fx_cert.specs.BundleView.{Parts}
 use Rattle.fx_rows.specs.Faults as rows
-use Rattle.fx_rows.specs.Faults.{fault_of}
+use Rattle.fx_rows.specs.Faults.{row_fault_of}
 use Rattle.fx_rows.specs.ReadRows.{read_rows}
 use Rattle.fx_rows.specs.declared.fault.RowFault.{RowFault}
 use Rattle.fx_filter.specs.Promise.{IfKnown, IsDone, IsDue}
@@ -23,7 +23,7 @@ use Rattle.fx_command.specs.Exact.{IsReady, OrNoMemory}
 pub data RowsEnd (old new : Streams) (b : Parts) (fn : Function) : End → Type 0 where
   all_run : (count : ℕ) → IfKnown old.left (λ all. IsDone (run_outcome fn b.program (lines_in all)) count old.taken new.taken) → IsAtEnd new.left → RowsEnd old new b fn Done
   bad_row : (line : ℕ) (fault : RowFault) → IsDue (run_outcome fn b.program) old.left new.left old.taken new.taken (run.Row line fault) →
-      RowsEnd old new b fn (BadRow fn.inputs line (fault_of fault))
+      RowsEnd old new b fn (BadRow fn.inputs line (row_fault_of fault))
   unread : Rose old.read_faults new.read_faults → IsDue (run_outcome fn b.program) old.left new.left old.taken new.taken run.ReadFault → RowsEnd old new b fn ReadFault
   unwritten : Rose old.write_faults new.write_faults → IsDue (run_outcome fn b.program) old.left new.left old.taken new.taken run.WriteFault → RowsEnd old new b fn WriteFault
   long : (taken : List ℕ) → Consumes old.left new.left taken → rows_limit < length taken → IsDue (run_outcome fn b.program) old.left new.left old.taken new.taken run.TooLong →
@@ -48,7 +48,7 @@ pub record IsReadable (old new : Streams) (held : List ℕ) : Type 0 where
   pub writes : ¬ Rose old.write_faults new.write_faults
 
 -- the end that rows come to, by the first bad line if there is one
-abbrev pub rows_end : Function → Option (ℕ × rows.Fault) → End
+abbrev pub rows_end : Function → Option (ℕ × rows.RowFlaw) → End
 rows_end fn None = Done
 rows_end fn (Some bad) = BadRow fn.inputs (bad.0 + 1) bad.1
 

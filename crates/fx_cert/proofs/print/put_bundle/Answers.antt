@@ -4,7 +4,7 @@ use Rattle.fx_model.specs.LineText.{line_text}
 use Rattle.fx_model.specs.ProgramText.{program_text}
 use Rattle.fx_inequalities.specs.CertificateText.{certificate_text}
 use Rattle.fx_cert.specs.CertificateView.{certificate_of}
-use Rattle.fx_cert.specs.Printing.{printed, source_front}
+use Rattle.fx_cert.specs.Printing.{as_printed, source_front}
 use Rattle.fx_cert.proofs.Printed.{five}
 use Rattle.fx_cert.proofs.print.put_bundle.Goals as goal
 
@@ -13,7 +13,7 @@ regroup a b s n c p d t e = simp append_assoc
 
 pub returns : goal.returns
 returns c =
-    let s = c.args.source.now in let p = program_text c.args.program.now in let t = certificate_text (printed (certificate_of c.args.certificate.now)) in
+    let s = c.args.source.now in let p = program_text c.args.program.now in let t = certificate_text (as_printed (certificate_of c.args.certificate.now)) in
     five c.args.out.now.items c.put_source.new.out.items c.put_program.new.out.items c.begin_line.new.out.items c.put_certificate.new.out.items c.begin_line-2.new.out.items
     (source_front s) p (line_text (codes "certificate" ∷ [])) t (line_text (codes "end" ∷ []))
     c.in_ok-put_source.ensures c.in_ok-put_program.ensures c.in_ok-begin_line.ensures c.in_ok-put_certificate.ensures c.in_ok-begin_line-2.ensures

@@ -4,7 +4,7 @@ use Rattle.std.specs.List.{flat_map}
 use Rattle.fx_model.specs.LineText.{line_text}
 use Rattle.fx_inequalities.specs.CertificateText.{node_fields, rows_text}
 use Rattle.fx_cert.specs.CertificateView.{certificate_of}
-use Rattle.fx_cert.specs.Printing.{printed, front_text, back_text}
+use Rattle.fx_cert.specs.Printing.{as_printed, front_text, back_text}
 use Rattle.fx_cert.proofs.Printed.{two}
 use Rattle.fx_cert.proofs.print.put_certificate.Goals as goal
 
@@ -13,6 +13,6 @@ regroup f a b c d = simp append_assoc
 
 pub returns : goal.returns
 returns c =
-    let k = printed (certificate_of c.args.certificate.now) in
+    let k = as_printed (certificate_of c.args.certificate.now) in
     two c.args.out.now.items c.put_front.new.out.items c.put_back.new.out.items (front_text k) (back_text k) c.in_ok-put_front.ensures c.in_ok-put_back.ensures
     ∙ ap (λ t. c.args.out.now.items ++ t) (regroup (front_text k) (line_text (codes "rows" ∷ decimal (length k.rows) ∷ decimal (length k.error_rows) ∷ [])) (rows_text k.states k.rows) (rows_text k.states k.error_rows) (flat_map (λ l. line_text (node_fields l l.form)) k.lines))

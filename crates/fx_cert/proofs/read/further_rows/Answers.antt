@@ -1,12 +1,12 @@
 use Rattle.std.proofs.Common.{◌≡◌, ◌++◌, ◌∷◌, [], ◌-◌}
 use Rattle.std.proofs.lemmas.Result.{err_from_is_err_and}
-use Rattle.fx_cert.specs.CertificateView.{row_of}
+use Rattle.fx_cert.specs.CertificateView.{row_view}
 use Rattle.fx_cert.specs.LineReading.{row_at}
 use Rattle.fx_cert.proofs.SoFar.{begins_behind, goes_on, ends, is_done, all_read}
 use Rattle.fx_cert.proofs.read.further_rows.Goals as goal
 
 pub loop-i-init : goal.loop-i-init
-loop-i-init c = begins_behind row_of (λ _. row_at c.args.states c.args.end) c.args.first (c.args.end - c.args.states) c.args.rows.items c.args.text.now
+loop-i-init c = begins_behind row_view (λ _. row_at c.args.states c.args.end) c.args.first (c.args.end - c.args.states) c.args.rows.items c.args.text.now
 
 pub returns-in_err-next-clause-value : goal.returns-in_err-next-clause-value
 returns-in_err-next-clause-value c =

@@ -1,12 +1,12 @@
 use Rattle.std.proofs.Common.{◌≡◌, ◌++◌, ◌∷◌, [], arith}
 use Rattle.std.proofs.lemmas.Result.{err_from_is_err_and}
-use Rattle.fx_cert.specs.CertificateView.{line_of}
+use Rattle.fx_cert.specs.CertificateView.{line_view}
 use Rattle.fx_cert.specs.LineReading.{node_at}
 use Rattle.fx_cert.proofs.SoFar.{begins, goes_on, ends, is_done, all_read}
 use Rattle.fx_cert.proofs.read.nodes_in.Goals as goal
 
 pub loop-i-init : goal.loop-i-init
-loop-i-init c = rw c.new-found.ensures.items (begins line_of (node_at c.args.variables c.args.counts.rows c.args.counts.error_rows) c.args.first c.args.count c.args.text.now)
+loop-i-init c = rw c.new-found.ensures.items (begins line_view (node_at c.args.variables c.args.counts.rows c.args.counts.error_rows) c.args.first c.args.count c.args.text.now)
 
 pub returns-in_err-next-clause-value : goal.returns-in_err-next-clause-value
 returns-in_err-next-clause-value c =

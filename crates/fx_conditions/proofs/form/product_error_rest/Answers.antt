@@ -4,12 +4,12 @@ use Rattle.std.proofs.lemmas.Int.{to_z-of_z}
 use Rattle.fx_inequalities.specs.Formula.{Num, point, span_sum, span_difference, span_product, loss_at}
 use Rattle.fx_inequalities.specs.Affine.{affine_at, range_at, error_at}
 use Rattle.fx_judging.specs.Judging.{FormsSpan}
-use Rattle.fx_cert.specs.CertificateView.{lines_in}
+use Rattle.fx_cert.specs.CertificateView.{lines_view}
 use Rattle.fx_conditions.proofs.form.product_error_rest.Goals as goal
 
 pub returns : goal.returns
 returns c =
-    let ls = lines_in c.args.lines.now in let v = c.args.variables in let a = c.args.a in let b = c.args.b in
+    let ls = lines_view c.args.lines.now in let v = c.args.variables in let a = c.args.a in let b = c.args.b in
     let ma = Num c.args.form.now.centre_a in let mb = Num c.args.form.now.centre_b in
     let rests = span_sum (span_product (point mb) (affine_at v ls a).error_rest) (span_product (point ma) (affine_at v ls b).error_rest) in
     let x = span_product (span_difference (range_at ls a) (point ma)) (error_at ls b) in let y = span_product (span_difference (range_at ls b) (point mb)) (error_at ls a) in

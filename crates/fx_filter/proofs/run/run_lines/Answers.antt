@@ -2,7 +2,7 @@ use Rattle.std.proofs.Common.{◌≡◌, ◌+◌, ◌≤◌, [], true, false, le
 use Rattle.fx_base.specs.declared.lines.LineStep.TheVariants.{Line, End}
 use Rattle.fx_filter.specs.Outcome.{one}
 use Rattle.fx_filter.specs.Promise.{IsFailed}
-use Rattle.fx_filter.specs.Running.{EndsAs, HasEnded, HasLine, IsAsked, Ran, StopsAs}
+use Rattle.fx_filter.specs.Running.{EndsAs, HasNoLine, HasLine, IsAsked, Ran, StopsAs}
 use Rattle.fx_filter.proofs.Steps.{start, stepped}
 use Rattle.fx_filter.proofs.Turns.{one-few}
 use Rattle.fx_filter.proofs.Grown.{none_grown, grown_on, stopped_grows}
@@ -145,7 +145,7 @@ end_at-requires g c =
     let nothing = g.met.P.Printer.none c.lines.printer in
     let a : IsAsked o now r r' left left1 left2 before mid page count r.limit End =
     subst (IsAsked o now r r' left left1 left2 before mid page count r.limit) c.in-Ok-End.field-0-is (c.in-Ok-End.ensures.asked o now left before count nothing.0 c.lines.invariant.ran) in
-    let over : HasEnded r r' left2 page a.more = a.stepped in
+    let over : HasNoLine r r' left2 page a.more = a.stepped in
     let ran = c.lines.invariant.ran in
     omega (arith, c.number-in-Ok-End.ensures, over.number, ran.counts, ran.within, c.lines.invariant.bound, c.requires.limit)
 
@@ -165,7 +165,7 @@ returns-in-Ok-End-clause-done g c =
     let nothing = g.met.P.Printer.none c.lines.printer in
     let a : IsAsked o now r r' left left1 left2 before mid page count r.limit End =
     subst (IsAsked o now r r' left left1 left2 before mid page count r.limit) c.in-Ok-End.field-0-is (c.in-Ok-End.ensures.asked o now left before count nothing.0 c.lines.invariant.ran) in
-    let over : HasEnded r r' left2 page a.more = a.stepped in
+    let over : HasNoLine r r' left2 page a.more = a.stepped in
     let within : r.taken + length a.more ≤ r.limit = omega (arith, a.sum, a.within) in
     let ends : EndsAs (now []) r'.number count c.end_at.result = subst (λ n. EndsAs (now []) n count c.end_at.result) c.number-in-Ok-End.ensures c.end_at.ensures in
     let all : IsOver o left left2 before mid r.limit c.end_at.result = lines-ended o now r r' left left1 left2 before mid page a.more count r.limit c.end_at.result nothing a.asked over within ends in
@@ -187,7 +187,7 @@ returns-in-Ok-End-clause-end g c =
     let nothing = g.met.P.Printer.none c.lines.printer in
     let a : IsAsked o now r r' left left1 left2 before mid page count r.limit End =
     subst (IsAsked o now r r' left left1 left2 before mid page count r.limit) c.in-Ok-End.field-0-is (c.in-Ok-End.ensures.asked o now left before count nothing.0 c.lines.invariant.ran) in
-    let over : HasEnded r r' left2 page a.more = a.stepped in
+    let over : HasNoLine r r' left2 page a.more = a.stepped in
     let within : r.taken + length a.more ≤ r.limit = omega (arith, a.sum, a.within) in
     let ends : EndsAs (now []) r'.number count c.end_at.result = subst (λ n. EndsAs (now []) n count c.end_at.result) c.number-in-Ok-End.ensures c.end_at.ensures in
     let all : IsOver o left left2 before mid r.limit c.end_at.result = lines-ended o now r r' left left1 left2 before mid page a.more count r.limit c.end_at.result nothing a.asked over within ends in
@@ -209,7 +209,7 @@ returns-in-Ok-End-clause-due g c =
     let nothing = g.met.P.Printer.none c.lines.printer in
     let a : IsAsked o now r r' left left1 left2 before mid page count r.limit End =
     subst (IsAsked o now r r' left left1 left2 before mid page count r.limit) c.in-Ok-End.field-0-is (c.in-Ok-End.ensures.asked o now left before count nothing.0 c.lines.invariant.ran) in
-    let over : HasEnded r r' left2 page a.more = a.stepped in
+    let over : HasNoLine r r' left2 page a.more = a.stepped in
     let within : r.taken + length a.more ≤ r.limit = omega (arith, a.sum, a.within) in
     let ends : EndsAs (now []) r'.number count c.end_at.result = subst (λ n. EndsAs (now []) n count c.end_at.result) c.number-in-Ok-End.ensures c.end_at.ensures in
     let all : IsOver o left left2 before mid r.limit c.end_at.result = lines-ended o now r r' left left1 left2 before mid page a.more count r.limit c.end_at.result nothing a.asked over within ends in
@@ -231,7 +231,7 @@ returns-in-Ok-End-clause-taken g c =
     let nothing = g.met.P.Printer.none c.lines.printer in
     let a : IsAsked o now r r' left left1 left2 before mid page count r.limit End =
     subst (IsAsked o now r r' left left1 left2 before mid page count r.limit) c.in-Ok-End.field-0-is (c.in-Ok-End.ensures.asked o now left before count nothing.0 c.lines.invariant.ran) in
-    let over : HasEnded r r' left2 page a.more = a.stepped in
+    let over : HasNoLine r r' left2 page a.more = a.stepped in
     let within : r.taken + length a.more ≤ r.limit = omega (arith, a.sum, a.within) in
     let ends : EndsAs (now []) r'.number count c.end_at.result = subst (λ n. EndsAs (now []) n count c.end_at.result) c.number-in-Ok-End.ensures c.end_at.ensures in
     let all : IsOver o left left2 before mid r.limit c.end_at.result = lines-ended o now r r' left left1 left2 before mid page a.more count r.limit c.end_at.result nothing a.asked over within ends in

@@ -12,7 +12,7 @@ use Rattle.std.proofs.Common.{◌+◌, arith}
 use Rattle.fx_expr.specs.TreeOf.{tree}
 use Rattle.std.proofs.Common.{inl, inr}
 use Rattle.std.proofs.lemmas.Result.{err_from_is_err_and}
-use Rattle.fx_lexer.specs.Faults.{no_memory}
+use Rattle.fx_lexer.specs.Faults.{source_memory}
 use Rattle.fx_grammar.specs.Ensuring.{maybe_ensuring_at}
 use Rattle.fx_parser.proofs.BodyParts.{body_is, brace_missing, demands_wrong}
 use Rattle.fx_parser.proofs.function.read_body.Goals as goal
@@ -56,7 +56,7 @@ returns-in_err-rest-2-clause-value c =
     let s : vals_at c.args.end (body_of f) (past_semicolon (lexemes c.in_ok-inputs.rest.now)) ≡ Ok (body_value c.in_ok-known.known, lexemes c.in_ok-known.rest.now) =
     ap (λ (k : Body). vals_at c.args.end k (past_semicolon (lexemes c.in_ok-inputs.rest.now))) b ∙ c.in_ok-known.ensures.value in
     let t = err_from_is_err_and c.from_residual-in_err-rest-2.result c.from_residual-in_err-rest-2.ensures.1 in
-    let w : (want c.args.end heads.CloseBrace (past_semicolon (lexemes c.in_ok-results.rest.now)) ≡ Err c.in_err-rest-2.field-0.0) ⊎ (c.in_err-rest-2.field-0.0 ≡ no_memory) = rw (sym c.past_semicolon.ensures.value) c.in_err-rest-2.ensures.value in
+    let w : (want c.args.end heads.CloseBrace (past_semicolon (lexemes c.in_ok-results.rest.now)) ≡ Err c.in_err-rest-2.field-0.0) ⊎ (c.in_err-rest-2.field-0.0 ≡ source_memory) = rw (sym c.past_semicolon.ensures.value) c.in_err-rest-2.ensures.value in
     rw (t.1, t.2) (either (λ u. brace_missing c.args.end c.args.word f (lexemes c.args.tokens.now) _ _ _ _ c.in_err-rest-2.field-0.0 p c.in_ok-inputs.ensures.value s c.in_ok-results.ensures.value u) w)
 
 pub returns-in_err-demands-clause-value : goal.returns-in_err-demands-clause-value
@@ -73,5 +73,5 @@ returns-in_err-demands-clause-value c =
     let t = err_from_is_err_and c.from_residual-in_err-demands.result c.from_residual-in_err-demands.ensures.1 in
     let r : c.args.front.reals - length (map state_value c.args.front.declared.states.items) ≡ c.args.front.reals - c.len-2.result =
     ap (λ (x : ℕ). c.args.front.reals - x) (let l : length c.args.front.declared.states.items ≡ c.len-2.result = search (rules, tests) in simp length-map l) in
-    let w : (maybe_ensuring_at c.args.end (c.args.front.reals - length (map state_value c.args.front.declared.states.items)) (lexemes c.in_ok-rest-2.rest.now) ≡ Err c.in_err-demands.field-0.0) ⊎ (c.in_err-demands.field-0.0 ≡ no_memory) = rw r c.in_err-demands.ensures.value in
+    let w : (maybe_ensuring_at c.args.end (c.args.front.reals - length (map state_value c.args.front.declared.states.items)) (lexemes c.in_ok-rest-2.rest.now) ≡ Err c.in_err-demands.field-0.0) ⊎ (c.in_err-demands.field-0.0 ≡ source_memory) = rw r c.in_err-demands.ensures.value in
     rw (t.1, t.2) (either (λ v. demands_wrong c.args.end c.args.word f (lexemes c.args.tokens.now) _ _ _ _ _ c.in_err-demands.field-0.0 p c.in_ok-inputs.ensures.value s c.in_ok-results.ensures.value u v) w)

@@ -3,7 +3,7 @@ use Rattle.std.proofs.lemmas.List.{length-map}
 use Rattle.csv.specs.Records.{fields_of}
 use Rattle.fx_model.specs.Function.{Input}
 use Rattle.fx_expr.specs.Parts.{input_of}
-use Rattle.fx_rows.specs.Blanks.{trimmed}
+use Rattle.fx_rows.specs.Blanks.{without_blanks}
 use Rattle.fx_rows.specs.Header.{columns_from}
 use Rattle.fx_rows.specs.Places.{kept_of, places_of}
 use Rattle.fx_rows.proofs.Named.{is_missing, is_twice, is_one, all_done, joined, name-at}
@@ -11,7 +11,7 @@ use Rattle.fx_rows.proofs.columns.columns_in.Goals as goal
 
 pub returns-in-None : goal.returns-in-None
 returns-in-None c =
-    let fields = map trimmed (fields_of c.args.row.now) in
+    let fields = map without_blanks (fields_of c.args.row.now) in
     let names = map (λ (n : Input). n.name) (map input_of c.args.inputs.now) in
     let x = c.index-inputs-i.result in
     let kept = c.get.ensures.value ∙ c.in-Ok.ensures c.as_bytes.result.now ∙ ap (λ n. kept_of (places_of n fields)) (c.as_bytes.ensures.value ∙ c.as_str.ensures.text) in
@@ -19,7 +19,7 @@ returns-in-None c =
 
 pub returns-in-Some-None : goal.returns-in-Some-None
 returns-in-Some-None c =
-    let fields = map trimmed (fields_of c.args.row.now) in
+    let fields = map without_blanks (fields_of c.args.row.now) in
     let names = map (λ (n : Input). n.name) (map input_of c.args.inputs.now) in
     let x = c.index-inputs-i.result in
     let kept = c.get.ensures.value ∙ c.in-Ok.ensures c.as_bytes.result.now ∙ ap (λ n. kept_of (places_of n fields)) (c.as_bytes.ensures.value ∙ c.as_str.ensures.text) in
@@ -27,7 +27,7 @@ returns-in-Some-None c =
 
 pub loop-i-preserved : goal.loop-i-preserved
 loop-i-preserved c =
-    let fields = map trimmed (fields_of c.args.row.now) in
+    let fields = map without_blanks (fields_of c.args.row.now) in
     let names = map (λ (n : Input). n.name) (map input_of c.args.inputs.now) in
     let x = c.index-inputs-i.result in
     let kept = c.get.ensures.value ∙ c.in-Ok.ensures c.as_bytes.result.now ∙ ap (λ n. kept_of (places_of n fields)) (c.as_bytes.ensures.value ∙ c.as_str.ensures.text) in
@@ -36,5 +36,5 @@ loop-i-preserved c =
     ∙ is_one names fields c.loop-i.i (input_of x).name (name-at c.args.inputs.now c.loop-i.i x c.loop-i-test.true c.index-inputs-i.is) c.loop-i.places.items _ c.loop-i.invariant c.in-Some-Some.place (rw c.in-Some-Some.field-0-is at (c.in-Some-Some.ensures ∙ kept))
 
 pub returns : goal.returns
-returns c = all_done (map (λ (n : Input). n.name) (map input_of c.args.inputs.now)) (map trimmed (fields_of c.args.row.now)) c.loop-i.i c.loop-i.places.items _
+returns c = all_done (map (λ (n : Input). n.name) (map input_of c.args.inputs.now)) (map without_blanks (fields_of c.args.row.now)) c.loop-i.i c.loop-i.places.items _
     (simp length-map (omega arith)) c.loop-i.invariant ∙ ap Ok (sym c.from_vec.ensures)

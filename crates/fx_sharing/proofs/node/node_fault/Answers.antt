@@ -8,7 +8,7 @@ use Rattle.fx_inequalities.specs.Certificate.{no_line}
 use Rattle.fx_inequalities.specs.Condition as conditions
 use Rattle.fx_inequalities.specs.Condition.{Fault, first_some}
 use Rattle.fx_inequalities.specs.NodeConditions.{variables, form_claims, divisor_claims, range_claims, error_claims, word_claims}
-use Rattle.fx_judging.specs.FaultView.{fault_of}
+use Rattle.fx_judging.specs.FaultView.{condition_fault_of}
 use Rattle.fx_judging.specs.Judging.{judged}
 use Rattle.fx_cert.specs.CertificateView.{certificate_of}
 use Rattle.fx_conditions.specs.MatchView.{code_in, node_in}
@@ -20,8 +20,8 @@ returns c = λ ps h.
     let a = c.args in let fn = a.function.now in let cert = certificate_of a.certificate.now in let n = a.n in let v = a.inputs + a.states in
     let node = node_in a.m.now in let code = code_in a.m.now in let l = at no_line cert.lines n in let form = form_of v cert.lines n in let p = to_z-of_z w32 a.place c.ranges.place in
     let vs : variables fn ≡ v = sym (λ i. c.requires.inputs i + c.requires.states i) in
-    let form_is : option_map fault_of c.node_form-form.result ≡ fault_at conditions.Form n true (form_claims v cert.lines l node code a.place form) =
-    subst (λ (f : ℤ). option_map fault_of c.node_form-form.result ≡ fault_at conditions.Form n true (form_claims v cert.lines l node code f form)) p (rw c.as_slice-lines.ensures at c.node_form-form.ensures) in
+    let form_is : option_map condition_fault_of c.node_form-form.result ≡ fault_at conditions.Form n true (form_claims v cert.lines l node code a.place form) =
+    subst (λ (f : ℤ). option_map condition_fault_of c.node_form-form.result ≡ fault_at conditions.Form n true (form_claims v cert.lines l node code f form)) p (rw c.as_slice-lines.ensures at c.node_form-form.ensures) in
     let divisor = c.fault-divisor.ensures (divisor_claims cert.lines node) c.divisor_judgement.ensures in
     let range = c.fault-range.ensures (range_claims fn cert l node form) c.node_range.ensures in
     let error_is = subst (λ (f : ℤ). c.node_error.result ≡ judged (error_claims fn cert l node code f form)) p c.node_error.ensures in

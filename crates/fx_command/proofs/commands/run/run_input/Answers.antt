@@ -3,7 +3,7 @@ use Rattle.fx_filter.specs.Outcome.{Outcome}
 use Rattle.fx_filter.specs.Promise.{IsDue}
 use Rattle.fx_filter.specs.declared.fault.RunFault.{RunFault}
 use Rattle.fx_run.specs.Printed.{run_outcome}
-use Rattle.fx_rows.specs.Faults.{fault_of}
+use Rattle.fx_rows.specs.Faults.{row_fault_of}
 use Rattle.fx_command.specs.OpeningView.{with_source}
 use Rattle.fx_command.specs.Outside.{Streams}
 use Rattle.fx_command.specs.Ends as ends
@@ -21,11 +21,11 @@ returns-in-Err-Row-clause-ended g c = λ source.
     let r = c.in-Err-Row.ensures in let a = c.args.certified.now in
     let old : Streams = record { left = g.S.Source.left c.args.input.now; read_faults = g.S.Source.faults c.args.input.now; taken = g.K.Sink.taken c.args.output.now; write_faults = g.K.Sink.faults c.args.output.now } in
     let new : Streams = record { left = g.S.Source.left c.run_rows.new.source; read_faults = g.S.Source.faults c.run_rows.new.source; taken = g.K.Sink.taken c.run_rows.new.sink; write_faults = g.K.Sink.faults c.run_rows.new.sink } in
-    let row : RowsEnd old new (with_source a source) a.function (ends.BadRow a.function.inputs c.in-Err-Row.line (fault_of c.in-Err-Row.fault)) =
+    let row : RowsEnd old new (with_source a source) a.function (ends.BadRow a.function.inputs c.in-Err-Row.line (row_fault_of c.in-Err-Row.fault)) =
     bad_row c.in-Err-Row.line c.in-Err-Row.fault (due_of (run_outcome a.function a.program) _ _ _ _ _ _ c.in-Err-Row.field-0-is c.in-Err-Row.ensures.due) in
     record {
       law = r.honest;
-      rows = subst (λ inputs. RowsEnd old new (with_source a source) a.function (ends.BadRow inputs c.in-Err-Row.line (fault_of c.in-Err-Row.fault))) (sym c.inputs_of.ensures) row;
+      rows = subst (λ inputs. RowsEnd old new (with_source a source) a.function (ends.BadRow inputs c.in-Err-Row.line (row_fault_of c.in-Err-Row.fault))) (sym c.inputs_of.ensures) row;
     }
 
 pub returns-in-Err-ReadFault-clause-ended : goal.returns-in-Err-ReadFault-clause-ended

@@ -3,7 +3,7 @@ use Rattle.fx_model.specs.Function as model
 use Rattle.fx_model.specs.Nodes.{nodes_of}
 use Rattle.fx_model.specs.Paths.{with_tree}
 use Rattle.fx_expr.specs.TreeOf.{tree}
-use Rattle.fx_expr.specs.FunctionOf.{made, function_of}
+use Rattle.fx_expr.specs.FunctionOf.{made_function, function_of}
 use Rattle.fx_expr.specs.LawfulFunction.{IsLawfulFunction}
 use Rattle.fx_expr.proofs.Nodes.{replaced}
 use Rattle.fx_expr.proofs.function.Function.replace.Goals as goal
@@ -15,7 +15,7 @@ pub overflow_add-self : goal.overflow_add-self
 overflow_add-self c = let h = (replaced c.self.inside c.args.self.now c.args.place c.args.path.now (tree c.exchange_in-old.result) (tree c.args.new) c.of.result c.of-more.result c.self.view_is c.self.invariant c.requires.lawful c.exchange_in-old.ensures.old c.of.ensures c.of-more.ensures).small in omega arith
 
 -- the parts that were exchanged are those of the function with the tree
-whole : (c : goal.After-self-1) → made c.self.inside.name c.self.inside.inputs c.self.inside.states c.exchange_in-old.new.temps c.exchange_in-old.new.results c.self.inside.demands ≡ with_tree (function_of c.self.inside) c.args.place c.args.path.now (tree c.args.new)
+whole : (c : goal.After-self-1) → made_function c.self.inside.name c.self.inside.inputs c.self.inside.states c.exchange_in-old.new.temps c.exchange_in-old.new.results c.self.inside.demands ≡ with_tree (function_of c.self.inside) c.args.place c.args.path.now (tree c.args.new)
 whole c = λ i. record (function_of c.self.inside) { temps = c.exchange_in-old.ensures.temps i; results = c.exchange_in-old.ensures.results i }
 
 pub invariant_of-self : goal.invariant_of-self

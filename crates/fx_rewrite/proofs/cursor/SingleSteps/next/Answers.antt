@@ -1,6 +1,6 @@
 use Rattle.std.proofs.Common.{◌≡◌, ℕ, ◌+◌, ◌∷◌, List, Some, None, ap, sym, ◌∙◌}
 use Rattle.fx_expr.specs.TreeOf.{tree}
-use Rattle.fx_rewrite.specs.Ahead.{ahead, behind, there}
+use Rattle.fx_rewrite.specs.Ahead.{ahead, steps_behind, there}
 use Rattle.fx_rewrite.specs.FirstOf.{Begins}
 use Rattle.fx_rewrite.proofs.Trees.{ahead_none, begins_some, begins_none, begins_held, fewer}
 use Rattle.fx_rewrite.proofs.cursor.SingleSteps.next.Goals as goal
@@ -14,15 +14,15 @@ returns-in-Some-first_at-clause-next c =
 
 pub loop-whole-smaller : goal.loop-whole-smaller
 loop-whole-smaller c =
-    let e : behind c.loop-whole.self.function.now c.loop-whole.self.place c.loop-whole.self.path.items (tree c.in-Some.whole.now) ≡ ahead c.loop-whole.self.function.now c.in_ok-position.position.place c.in_ok-position.position.path.items 1 =
-    ap (λ (p : List ℕ). behind c.loop-whole.self.function.now c.loop-whole.self.place p (tree c.in-Some.whole.now)) (sym c.deref-in-Some.ensures.value) ∙ c.in_ok-position.ensures in
+    let e : steps_behind c.loop-whole.self.function.now c.loop-whole.self.place c.loop-whole.self.path.items (tree c.in-Some.whole.now) ≡ ahead c.loop-whole.self.function.now c.in_ok-position.position.place c.in_ok-position.position.path.items 1 =
+    ap (λ (p : List ℕ). steps_behind c.loop-whole.self.function.now c.loop-whole.self.place p (tree c.in-Some.whole.now)) (sym c.deref-in-Some.ensures.value) ∙ c.in_ok-position.ensures in
     fewer c.loop-whole.self.function.now c.loop-whole.self.place c.loop-whole.self.path.items (tree c.in-Some.whole.now) _ c.in-Some.ensures e
 
 pub loop-whole-preserved : goal.loop-whole-preserved
 loop-whole-preserved c =
     let b : Begins c.loop-whole.self.function.now c.loop-whole.self.place c.loop-whole.self.path.items c.loop-whole.self.rule None = begins_held c.loop-whole.self.function.now c.loop-whole.self.place c.loop-whole.self.path.items c.deref.result.now c.loop-whole.self.rule None c.deref.ensures.value (c.in_default-first_at.ensures c.loop-whole.self.place c.in-Some.ensures) in
-    let e : behind c.loop-whole.self.function.now c.loop-whole.self.place c.loop-whole.self.path.items (tree c.in-Some.whole.now) ≡ ahead c.loop-whole.self.function.now c.in_ok-position.position.place c.in_ok-position.position.path.items 1 =
-    ap (λ (p : List ℕ). behind c.loop-whole.self.function.now c.loop-whole.self.place p (tree c.in-Some.whole.now)) (sym c.deref-in-Some.ensures.value) ∙ c.in_ok-position.ensures in
+    let e : steps_behind c.loop-whole.self.function.now c.loop-whole.self.place c.loop-whole.self.path.items (tree c.in-Some.whole.now) ≡ ahead c.loop-whole.self.function.now c.in_ok-position.position.place c.in_ok-position.position.path.items 1 =
+    ap (λ (p : List ℕ). steps_behind c.loop-whole.self.function.now c.loop-whole.self.place p (tree c.in-Some.whole.now)) (sym c.deref-in-Some.ensures.value) ∙ c.in_ok-position.ensures in
     ap (there c.loop-whole.self.function.now) (sym e) ∙ sym (begins_none c.loop-whole.self.function.now c.loop-whole.self.place c.loop-whole.self.path.items c.loop-whole.self.rule (tree c.in-Some.whole.now) c.in-Some.ensures b) ∙ c.loop-whole.invariant
 
 pub returns-clause-next : goal.returns-clause-next
