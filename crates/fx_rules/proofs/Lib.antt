@@ -7,3 +7,4 @@ pub mod Under
 pub mod Refers
 pub mod Turns
 pub mod Whole
+mod Worked
