@@ -22,7 +22,7 @@ use Rattle.fx_command.specs.Outside.{Streams, IfFile}
 use Rattle.fx_command.specs.Ends.{End, Done, ReadFault, NoMemory, OverLimit, BadBundle, Misread, Rejected, BadRow}
 use Rattle.fx_command.specs.Opening.{Spells, meaning_of, IsBundle, IsAcceptedAs, OpeningEnds, unread, long, no_bundle, misread, rejected, no_memory, OpensThen, unopened, opened}
 use Rattle.fx_command.specs.Exact.{IsFound, EndsExactly, IsReady, OrNoMemory}
-use Rattle.fx_command.specs.Command as commands
+use Rattle.fx_words.specs.Command as commands
 use Rattle.fx_command.specs.commands.Run as run
 use Rattle.fx_command.specs.commands.Run.{RowsEnd, Runs, IsReadable, rows_end}
 use Rattle.fx_command.specs.commands.Check.{ReportEnds}

@@ -11,7 +11,7 @@ use Rattle.fx_rows.specs.ReadRows.{Read, RowsInRangeLaw, lines_read}
 use Rattle.fx_run.specs.Printed.{given_values, printed, run_page, run_outcome}
 use Rattle.fx_command.specs.Outside.{Streams}
 use Rattle.fx_command.specs.Ends.{End, status_of}
-use Rattle.fx_command.specs.Command as commands
+use Rattle.fx_words.specs.Command as commands
 use Rattle.fx_command.specs.Opening.{OpensThen, unopened, opened}
 use Rattle.fx_command.specs.commands.Run.{RowsEnd, Runs, all_run, bad_row, unread, unwritten, long, no_memory}
 use Rattle.fx_command.specs.Promise.{HasEnded, Told, IsHonest, IsWhole}

@@ -4,7 +4,7 @@ use Rattle.std.specs.Prelude.{IsSomeAnd}
 use Rattle.fx_base.specs.Shelf.{Files, IsMissing}
 use Rattle.fx_model.specs.Function.{Function}
 use Rattle.fx_cert.specs.BundleView.{Parts}
-use Rattle.fx_command.specs.Command as commands
+use Rattle.fx_words.specs.Command as commands
 use Rattle.fx_command.specs.Outside.{Streams, IfFile}
 use Rattle.fx_command.specs.Ends.{End, status_of}
 use Rattle.fx_command.specs.Opening.{OpeningEnds, unread, long, no_bundle, misread, rejected, no_memory, OpensThen, unopened, opened}

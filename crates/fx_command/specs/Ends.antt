@@ -9,6 +9,7 @@ use Rattle.fx_inequalities.specs.NodeConditions.{no_input}
 use Rattle.fx_lexer.specs.declared.fault.SourceFault.{SourceFault}
 use Rattle.fx_text.specs.declared.fault.TextFault.{TextFault}
 use Rattle.fx_rows.specs.Faults as rows
+use Rattle.fx_weight.specs.PlainClass.{Outside, Node, Demand}
 use Rattle.fx_rows.specs.declared.fault.RowKind.{RowKind}
 use Rattle.fx_rows.specs.declared.fault.RowKind.TheVariants.{LineTooLong, StrayReturn}
 use Rattle.fx_command.specs.KindTexts.{condition_text, condition_part_text, source_text, bundle_kind_text, row_text}
@@ -19,6 +20,7 @@ pub data End : Type 0 where
   Rejected : (fault : Fault) → End
   Misread : (fault : SourceFault) → End
   BadBundle : (fault : TextFault) → End
+  NotFound : (outside : Outside) → End
   BadRow : (inputs : List Input) (line : ℕ) (fault : rows.RowFlaw) → End
 
 -- its status
@@ -32,6 +34,7 @@ status_of (BadRow inputs line fault) = 5
 status_of ReadFault = 6
 status_of WriteFault = 7
 status_of NoMemory = 8
+status_of (NotFound outside) = 9
 status_of OverLimit = 10
 
 -- the column's name behind a row's fault; one of the line as a whole has none
@@ -44,6 +47,11 @@ column_text inputs k kind = codes " column " ∷ (at no_input inputs k).name ∷
 abbrev pub row_reason : List ℕ → ℕ → List (List ℕ) → List (List ℕ)
 row_reason kind line column = codes "row: " ∷ kind ∷ codes " at line " ∷ decimal line ∷ column
 
+-- what keeps a function outside; outputs count from 1
+abbrev pub outside_text : Outside → List (List ℕ)
+outside_text (Node node) = codes "node " ∷ decimal node ∷ []
+outside_text (Demand output) = codes "output " ∷ decimal output ∷ []
+
 -- what the line says behind `fixd: `, piece by piece
 abbrev pub reason : End → Option (List (List ℕ))
 reason Done = None
@@ -52,6 +60,7 @@ reason Usage = Some (codes "usage: synth, check, run, show or demo" ∷ [])
 reason (Misread fault) = Some (codes "source: " ∷ source_text fault.kind ∷ codes " at byte " ∷ decimal fault.at ∷ [])
 reason (BadBundle fault) = Some (codes "bundle: " ∷ bundle_kind_text fault.kind ∷ codes " at line " ∷ decimal fault.line ∷ [])
 reason (BadRow inputs line fault) = Some (row_reason (row_text fault.kind) line (column_text inputs fault.input fault.kind))
+reason (NotFound outside) = Some (codes "not found: " ∷ outside_text outside)
 reason ReadFault = Some (codes "read fault" ∷ [])
 reason WriteFault = Some (codes "write fault" ∷ [])
 reason NoMemory = Some (codes "out of memory" ∷ [])

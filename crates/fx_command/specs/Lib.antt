@@ -1,5 +1,3 @@
-pub mod Command
-pub mod CommandView
 pub mod Notes
 pub mod KindTexts
 pub mod Ends
@@ -7,6 +5,7 @@ pub mod EndView
 pub mod Outside
 pub mod Opening
 pub mod OpeningView
+pub mod Source
 pub mod Exact
 pub mod commands
 pub mod Promise

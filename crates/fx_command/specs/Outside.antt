@@ -22,3 +22,7 @@ IfTold (Some bytes) P = P bytes
 -- where the shelf tells its files, this is one of them, and P of its bytes
 abbrev pub IfFile : Option Files → List ℕ → (List ℕ → Type 0) → Type 0
 IfFile papers name P = IfPaper papers name (λ paper. IsSomeAnd paper P)
+
+-- where the shelf tells its files, these are the bytes of this one
+abbrev pub IsFile : Option Files → List ℕ → List ℕ → Type 0
+IsFile papers name file = IfFile papers name (λ bytes. bytes ≡ file)

@@ -9,8 +9,8 @@ use Rattle.fx_model.specs.Page.{page}
 use Rattle.fx_cert.specs.BundleView.{Parts}
 use Rattle.fx_rows.specs.ReadRows.{AreInRange, read_rows}
 use Rattle.fx_run.specs.Printed.{given_values, IsWithinBounds}
-use Rattle.fx_command.specs.Command as commands
-use Rattle.fx_command.specs.Command.{Command}
+use Rattle.fx_words.specs.Command as commands
+use Rattle.fx_words.specs.Command.{Command}
 use Rattle.fx_command.specs.Outside.{Streams, AreUntouched}
 use Rattle.fx_command.specs.Ends.{End, Usage, status_of, end_line}
 use Rattle.fx_command.specs.Notes.{AreNotes}

@@ -8,7 +8,7 @@ ghost use Rattle.std.specs.Io.KnownBytes.{Consumes};
 ghost use Rattle.fx_base.specs.Shelf.{IsMissing};
 ghost use Rattle.fx_filter.specs.Promise.{Grows};
 ghost use Rattle.fx_command.specs.Exact.{EndsExactly};
-ghost use Rattle.fx_command.specs.Command.{Run, Check, texts, command_of};
+ghost use Rattle.fx_words.specs.Command.{Run, Check, texts, command_of};
 ghost use Rattle.fx_command.specs.Promise.{HasEnded, IsAnswer, CallCompletes, Told, IsHonest, IsUnopened, Opens, is_early};
 
 use crate::command::{Command, command_of};

@@ -2,7 +2,7 @@ use Rattle.std.proofs.Common.{◌≡◌, ℕ, Option, None, refl, sym, ap, ◌�
 use Rattle.std.specs.Option.{option_map}
 use Rattle.fx_base.specs.Shelf.{Files}
 use Rattle.fx_filter.proofs.Grown.{none_grown}
-use Rattle.fx_command.specs.Command as commands
+use Rattle.fx_words.specs.Command as commands
 use Rattle.fx_command.specs.CommandView.{command_view}
 use Rattle.fx_command.specs.Outside.{Streams}
 use Rattle.fx_command.specs.Ends.{Usage}
