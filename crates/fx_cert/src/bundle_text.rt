@@ -143,7 +143,7 @@ fn certificate_section<'a>(
 }
 
 /// Both sections from line `line` on, the number of the line behind the bundle's last, and the text behind it.
-#[tactic(auto, unfolding(crate::specs::BundleReading::body_at))]
+#[tactic(auto, unfolding(crate::specs::BundleReading::bundle_body_at))]
 fn body_at<'a>(
     alloc: Global,
     line: u32,

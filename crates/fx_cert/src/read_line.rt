@@ -43,7 +43,7 @@ pub struct RowCounts {
 }
 
 /// `fixd certificate 1`.
-#[tactic(auto, unfolding(crate::specs::LineReading::headline_at))]
+#[tactic(auto, unfolding(crate::specs::LineReading::certificate_headline_at))]
 pub fn read_headline(fields: &mut Fields<'_>) -> Result<(), TextKind>
     ensures { ReadsAll (λ _. tt) result (certificate_headline_at fields.old) }
 {
@@ -54,7 +54,7 @@ pub fn read_headline(fields: &mut Fields<'_>) -> Result<(), TextKind>
 }
 
 /// `sizes I K n`.
-#[tactic(auto, unfolding(crate::specs::LineReading::sizes_at))]
+#[tactic(auto, unfolding(crate::specs::LineReading::certificate_sizes_at))]
 pub fn read_sizes(fields: &mut Fields<'_>) -> Result<Sizes, TextKind>
     ensures value { ReadsAll certificate_sizes_of result (certificate_sizes_at fields.old) }
     ensures range { IfOk result (λ s. AreCertificateSizes (certificate_sizes_of s)) }
@@ -133,7 +133,7 @@ pub fn read_row_counts(states: u32, fields: &mut Fields<'_>) -> Result<RowCounts
 }
 
 /// `box LO HI SHARES`, the unit row `i` among `end` rows.
-#[tactic(auto, unfolding(crate::specs::LineReading::box_at))]
+#[tactic(auto, unfolding(crate::specs::LineReading::box_row_at))]
 pub fn read_box(
     alloc: Global,
     states: u32,

@@ -1,6 +1,7 @@
 -- Worked rewritings, by evaluation: each rule on a tree that it turns, and on one that it doesn't.
 use Rattle.std.specs.Prelude.{◌≡◌, ℕ, zero, suc, ◌^◌, pos, negsuc, List, [], ◌∷◌, Option, Some, None, refl, codes}
-use Rattle.fx_rational.specs.Rational.{Rational, over, whole}
+use Rattle.fx_algebra.specs.Gcd.{gcd}
+use Rattle.fx_rational.specs.Rational.{Rational, over, whole, plus, minus, times, negative, divided, quotient, lowest}
 use Rattle.fx_model.specs.Tree.{Tree, Literal, Input, State, Temp, Negation, Sum, Difference, Product, Quotient}
 use Rattle.fx_model.specs.Function as function
 use Rattle.fx_model.specs.Function.{Function}
@@ -186,51 +187,67 @@ rule_24_of_a_dividend : turned 24 (Quotient (Product x y) z) ≡ NoMatch
 rule_24_of_a_dividend = refl
 
 rule_25 : turned 25 (Quotient x (number 4)) ≡ Becomes (Product x (Literal (over (pos 1) 4)))
+unfolding quotient divided over plus minus negative times lowest gcd
 rule_25 = refl
 
 rule_25_of_zero : turned 25 (Quotient x (number 0)) ≡ NoMatch
+unfolding quotient divided over plus minus negative times lowest gcd
 rule_25_of_zero = refl
 
 rule_26 : turned 26 (Sum (number 2) (Literal (over (negsuc 0) 2))) ≡ Becomes (Literal (over (pos 3) 2))
+unfolding quotient divided over plus minus negative times lowest gcd
 rule_26 = refl
 
 rule_26_over_the_limit : turned 26 (Sum (number (2 ^ 61)) (number (2 ^ 61))) ≡ TooLong
+unfolding quotient divided over plus minus negative times lowest gcd
 rule_26_over_the_limit = refl
 
 rule_26_of_an_input : turned 26 (Sum (number 2) x) ≡ NoMatch
+unfolding quotient divided over plus minus negative times lowest gcd
 rule_26_of_an_input = refl
 
 rule_27 : turned 27 (Difference (number 2) (number 5)) ≡ Becomes (Literal (whole (negsuc 2)))
+unfolding quotient divided over plus minus negative times lowest gcd
 rule_27 = refl
 
 rule_27_of_a_sum : turned 27 (Sum (number 2) (number 5)) ≡ NoMatch
+unfolding quotient divided over plus minus negative times lowest gcd
 rule_27_of_a_sum = refl
 
 rule_28 : turned 28 (Product (Literal (over (pos 2) 3)) (number 6)) ≡ Becomes (number 4)
+unfolding quotient divided over plus minus negative times lowest gcd
 rule_28 = refl
 
 rule_28_over_the_limit : turned 28 (Product (number (2 ^ 31)) (number (2 ^ 31))) ≡ TooLong
+unfolding quotient divided over plus minus negative times lowest gcd
 rule_28_over_the_limit = refl
 
 rule_28_at_the_limit : turned 28 (Product (number (2 ^ 30)) (number (2 ^ 31))) ≡ Becomes (number (2 ^ 61))
+unfolding quotient divided over plus minus negative times lowest gcd
 rule_28_at_the_limit = refl
 
 rule_28_of_an_input : turned 28 (Product (number 2) x) ≡ NoMatch
+unfolding quotient divided over plus minus negative times lowest gcd
 rule_28_of_an_input = refl
 
 rule_29 : turned 29 (Quotient (number 6) (number 4)) ≡ Becomes (Literal (over (pos 3) 2))
+unfolding quotient divided over plus minus negative times lowest gcd
 rule_29 = refl
 
 rule_29_of_zero : turned 29 (Quotient (number 6) (number 0)) ≡ NoMatch
+unfolding quotient divided over plus minus negative times lowest gcd
 rule_29_of_zero = refl
 
 rule_29_over_the_limit : turned 29 (Quotient (Literal (over (pos 1) (2 ^ 61))) (number 3)) ≡ TooLong
+unfolding quotient divided over plus minus negative times lowest gcd
 rule_29_over_the_limit = refl
 
 rule_30 : turned 30 (Negation (number 3)) ≡ Becomes (Literal (whole (negsuc 2)))
+unfolding quotient divided over plus minus negative times lowest gcd
 rule_30 = refl
 
 rule_30_of_an_input : turned 30 (Negation x) ≡ NoMatch
+unfolding quotient divided over plus minus negative times lowest gcd
 rule_30_of_an_input = refl
 
 no_rule_0 : turned 0 (Sum x y) ≡ NoMatch
@@ -270,8 +287,8 @@ signs zero = x
 signs (suc n) = Negation (signs n)
 
 -- from 200 to 201
-too_high : rewrite (of_three (Difference (signs 199) y)) (step 0 [] 15) ≡ Some (of_three (Sum (signs 199) (Negation y)))
+too_high : rewrite (of_three (Difference (signs 198) y)) (step 0 [] 15) ≡ Some (of_three (Sum (signs 198) (Negation y)))
 too_high = refl
 
-one_too_high : rewrite (of_three (Difference x (signs 199))) (step 0 [] 15) ≡ None
+one_too_high : rewrite (of_three (Difference x (signs 198))) (step 0 [] 15) ≡ None
 one_too_high = refl

@@ -21,7 +21,7 @@ const MANTISSA_END: u128 = 1 << 62;
 const EXPONENT_LIMIT: u64 = 96;
 
 /// A fixed word. BadLine where the field is missing or another.
-#[tactic(auto, unfolding(crate::specs::Reading::word_at))]
+#[tactic(auto, unfolding(crate::specs::Reading::keyword_at))]
 pub fn word(fields: &mut Fields<'_>, word: &[u8]) -> Result<(), TextKind>
     ensures { ReadsRest result fields.new (keyword_at word.now fields.old) }
 {

@@ -265,7 +265,7 @@ returns-in-Err-take_line-clause-grown g c =
     let mid = g.K.Sink.taken c.ask.new.sink in
     let last = g.K.Sink.taken c.stop_at.new.sink in
     grown_on before mid last (grown_on before (g.K.Sink.taken c.lines.sink) mid c.lines.invariant.grown c.ask.ensures.grown)
-        (stopped_grows c.in-Err-take_line.stop _ mid last c.take_line.new.page c.stop_at.result c.stop_at.ensures.stops)
+    (stopped_grows c.in-Err-take_line.stop _ mid last c.take_line.new.page c.stop_at.result c.stop_at.ensures.stops)
 
 pub returns-in-Ok-End-clause-grown : goal.returns-in-Ok-End-clause-grown
 returns-in-Ok-End-clause-grown g c = grown_on _ _ _ c.lines.invariant.grown c.ask.ensures.grown
