@@ -27,7 +27,9 @@ use Rattle.fx_command.specs.commands.Run as run
 use Rattle.fx_command.specs.commands.Run.{RowsEnd, Runs, IsReadable, rows_end}
 use Rattle.fx_command.specs.commands.Check.{ReportEnds}
 use Rattle.fx_command.specs.commands.Check as check
-use Rattle.fx_command.specs.Promise.{HasEnded, IsAnswer, CallEnds, CallCompletes, Opens}
+use Rattle.fx_command.specs.Promise.{HasEnded, IsAnswer, CallEnds, CallCompletes, FileEnds, file_of}
+use Rattle.fx_command.proofs.SameEnd.{same_end}
+use Rattle.fx_command.proofs.ExactSource.{exact_source, synthesis_decides}
 use Rattle.fx_command.proofs.Told.{known, in_file}
 
 -- ---- what bytes come to: an accepted bundle and its function, or the end of a call that opens them
@@ -61,9 +63,6 @@ accepted_verdict again file b fn is a = of_bundle again file b is ∙ ap (unders
 ok_inside : (x y : Parts × Function) → Ok {E = End} x ≡ Ok y → x ≡ y
 ok_inside x y e = cc
 
-err_inside : (x y : End) → Err {T = Parts × Function} x ≡ Err y → x ≡ y
-err_inside x y e = cc
-
 -- ---- the end of a call that opens FILE
 module _ (again : BundleAgain) (papers : Option Files) (before after : ℕ) (name file : List ℕ) (found : IsFound papers before after name file) where
   told : (P : List ℕ → Type 0) → IfFile papers name P → P file
@@ -83,15 +82,9 @@ module _ (again : BundleAgain) (papers : Option Files) (before after : ℕ) (nam
   cause_verdict end no_memory = inl refl
 
   module _ (IsEnd : End → Type 0) where
-    -- two ends of one cause
-    same_end : (end e : End) → IsEnd end → e ≢ NoMemory → (end ≡ NoMemory) ⊎ (verdict file ≡ Err end) → (e ≡ NoMemory) ⊎ (verdict file ≡ Err e) → OrNoMemory IsEnd e
-    same_end end e h other (inl none) v = inr (subst IsEnd none h)
-    same_end end e h other (inr u) (inl none) = absurd (other none)
-    same_end end e h other (inr u) (inr v) = inl (subst IsEnd (err_inside end e (sym u ∙ v)) h)
-
     exact_opening : {old new : Streams} {P : Parts → Function → End → Type 0} (end e : End) → IsEnd end → OpensThen papers before after name old new P end → e ≢ NoMemory → OpeningEnds papers before after name e → OrNoMemory IsEnd e
-    exact_opening end e h (unopened end' ends same) other cause = same_end end e h other (cause_verdict end ends) (cause_verdict e cause)
-    exact_opening end e h (opened end' b fn is a ends) other cause = same_end end e h other (by (cause_verdict e cause)) (cause_verdict e cause)
+    exact_opening end e h (unopened end' ends same) other cause = same_end IsEnd (verdict file) end e h other (cause_verdict end ends) (cause_verdict e cause)
+    exact_opening end e h (opened end' b fn is a ends) other cause = same_end IsEnd (verdict file) end e h other (by (cause_verdict e cause)) (cause_verdict e cause)
       where
         by : (e ≡ NoMemory) ⊎ (verdict file ≡ Err e) → (end ≡ NoMemory) ⊎ (verdict file ≡ Err end)
         by (inl none) = absurd (other none)
@@ -135,11 +128,14 @@ module _ (again : BundleAgain) (papers : Option Files) (before after : ℕ) (old
   IsEnd : End → Type 0
   IsEnd end = IsAnswer noted noted' failed failed' status end
 
-  pub exact : (command : Option commands.Command) (name : List ℕ) → HasEnded papers before after old new noted noted' failed failed' command status → Opens command name → EndsExactly papers before after name IsEnd
-  exact command name h (inl is) = λ file found e other cause.
-      exact_opening again papers before after name file found IsEnd h.end e h.answer (subst (λ (c : Option commands.Command). CallEnds papers before after old new c h.end) is h.cause) other cause
-  exact command name h (inr is) = λ file found e other cause.
-      exact_opening again papers before after name file found IsEnd h.end e h.answer (subst (λ (c : Option commands.Command). CallEnds papers before after old new c h.end) is h.cause) other cause
+  pub exact : (command : Option commands.Command) (c : commands.Command) → HasEnded papers before after old new noted noted' failed failed' command status → command ≡ Some c →
+      EndsExactly papers before after (file_of c) (FileEnds papers before after c) IsEnd
+  exact command c h is = by_command c (subst (λ (x : Option commands.Command). CallEnds papers before after old new x h.end) is h.cause)
+    where
+      by_command : (c : commands.Command) → CallEnds papers before after old new (Some c) h.end → EndsExactly papers before after (file_of c) (FileEnds papers before after c) IsEnd
+      by_command (commands.Run name) ends = λ file found e other cause. exact_opening again papers before after name file found IsEnd h.end e h.answer ends other cause
+      by_command (commands.Check name) ends = λ file found e other cause. exact_opening again papers before after name file found IsEnd h.end e h.answer ends other cause
+      by_command (commands.Synth wanted) ends = λ file found e other cause. exact_source papers before after wanted file found IsEnd h.end e h.answer ends other cause
 
   either : (end decided : End) → IsEnd end → (end ≡ decided) ⊎ (end ≡ NoMemory) → OrNoMemory IsEnd decided
   either end decided h (inl is) = inl (subst IsEnd is h)
@@ -159,3 +155,5 @@ module _ (again : BundleAgain) (papers : Option Files) (before after : ℕ) (old
       by : (b : Parts) (fn : Function) → ¬ Rose old.write_faults new.write_faults → (h.end ≡ NoMemory) ⊎ ReportEnds old new b fn h.end → OrNoMemory IsEnd Done
       by b fn writes (inl none) = inr (subst IsEnd none h.answer)
       by b fn writes (inr ends) = inl (subst IsEnd (report_decides old new b fn h.end writes ends) h.answer)
+  complete (Some (commands.Synth wanted)) h = λ file fn found source inside writes.
+      either h.end Done h.answer (synthesis_decides papers before after wanted file found old new fn h.end source inside writes h.cause)

@@ -3,8 +3,11 @@ mod Columns
 mod Accepting
 mod BoundLines
 mod Told
-mod Honest
+mod SameEnd
+mod ExactSource
 mod Exact
+mod Honest
+mod Synthesised
 mod Early
 mod Missing
 mod Consumed

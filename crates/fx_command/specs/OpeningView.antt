@@ -14,7 +14,7 @@ use Rattle.fx_checker.specs.Refusal.{IsToldOf}
 use Rattle.fx_checker.specs.declared.fault.CheckFault.{CheckFault}
 use Rattle.fx_cert.specs.BundleView.{Parts}
 use Rattle.fx_cert.specs.BundleReading.{bundle_in}
-use Rattle.fx_command.specs.Ends.{End, Usage, Rejected, Misread, BadBundle, ReadFault, OverLimit, NoMemory}
+use Rattle.fx_command.specs.Ends.{End, Usage, NotFound, Rejected, Misread, BadBundle, ReadFault, OverLimit, NoMemory}
 use Rattle.fx_command.specs.Opening.{Spells, meaning_of, IsAcceptedAs, IsBundle}
 
 -- the parts with this source
@@ -55,5 +55,6 @@ abbrev pub IsQuiet : End → Type 0
 IsQuiet (Rejected fault) = Unit {0}
 IsQuiet (Misread fault) = Unit {0}
 IsQuiet (BadBundle fault) = Unit {0}
+IsQuiet (NotFound outside) = Unit {0}
 IsQuiet Usage = Unit {0}
 IsQuiet end = ⊥

@@ -1,5 +1,5 @@
 -- What `fixd` promises: how each call ends, that its cause decides, and the headline.
-use Rattle.std.specs.Prelude.{◌≡◌, ◌⊎◌, ◌==◌, ◌||◌, ⊤, Bool, ℕ, ℤ, List, ◌++◌, Option, Some, None}
+use Rattle.std.specs.Prelude.{◌≡◌, ◌⊎◌, ◌==◌, ◌||◌, ⊤, Bool, true, false, ℕ, ℤ, List, ◌++◌, Option, Some, None}
 use Rattle.fx_base.specs.Shelf.{Files, paper_of}
 use Rattle.fx_rational.specs.Rational.{Rational}
 use Rattle.fx_model.specs.Function.{Function, Run}
@@ -12,17 +12,20 @@ use Rattle.fx_run.specs.Printed.{given_values, IsWithinBounds}
 use Rattle.fx_words.specs.Command as commands
 use Rattle.fx_words.specs.Command.{Command}
 use Rattle.fx_command.specs.Outside.{Streams, AreUntouched}
-use Rattle.fx_command.specs.Ends.{End, Usage, status_of, end_line}
+use Rattle.fx_command.specs.Ends.{End, Usage, NoMemory, status_of, end_line}
 use Rattle.fx_command.specs.Notes.{AreNotes}
-use Rattle.fx_command.specs.Opening.{Spells, IsAcceptedAs}
+use Rattle.fx_command.specs.Opening.{Spells, IsAcceptedAs, OpeningEnds}
+use Rattle.fx_command.specs.Source.{SourceEnds}
 use Rattle.fx_command.specs.commands.Run.{RunEnds, RunCompletes}
 use Rattle.fx_command.specs.commands.Check.{CheckEnds, CheckCompletes}
+use Rattle.fx_command.specs.commands.Synth.{SynthEnds, SynthCompletes}
 
 -- how a call ends, by its command
 abbrev pub CallEnds : Option Files → ℕ → ℕ → Streams → Streams → Option Command → End → Type 0
-CallEnds papers before after old new None end = end ≡ Usage
+CallEnds papers before after old new None end = (end ≡ Usage) ⊎ (end ≡ NoMemory)
 CallEnds papers before after old new (Some (commands.Run name)) end = RunEnds papers before after old new name end
 CallEnds papers before after old new (Some (commands.Check name)) end = CheckEnds papers before after old new name end
+CallEnds papers before after old new (Some (commands.Synth wanted)) end = SynthEnds papers before after old new wanted end
 
 -- the status and the line on the notes are those of this end
 pub record IsAnswer (noted noted' : Option (List ℕ)) (failed failed' : ℕ) (status : ℕ) (end : End) : Type 0 where
@@ -40,21 +43,38 @@ abbrev pub CallCompletes : Option Files → ℕ → ℕ → Streams → Streams 
 CallCompletes papers before after old new None IsEnd = ⊤
 CallCompletes papers before after old new (Some (commands.Run name)) IsEnd = RunCompletes papers before after old new name IsEnd
 CallCompletes papers before after old new (Some (commands.Check name)) IsEnd = CheckCompletes papers before after old new name IsEnd
+CallCompletes papers before after old new (Some (commands.Synth wanted)) IsEnd = SynthCompletes papers before after old new wanted IsEnd
 
 -- ---- the statuses at which nothing was begun
--- the words are no command's, or FILE's bundle isn't accepted
+-- the words are no command's, FILE's bundle isn't accepted, or nothing is found for its source
 abbrev pub is_early : ℕ → Bool
-is_early status = (status == 1) || (status == 2) || (status == 3) || (status == 4)
+is_early status = (status == 1) || (status == 2) || (status == 3) || (status == 4) || (status == 9)
+
+-- ---- FILE
+-- the name of it
+abbrev pub file_of : Command → List ℕ
+file_of (commands.Run name) = name
+file_of (commands.Check name) = name
+file_of (commands.Synth wanted) = wanted.file
+
+-- why FILE gives no accepted bundle, or no function, as the command asks for
+abbrev pub FileEnds : Option Files → ℕ → ℕ → Command → End → Type 0
+FileEnds papers before after (commands.Run name) end = OpeningEnds papers before after name end
+FileEnds papers before after (commands.Check name) end = OpeningEnds papers before after name end
+FileEnds papers before after (commands.Synth wanted) end = SourceEnds papers before after wanted.file wanted.function end
 
 -- ---- a file that isn't there
--- a command that opens FILE
-abbrev pub Opens : Option Command → List ℕ → Type 0
-Opens command name = (command ≡ Some (commands.Run name)) ⊎ (command ≡ Some (commands.Check name))
 
 -- the status of a read fault, or of no memory, and both streams tell what they told before
 pub record IsUnopened (old new : Streams) (status : ℕ) : Type 0 where
   pub failed : (status ≡ 6) ⊎ (status ≡ 8)
   pub untouched : AreUntouched old new
+
+-- ---- the input
+-- all commands but `run` leave it alone
+abbrev pub leaves_input : Command → Bool
+leaves_input (commands.Run name) = false
+leaves_input command = true
 
 -- ---- the premise
 -- the outside tells the bytes of FILE, all that the input held when the call began, and what the call appended to the output

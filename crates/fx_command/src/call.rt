@@ -8,15 +8,16 @@ ghost use Rattle.std.specs.Io.KnownBytes.{Consumes};
 ghost use Rattle.fx_base.specs.Shelf.{IsMissing};
 ghost use Rattle.fx_filter.specs.Promise.{Grows};
 ghost use Rattle.fx_command.specs.Exact.{EndsExactly};
-ghost use Rattle.fx_words.specs.Command.{Run, Check, texts, command_of};
-ghost use Rattle.fx_command.specs.Promise.{HasEnded, IsAnswer, CallCompletes, Told, IsHonest, IsUnopened, Opens, is_early};
+ghost use Rattle.fx_words.specs.Command as commands;
+ghost use Rattle.fx_words.specs.Command.{Run, texts, command_of};
+ghost use Rattle.fx_command.specs.Promise.{HasEnded, IsAnswer, CallCompletes, FileEnds, Told, IsHonest, IsUnopened, file_of, leaves_input, is_early};
 
-use crate::command::{Command, command_of};
-use crate::commands::{check_file, run_file};
+use crate::commands::{check_file, run_file, synth_file};
 use crate::end::End;
 use fx_base::{Shelf, Sink, Source, Status};
 use fx_cert::bundle_text_law;
 use fx_rows::rows_in_range_law;
+use fx_words::{Command, WordFault, read_words};
 use std::alloc::Global;
 
 // Does what the words say.
@@ -32,15 +33,17 @@ fn perform<H: Shelf, S: Source, K: Sink, N: Sink>(
         (record { left = S.left input.old; read_faults = S.faults input.old; taken = K.taken output.old; write_faults = K.faults output.old })
         (record { left = S.left input.new; read_faults = S.faults input.new; taken = K.taken output.new; write_faults = K.faults output.new })
         (N.taken notes.old) (N.taken notes.new) (N.faults notes.old) (N.faults notes.new) (command_of (texts words.now.items)) result }
-    ensures aside { (name : List ℕ) → command_of (texts words.now.items) ≡ Some (Check name) → input.new ≡ input.old }
+    ensures aside { (c : commands.Command) → command_of (texts words.now.items) ≡ Some c → leaves_input c ≡ true → input.new ≡ input.old }
     ensures early { is_early result ≡ true → (input.new ≡ input.old) × (output.new ≡ output.old) }
     ensures consumed { (taken : List ℕ) × Consumes (S.left input.old) (S.left input.new) taken }
     ensures appended { Grows (K.taken output.old) (K.taken output.new) }
 {
-    match command_of(words.as_slice()) {
-        None => End::Usage.finish(notes),
-        Some(Command::Run(name)) => run_file(alloc, shelf, name, input, output, notes),
-        Some(Command::Check(name)) => check_file(alloc, shelf, name, output).finish(notes),
+    match read_words(alloc, words.as_slice()) {
+        Ok(Command::Run(name)) => run_file(alloc, shelf, name, input, output, notes),
+        Ok(Command::Check(name)) => check_file(alloc, shelf, name, output).finish(notes),
+        Ok(Command::Synth(wanted)) => synth_file(alloc, shelf, &wanted, output).finish(notes),
+        Err(WordFault::Usage) => End::Usage.finish(notes),
+        Err(WordFault::Memory) => End::NoMemory.finish(notes),
     }
 }
 
@@ -68,7 +71,8 @@ pub fn fixd<H: Shelf, S: Source, K: Sink, N: Sink>(
         (N.taken notes.old) (N.taken notes.new) (N.faults notes.old) (N.faults notes.new) (command_of (texts words.now.items)) result }
 
     // A cause that FILE gives is how the call ends, where the shelf tells its files and doesn't fail, and there is memory.
-    ensures exact { (name : List ℕ) → Opens (command_of (texts words.now.items)) name → EndsExactly (H.papers shelf.old) (H.faults shelf.old) (H.faults shelf.new) name
+    ensures exact { (c : commands.Command) → command_of (texts words.now.items) ≡ Some c → EndsExactly (H.papers shelf.old) (H.faults shelf.old) (H.faults shelf.new) (file_of c)
+        (FileEnds (H.papers shelf.old) (H.faults shelf.old) (H.faults shelf.new) c)
         (IsAnswer (N.taken notes.old) (N.taken notes.new) (N.faults notes.old) (N.faults notes.new) result) }
 
     // Of an accepted bundle all is printed, up to the first bad row if there is one, where nothing outside fails and there is memory.
@@ -77,11 +81,11 @@ pub fn fixd<H: Shelf, S: Source, K: Sink, N: Sink>(
         (record { left = S.left input.new; read_faults = S.faults input.new; taken = K.taken output.new; write_faults = K.faults output.new })
         (command_of (texts words.now.items)) (IsAnswer (N.taken notes.old) (N.taken notes.new) (N.faults notes.old) (N.faults notes.new) result) }
 
-    // Where the words are no command's, or the bundle isn't accepted, nothing was read and nothing printed.
+    // Where the words are no command's, the bundle isn't accepted or nothing is found, nothing was read and nothing printed.
     ensures early { is_early result ≡ true → (input.new ≡ input.old) × (output.new ≡ output.old) }
 
     // Where the shelf tells its files and FILE is none of them, nothing is touched.
-    ensures missing { (name : List ℕ) → Opens (command_of (texts words.now.items)) name → IsMissing (H.papers shelf.old) name → IsUnopened
+    ensures missing { (c : commands.Command) → command_of (texts words.now.items) ≡ Some c → IsMissing (H.papers shelf.old) (file_of c) → IsUnopened
         (record { left = S.left input.old; read_faults = S.faults input.old; taken = K.taken output.old; write_faults = K.faults output.old })
         (record { left = S.left input.new; read_faults = S.faults input.new; taken = K.taken output.new; write_faults = K.faults output.new }) result }
 
@@ -89,8 +93,8 @@ pub fn fixd<H: Shelf, S: Source, K: Sink, N: Sink>(
     ensures consumed { (taken : List ℕ) × Consumes (S.left input.old) (S.left input.new) taken }
     ensures appended { Grows (K.taken output.old) (K.taken output.new) }
 
-    // `check` leaves the input as it was.
-    ensures aside { (name : List ℕ) → command_of (texts words.now.items) ≡ Some (Check name) → input.new ≡ input.old }
+    // All commands but `run` leave the input as it was.
+    ensures aside { (c : commands.Command) → command_of (texts words.now.items) ≡ Some c → leaves_input c ≡ true → input.new ≡ input.old }
 {
     rows_in_range_law();
     bundle_text_law();

@@ -2,6 +2,8 @@
 
 mod check;
 mod run;
+mod synth;
 
 pub use check::check_file;
 pub use run::run_file;
+pub use synth::synth_file;

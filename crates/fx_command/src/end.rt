@@ -8,6 +8,8 @@ ghost use Rattle.fx_inequalities.specs.NodeConditions.{no_input};
 ghost use Rattle.fx_expr.specs.Parts.{input_of};
 ghost use Rattle.fx_rows.specs.Faults as rows;
 ghost use Rattle.fx_judging.specs.FaultView as conditions;
+ghost use Rattle.std.specs.Fmt.{decimal};
+ghost use Rattle.fx_weight.specs.OutsideView.{outside_view};
 ghost use Rattle.fx_command.specs.Ends as ends;
 ghost use Rattle.fx_command.specs.Ends.{end_line, status_of};
 ghost use Rattle.fx_command.specs.EndView.{end_of};
@@ -20,6 +22,7 @@ use fx_expr::Input;
 use fx_judging::ConditionFault;
 use fx_lexer::SourceFault;
 use fx_rows::{RowFault, RowKind};
+use fx_synth::Outside;
 use fx_text::TextFault;
 use itoa::Buffer;
 
@@ -44,6 +47,8 @@ pub enum End<'a> {
     Misread(SourceFault),
     /// The bundle's text has one.
     BadBundle(TextFault),
+    /// Nothing is found for the function, which this keeps outside the class that is served always.
+    NotFound(Outside),
     /// A line of the input is bad, for the function with these inputs.
     BadRow {
         inputs: &'a [Input],
@@ -153,6 +158,25 @@ fn note_column<N: Sink>(kind: &str, line: u64, name: &str, notes: &mut N)
     );
 }
 
+fn note_place<N: Sink>(part: &str, place: u32, notes: &mut N)
+    ensures { AreNotes (N.taken notes.old) (N.taken notes.new) (N.faults notes.old) (N.faults notes.new) (Some (ends.note_text (codes "not found: " ∷ part.now ∷ decimal place ∷ []))) }
+{
+    let mut digits = Buffer::new();
+    note_line(
+        &["fixd: ", "not found: ", part, digits.format(place), "\n"],
+        notes,
+    );
+}
+
+fn note_outside<N: Sink>(outside: Outside, notes: &mut N)
+    ensures { AreNotes (N.taken notes.old) (N.taken notes.new) (N.faults notes.old) (N.faults notes.new) (end_line (ends.NotFound (outside_view outside))) }
+{
+    match outside {
+        Outside::Node { node } => note_place("node ", node, notes),
+        Outside::Demand { output } => note_place("output ", output, notes),
+    }
+}
+
 fn note_row<N: Sink>(inputs: &[Input], line: u64, fault: RowFault, notes: &mut N)
     ensures { AreNotes (N.taken notes.old) (N.taken notes.new) (N.faults notes.old) (N.faults notes.new) (end_line (ends.BadRow (map input_of inputs.now) line (rows.row_fault_of fault))) }
 {
@@ -185,6 +209,7 @@ impl<'a> End<'a> {
             End::Rejected(_) => Status::REJECTED,
             End::Misread(_) => Status::SOURCE,
             End::BadBundle(_) => Status::BUNDLE,
+            End::NotFound(_) => Status::NOT_FOUND,
             End::BadRow { .. } => Status::ROW,
         }
     }
@@ -203,6 +228,7 @@ impl<'a> End<'a> {
             End::Rejected(fault) => note_rejected(*fault, notes),
             End::Misread(fault) => note_misread(*fault, notes),
             End::BadBundle(fault) => note_bundle(*fault, notes),
+            End::NotFound(outside) => note_outside(*outside, notes),
             End::BadRow {
                 inputs,
                 line,

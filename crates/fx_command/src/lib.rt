@@ -6,7 +6,6 @@
 #![tactic(auto)]
 
 mod call;
-mod command;
 mod commands;
 mod end;
 mod kind;

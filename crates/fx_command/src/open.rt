@@ -29,7 +29,7 @@ use std::alloc::Global;
 const BUNDLE_LIMIT: u64 = 67_108_864;
 
 // Of a file that wasn't read.
-fn end_of_read(fault: InFault) -> End<'static>
+pub(crate) fn end_of_read(fault: InFault) -> End<'static>
     ensures { end_of result ≡ read_end fault }
 {
     match fault {
@@ -50,7 +50,7 @@ fn end_of_text(fault: TextFault) -> End<'static>
 }
 
 // Of a source that has no such function.
-fn end_of_source(fault: SourceFault) -> End<'static>
+pub(crate) fn end_of_source(fault: SourceFault) -> End<'static>
     ensures { (end_of result ≡ ends.NoMemory) ⊎ ((end_of result ≡ ends.Misread fault) × (fault.kind ≢ sources.Memory)) }
 {
     match fault.kind {
