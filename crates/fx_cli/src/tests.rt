@@ -177,7 +177,7 @@ const READ_FAULT: &str = "fixd: read fault\n";
 
 // words, and how they end where `-x` is the one file
 #[rattlefmt::skip]
-static WORDS: [(&[&str], u8, &str, &str); 28] = [
+static WORDS: [(&[&str], u8, &str, &str); 31] = [
     (&[], 2, "", USAGE),
     (&["run"], 2, "", USAGE),
     (&["check"], 2, "", USAGE),
@@ -187,6 +187,9 @@ static WORDS: [(&[&str], u8, &str, &str); 28] = [
     (&["synth", "f"], 2, "", USAGE),
     (&["synth", "--width", "16", "--width", "16", "f"], 2, "", USAGE),
     (&["synth", "--width", "+16", "f"], 2, "", USAGE),
+    (&["synth", "--width", "16", "a"], 6, "", READ_FAULT),
+    (&["synth", "--width=016", "--seed=1", "a", "--tries", "0"], 6, "", READ_FAULT),
+    (&["synth", "--width", "16", "--tries", "100001", "f"], 2, "", USAGE),
     (&["run", "-x"], 2, "", USAGE),
     (&["check", "-x"], 2, "", USAGE),
     (&["run", "--", "-x", "-x"], 2, "", USAGE),
@@ -297,5 +300,48 @@ fn takes_little_ahead(rt: HostRuntime) -> Result<(), Fail> {
     assert!(rt; answer.is(7, "", "fixd: write fault\n"));
     let left = read_all(alloc, &mut input, 1_000_000)?;
     assert!(rt; left.len() >= 200_002 - 131_072);
+    Ok(())
+}
+
+// a source and a width, how a synthesis ends, what `check` then says of its bundle, and the line on the notes
+#[rattlefmt::skip]
+static SOURCES: [(&str, &str, u8, &str, &str); 14] = [
+    ("def f(x: Real): Real = {\n  require(0 <= x && x <= 1)\n  x + 0.5\n}\n", "16", 0, "accepted\nout1 1/2^8\n", ""),
+    ("def f(x: Real): Real = { require(0 <= x && x <= 1) x + 0.5 }", "8", 0, "accepted\nout1 1\n", ""),
+    ("def f(x: Real): Real = { require(0 <= x && x <= 1) x + 0.5 }", "64", 0, "accepted\nout1 1/2^56\n", ""),
+    ("def f(x: Real): Real = { require(0 <= x && x <= 1) x * 0.000000000000000001 }", "32", 0, "accepted\nout1 1/2^24\n", ""),
+    ("def f(x: Real): Real = { require(0 <= x && x <= 1) x + 0.5 } ensuring(res => res +/- 0.00390625)", "16", 0, "accepted\nout1 1/2^8\n", ""),
+    ("def f(x: Real): Real = { require(0 <= x && x <= 1) x + 0.5 } ensuring(res => res +/- 0.003906249)", "16", 9, "", "fixd: not found: output 1\n"),
+    ("def f(x: Real, y: Real): Real = { require(-1 <= x && x <= 1 && -1 <= y && y <= 1) x / y }", "16", 9, "", "fixd: not found: node 2\n"),
+    ("def g(u: Real)(x: Real = 0.0): (Real, Real) = { require(-1 <= u && u <= 1) (x, u) }", "16", 9, "", "fixd: not found: node 1\n"),
+    ("def f(x: Real): Real = { require(0 <= x && x <= 1) x + 123456789012345678901234567890 }", "16", 3, "", "fixd: source: NumberTooLong at byte 55\n"),
+    ("", "16", 3, "", "fixd: source: NoSuchFunction at byte 0\n"),
+    ("def f(x: Real): Real = { require(0 <= x && x <= 1) x }\ndef g(x: Real): Real = { require(0 <= x && x <= 1) x }", "16", 3, "", "fixd: source: WhichFunction at byte 0\n"),
+    ("def f(x: Real): Real = { require(0 <= x && x <= 1099511627776) x * 0 }", "64", 9, "", "fixd: not found: node 0\n"),
+    ("def f(x: Real): Real = { require(0 <= x && x <= 549755813888) -x }", "64", 0, "accepted\nout1 1/2^20\n", ""),
+    ("def f(x: Real): Real = { require(0 <= x && x <= 1 && x +/- 3) x }", "16", 0, "accepted\nout1 8\n", ""),
+];
+
+// Its bundle is taken by `check`, as it stands.
+#[test]
+fn finds_bundles(rt: HostRuntime) -> Result<(), Fail> {
+    let alloc = rt.alloc();
+    for &(source, width, status, report, line) in &SOURCES {
+        let mut sources = shelf(alloc, source.as_bytes(), 0)?;
+        let mut input = BytesIn::new(b"x\n".to_vec(alloc)?, 1, Vec::new(alloc));
+        let words = ["synth", "--width", width, "--", "-x"];
+        let found = call(alloc, &words, &mut sources, &mut input, (0, 0))?;
+        assert!(rt;
+            found.status.0 == status && found.notes.bytes() == line.as_bytes(),
+            "{source} at {width}"
+        );
+        if status == 0 {
+            let mut bundles = shelf(alloc, found.output.bytes(), 0)?;
+            let checked = call(alloc, &["check", "--", "-x"], &mut bundles, &mut input, (0, 0))?;
+            assert!(rt; checked.is(0, report, ""), "the bundle of {source} at {width}");
+        } else {
+            assert!(rt; found.output.bytes().is_empty(), "{source} at {width}");
+        }
+    }
     Ok(())
 }

@@ -1,0 +1,27 @@
+mod Worked
+pub mod Sizes
+pub mod PowerSizes
+pub mod Exponents
+pub mod Operations
+pub mod Searches
+pub mod Fractions
+pub mod Words
+pub mod Values
+pub mod Inputs
+pub mod Literals
+pub mod Ordered
+pub mod Folded
+pub mod Points
+pub mod NodeFaults
+pub mod Whole
+pub mod Lawful
+pub mod Leasts
+pub mod Demands
+pub mod Tight
+pub mod PowerTests
+pub mod Units
+pub mod Turns
+pub mod NarrowNodes
+pub mod LiteralWords
+pub mod Stateless
+pub mod Planned

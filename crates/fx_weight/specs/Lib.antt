@@ -1,0 +1,9 @@
+pub mod Weights
+pub mod PlainPlan
+pub mod PlainClass
+pub mod Laws
+pub mod RatioOf
+pub mod WeightOf
+pub mod Ordered
+pub mod CodeParts
+pub mod OutsideView

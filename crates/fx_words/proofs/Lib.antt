@@ -1,0 +1,10 @@
+mod Pending
+mod OneWord
+mod AllWords
+mod FoundRows
+mod Options
+mod Missing
+mod Commands
+mod Spelled
+mod Reading
+mod Digits

@@ -1,0 +1,75 @@
+-- The command that the words are.
+use Rattle.std.specs.Prelude.{ℕ, ◌-◌, ◌^◌, Bool, List, [], ◌∷◌, map, codes, string_bytes, String, Option, Some, None, option_map, option_and_then, if◌then◌else◌}
+use Rattle.std.specs.Str.{bytes_eq}
+use Rattle.std.specs.declared.alloc.Global.{Global}
+use Rattle.fx_words.specs.Grammar.{Bytes, entries_in, once, value_named, have_values}
+use Rattle.fx_words.specs.Numbers.{number_or, width_given}
+
+-- what a synthesis is asked for
+pub record Synthesis : Type 0 where
+  pub width : ℕ
+  pub function : Option Bytes
+  pub seed : ℕ
+  pub tries : ℕ
+  pub file : Bytes
+
+-- what is to be done
+pub data Command : Type 0 where
+  Run : (file : Bytes) → Command
+  Check : (file : Bytes) → Command
+  Synth : Synthesis → Command
+
+-- each word as its bytes
+abbrev pub texts : List (String Global) → List Bytes
+texts words = map (λ w. string_bytes w) words
+
+-- the most tries that can be asked for
+abbrev pub tries_limit : ℕ
+tries_limit = 100000
+
+abbrev pub synth_options : List Bytes
+synth_options = codes "width" ∷ codes "function" ∷ codes "seed" ∷ codes "tries" ∷ []
+
+-- a synthesis, where nothing is wrong or missing
+abbrev pub synthesis_of : Option ℕ → Option Bytes → Option ℕ → Option ℕ → Option Bytes → Option Command
+synthesis_of (Some width) function (Some seed) (Some tries) (Some file) =
+    Some (Synth (record { width = width; function = function; seed = seed; tries = tries; file = file }))
+synthesis_of width function seed tries file = None
+
+-- the same from what is given under each name
+abbrev pub synthesis_given : (Bytes → Option Bytes) → Option Command
+synthesis_given given =
+    synthesis_of
+    (width_given (given (codes "width")))
+    (given (codes "function"))
+    (number_or 0 (2 ^ 64 - 1) (given (codes "seed")))
+    (number_or 200 tries_limit (given (codes "tries")))
+    (given (codes "file"))
+
+-- the options of the command of this name
+abbrev pub options_of : Bytes → Option (List Bytes)
+options_of word =
+    if bytes_eq word (codes "run") then Some []
+    else if bytes_eq word (codes "check") then Some []
+    else if bytes_eq word (codes "synth") then Some synth_options
+    else None
+
+-- the command of this name, from what is given under each name of an option and under `file`
+abbrev pub command_given : Bytes → (Bytes → Option Bytes) → Option Command
+command_given word given =
+    if bytes_eq word (codes "run") then option_map Run (given (codes "file"))
+    else if bytes_eq word (codes "check") then option_map Check (given (codes "file"))
+    else if bytes_eq word (codes "synth") then synthesis_given given
+    else None
+
+-- the same, where the value of each of these options is one
+abbrev pub lawful_command : Bytes → List Bytes → (Bytes → Option Bytes) → Option Command
+lawful_command word options given = if have_values options given then command_given word given else None
+
+-- the command of the words, where they are one: its name, and then its options and FILE
+abbrev pub command_of : List Bytes → Option Command
+command_of [] = None
+command_of (word ∷ words) =
+    option_and_then (λ options.
+    option_and_then (λ entries. lawful_command word options (value_named entries)) (once (entries_in options words None)))
+    (options_of word)

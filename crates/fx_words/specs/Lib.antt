@@ -1,0 +1,5 @@
+pub mod Grammar
+pub mod Numbers
+pub mod Command
+pub mod CommandView
+pub mod App

@@ -1,0 +1,93 @@
+//! The command that `clap` found.
+ghost use Rattle.std.specs.Prelude.{◌≡◌, option_map, codes, true};
+ghost use Rattle.std.specs.Option.{option_copied, option_map_or};
+ghost use Rattle.clap.specs.Words.{first_of, found_of, rows_of, subcommand_rows_of};
+ghost use Rattle.fx_words.specs.Command as words;
+ghost use Rattle.fx_words.specs.Command.{lawful_command, synth_options};
+ghost use Rattle.fx_words.specs.CommandView.{command_found, command_view};
+ghost use Rattle.fx_words.specs.Grammar.{is_value, have_values};
+
+use crate::command::{Command, Synthesis};
+use crate::number::{is_value, number_or, width_given};
+use clap::ArgMatches;
+
+/// The most tries that can be asked for.
+const TRIES_LIMIT: u64 = 100_000;
+
+// The text that stands under a name.
+fn text_of<'a>(matches: &ArgMatches<'a>, name: &str) -> Option<&'a str>
+    ensures { option_copied result ≡ first_of name.now (rows_of (found_of matches.now)) }
+{
+    matches.get_str(name)
+}
+
+// Whether an option has a value, if it is given.
+fn has_value(matches: &ArgMatches, name: &str) -> bool
+    ensures { result ≡ option_map_or is_value (first_of name.now (rows_of (found_of matches.now))) true }
+{
+    match text_of(matches, name) {
+        Some(text) => is_value(text),
+        None => true,
+    }
+}
+
+// Whether each option of `synth` has one.
+fn have_values(matches: &ArgMatches) -> bool
+    ensures { result ≡ have_values synth_options (λ name. first_of name (rows_of (found_of matches.now))) }
+{
+    has_value(matches, "width")
+        && has_value(matches, "function")
+        && has_value(matches, "seed")
+        && has_value(matches, "tries")
+}
+
+fn run_in<'a>(matches: &ArgMatches<'a>) -> Option<Command<'a>>
+    ensures { option_map command_view result ≡ option_map words.Run (first_of (codes "file") (rows_of (found_of matches.now))) }
+{
+    match text_of(matches, "file") {
+        Some(file) => Some(Command::Run(file)),
+        None => None,
+    }
+}
+
+fn check_in<'a>(matches: &ArgMatches<'a>) -> Option<Command<'a>>
+    ensures { option_map command_view result ≡ option_map words.Check (first_of (codes "file") (rows_of (found_of matches.now))) }
+{
+    match text_of(matches, "file") {
+        Some(file) => Some(Command::Check(file)),
+        None => None,
+    }
+}
+
+fn synth_in<'a>(matches: &ArgMatches<'a>) -> Option<Command<'a>>
+    ensures { option_map command_view result ≡ lawful_command (codes "synth") synth_options (λ name. first_of name (rows_of (found_of matches.now))) }
+{
+    if !have_values(matches) {
+        return None;
+    }
+    let width = width_given(text_of(matches, "width"))?;
+    let function = text_of(matches, "function");
+    let seed = number_or(text_of(matches, "seed"), 0, u64::MAX)?;
+    let tries = number_or(text_of(matches, "tries"), 200, TRIES_LIMIT)? as u32;
+    let file = text_of(matches, "file")?;
+    Some(Command::Synth(Synthesis {
+        width,
+        function,
+        seed,
+        tries,
+        file,
+    }))
+}
+
+/// The command of what was found.
+pub fn command_in<'a>(matches: &ArgMatches<'a>) -> Option<Command<'a>>
+    ensures { option_map command_view result ≡ command_found (subcommand_rows_of matches.now) }
+{
+    let (name, found) = matches.subcommand()?;
+    match name {
+        "run" => run_in(found),
+        "check" => check_in(found),
+        "synth" => synth_in(found),
+        _ => None,
+    }
+}

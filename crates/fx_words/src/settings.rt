@@ -1,0 +1,86 @@
+//! What `clap` is told of the command line.
+ghost use Rattle.std.specs.Prelude.{◌≡◌, IfOk, false, codes};
+ghost use Rattle.clap.specs.Words.{app_of, rule_of};
+ghost use Rattle.clap.specs.declared.builder.command.Command.TheViews.{out-Command};
+ghost use Rattle.clap.specs.Simple.{with_rule};
+ghost use Rattle.fx_words.specs.App.{file_rule, option_rule, required_option_rule, file_app, synth_app, top_app, fixd_app};
+
+use clap::{Arg, ArgAction, Command as Parser};
+use std::alloc::{AllocError, Global};
+
+// FILE.
+fn file<'a>(alloc: Global) -> Arg<'a>
+    ensures rule { rule_of result ≡ file_rule }
+    ensures own { result.global ≡ false }
+{
+    Arg::new(alloc, "file")
+        .action(ArgAction::Set)
+        .required(true)
+}
+
+// An option that may be left out.
+fn option<'a>(alloc: Global, name: &'a str) -> Arg<'a>
+    ensures rule { rule_of result ≡ option_rule name.entry.now }
+    ensures own { result.global ≡ false }
+{
+    Arg::new(alloc, name).long(name).action(ArgAction::Set)
+}
+
+fn required_option<'a>(alloc: Global, name: &'a str) -> Arg<'a>
+    ensures rule { rule_of result ≡ required_option_rule name.entry.now }
+    ensures own { result.global ≡ false }
+{
+    option(alloc, name).required(true)
+}
+
+// A command that takes FILE alone.
+fn file_command<'a>(alloc: Global, name: &'a str) -> Result<Parser<'a>, AllocError>
+    ensures app { IfOk result (λ c. app_of c ≡ file_app name.entry.now) }
+    ensures own { IfOk result (λ c. (out-Command c).has_globals ≡ false) }
+{
+    Parser::new(alloc, name).arg(file(alloc))
+}
+
+// A command with one argument more.
+fn with<'a>(command: Parser<'a>, arg: Arg<'a>) -> Result<Parser<'a>, AllocError>
+    requires local { (out-Command command).has_globals ≡ false }
+    requires plain { arg.global ≡ false }
+    ensures app { IfOk result (λ c. app_of c ≡ with_rule (app_of command.entry) (rule_of arg.entry)) }
+    ensures own { IfOk result (λ c. (out-Command c).has_globals ≡ false) }
+{
+    command.arg(arg)
+}
+
+fn synth<'a>(alloc: Global) -> Result<Parser<'a>, AllocError>
+    ensures app { IfOk result (λ c. app_of c ≡ synth_app) }
+    ensures own { IfOk result (λ c. (out-Command c).has_globals ≡ false) }
+{
+    let command = Parser::new(alloc, "synth");
+    let command = with(command, required_option(alloc, "width"))?;
+    let command = with(command, option(alloc, "function"))?;
+    let command = with(command, option(alloc, "seed"))?;
+    let command = with(command, option(alloc, "tries"))?;
+    with(command, file(alloc))
+}
+
+// The words without the program's name, which begin with a command's.
+fn top<'a>(alloc: Global) -> Parser<'a>
+    ensures { app_of result ≡ top_app }
+{
+    Parser::new(alloc, "fixd")
+        .no_binary_name(true)
+        .disable_help_flag(true)
+        .disable_help_subcommand(true)
+        .disable_version_flag(true)
+        .subcommand_required(true)
+}
+
+/// The whole command line.
+pub fn fixd<'a>(alloc: Global) -> Result<Parser<'a>, AllocError>
+    ensures { IfOk result (λ c. app_of c ≡ fixd_app) }
+{
+    top(alloc)
+        .subcommand(file_command(alloc, "run")?)?
+        .subcommand(file_command(alloc, "check")?)?
+        .subcommand(synth(alloc)?)
+}
