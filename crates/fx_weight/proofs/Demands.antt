@@ -6,9 +6,8 @@ use Rattle.std.proofs.lemmas.List.{get_or-map}
 use Rattle.fx_rational.specs.Rational.{Rational, negative, AtMost, is_at_most}
 use Rattle.fx_rational.specs.Dyadic.{dyadic_value, negated, is_dyadic_at_most}
 use Rattle.fx_rational.specs.Interval.{Interval}
-use Rattle.fx_rational.proofs.Ring.{by_quotes, quotes}
 use Rattle.fx_rational.proofs.Tests.{at_most_test}
-use Rattle.fx_rational.proofs.Laws.{le_refl, le_of_equal, negative_le}
+use Rattle.fx_rational.proofs.Laws.{le_refl, negative_le}
 use Rattle.fx_model.specs.Tree.{at}
 use Rattle.fx_model.specs.Function.{Function}
 use Rattle.fx_model.specs.LawfulProgram.{widths}
@@ -28,7 +27,7 @@ use Rattle.fx_weight.proofs.PowerSizes.{AreMet, power_more, small_interval, at_m
 use Rattle.fx_weight.proofs.Exponents.{IsWordWidth}
 use Rattle.fx_weight.proofs.Operations.{error_of, operand}
 use Rattle.fx_weight.proofs.Fractions.{over_fits}
-use Rattle.fx_weight.proofs.Values.{power_value, power_value_is, number_value, minus_number_value}
+use Rattle.fx_weight.proofs.Values.{power_value_is, number_value, minus_number_value}
 use Rattle.fx_weight.proofs.Inputs.{narrow_negative}
 use Rattle.fx_weight.proofs.NodeFaults.{faultless, none_met}
 use Rattle.fx_weight.proofs.Whole.{none_append, width, balanced_at, no_plain_fault}

@@ -134,7 +134,7 @@ module _ (n : ℕ) (fn : Function) (some_width : Contains widths n) (plain : IsP
   long = codes_long n fn some_width plain modest ∙ sym (same_length n fn some_width plain modest)
 
   -- the nodes are those before the copies and the copies
-  split_long : length (nodes_of fn) ≡ length (list n fn some_width plain modest).before + length fn.demands
+  pub split_long : length (nodes_of fn) ≡ length (list n fn some_width plain modest).before + length fn.demands
   split_long = let l = list n fn some_width plain modest in ap length l.is ∙ length-append l.before l.copies ∙ ap (λ (k : ℕ). length l.before + k) l.count
 
   counts : HasLawfulCounts (plain_program n fn)

@@ -1,28 +1,31 @@
 -- The walk over demands for the first that is below its output's error.
 use Rattle.std.proofs.Common.{◌≡◌, ℕ, zero, suc, ◌+◌, ◌-◌, ◌^◌, ◌<◌, ◌≤◌, Bool, true, false, if◌then◌else◌, List, [], ◌∷◌, length, drop, take, Option, Some, None, ℤ, pos, negsuc, ◌-ℤ◌, ◌≤ℤ◌, ◌*ℤ◌, refl, sym, ap, subst, ◌∙◌, arith}
-use Rattle.std.specs.Prelude.{All, Contains}
+use Rattle.std.specs.Prelude.{All, Contains, SomeIff, IsTrue, FitsSigned}
+use Rattle.std.specs.Int.{w32}
 use Rattle.std.proofs.lemmas.Int.{ints}
 use Rattle.std.proofs.lemmas.List.{take_more}
 use Rattle.std.proofs.lemmas.List.Elements.{All-push}
 use Rattle.std.proofs.Math.Seq.{drop-cons}
 use Rattle.fx_rational.specs.Rational.{Rational, bottom, lowest, is_at_most}
-use Rattle.fx_rational.specs.Dyadic.{fits_128}
+use Rattle.fx_rational.specs.Dyadic.{Dyadic, dyadic_value, fits_128}
 use Rattle.fx_rational.proofs.Laws.{equal_sym, le_trans, le_of_equal}
 use Rattle.fx_rational.proofs.Lowest.{lowest_is}
 use Rattle.fx_rational.proofs.Tests.{at_most_test}
 use Rattle.fx_model.specs.Tree.{at}
 use Rattle.fx_model.specs.Function.{Function}
 use Rattle.fx_model.specs.LawfulProgram.{widths}
+use Rattle.fx_model.specs.Nodes.{nodes_of}
 use Rattle.fx_inequalities.specs.Accepted.{output_code}
-use Rattle.fx_weight.specs.Weights.{Weight, no_weight, power_dyadic, weights_of, IsModest}
+use Rattle.fx_weight.specs.Weights.{Weight, no_weight, power_dyadic, weights_of, first_immodest, IsModest}
 use Rattle.fx_weight.specs.PlainPlan.{plain_program}
-use Rattle.fx_weight.specs.PlainClass.{Outside, Demand, allows, first_tight, output_power}
+use Rattle.fx_weight.specs.PlainClass.{Outside, Demand, allows, first_tight, output_power, node_or, outside_of}
 use Rattle.fx_weight.specs.Laws.{IsNarrowNumber, IsNarrowDemand, IsPlainFunction, IsBalanced}
 use Rattle.fx_weight.proofs.Sizes.{IsUpTo, within_more, product_up_to, within_fits}
 use Rattle.fx_weight.proofs.PowerSizes.{power_more}
 use Rattle.fx_weight.proofs.Fractions.{lowest_is_narrower, within_pos}
 use Rattle.fx_weight.proofs.PowerTests.{same_bits}
-use Rattle.fx_weight.proofs.Whole.{width, no_states, codes_long}
+use Rattle.fx_weight.proofs.Whole.{width, no_states, same_length, codes_long, weights_balanced}
+use Rattle.fx_weight.proofs.Lawful.{split_long}
 
 -- ---- a power beside a demand
 -- lowest terms change no comparison
@@ -41,6 +44,15 @@ pub power_fits : (v : ℤ) (q : Rational) → v ≤ℤ pos 40 → IsNarrowNumber
 power_fits v q l narrow =
     let b = lowest_is_narrower q in
     within_fits (omega arith) (product_up_to (power_up_to v l) (within_more {m = bottom (lowest q)} {k = 2 ^ 62} (omega (arith, b, narrow)) (within_pos (bottom (lowest q)))))
+
+-- a comparison that fits
+pub below_is : (r : Option Bool) (d : Dyadic) (c q : Rational) (v : ℤ) → SomeIff r (IsTrue (fits_128 (d.m *ℤ pos (bottom c)))) (is_at_most (dyadic_value d) c) → d ≡ power_dyadic v → c ≡ lowest q → v ≤ℤ pos 40 → IsNarrowNumber q →
+    r ≡ Some (is_at_most (dyadic_value (power_dyadic v)) q)
+below_is (Some b) d c q v h p e l n = ap Some (h.1 ∙ (λ i. is_at_most (dyadic_value (p i)) (e i)) ∙ same_beside_lowest (dyadic_value (power_dyadic v)) q)
+below_is None d c q v h p e l n = absurd (h ((λ i. fits_128 ((p i).m *ℤ pos (bottom (e i)))) ∙ power_fits v q l n))
+
+pub not_none : {x : Bool} → None ≡ Some x → ⊥
+not_none e = cc
 
 -- ---- one turn
 module _ (n : ℕ) (fn : Function) (j : ℕ) (lt : j < length fn.demands) where
@@ -63,16 +75,33 @@ none_behind n fn i (suc k) [] l = refl
 none_behind n fn i zero (d ∷ ds) l = absurd (omega (arith, l))
 none_behind n fn i (suc k) (d ∷ ds) l = none_behind n fn i k ds (omega (arith, l))
 
-pub all_taken : (k : ℕ) (ds : List (Option Rational)) → length ds ≤ k → take k ds ≡ ds
-all_taken zero [] l = refl
-all_taken (suc k) [] l = refl
-all_taken zero (d ∷ ds) l = absurd (omega (arith, l))
-all_taken (suc k) (d ∷ ds) l = ap (λ (rest : List (Option Rational)). d ∷ rest) (all_taken k ds (omega (arith, l)))
-
 -- ---- the node of an output
-module _ (n : ℕ) (fn : Function) (some_width : Contains widths n) (plain : IsPlainFunction fn) (modest : IsModest n fn) where
-  pub output_at : (j count : ℕ) → count ≡ length (weights_of n fn) → output_code (plain_program n fn) j ≡ count - length fn.demands + j
-  output_at j count e = let z = no_states n fn some_width plain modest in let c = codes_long n fn some_width plain modest in omega (arith, z, c, e)
+module _ (n : ℕ) (fn : Function) (some_width : Contains widths n) (plain : IsPlainFunction fn) (modest : IsModest n fn) (xs : List Weight) (same : xs ≡ weights_of n fn) (count : ℕ) (as_many : count ≡ length xs) where
+  pub wide : n ≤ 64
+  wide = (width n fn some_width plain modest).most
+
+  pub balanced : All (IsBalanced n) xs
+  balanced = subst (All (IsBalanced n)) (sym same) (weights_balanced n fn some_width plain modest)
+
+  long : length xs ≡ length (nodes_of fn)
+  long = ap length same ∙ sym (same_length n fn some_width plain modest)
+
+  pub few : count ≤ 4000
+  few = let l = as_many ∙ long in let f = plain.lawful.sizes.nodes in omega (arith, l, f)
+
+  pub enough : length fn.demands ≤ count
+  enough = let l = as_many ∙ long in let s = split_long n fn some_width plain modest in omega (arith, l, s)
+
+  pub output_at : (j : ℕ) → (at no_weight xs (count - length fn.demands + j)).v ≡ output_power n fn j
+  output_at j =
+      let z = no_states n fn some_width plain modest in let c = codes_long n fn some_width plain modest in let l = as_many ∙ ap length same in
+      let place : count - length fn.demands + j ≡ output_code (plain_program n fn) j = omega (arith, z, c, l) in
+      (λ i. (at no_weight (same i) (place i)).v)
+
+-- a power of an error is a word of 32 bits
+pub word_fits : (v : ℤ) → negsuc 95 ≤ℤ v → v ≤ℤ pos 40 → FitsSigned w32 v
+word_fits (pos v) l h = record { sfits = omega (arith, ints, h) }
+word_fits (negsuc v) l h = record { sfits = omega (arith, ints, l) }
 
 -- the powers of balanced errors
 pub power_low : (n : ℕ) (x : Weight) → n ≤ 64 → IsBalanced n x → negsuc 95 ≤ℤ x.v
@@ -86,3 +115,7 @@ power_high n x b = go x.w x.v b.few b.error
   where
     go : (w : ℕ) (v : ℤ) → w ≤ 40 → v ≤ℤ pos w → v ≤ℤ pos 40
     go w v f e = omega (arith, ints)
+
+-- ---- what keeps a function outside
+pub outside_by_demand : (n : ℕ) (fn : Function) (o : Option Outside) → IsModest n fn → o ≡ first_tight n fn 0 fn.demands → o ≡ outside_of n fn
+outside_by_demand n fn o modest e = e ∙ sym (ap (λ (m : Option ℕ). node_or m (first_tight n fn 0 fn.demands)) modest)

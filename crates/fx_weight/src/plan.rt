@@ -17,7 +17,7 @@ ghost use Rattle.fx_weight.specs.WeightOf.{weights_in, Blames};
 use crate::fault::WeightFault;
 use crate::narrow::narrow_inputs;
 use crate::part::{code, line};
-use crate::walk::{weigh, weight_at};
+use crate::walk::{input_count, output_count, weigh, weight_at};
 use crate::weight::Weight;
 use fx_cert::{Certificate, NodeLine};
 use fx_expr::{Function, Items};
@@ -60,20 +60,6 @@ fn put_lines(alloc: Global, ws: &[Weight], width: u32) -> Result<Vec<NodeLine>, 
         lines.push(line(weight_at(ws, i as u32, width), width))?;
     }
     Ok(lines)
-}
-
-fn input_count(function: &Function) -> u32
-    ensures { result ≡ length function.now.inputs }
-{
-    function.keeps();
-    function.inputs.len() as u32
-}
-
-fn output_count(function: &Function) -> u32
-    ensures { result ≡ length function.now.demands }
-{
-    function.keeps();
-    function.demands.len() as u32
 }
 
 /// The certificate of so many inputs and these lines, without states, steps and rows.

@@ -20,6 +20,22 @@ use fx_expr::{Function, Input};
 use fx_flat::Node;
 use std::alloc::Global;
 
+/// How many inputs a function has.
+pub fn input_count(function: &Function) -> u32
+    ensures { result ≡ length function.now.inputs }
+{
+    function.keeps();
+    function.inputs.len() as u32
+}
+
+/// How many outputs.
+pub fn output_count(function: &Function) -> u32
+    ensures { result ≡ length function.now.demands }
+{
+    function.keeps();
+    function.demands.len() as u32
+}
+
 /// Input `k` of the function.
 pub fn input_at(function: &Function, k: u32) -> &Input
     requires { k < length function.now.inputs }

@@ -33,12 +33,12 @@ new-requires c =
     c.narrow_inputs.ensures (subst (λ xs. All IsNarrowNode (nodes_in xs)) (c.as_slice.ensures ∙ sym c.as_slice-2.ensures) c.in_ok-ws.ensures.narrow) in
     spelled c.args.width c.args.function.now c.requires c.keeps.ensures c.in_ok-ws.ensures.modest c.as_slice-2.result.now c.deref.result.now
     (ap nodes_in c.as_slice-2.ensures ∙ c.in_ok-nodes.ensures.list) (ap weights_in c.deref.ensures.value ∙ c.in_ok-ws.ensures.weights)
-    c.in_ok-name.name c.input_count-inputs.result c.output_count-outputs.result c.in_ok-codes.codes.items c.in_ok-name.ensures c.input_count-inputs.ensures c.output_count-outputs.ensures c.in_ok-codes.ensures.codes plan
+    c.in_ok-name.name c.input_count-inputs.result c.output_count-outputs.result c.in_ok-codes.codes.items (c.in_ok-name.ensures ∙ ap (λ f. f.name) c.function.view_is) c.input_count-inputs.ensures c.output_count-outputs.ensures c.in_ok-codes.ensures.codes plan
 
 pub returns-clause-program : goal.returns-clause-program
 returns-clause-program c = c.in_ok-program.ensures ∙ program_is c.args.width c.args.function.now c.requires c.keeps.ensures c.in_ok-ws.ensures.modest c.as_slice-2.result.now c.deref.result.now
     (ap nodes_in c.as_slice-2.ensures ∙ c.in_ok-nodes.ensures.list) (ap weights_in c.deref.ensures.value ∙ c.in_ok-ws.ensures.weights)
-    c.in_ok-name.name c.input_count-inputs.result c.output_count-outputs.result c.in_ok-codes.codes.items c.in_ok-name.ensures c.input_count-inputs.ensures c.output_count-outputs.ensures c.in_ok-codes.ensures.codes
+    c.in_ok-name.name c.input_count-inputs.result c.output_count-outputs.result c.in_ok-codes.codes.items (c.in_ok-name.ensures ∙ ap (λ f. f.name) c.function.view_is) c.input_count-inputs.ensures c.output_count-outputs.ensures c.in_ok-codes.ensures.codes
 
 pub returns-clause-certificate : goal.returns-clause-certificate
 returns-clause-certificate c = c.certificate_with.ensures ∙ certificate_is c.args.width c.args.function.now c.requires c.keeps.ensures c.in_ok-ws.ensures.modest c.as_slice-2.result.now c.deref-2.result.now

@@ -1,7 +1,9 @@
 use Rattle.std.proofs.Common.{◌≡◌, ◌∙◌, ◌+◌, ◌++◌, true, false, ◌∷◌, [], List, length, ℕ, ap, sym, subst}
-use Rattle.std.proofs.lemmas.List.{length-map, map_push}
+use Rattle.std.specs.Prelude.{All}
+use Rattle.std.proofs.lemmas.List.{length-map, map_push, take_all}
 use Rattle.fx_model.specs.Nodes.{nodes_of}
-use Rattle.fx_flat.specs.NodeOf.{node_of}
+use Rattle.fx_flat.specs.NodeOf.{node_of, nodes_in}
+use Rattle.fx_weight.specs.Laws.{IsNarrowNode}
 use Rattle.fx_weight.specs.Weights as model
 use Rattle.fx_weight.specs.Weights.{weights_of}
 use Rattle.fx_weight.specs.Ordered.{IsOrdered}
@@ -42,3 +44,8 @@ loop-i-preserved c =
 
 pub returns-clause-few : goal.returns-clause-few
 returns-clause-few c = few_at c.args.width weight_of c.loop-i.ws.items c.loop-i.invariant.walked.balanced
+
+pub returns-clause-narrow : goal.returns-clause-narrow
+returns-clause-narrow c =
+    let past = c.loop-i-test.false in
+    subst (All IsNarrowNode) (take_all c.loop-i.i (nodes_in c.args.nodes.now) (rw (length-map c.args.nodes.now node_of) past)) c.loop-i.invariant.narrow
