@@ -1,28 +1,16 @@
 -- A command takes the words behind its name exactly where they are entries.
-use Rattle.std.proofs.Common.{zero, ◌≡◌, ℕ, ◌+◌, Bool, true, false, not, ◌&&◌, ◌||◌, List, [], ◌∷◌, ◌++◌, map, length, drop, suc, Option, Some, None, option_map, codes, refl, ap, ap₂, ◌∙◌, sym, arith, append_assoc, rules}
-use Rattle.std.specs.Prelude.{◌==◌, if◌then◌else◌, slice_get, is_some, fold, find}
-use Rattle.std.specs.List.{list_any, list_all}
+use Rattle.std.proofs.Common.{◌≡◌, ℕ, Bool, true, false, not, ◌&&◌, ◌||◌, List, [], ◌∷◌, ◌++◌, map, Option, Some, None, refl, ap, ap₂, ◌∙◌, sym, append_assoc}
+use Rattle.std.specs.Prelude.{if◌then◌else◌}
 use Rattle.std.specs.Option.{option_map_or}
-use Rattle.std.specs.Str.{bytes_eq, chars}
-use Rattle.std.proofs.lemmas.Grind.{common_steps}
+use Rattle.std.specs.Str.{bytes_eq}
 use Rattle.std.proofs.lemmas.List.{append-nil}
-use Rattle.std.specs.Prelude.{option_and_then, ◌≢◌, encode_utf8, nat_lt}
-use Rattle.std.proofs.lemmas.Slice.Eq.{bytes_eq-Decides}
-use Rattle.clap.specs.Lexer.{long_of, long_of_rest, short_of, short_of_rest, strip_byte}
-use Rattle.clap.specs.Values.{reading_of}
-use Rattle.clap.specs.Walk.{plain_word, after_flag, long_met, long_word, short_or_plain, option_word, next, Step, after_step, subcommand_met, word_met, subcommand_or_other, long_or_other, trailing, is_pending, pushed, to_positional, value, Held, Row, Rule, Waiting, idle, option, Walk, arg_by_id, arg_by_index, arg_by_long, arg_by_short, finished, has_row, more_values, used_by_id, default_rows, reading_by, is_empty, settled, used, walked, with_default, with_values, without}
-use Rattle.clap.specs.Simple.{Shape, new_rule, new_shape}
-use Rattle.clap.specs.Takes.{is_given}
-use Rattle.clap.specs.Facts.{explicit_source}
-use Rattle.clap.specs.Kinds.{Kinds, or_else}
-use Rattle.clap.specs.Faults.{other_fault, flag_word_fault, bundle_fault, bundle_step_fault, short_fault, long_fault, positional_fault, stray_fault, check_fault, given_default_fault, defaults_fault, flags_fault, react_fault, settle_fault, turn_fault, use_fault, walk_fault, word_fault, step_fault}
-use Rattle.clap.specs.declared.builder.action.ArgAction.TheVariants.{Set}
-use Rattle.clap.specs.declared.builder.value_parser.ValueParser.TheVariants as vp
-use Rattle.clap.specs.declared.error.kind.ErrorKind.TheVariants as kind
-use Rattle.clap.specs.declared.parser.matches.ValueSource.TheVariants.{CommandLine}
+use Rattle.clap.specs.Lexer.{long_of}
+use Rattle.clap.specs.Walk.{plain_word, short_or_plain, word_met, long_or_other, value, Rule, idle, walked}
+use Rattle.clap.specs.Faults.{flag_word_fault, bundle_fault, turn_fault, word_fault}
 use Rattle.fx_words.specs.Grammar.{Bytes, Entry, file_entry, has_entry, is_among, is_dashed, ends_options, stand_once, entries_in, with_entry, after_word, after_option, option_value, option_parts}
-use Rattle.fx_words.proofs.Pending.{HasNoDefaults, IsKnown, IsKnownNow, Now, and-assoc, and-false, and-true, both-true, can_settle, check-test, empty-list, end-test, file_id, given-has, guarded, has_required, held_rows, with_value, is_nil, entry_now, leaf_shape, negated, new-row, nil-join, nil-or_else, no-default-fault, pending_now, settled_now, rest-test, row_for, rows-has, same-rows, settle-gives, settle-test, walk_at, faults_from, tail-more, text_rule, use-once, waiting_now, without_value}
-use Rattle.fx_words.proofs.OneWord.{AllSpelled, IsLeaf, IsOption, IsSpelled, after-file, apart-turn, apart-walked, ends-turn, ends-walked, fault, fault-is, file-turn, file-walked, joined-turn, joined-walked, met, met-is, never-both, nil-first, no-nil, no-subcommand, or-false, or-true, plain-met, parts-same, positional-test, same-bytes, short-met, short-turn, stray-test, stray-turn, unknown-turn, value-met, value-turn, value-walked}
+use Rattle.fx_words.proofs.Booleans.{and-assoc, and-false, and-true, guarded, not-true, or-false, or-true}
+use Rattle.fx_words.proofs.Pending.{IsKnown, IsKnownNow, Now, can_settle, end-test, entry_now, faults_from, file_id, has_required, held_rows, is_nil, leaf_shape, settled_now, tail-more, waiting_now, walk_at, with_value, without_value}
+use Rattle.fx_words.proofs.OneWord.{AllHaveFirstFlag, HasFirstFlag, IsLeaf, IsOption, apart-turn, apart-walked, ends-turn, ends-walked, fault, file-turn, file-walked, joined-turn, joined-walked, met, parts-same, plain-met, short-turn, stray-turn, unknown-turn, value-turn, value-walked}
 
 -- ---- all the words
 
@@ -74,18 +62,18 @@ has-append id (p ∷ xs) ys = step (bytes_eq p.0 id) _ _ _ (has-append id xs ys)
   step true c d e h = refl
   step false c d e h = h
 
-abbrev pub place_of : Bool → ℕ
-place_of true = 2
-place_of false = 1
+abbrev pub position_of : Bool → ℕ
+position_of true = 2
+position_of false = 1
 
 module _ (name : Bytes) (names : List Bytes) (R : List Rule) (L : IsLeaf names R) where
   abbrev Claim : List Bytes → Type 0
   Claim words = (seen : List Entry) (now : Now) (b later : Bool) → IsKnownNow R now → b ≡ has_entry file_id (seen ++ entry_now now)
-      → is_nil (faults_from name R (walk_at seen now (place_of b) later) words) ≡ passes R seen now (entries_left names words now later)
+      → is_nil (faults_from name R (walk_at seen now (position_of b) later) words) ≡ passes R seen now (entries_left names words now later)
 
   pub claim-end : Claim []
   unfolding entries_in stand_once
-  claim-end seen now b later known b_is = end-test name R seen now (place_of b) later L.no_defaults known ∙ by_now now later where
+  claim-end seen now b later known b_is = end-test name R seen now (position_of b) later L.no_defaults known ∙ by_now now later where
     by_now : (n : Now) (t : Bool) → (can_settle seen n && has_required R (seen ++ entry_now n)) ≡ passes R seen n (entries_left names [] n t)
     by_now settled_now true = refl
     by_now settled_now false = refl
@@ -101,7 +89,7 @@ module _ (name : Bytes) (names : List Bytes) (R : List Rule) (L : IsLeaf names R
   pub file-claim : (word : Bytes) (rest : List Bytes) (ih : Claim rest) (seen : List Entry) (now : Now) (b later : Bool) (known : IsKnownNow R now) → b ≡ has_entry file_id (seen ++ entry_now now)
       → ((position : ℕ) → word_met R [] later (waiting_now now) position word (held_rows seen now) ≡ (held_rows seen now, value))
       → word_fault (leaf_shape name R) [] later (waiting_now now) word (held_rows seen now) ≡ []
-      → is_nil (faults_from name R (walk_at seen now (place_of b) later) (word ∷ rest))
+      → is_nil (faults_from name R (walk_at seen now (position_of b) later) (word ∷ rest))
       ≡ (can_settle seen now && passes R (seen ++ entry_now now) settled_now (with_entry (file_entry word) (entries_left names rest (with_value file_id word) later)))
   file-claim word rest ih seen now true later known b_is plain no_flag =
       tail-more name R (walk_at seen now 2 later) word rest
@@ -118,7 +106,7 @@ module _ (name : Bytes) (names : List Bytes) (R : List Rule) (L : IsLeaf names R
 
   -- after `--`
   pub later-word : (word : Bytes) (rest : List Bytes) → Claim rest → (seen : List Entry) (now : Now) (b : Bool) → IsKnownNow R now → b ≡ has_entry file_id (seen ++ entry_now now)
-      → is_nil (faults_from name R (walk_at seen now (place_of b) true) (word ∷ rest)) ≡ passes R seen now (entries_left names (word ∷ rest) now true)
+      → is_nil (faults_from name R (walk_at seen now (position_of b) true) (word ∷ rest)) ≡ passes R seen now (entries_left names (word ∷ rest) now true)
   later-word word rest ih seen settled_now b known b_is =
       file-claim word rest ih seen settled_now b true known b_is (λ position. refl) refl ∙ sym (passes-settle R seen settled_now (Some (map file_entry (word ∷ rest))) refl)
   later-word word rest ih seen (with_value id v) b known b_is =
@@ -127,16 +115,16 @@ module _ (name : Bytes) (names : List Bytes) (R : List Rule) (L : IsLeaf names R
 
   -- `--` itself
   pub ends-claim : (word : Bytes) (rest : List Bytes) → Claim rest → (seen : List Entry) (now : Now) (b : Bool) → IsKnownNow R now → b ≡ has_entry file_id (seen ++ entry_now now)
-      → ends_options word ≡ true → is_nil (faults_from name R (walk_at seen now (place_of b) false) (word ∷ rest)) ≡ passes R seen now (entries_left names rest now true)
+      → ends_options word ≡ true → is_nil (faults_from name R (walk_at seen now (position_of b) false) (word ∷ rest)) ≡ passes R seen now (entries_left names rest now true)
   ends-claim word rest ih seen now b known b_is e =
-      tail-more name R (walk_at seen now (place_of b) false) word rest
-      ∙ ap₂ (λ (t : Bool) w. t && is_nil (faults_from name R w rest)) (ends-turn name names R L seen now known (place_of b) word e) (ends-walked name names R L seen now known (place_of b) word e)
+      tail-more name R (walk_at seen now (position_of b) false) word rest
+      ∙ ap₂ (λ (t : Bool) w. t && is_nil (faults_from name R w rest)) (ends-turn name names R L seen now known (position_of b) word e) (ends-walked name names R L seen now known (position_of b) word e)
       ∙ ih seen now b true known b_is
 
   -- a turn that fails
-  pub dead : (word : Bytes) (rest : List Bytes) (seen : List Entry) (now : Now) (b : Bool) → is_nil (turn_fault (leaf_shape name R) [] (walk_at seen now (place_of b) false) word) ≡ false
-      → is_nil (faults_from name R (walk_at seen now (place_of b) false) (word ∷ rest)) ≡ false
-  dead word rest seen now b e = tail-more name R (walk_at seen now (place_of b) false) word rest ∙ ap (λ t. t && is_nil (faults_from name R (walked R [] (walk_at seen now (place_of b) false) word) rest)) e
+  pub dead : (word : Bytes) (rest : List Bytes) (seen : List Entry) (now : Now) (b : Bool) → is_nil (turn_fault (leaf_shape name R) [] (walk_at seen now (position_of b) false) word) ≡ false
+      → is_nil (faults_from name R (walk_at seen now (position_of b) false) (word ∷ rest)) ≡ false
+  dead word rest seen now b e = tail-more name R (walk_at seen now (position_of b) false) word rest ∙ ap (λ t. t && is_nil (faults_from name R (walked R [] (walk_at seen now (position_of b) false) word) rest)) e
 
   pub still : (b : Bool) (id v : Bytes) (xs : List Entry) → bytes_eq id file_id ≡ false → b ≡ has_entry file_id xs → b ≡ has_entry file_id (xs ++ (id, v) ∷ [])
   still b id v xs apart e = e ∙ sym (has-append file_id xs ((id, v) ∷ []) ∙ ap (λ t. has_entry file_id xs || (t || false)) apart ∙ or-false (has_entry file_id xs))
@@ -144,14 +132,14 @@ module _ (name : Bytes) (names : List Bytes) (R : List Rule) (L : IsLeaf names R
   -- `--id=v`, where no option waits
   pub joined-claim : (word : Bytes) (rest : List Bytes) → Claim rest → (seen : List Entry) (now : Now) (b : Bool) → IsKnownNow R now → b ≡ has_entry file_id (seen ++ entry_now now) → is_waiting now ≡ false
       → ends_options word ≡ false → (id v : Bytes) → long_of word ≡ Some (id, Some v) → IsOption R id
-      → is_nil (faults_from name R (walk_at seen now (place_of b) false) (word ∷ rest)) ≡ passes R seen now (with_entry (id, v) (entries_in names rest None))
+      → is_nil (faults_from name R (walk_at seen now (position_of b) false) (word ∷ rest)) ≡ passes R seen now (with_entry (id, v) (entries_in names rest None))
   joined-claim word rest ih seen now b known b_is calm goes_on id v is_long O =
       let S = seen ++ entry_now now in
-      tail-more name R (walk_at seen now (place_of b) false) word rest
-      ∙ ap (λ t. t && is_nil (faults_from name R (walked R [] (walk_at seen now (place_of b) false) word) rest)) (joined-turn name names R L seen now known (place_of b) word goes_on id v is_long O)
+      tail-more name R (walk_at seen now (position_of b) false) word rest
+      ∙ ap (λ t. t && is_nil (faults_from name R (walked R [] (walk_at seen now (position_of b) false) word) rest)) (joined-turn name names R L seen now known (position_of b) word goes_on id v is_long O)
       ∙ and-assoc (can_settle seen now) (not (has_entry id S)) _
       ∙ guarded (can_settle seen now) _ _ (λ t. guarded (not (has_entry id S)) _ _ (λ f.
-      ap (λ w. is_nil (faults_from name R w rest)) (joined-walked name names R L seen now known (place_of b) word goes_on id v is_long O t (negated (has_entry id S) f))
+      ap (λ w. is_nil (faults_from name R w rest)) (joined-walked name names R L seen now known (position_of b) word goes_on id v is_long O t (not-true (has_entry id S) f))
       ∙ ih (S ++ (id, v) ∷ []) settled_now b false tt (still b id v S O.apart b_is ∙ ap (has_entry file_id) (sym (append-nil (S ++ (id, v) ∷ []))))))
       ∙ ap (λ p. can_settle seen now && p) (sym (sym (passes-entry R S (id, v) (entries_in names rest None)) ∙ passes-settle R S (with_value id v) (entries_in names rest None) refl))
       ∙ sym (passes-settle R seen now (with_entry (id, v) (entries_in names rest None)) calm)
@@ -159,64 +147,64 @@ module _ (name : Bytes) (names : List Bytes) (R : List Rule) (L : IsLeaf names R
   -- `--id`, where no option waits
   pub apart-claim : (word : Bytes) (rest : List Bytes) → Claim rest → (seen : List Entry) (now : Now) (b : Bool) → IsKnownNow R now → b ≡ has_entry file_id (seen ++ entry_now now) → is_waiting now ≡ false
       → ends_options word ≡ false → (id : Bytes) → long_of word ≡ Some (id, None) → IsOption R id
-      → is_nil (faults_from name R (walk_at seen now (place_of b) false) (word ∷ rest)) ≡ passes R seen now (entries_in names rest (Some id))
+      → is_nil (faults_from name R (walk_at seen now (position_of b) false) (word ∷ rest)) ≡ passes R seen now (entries_in names rest (Some id))
   apart-claim word rest ih seen now b known b_is calm goes_on id is_long O =
       let S = seen ++ entry_now now in
       let O_known : IsKnown R id = record { long = Some id; index = None; required = O.required; by_id = O.by_id } in
-      tail-more name R (walk_at seen now (place_of b) false) word rest
-      ∙ ap (λ t. t && is_nil (faults_from name R (walked R [] (walk_at seen now (place_of b) false) word) rest)) (apart-turn name names R L seen now known (place_of b) word goes_on id is_long O)
+      tail-more name R (walk_at seen now (position_of b) false) word rest
+      ∙ ap (λ t. t && is_nil (faults_from name R (walked R [] (walk_at seen now (position_of b) false) word) rest)) (apart-turn name names R L seen now known (position_of b) word goes_on id is_long O)
       ∙ guarded (can_settle seen now) _ _ (λ t.
-      ap (λ w. is_nil (faults_from name R w rest)) (apart-walked name names R L seen now known (place_of b) word goes_on id is_long O t)
+      ap (λ w. is_nil (faults_from name R w rest)) (apart-walked name names R L seen now known (position_of b) word goes_on id is_long O t)
       ∙ ih S (without_value id) b false (O_known, O.apart) (b_is ∙ ap (has_entry file_id) (sym (append-nil S)))
       ∙ passes-waiting R S id (entries_in names rest (Some id)))
       ∙ sym (passes-settle R seen now (entries_in names rest (Some id)) calm)
 
   -- the value of an option that waits
   pub value-claim : (word : Bytes) (rest : List Bytes) → Claim rest → (seen : List Entry) (id : Bytes) (b : Bool) → IsKnownNow R (without_value id) → b ≡ has_entry file_id (seen ++ entry_now (without_value id))
-      → is_dashed word ≡ false → is_nil (faults_from name R (walk_at seen (without_value id) (place_of b) false) (word ∷ rest)) ≡ passes R seen (without_value id) (with_entry (id, word) (entries_in names rest None))
+      → is_dashed word ≡ false → is_nil (faults_from name R (walk_at seen (without_value id) (position_of b) false) (word ∷ rest)) ≡ passes R seen (without_value id) (with_entry (id, word) (entries_in names rest None))
   value-claim word rest ih seen id b known b_is plain =
-      tail-more name R (walk_at seen (without_value id) (place_of b) false) word rest
-      ∙ ap₂ (λ (t : Bool) w. t && is_nil (faults_from name R w rest)) (value-turn name names R L seen id known (place_of b) word plain) (value-walked name names R L seen id known (place_of b) word plain)
+      tail-more name R (walk_at seen (without_value id) (position_of b) false) word rest
+      ∙ ap₂ (λ (t : Bool) w. t && is_nil (faults_from name R w rest)) (value-turn name names R L seen id known (position_of b) word plain) (value-walked name names R L seen id known (position_of b) word plain)
       ∙ ih seen (with_value id word) b false known.0 (still b id word seen known.1 (b_is ∙ ap (has_entry file_id) (append-nil seen)))
       ∙ passes-entry R seen (id, word) (entries_in names rest None)
       ∙ sym (passes-waiting R seen id (with_entry (id, word) (entries_in names rest None)))
 
   -- a flag, where no option waits
-  pub flag-claim : (word : Bytes) (rest : List Bytes) → IsSpelled word → Claim rest → (seen : List Entry) (now : Now) (b : Bool) → IsKnownNow R now → b ≡ has_entry file_id (seen ++ entry_now now) → is_waiting now ≡ false
+  pub flag-claim : (word : Bytes) (rest : List Bytes) → HasFirstFlag word → Claim rest → (seen : List Entry) (now : Now) (b : Bool) → IsKnownNow R now → b ≡ has_entry file_id (seen ++ entry_now now) → is_waiting now ≡ false
       → ends_options word ≡ false → is_dashed word ≡ true
-      → is_nil (faults_from name R (walk_at seen now (place_of b) false) (word ∷ rest)) ≡ passes R seen now (after_option names (option_parts word) (entries_in names rest))
-  flag-claim word rest spelled ih seen now b known b_is calm goes_on dashed = by_long (long_of word) refl ∙ ap (λ l. passes R seen now (after_option names l (entries_in names rest))) (parts-same word) where
-    by_long : (l : Option (Bytes × Option Bytes)) → long_of word ≡ l → is_nil (faults_from name R (walk_at seen now (place_of b) false) (word ∷ rest)) ≡ passes R seen now (after_option names l (entries_in names rest))
-    by_long None e = dead word rest seen now b (short-turn name names R L seen now known (place_of b) word goes_on dashed e spelled)
+      → is_nil (faults_from name R (walk_at seen now (position_of b) false) (word ∷ rest)) ≡ passes R seen now (after_option names (option_parts word) (entries_in names rest))
+  flag-claim word rest flagged ih seen now b known b_is calm goes_on dashed = by_long (long_of word) refl ∙ ap (λ l. passes R seen now (after_option names l (entries_in names rest))) (parts-same word) where
+    by_long : (l : Option (Bytes × Option Bytes)) → long_of word ≡ l → is_nil (faults_from name R (walk_at seen now (position_of b) false) (word ∷ rest)) ≡ passes R seen now (after_option names l (entries_in names rest))
+    by_long None e = dead word rest seen now b (short-turn name names R L seen now known (position_of b) word goes_on dashed e flagged)
     by_long (Some (id, value_named)) e = by_name (is_among id names) refl value_named e where
       by_name : (t : Bool) → is_among id names ≡ t → (o : Option Bytes) → long_of word ≡ Some (id, o)
-          → is_nil (faults_from name R (walk_at seen now (place_of b) false) (word ∷ rest)) ≡ passes R seen now (if t then option_value id o (entries_in names rest) else None)
-      by_name false g o e = dead word rest seen now b (unknown-turn name names R L seen now known (place_of b) word goes_on (id, o) e g)
+          → is_nil (faults_from name R (walk_at seen now (position_of b) false) (word ∷ rest)) ≡ passes R seen now (if t then option_value id o (entries_in names rest) else None)
+      by_name false g o e = dead word rest seen now b (unknown-turn name names R L seen now known (position_of b) word goes_on (id, o) e g)
       by_name true g (Some v) e = joined-claim word rest ih seen now b known b_is calm goes_on id v e (L.option_there id g)
       by_name true g None e = apart-claim word rest ih seen now b known b_is calm goes_on id e (L.option_there id g)
 
   -- a flag, where an option waits
-  pub flag-dead : (word : Bytes) (rest : List Bytes) → IsSpelled word → (seen : List Entry) (wanted : Bytes) (b : Bool) → IsKnownNow R (without_value wanted)
-      → ends_options word ≡ false → is_dashed word ≡ true → is_nil (faults_from name R (walk_at seen (without_value wanted) (place_of b) false) (word ∷ rest)) ≡ false
-  flag-dead word rest spelled seen wanted b known goes_on dashed = by_long (long_of word) refl where
-    by_long : (l : Option (Bytes × Option Bytes)) → long_of word ≡ l → is_nil (faults_from name R (walk_at seen (without_value wanted) (place_of b) false) (word ∷ rest)) ≡ false
-    by_long None e = dead word rest seen (without_value wanted) b (short-turn name names R L seen (without_value wanted) known (place_of b) word goes_on dashed e spelled)
+  pub flag-dead : (word : Bytes) (rest : List Bytes) → HasFirstFlag word → (seen : List Entry) (wanted : Bytes) (b : Bool) → IsKnownNow R (without_value wanted)
+      → ends_options word ≡ false → is_dashed word ≡ true → is_nil (faults_from name R (walk_at seen (without_value wanted) (position_of b) false) (word ∷ rest)) ≡ false
+  flag-dead word rest flagged seen wanted b known goes_on dashed = by_long (long_of word) refl where
+    by_long : (l : Option (Bytes × Option Bytes)) → long_of word ≡ l → is_nil (faults_from name R (walk_at seen (without_value wanted) (position_of b) false) (word ∷ rest)) ≡ false
+    by_long None e = dead word rest seen (without_value wanted) b (short-turn name names R L seen (without_value wanted) known (position_of b) word goes_on dashed e flagged)
     by_long (Some (id, value_named)) e = by_name (is_among id names) refl value_named e where
-      by_name : (t : Bool) → is_among id names ≡ t → (o : Option Bytes) → long_of word ≡ Some (id, o) → is_nil (faults_from name R (walk_at seen (without_value wanted) (place_of b) false) (word ∷ rest)) ≡ false
-      by_name false g o e = dead word rest seen (without_value wanted) b (unknown-turn name names R L seen (without_value wanted) known (place_of b) word goes_on (id, o) e g)
-      by_name true g (Some v) e = dead word rest seen (without_value wanted) b (joined-turn name names R L seen (without_value wanted) known (place_of b) word goes_on id v e (L.option_there id g))
-      by_name true g None e = dead word rest seen (without_value wanted) b (apart-turn name names R L seen (without_value wanted) known (place_of b) word goes_on id e (L.option_there id g))
+      by_name : (t : Bool) → is_among id names ≡ t → (o : Option Bytes) → long_of word ≡ Some (id, o) → is_nil (faults_from name R (walk_at seen (without_value wanted) (position_of b) false) (word ∷ rest)) ≡ false
+      by_name false g o e = dead word rest seen (without_value wanted) b (unknown-turn name names R L seen (without_value wanted) known (position_of b) word goes_on (id, o) e g)
+      by_name true g (Some v) e = dead word rest seen (without_value wanted) b (joined-turn name names R L seen (without_value wanted) known (position_of b) word goes_on id v e (L.option_there id g))
+      by_name true g None e = dead word rest seen (without_value wanted) b (apart-turn name names R L seen (without_value wanted) known (position_of b) word goes_on id e (L.option_there id g))
 
   -- a word, where no option waits
-  pub calm-word : (word : Bytes) (rest : List Bytes) → IsSpelled word → Claim rest → (seen : List Entry) (now : Now) (b : Bool) → IsKnownNow R now → b ≡ has_entry file_id (seen ++ entry_now now) → is_waiting now ≡ false
+  pub calm-word : (word : Bytes) (rest : List Bytes) → HasFirstFlag word → Claim rest → (seen : List Entry) (now : Now) (b : Bool) → IsKnownNow R now → b ≡ has_entry file_id (seen ++ entry_now now) → is_waiting now ≡ false
       → waiting_now now ≡ idle → entries_left names rest now true ≡ Some (map file_entry rest)
-      → is_nil (faults_from name R (walk_at seen now (place_of b) false) (word ∷ rest)) ≡ passes R seen now (after_word names word rest (entries_in names rest) None)
-  calm-word word rest spelled ih seen now b known b_is calm no_wait all_files = by_ends (ends_options word) refl (is_dashed word) refl where
+      → is_nil (faults_from name R (walk_at seen now (position_of b) false) (word ∷ rest)) ≡ passes R seen now (after_word names word rest (entries_in names rest) None)
+  calm-word word rest flagged ih seen now b known b_is calm no_wait all_files = by_ends (ends_options word) refl (is_dashed word) refl where
     by_ends : (t : Bool) → ends_options word ≡ t → (d : Bool) → is_dashed word ≡ d
-        → is_nil (faults_from name R (walk_at seen now (place_of b) false) (word ∷ rest))
+        → is_nil (faults_from name R (walk_at seen now (position_of b) false) (word ∷ rest))
         ≡ passes R seen now (if t then Some (map file_entry rest) else if d then after_option names (option_parts word) (entries_in names rest) else with_entry (file_entry word) (entries_in names rest None))
     by_ends true e d f = ends-claim word rest ih seen now b known b_is e ∙ ap (passes R seen now) all_files
-    by_ends false e true f = flag-claim word rest spelled ih seen now b known b_is calm e f
+    by_ends false e true f = flag-claim word rest flagged ih seen now b known b_is calm e f
     by_ends false e false f =
         file-claim word rest ih seen now b false known b_is
         (λ position. met name names R L seen now known position word e
@@ -229,28 +217,27 @@ module _ (name : Bytes) (names : List Bytes) (R : List Rule) (L : IsLeaf names R
         ∙ sym (passes-settle R seen now (with_entry (file_entry word) (entries_in names rest None)) calm)
 
   -- a word, where an option waits
-  pub waiting-word : (word : Bytes) (rest : List Bytes) → IsSpelled word → Claim rest → (seen : List Entry) (id : Bytes) (b : Bool) → IsKnownNow R (without_value id) → b ≡ has_entry file_id (seen ++ entry_now (without_value id))
-      → is_nil (faults_from name R (walk_at seen (without_value id) (place_of b) false) (word ∷ rest)) ≡ passes R seen (without_value id) (after_word names word rest (entries_in names rest) (Some id))
-  waiting-word word rest spelled ih seen id b known b_is = by_dash (is_dashed word) refl (ends_options word) refl where
+  pub waiting-word : (word : Bytes) (rest : List Bytes) → HasFirstFlag word → Claim rest → (seen : List Entry) (id : Bytes) (b : Bool) → IsKnownNow R (without_value id) → b ≡ has_entry file_id (seen ++ entry_now (without_value id))
+      → is_nil (faults_from name R (walk_at seen (without_value id) (position_of b) false) (word ∷ rest)) ≡ passes R seen (without_value id) (after_word names word rest (entries_in names rest) (Some id))
+  waiting-word word rest flagged ih seen id b known b_is = by_dash (is_dashed word) refl (ends_options word) refl where
     by_dash : (d : Bool) → is_dashed word ≡ d → (t : Bool) → ends_options word ≡ t
-        → is_nil (faults_from name R (walk_at seen (without_value id) (place_of b) false) (word ∷ rest)) ≡ passes R seen (without_value id) (if d then None else with_entry (id, word) (entries_in names rest None))
+        → is_nil (faults_from name R (walk_at seen (without_value id) (position_of b) false) (word ∷ rest)) ≡ passes R seen (without_value id) (if d then None else with_entry (id, word) (entries_in names rest None))
     by_dash false f t e = value-claim word rest ih seen id b known b_is f
     by_dash true f true e = ends-claim word rest ih seen (without_value id) b known b_is e
-    by_dash true f false e = flag-dead word rest spelled seen id b known e f
+    by_dash true f false e = flag-dead word rest flagged seen id b known e f
 
-  pub claim-more : (word : Bytes) (rest : List Bytes) → IsSpelled word → Claim rest → Claim (word ∷ rest)
+  pub claim-more : (word : Bytes) (rest : List Bytes) → HasFirstFlag word → Claim rest → Claim (word ∷ rest)
   unfolding entries_in
-  claim-more word rest spelled ih seen now b true known b_is = later-word word rest ih seen now b known b_is
-  claim-more word rest spelled ih seen settled_now b false known b_is = calm-word word rest spelled ih seen settled_now b known b_is refl refl refl
-  claim-more word rest spelled ih seen (with_value id v) b false known b_is = calm-word word rest spelled ih seen (with_value id v) b known b_is refl refl refl
-  claim-more word rest spelled ih seen (without_value id) b false known b_is = waiting-word word rest spelled ih seen id b known b_is
+  claim-more word rest flagged ih seen now b true known b_is = later-word word rest ih seen now b known b_is
+  claim-more word rest flagged ih seen settled_now b false known b_is = calm-word word rest flagged ih seen settled_now b known b_is refl refl refl
+  claim-more word rest flagged ih seen (with_value id v) b false known b_is = calm-word word rest flagged ih seen (with_value id v) b known b_is refl refl refl
+  claim-more word rest flagged ih seen (without_value id) b false known b_is = waiting-word word rest flagged ih seen id b known b_is
 
-  pub claim : (words : List Bytes) → AllSpelled words → Claim words
-  claim [] spelled = claim-end
-  claim (word ∷ rest) spelled = claim-more word rest spelled.0 (claim rest spelled.1)
+  pub claim : (words : List Bytes) → AllHaveFirstFlag words → Claim words
+  claim [] flagged = claim-end
+  claim (word ∷ rest) flagged = claim-more word rest flagged.0 (claim rest flagged.1)
 
   -- the command takes the words exactly where they are such a list with no name twice and all that is required
-  pub leaf-takes : (words : List Bytes) → AllSpelled words
+  pub leaf-takes : (words : List Bytes) → AllHaveFirstFlag words
       → is_nil (faults_from name R (walk_at [] settled_now 1 false) words) ≡ passes R [] settled_now (entries_in names words None)
-  leaf-takes words spelled = claim words spelled [] settled_now false false tt refl
-
+  leaf-takes words flagged = claim words flagged [] settled_now false false tt refl

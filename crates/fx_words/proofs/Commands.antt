@@ -1,11 +1,11 @@
 -- The first word is a command's name, and what `clap` does behind it.
-use Rattle.std.proofs.Common.{zero, suc, ◌≢◌, ◌≡◌, ℕ, Bool, true, false, not, ◌&&◌, ◌||◌, List, [], ◌∷◌, ◌++◌, map, length, drop, Option, Some, None, option_map, codes, refl, ap, ap₂, ◌∙◌, sym, subst, inl, inr}
+use Rattle.std.proofs.Common.{zero, suc, ◌≢◌, ◌≡◌, ℕ, Bool, true, false, ◌||◌, List, [], ◌∷◌, ◌++◌, length, drop, Option, Some, None, option_map, codes, refl, ap, ap₂, ◌∙◌, sym, subst, inl, inr}
 use Rattle.std.specs.Prelude.{if◌then◌else◌, slice_get, is_some, ◌⊎◌}
 use Rattle.std.specs.Option.{option_map_or}
 use Rattle.std.specs.Str.{bytes_eq, chars}
 use Rattle.std.proofs.lemmas.Slice.Eq.{bytes_eq-Decides}
 use Rattle.clap.proofs.WalkLemmas.{walk_stopped}
-use Rattle.clap.specs.Lexer.{long_of, short_of}
+use Rattle.clap.specs.Lexer.{long_of}
 use Rattle.clap.specs.Walk.{walk_from, subcommand_met, word_met, subcommand_or_other, long_or_other, short_or_plain, trailing, settled, finished, Walk, Names, idle, walked, nothing_held, rows_after}
 use Rattle.clap.specs.Simple.{Shape, built, entered, names_of, subcommand_of}
 use Rattle.clap.specs.Kinds.{Kinds, or_else}
@@ -13,9 +13,10 @@ use Rattle.clap.specs.Faults.{fault_of, walk_fault, turn_fault, step_fault, word
 use Rattle.fx_words.specs.App.{fixd_app}
 use Rattle.fx_words.specs.Command as words
 use Rattle.fx_words.specs.Command.{command_given, options_of, synth_options}
-use Rattle.fx_words.specs.Grammar.{Bytes, Entry, ends_options, is_dashed, has_entry, value_named}
-use Rattle.fx_words.proofs.Pending.{walk_at, settled_now, faults_from, has_required, is_nil, nil-or_else, and-true}
-use Rattle.fx_words.proofs.OneWord.{IsSpelled, no-nil, nil-first, plain-met, short-met}
+use Rattle.fx_words.specs.Grammar.{Bytes, Entry, ends_options, is_dashed, value_named}
+use Rattle.fx_words.proofs.Booleans.{and-true}
+use Rattle.fx_words.proofs.Pending.{faults_from, has_required, is_nil, nil-or_else, settled_now, walk_at}
+use Rattle.fx_words.proofs.OneWord.{HasFirstFlag, nil-first, no-nil, plain-met, short-met}
 use Rattle.fx_words.proofs.Options.{AreApart, option_names, options_rules}
 use Rattle.fx_words.proofs.Missing.{no-file, no-synthesis}
 
@@ -94,7 +95,7 @@ unfolding walk_fault walked defaults_fault
 after-dashes [] = refl
 after-dashes (x ∷ xs) = refl
 
-module _ (word : Bytes) (no_command : subcommand_met commands idle word ≡ None) (spelled : IsSpelled word) where
+module _ (word : Bytes) (no_command : subcommand_met commands idle word ≡ None) (flagged : HasFirstFlag word) where
   word-fault : ends_options word ≡ false → word_fault top commands false idle word nothing_held ≡ flag_word_fault [] false (long_of word) word nothing_held
   word-fault e = ap (λ o. other_fault top o word nothing_held) no_command ∙ ap (λ (b : Bool). if b then [] else flag_word_fault [] false (long_of word) word nothing_held) e
 
@@ -106,7 +107,7 @@ module _ (word : Bytes) (no_command : subcommand_met commands idle word ≡ None
   flag-fault e d (Some p) is_long = refl
   flag-fault e d None is_long =
       ap (λ o. is_nil (option_map_or (λ flags. bundle_fault [] false flags nothing_held) o [])) (short-met word d e is_long)
-      ∙ first (drop 1 word) (length (drop 1 word)) (spelled d).0 (spelled d).1 (spelled d).2 where
+      ∙ first (drop 1 word) (length (drop 1 word)) (flagged d).0 (flagged d).1 (flagged d).2 where
         first : (flags : Bytes) (k x : ℕ) → slice_get (chars flags) 0 ≡ Some x → k ≢ 0 → is_nil (flags_fault [] false k flags 0 (record nothing_held { skip = 0 })) ≡ false
         first flags zero x e n = absurd (n refl)
         first flags (suc k) x e n = ap (λ o. is_nil (bundle_step_fault [] false o flags 0 (record nothing_held { skip = 0 }) (flags_fault [] false k))) e

@@ -1,14 +1,11 @@
 -- When a text of digits has no number.
-use Rattle.std.proofs.Common.{◌≡◌, ◌<◌, ◌≤◌, ◌^◌, ℕ, List, [], ◌∷◌, Bool, true, false, ◌&&◌, length, Option, Some, None, refl, sym, ap, subst, arith, rules}
+use Rattle.std.proofs.Common.{◌≡◌, ◌<◌, ◌≤◌, ◌^◌, ℕ, List, [], ◌∷◌, Bool, true, false, ◌&&◌, length, Some, None, refl, sym, ap, subst, arith, rules}
 use Rattle.std.specs.Prelude.{◌==◌, if◌then◌else◌, nat_le, cond, drop}
 use Rattle.std.specs.List.{list_all}
 use Rattle.std.specs.Char.{is_ascii_digit, digit_value}
 use Rattle.std.specs.Str.Parse.{AllDigits, IsNumeral, digits_value, without_leading_plus}
 use Rattle.fx_words.specs.Numbers.{is_numeral, number_up_to}
-
-both-hold : (a b : Bool) → (a && b) ≡ true → (a ≡ true) × (b ≡ true)
-both-hold true b e = (refl, e)
-both-hold false b e = absurd (cc)
+use Rattle.fx_words.proofs.Booleans.{and-false, both-true}
 
 digit-range : (c : ℕ) → is_ascii_digit c ≡ true → (48 ≤ c) × (c ≤ 57)
 digit-range c e = search rules
@@ -18,12 +15,12 @@ digit-fits c e = let r = digit-range c e in grind arith
 
 all-are-digits : (t : List ℕ) → list_all is_ascii_digit t ≡ true → AllDigits 10 t
 all-are-digits [] e = tt
-all-are-digits (c ∷ cs) e = let p = both-hold (is_ascii_digit c) (list_all is_ascii_digit cs) e in (digit-fits c p.0, all-are-digits cs p.1)
+all-are-digits (c ∷ cs) e = let p = both-true (is_ascii_digit c) (list_all is_ascii_digit cs) e in (digit-fits c p.0, all-are-digits cs p.1)
 
 no-plus : (t : List ℕ) → list_all is_ascii_digit t ≡ true → without_leading_plus t ≡ t
 no-plus [] e = refl
 no-plus (c ∷ cs) e =
-    let p = both-hold (is_ascii_digit c) (list_all is_ascii_digit cs) e in
+    let p = both-true (is_ascii_digit c) (list_all is_ascii_digit cs) e in
     let r = digit-range c p.0 in
     let no : (c == 43) ≡ false = search rules in
     ap (λ (b : Bool). drop (cond b 1 0) (c ∷ cs)) no
@@ -33,10 +30,10 @@ pub above-each-limit : (limit : ℕ) (t : List ℕ) → limit < 2 ^ 64 → is_nu
     → (IsNumeral 10 (without_leading_plus t) × (digits_value 10 (without_leading_plus t) < 2 ^ 64) → ⊥) → None ≡ number_up_to limit t
 above-each-limit limit t small numeral n = by_limit (nat_le (digits_value 10 t) limit) refl where
   first : (nat_le 1 (length t) ≡ true) × ((nat_le (length t) 20 && list_all is_ascii_digit t) ≡ true)
-  first = both-hold (nat_le 1 (length t)) (nat_le (length t) 20 && list_all is_ascii_digit t) numeral
+  first = both-true (nat_le 1 (length t)) (nat_le (length t) 20 && list_all is_ascii_digit t) numeral
 
   digits : list_all is_ascii_digit t ≡ true
-  digits = (both-hold (nat_le (length t) 20) (list_all is_ascii_digit t) first.1).1
+  digits = (both-true (nat_le (length t) 20) (list_all is_ascii_digit t) first.1).1
 
   some : 0 < length t
   some = let e = first.0 in search rules
@@ -47,10 +44,6 @@ above-each-limit limit t small numeral n = by_limit (nat_le (digits_value 10 t) 
       let value : digits_value 10 t < 2 ^ 64 = omega arith in
       n (subst (λ (s : List ℕ). IsNumeral 10 s × (digits_value 10 s < 2 ^ 64)) (sym (no-plus t digits)) ((some, all-are-digits t digits), value))
 
-  neither : (b : Bool) → (b && false) ≡ false
-  neither true = refl
-  neither false = refl
-
   by_limit : (b : Bool) → nat_le (digits_value 10 t) limit ≡ b → None ≡ (if is_numeral t && b then Some (digits_value 10 t) else None)
   by_limit true e = absurd (fits e)
-  by_limit false e = ap (λ (b : Bool). if b then Some (digits_value 10 t) else None) (sym (neither (is_numeral t)))
+  by_limit false e = ap (λ (b : Bool). if b then Some (digits_value 10 t) else None) (sym (and-false (is_numeral t)))

@@ -1,17 +1,17 @@
 -- What a command has found behind the words.
-use Rattle.std.proofs.Common.{◌≡◌, ℕ, Bool, true, false, not, ◌&&◌, ◌||◌, List, [], ◌∷◌, ◌++◌, map, Option, Some, None, option_map, codes, refl, ap, ap₂, ◌∙◌, sym, subst, append_assoc, rules}
-use Rattle.std.specs.Prelude.{option_and_then, slice_get, ◌==◌, if◌then◌else◌, is_some, fold, find}
+use Rattle.std.proofs.Common.{◌≡◌, ℕ, Bool, true, false, not, List, [], ◌∷◌, ◌++◌, map, Option, Some, None, option_map, refl, ap, ◌∙◌, sym, append_assoc}
+use Rattle.std.specs.Prelude.{option_and_then, slice_get, if◌then◌else◌, fold, find}
 use Rattle.std.specs.Option.{option_map_or}
 use Rattle.std.specs.Str.{bytes_eq}
 use Rattle.std.proofs.lemmas.List.{append-nil}
-use Rattle.clap.specs.Lexer.{long_of, short_of}
-use Rattle.clap.specs.Walk.{with_default, Held, Row, Rule, Walk, Step, idle, value, walked, word_met, settled, rows_after, first_of, long_or_other, short_or_plain, plain_word}
+use Rattle.clap.specs.Lexer.{long_of}
+use Rattle.clap.specs.Walk.{with_default, Held, Row, Rule, idle, value, walked, word_met, settled, rows_after, first_of, long_or_other, short_or_plain, plain_word}
 use Rattle.clap.specs.Faults.{word_fault, flag_word_fault, bundle_fault}
-use Rattle.clap.specs.Kinds.{or_else}
 use Rattle.fx_words.specs.Grammar.{Bytes, Entry, file_entry, has_entry, is_among, is_dashed, ends_options, stand_once, entries_in, with_entry, after_word, after_option, option_value, option_parts, value_named}
-use Rattle.fx_words.proofs.Pending.{HasNoDefaults, IsKnown, IsKnownNow, Now, and-assoc, and-false, and-true, both-true, can_settle, check-test, empty-list, end-test, file_id, given-has, guarded, has_required, held_rows, with_value, is_nil, entry_now, leaf_shape, negated, new-row, nil-join, nil-or_else, no-default-fault, pending_now, settled_now, rest-test, row_for, rows-has, same-rows, settle-gives, settle-test, walk_at, faults_from, tail-more, text_rule, use-once, waiting_now, without_value}
-use Rattle.fx_words.proofs.OneWord.{AllSpelled, IsLeaf, IsOption, IsSpelled, after-file, apart-turn, apart-walked, ends-turn, ends-walked, fault, fault-is, file-turn, file-walked, joined-turn, joined-walked, met, met-is, never-both, nil-first, no-nil, no-subcommand, or-false, or-true, plain-met, parts-same, positional-test, same-bytes, short-met, short-turn, stray-test, stray-turn, unknown-turn, value-met, value-turn, value-walked}
-use Rattle.fx_words.proofs.AllWords.{file-known, has-append, is_waiting, entries_left, place_of, still}
+use Rattle.fx_words.proofs.Booleans.{both-true, not-true, or-true}
+use Rattle.fx_words.proofs.Pending.{IsKnown, IsKnownNow, Now, can_settle, entry_now, file_id, held_rows, leaf_shape, row_for, same-rows, settle-gives, settled_now, waiting_now, walk_at, with_value, without_value}
+use Rattle.fx_words.proofs.OneWord.{IsLeaf, IsOption, apart-walked, ends-walked, fault, file-walked, joined-walked, met, parts-same, plain-met, value-walked}
+use Rattle.fx_words.proofs.AllWords.{entries_left, file-known, has-append, is_waiting, position_of, still}
 
 entry-there : (p : Entry) (r : Option (List Entry)) (ps : List Entry) → with_entry p r ≡ Some ps → (qs : List Entry) × (r ≡ Some qs) × (ps ≡ p ∷ qs)
 entry-there p None ps e = absurd (cc)
@@ -30,7 +30,7 @@ fresh-first seen p ps f = both-true (not (has_entry p.0 seen)) (stand_once (seen
 
 module _ (name : Bytes) (names : List Bytes) (R : List Rule) (L : IsLeaf names R) where
   abbrev Ends : List Bytes → List Entry → Now → Bool → Bool → List Entry → Type 0
-  Ends words seen now b later ps = settled R (fold (walked R []) (walk_at seen now (place_of b) later) words).held ≡ held_rows (seen ++ (entry_now now ++ ps)) settled_now
+  Ends words seen now b later ps = settled R (fold (walked R []) (walk_at seen now (position_of b) later) words).held ≡ held_rows (seen ++ (entry_now now ++ ps)) settled_now
 
   abbrev Claim : List Bytes → Type 0
   Claim words = (seen : List Entry) (now : Now) (b later : Bool) → IsKnownNow R now → b ≡ has_entry file_id (seen ++ entry_now now)
@@ -58,7 +58,7 @@ module _ (name : Bytes) (names : List Bytes) (R : List Rule) (L : IsLeaf names R
       let S = seen ++ entry_now now in
       let parts = fresh-now seen now (file_entry word ∷ qs) calm (ap (λ l. stand_once seen (entry_now now ++ l)) (sym is) ∙ f) in
       let first = fresh-first S (file_entry word) qs parts.1 in
-      at_first b (b_is ∙ negated (has_entry file_id S) first.0) parts.0 parts.1 where
+      at_first b (b_is ∙ not-true (has_entry file_id S) first.0) parts.0 parts.1 where
         at_first : (b : Bool) → b ≡ false → can_settle seen now ≡ true → stand_once (seen ++ entry_now now) (file_entry word ∷ qs) ≡ true → Ends (word ∷ rest) seen now b later ps
         at_first true g t k = absurd (cc)
         at_first false g t k =
@@ -76,7 +76,7 @@ module _ (name : Bytes) (names : List Bytes) (R : List Rule) (L : IsLeaf names R
   ends-rows : (word : Bytes) (rest : List Bytes) → Claim rest → (seen : List Entry) (now : Now) (b : Bool) → IsKnownNow R now → b ≡ has_entry file_id (seen ++ entry_now now) → ends_options word ≡ true
       → (ps : List Entry) → entries_left names rest now true ≡ Some ps → stand_once seen (entry_now now ++ ps) ≡ true → Ends (word ∷ rest) seen now b false ps
   ends-rows word rest ih seen now b known b_is t ps e f =
-      ap (λ w. settled R (fold (walked R []) w rest).held) (ends-walked name names R L seen now known (place_of b) word t) ∙ ih seen now b true known b_is ps e f
+      ap (λ w. settled R (fold (walked R []) w rest).held) (ends-walked name names R L seen now known (position_of b) word t) ∙ ih seen now b true known b_is ps e f
 
   joined-rows : (word : Bytes) (rest : List Bytes) → Claim rest → (seen : List Entry) (now : Now) (b : Bool) → IsKnownNow R now → b ≡ has_entry file_id (seen ++ entry_now now) → is_waiting now ≡ false
       → ends_options word ≡ false → (id v : Bytes) → long_of word ≡ Some (id, Some v) → IsOption R id
@@ -86,7 +86,7 @@ module _ (name : Bytes) (names : List Bytes) (R : List Rule) (L : IsLeaf names R
       let inner = entry-there (id, v) (entries_in names rest None) ps e in
       let parts = fresh-now seen now ((id, v) ∷ inner.0) calm (ap (λ l. stand_once seen (entry_now now ++ l)) (sym inner.2) ∙ f) in
       let first = fresh-first S (id, v) inner.0 parts.1 in
-      ap (λ w. settled R (fold (walked R []) w rest).held) (joined-walked name names R L seen now known (place_of b) word goes_on id v is_long O parts.0 (negated (has_entry id S) first.0))
+      ap (λ w. settled R (fold (walked R []) w rest).held) (joined-walked name names R L seen now known (position_of b) word goes_on id v is_long O parts.0 (not-true (has_entry id S) first.0))
       ∙ ih (S ++ (id, v) ∷ []) settled_now b false tt (still name names R L b id v S O.apart b_is ∙ ap (has_entry file_id) (sym (append-nil (S ++ (id, v) ∷ [])))) inner.0 inner.1 first.1
       ∙ ap (λ l. held_rows l settled_now) (append_assoc S ((id, v) ∷ []) inner.0 ∙ append_assoc seen (entry_now now) ((id, v) ∷ inner.0) ∙ ap (λ l. seen ++ (entry_now now ++ l)) (sym inner.2))
 
@@ -97,7 +97,7 @@ module _ (name : Bytes) (names : List Bytes) (R : List Rule) (L : IsLeaf names R
       let S = seen ++ entry_now now in
       let O_known : IsKnown R id = record { long = Some id; index = None; required = O.required; by_id = O.by_id } in
       let parts = fresh-now seen now ps calm f in
-      ap (λ w. settled R (fold (walked R []) w rest).held) (apart-walked name names R L seen now known (place_of b) word goes_on id is_long O parts.0)
+      ap (λ w. settled R (fold (walked R []) w rest).held) (apart-walked name names R L seen now known (position_of b) word goes_on id is_long O parts.0)
       ∙ ih S (without_value id) b false (O_known, O.apart) (b_is ∙ ap (has_entry file_id) (sym (append-nil S))) ps e parts.1
       ∙ ap (λ l. held_rows l settled_now) (append_assoc seen (entry_now now) ps)
 
@@ -105,7 +105,7 @@ module _ (name : Bytes) (names : List Bytes) (R : List Rule) (L : IsLeaf names R
       → (ps : List Entry) → with_entry (id, word) (entries_in names rest None) ≡ Some ps → stand_once seen ps ≡ true → Ends (word ∷ rest) seen (without_value id) b false ps
   value-rows word rest ih seen id b known b_is plain ps e f =
       let inner = entry-there (id, word) (entries_in names rest None) ps e in
-      ap (λ w. settled R (fold (walked R []) w rest).held) (value-walked name names R L seen id known (place_of b) word plain)
+      ap (λ w. settled R (fold (walked R []) w rest).held) (value-walked name names R L seen id known (position_of b) word plain)
       ∙ ih seen (with_value id word) b false known.0 (still name names R L b id word seen known.1 (b_is ∙ ap (has_entry file_id) (append-nil seen))) inner.0 inner.1 (ap (λ l. stand_once seen l) (sym inner.2) ∙ f)
       ∙ ap (λ l. held_rows (seen ++ l) settled_now) (sym inner.2)
 

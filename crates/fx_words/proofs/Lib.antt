@@ -1,3 +1,4 @@
+mod Booleans
 mod Pending
 mod OneWord
 mod AllWords
@@ -5,6 +6,7 @@ mod FoundRows
 mod Options
 mod Missing
 mod Commands
-mod Spelled
+mod FirstFlags
 mod Reading
 mod Digits
+mod PlainLaw

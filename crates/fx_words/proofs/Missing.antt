@@ -1,8 +1,8 @@
 -- Where a word that is required is missing there is no command.
-use Rattle.std.proofs.Common.{◌≡◌, ℕ, Bool, true, false, not, ◌&&◌, ◌||◌, List, [], ◌∷◌, Option, Some, None, option_map, codes, refl, ap, ◌∙◌}
-use Rattle.std.specs.Prelude.{if◌then◌else◌, find, option_and_then}
+use Rattle.std.proofs.Common.{◌≡◌, ℕ, Bool, true, false, not, ◌||◌, List, [], ◌∷◌, Option, Some, None, option_map, codes, refl, ap, ◌∙◌}
+use Rattle.std.specs.Prelude.{if◌then◌else◌, find}
 use Rattle.std.specs.Str.{bytes_eq}
-use Rattle.fx_words.specs.Command.{Command, command_given, synthesis_of, tries_limit}
+use Rattle.fx_words.specs.Command.{command_given, synthesis_of, tries_limit}
 use Rattle.fx_words.specs.Grammar.{Bytes, Entry, has_entry, value_named}
 use Rattle.fx_words.specs.Numbers.{number_or, width_given}
 use Rattle.fx_words.proofs.Pending.{has_required}

@@ -1,27 +1,20 @@
 -- What one word does.
-use Rattle.std.proofs.Common.{zero, ◌≡◌, ℕ, ◌+◌, Bool, true, false, not, ◌&&◌, ◌||◌, List, [], ◌∷◌, ◌++◌, map, length, drop, suc, Option, Some, None, option_map, codes, refl, ap, ap₂, ◌∙◌, sym, arith, append_assoc, rules}
-use Rattle.std.specs.Prelude.{◌==◌, if◌then◌else◌, slice_get, is_some, fold, find}
-use Rattle.std.specs.List.{list_any, list_all}
+use Rattle.std.proofs.Common.{zero, ◌≡◌, ℕ, Bool, true, false, not, ◌&&◌, List, [], ◌∷◌, ◌++◌, length, drop, suc, Option, Some, None, refl, ap, ap₂, ◌∙◌}
+use Rattle.std.specs.Prelude.{◌==◌, if◌then◌else◌, slice_get}
 use Rattle.std.specs.Option.{option_map_or}
 use Rattle.std.specs.Str.{bytes_eq, chars}
-use Rattle.std.proofs.lemmas.Grind.{common_steps}
-use Rattle.std.proofs.lemmas.List.{append-nil}
 use Rattle.std.specs.Prelude.{option_and_then, ◌≢◌, encode_utf8, nat_lt}
 use Rattle.std.proofs.lemmas.Slice.Eq.{bytes_eq-Decides}
 use Rattle.clap.specs.Lexer.{long_of, long_of_rest, short_of, short_of_rest, strip_byte}
 use Rattle.clap.specs.Values.{reading_of}
-use Rattle.clap.specs.Walk.{plain_word, after_flag, long_met, long_word, short_or_plain, option_word, next, Step, after_step, subcommand_met, word_met, subcommand_or_other, long_or_other, trailing, is_pending, pushed, to_positional, value, Held, Row, Rule, Waiting, idle, option, Walk, arg_by_id, arg_by_index, arg_by_long, arg_by_short, finished, has_row, more_values, used_by_id, default_rows, reading_by, is_empty, settled, used, walked, with_default, with_values, without}
-use Rattle.clap.specs.Simple.{Shape, new_rule, new_shape}
-use Rattle.clap.specs.Takes.{is_given}
-use Rattle.clap.specs.Facts.{explicit_source}
+use Rattle.clap.specs.Walk.{after_flag, long_met, short_or_plain, option_word, next, after_step, subcommand_met, word_met, subcommand_or_other, long_or_other, trailing, is_pending, pushed, to_positional, value, Held, Rule, idle, option, arg_by_id, arg_by_index, arg_by_long, arg_by_short, settled, walked, with_values, without}
 use Rattle.clap.specs.Kinds.{Kinds, or_else}
-use Rattle.clap.specs.Faults.{other_fault, flag_word_fault, bundle_fault, bundle_step_fault, short_fault, long_fault, positional_fault, stray_fault, check_fault, given_default_fault, defaults_fault, flags_fault, react_fault, settle_fault, turn_fault, use_fault, walk_fault, word_fault, step_fault}
-use Rattle.clap.specs.declared.builder.action.ArgAction.TheVariants.{Set}
+use Rattle.clap.specs.Faults.{other_fault, flag_word_fault, bundle_fault, bundle_step_fault, short_fault, long_fault, positional_fault, stray_fault, flags_fault, react_fault, settle_fault, turn_fault, use_fault, word_fault, step_fault}
 use Rattle.clap.specs.declared.builder.value_parser.ValueParser.TheVariants as vp
-use Rattle.clap.specs.declared.error.kind.ErrorKind.TheVariants as kind
 use Rattle.clap.specs.declared.parser.matches.ValueSource.TheVariants.{CommandLine}
-use Rattle.fx_words.specs.Grammar.{Bytes, Entry, file_entry, has_entry, is_among, is_dashed, ends_options, stand_once, entries_in, with_entry, after_word, after_option, option_value, option_parts, name_and_value}
-use Rattle.fx_words.proofs.Pending.{HasNoDefaults, IsKnown, IsKnownNow, Now, and-assoc, and-false, and-true, both-true, can_settle, check-test, empty-list, end-test, file_id, given-has, guarded, has_required, held_rows, with_value, is_nil, entry_now, leaf_shape, negated, new-row, nil-join, nil-or_else, no-default-fault, pending_now, settled_now, rest-test, row_for, rows-has, same-rows, settle-gives, settle-test, walk_at, faults_from, tail-more, text_rule, use-once, waiting_now, without_value}
+use Rattle.fx_words.specs.Grammar.{Bytes, Entry, has_entry, is_among, is_dashed, ends_options, option_parts, name_and_value}
+use Rattle.fx_words.proofs.Booleans.{and-true, guarded, never-both, or-false}
+use Rattle.fx_words.proofs.Pending.{HasNoDefaults, IsKnownNow, Now, can_settle, entry_now, file_id, held_rows, is_nil, leaf_shape, new-row, nil-or_else, pending_now, settle-gives, settle-test, settled_now, text_rule, use-once, waiting_now, walk_at, with_value, without_value}
 
 -- ---- one word
 
@@ -100,16 +93,12 @@ short-met (c ∷ d ∷ rest) e f g = outer (c == 45) e f g where
   outer false e f g = absurd (cc)
 
 -- the flags of the word begin with a character
-abbrev pub IsSpelled : Bytes → Type 0
-IsSpelled word = is_dashed word ≡ true → (x : ℕ) × (slice_get (chars (drop 1 word)) 0 ≡ Some x) × (length (drop 1 word) ≢ 0)
+abbrev pub HasFirstFlag : Bytes → Type 0
+HasFirstFlag word = is_dashed word ≡ true → (x : ℕ) × (slice_get (chars (drop 1 word)) 0 ≡ Some x) × (length (drop 1 word) ≢ 0)
 
-abbrev pub AllSpelled : List Bytes → Type 0
-AllSpelled [] = Unit {0}
-AllSpelled (word ∷ rest) = IsSpelled word × AllSpelled rest
-
-pub or-true : (b : Bool) → (b || true) ≡ true
-or-true true = refl
-or-true false = refl
+abbrev pub AllHaveFirstFlag : List Bytes → Type 0
+AllHaveFirstFlag [] = Unit {0}
+AllHaveFirstFlag (word ∷ rest) = HasFirstFlag word × AllHaveFirstFlag rest
 
 pub no-nil : (a b : Kinds) → is_nil a ≡ false → is_nil (or_else a b) ≡ false
 no-nil [] b e = absurd (cc)
@@ -118,14 +107,6 @@ no-nil (k ∷ ks) b e = refl
 pub nil-first : (a b : Kinds) → a ≡ [] → is_nil (or_else a b) ≡ is_nil b
 nil-first [] b e = refl
 nil-first (k ∷ ks) b e = absurd (cc)
-
-pub or-false : (b : Bool) → (b || false) ≡ b
-or-false true = refl
-or-false false = refl
-
-pub never-both : {X : Type 0} (b : Bool) (x y : X) → (if b && false then x else y) ≡ y
-never-both true x y = refl
-never-both false x y = refl
 
 module _ (name : Bytes) (names : List Bytes) (R : List Rule) (L : IsLeaf names R) (seen : List Entry) (now : Now) (known : IsKnownNow R now) where
   pub positional-test : is_nil (step_fault (leaf_shape name R) 1 (held_rows seen now) value) ≡ can_settle seen now
@@ -193,12 +174,12 @@ module _ (name : Bytes) (names : List Bytes) (R : List Rule) (L : IsLeaf names R
     fault = fault-is word ∙ ap (λ (b : Bool). if b then [] else flag_word_fault R false (long_of word) word (held_rows seen now)) goes_on
 
     -- short flags are unknown
-    pub short-turn : is_dashed word ≡ true → long_of word ≡ None → IsSpelled word → is_nil (turn_fault (leaf_shape name R) [] (walk_at seen now position false) word) ≡ false
+    pub short-turn : is_dashed word ≡ true → long_of word ≡ None → HasFirstFlag word → is_nil (turn_fault (leaf_shape name R) [] (walk_at seen now position false) word) ≡ false
     unfolding flags_fault
-    short-turn dashed no_long spelled =
+    short-turn dashed no_long flagged =
         no-nil _ _ (ap is_nil (fault ∙ ap (λ o. flag_word_fault R false o word (held_rows seen now)) no_long
         ∙ ap (λ o. option_map_or (λ flags. bundle_fault R false flags (held_rows seen now)) o []) (short-met word dashed goes_on no_long))
-        ∙ first (drop 1 word) (length (drop 1 word)) (spelled dashed).0 (spelled dashed).1 (spelled dashed).2) where
+        ∙ first (drop 1 word) (length (drop 1 word)) (flagged dashed).0 (flagged dashed).1 (flagged dashed).2) where
           first : (flags : Bytes) (k : ℕ) (x : ℕ) → slice_get (chars flags) 0 ≡ Some x → k ≢ 0 → is_nil (flags_fault R false k flags 0 (record (held_rows seen now) { skip = 0 })) ≡ false
           first flags zero x e n = absurd (n refl)
           first flags (suc k) x e n =
@@ -282,4 +263,3 @@ module _ (name : Bytes) (names : List Bytes) (R : List Rule) (L : IsLeaf names R
   pub value-walked : walked R [] (walk_at seen (without_value id) position false) word ≡ walk_at seen (with_value id word) position false
   unfolding walked
   value-walked = ap (λ m. after_step R word (walk_at seen (without_value id) position false) m.0 m.1) value-met
-

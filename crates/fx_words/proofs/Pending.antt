@@ -1,26 +1,23 @@
 -- What is pending between two words, and the end of the words.
-use Rattle.std.proofs.Common.{zero, ◌≡◌, ℕ, ◌+◌, Bool, true, false, not, ◌&&◌, ◌||◌, List, [], ◌∷◌, ◌++◌, map, length, drop, suc, Option, Some, None, option_map, codes, refl, ap, ap₂, ◌∙◌, sym, arith, append_assoc, rules}
-use Rattle.std.specs.Prelude.{◌==◌, if◌then◌else◌, slice_get, is_some, fold, find}
+use Rattle.std.proofs.Common.{◌≡◌, ℕ, Bool, true, false, not, ◌&&◌, ◌||◌, List, [], ◌∷◌, ◌++◌, map, length, suc, Option, Some, None, codes, refl, ap, ap₂, ◌∙◌, sym, arith, rules}
+use Rattle.std.specs.Prelude.{if◌then◌else◌, fold, find}
 use Rattle.std.specs.List.{list_any, list_all}
 use Rattle.std.specs.Option.{option_map_or}
-use Rattle.std.specs.Str.{bytes_eq, chars}
-use Rattle.std.proofs.lemmas.Grind.{common_steps}
+use Rattle.std.specs.Str.{bytes_eq}
 use Rattle.std.proofs.lemmas.List.{append-nil}
-use Rattle.std.specs.Prelude.{option_and_then, ◌≢◌, encode_utf8, nat_lt}
-use Rattle.std.proofs.lemmas.Slice.Eq.{bytes_eq-Decides}
-use Rattle.clap.specs.Lexer.{long_of, long_of_rest, short_of, short_of_rest, strip_byte}
 use Rattle.clap.specs.Values.{reading_of}
-use Rattle.clap.specs.Walk.{plain_word, after_flag, long_met, long_word, short_or_plain, option_word, next, Step, after_step, subcommand_met, word_met, subcommand_or_other, long_or_other, trailing, is_pending, pushed, to_positional, value, Held, Row, Rule, Waiting, idle, option, Walk, arg_by_id, arg_by_index, arg_by_long, arg_by_short, finished, has_row, more_values, used_by_id, default_rows, reading_by, is_empty, settled, used, walked, with_default, with_values, without}
+use Rattle.clap.specs.Walk.{Held, Row, Rule, Waiting, idle, option, Walk, arg_by_id, has_row, more_values, used_by_id, default_rows, reading_by, is_empty, settled, walked, with_default, with_values, without}
 use Rattle.clap.specs.Simple.{Shape, new_rule, new_shape}
 use Rattle.clap.specs.Takes.{is_given}
 use Rattle.clap.specs.Facts.{explicit_source}
 use Rattle.clap.specs.Kinds.{Kinds, or_else}
-use Rattle.clap.specs.Faults.{other_fault, flag_word_fault, bundle_fault, bundle_step_fault, short_fault, long_fault, positional_fault, stray_fault, check_fault, given_default_fault, defaults_fault, flags_fault, react_fault, settle_fault, turn_fault, use_fault, walk_fault, word_fault, step_fault}
+use Rattle.clap.specs.Faults.{check_fault, given_default_fault, defaults_fault, settle_fault, turn_fault, use_fault, walk_fault}
 use Rattle.clap.specs.declared.builder.action.ArgAction.TheVariants.{Set}
 use Rattle.clap.specs.declared.builder.value_parser.ValueParser.TheVariants as vp
 use Rattle.clap.specs.declared.error.kind.ErrorKind.TheVariants as kind
 use Rattle.clap.specs.declared.parser.matches.ValueSource.TheVariants.{CommandLine}
-use Rattle.fx_words.specs.Grammar.{Bytes, Entry, file_entry, has_entry, is_among, is_dashed, ends_options, stand_once, entries_in, with_entry, after_word, after_option, option_value}
+use Rattle.fx_words.specs.Grammar.{Bytes, Entry, has_entry}
+use Rattle.fx_words.proofs.Booleans.{both-true, guarded, not-true}
 
 -- ---- tests
 
@@ -35,27 +32,6 @@ nil-or_else (k ∷ ks) b = refl
 pub nil-join : (a b e : Kinds) → is_nil (or_else (or_else a b) e) ≡ (is_nil a && is_nil (or_else b e))
 nil-join [] b e = refl
 nil-join (k ∷ ks) b e = refl
-
-pub negated : (b : Bool) → not b ≡ true → b ≡ false
-negated true e = absurd (cc)
-negated false e = refl
-
-pub and-false : (b : Bool) → (b && false) ≡ false
-and-false true = refl
-and-false false = refl
-
-pub and-true : (b : Bool) → (b && true) ≡ b
-and-true true = refl
-and-true false = refl
-
-pub and-assoc : (a b c : Bool) → ((a && b) && c) ≡ (a && (b && c))
-and-assoc true b c = refl
-and-assoc false b c = refl
-
--- a second half that matters only where the first holds
-pub guarded : (a b c : Bool) → (a ≡ true → b ≡ c) → (a && b) ≡ (a && c)
-guarded true b c h = h refl
-guarded false b c h = refl
 
 -- ---- the rules
 
@@ -191,7 +167,7 @@ pub settle-gives : (R : List Rule) (seen : List Entry) (now : Now) → IsKnownNo
 settle-gives R seen settled_now k t = ap (λ l. held_rows l settled_now) (sym (append-nil seen))
 settle-gives R seen (with_value id v) k t =
     ap (λ o. record { rows = used_by_id o (v ∷ []) (map row_for seen); pending = None; skip = 0 }) k.by_id
-    ∙ ap (λ rows. record { rows = rows; pending = None; skip = 0 }) (new-row id v seen (negated (has_entry id seen) t))
+    ∙ ap (λ rows. record { rows = rows; pending = None; skip = 0 }) (new-row id v seen (not-true (has_entry id seen) t))
 settle-gives R seen (without_value id) k t = absurd (cc)
 
 -- ---- the end of the words
@@ -199,10 +175,6 @@ settle-gives R seen (without_value id) k t = absurd (cc)
 pub empty-list : (l : List Bytes) → is_empty l ≡ true → l ≡ []
 empty-list [] e = refl
 empty-list (x ∷ xs) e = let z : suc (length xs) ≡ 0 = search rules in absurd (omega arith)
-
-pub both-true : (a b : Bool) → (a && b) ≡ true → (a ≡ true) × (b ≡ true)
-both-true true b e = (refl, e)
-both-true false b e = absurd (cc)
 
 abbrev pub HasNoDefaults : List Rule → Type 0
 HasNoDefaults R = list_all (λ a. is_empty a.defaults) R ≡ true
@@ -274,4 +246,3 @@ pub tail-more : (name : Bytes) (R : List Rule) (w : Walk) (word : Bytes) (rest :
     → is_nil (faults_from name R w (word ∷ rest)) ≡ (is_nil (turn_fault (leaf_shape name R) [] w word) && is_nil (faults_from name R (walked R [] w word) rest))
 unfolding walk_fault
 tail-more name R w word rest = nil-join (turn_fault (leaf_shape name R) [] w word) (walk_fault (leaf_shape name R) [] (walked R [] w word) rest) _
-

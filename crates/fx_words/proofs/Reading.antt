@@ -1,18 +1,19 @@
 -- What `clap` finds is the command that the words are, and where it refuses them they are none.
-use Rattle.std.proofs.Common.{◌≡◌, ◌≢◌, Bool, true, false, ◌&&◌, inl, inr, List, [], ◌∷◌, map, Option, Some, None, refl, ap, ◌∙◌, sym}
+use Rattle.std.proofs.Common.{◌≡◌, ◌≢◌, Bool, true, false, ◌&&◌, inl, inr, List, [], ◌∷◌, Option, Some, None, refl, ap, ◌∙◌, sym}
 use Rattle.std.specs.Prelude.{if◌then◌else◌, option_and_then, ◌⊎◌}
 use Rattle.clap.specs.Walk.{first_of, rows_after}
 use Rattle.clap.specs.Simple.{subcommand_of}
 use Rattle.clap.specs.Kinds.{Kinds}
 use Rattle.clap.specs.Faults.{fault_of}
 use Rattle.fx_words.specs.App.{fixd_app}
-use Rattle.fx_words.specs.Command.{Command, command_given, command_of, lawful_command, options_of}
+use Rattle.fx_words.specs.Command.{Command, command_of, lawful_command}
 use Rattle.fx_words.specs.CommandView.{IfUsage, command_found}
 use Rattle.fx_words.specs.declared.command.WordFault.{WordFault}
 use Rattle.fx_words.specs.declared.command.WordFault.TheVariants.{Usage, Memory}
 use Rattle.fx_words.specs.Grammar.{Bytes, Entry, entries_in, have_values, once, stand_once, value_named}
-use Rattle.fx_words.proofs.Pending.{both-true, has_required, is_nil, row_for, settled_now}
-use Rattle.fx_words.proofs.OneWord.{AllSpelled}
+use Rattle.fx_words.proofs.Booleans.{both-true}
+use Rattle.fx_words.proofs.Pending.{has_required, is_nil, settled_now}
+use Rattle.fx_words.proofs.OneWord.{AllHaveFirstFlag}
 use Rattle.fx_words.proofs.AllWords.{leaf-takes, passes}
 use Rattle.fx_words.proofs.FoundRows.{first-value, leaf-rows}
 use Rattle.fx_words.proofs.Options.{option_names, options-are-taken, options_rules}
@@ -33,8 +34,8 @@ module _ (name : Bytes) (C : IsCommand name) (rest : List Bytes) where
   abbrev made_of : Option (List Entry) → Option Command
   made_of r = option_and_then (λ entries. lawful_command name names (value_named entries)) (once r)
 
-  passes-where-taken : AllSpelled rest → is_nil (fault_of fixd_app (name ∷ rest)) ≡ passes (options_rules C.options) [] settled_now (entries_in names rest None)
-  passes-where-taken spelled = C.faults rest ∙ leaf-takes name names (options_rules C.options) (options-are-taken C.options C.apart) rest spelled
+  passes-where-taken : AllHaveFirstFlag rest → is_nil (fault_of fixd_app (name ∷ rest)) ≡ passes (options_rules C.options) [] settled_now (entries_in names rest None)
+  passes-where-taken flagged = C.faults rest ∙ leaf-takes name names (options_rules C.options) (options-are-taken C.options C.apart) rest flagged
 
   command-of-entries : command_of (name ∷ rest) ≡ made_of (entries_in names rest None)
   command-of-entries = ap (λ o. option_and_then (λ options. option_and_then (λ entries. lawful_command name options (value_named entries)) (once (entries_in options rest None))) o) C.known
@@ -69,28 +70,28 @@ module _ (name : Bytes) (C : IsCommand name) (rest : List Bytes) where
     by_once false e = refl
 
 -- what is found is the command of the words
-pub found-is-command : (words : List Bytes) → AllSpelled words → fault_of fixd_app words ≡ [] → command_found (subcommand_of fixd_app words) ≡ command_of words
-found-is-command [] spelled e = absurd (clash (sym (nil-is-none _ e) ∙ no-words)) where
+pub found-is-command : (words : List Bytes) → AllHaveFirstFlag words → fault_of fixd_app words ≡ [] → command_found (subcommand_of fixd_app words) ≡ command_of words
+found-is-command [] flagged e = absurd (clash (sym (nil-is-none _ e) ∙ no-words)) where
   clash : true ≡ false → ⊥
   clash h = cc
-found-is-command (word ∷ rest) spelled e = by_command (which-command word) where
+found-is-command (word ∷ rest) flagged e = by_command (which-command word) where
   by_command : IsCommand word ⊎ IsNone word → command_found (subcommand_of fixd_app (word ∷ rest)) ≡ command_of (word ∷ rest)
   by_command (inl C) =
       command-of-rows word C rest
-      ∙ made-where-it-passes word C rest (entries_in (names word C rest) rest None) refl (sym (passes-where-taken word C rest spelled.1) ∙ nil-is-none _ e)
+      ∙ made-where-it-passes word C rest (entries_in (names word C rest) rest None) refl (sym (passes-where-taken word C rest flagged.1) ∙ nil-is-none _ e)
       ∙ sym (command-of-entries word C rest)
-  by_command (inr n) = absurd (clash (sym (nil-is-none _ e) ∙ after-another word n.met spelled.0 rest)) where
+  by_command (inr n) = absurd (clash (sym (nil-is-none _ e) ∙ after-another word n.met flagged.0 rest)) where
     clash : true ≡ false → ⊥
     clash h = cc
 
 -- words that are refused are none
-pub refused-is-none : (words : List Bytes) → AllSpelled words → fault_of fixd_app words ≢ [] → command_of words ≡ None
-refused-is-none [] spelled n = refl
-refused-is-none (word ∷ rest) spelled n = by_command (which-command word) where
+pub refused-is-none : (words : List Bytes) → AllHaveFirstFlag words → fault_of fixd_app words ≢ [] → command_of words ≡ None
+refused-is-none [] flagged n = refl
+refused-is-none (word ∷ rest) flagged n = by_command (which-command word) where
   by_command : IsCommand word ⊎ IsNone word → command_of (word ∷ rest) ≡ None
   by_command (inl C) =
       command-of-entries word C rest
-      ∙ none-where-it-fails word C rest (entries_in (names word C rest) rest None) (sym (passes-where-taken word C rest spelled.1) ∙ some-is-not-nil _ n)
+      ∙ none-where-it-fails word C rest (entries_in (names word C rest) rest None) (sym (passes-where-taken word C rest flagged.1) ∙ some-is-not-nil _ n)
   by_command (inr n) = ap (λ o. option_and_then (λ options. option_and_then (λ entries. lawful_command word options (value_named entries)) (once (entries_in options rest None))) o) n.unknown
 
 pub usage-by : (fault : WordFault) (P Q : Type 0) → (P → Q) → IfUsage fault P → IfUsage fault Q

@@ -1,5 +1,5 @@
 -- The command line as `clap` is told to read it: one level of commands, and no help.
-use Rattle.std.specs.Prelude.{ℕ, List, Some, true, codes}
+use Rattle.std.specs.Prelude.{Some, true, codes}
 use Rattle.clap.specs.Walk.{Rule}
 use Rattle.clap.specs.Simple.{App, new_app, new_rule, with_rule, with_subcommand}
 use Rattle.clap.specs.declared.builder.action.ArgAction.TheVariants.{Set}

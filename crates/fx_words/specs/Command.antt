@@ -1,7 +1,8 @@
 -- The command that the words are.
-use Rattle.std.specs.Prelude.{ℕ, ◌-◌, ◌^◌, Bool, List, [], ◌∷◌, map, codes, string_bytes, String, Option, Some, None, option_map, option_and_then, if◌then◌else◌}
+use Rattle.std.specs.Prelude.{ℕ, ◌-◌, ◌^◌, ◌≤◌, Contains, List, [], ◌∷◌, map, codes, string_bytes, String, Option, Some, None, option_map, option_and_then, if◌then◌else◌}
 use Rattle.std.specs.Str.{bytes_eq}
 use Rattle.std.specs.declared.alloc.Global.{Global}
+use Rattle.fx_model.specs.LawfulProgram.{widths}
 use Rattle.fx_words.specs.Grammar.{Bytes, entries_in, once, value_named, have_values}
 use Rattle.fx_words.specs.Numbers.{number_or, width_given}
 
@@ -65,6 +66,11 @@ command_given word given =
 -- the same, where the value of each of these options is one
 abbrev pub lawful_command : Bytes → List Bytes → (Bytes → Option Bytes) → Option Command
 lawful_command word options given = if have_values options given then command_given word given else None
+
+-- a synthesis is at one of the widths, with at most so many tries
+abbrev pub IsLawfulCommand : Command → Type 0
+IsLawfulCommand (Synth s) = Contains widths s.width × (s.tries ≤ tries_limit)
+IsLawfulCommand command = Unit {0}
 
 -- the command of the words, where they are one: its name, and then its options and FILE
 abbrev pub command_of : List Bytes → Option Command

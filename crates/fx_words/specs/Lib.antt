@@ -3,3 +3,4 @@ pub mod Numbers
 pub mod Command
 pub mod CommandView
 pub mod App
+pub mod Plain

@@ -19,9 +19,9 @@ number_or other limit None = Some other
 number_or other limit (Some text) = number_up_to limit text
 
 -- the number, if words have that width
-abbrev pub known_width : ℕ → Option ℕ
-known_width n = if list_any (λ w. n == w) widths then Some n else None
+abbrev pub one_of_widths : ℕ → Option ℕ
+one_of_widths n = if list_any (λ w. n == w) widths then Some n else None
 
 -- the width of an option, which has to be given
 abbrev pub width_given : Option (List ℕ) → Option ℕ
-width_given text = option_and_then known_width (option_and_then (number_up_to 64) text)
+width_given text = option_and_then one_of_widths (option_and_then (number_up_to 64) text)

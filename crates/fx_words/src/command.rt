@@ -2,7 +2,7 @@
 ghost use Rattle.std.specs.Prelude.{◌≡◌, ◌≢◌, [], IfOk, IfErr, Some, None};
 ghost use Rattle.clap.specs.Words.{fault_of, subcommand_of, subcommand_rows_of};
 ghost use Rattle.fx_words.specs.App.{fixd_app};
-ghost use Rattle.fx_words.specs.Command.{command_of, texts};
+ghost use Rattle.fx_words.specs.Command.{IsLawfulCommand, command_of, texts};
 ghost use Rattle.fx_words.specs.CommandView.{IfUsage, command_view};
 
 use crate::found::command_in;
@@ -27,11 +27,11 @@ pub enum Command<'a> {
 pub struct Synthesis<'a> {
     /// Bits of a word.
     pub width: u32,
-    /// The name of the function, where the source has several.
+    /// The name of the function, where it is given.
     pub function: Option<&'a str>,
-    /// Where the random choices begin.
+    /// Where the random choices of the attempts begin.
     pub seed: u64,
-    /// How many rewritten functions are tried.
+    /// How many attempts are made at most.
     pub tries: u32,
     /// The name of the source's file.
     pub file: &'a str,
@@ -67,6 +67,7 @@ fn matches_of<'a>(alloc: Global, words: &'a [String]) -> Result<ArgMatches<'a>, 
 /// The command that the words are, which stand behind the program's name.
 pub fn read_words<'a>(alloc: Global, words: &'a [String]) -> Result<Command<'a>, WordFault>
     ensures command { IfOk result (λ c. command_of (texts words.entry.now) ≡ Some (command_view c)) }
+    ensures lawful { IfOk result (λ c. IsLawfulCommand (command_view c)) }
     ensures usage { IfErr result (λ e. IfUsage e (command_of (texts words.entry.now) ≡ None)) }
 {
     match matches_of(alloc, words) {

@@ -1,9 +1,9 @@
 //! The command that `clap` found.
-ghost use Rattle.std.specs.Prelude.{◌≡◌, option_map, codes, true};
+ghost use Rattle.std.specs.Prelude.{◌≡◌, IfSome, option_map, codes, true};
 ghost use Rattle.std.specs.Option.{option_copied, option_map_or};
 ghost use Rattle.clap.specs.Words.{first_of, found_of, rows_of, subcommand_rows_of};
 ghost use Rattle.fx_words.specs.Command as words;
-ghost use Rattle.fx_words.specs.Command.{lawful_command, synth_options};
+ghost use Rattle.fx_words.specs.Command.{IsLawfulCommand, lawful_command, synth_options};
 ghost use Rattle.fx_words.specs.CommandView.{command_found, command_view};
 ghost use Rattle.fx_words.specs.Grammar.{is_value, have_values};
 
@@ -42,7 +42,8 @@ fn have_values(matches: &ArgMatches) -> bool
 }
 
 fn run_in<'a>(matches: &ArgMatches<'a>) -> Option<Command<'a>>
-    ensures { option_map command_view result ≡ option_map words.Run (first_of (codes "file") (rows_of (found_of matches.now))) }
+    ensures command { option_map command_view result ≡ option_map words.Run (first_of (codes "file") (rows_of (found_of matches.now))) }
+    ensures lawful { IfSome result (λ c. IsLawfulCommand (command_view c)) }
 {
     match text_of(matches, "file") {
         Some(file) => Some(Command::Run(file)),
@@ -51,7 +52,8 @@ fn run_in<'a>(matches: &ArgMatches<'a>) -> Option<Command<'a>>
 }
 
 fn check_in<'a>(matches: &ArgMatches<'a>) -> Option<Command<'a>>
-    ensures { option_map command_view result ≡ option_map words.Check (first_of (codes "file") (rows_of (found_of matches.now))) }
+    ensures command { option_map command_view result ≡ option_map words.Check (first_of (codes "file") (rows_of (found_of matches.now))) }
+    ensures lawful { IfSome result (λ c. IsLawfulCommand (command_view c)) }
 {
     match text_of(matches, "file") {
         Some(file) => Some(Command::Check(file)),
@@ -60,7 +62,8 @@ fn check_in<'a>(matches: &ArgMatches<'a>) -> Option<Command<'a>>
 }
 
 fn synth_in<'a>(matches: &ArgMatches<'a>) -> Option<Command<'a>>
-    ensures { option_map command_view result ≡ lawful_command (codes "synth") synth_options (λ name. first_of name (rows_of (found_of matches.now))) }
+    ensures command { option_map command_view result ≡ lawful_command (codes "synth") synth_options (λ name. first_of name (rows_of (found_of matches.now))) }
+    ensures lawful { IfSome result (λ c. IsLawfulCommand (command_view c)) }
 {
     if !have_values(matches) {
         return None;
@@ -81,7 +84,8 @@ fn synth_in<'a>(matches: &ArgMatches<'a>) -> Option<Command<'a>>
 
 /// The command of what was found.
 pub fn command_in<'a>(matches: &ArgMatches<'a>) -> Option<Command<'a>>
-    ensures { option_map command_view result ≡ command_found (subcommand_rows_of matches.now) }
+    ensures command { option_map command_view result ≡ command_found (subcommand_rows_of matches.now) }
+    ensures lawful { IfSome result (λ c. IsLawfulCommand (command_view c)) }
 {
     let (name, found) = matches.subcommand()?;
     match name {

@@ -1,8 +1,9 @@
 //! The values of options, as texts and numbers.
-ghost use Rattle.std.specs.Prelude.{◌≡◌, ◌≤◌, IfSome, Some, None, if◌then◌else◌, nat_le};
+ghost use Rattle.std.specs.Prelude.{◌≡◌, ◌≤◌, ◌==◌, Contains, IfSome, Some, None, if◌then◌else◌, nat_le};
 ghost use Rattle.std.specs.Char.{is_ascii_digit};
-ghost use Rattle.std.specs.List.{list_all};
+ghost use Rattle.std.specs.List.{list_all, list_any};
 ghost use Rattle.std.specs.Option.{option_copied};
+ghost use Rattle.fx_model.specs.LawfulProgram.{widths};
 ghost use Rattle.fx_words.specs.Grammar.{is_value};
 ghost use Rattle.fx_words.specs.Numbers.{is_numeral, number_up_to, number_or, width_given};
 
@@ -66,13 +67,22 @@ pub fn number_or(text: Option<&str>, other: u64, limit: u64) -> Option<u64>
     }
 }
 
+// Whether words have that width.
+fn is_width(number: u64) -> bool
+    ensures { result ≡ list_any (λ w. number == w) widths }
+{
+    matches!(number, 8 | 16 | 24 | 32 | 40 | 48 | 56 | 64)
+}
+
 /// The width of words of an option.
 pub fn width_given(text: Option<&str>) -> Option<u32>
-    ensures { result ≡ width_given (option_copied text.entry) }
+    ensures width { result ≡ width_given (option_copied text.entry) }
+    ensures known { IfSome result (λ n. Contains widths n) }
 {
     let number = number_up_to(text?, 64)?;
-    match number {
-        8 | 16 | 24 | 32 | 40 | 48 | 56 | 64 => Some(number as u32),
-        _ => None,
+    if is_width(number) {
+        Some(number as u32)
+    } else {
+        None
     }
 }

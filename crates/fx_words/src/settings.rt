@@ -2,7 +2,7 @@
 ghost use Rattle.std.specs.Prelude.{◌≡◌, IfOk, false, codes};
 ghost use Rattle.clap.specs.Words.{app_of, rule_of};
 ghost use Rattle.clap.specs.declared.builder.command.Command.TheViews.{out-Command};
-ghost use Rattle.clap.specs.Simple.{with_rule};
+ghost use Rattle.clap.specs.Simple.{with_rule, with_subcommand};
 ghost use Rattle.fx_words.specs.App.{file_rule, option_rule, required_option_rule, file_app, synth_app, top_app, fixd_app};
 
 use clap::{Arg, ArgAction, Command as Parser};
@@ -42,7 +42,7 @@ fn file_command<'a>(alloc: Global, name: &'a str) -> Result<Parser<'a>, AllocErr
 }
 
 // A command with one argument more.
-fn with<'a>(command: Parser<'a>, arg: Arg<'a>) -> Result<Parser<'a>, AllocError>
+fn with_argument<'a>(command: Parser<'a>, arg: Arg<'a>) -> Result<Parser<'a>, AllocError>
     requires local { (out-Command command).has_globals ≡ false }
     requires plain { arg.global ≡ false }
     ensures app { IfOk result (λ c. app_of c ≡ with_rule (app_of command.entry) (rule_of arg.entry)) }
@@ -56,11 +56,11 @@ fn synth<'a>(alloc: Global) -> Result<Parser<'a>, AllocError>
     ensures own { IfOk result (λ c. (out-Command c).has_globals ≡ false) }
 {
     let command = Parser::new(alloc, "synth");
-    let command = with(command, required_option(alloc, "width"))?;
-    let command = with(command, option(alloc, "function"))?;
-    let command = with(command, option(alloc, "seed"))?;
-    let command = with(command, option(alloc, "tries"))?;
-    with(command, file(alloc))
+    let command = with_argument(command, required_option(alloc, "width"))?;
+    let command = with_argument(command, option(alloc, "function"))?;
+    let command = with_argument(command, option(alloc, "seed"))?;
+    let command = with_argument(command, option(alloc, "tries"))?;
+    with_argument(command, file(alloc))
 }
 
 // The words without the program's name, which begin with a command's.
@@ -75,12 +75,22 @@ fn top<'a>(alloc: Global) -> Parser<'a>
         .subcommand_required(true)
 }
 
+// A command line with one command more.
+fn with_command<'a>(line: Parser<'a>, command: Parser<'a>) -> Result<Parser<'a>, AllocError>
+    requires { (out-Command command).has_globals ≡ false }
+    ensures { IfOk result (λ c. app_of c ≡ with_subcommand (app_of line.entry) (app_of command.entry).top) }
+{
+    line.subcommand(command)
+}
+
 /// The whole command line.
 pub fn fixd<'a>(alloc: Global) -> Result<Parser<'a>, AllocError>
     ensures { IfOk result (λ c. app_of c ≡ fixd_app) }
 {
-    top(alloc)
-        .subcommand(file_command(alloc, "run")?)?
-        .subcommand(file_command(alloc, "check")?)?
-        .subcommand(synth(alloc)?)
+    let run = file_command(alloc, "run")?;
+    let check = file_command(alloc, "check")?;
+    let synth = synth(alloc)?;
+    let line = with_command(top(alloc), run)?;
+    let line = with_command(line, check)?;
+    with_command(line, synth)
 }

@@ -6,13 +6,13 @@ use Rattle.std.specs.Str.{chars}
 use Rattle.std.specs.Char.{encode_utf8}
 use Rattle.std.proofs.lemmas.Str.{encodes-chars, IsUtf8-string_bytes}
 use Rattle.fx_words.specs.Grammar.{Bytes}
-use Rattle.fx_words.proofs.OneWord.{AllSpelled, IsSpelled}
+use Rattle.fx_words.proofs.OneWord.{AllHaveFirstFlag, HasFirstFlag}
 
-text-is-spelled : (word : Bytes) → IsUtf8 word → IsSpelled word
+text-has-first-flag : (word : Bytes) → IsUtf8 word → HasFirstFlag word
 unfolding chars encode_utf8
-text-is-spelled [] utf8 dashed = absurd (cc)
-text-is-spelled (c ∷ []) utf8 dashed = absurd (cc)
-text-is-spelled (c ∷ d ∷ rest) utf8 dashed = by_first (chars (d ∷ rest)) refl where
+text-has-first-flag [] utf8 dashed = absurd (cc)
+text-has-first-flag (c ∷ []) utf8 dashed = absurd (cc)
+text-has-first-flag (c ∷ d ∷ rest) utf8 dashed = by_first (chars (d ∷ rest)) refl where
   is_hyphen : c ≡ 45
   is_hyphen = search rules
 
@@ -25,6 +25,6 @@ text-is-spelled (c ∷ d ∷ rest) utf8 dashed = by_first (chars (d ∷ rest)) r
     clash h = let n : 1 ≡ suc (suc (length rest)) = ap length h in omega arith
   by_first (x ∷ xs) e = (x, ap (λ (l : List ℕ). slice_get l 0) e, λ h. omega arith)
 
-pub strings-are-spelled : {Z : Type 0} (words : List (String Z)) → AllSpelled (map string_bytes words)
-strings-are-spelled [] = tt
-strings-are-spelled (word ∷ rest) = (text-is-spelled (string_bytes word) (IsUtf8-string_bytes word), strings-are-spelled rest)
+pub strings-have-first-flag : {Z : Type 0} (words : List (String Z)) → AllHaveFirstFlag (map string_bytes words)
+strings-have-first-flag [] = tt
+strings-have-first-flag (word ∷ rest) = (text-has-first-flag (string_bytes word) (IsUtf8-string_bytes word), strings-have-first-flag rest)

@@ -1,0 +1,9 @@
+use Rattle.fx_words.specs.Command.{texts}
+use Rattle.fx_words.proofs.PlainLaw.{run-takes-one-file, check-takes-one-file}
+use Rattle.fx_words.proofs.law.one_file_law.Goals as goal
+
+pub returns-clause-run : goal.returns-clause-run
+returns-clause-run c = run-takes-one-file (texts c.args.words.now)
+
+pub returns-clause-check : goal.returns-clause-check
+returns-clause-check c = check-takes-one-file (texts c.args.words.now)

@@ -1,0 +1,13 @@
+use Rattle.std.proofs.Common.{◌≡◌, ◌∙◌, ap₂, codes}
+use Rattle.std.proofs.lemmas.Result.{IfOk-weaker}
+use Rattle.clap.specs.Simple.{App, with_subcommand}
+use Rattle.clap.specs.Words.{app_of}
+use Rattle.fx_words.specs.App.{file_app, fixd_app, top_app}
+use Rattle.fx_words.proofs.settings.fixd.Goals as goal
+
+pub returns : goal.returns
+returns c =
+    let line : App → App → App = λ a b. with_subcommand a b.top in
+    let one : app_of c.in_ok-line.line ≡ line top_app (file_app (codes "run")) = c.in_ok-line.ensures ∙ ap₂ line c.top.ensures c.in_ok-run.ensures.app in
+    let two : app_of c.in_ok-line-2.line ≡ line (line top_app (file_app (codes "run"))) (file_app (codes "check")) = c.in_ok-line-2.ensures ∙ ap₂ line one c.in_ok-check.ensures.app in
+    IfOk-weaker c.with_command-3.result _ (λ r. app_of r ≡ fixd_app) (λ r e. e ∙ ap₂ line two c.in_ok-synth.ensures.app) c.with_command-3.ensures
