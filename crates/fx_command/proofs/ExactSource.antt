@@ -32,8 +32,8 @@ within file wanted h = ap (λ t. if t then Err OverLimit else meaning (parsed fi
 of_source : (file : List ℕ) (wanted : Option (List ℕ)) (fn : Function) → IsSource file wanted fn → verdict file wanted ≡ Ok fn
 of_source file wanted fn source = within file wanted source.short ∙ ap meaning source.meant
 
-ok_inside : (x y : Function) → Ok {E = End} x ≡ Ok y → x ≡ y
-ok_inside x y e = cc
+ok_inside : (v : Result Function End) (x y : Function) → v ≡ Ok x → v ≡ Ok y → x ≡ y
+ok_inside v x y d e = cc
 
 module _ (papers : Option Files) (before after : ℕ) (s : Synthesis) (file : List ℕ) (found : IsFound papers before after s.file file) where
   told : (P : List ℕ → Type 0) → IfFile papers s.file P → P file
@@ -80,7 +80,7 @@ module _ (papers : Option Files) (before after : ℕ) (s : Synthesis) (file : Li
       by (inl none) = inr none
       by (inr v) = no_end fn end (of_source file s.function fn source) v
   synthesis_decides old new fn end source inside writes (synth.not_found f fn' outside is source' why same) =
-      let one = ok_inside fn fn' (sym (of_source file s.function fn source) ∙ source_verdict f fn' is source') in
+      let one = ok_inside (verdict file s.function) fn fn' (of_source file s.function fn source) (source_verdict f fn' is source') in
       let z = sym inside ∙ ap (outside_of s.width) one ∙ why in absurd cc
   synthesis_decides old new fn end source inside writes (synth.found f fn' b is source' bundle put) = inl refl
   synthesis_decides old new fn end source inside writes (synth.unwritten f fn' b is source' bundle rose put) = absurd (writes rose)
