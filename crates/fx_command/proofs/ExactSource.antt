@@ -19,11 +19,11 @@ use Rattle.fx_command.proofs.Told.{in_file}
 use Rattle.fx_command.proofs.SameEnd.{same_end}
 
 -- ---- what bytes come to: a function, or the end of a call that reads them
-meaning : Result Function SourceFault → Result Function End
+abbrev meaning : Result Function SourceFault → Result Function End
 meaning (Err fault) = Err (Misread fault)
 meaning (Ok fn) = Ok fn
 
-verdict : List ℕ → Option (List ℕ) → Result Function End
+abbrev verdict : List ℕ → Option (List ℕ) → Result Function End
 verdict file wanted = if nat_lt source_limit (length file) then Err OverLimit else meaning (parsed file wanted)
 
 within : (file : List ℕ) (wanted : Option (List ℕ)) → length file ≤ source_limit → verdict file wanted ≡ meaning (parsed file wanted)
