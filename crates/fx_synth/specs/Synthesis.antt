@@ -1,21 +1,12 @@
 -- What a synthesis answers.
-use Rattle.std.specs.Prelude.{◌≡◌, ℕ, ◌<◌, List, length, Option, Some, None}
-use Rattle.fx_rational.specs.Rational.{AtMost}
-use Rattle.fx_rational.specs.Dyadic.{dyadic_value}
+use Rattle.std.specs.Prelude.{◌≡◌, ℕ, Option, Some, None}
 use Rattle.fx_model.specs.Function.{Function}
-use Rattle.fx_model.specs.Machine.{Program}
-use Rattle.fx_inequalities.specs.Certificate.{Certificate}
-use Rattle.fx_inequalities.specs.Accepted.{certified_bound}
 use Rattle.fx_checker.specs.CertifiedView.{Accepted}
-use Rattle.fx_weight.specs.Weights.{power_dyadic}
-use Rattle.fx_weight.specs.PlainClass.{Outside, output_power, outside_of}
+use Rattle.fx_weight.specs.PlainClass.{Outside, outside_of}
 use Rattle.fx_weight.specs.OutsideView.{outside_view}
+use Rattle.fx_synth.specs.Bounds.{AreWithinWeights}
 use Rattle.fx_synth.specs.declared.fault.SynthFault.{SynthFault}
 use Rattle.fx_synth.specs.declared.fault.SynthFault.TheVariants.{NotFound, Memory}
-
--- each bound is at most 2^v of its output's copy in the plain plan
-abbrev pub AreWithinWeights : ℕ → Function → Program → Certificate → Type 0
-AreWithinWeights n fn p cert = (j : ℕ) → j < length fn.demands → AtMost (certified_bound p cert j) (dyadic_value (power_dyadic (output_power n fn j)))
 
 -- what is found is for this function, of its name and at width n; in the class of the plain plan with bounds of the weights
 pub record IsSynthesised (n : ℕ) (fn : Function) (a : Accepted) : Type 0 where

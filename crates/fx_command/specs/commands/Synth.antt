@@ -7,7 +7,7 @@ use Rattle.fx_base.specs.Shelf.{Files}
 use Rattle.fx_model.specs.Function.{Function}
 use Rattle.fx_cert.specs.BundleView.{Parts, IsLawfulBundle, text_of}
 use Rattle.fx_weight.specs.PlainClass.{Outside, outside_of}
-use Rattle.fx_synth.specs.Synthesis.{AreWithinWeights}
+use Rattle.fx_synth.specs.Bounds.{AreWithinWeights}
 use Rattle.fx_words.specs.Command.{Synthesis}
 use Rattle.fx_command.specs.Outside.{Streams, AreUntouched, IsFile}
 use Rattle.fx_command.specs.Ends.{End, Done, WriteFault, NotFound}
