@@ -31,7 +31,7 @@ use Rattle.fx_command.specs.Promise.{HasEnded, IsAnswer, CallEnds, CallCompletes
 use Rattle.fx_command.proofs.Told.{known, in_file}
 
 -- ---- what bytes come to: an accepted bundle and its function, or the end of a call that opens them
-Verdict : Type 0
+abbrev Verdict : Type 0
 Verdict = Result (Parts × Function) End
 
 judged : Parts → Function → Option Fault → Verdict
@@ -58,11 +58,11 @@ of_bundle again file b is = within file is.0 ∙ ap spelled (ap bundle_in is.1.t
 accepted_verdict : BundleAgain → (file : List ℕ) (b : Parts) (fn : Function) → (length file ≤ bundle_limit) × Spells file b → IsAcceptedAs b fn → verdict file ≡ Ok (b, fn)
 accepted_verdict again file b fn is a = of_bundle again file b is ∙ ap (understood b) a.meant ∙ ap (judged b fn) a.accepted
 
-ok_inside : (x y : Parts × Function) → Ok {E = End} x ≡ Ok y → x ≡ y
-ok_inside x y e = cc
+ok_inside : (v : Verdict) (x y : Parts × Function) → v ≡ Ok x → v ≡ Ok y → x ≡ y
+ok_inside v x y d e = cc
 
-err_inside : (x y : End) → Err {T = Parts × Function} x ≡ Err y → x ≡ y
-err_inside x y e = cc
+err_inside : (v : Verdict) (x y : End) → v ≡ Err x → v ≡ Err y → x ≡ y
+err_inside v x y d e = cc
 
 -- ---- the end of a call that opens FILE
 module _ (again : BundleAgain) (papers : Option Files) (before after : ℕ) (name file : List ℕ) (found : IsFound papers before after name file) where
@@ -87,7 +87,7 @@ module _ (again : BundleAgain) (papers : Option Files) (before after : ℕ) (nam
     same_end : (end e : End) → IsEnd end → e ≢ NoMemory → (end ≡ NoMemory) ⊎ (verdict file ≡ Err end) → (e ≡ NoMemory) ⊎ (verdict file ≡ Err e) → OrNoMemory IsEnd e
     same_end end e h other (inl none) v = inr (subst IsEnd none h)
     same_end end e h other (inr u) (inl none) = absurd (other none)
-    same_end end e h other (inr u) (inr v) = inl (subst IsEnd (err_inside end e (sym u ∙ v)) h)
+    same_end end e h other (inr u) (inr v) = inl (subst IsEnd (err_inside (verdict file) end e u v) h)
 
     exact_opening : {old new : Streams} {P : Parts → Function → End → Type 0} (end e : End) → IsEnd end → OpensThen papers before after name old new P end → e ≢ NoMemory → OpeningEnds papers before after name e → OrNoMemory IsEnd e
     exact_opening end e h (unopened end' ends same) other cause = same_end end e h other (cause_verdict end ends) (cause_verdict e cause)
@@ -106,7 +106,7 @@ module _ (again : BundleAgain) (papers : Option Files) (before after : ℕ) (nam
       by (inl none) = inl none
       by (inr v) = let z = sym (accepted_verdict again file b fn (told _ is) a) ∙ v in absurd cc
   completed P b fn end is a (opened end' b' fn' is' a' ends) =
-      let same = ok_inside (b', fn') (b, fn) (sym (accepted_verdict again file b' fn' (told _ is') a') ∙ accepted_verdict again file b fn (told _ is) a) in
+      let same = ok_inside (verdict file) (b', fn') (b, fn) (accepted_verdict again file b' fn' (told _ is') a') (accepted_verdict again file b fn (told _ is) a) in
       inr (subst (λ x. P x.0 x.1 end) same ends)
 
 -- ---- what the commands do with it
@@ -132,7 +132,7 @@ report_decides old new b fn end writes (check.unwritten rose put) = absurd (writ
 
 -- ---- the clauses of the call
 module _ (again : BundleAgain) (papers : Option Files) (before after : ℕ) (old new : Streams) (noted noted' : Option (List ℕ)) (failed failed' : ℕ) (status : ℕ) where
-  IsEnd : End → Type 0
+  abbrev IsEnd : End → Type 0
   IsEnd end = IsAnswer noted noted' failed failed' status end
 
   pub exact : (command : Option commands.Command) (name : List ℕ) → HasEnded papers before after old new noted noted' failed failed' command status → Opens command name → EndsExactly papers before after name IsEnd
