@@ -34,19 +34,19 @@ use Rattle.fx_command.proofs.Told.{known, in_file}
 abbrev Verdict : Type 0
 Verdict = Result (Parts × Function) End
 
-judged : Parts → Function → Option Fault → Verdict
+abbrev judged : Parts → Function → Option Fault → Verdict
 judged b fn None = Ok (b, fn)
 judged b fn (Some fault) = Err (Rejected fault)
 
-understood : Parts → Result Function SourceFault → Verdict
+abbrev understood : Parts → Result Function SourceFault → Verdict
 understood b (Err fault) = Err (Misread fault)
 understood b (Ok fn) = judged b fn (first_fault rewrite fn b.program b.certificate)
 
-spelled : Result Parts TextFault → Verdict
+abbrev spelled : Result Parts TextFault → Verdict
 spelled (Err fault) = Err (BadBundle fault)
 spelled (Ok b) = understood b (meaning_of b)
 
-verdict : List ℕ → Verdict
+abbrev verdict : List ℕ → Verdict
 verdict file = if nat_lt bundle_limit (length file) then Err OverLimit else spelled (bundle_in file)
 
 within : (file : List ℕ) → length file ≤ bundle_limit → verdict file ≡ spelled (bundle_in file)
