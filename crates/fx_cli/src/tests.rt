@@ -51,7 +51,7 @@ type Call = (
 );
 
 #[rattlefmt::skip]
-static CALLS: [Call; 32] = [
+static CALLS: [Call; 42] = [
     (HALF, &[], "run", b"x\n0.3\n", 0, "out1\n0.7998046875\n", ""),
     (HALF, &[], "run", b"x\n", 0, "out1\n", ""),
     (HALF, &[], "run", b"", 5, "", "fixd: row: MissingColumn at line 1 column x\n"),
@@ -82,6 +82,16 @@ static CALLS: [Call; 32] = [
     (HALF, &[("steps 0", "steps 1\nstep 0 - 1"), ("add 0 1 0 0", "add 1 0 0 0")], "run", b"x\n0.3\n", 0, "out1\n0.7998046875\n", ""),
     (HALF, &[("steps 0", "steps 1\nstep 0 - 1")], "run", b"x\n", 1, "", "fixd: rejected: Shape at node 2\n"),
     (HALF, &[("steps 0", "steps 1\nstep 0 - 2")], "check", b"", 1, "", "fixd: rejected: Step at step 0\n"),
+    (HALF, &[], "run", b"x\n0.3", 0, "out1\n0.7998046875\n", ""),
+    (HALF, &[], "run", b"\n\n", 5, "", "fixd: row: MissingColumn at line 3 column x\n"),
+    (HALF, &[], "run", b"\n \n", 5, "", "fixd: row: MissingColumn at line 2 column x\n"),
+    (HALF, &[], "run", b"\xef\xbb\xbf", 5, "", "fixd: row: MissingColumn at line 1 column x\n"),
+    (HALF, &[], "run", b"\xef\xbb\xbf\xef\xbb\xbfx\n0.3\n", 0, "out1\n0.7998046875\n", ""),
+    (HALF, &[], "run", b"x\n0\n0\r", 5, "out1\n0.5\n", "fixd: row: StrayReturn at line 3\n"),
+    (HALF, &[], "run", b"x\n\n\n \n", 5, "out1\n", "fixd: row: BadNumber at line 4 column x\n"),
+    (HALF, &[], "run", b"x\n\"0.3\"\n\"0\"\"\"\n", 5, "out1\n0.7998046875\n", "fixd: row: BadNumber at line 3 column x\n"),
+    (HALF, &[], "run", b"a,x,b\n\"1,2\",0.3,\"\n", 0, "out1\n0.7998046875\n", ""),
+    (HALF, &[], "run", b" x\t,b\n\t1 ,\n", 0, "out1\n1.5\n", ""),
     (NOTHING, &[], "check", b"", 0, "accepted\nout1 0\n", ""),
     (NOTHING, &[("0:0 0 0\n", "0:0 - 0\n")], "check", b"", 1, "", "fixd: rejected: Range at node 1\n"),
 ];
@@ -342,6 +352,26 @@ fn finds_bundles(rt: HostRuntime) -> Result<(), Fail> {
         } else {
             assert!(rt; found.output.bytes().is_empty(), "{source} at {width}");
         }
+
+// A line that is as long as a line may be, and one that is a byte longer, behind a header or in its place.
+#[test]
+fn takes_long_lines(rt: HostRuntime) -> Result<(), Fail> {
+    let alloc = rt.alloc();
+    let text = bundle(alloc, &rt, HALF, &[])?;
+    let mut shelf = shelf(alloc, text.as_bytes(), 0)?;
+    for (header, byte, length, status, line) in [
+        (b"x\n".as_slice(), b"0".as_slice(), 65_536, 0, ""),
+        (b"x\n", b"0", 65_537, 5, "fixd: row: LineTooLong at line 2\n"),
+        (b"", b",", 65_536, 5, "fixd: row: MissingColumn at line 1 column x\n"),
+        (b"", b",", 65_537, 5, "fixd: row: LineTooLong at line 1\n"),
+    ] {
+        let bytes = rows(alloc, header, byte, length)?;
+        let mut input = BytesIn::new(bytes, 4_096, Vec::new(alloc));
+        let answer = call(alloc, &["run", "--", "-x"], &mut shelf, &mut input, (0, 0))?;
+        assert!(rt;
+            answer.status.0 == status && answer.notes.bytes() == line.as_bytes(),
+            "a line of {length} bytes"
+        );
     }
     Ok(())
 }

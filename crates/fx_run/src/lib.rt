@@ -12,6 +12,3 @@ mod words;
 
 pub use law::rows_law;
 pub use run::run_rows;
-
-#[cfg(test)]
-mod tests;
