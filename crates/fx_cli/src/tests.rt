@@ -352,6 +352,9 @@ fn finds_bundles(rt: HostRuntime) -> Result<(), Fail> {
         } else {
             assert!(rt; found.output.bytes().is_empty(), "{source} at {width}");
         }
+    }
+    Ok(())
+}
 
 // A line that is as long as a line may be, and one that is a byte longer, behind a header or in its place.
 #[test]
