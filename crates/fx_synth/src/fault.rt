@@ -2,6 +2,8 @@
 
 use fx_num::Memory;
 use fx_weight::Outside;
+use std::error::Error;
+use std::fmt;
 
 /// Why nothing was found.
 #[derive(Clone, Copy, Debug, PartialEq, Eq)]
@@ -15,8 +17,29 @@ pub enum SynthFault {
     Memory,
 }
 
+impl fmt::Display for SynthFault {
+    fn fmt<W: fmt::Write>(&self, f: &mut fmt::Formatter<W>) -> fmt::Result {
+        match self {
+            SynthFault::NotFound {
+                outside: Outside::Node { node },
+            } => write!(f, "not found: node {node}"),
+            SynthFault::NotFound {
+                outside: Outside::Demand { output },
+            } => write!(f, "not found: output {output}"),
+            SynthFault::Memory => write!(f, "out of memory"),
+        }
+    }
+}
+
+impl Error for SynthFault {}
+
 impl From<Memory> for SynthFault {
-    fn from(_memory: Memory) -> SynthFault {
+    ghost use Rattle.std.specs.Prelude.{◌≡◌};
+    ghost use Rattle.fx_synth.specs.declared.fault.SynthFault.TheVariants as fault;
+
+    ghost from_gives = { λ e f. f ≡ fault.Memory };
+
+    fn from(_e: Memory) -> SynthFault {
         SynthFault::Memory
     }
 }

@@ -6,11 +6,11 @@
 #![tactic(auto)]
 
 mod fault;
-mod synthesise;
+mod synthesis;
 
 pub use fault::SynthFault;
 pub use fx_weight::Outside;
-pub use synthesise::synthesise;
+pub use synthesis::synthesise;
 
 #[cfg(test)]
 mod tests;
