@@ -128,7 +128,7 @@ pub meant : (b : Parts) (source name : List ℕ) → source ≡ b.source → nam
 meant b source name e h = λ i. parsed (e i) (Some (h i))
 
 -- ---- of the file
-if_file : (papers : Option Files) (name bytes : List ℕ) (P : List ℕ → Type 0) → IfPaper papers name (λ paper. paper ≡ Some bytes) → P bytes → IfFile papers name P
+pub if_file : (papers : Option Files) (name bytes : List ℕ) (P : List ℕ → Type 0) → IfPaper papers name (λ paper. paper ≡ Some bytes) → P bytes → IfFile papers name P
 if_file None name bytes P is p = tt
 if_file (Some files) name bytes P is p = subst (λ (paper : Option (List ℕ)). IsSomeAnd paper P) (sym is) p
 

@@ -1,11 +1,10 @@
 -- What the bytes of FILE and the rows of the input decide.
-use Rattle.std.proofs.Common.{◌≡◌, ◌≢◌, ◌⊎◌, ◌≤◌, ◌<◌, refl, sym, ap, subst, ◌∙◌, ℕ, List, ◌++◌, length, true, false, nat_lt, if◌then◌else◌, Option, Some, None, Result, Ok, Err, arith, inl, inr}
+use Rattle.std.proofs.Common.{◌≡◌, ◌≢◌, ◌⊎◌, ◌≤◌, refl, sym, ap, subst, ◌∙◌, ℕ, List, length, nat_lt, if◌then◌else◌, Option, Some, None, Result, Ok, Err, arith, inl, inr}
 use Rattle.std.proofs.lemmas.Bool.{lt-ltb, le-ltb}
 use Rattle.std.proofs.lemmas.List.{length-append}
 use Rattle.std.specs.Io.KnownBytes.{Consumes}
 use Rattle.fx_base.specs.Causes.{Rose}
 use Rattle.fx_base.specs.Shelf.{Files, IsMissing, paper_of}
-use Rattle.fx_base.specs.Text.{lines_in}
 use Rattle.fx_model.specs.Limits.{bundle_limit}
 use Rattle.fx_model.specs.Function.{Function}
 use Rattle.fx_inequalities.specs.Accepted.{first_fault}
@@ -19,9 +18,9 @@ use Rattle.fx_cert.specs.Laws.{BundleAgain}
 use Rattle.fx_rows.specs.Faults as rows
 use Rattle.fx_rows.specs.ReadRows.{read_rows}
 use Rattle.fx_command.specs.Outside.{Streams, IfFile}
-use Rattle.fx_command.specs.Ends.{End, Done, ReadFault, NoMemory, OverLimit, BadBundle, Misread, Rejected, BadRow}
+use Rattle.fx_command.specs.Ends.{End, Done, NoMemory, OverLimit, BadBundle, Misread, Rejected, BadRow}
 use Rattle.fx_command.specs.Opening.{Spells, meaning_of, IsBundle, IsAcceptedAs, OpeningEnds, unread, long, no_bundle, misread, rejected, no_memory, OpensThen, unopened, opened}
-use Rattle.fx_command.specs.Exact.{IsFound, EndsExactly, IsReady, OrNoMemory}
+use Rattle.fx_command.specs.Exact.{IsFound, EndsExactly, OrNoMemory}
 use Rattle.fx_words.specs.Command as commands
 use Rattle.fx_command.specs.commands.Run as run
 use Rattle.fx_command.specs.commands.Run.{RowsEnd, Runs, IsReadable, rows_end}
@@ -135,7 +134,7 @@ module _ (again : BundleAgain) (papers : Option Files) (before after : ℕ) (old
       by_command : (c : commands.Command) → CallEnds papers before after old new (Some c) h.end → EndsExactly papers before after (file_of c) (FileEnds papers before after c) IsEnd
       by_command (commands.Run name) ends = λ file found e other cause. exact_opening again papers before after name file found IsEnd h.end e h.answer ends other cause
       by_command (commands.Check name) ends = λ file found e other cause. exact_opening again papers before after name file found IsEnd h.end e h.answer ends other cause
-      by_command (commands.Synth wanted) ends = λ file found e other cause. exact_source papers before after wanted file found IsEnd h.end e h.answer ends other cause
+      by_command (commands.Synth wanted) ends = λ file found e other cause. exact_source papers before after wanted file found IsEnd old new h.end e h.answer ends other cause
 
   either : (end decided : End) → IsEnd end → (end ≡ decided) ⊎ (end ≡ NoMemory) → OrNoMemory IsEnd decided
   either end decided h (inl is) = inl (subst IsEnd is h)

@@ -1,5 +1,5 @@
 -- What the bytes of a source decide of a synthesis.
-use Rattle.std.proofs.Common.{◌≡◌, ◌≢◌, ◌⊎◌, ◌≤◌, ◌<◌, refl, sym, ap, subst, ◌∙◌, ℕ, List, length, true, false, nat_lt, if◌then◌else◌, Option, Some, None, Result, Ok, Err, inl, inr}
+use Rattle.std.proofs.Common.{◌≡◌, ◌≢◌, ◌⊎◌, ◌≤◌, refl, sym, ap, subst, ◌∙◌, ℕ, List, length, nat_lt, if◌then◌else◌, Option, None, Result, Ok, Err, inl, inr}
 use Rattle.std.proofs.lemmas.Bool.{lt-ltb, le-ltb}
 use Rattle.fx_base.specs.Causes.{Rose}
 use Rattle.fx_base.specs.Shelf.{Files, IsMissing, paper_of}
@@ -12,7 +12,7 @@ use Rattle.fx_words.specs.Command.{Synthesis}
 use Rattle.fx_command.specs.Outside.{Streams, IfFile, IsFile}
 use Rattle.fx_command.specs.Ends.{End, Done, NoMemory, OverLimit, Misread}
 use Rattle.fx_command.specs.Exact.{IsFound, OrNoMemory}
-use Rattle.fx_command.specs.Source.{IsSource, SourceEnds, unread, long, misread, no_memory}
+use Rattle.fx_command.specs.Source.{IsSourceFor, SourceEnds, unread, long, misread, no_memory}
 use Rattle.fx_command.specs.commands.Synth as synth
 use Rattle.fx_command.specs.commands.Synth.{SynthEnds}
 use Rattle.fx_command.proofs.Told.{in_file}
@@ -29,7 +29,7 @@ verdict file wanted = if nat_lt source_limit (length file) then Err OverLimit el
 within : (file : List ℕ) (wanted : Option (List ℕ)) → length file ≤ source_limit → verdict file wanted ≡ meaning (parsed file wanted)
 within file wanted h = ap (λ t. if t then Err OverLimit else meaning (parsed file wanted)) (le-ltb source_limit (length file) h)
 
-of_source : (file : List ℕ) (wanted : Option (List ℕ)) (fn : Function) → IsSource file wanted fn → verdict file wanted ≡ Ok fn
+of_source : (file : List ℕ) (wanted : Option (List ℕ)) (fn : Function) → IsSourceFor file wanted fn → verdict file wanted ≡ Ok fn
 of_source file wanted fn source = within file wanted source.short ∙ ap meaning source.meant
 
 ok_inside : (v : Result Function End) (x y : Function) → v ≡ Ok x → v ≡ Ok y → x ≡ y
@@ -54,25 +54,29 @@ module _ (papers : Option Files) (before after : ℕ) (s : Synthesis) (file : Li
       inr (subst (λ f. verdict f s.function ≡ Err (Misread fault)) (sym (same_file other is)) (within other s.function short ∙ ap meaning meant))
   cause_verdict end no_memory = inl refl
 
-  source_verdict : (other : List ℕ) (fn : Function) → IsFile papers s.file other → IsSource other s.function fn → verdict file s.function ≡ Ok fn
+  source_verdict : (other : List ℕ) (fn : Function) → IsFile papers s.file other → IsSourceFor other s.function fn → verdict file s.function ≡ Ok fn
   source_verdict other fn is source = subst (λ f. verdict f s.function ≡ Ok fn) (sym (same_file other is)) (of_source other s.function fn source)
 
   -- a function was read, so the bytes come to no end
   no_end : {R : Type 0} (fn : Function) (e : End) → verdict file s.function ≡ Ok fn → verdict file s.function ≡ Err e → R
   no_end fn e u v = let z = sym u ∙ v in absurd cc
 
-  pub exact_source : (IsEnd : End → Type 0) {old new : Streams} (end e : End) → IsEnd end → SynthEnds papers before after old new s end → e ≢ NoMemory →
-      SourceEnds papers before after s.file s.function e → OrNoMemory IsEnd e
-  exact_source IsEnd end e h ends other cause = same_end IsEnd (verdict file s.function) end e h other (actual ends (cause_verdict e cause)) (cause_verdict e cause)
-    where
-      actual : SynthEnds papers before after _ _ s end → (e ≡ NoMemory) ⊎ (verdict file s.function ≡ Err e) → (end ≡ NoMemory) ⊎ (verdict file s.function ≡ Err end)
-      actual (synth.unopened end' why same) v = cause_verdict end why
-      actual ends (inl none) = absurd (other none)
-      actual (synth.not_found f fn outside is source why same) (inr v) = no_end fn e (source_verdict f fn is source) v
-      actual (synth.found f fn b is source bundle put) (inr v) = no_end fn e (source_verdict f fn is source) v
-      actual (synth.unwritten f fn b is source bundle rose put) (inr v) = no_end fn e (source_verdict f fn is source) v
+  -- how the call ended is want of memory, or what the bytes come to, where they come to an end
+  actual : (old new : Streams) (end e : End) → e ≢ NoMemory → SynthEnds papers before after old new s end → (e ≡ NoMemory) ⊎ (verdict file s.function ≡ Err e) →
+      (end ≡ NoMemory) ⊎ (verdict file s.function ≡ Err end)
+  actual old new end e other (synth.unopened end' why same) v = cause_verdict end why
+  actual old new end e other (synth.not_found f fn outside is source why same) (inl none) = absurd (other none)
+  actual old new end e other (synth.not_found f fn outside is source why same) (inr v) = no_end fn e (source_verdict f fn is source) v
+  actual old new end e other (synth.found f fn b is source bundle put) (inl none) = absurd (other none)
+  actual old new end e other (synth.found f fn b is source bundle put) (inr v) = no_end fn e (source_verdict f fn is source) v
+  actual old new end e other (synth.unwritten f fn b is source bundle rose put) (inl none) = absurd (other none)
+  actual old new end e other (synth.unwritten f fn b is source bundle rose put) (inr v) = no_end fn e (source_verdict f fn is source) v
 
-  pub synthesis_decides : (old new : Streams) (fn : Function) (end : End) → IsSource file s.function fn → outside_of s.width fn ≡ None → ¬ Rose old.write_faults new.write_faults →
+  pub exact_source : (IsEnd : End → Type 0) (old new : Streams) (end e : End) → IsEnd end → SynthEnds papers before after old new s end → e ≢ NoMemory →
+      SourceEnds papers before after s.file s.function e → OrNoMemory IsEnd e
+  exact_source IsEnd old new end e h ends other cause = same_end IsEnd (verdict file s.function) end e h other (actual old new end e other ends (cause_verdict e cause)) (cause_verdict e cause)
+
+  pub synthesis_decides : (old new : Streams) (fn : Function) (end : End) → IsSourceFor file s.function fn → outside_of s.width fn ≡ None → ¬ Rose old.write_faults new.write_faults →
       SynthEnds papers before after old new s end → (end ≡ Done) ⊎ (end ≡ NoMemory)
   synthesis_decides old new fn end source inside writes (synth.unopened end' why same) = by (cause_verdict end why)
     where

@@ -1,5 +1,5 @@
 -- Where a cause decides, two ends of it are one, but for want of memory.
-use Rattle.std.proofs.Common.{◌≡◌, ◌≢◌, ◌⊎◌, sym, subst, ◌∙◌, Result, Err, inl, inr}
+use Rattle.std.proofs.Common.{◌≡◌, ◌≢◌, ◌⊎◌, subst, Result, Err, inl, inr}
 use Rattle.fx_command.specs.Ends.{End, NoMemory}
 use Rattle.fx_command.specs.Exact.{OrNoMemory}
 

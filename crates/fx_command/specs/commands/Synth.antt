@@ -12,7 +12,7 @@ use Rattle.fx_words.specs.Command.{Synthesis}
 use Rattle.fx_command.specs.Outside.{Streams, AreUntouched, IsFile}
 use Rattle.fx_command.specs.Ends.{End, Done, WriteFault, NotFound}
 use Rattle.fx_command.specs.Opening.{IsAcceptedAs}
-use Rattle.fx_command.specs.Source.{IsSource, SourceEnds}
+use Rattle.fx_command.specs.Source.{IsSourceFor, SourceEnds}
 use Rattle.fx_command.specs.Exact.{IsFound, OrNoMemory}
 
 -- a lawful bundle of this source, accepted for this function, at width n; with bounds of the weights, where the plain plan serves
@@ -26,16 +26,16 @@ pub record IsBundleFor (file : List ℕ) (n : ℕ) (fn : Function) (b : Parts) :
 -- how a synthesis ends
 pub data SynthEnds (papers : Option Files) (before after : ℕ) (old new : Streams) (s : Synthesis) : End → Type 0 where
   unopened : (end : End) → SourceEnds papers before after s.file s.function end → AreUntouched old new → SynthEnds papers before after old new s end
-  not_found : (file : List ℕ) (fn : Function) (outside : Outside) → IsFile papers s.file file → IsSource file s.function fn → outside_of s.width fn ≡ Some outside →
+  not_found : (file : List ℕ) (fn : Function) (outside : Outside) → IsFile papers s.file file → IsSourceFor file s.function fn → outside_of s.width fn ≡ Some outside →
       AreUntouched old new → SynthEnds papers before after old new s (NotFound outside)
-  found : (file : List ℕ) (fn : Function) (b : Parts) → IsFile papers s.file file → IsSource file s.function fn → IsBundleFor file s.width fn b →
+  found : (file : List ℕ) (fn : Function) (b : Parts) → IsFile papers s.file file → IsSourceFor file s.function fn → IsBundleFor file s.width fn b →
       Appends old.taken new.taken (text_of b) → SynthEnds papers before after old new s Done
-  unwritten : (file : List ℕ) (fn : Function) (b : Parts) → IsFile papers s.file file → IsSource file s.function fn → IsBundleFor file s.width fn b →
+  unwritten : (file : List ℕ) (fn : Function) (b : Parts) → IsFile papers s.file file → IsSourceFor file s.function fn → IsBundleFor file s.width fn b →
       Rose old.write_faults new.write_faults → AppendsFront old.taken new.taken (text_of b) → SynthEnds papers before after old new s WriteFault
 
 -- ---- completeness
 -- a bundle is written for a function that the plain plan serves, where no write fails
 abbrev pub SynthCompletes : Option Files → ℕ → ℕ → Streams → Streams → Synthesis → (End → Type 0) → Type 0
 SynthCompletes papers before after old new s IsEnd =
-    (file : List ℕ) (fn : Function) → IsFound papers before after s.file file → IsSource file s.function fn → outside_of s.width fn ≡ None →
+    (file : List ℕ) (fn : Function) → IsFound papers before after s.file file → IsSourceFor file s.function fn → outside_of s.width fn ≡ None →
     ¬ Rose old.write_faults new.write_faults → OrNoMemory IsEnd Done
