@@ -347,8 +347,17 @@ fn finds_bundles(rt: HostRuntime) -> Result<(), Fail> {
         );
         if status == 0 {
             let mut bundles = shelf(alloc, found.output.bytes(), 0)?;
-            let checked = call(alloc, &["check", "--", "-x"], &mut bundles, &mut input, (0, 0))?;
-            assert!(rt; checked.is(0, report, ""), "the bundle of {source} at {width}");
+            let checked = call(
+                alloc,
+                &["check", "--", "-x"],
+                &mut bundles,
+                &mut input,
+                (0, 0),
+            )?;
+            assert!(rt;
+                checked.is(0, report, ""),
+                "the bundle of {source} at {width}"
+            );
         } else {
             assert!(rt; found.output.bytes().is_empty(), "{source} at {width}");
         }
@@ -364,8 +373,20 @@ fn takes_long_lines(rt: HostRuntime) -> Result<(), Fail> {
     let mut shelf = shelf(alloc, text.as_bytes(), 0)?;
     for (header, byte, length, status, line) in [
         (b"x\n".as_slice(), b"0".as_slice(), 65_536, 0, ""),
-        (b"x\n", b"0", 65_537, 5, "fixd: row: LineTooLong at line 2\n"),
-        (b"", b",", 65_536, 5, "fixd: row: MissingColumn at line 1 column x\n"),
+        (
+            b"x\n",
+            b"0",
+            65_537,
+            5,
+            "fixd: row: LineTooLong at line 2\n",
+        ),
+        (
+            b"",
+            b",",
+            65_536,
+            5,
+            "fixd: row: MissingColumn at line 1 column x\n",
+        ),
         (b"", b",", 65_537, 5, "fixd: row: LineTooLong at line 1\n"),
     ] {
         let bytes = rows(alloc, header, byte, length)?;

@@ -46,7 +46,7 @@ first_called f fs name is = ap (λ t. called (if t then Some f else find (λ g. 
 found_name : (fs : List Function) (fn : Function) (name : List ℕ) → called (find (λ g. bytes_eq g.name name) fs) ≡ Ok fn → fn.name ≡ name
 found_name [] fn name e = absurd cc
 found_name (f ∷ fs) fn name e = elim (cases_Bool (bytes_eq f.name name)) [
-  inl hit ↦ let is : f ≡ fn = inside (called (find (λ g. bytes_eq g.name name) (f ∷ fs))) f fn (ap (λ t. called (if t then Some f else find (λ g. bytes_eq g.name name) fs)) hit) e in
+  | inl hit ↦ let is : f ≡ fn = inside (called (find (λ g. bytes_eq g.name name) (f ∷ fs))) f fn (ap (λ t. called (if t then Some f else find (λ g. bytes_eq g.name name) fs)) hit) e in
       ap (λ (g : Function). g.name) (sym is) ∙ (bytes_eq-Decides f.name name).0 hit
   | inr miss ↦ found_name fs fn name (sym (ap (λ t. called (if t then Some f else find (λ g. bytes_eq g.name name) fs)) miss) ∙ e)
 ]
@@ -131,9 +131,9 @@ module _ (papers : Option Files) (before after : ℕ) (old new : Streams) (s : S
   pub done_ends : Appends old.taken new.taken sent → SynthEnds papers before after old new s Done
   done_ends put =
       synth.found bytes here.fn (with_source a bytes) (is_file papers s.file bytes is) here.source (made_for s a bytes second second_is here lawful accepted)
-          (subst (Appends old.taken new.taken) (text_is a bytes second text sent second_is made sent_is) put)
+      (subst (Appends old.taken new.taken) (text_is a bytes second text sent second_is made sent_is) put)
 
   pub unwritten_ends : Rose old.write_faults new.write_faults → AppendsFront old.taken new.taken sent → SynthEnds papers before after old new s WriteFault
   unwritten_ends rose put =
       unwritten bytes here.fn (with_source a bytes) (is_file papers s.file bytes is) here.source (made_for s a bytes second second_is here lawful accepted) rose
-          (subst (AppendsFront old.taken new.taken) (text_is a bytes second text sent second_is made sent_is) put)
+      (subst (AppendsFront old.taken new.taken) (text_is a bytes second text sent second_is made sent_is) put)
