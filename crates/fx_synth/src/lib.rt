@@ -11,6 +11,3 @@ mod synthesis;
 pub use fault::SynthFault;
 pub use fx_weight::Outside;
 pub use synthesis::synthesise;
-
-#[cfg(test)]
-mod tests;
