@@ -315,7 +315,7 @@ fn takes_little_ahead(rt: HostRuntime) -> Result<(), Fail> {
 
 // a source and a width, how a synthesis ends, what `check` then says of its bundle, and the line on the notes
 #[rattlefmt::skip]
-static SOURCES: [(&str, &str, u8, &str, &str); 14] = [
+static SOURCES: [(&str, &str, u8, &str, &str); 19] = [
     ("def f(x: Real): Real = {\n  require(0 <= x && x <= 1)\n  x + 0.5\n}\n", "16", 0, "accepted\nout1 1/2^8\n", ""),
     ("def f(x: Real): Real = { require(0 <= x && x <= 1) x + 0.5 }", "8", 0, "accepted\nout1 1\n", ""),
     ("def f(x: Real): Real = { require(0 <= x && x <= 1) x + 0.5 }", "64", 0, "accepted\nout1 1/2^56\n", ""),
@@ -330,6 +330,11 @@ static SOURCES: [(&str, &str, u8, &str, &str); 14] = [
     ("def f(x: Real): Real = { require(0 <= x && x <= 1099511627776) x * 0 }", "64", 9, "", "fixd: not found: node 0\n"),
     ("def f(x: Real): Real = { require(0 <= x && x <= 549755813888) -x }", "64", 0, "accepted\nout1 1/2^20\n", ""),
     ("def f(x: Real): Real = { require(0 <= x && x <= 1 && x +/- 3) x }", "16", 0, "accepted\nout1 8\n", ""),
+    ("def f(x: Real): Real = { require(0 <= x && x <= 1) 1099511627776 }", "16", 0, "accepted\nout1 134217728\n", ""),
+    ("def f(x: Real): Real = { require(0 <= x && x <= 1) 1099511627777 }", "16", 9, "", "fixd: not found: node 1\n"),
+    ("def f(x: Real): Real = { require(0 <= x && x <= 1) x + 274877906944 }", "8", 0, "accepted\nout1 137438953472\n", ""),
+    ("def f(x: Real): Real = { require(0 <= x && x <= 1) x + 274877906945 }", "8", 9, "", "fixd: not found: node 2\n"),
+    ("def f(x: Real): (Real, Real) = { require(0 <= x && x <= 1) (x, x * 1000) } ensuring((a, b) => b +/- 0.5)", "16", 9, "", "fixd: not found: output 2\n"),
 ];
 
 // Its bundle is taken by `check`, as it stands.
