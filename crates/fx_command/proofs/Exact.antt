@@ -4,7 +4,7 @@ use Rattle.std.proofs.lemmas.Bool.{lt-ltb, le-ltb}
 use Rattle.std.proofs.lemmas.List.{length-append}
 use Rattle.std.specs.Io.KnownBytes.{Consumes}
 use Rattle.fx_base.specs.Causes.{Rose}
-use Rattle.fx_base.specs.Shelf.{Files, IsMissing, paper_of}
+use Rattle.fx_base.specs.Shelf.{Files}
 use Rattle.fx_model.specs.Limits.{bundle_limit}
 use Rattle.fx_model.specs.Function.{Function}
 use Rattle.fx_inequalities.specs.Accepted.{first_fault}
@@ -27,9 +27,9 @@ use Rattle.fx_command.specs.commands.Run.{RowsEnd, Runs, IsReadable, rows_end}
 use Rattle.fx_command.specs.commands.Check.{ReportEnds}
 use Rattle.fx_command.specs.commands.Check as check
 use Rattle.fx_command.specs.Promise.{HasEnded, IsAnswer, CallEnds, CallCompletes, FileEnds, file_of}
-use Rattle.fx_command.proofs.SameEnd.{same_end}
+use Rattle.fx_command.proofs.SameEnd.{ok_inside, same_end}
 use Rattle.fx_command.proofs.ExactSource.{exact_source, synthesis_decides}
-use Rattle.fx_command.proofs.Told.{known, in_file}
+use Rattle.fx_command.proofs.Told.{known, of_found, not_missing}
 
 -- ---- what bytes come to: an accepted bundle and its function, or the end of a call that opens them
 abbrev Verdict : Type 0
@@ -59,20 +59,14 @@ of_bundle again file b is = within file is.0 ∙ ap spelled (ap bundle_in is.1.t
 accepted_verdict : BundleAgain → (file : List ℕ) (b : Parts) (fn : Function) → (length file ≤ bundle_limit) × Spells file b → IsAcceptedAs b fn → verdict file ≡ Ok (b, fn)
 accepted_verdict again file b fn is a = of_bundle again file b is ∙ ap (understood b) a.meant ∙ ap (judged b fn) a.accepted
 
-ok_inside : (v : Verdict) (x y : Parts × Function) → v ≡ Ok x → v ≡ Ok y → x ≡ y
-ok_inside v x y d e = cc
-
 -- ---- the end of a call that opens FILE
 module _ (again : BundleAgain) (papers : Option Files) (before after : ℕ) (name file : List ℕ) (found : IsFound papers before after name file) where
   told : (P : List ℕ → Type 0) → IfFile papers name P → P file
-  told = in_file papers name found.files file found.told found.found
-
-  is_there : IsMissing papers name → ⊥
-  is_there missing = let none : paper_of found.files name ≡ None = subst (λ ps. IsMissing ps name) found.told missing in let z = sym none ∙ found.found in absurd cc
+  told = of_found papers before after name file found
 
   -- a cause is want of memory, or what the bytes come to
   cause_verdict : (end : End) → OpeningEnds papers before after name end → (end ≡ NoMemory) ⊎ (verdict file ≡ Err end)
-  cause_verdict end (unread (inl missing)) = absurd (is_there missing)
+  cause_verdict end (unread (inl missing)) = absurd (not_missing papers before after name file found missing)
   cause_verdict end (unread (inr rose)) = absurd (found.unfailing rose)
   cause_verdict end (long over) = inr (ap (λ t. if t then Err OverLimit else spelled (bundle_in file)) (lt-ltb bundle_limit (length file) (told _ over)))
   cause_verdict end (no_bundle fault is) = let h = told _ is in inr (within file h.0 ∙ ap spelled h.1)

@@ -2,7 +2,7 @@
 use Rattle.std.proofs.Common.{◌≡◌, ◌≢◌, ◌⊎◌, ◌≤◌, refl, sym, ap, subst, ◌∙◌, ℕ, List, length, nat_lt, if◌then◌else◌, Option, None, Result, Ok, Err, inl, inr}
 use Rattle.std.proofs.lemmas.Bool.{lt-ltb, le-ltb}
 use Rattle.fx_base.specs.Causes.{Rose}
-use Rattle.fx_base.specs.Shelf.{Files, IsMissing, paper_of}
+use Rattle.fx_base.specs.Shelf.{Files}
 use Rattle.fx_model.specs.Limits.{source_limit}
 use Rattle.fx_model.specs.Function.{Function}
 use Rattle.fx_lexer.specs.declared.fault.SourceFault.{SourceFault}
@@ -15,8 +15,8 @@ use Rattle.fx_command.specs.Exact.{IsFound, OrNoMemory}
 use Rattle.fx_command.specs.Source.{IsSourceFor, SourceEnds, unread, long, misread, no_memory}
 use Rattle.fx_command.specs.commands.Synth as synth
 use Rattle.fx_command.specs.commands.Synth.{SynthEnds}
-use Rattle.fx_command.proofs.Told.{in_file}
-use Rattle.fx_command.proofs.SameEnd.{same_end}
+use Rattle.fx_command.proofs.Told.{of_found, not_missing}
+use Rattle.fx_command.proofs.SameEnd.{ok_inside, same_end}
 
 -- ---- what bytes come to: a function, or the end of a call that reads them
 abbrev meaning : Result Function SourceFault → Result Function End
@@ -32,22 +32,16 @@ within file wanted h = ap (λ t. if t then Err OverLimit else meaning (parsed fi
 of_source : (file : List ℕ) (wanted : Option (List ℕ)) (fn : Function) → IsSourceFor file wanted fn → verdict file wanted ≡ Ok fn
 of_source file wanted fn source = within file wanted source.short ∙ ap meaning source.meant
 
-ok_inside : (v : Result Function End) (x y : Function) → v ≡ Ok x → v ≡ Ok y → x ≡ y
-ok_inside v x y d e = cc
-
 module _ (papers : Option Files) (before after : ℕ) (s : Synthesis) (file : List ℕ) (found : IsFound papers before after s.file file) where
   told : (P : List ℕ → Type 0) → IfFile papers s.file P → P file
-  told = in_file papers s.file found.files file found.told found.found
+  told = of_found papers before after s.file file found
 
   same_file : (other : List ℕ) → IsFile papers s.file other → file ≡ other
   same_file other is = told (λ bytes. bytes ≡ other) is
 
-  is_there : IsMissing papers s.file → ⊥
-  is_there missing = let none : paper_of found.files s.file ≡ None = subst (λ ps. IsMissing ps s.file) found.told missing in let z = sym none ∙ found.found in absurd cc
-
   -- a cause is want of memory, or what the bytes come to
   cause_verdict : (end : End) → SourceEnds papers before after s.file s.function end → (end ≡ NoMemory) ⊎ (verdict file s.function ≡ Err end)
-  cause_verdict end (unread (inl missing)) = absurd (is_there missing)
+  cause_verdict end (unread (inl missing)) = absurd (not_missing papers before after s.file file found missing)
   cause_verdict end (unread (inr rose)) = absurd (found.unfailing rose)
   cause_verdict end (long over) = inr (ap (λ t. if t then Err OverLimit else meaning (parsed file s.function)) (lt-ltb source_limit (length file) (told _ over)))
   cause_verdict end (misread other fault is short meant) =

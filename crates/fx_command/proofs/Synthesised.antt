@@ -32,11 +32,9 @@ use Rattle.fx_command.specs.SynthView.{IsFoundIn, Failing}
 use Rattle.fx_command.specs.commands.Synth as synth
 use Rattle.fx_command.specs.commands.Synth.{IsBundleFor, SynthEnds, unopened, not_found, unwritten}
 use Rattle.fx_command.proofs.Accepting.{if_file}
+use Rattle.fx_command.proofs.SameEnd.{ok_inside}
 
 -- ---- a function that was wanted by any name, or by none, is the one of its own name
-inside : (r : Result Function SourceFault) (f g : Function) → r ≡ Ok f → r ≡ Ok g → f ≡ g
-inside r f g d e = cc
-
 same_name : (name : List ℕ) → bytes_eq name name ≡ true
 same_name name = (bytes_eq-Decides name name).1 refl
 
@@ -46,7 +44,7 @@ first_called f fs name is = ap (λ t. called (if t then Some f else find (λ g. 
 found_name : (fs : List Function) (fn : Function) (name : List ℕ) → called (find (λ g. bytes_eq g.name name) fs) ≡ Ok fn → fn.name ≡ name
 found_name [] fn name e = absurd cc
 found_name (f ∷ fs) fn name e = elim (cases_Bool (bytes_eq f.name name)) [
-  | inl hit ↦ let is : f ≡ fn = inside (called (find (λ g. bytes_eq g.name name) (f ∷ fs))) f fn (ap (λ t. called (if t then Some f else find (λ g. bytes_eq g.name name) fs)) hit) e in
+  | inl hit ↦ let is : f ≡ fn = ok_inside (called (find (λ g. bytes_eq g.name name) (f ∷ fs))) f fn (ap (λ t. called (if t then Some f else find (λ g. bytes_eq g.name name) fs)) hit) e in
       ap (λ (g : Function). g.name) (sym is) ∙ (bytes_eq-Decides f.name name).0 hit
   | inr miss ↦ found_name fs fn name (sym (ap (λ t. called (if t then Some f else find (λ g. bytes_eq g.name name) fs)) miss) ∙ e)
 ]
@@ -54,7 +52,7 @@ found_name (f ∷ fs) fn name e = elim (cases_Bool (bytes_eq f.name name)) [
 chosen_again : (wanted : Option (List ℕ)) (fs : List Function) (fn : Function) → chosen wanted fs ≡ Ok fn → chosen (Some fn.name) fs ≡ Ok fn
 unfolding chosen
 chosen_again None [] fn e = absurd cc
-chosen_again None (f ∷ []) fn e = let is = inside (Ok f) f fn refl e in first_called f [] fn.name (ap (λ (g : Function). g.name) is) ∙ ap Ok is
+chosen_again None (f ∷ []) fn e = let is = ok_inside (Ok f) f fn refl e in first_called f [] fn.name (ap (λ (g : Function). g.name) is) ∙ ap Ok is
 chosen_again None (f ∷ g ∷ fs) fn e = absurd cc
 chosen_again (Some name) fs fn e = subst (λ n. called (find (λ g. bytes_eq g.name n) fs) ≡ Ok fn) (sym (found_name fs fn name e)) e
 
