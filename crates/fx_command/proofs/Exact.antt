@@ -23,7 +23,7 @@ use Rattle.fx_command.specs.Opening.{Spells, meaning_of, IsBundle, IsAcceptedAs,
 use Rattle.fx_command.specs.Exact.{IsFound, EndsExactly, OrNoMemory}
 use Rattle.fx_words.specs.Command as commands
 use Rattle.fx_command.specs.commands.Run as run
-use Rattle.fx_command.specs.commands.Run.{RowsEnd, Runs, IsReadable, rows_end}
+use Rattle.fx_command.specs.commands.Run.{RowsEnd, Runs, Takes, IsReadable, rows_end}
 use Rattle.fx_command.specs.commands.Check.{ReportEnds}
 use Rattle.fx_command.specs.commands.Check as check
 use Rattle.fx_command.specs.Promise.{HasEnded, IsAnswer, CallEnds, CallCompletes, FileEnds, file_of}
@@ -102,15 +102,15 @@ taken_few held taken None left' e took = absurd cc
 taken_few held taken (Some xs) None e took = absurd took
 taken_few held taken (Some xs) (Some rest) e took = let z : xs ≡ held = cc in let sum = sym (ap (λ ys. length ys) (sym z ∙ took)) in omega (arith, sum, length-append taken rest)
 
-rows_decide : (old new : Streams) (b : Parts) (fn : Function) (held : List ℕ) (end : End) → IsReadable old new held → RowsEnd old new b fn end →
+rows_decide : (old new : Streams) (b : Parts) (fn : Function) (held : List ℕ) (end : End) → IsReadable old new held → Takes old new end → RowsEnd old new b fn end →
     (end ≡ rows_end fn (read_rows fn held).given.bad) ⊎ (end ≡ NoMemory)
-rows_decide old new b fn held end r (run.all_run count done at_end) = let d = known _ held r.told done in inl (sym (ap (rows_end fn) d.good))
-rows_decide old new b fn held end r (run.bad_row line fault due) =
+rows_decide old new b fn held end r t (run.all_run count done at_end) = let d = known _ held r.told done in inl (sym (ap (rows_end fn) d.good))
+rows_decide old new b fn held end r t (run.bad_row line fault due) =
     let d = known _ held r.told due.0 in inl (ap (λ n. BadRow fn.inputs n (rows.row_fault_of fault)) d.number ∙ sym (ap (rows_end fn) d.bad))
-rows_decide old new b fn held end r (run.unread rose due) = absurd (r.reads rose)
-rows_decide old new b fn held end r (run.unwritten rose due) = absurd (r.writes rose)
-rows_decide old new b fn held end r (run.long taken took more due) = absurd (omega (arith, more, r.short, taken_few held taken old.left new.left r.told took))
-rows_decide old new b fn held end r (run.no_memory due) = inr refl
+rows_decide old new b fn held end r t (run.unread rose due) = absurd (r.reads rose)
+rows_decide old new b fn held end r t (run.unwritten rose due) = absurd (r.writes rose)
+rows_decide old new b fn held end r t (run.long due) = absurd (omega (arith, t.over.0 refl, r.short, taken_few held t.bytes old.left new.left r.told t.front))
+rows_decide old new b fn held end r t (run.no_memory due) = inr refl
 
 report_decides : (old new : Streams) (b : Parts) (fn : Function) (end : End) → ¬ Rose old.write_faults new.write_faults → ReportEnds old new b fn end → end ≡ Done
 report_decides old new b fn end writes (check.reported put) = refl
@@ -141,7 +141,7 @@ module _ (again : BundleAgain) (papers : Option Files) (before after : ℕ) (old
     where
       by : (b : Parts) (fn : Function) (held : List ℕ) → IsReadable old new held → (h.end ≡ NoMemory) ⊎ Runs old new b fn h.end → OrNoMemory IsEnd (rows_end fn (read_rows fn held).given.bad)
       by b fn held readable (inl none) = inr (subst IsEnd none h.answer)
-      by b fn held readable (inr runs) = either h.end _ h.answer (rows_decide old new b fn held h.end readable runs.rows)
+      by b fn held readable (inr runs) = either h.end _ h.answer (rows_decide old new b fn held h.end readable runs.taken runs.rows)
   complete (Some (commands.Check name)) h = λ b fn ready writes.
       by b fn writes (completed again papers before after name ready.file ready.found (ReportEnds old new) b fn h.end ready.is_bundle ready.accepted h.cause)
     where

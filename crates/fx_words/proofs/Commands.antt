@@ -72,6 +72,18 @@ check-is-one = record {
   wants = λ ps e. ap (option_map words.Check) (no-file ps e);
 }
 
+show-is-one : IsCommand (codes "show")
+unfolding walk_fault walked defaults_fault
+show-is-one = record {
+  options = [];
+  apart = tt;
+  known = refl;
+  faults = λ rest. ap₂ by_walk (stopped-walk (walk_from nothing_held) (codes "show") [] rest) (sym (walk_stopped [] commands (walk_from nothing_held) (codes "show") [] rest))
+      ∙ nil-or_else (faults_from (codes "show") (options_rules []) (walk_at [] settled_now 1 false) rest) [] ∙ and-true _;
+  rows = λ rest. ap (λ w. entered (built fixd_app) w.stopped) (sym (walk_stopped [] commands (walk_from nothing_held) (codes "show") [] rest));
+  wants = λ ps e. ap (option_map words.Show) (no-file ps e);
+}
+
 synth-is-one : IsCommand (codes "synth")
 unfolding walk_fault walked defaults_fault
 synth-is-one = record {
@@ -138,27 +150,34 @@ other-way xs ys e = by_other (bytes_eq ys xs) refl where
   by_other true f = sym ((bytes_eq-Decides xs ys).1 (sym ((bytes_eq-Decides ys xs).0 f))) ∙ e
   by_other false f = refl
 
-not-met : (r c s : Bool) → r ≡ false → c ≡ false → s ≡ false
+not-met : (r c v s : Bool) → r ≡ false → c ≡ false → v ≡ false → s ≡ false
     → option_map (λ (p : Bytes × List Bytes). p.0)
-    (if r || false then Some (codes "run", []) else if c || false then Some (codes "check", []) else if s || false then Some (codes "synth", []) else None) ≡ None
-not-met true c s e f g = absurd (cc)
-not-met false true s e f g = absurd (cc)
-not-met false false true e f g = absurd (cc)
-not-met false false false e f g = refl
+    (if r || false then Some (codes "run", []) else if c || false then Some (codes "check", []) else if v || false then Some (codes "show", []) else if s || false then Some (codes "synth", []) else None)
+    ≡ None
+not-met true c v s e f h g = absurd (cc)
+not-met false true v s e f h g = absurd (cc)
+not-met false false true s e f h g = absurd (cc)
+not-met false false false true e f h g = absurd (cc)
+not-met false false false false e f h g = refl
 
-not-known : (r c s : Bool) → r ≡ false → c ≡ false → s ≡ false → (if r then Some [] else if c then Some [] else if s then Some synth_options else None) ≡ None
-not-known true c s e f g = absurd (cc)
-not-known false true s e f g = absurd (cc)
-not-known false false true e f g = absurd (cc)
-not-known false false false e f g = refl
+not-known : (r c v s : Bool) → r ≡ false → c ≡ false → v ≡ false → s ≡ false →
+    (if r then Some [] else if c then Some [] else if v then Some [] else if s then Some synth_options else None) ≡ None
+not-known true c v s e f h g = absurd (cc)
+not-known false true v s e f h g = absurd (cc)
+not-known false false true s e f h g = absurd (cc)
+not-known false false false true e f h g = absurd (cc)
+not-known false false false false e f h g = refl
 
 pub which-command : (word : Bytes) → IsCommand word ⊎ IsNone word
-which-command word = by_name (bytes_eq word (codes "run")) refl (bytes_eq word (codes "check")) refl (bytes_eq word (codes "synth")) refl where
-  by_name : (r : Bool) → bytes_eq word (codes "run") ≡ r → (c : Bool) → bytes_eq word (codes "check") ≡ c → (s : Bool) → bytes_eq word (codes "synth") ≡ s → IsCommand word ⊎ IsNone word
-  by_name true e c f s g = inl (subst IsCommand (sym ((bytes_eq-Decides word (codes "run")).0 e)) run-is-one)
-  by_name false e true f s g = inl (subst IsCommand (sym ((bytes_eq-Decides word (codes "check")).0 f)) check-is-one)
-  by_name false e false f true g = inl (subst IsCommand (sym ((bytes_eq-Decides word (codes "synth")).0 g)) synth-is-one)
-  by_name false e false f false g = inr (record {
-    met = not-met _ _ _ (other-way word (codes "run") e) (other-way word (codes "check") f) (other-way word (codes "synth") g);
-    unknown = not-known _ _ _ e f g;
+which-command word =
+    by_name (bytes_eq word (codes "run")) refl (bytes_eq word (codes "check")) refl (bytes_eq word (codes "show")) refl (bytes_eq word (codes "synth")) refl where
+  by_name : (r : Bool) → bytes_eq word (codes "run") ≡ r → (c : Bool) → bytes_eq word (codes "check") ≡ c → (v : Bool) → bytes_eq word (codes "show") ≡ v →
+      (s : Bool) → bytes_eq word (codes "synth") ≡ s → IsCommand word ⊎ IsNone word
+  by_name true e c f v h s g = inl (subst IsCommand (sym ((bytes_eq-Decides word (codes "run")).0 e)) run-is-one)
+  by_name false e true f v h s g = inl (subst IsCommand (sym ((bytes_eq-Decides word (codes "check")).0 f)) check-is-one)
+  by_name false e false f true h s g = inl (subst IsCommand (sym ((bytes_eq-Decides word (codes "show")).0 h)) show-is-one)
+  by_name false e false f false h true g = inl (subst IsCommand (sym ((bytes_eq-Decides word (codes "synth")).0 g)) synth-is-one)
+  by_name false e false f false h false g = inr (record {
+    met = not-met _ _ _ _ (other-way word (codes "run") e) (other-way word (codes "check") f) (other-way word (codes "show") h) (other-way word (codes "synth") g);
+    unknown = not-known _ _ _ _ e f h g;
   })

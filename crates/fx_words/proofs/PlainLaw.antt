@@ -1,7 +1,7 @@
 -- Without options the entries are files.
 use Rattle.std.proofs.Common.{◌≡◌, ◌∙◌, Bool, true, false, List, [], ◌∷◌, map, Option, Some, None, option_map, codes, refl, ap}
 use Rattle.std.specs.Prelude.{if◌then◌else◌, option_and_then}
-use Rattle.fx_words.specs.Command.{Run, Check, command_of, lawful_command}
+use Rattle.fx_words.specs.Command.{Command, Run, Check, Show, command_of}
 use Rattle.fx_words.specs.Grammar.{Bytes, Entry, after_option, ends_options, entries_in, file_entry, is_dashed, once, option_parts, stand_once, value_named, with_entry}
 use Rattle.fx_words.specs.Plain.{files_among, one_file}
 
@@ -24,26 +24,26 @@ entries-are-files (word ∷ rest) = by_word (ends_options word) (is_dashed word)
   by_word false true e = no-option (option_parts word) (entries_in [] rest)
   by_word false false e = ap (with_entry (file_entry word)) e ∙ first-file word (files_among rest)
 
-run-of-files : (r : Option (List Bytes))
-    → option_and_then (λ entries. lawful_command (codes "run") [] (value_named entries)) (once (option_map (λ files. map file_entry files) r)) ≡ option_map Run (one_file r)
+-- a command of FILE alone: what stands under `file` is the one file, where there is one
+file-given : (made : Bytes → Command) (r : Option (List Bytes))
+    → option_and_then (λ entries. option_map made (value_named entries (codes "file"))) (once (option_map (λ files. map file_entry files) r)) ≡ option_map made (one_file r)
 unfolding stand_once
-run-of-files None = refl
-run-of-files (Some []) = refl
-run-of-files (Some (a ∷ [])) = refl
-run-of-files (Some (a ∷ b ∷ files)) = refl
+file-given made None = refl
+file-given made (Some []) = refl
+file-given made (Some (a ∷ [])) = refl
+file-given made (Some (a ∷ b ∷ files)) = refl
 
-check-of-files : (r : Option (List Bytes))
-    → option_and_then (λ entries. lawful_command (codes "check") [] (value_named entries)) (once (option_map (λ files. map file_entry files) r)) ≡ option_map Check (one_file r)
-unfolding stand_once
-check-of-files None = refl
-check-of-files (Some []) = refl
-check-of-files (Some (a ∷ [])) = refl
-check-of-files (Some (a ∷ b ∷ files)) = refl
+-- so of the words behind its name
+taken : (made : Bytes → Command) (words : List Bytes)
+    → option_and_then (λ entries. option_map made (value_named entries (codes "file"))) (once (entries_in [] words None)) ≡ option_map made (one_file (files_among words))
+taken made words =
+    ap (λ r. option_and_then (λ entries. option_map made (value_named entries (codes "file"))) (once r)) (entries-are-files words) ∙ file-given made (files_among words)
 
 pub run-takes-one-file : (words : List Bytes) → command_of (codes "run" ∷ words) ≡ option_map Run (one_file (files_among words))
-run-takes-one-file words =
-    ap (λ r. option_and_then (λ entries. lawful_command (codes "run") [] (value_named entries)) (once r)) (entries-are-files words) ∙ run-of-files (files_among words)
+run-takes-one-file words = taken Run words
 
 pub check-takes-one-file : (words : List Bytes) → command_of (codes "check" ∷ words) ≡ option_map Check (one_file (files_among words))
-check-takes-one-file words =
-    ap (λ r. option_and_then (λ entries. lawful_command (codes "check") [] (value_named entries)) (once r)) (entries-are-files words) ∙ check-of-files (files_among words)
+check-takes-one-file words = taken Check words
+
+pub show-takes-one-file : (words : List Bytes) → command_of (codes "show" ∷ words) ≡ option_map Show (one_file (files_among words))
+show-takes-one-file words = taken Show words

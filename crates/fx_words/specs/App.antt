@@ -38,4 +38,4 @@ top_app = record (new_app (codes "fixd")) {
 }
 
 abbrev pub fixd_app : App
-fixd_app = with_subcommand (with_subcommand (with_subcommand top_app (file_app (codes "run")).top) (file_app (codes "check")).top) synth_app.top
+fixd_app = with_subcommand (with_subcommand (with_subcommand (with_subcommand top_app (file_app (codes "run")).top) (file_app (codes "check")).top) (file_app (codes "show")).top) synth_app.top

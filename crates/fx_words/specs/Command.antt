@@ -18,6 +18,7 @@ pub record Synthesis : Type 0 where
 pub data Command : Type 0 where
   Run : (file : Bytes) → Command
   Check : (file : Bytes) → Command
+  Show : (file : Bytes) → Command
   Synth : Synthesis → Command
 
 -- each word as its bytes
@@ -52,6 +53,7 @@ abbrev pub options_of : Bytes → Option (List Bytes)
 options_of word =
     if bytes_eq word (codes "run") then Some []
     else if bytes_eq word (codes "check") then Some []
+    else if bytes_eq word (codes "show") then Some []
     else if bytes_eq word (codes "synth") then Some synth_options
     else None
 
@@ -60,6 +62,7 @@ abbrev pub command_given : Bytes → (Bytes → Option Bytes) → Option Command
 command_given word given =
     if bytes_eq word (codes "run") then option_map Run (given (codes "file"))
     else if bytes_eq word (codes "check") then option_map Check (given (codes "file"))
+    else if bytes_eq word (codes "show") then option_map Show (given (codes "file"))
     else if bytes_eq word (codes "synth") then synthesis_given given
     else None
 

@@ -18,6 +18,8 @@ pub enum Command<'a> {
     Run(&'a str),
     /// Prints the bounds of the bundle.
     Check(&'a str),
+    /// Prints the codes of the bundle with their intervals, and the bounds.
+    Show(&'a str),
     /// Makes a bundle of a source.
     Synth(Synthesis<'a>),
 }

@@ -61,6 +61,16 @@ fn check_in<'a>(matches: &ArgMatches<'a>) -> Option<Command<'a>>
     }
 }
 
+fn show_in<'a>(matches: &ArgMatches<'a>) -> Option<Command<'a>>
+    ensures command { option_map command_view result ≡ option_map words.Show (first_of (codes "file") (rows_of (found_of matches.now))) }
+    ensures lawful { IfSome result (λ c. IsLawfulCommand (command_view c)) }
+{
+    match text_of(matches, "file") {
+        Some(file) => Some(Command::Show(file)),
+        None => None,
+    }
+}
+
 fn synth_in<'a>(matches: &ArgMatches<'a>) -> Option<Command<'a>>
     ensures command { option_map command_view result ≡ lawful_command (codes "synth") synth_options (λ name. first_of name (rows_of (found_of matches.now))) }
     ensures lawful { IfSome result (λ c. IsLawfulCommand (command_view c)) }
@@ -91,6 +101,7 @@ pub fn command_in<'a>(matches: &ArgMatches<'a>) -> Option<Command<'a>>
     match name {
         "run" => run_in(found),
         "check" => check_in(found),
+        "show" => show_in(found),
         "synth" => synth_in(found),
         _ => None,
     }

@@ -89,8 +89,10 @@ pub fn fixd<'a>(alloc: Global) -> Result<Parser<'a>, AllocError>
 {
     let run = file_command(alloc, "run")?;
     let check = file_command(alloc, "check")?;
+    let show = file_command(alloc, "show")?;
     let synth = synth(alloc)?;
     let line = with_command(top(alloc), run)?;
     let line = with_command(line, check)?;
+    let line = with_command(line, show)?;
     with_command(line, synth)
 }

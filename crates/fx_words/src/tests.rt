@@ -1,6 +1,6 @@
 //! What no clause says: that there is memory for a call; and the words of a person's table.
 use super::*;
-use Command::{Check, Run, Synth};
+use Command::{Check, Run, Show, Synth};
 use std::alloc::Global;
 use std::test::Fail;
 
@@ -15,7 +15,7 @@ const SHORT: Synthesis<'static> = Synthesis {
 
 // words behind the program's name, and the command that they are
 #[rattlefmt::skip]
-static WORDS: [(&[&str], Option<Command<'static>>); 67] = [
+static WORDS: [(&[&str], Option<Command<'static>>); 71] = [
     (&[], None),
     (&["run"], None),
     (&["check"], None),
@@ -23,6 +23,8 @@ static WORDS: [(&[&str], Option<Command<'static>>); 67] = [
     (&["check", "a", "b"], None),
     (&["run", "-x"], None),
     (&["check", "-x"], None),
+    (&["show"], None),
+    (&["show", "a", "b"], None),
     (&["run", "--", "-x", "-x"], None),
     (&["run", "--"], None),
     (&["run", "a", "-x"], None),
@@ -39,6 +41,8 @@ static WORDS: [(&[&str], Option<Command<'static>>); 67] = [
     (&["run", "--file", "a"], None),
     (&["run", "a"], Some(Run("a"))),
     (&["check", "a"], Some(Check("a"))),
+    (&["show", "a"], Some(Show("a"))),
+    (&["show", "--", "-x"], Some(Show("-x"))),
     (&["run", ""], Some(Run(""))),
     (&["run", "-"], Some(Run("-"))),
     (&["run", "a", "--"], Some(Run("a"))),

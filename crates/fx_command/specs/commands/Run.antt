@@ -1,5 +1,5 @@
 -- What `run FILE` does: it runs the rows of the input, and prints their page.
-use Rattle.std.specs.Prelude.{◌≡◌, ℕ, ◌+◌, ◌<◌, ◌≤◌, List, Option, Some, None, length}
+use Rattle.std.specs.Prelude.{◌≡◌, ◌↔◌, ℕ, ◌+◌, ◌<◌, ◌≤◌, List, Option, Some, None, length}
 use Rattle.std.specs.Io.KnownBytes.{Consumes, IsAtEnd}
 use Rattle.fx_base.specs.Causes.{Rose}
 use Rattle.fx_base.specs.Shelf.{Files}
@@ -26,13 +26,19 @@ pub data RowsEnd (old new : Streams) (b : Parts) (fn : Function) : End → Type 
       RowsEnd old new b fn (BadRow fn.inputs line (row_fault_of fault))
   unread : Rose old.read_faults new.read_faults → IsDue (run_outcome fn b.program) old.left new.left old.taken new.taken run.ReadFault → RowsEnd old new b fn ReadFault
   unwritten : Rose old.write_faults new.write_faults → IsDue (run_outcome fn b.program) old.left new.left old.taken new.taken run.WriteFault → RowsEnd old new b fn WriteFault
-  long : (taken : List ℕ) → Consumes old.left new.left taken → rows_limit < length taken → IsDue (run_outcome fn b.program) old.left new.left old.taken new.taken run.TooLong →
-      RowsEnd old new b fn OverLimit
+  long : IsDue (run_outcome fn b.program) old.left new.left old.taken new.taken run.TooLong → RowsEnd old new b fn OverLimit
   no_memory : IsDue (run_outcome fn b.program) old.left new.left old.taken new.taken run.Memory → RowsEnd old new b fn NoMemory
+
+-- the bytes that it took of the input: more than the limit exactly where that is the end
+pub record Takes (old new : Streams) (end : End) : Type 0 where
+  pub bytes : List ℕ
+  pub front : Consumes old.left new.left bytes
+  pub over : (end ≡ OverLimit) ↔ (rows_limit < length bytes)
 
 -- what it does with an accepted bundle: its rows end so, and of the rows of any input its program is worth what is certified
 pub record Runs (old new : Streams) (b : Parts) (fn : Function) (end : End) : Type 0 where
   pub law : RowsLaw fn b.program b.certificate
+  pub taken : Takes old new end
   pub rows : RowsEnd old new b fn end
 
 -- all of it; the shelf's faults are counted before and after
