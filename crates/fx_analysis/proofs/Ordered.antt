@@ -1,0 +1,168 @@
+-- The node list of a function: inputs first, operands before each node, and copies last.
+use Rattle.std.proofs.Common.{◌≡◌, ℕ, zero, suc, ◌+◌, ◌<◌, ◌≤◌, List, [], ◌∷◌, ◌++◌, length, refl, sym, subst, ◌∙◌, arith, length-append}
+use Rattle.std.specs.Prelude.{All}
+use Rattle.std.proofs.lemmas.List.{length_push}
+use Rattle.std.proofs.lemmas.List.Elements.{All-nil, All-cons, All-push}
+use Rattle.fx_model.specs.Tree as tree
+use Rattle.fx_model.specs.Tree.{Tree, at}
+use Rattle.fx_model.specs.Function.{Function, Temp}
+use Rattle.fx_model.specs.Nodes.{Node, Neg, Add, Sub, Mul, Div, Copy, Flat, flat, inputs_from, states_from, copies_of, nodes_after, nodes_of}
+use Rattle.fx_analysis.specs.Ordered.{IsInPlace, AreInPlace}
+use Rattle.fx_model.specs.Valid.{RefersBelow, AllReferBelow, ReferBack, IsValid}
+
+pub ordered_append : (i s k : ℕ) (xs ys : List Node) → AreInPlace i s k xs → AreInPlace i s (k + length xs) ys → AreInPlace i s k (xs ++ ys)
+ordered_append i s k [] ys h g = subst (λ (m : ℕ). AreInPlace i s m ys) (omega arith) g
+ordered_append i s k (x ∷ xs) ys h g = (h.0, ordered_append i s (k + 1) xs ys h.1 (subst (λ (m : ℕ). AreInPlace i s m ys) (omega arith) g))
+
+inputs_ordered : (i s k m : ℕ) → k + m ≤ i → AreInPlace i s k (inputs_from k m)
+inputs_ordered i s k zero h = tt
+inputs_ordered i s k (suc m) h = ((refl, omega (arith, h)), inputs_ordered i s (k + 1) m (omega (arith, h)))
+
+states_ordered : (i s k j m : ℕ) → k ≡ i + j → j + m ≤ s → AreInPlace i s k (states_from j m)
+states_ordered i s k j zero e l = tt
+states_ordered i s k j (suc m) e l = ((e, omega (arith, l)), states_ordered i s (k + 1) (j + 1) m (omega (arith, e)) (omega (arith, l)))
+
+pub states_length : (k m : ℕ) → length (states_from k m) ≡ m
+states_length k zero = refl
+states_length k (suc m) = let h = states_length (k + 1) m in omega (arith, h)
+
+pub inputs_length : (k m : ℕ) → length (inputs_from k m) ≡ m
+inputs_length k zero = refl
+inputs_length k (suc m) = let h = inputs_length (k + 1) m in omega (arith, h)
+
+-- each root is below n
+abbrev pub AreBelow : ℕ → List ℕ → Type 0
+AreBelow n roots = All (λ r. r < n) roots
+
+below_more : (n m : ℕ) (roots : List ℕ) → n ≤ m → AreBelow n roots → AreBelow m roots
+below_more n m roots l h k d lt = let b = h k d lt in omega (arith, b, l)
+
+-- ---- a tree's nodes
+pub record IsFlat (i s n : ℕ) (x : Flat) : Type 0 where
+  pub list : AreInPlace i s n x.list
+  pub root : x.root < n + length x.list
+
+one_more : (i s n : ℕ) (list : List Node) (node : Node) → AreInPlace i s n list → IsInPlace i s (n + length list) node → IsFlat i s n (record { list = list ++ node ∷ []; root = n + length list })
+one_more i s n list node h o = record {
+  list = ordered_append i s n list (node ∷ []) h (o, tt);
+  root = let l = length-append list (node ∷ []) in omega (arith, l);
+}
+
+two_more : (i s n : ℕ) (xs ys : List Node) (node : Node) → AreInPlace i s n xs → AreInPlace i s (n + length xs) ys → IsInPlace i s (n + length xs + length ys) node →
+    IsFlat i s n (record { list = xs ++ ys ++ node ∷ []; root = n + length xs + length ys })
+two_more i s n xs ys node h g o =
+    let l = length-append xs ys in
+    let place : n + length (xs ++ ys) ≡ n + length xs + length ys = omega (arith, l) in
+    let all = one_more i s n (xs ++ ys) node (ordered_append i s n xs ys h g) (subst (λ (m : ℕ). IsInPlace i s m node) (sym place) o) in
+    record { list = all.list; root = let r = all.root in omega (arith, r, l) }
+
+flat_ordered : (i s n : ℕ) (temps : List ℕ) (e : Tree) → i + s ≤ n → AreBelow n temps → RefersBelow i s (length temps) e → IsFlat i s n (flat i temps n e)
+flat_ordered i s n temps (tree.Literal c) l h r = record { list = (tt, tt); root = omega arith }
+flat_ordered i s n temps (tree.Input k) l h r = record { list = tt; root = omega (arith, l, r) }
+flat_ordered i s n temps (tree.State k) l h r = record { list = tt; root = omega (arith, l, r) }
+flat_ordered i s n temps (tree.Temp k) l h r = record { list = tt; root = let b = h k 0 r in omega (arith, b) }
+flat_ordered i s n temps (tree.Negation a) l h r =
+    let x = flat_ordered i s n temps a l h r in let xr = x.root in
+    one_more i s n (flat i temps n a).list (Neg (flat i temps n a).root) x.list xr
+flat_ordered i s n temps (tree.Sum a b) l h r =
+    let fx = flat i temps n a in let m = n + length fx.list in
+    let x = flat_ordered i s n temps a l h r.0 in let y = flat_ordered i s m temps b (omega (arith, l)) (below_more n m temps (omega arith) h) r.1 in
+    let xr = x.root in let yr = y.root in
+    two_more i s n fx.list (flat i temps m b).list (Add fx.root (flat i temps m b).root) x.list y.list (omega (arith, xr), omega (arith, yr))
+flat_ordered i s n temps (tree.Difference a b) l h r =
+    let fx = flat i temps n a in let m = n + length fx.list in
+    let x = flat_ordered i s n temps a l h r.0 in let y = flat_ordered i s m temps b (omega (arith, l)) (below_more n m temps (omega arith) h) r.1 in
+    let xr = x.root in let yr = y.root in
+    two_more i s n fx.list (flat i temps m b).list (Sub fx.root (flat i temps m b).root) x.list y.list (omega (arith, xr), omega (arith, yr))
+flat_ordered i s n temps (tree.Product a b) l h r =
+    let fx = flat i temps n a in let m = n + length fx.list in
+    let x = flat_ordered i s n temps a l h r.0 in let y = flat_ordered i s m temps b (omega (arith, l)) (below_more n m temps (omega arith) h) r.1 in
+    let xr = x.root in let yr = y.root in
+    two_more i s n fx.list (flat i temps m b).list (Mul fx.root (flat i temps m b).root) x.list y.list (omega (arith, xr), omega (arith, yr))
+flat_ordered i s n temps (tree.Quotient a b) l h r =
+    let fx = flat i temps n a in let m = n + length fx.list in
+    let x = flat_ordered i s n temps a l h r.0 in let y = flat_ordered i s m temps b (omega (arith, l)) (below_more n m temps (omega arith) h) r.1 in
+    let xr = x.root in let yr = y.root in
+    two_more i s n fx.list (flat i temps m b).list (Div fx.root (flat i temps m b).root) x.list y.list (omega (arith, xr), omega (arith, yr))
+
+-- ---- copies
+copies_ordered : (i s n : ℕ) (roots : List ℕ) → AreBelow n roots → AreInPlace i s n (copies_of roots)
+copies_ordered i s n [] h = tt
+copies_ordered i s n (a ∷ roots) h =
+    (h 0 0 (omega arith), copies_ordered i s (n + 1) roots (λ k d lt. let b = h (suc k) d (omega (arith, lt)) in omega (arith, b)))
+
+copies_length : (roots : List ℕ) → length (copies_of roots) ≡ length roots
+copies_length [] = refl
+copies_length (a ∷ roots) = let h = copies_length roots in omega (arith, h)
+
+-- a copy
+abbrev pub IsCopyNode : Node → Type 0
+IsCopyNode (Copy a) = Unit {0}
+IsCopyNode node = ⊥
+
+copies_are : (roots : List ℕ) → All IsCopyNode (copies_of roots)
+copies_are [] = All-nil IsCopyNode
+copies_are (a ∷ roots) = All-cons IsCopyNode (Copy a) (copies_of roots) tt (copies_are roots)
+
+-- ---- all nodes
+-- what stands before the copies, and what is copied
+pub record IsFlatList (i s m : ℕ) (nodes : List Node) : Type 0 where
+  pub before : List Node
+  pub copies : List Node
+  pub is : nodes ≡ before ++ copies
+  pub count : length copies ≡ m
+  pub are_copies : All IsCopyNode copies
+  pub enough : i + s ≤ length before
+  pub ordered : AreInPlace i s 0 nodes
+
+temp_more : (n : ℕ) (list : List Node) (temps : List ℕ) (root : ℕ) → AreBelow n temps → root < n + length list → AreBelow (n + length list) (temps ++ root ∷ [])
+temp_more n list temps root h r = All-push (λ (t : ℕ). t < n + length list) temps root (below_more n (n + length list) temps (omega arith) h) r
+
+after_ordered : (i s : ℕ) (ts : List Temp) (es : List Tree) (temps roots : List ℕ) (ns : List Node) → i + s ≤ length ns → AreInPlace i s 0 ns → AreBelow (length ns) temps → AreBelow (length ns) roots →
+    ReferBack i s (length temps) ts → AllReferBelow i s (length temps + length ts) es → IsFlatList i s (length roots + length es) (nodes_after i ts es temps roots ns)
+after_ordered i s [] [] temps roots ns l o t r back refer = record {
+  before = ns;
+  copies = copies_of roots;
+  is = refl;
+  count = let c = copies_length roots in omega (arith, c);
+  are_copies = copies_are roots;
+  enough = omega (arith, l);
+  ordered = ordered_append i s 0 ns (copies_of roots) o (subst (λ (m : ℕ). AreInPlace i s m (copies_of roots)) (omega arith) (copies_ordered i s (length ns) roots r));
+}
+after_ordered i s [] (e ∷ es) temps roots ns l o t r back refer =
+    let x = flat i temps (length ns) e in
+    let f = flat_ordered i s (length ns) temps e l t (subst (λ (m : ℕ). RefersBelow i s m e) (omega arith) refer.0) in
+    let long = length-append ns x.list in
+    let more = after_ordered i s [] es temps (roots ++ x.root ∷ []) (ns ++ x.list) (omega (arith, l, long))
+    (ordered_append i s 0 ns x.list o (subst (λ (m : ℕ). AreInPlace i s m x.list) (omega arith) f.list))
+    (below_more (length ns) (length (ns ++ x.list)) temps (omega (arith, long)) t)
+    (subst (λ (m : ℕ). AreBelow m (roots ++ x.root ∷ [])) (sym long) (temp_more (length ns) x.list roots x.root r f.root))
+    back refer.1 in
+    let pushed = length_push roots x.root in
+    subst (λ (m : ℕ). IsFlatList i s m (nodes_after i [] es temps (roots ++ x.root ∷ []) (ns ++ x.list))) (omega (arith, pushed)) more
+after_ordered i s (t ∷ ts) es temps roots ns l o below r back refer =
+    let x = flat i temps (length ns) t.tree in
+    let f = flat_ordered i s (length ns) temps t.tree l below back.0 in
+    let long = length-append ns x.list in
+    let pushed = length_push temps x.root in
+    after_ordered i s ts es (temps ++ x.root ∷ []) roots (ns ++ x.list) (omega (arith, l, long))
+    (ordered_append i s 0 ns x.list o (subst (λ (m : ℕ). AreInPlace i s m x.list) (omega arith) f.list))
+    (subst (λ (m : ℕ). AreBelow m (temps ++ x.root ∷ [])) (sym long) (temp_more (length ns) x.list temps x.root below f.root))
+    (below_more (length ns) (length (ns ++ x.list)) roots (omega (arith, long)) r)
+    (subst (λ (m : ℕ). ReferBack i s m ts) (sym pushed) back.1)
+    (subst (λ (m : ℕ). AllReferBelow i s m es) (omega (arith, pushed)) refer)
+
+module _ (fn : Function) (valid : IsValid fn) where
+  start_long : length (inputs_from 0 (length fn.inputs) ++ states_from 0 (length fn.states)) ≡ length fn.inputs + length fn.states
+  start_long = let a = inputs_length 0 (length fn.inputs) in let b = states_length 0 (length fn.states) in length-append (inputs_from 0 (length fn.inputs)) (states_from 0 (length fn.states)) ∙ omega (arith, a, b)
+
+  start_ordered : AreInPlace (length fn.inputs) (length fn.states) 0 (inputs_from 0 (length fn.inputs) ++ states_from 0 (length fn.states))
+  start_ordered = ordered_append (length fn.inputs) (length fn.states) 0 (inputs_from 0 (length fn.inputs)) (states_from 0 (length fn.states)) (inputs_ordered (length fn.inputs) (length fn.states) 0 (length fn.inputs) (omega arith)) (states_ordered (length fn.inputs) (length fn.states) (0 + length (inputs_from 0 (length fn.inputs))) 0 (length fn.states) (let l = inputs_length 0 (length fn.inputs) in omega (arith, l)) (omega arith))
+
+  pub node_list : IsFlatList (length fn.inputs) (length fn.states) (length fn.demands + length fn.states) (nodes_of fn)
+  node_list =
+      let s = start_long in
+      let all = after_ordered (length fn.inputs) (length fn.states) fn.temps fn.results [] [] (inputs_from 0 (length fn.inputs) ++ states_from 0 (length fn.states)) (omega (arith, s)) start_ordered
+      (All-nil (λ (r : ℕ). r < length (inputs_from 0 (length fn.inputs) ++ states_from 0 (length fn.states)))) (All-nil (λ (r : ℕ). r < length (inputs_from 0 (length fn.inputs) ++ states_from 0 (length fn.states))))
+      valid.temps (subst (λ (m : ℕ). AllReferBelow (length fn.inputs) (length fn.states) m fn.results) (omega arith) valid.results) in
+      subst (λ (m : ℕ). IsFlatList (length fn.inputs) (length fn.states) m (nodes_of fn)) (let a = valid.all_results in omega (arith, a)) all

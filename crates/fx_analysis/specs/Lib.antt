@@ -1,0 +1,14 @@
+pub mod Narrow
+pub mod Fold
+pub mod PlainRanges
+pub mod GreedyPoints
+pub mod PlainErrors
+pub mod PlainAttempt
+pub mod Laws
+pub mod Ordered
+pub mod Narrowed
+pub mod Blame
+pub mod Listed
+pub mod Wide
+pub mod Exact
+pub mod Places

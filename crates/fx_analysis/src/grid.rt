@@ -1,0 +1,90 @@
+//! Ends on a grid, in lowest terms.
+
+ghost use Rattle.std.specs.Prelude.{◌≡◌, ◌&&◌, ◌^◌, ◌≤◌, ◌<◌, ◌*ℤ◌, pos, unsigned_abs, true, false, Option};
+ghost use Rattle.fx_rational.specs.Rational.{floor_div, ceil_div};
+ghost use Rattle.fx_rational.specs.Dyadic.{dyadic_value};
+ghost use Rattle.fx_analysis.specs.Narrow.{is_even, lowest_dyadic, grid_down, grid_up, is_small, narrow};
+ghost use Rattle.fx_judging.specs.Judging.{FormsSpan};
+ghost use Rattle.fx_analysis.specs.Narrowed.{bounds_of, IsIfSmall};
+
+use fx_interval::Interval;
+use fx_num::{Dyadic, floor_shift, round_down, round_up};
+
+/// The mantissa.
+pub fn mantissa(d: Dyadic) -> i128
+    ensures { result ≡ d.m }
+{
+    d.m
+}
+
+/// How many binary places there are.
+pub fn exponent(d: Dyadic) -> u32
+    ensures value { result ≡ d.e }
+    ensures small { result ≤ 2 ^ 20 }
+{
+    d.e
+}
+
+fn is_even(m: i128) -> bool
+    ensures { result ≡ is_even m }
+{
+    m.unsigned_abs() % 2 == 0
+}
+
+/// `m / 2^e` in lowest terms.
+pub fn trim(m: i128, e: u32) -> Dyadic
+    requires { e ≤ 2 ^ 20 }
+    ensures { result ≡ lowest_dyadic m e }
+{
+    if e == 0 {
+        return Dyadic::new(m, 0);
+    }
+    if is_even(m) {
+        return trim(floor_shift(m, 1), e - 1);
+    }
+    Dyadic::new(m, e)
+}
+
+/// The greatest of grid `e` that isn't above `d`.
+pub fn down(d: Dyadic, e: u32) -> Dyadic
+    ensures { result ≡ grid_down e (dyadic_value d) }
+{
+    let r = round_down(d, e);
+    trim(mantissa(r), exponent(r))
+}
+
+/// The least of grid `e` that isn't below `d`.
+pub fn up(d: Dyadic, e: u32) -> Dyadic
+    ensures { result ≡ grid_up e (dyadic_value d) }
+{
+    let r = round_up(d, e);
+    trim(mantissa(r), exponent(r))
+}
+
+/// Whether its mantissa has at most 62 bits.
+pub fn is_small(d: Dyadic) -> bool
+    ensures { result ≡ is_small d }
+{
+    d.m.unsigned_abs() < 1 << 62
+}
+
+/// The interval, where it is short.
+pub fn keep(x: Interval) -> Option<Interval>
+    ensures { IsIfSmall result x }
+{
+    if is_small(x.lo) && is_small(x.hi) {
+        Some(x)
+    } else {
+        None
+    }
+}
+
+/// The narrowest on grid `e` round an interval, where it is short.
+pub fn narrowed(x: Interval, e: u32) -> Option<Interval>
+    ensures { IsIfSmall result (narrow e (bounds_of x)) }
+{
+    keep(Interval {
+        lo: down(x.lo, e),
+        hi: up(x.hi, e),
+    })
+}
