@@ -27,3 +27,6 @@ pub mod NodeErrors
 pub mod NodeLaw
 pub mod AttemptLaw
 pub mod CodeLaw
+pub mod LiteralWords
+pub mod Variables
+pub mod ProgramLaw

@@ -12,3 +12,4 @@ pub mod Listed
 pub mod Wide
 pub mod Exact
 pub mod Places
+pub mod AttemptLaws

@@ -14,6 +14,7 @@ mod walk;
 mod wide;
 
 ghost use Rattle.fx_analysis.specs.Laws.{NarrowLaw, RangesLaw, PointsLaw, ErrorsLaw, WholeListLaw, AttemptLaw, CodesLaw};
+ghost use Rattle.fx_analysis.specs.AttemptLaws.{AttemptProgramLaw};
 
 pub use fault::{PlanFault, Why};
 pub use walk::{Plan, points, ranges, roundoff};
@@ -51,4 +52,9 @@ pub fn attempt_law()
 /// The codes of the plain attempt have its points.
 pub fn codes_law()
     ensures { CodesLaw }
+{}
+
+/// The program of the plain attempt is lawful.
+pub fn attempt_program_law()
+    ensures { AttemptProgramLaw }
 {}
