@@ -30,3 +30,5 @@ pub mod CodeLaw
 pub mod LiteralWords
 pub mod Variables
 pub mod ProgramLaw
+pub mod Attempted
+pub mod Planned

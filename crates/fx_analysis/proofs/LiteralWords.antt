@@ -1,5 +1,5 @@
 -- The word of a literal: where words reach twice as far as a range that holds it, it is one.
-use Rattle.std.proofs.Common.{◌≡◌, ℕ, ◌+◌, ◌-◌, ◌*◌, ◌^◌, ◌<◌, ◌≤◌, true, ℤ, pos, neg_ℤ, ◌≤ℤ◌, refl, sym, ap, subst, ◌∙◌, arith, pow_pos, pow-add}
+use Rattle.std.proofs.Common.{◌≡◌, ℕ, ◌+◌, ◌-◌, ◌^◌, ◌<◌, ◌≤◌, true, ℤ, pos, neg_ℤ, ◌≤ℤ◌, refl, sym, subst, arith, pow_pos, pow-add}
 use Rattle.std.proofs.lemmas.Int.{ints}
 use Rattle.fx_rational.specs.Rational.{Rational, whole, times, scaled, floor, AtMost}
 use Rattle.fx_rational.specs.Dyadic.{Dyadic, dyadic_value, word_dyadic, is_dyadic_at_most}
@@ -11,7 +11,7 @@ use Rattle.fx_rational.proofs.Floors.{floor_floors, floor-greatest}
 use Rattle.fx_rational.proofs.Powers.{unit, unit_above, scaled_back, whole_order}
 use Rattle.fx_model.specs.Machine.{IsWord}
 use Rattle.fx_model.proofs.Wide.{is_word_from}
-use Rattle.fx_inequalities.specs.Formula.{Num, formula_value, word_at}
+use Rattle.fx_inequalities.specs.Formula.{Num, formula_value}
 use Rattle.fx_bounds.proofs.Claims.{both_left, both_right}
 use Rattle.fx_bounds.proofs.Words.{word_at_is}
 use Rattle.fx_analysis.specs.GreedyPoints.{is_reached}

@@ -1,5 +1,5 @@
 -- The program of the plain attempt is lawful.
-use Rattle.std.proofs.Common.{◌≡◌, ℕ, zero, suc, ◌+◌, ◌-◌, ◌*◌, ◌<◌, ◌≤◌, true, List, [], ◌∷◌, ◌++◌, length, drop, ◌⊎◌, inl, inr, ℤ, pos, negsuc, neg_ℤ, int_le, ◌≤ℤ◌, refl, sym, ap, subst, ◌∙◌, arith, length-append}
+use Rattle.std.proofs.Common.{◌≡◌, ℕ, zero, suc, ◌+◌, ◌-◌, ◌*◌, ◌<◌, ◌≤◌, true, List, [], ◌∷◌, ◌++◌, length, drop, ◌⊎◌, inl, inr, ℤ, pos, negsuc, neg_ℤ, refl, sym, ap, subst, ◌∙◌, arith, length-append}
 use Rattle.std.specs.Prelude.{All, Contains, unsigned_abs, Ok}
 use Rattle.std.proofs.lemmas.Int.{ints}
 use Rattle.std.proofs.lemmas.List.Elements.{All-nil, All-cons, All-from_get_or}
@@ -8,22 +8,21 @@ use Rattle.fx_rational.specs.Interval.{Interval}
 use Rattle.fx_model.specs.Tree.{at}
 use Rattle.fx_model.specs.Function.{Function}
 use Rattle.fx_model.specs.Machine.{points_of}
-use Rattle.fx_model.specs.LawfulProgram.{IsPoint, IsShift, IsLawfulCode, IsPlaced, AreLawful, IsCopy, widths, HasLawfulCounts, IsLawfulProgram}
+use Rattle.fx_model.specs.LawfulProgram.{IsPoint, IsShift, IsLawfulCode, IsPlaced, AreLawful, IsCopy, widths, IsLawfulProgram}
 use Rattle.fx_model.specs.Nodes.{Node, Input, State, Const, Neg, Add, Sub, Mul, Div, Copy, nodes_of}
 use Rattle.fx_expr.specs.LawfulFunction.{IsLawfulFunction}
 use Rattle.fx_inequalities.specs.Formula.{span}
-use Rattle.fx_inequalities.specs.Certificate.{NodeLine, zero_interval, no_line}
+use Rattle.fx_inequalities.specs.Certificate.{zero_interval}
 use Rattle.fx_bounds.proofs.Claims.{both_left, both_right}
-use Rattle.fx_analysis.specs.PlainRanges.{range_sketch, plain_range, plain_ranges}
+use Rattle.fx_analysis.specs.PlainRanges.{plain_range, plain_ranges}
 use Rattle.fx_analysis.specs.GreedyPoints.{is_from_to, shift_of, product_shift, quotient_shift, has_shifts, is_reached, greedy_point as greedy_of, greedy_points}
 use Rattle.fx_analysis.specs.PlainErrors.{placed_code}
 use Rattle.fx_analysis.specs.PlainAttempt.{placed_codes, attempt_of}
 use Rattle.fx_analysis.specs.Ordered.{IsInPlace}
-use Rattle.fx_analysis.specs.Laws.{Covers, HasGreedyPoint, no_node}
+use Rattle.fx_analysis.specs.Laws.{Covers, no_node}
 use Rattle.fx_analysis.specs.AttemptLaws.{AttemptProgramLaw}
 use Rattle.fx_analysis.proofs.Folded.{all_length, made_at, part_at}
 use Rattle.fx_analysis.proofs.Ordered.{IsCopyNode, node_list}
-use Rattle.fx_analysis.proofs.Turns.{ordered_at}
 use Rattle.fx_analysis.proofs.Widths.{width_of}
 use Rattle.fx_analysis.proofs.RangeLaw.{range_is, fractions_around}
 use Rattle.fx_analysis.proofs.PointLaw.{points_are}
@@ -40,12 +39,12 @@ up_to m (pos k) h = grind (arith, ints, h)
 up_to m (negsuc k) h = absurd cc
 
 -- a literal lies in the node's range
-abbrev HoldsLiteral : Interval → Node → Type 0
+abbrev pub HoldsLiteral : Interval → Node → Type 0
 HoldsLiteral g (Const c) = Covers g (record { lo = c; hi = c })
 HoldsLiteral g node = Unit {0}
 
 -- what is known of node k at point f, in a function without states
-record IsGoodNode (n i k : ℕ) (ps : List ℤ) (g : Interval) (node : Node) (f : ℤ) : Type 0 where
+pub record IsGoodNode (n i k : ℕ) (ps : List ℤ) (g : Interval) (node : Node) (f : ℤ) : Type 0 where
   pub ordered : IsInPlace i 0 k node
   pub behind : IsVariable node ⊎ (i + 0 ≤ k)
   pub shifts : has_shifts n ps node f ≡ true
@@ -56,7 +55,7 @@ behind_all : (i k : ℕ) (node : Node) → (IsVariable node → ⊥) → IsVaria
 behind_all i k node not (inl v) = absurd (not v)
 behind_all i k node not (inr l) = l
 
-code_lawful : (n : ℕ) (fn : Function) (i k : ℕ) (ps : List ℤ) (g : Interval) (node : Node) (f : ℤ) → 8 ≤ n → IsGoodNode n i k ps g node f → IsLawfulCode n k (placed_code fn ps node f) × IsPlaced i 0 k (placed_code fn ps node f)
+pub code_lawful : (n : ℕ) (fn : Function) (i k : ℕ) (ps : List ℤ) (g : Interval) (node : Node) (f : ℤ) → 8 ≤ n → IsGoodNode n i k ps g node f → IsLawfulCode n k (placed_code fn ps node f) × IsPlaced i 0 k (placed_code fn ps node f)
 code_lawful n fn i k ps g (Input j) f wide h = (tt, h.ordered)
 code_lawful n fn i k ps g (State j) f wide h = let o = h.ordered.1 in absurd (omega (arith, o))
 code_lawful n fn i k ps g (Const c) f wide h =
@@ -78,10 +77,11 @@ codes_lawful : (n : ℕ) (fn : Function) (i k : ℕ) (ps : List ℤ) (nodes : Li
     AreLawful n i 0 k (placed_codes fn ps nodes fs)
 codes_lawful n fn i k ps [] fs e h = tt
 codes_lawful n fn i k ps (node ∷ nodes) [] e h = absurd (omega (arith, e))
-codes_lawful n fn i k ps (node ∷ nodes) (f ∷ fs) e h =
-    (subst (λ (m : ℕ). IsLawfulCode n m (placed_code fn ps node f) × IsPlaced i 0 m (placed_code fn ps node f)) (omega arith) (h 0 (omega arith)),
-      codes_lawful n fn i (k + 1) ps nodes fs (omega (arith, e))
-      (λ j lt. subst (λ (m : ℕ). IsLawfulCode n m (placed_code fn ps (at no_node nodes j) (at (pos 0) fs j)) × IsPlaced i 0 m (placed_code fn ps (at no_node nodes j) (at (pos 0) fs j))) (omega arith) (h (suc j) (omega (arith, lt)))))
+codes_lawful n fn i k ps (node ∷ nodes) (f ∷ fs) e h = (
+  subst (λ (m : ℕ). IsLawfulCode n m (placed_code fn ps node f) × IsPlaced i 0 m (placed_code fn ps node f)) (omega arith) (h 0 (omega arith)),
+  codes_lawful n fn i (k + 1) ps nodes fs (omega (arith, e))
+      (λ j lt. subst (λ (m : ℕ). IsLawfulCode n m (placed_code fn ps (at no_node nodes j) (at (pos 0) fs j)) × IsPlaced i 0 m (placed_code fn ps (at no_node nodes j) (at (pos 0) fs j))) (omega arith) (h (suc j) (omega (arith, lt)))),
+)
 
 pub codes_length : (fn : Function) (ps : List ℤ) (nodes : List Node) (fs : List ℤ) → length nodes ≡ length fs → length (placed_codes fn ps nodes fs) ≡ length nodes
 codes_length fn ps [] fs e = refl
@@ -136,10 +136,10 @@ module _ (n : ℕ) (fn : Function) (gs : List Interval) (ps : List ℤ) (some_wi
   no_states : length fn.states ≡ 0
   no_states = ap length stateless
 
-  points_long : length ps ≡ length (nodes_of fn)
+  pub points_long : length ps ≡ length (nodes_of fn)
   points_long = all_length (greedy_of n (length fn.inputs) (length (nodes_of fn) - length fn.states) gs) (nodes_of fn) ps pointed
 
-  good : (k : ℕ) → k < length (nodes_of fn) → IsGoodNode n (length fn.inputs) k ps (at zero_interval gs k) (at no_node (nodes_of fn) k) (at (pos 0) ps k)
+  pub good : (k : ℕ) → k < length (nodes_of fn) → IsGoodNode n (length fn.inputs) k ps (at zero_interval gs k) (at no_node (nodes_of fn) k) (at (pos 0) ps k)
   good k lt =
       let p = points_are n fn gs ps lawful.valid pointed k lt in
       let m = made_at (plain_range fn []) (length fn.inputs) (length fn.states) (nodes_of fn) gs no_node ranged (node_list fn lawful.valid).ordered k lt in
@@ -154,7 +154,7 @@ module _ (n : ℕ) (fn : Function) (gs : List Interval) (ps : List ℤ) (some_wi
   codes : AreLawful n (length fn.inputs) 0 0 (placed_codes fn ps (nodes_of fn) ps)
   codes = codes_lawful n fn (length fn.inputs) 0 ps (nodes_of fn) ps (sym points_long)
       (λ j lt. let c = placed_code fn ps (at no_node (nodes_of fn) j) (at (pos 0) ps j) in
-        subst (λ (m : ℕ). IsLawfulCode n m c × IsPlaced (length fn.inputs) 0 m c) (omega arith) (code_lawful n fn (length fn.inputs) j ps (at zero_interval gs j) (at no_node (nodes_of fn) j) (at (pos 0) ps j) wide (good j lt)))
+      subst (λ (m : ℕ). IsLawfulCode n m c × IsPlaced (length fn.inputs) 0 m c) (omega arith) (code_lawful n fn (length fn.inputs) j ps (at zero_interval gs j) (at no_node (nodes_of fn) j) (at (pos 0) ps j) wide (good j lt)))
 
   long : length (placed_codes fn ps (nodes_of fn) ps) ≡ length (nodes_of fn)
   long = codes_length fn ps (nodes_of fn) ps (sym points_long)

@@ -5,7 +5,7 @@ use Rattle.std.proofs.lemmas.List.{get_or_append_left}
 use Rattle.std.proofs.lemmas.List.Elements.{All-nil, All-cons, All-append}
 use Rattle.fx_model.specs.Tree.{Tree, at}
 use Rattle.fx_model.specs.Function.{Function, Temp}
-use Rattle.fx_model.specs.Nodes.{Node, Input, State, Const, Neg, Add, Sub, Mul, Div, Copy, flat, inputs_from, states_from, copies_of, nodes_after, nodes_of}
+use Rattle.fx_model.specs.Nodes.{Node, Input, State, flat, inputs_from, states_from, copies_of, nodes_after, nodes_of}
 use Rattle.fx_analysis.specs.Laws.{no_node}
 use Rattle.fx_analysis.proofs.Ordered.{inputs_length, states_length}
 

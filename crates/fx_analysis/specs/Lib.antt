@@ -13,3 +13,4 @@ pub mod Wide
 pub mod Exact
 pub mod Places
 pub mod AttemptLaws
+pub mod AttemptView

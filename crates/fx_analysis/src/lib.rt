@@ -1,6 +1,8 @@
 //! Plain ranges, points and errors.
 #![tactic(auto)]
 
+mod attempt;
+mod code;
 mod error;
 mod exact;
 mod fault;
@@ -16,6 +18,7 @@ mod wide;
 ghost use Rattle.fx_analysis.specs.Laws.{NarrowLaw, RangesLaw, PointsLaw, ErrorsLaw, WholeListLaw, AttemptLaw, CodesLaw};
 ghost use Rattle.fx_analysis.specs.AttemptLaws.{AttemptProgramLaw};
 
+pub use attempt::plain_attempt;
 pub use fault::{PlanFault, Why};
 pub use walk::{Plan, points, ranges, roundoff};
 
