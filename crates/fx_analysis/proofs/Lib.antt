@@ -32,3 +32,5 @@ pub mod Variables
 pub mod ProgramLaw
 pub mod Attempted
 pub mod Planned
+pub mod WrittenSteps
+pub mod Afterwards

@@ -14,3 +14,4 @@ pub mod Exact
 pub mod Places
 pub mod AttemptLaws
 pub mod AttemptView
+pub mod Attempts
