@@ -27,3 +27,10 @@ pub mod NodeErrors
 pub mod NodeLaw
 pub mod AttemptLaw
 pub mod CodeLaw
+pub mod LiteralWords
+pub mod Variables
+pub mod ProgramLaw
+pub mod Attempted
+pub mod Planned
+pub mod WrittenSteps
+pub mod Afterwards

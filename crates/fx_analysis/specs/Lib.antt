@@ -12,3 +12,6 @@ pub mod Listed
 pub mod Wide
 pub mod Exact
 pub mod Places
+pub mod AttemptLaws
+pub mod AttemptView
+pub mod Attempts

@@ -77,7 +77,7 @@ fn raised(b: u64, s: u32) -> u128
 }
 
 /// The numerator of `c * 2^f`.
-fn top_of(c: Fraction, f: i32) -> i128
+pub fn top_of(c: Fraction, f: i32) -> i128
     requires { IsPoint f }
     ensures value { result ≡ scaled_top c f }
     ensures small { unsigned_abs result < 2 ^ 126 }
@@ -90,7 +90,7 @@ fn top_of(c: Fraction, f: i32) -> i128
 }
 
 /// Its denominator.
-fn bottom_of(c: Fraction, f: i32) -> u128
+pub fn bottom_of(c: Fraction, f: i32) -> u128
     requires { IsPoint f }
     ensures value { result ≡ scaled_bottom c f }
     ensures some { 0 < result }

@@ -1,6 +1,9 @@
 //! Plain ranges, points and errors.
 #![tactic(auto)]
 
+mod after;
+mod attempt;
+mod code;
 mod error;
 mod exact;
 mod fault;
@@ -14,7 +17,11 @@ mod walk;
 mod wide;
 
 ghost use Rattle.fx_analysis.specs.Laws.{NarrowLaw, RangesLaw, PointsLaw, ErrorsLaw, WholeListLaw, AttemptLaw, CodesLaw};
+ghost use Rattle.fx_analysis.specs.AttemptLaws.{AttemptProgramLaw};
+ghost use Rattle.fx_analysis.specs.Attempts.{WrittenStepLaw, NoStepsLaw};
 
+pub use after::attempt_after;
+pub use attempt::plain_attempt;
 pub use fault::{PlanFault, Why};
 pub use walk::{Plan, points, ranges, roundoff};
 
@@ -51,4 +58,19 @@ pub fn attempt_law()
 /// The codes of the plain attempt have its points.
 pub fn codes_law()
     ensures { CodesLaw }
+{}
+
+/// The program of the plain attempt is lawful.
+pub fn attempt_program_law()
+    ensures { AttemptProgramLaw }
+{}
+
+/// A step that is there can be written.
+pub fn written_step_law()
+    ensures { WrittenStepLaw }
+{}
+
+/// The attempt after no step is the plain one.
+pub fn no_steps_law()
+    ensures { NoStepsLaw }
 {}

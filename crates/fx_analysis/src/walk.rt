@@ -180,7 +180,6 @@ pub fn roundoff(
     error_boxes: &Vec<Interval>,
 ) -> Result<Plan, PlanFault>
     requires nodes { nodes_in nodes.now.list ≡ nodes_of function.now }
-    requires undivided { All IsUndivided (nodes_in nodes.now.list) }
     requires boxes { length error_boxes.now.items ≡ length function.now.states }
     requires points { All IsPoint points.items }
     requires point_count { length points.items ≡ length nodes.now.list }
