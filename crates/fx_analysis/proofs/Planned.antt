@@ -31,14 +31,14 @@ use Rattle.fx_analysis.specs.Narrowed.{HasFewPlaces}
 use Rattle.fx_analysis.specs.Ordered.{IsInPlace}
 use Rattle.fx_analysis.specs.Listed.{IsWholeList}
 use Rattle.fx_analysis.specs.Laws.{no_node}
-use Rattle.fx_analysis.specs.AttemptView.{ArePlain, ReadsBelow, HasSmallWord, AreSmallWords}
+use Rattle.fx_analysis.specs.AttemptParts.{ArePlain, ReadsBelow, HasSmallWord, AreSmallWords}
 use Rattle.fx_analysis.proofs.Folded.{all_length, made_at, part_at}
 use Rattle.fx_analysis.proofs.Ordered.{node_list}
 use Rattle.fx_analysis.proofs.NodeLaw.{nodes_are}
 use Rattle.fx_analysis.proofs.NodeRanges.{range_plain, plain_low}
 use Rattle.fx_analysis.proofs.PointLaw.{points_are}
 use Rattle.fx_analysis.proofs.AttemptLaw.{attempt_is}
-use Rattle.fx_analysis.proofs.ProgramLaw.{program_is, points_long, good, code_lawful}
+use Rattle.fx_analysis.proofs.ProgramLaw.{attempt_program, points_long, good_node, code_lawful}
 use Rattle.fx_analysis.proofs.Widths.{width_of}
 
 -- ---- ranges and points of a lawful function
@@ -69,8 +69,8 @@ module _ (n : ℕ) (fn : Function) (some_width : Contains widths n) (lawful : Is
         points_long_of : length ps ≡ length (nodes_of fn)
         points_long_of = all_length _ (nodes_of fn) ps pointed
 
-    pub are_points : All IsPoint ps
-    are_points = All-from_get_or IsPoint ps (pos 0) (λ k lt. let l = as_many_points in let a = as_long in (points_are n fn gs ps lawful.valid pointed k (omega (arith, lt, l, a))).point)
+    pub points_placed : All IsPoint ps
+    points_placed = All-from_get_or IsPoint ps (pos 0) (λ k lt. let l = as_many_points in let a = as_long in (points_are n fn gs ps lawful.valid pointed k (omega (arith, lt, l, a))).point)
 
 -- ---- where a part isn't there
 pub none_without_ranges : (n : ℕ) (fn : Function) (why : Absent) → plain_ranges fn [] ≡ Err why → plain_attempt n fn ≡ None
@@ -122,17 +122,17 @@ module _ (n : ℕ) (fn : Function) (some_width : Contains widths n) (lawful : Is
   pub all_points : All IsPoint ps
   all_points = All-from_get_or IsPoint ps (pos 0) (λ k lt. let l = each_point in let a = long in (points_are n fn gs ps lawful.valid plain.points k (omega (arith, lt, l, a))).point)
 
-  pub all_read : All (ReadsBelow (length ps)) (nodes_in nodes)
-  all_read = subst (λ (ns : List model.Node). All (ReadsBelow (length ps)) ns) (sym same)
+  pub all_read_below : All (ReadsBelow (length ps)) (nodes_in nodes)
+  all_read_below = subst (λ (ns : List model.Node). All (ReadsBelow (length ps)) ns) (sym same)
       (All-from_get_or (ReadsBelow (length ps)) (nodes_of fn) no_node (λ k lt.
       let l = each_point in let a = long in
-      reads (length fn.inputs) (length ps) k (at no_node (nodes_of fn) k) (good n fn gs ps some_width lawful stateless plain.ranges plain.points k lt).ordered (omega (arith, lt, l, a))))
+      reads (length fn.inputs) (length ps) k (at no_node (nodes_of fn) k) (good_node n fn gs ps some_width lawful stateless plain.ranges plain.points k lt).ordered (omega (arith, lt, l, a))))
 
   pub small_words : AreSmallWords (nodes_in nodes) ps
   small_words = subst (λ (ns : List model.Node). AreSmallWords ns ps) (sym same)
       (λ k lt. let w = width_of n some_width in
       small_word n k fn ps (at no_node (nodes_of fn) k) (at (pos 0) ps k) w.most
-      (code_lawful n fn (length fn.inputs) k ps (at zero_interval gs k) (at no_node (nodes_of fn) k) (at (pos 0) ps k) w.least (good n fn gs ps some_width lawful stateless plain.ranges plain.points k lt)).0)
+      (code_lawful n fn (length fn.inputs) k ps (at zero_interval gs k) (at no_node (nodes_of fn) k) (at (pos 0) ps k) w.least (good_node n fn gs ps some_width lawful stateless plain.ranges plain.points k lt)).0)
 
   no_states : 0 ≡ length fn.states
   no_states = sym (ap length stateless)
@@ -144,10 +144,10 @@ module _ (n : ℕ) (fn : Function) (some_width : Contains widths n) (lawful : Is
       let all : map code_of codes ≡ placed_codes fn ps (nodes_of fn) ps = h ∙ ap (λ (ns : List model.Node). placed_codes fn ps ns ps) same in
       λ j. record { width = n; name = a j; inputs = b j; states = no_states j; outputs = c j; codes = all j }
 
-  pub spelled : (name : List ℕ) (inputs outputs : ℕ) (codes : List Code) → name ≡ fn.name → inputs ≡ length fn.inputs → outputs ≡ length fn.demands →
+  pub attempt_spelled : (name : List ℕ) (inputs outputs : ℕ) (codes : List Code) → name ≡ fn.name → inputs ≡ length fn.inputs → outputs ≡ length fn.demands →
       map code_of codes ≡ placed_codes fn ps (nodes_in nodes) ps → IsSpelled (program_with n name inputs 0 outputs codes)
-  spelled name inputs outputs codes a b c h = record {
-    lawful = subst IsLawfulProgram (sym (program_same name inputs outputs codes a b c h)) (program_is n fn gs ps hs some_width lawful stateless plain.ranges plain.points);
+  attempt_spelled name inputs outputs codes a b c h = record {
+    lawful = subst IsLawfulProgram (sym (program_same name inputs outputs codes a b c h)) (attempt_program n fn gs ps hs some_width lawful stateless plain.ranges plain.points);
     name = subst IsName (sym a) lawful.name;
   }
 

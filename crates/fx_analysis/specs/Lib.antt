@@ -14,4 +14,5 @@ pub mod Exact
 pub mod Places
 pub mod AttemptLaws
 pub mod AttemptView
+pub mod AttemptParts
 pub mod Attempts

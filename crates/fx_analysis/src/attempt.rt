@@ -1,19 +1,19 @@
 //! The plain attempt: plain ranges, greedy points and plain errors, put together as a program and a certificate.
 
-ghost use Rattle.std.specs.Prelude.{◌≡◌, ◌≤◌, ◌-◌, [], length, map, All, Contains, IfOk, IfErr, IfSome};
+ghost use Rattle.std.specs.Prelude.{◌≡◌, [], length, map, All, Contains, IfOk, IfErr, IfSome};
 ghost use Rattle.std.specs.Option.{option_map};
 ghost use Rattle.fx_model.specs.Function as functions;
 ghost use Rattle.fx_model.specs.LawfulProgram.{widths, IsPoint};
 ghost use Rattle.fx_model.specs.Nodes.{nodes_of};
 ghost use Rattle.fx_inequalities.specs.LawfulCertificate.{IsLawfulCertificate};
-ghost use Rattle.fx_expr.specs.LawfulFunction.{IsLawfulFunction};
 ghost use Rattle.fx_flat.specs.NodeOf.{nodes_in};
 ghost use Rattle.fx_program.specs.CodeView.{code_of};
 ghost use Rattle.fx_cert.specs.CertificateView.{line_view, lines_view, certificate_of};
 ghost use Rattle.fx_analysis.specs.PlainErrors.{formless_line, formless_lines};
 ghost use Rattle.fx_analysis.specs.PlainAttempt as plain;
 ghost use Rattle.fx_analysis.specs.PlainAttempt.{placed_codes};
-ghost use Rattle.fx_analysis.specs.AttemptView.{attempt_in, MeansNone, ArePlain, AreSmallWords, ReadsBelow};
+ghost use Rattle.fx_analysis.specs.AttemptView.{attempt_in};
+ghost use Rattle.fx_analysis.specs.AttemptParts.{MeansNone, ArePlain, AreSmallWords, ReadsBelow};
 
 use crate::code::code;
 use crate::fault::PlanFault;

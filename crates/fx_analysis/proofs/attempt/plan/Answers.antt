@@ -1,7 +1,7 @@
 use Rattle.std.proofs.Common.{◌≡◌, ◌∙◌, List, Ok, subst, sym}
 use Rattle.fx_rational.specs.Interval.{Interval}
 use Rattle.fx_analysis.specs.PlainRanges.{plain_ranges}
-use Rattle.fx_analysis.proofs.Planned.{whole_list, ranges_long, ranges_low, points_over_is, as_many_points, are_points}
+use Rattle.fx_analysis.proofs.Planned.{whole_list, ranges_long, ranges_low, points_over_is, as_many_points, points_placed}
 use Rattle.fx_analysis.proofs.attempt.plan.Goals as goal
 
 pub points-requires-clause-nodes : goal.points-requires-clause-nodes
@@ -16,7 +16,7 @@ points-requires-clause-ranges c =
 pub roundoff-requires-clause-points : goal.roundoff-requires-clause-points
 roundoff-requires-clause-points c =
     let r = c.requires in let fn = c.args.function.now in let gs = c.in_ok-gs.gs.items in
-    are_points c.args.width fn r.width c.keeps.ensures c.args.nodes.now r.list r.inputs r.no_states gs c.in_ok-ps.ps.items
+    points_placed c.args.width fn r.width c.keeps.ensures c.args.nodes.now r.list r.inputs r.no_states gs c.in_ok-ps.ps.items
     (sym (points_over_is c.args.width fn r.width c.keeps.ensures c.args.nodes.now r.list r.inputs r.no_states gs) ∙ c.in_ok-ps.ensures.points)
 
 pub roundoff-requires-clause-point_count : goal.roundoff-requires-clause-point_count
