@@ -20,6 +20,7 @@ pub mod Widths
 pub mod PointTurns
 pub mod Halves
 pub mod Ends
+pub mod LongDivision
 pub mod Exacts
 pub mod Checks
 pub mod ExactEnds

@@ -6,6 +6,7 @@ mod exact;
 mod fault;
 mod grid;
 mod number;
+mod parts;
 mod point;
 mod quotient;
 mod range;
