@@ -27,10 +27,10 @@ less_times : (r d k : ℕ) → r < d → 0 < k → r * k < d * k
 less_times r d k h some = let m = mul-le (suc r) k d k h (omega arith) in omega (arith, m, some)
 
 -- what a floor leaves
-abbrev left_of : ℤ → ℕ → ℕ
+abbrev pub left_of : ℤ → ℕ → ℕ
 left_of v d = unsigned_abs (v -ℤ floor_div v d *ℤ pos d)
 
-left_is : (v : ℤ) (d : ℕ) → 0 < d → (v ≡ floor_div v d *ℤ pos d +ℤ pos (left_of v d)) × (left_of v d < d)
+pub left_is : (v : ℤ) (d : ℕ) → 0 < d → (v ≡ floor_div v d *ℤ pos d +ℤ pos (left_of v d)) × (left_of v d < d)
 left_is v d some = by (v -ℤ floor_div v d *ℤ pos d) refl
   where
     by : (z : ℤ) → v -ℤ floor_div v d *ℤ pos d ≡ z → (v ≡ floor_div v d *ℤ pos d +ℤ pos (unsigned_abs z)) × (unsigned_abs z < d)

@@ -1,6 +1,5 @@
 -- What contracts ask of a node list, and see of a search.
 use Rattle.std.specs.Prelude.{◌+◌, ◌≤◌, ℤ, Option, Some, None, Result, Ok, Err, length}
-use Rattle.fx_model.specs.Nodes.{Node, Div}
 use Rattle.fx_flat.specs.NodeOf.{nodes_in}
 use Rattle.fx_flat.specs.declared.node.Nodes.{Nodes}
 use Rattle.fx_analysis.specs.declared.fault.Why.{Why}
@@ -17,8 +16,3 @@ pub record IsWholeList (nodes : Nodes) : Type 0 where
 abbrev pub point_answer : Option ℤ → Result ℤ Why
 point_answer None = Err Word
 point_answer (Some f) = Ok f
-
--- it isn't a quotient
-abbrev pub IsUndivided : Node → Type 0
-IsUndivided (Div a b) = ⊥
-IsUndivided node = Unit {0}

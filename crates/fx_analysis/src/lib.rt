@@ -1,6 +1,7 @@
 //! Plain ranges, points and errors.
 #![tactic(auto)]
 
+mod divide;
 mod error;
 mod exact;
 mod fault;

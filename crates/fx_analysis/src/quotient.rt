@@ -168,14 +168,14 @@ fn opposite(a: Interval) -> Interval
 }
 
 /// Whether both ends are above zero.
-fn both_above(i: Interval) -> bool
+pub fn both_above(i: Interval) -> bool
     ensures { result ≡ (above_zero i.lo.m && above_zero i.hi.m) }
 {
     is_above(low(i)) && is_above(high(i))
 }
 
 /// Whether both ends are below zero.
-fn both_below(i: Interval) -> bool
+pub fn both_below(i: Interval) -> bool
     ensures { result ≡ (below_zero i.lo.m && below_zero i.hi.m) }
 {
     is_below(low(i)) && is_below(high(i))

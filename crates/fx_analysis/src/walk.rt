@@ -5,7 +5,7 @@ ghost use Rattle.fx_model.specs.Nodes.{nodes_of};
 ghost use Rattle.fx_model.specs.LawfulProgram.{widths, IsPoint};
 ghost use Rattle.fx_analysis.specs.GreedyPoints.{points_over};
 ghost use Rattle.fx_analysis.specs.Ordered.{AreInPlace};
-ghost use Rattle.fx_analysis.specs.Listed.{IsWholeList, IsUndivided};
+ghost use Rattle.fx_analysis.specs.Listed.{IsWholeList};
 ghost use Rattle.fx_flat.specs.NodeOf.{nodes_in};
 ghost use Rattle.fx_analysis.specs.PlainRanges.{plain_ranges};
 ghost use Rattle.fx_analysis.specs.PlainErrors.{plain_errors};
@@ -127,7 +127,7 @@ pub fn points(
     )
 }
 
-/// The plain errors of these nodes, none of them a quotient.
+/// The plain errors of these nodes.
 fn walk_errors(
     alloc: Global,
     nodes: &[Node],
@@ -137,7 +137,6 @@ fn walk_errors(
     boxes: &[Interval],
 ) -> Result<Vec<Interval>, PlanFault>
     requires nodes { nodes_in nodes.now ≡ nodes_of function.now }
-    requires undivided { All IsUndivided (nodes_in nodes.now) }
     requires boxes { length boxes.now ≡ length function.now.states }
     requires points { All IsPoint ps.now }
     requires point_count { length ps.now ≡ length nodes.now }
@@ -149,7 +148,7 @@ fn walk_errors(
     function.keeps();
     let mut hs = Vec::new(alloc);
     for i in 0..nodes.len() {
-        match node_error(&nodes[i], function, ps, gs, boxes, &hs, ps[i]) {
+        match node_error(&nodes[i], function, ps, gs, boxes, &hs, gs[i], ps[i]) {
             Ok(h) => hs.push(h)?,
             Err(why) => return Err(PlanFault::NoPlan {
                 node: i as u32,
@@ -169,7 +168,7 @@ pub struct Plan {
     pub errors: Vec<Interval>,
 }
 
-/// The plan of these points and ranges with plain errors, or the first node that has none. So far of functions without quotients.
+/// The plan of these points and ranges with plain errors, or the first node that has none.
 pub fn roundoff(
     alloc: Global,
     nodes: &Nodes,
@@ -180,7 +179,6 @@ pub fn roundoff(
     error_boxes: &Vec<Interval>,
 ) -> Result<Plan, PlanFault>
     requires nodes { nodes_in nodes.now.list ≡ nodes_of function.now }
-    requires undivided { All IsUndivided (nodes_in nodes.now.list) }
     requires boxes { length error_boxes.now.items ≡ length function.now.states }
     requires points { All IsPoint points.items }
     requires point_count { length points.items ≡ length nodes.now.list }

@@ -108,7 +108,7 @@ pub fn wide_down(n: i128, d: u128, e: u32) -> Option<Dyadic>
 }
 
 /// The other sign.
-fn opposite(d: Dyadic) -> Dyadic
+pub fn opposite(d: Dyadic) -> Dyadic
     requires { is_small d ≡ true }
     ensures { result ≡ record { m = neg_ℤ d.m; e = d.e } }
 {
