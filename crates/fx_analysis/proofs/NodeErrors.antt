@@ -22,7 +22,7 @@ use Rattle.fx_analysis.specs.PlainErrors.{error_sketch, error_grid, unit_value, 
 use Rattle.fx_analysis.proofs.ErrorLaw.{lines_at, error_is, grid_few}
 use Rattle.fx_model.specs.LawfulProgram.{IsPoint}
 use Rattle.fx_judging.specs.Places.{IsShortSpan}
-use Rattle.fx_analysis.specs.Narrowed.{HasFewPlaces}
+use Rattle.fx_analysis.specs.Listed.{HasFewPlaces}
 
 abbrev pub Answer : Type 0
 Answer = Result Interval Why

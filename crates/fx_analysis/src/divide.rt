@@ -12,7 +12,8 @@ ghost use Rattle.fx_inequalities.specs.OperationSpans as spans;
 ghost use Rattle.fx_judging.specs.Judging.{FormsSpan};
 ghost use Rattle.fx_judging.specs.Places.{IsShortSpan};
 ghost use Rattle.fx_analysis.specs.Narrow.{Bounds, lowest_dyadic, grid_down, grid_up, ratio, narrow, positive_bounds};
-ghost use Rattle.fx_analysis.specs.Narrowed.{IsIfSmall, HasFewPlaces};
+ghost use Rattle.fx_analysis.specs.Narrowed.{IsIfSmall};
+ghost use Rattle.fx_analysis.specs.Listed.{HasFewPlaces};
 ghost use Rattle.fx_analysis.specs.PlainErrors.{error_grid, unit_value, widened};
 ghost use Rattle.fx_analysis.specs.Wide.{IsEnd, units_below};
 ghost use Rattle.fx_analysis.specs.Dividing as dividing;
@@ -181,13 +182,7 @@ fn over(a: Option<Interval>, b: Interval, point: i32) -> Result<Interval, Why>
 }
 
 /// The error of a quotient whose divisor is below zero, both with the other sign being `y` and `z`.
-fn turned(
-    x: Interval,
-    b: Interval,
-    y: Interval,
-    z: Interval,
-    point: i32,
-) -> Result<Interval, Why>
+fn turned(x: Interval, b: Interval, y: Interval, z: Interval, point: i32) -> Result<Interval, Why>
     requires point { IsPoint point }
     ensures { (s t : Span) → FormsSpan (Some x) s → FormsSpan (Some b) t → FormsSpan (Some y) (span_difference zero_span s) → FormsSpan (Some z) (span_difference zero_span t) →
         IsShortSpan 512 t → (below_zero b.lo.m && below_zero b.hi.m) ≡ true → result ≡ dividing.unit_quotient point s t }

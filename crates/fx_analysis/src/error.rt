@@ -14,7 +14,7 @@ ghost use Rattle.fx_expr.specs.Parts.{input_of};
 ghost use Rattle.fx_flat.specs.NodeOf.{node_of};
 ghost use Rattle.fx_analysis.specs.Narrow.{span_bounds, narrowest};
 ghost use Rattle.fx_judging.specs.Judging.{FormsSpan};
-ghost use Rattle.fx_analysis.specs.Narrowed.{HasFewPlaces};
+ghost use Rattle.fx_analysis.specs.Listed.{HasFewPlaces};
 ghost use Rattle.fx_analysis.specs.GreedyPoints.{shift_of, product_shift};
 ghost use Rattle.fx_analysis.specs.Ordered.{IsInPlace};
 ghost use Rattle.fx_analysis.specs.PlainErrors.{error_grid, plain_error};

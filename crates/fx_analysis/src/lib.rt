@@ -1,4 +1,9 @@
-//! Plain ranges, points and errors.
+//! Plain ranges, greedy points and plain errors of a function's nodes.
+//!
+//! Each is the narrowest interval on its grid, or the greatest point, that the inequality of its node allows, so that what is
+//! answered is exactly a definition's list, or the first node at which that list ends, with the reason. Where a claim's
+//! mantissa would leave 128 bits, or an end's pass 62, the reason is Beyond: that is a test of the definition, not a proof.
+//! The trap: a number formed here may be long and its lowest terms short, so nothing is dropped before it is in lowest terms.
 #![tactic(auto)]
 
 mod divide;
@@ -18,7 +23,7 @@ mod wide;
 ghost use Rattle.fx_analysis.specs.Laws.{NarrowLaw, RangesLaw, PointsLaw, ErrorsLaw, WholeListLaw, AttemptLaw, CodesLaw};
 
 pub use fault::{PlanFault, Why};
-pub use walk::{Plan, points, ranges, roundoff};
+pub use walk::{points, ranges, roundoff};
 
 /// The narrowest interval on a grid.
 pub fn narrow_law()

@@ -1,7 +1,7 @@
 //! Quotients of dyadics on the grid of an error, less a unit of its point.
 //!
-//! A quotient is `n * 2^p` over `d * 2^c`. Its floor can pass 128 bits and still be short in lowest terms, so its whole part
-//! and its binary places are kept apart; once the whole part passes 66 bits, the end isn't short, whatever its places are.
+//! A quotient is `n * 2^p` over `d * 2^c`. Its floor can pass 128 bits and still have few in lowest terms, so its whole part
+//! and its binary places are kept apart; once the whole part passes 66 bits, the end has more than 62, whatever its places.
 
 ghost use Rattle.std.specs.Prelude.{◌≡◌, ◌+◌, ◌-◌, ◌*◌, ◌<◌, ◌≤◌, ◌^◌, ◌*ℤ◌, ◌+ℤ◌, ◌-ℤ◌, pos, ltb, unsigned_abs, ℤ};
 ghost use Rattle.fx_rational.specs.Rational.{floor_div};

@@ -80,7 +80,7 @@ pub fn high(i: Interval) -> Dyadic
     i.hi
 }
 
-/// The mantissa, which is short.
+/// The mantissa, which has at most 62 bits.
 fn small_mantissa(d: Dyadic) -> i128
     requires { IsPlainEnd d }
     ensures value { result ≡ d.m }
