@@ -24,24 +24,21 @@ use Rattle.fx_cert.specs.CertificateView.{line_view}
 use Rattle.fx_cert.specs.declared.certificate.NodeLine.{NodeLine}
 use Rattle.fx_analysis.specs.Fold.{Absent}
 use Rattle.fx_analysis.specs.PlainRanges.{plain_range, plain_ranges}
-use Rattle.fx_analysis.specs.GreedyPoints.{greedy_points, points_over}
+use Rattle.fx_analysis.specs.GreedyPoints.{greedy_points}
 use Rattle.fx_analysis.specs.PlainErrors.{placed_code, plain_error, plain_errors, formless_lines}
 use Rattle.fx_analysis.specs.PlainAttempt.{placed_codes, with_errors, with_points, with_ranges, plain_attempt, attempt_of}
-use Rattle.fx_analysis.specs.Narrowed.{HasFewPlaces}
 use Rattle.fx_analysis.specs.Ordered.{IsInPlace}
 use Rattle.fx_analysis.specs.Listed.{IsWholeList}
 use Rattle.fx_analysis.specs.Laws.{no_node}
 use Rattle.fx_analysis.specs.AttemptParts.{ArePlain, ReadsBelow, HasSmallWord, AreSmallWords}
-use Rattle.fx_analysis.proofs.Folded.{all_length, made_at, part_at}
-use Rattle.fx_analysis.proofs.Ordered.{node_list}
+use Rattle.fx_analysis.proofs.Folded.{all_length}
 use Rattle.fx_analysis.proofs.NodeLaw.{nodes_are}
-use Rattle.fx_analysis.proofs.NodeRanges.{range_plain, plain_low}
 use Rattle.fx_analysis.proofs.PointLaw.{points_are}
 use Rattle.fx_analysis.proofs.AttemptLaw.{attempt_is}
 use Rattle.fx_analysis.proofs.ProgramLaw.{attempt_program, points_long, good_node, code_lawful}
 use Rattle.fx_analysis.proofs.Widths.{width_of}
 
--- ---- ranges and points of a lawful function
+-- ---- the list of a lawful function
 module _ (n : ℕ) (fn : Function) (some_width : Contains widths n) (lawful : IsLawfulFunction fn) (nodes : Nodes)
     (same : nodes_in nodes.list ≡ nodes_of fn) (inputs : nodes.inputs ≡ length fn.inputs) (states : nodes.states ≡ length fn.states) where
   as_long : length nodes.list ≡ length (nodes_of fn)
@@ -49,28 +46,6 @@ module _ (n : ℕ) (fn : Function) (some_width : Contains widths n) (lawful : Is
 
   pub whole_list : IsWholeList nodes
   whole_list = nodes_are fn nodes lawful.valid same inputs states (let l = as_long in let s = lawful.sizes.nodes in omega (arith, l, s))
-
-  pub ranges_long : (gs : List Interval) → plain_ranges fn [] ≡ Ok gs → length gs ≡ length nodes.list
-  ranges_long gs e = all_length (plain_range fn []) (nodes_of fn) gs e ∙ sym as_long
-
-  pub ranges_low : (gs : List Interval) → plain_ranges fn [] ≡ Ok gs → All HasFewPlaces gs
-  ranges_low gs e = All-from_get_or HasFewPlaces gs zero_interval (λ k lt.
-      let l = ranges_long gs e in let a = as_long in
-      let m = made_at (plain_range fn []) (length fn.inputs) (length fn.states) (nodes_of fn) gs no_node e (node_list fn lawful.valid).ordered k (omega (arith, lt, l, a)) in
-      subst HasFewPlaces (sym (part_at zero_interval m.part)) (plain_low m.x (range_plain fn [] m.part.before (at no_node (nodes_of fn) k) m.x m.part.made)))
-
-  pub points_over_is : (gs : List Interval) → points_over n nodes.inputs nodes.states gs (nodes_in nodes.list) ≡ greedy_points n fn gs
-  points_over_is gs i = points_over n (inputs i) (states i) gs (same i)
-
-  module _ (gs : List Interval) (ps : List ℤ) (pointed : greedy_points n fn gs ≡ Ok ps) where
-    pub as_many_points : length ps ≡ length nodes.list
-    as_many_points = points_long_of ∙ sym as_long
-      where
-        points_long_of : length ps ≡ length (nodes_of fn)
-        points_long_of = all_length _ (nodes_of fn) ps pointed
-
-    pub points_placed : All IsPoint ps
-    points_placed = All-from_get_or IsPoint ps (pos 0) (λ k lt. let l = as_many_points in let a = as_long in (points_are n fn gs ps lawful.valid pointed k (omega (arith, lt, l, a))).point)
 
 -- ---- where a part isn't there
 pub none_without_ranges : (n : ℕ) (fn : Function) (why : Absent) → plain_ranges fn [] ≡ Err why → plain_attempt n fn ≡ None

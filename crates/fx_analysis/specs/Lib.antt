@@ -10,6 +10,7 @@ pub mod Narrowed
 pub mod Blame
 pub mod Listed
 pub mod Wide
+pub mod Dividing
 pub mod Exact
 pub mod Places
 pub mod AttemptLaws
