@@ -1,5 +1,5 @@
 -- The parts of a plain attempt, as the code has them: their lengths, and what is asked of points, nodes and words.
-use Rattle.std.proofs.Common.{◌≡◌, ℕ, ◌<◌, ◌≤◌, List, [], length, map, None, Some, Ok, Err, ℤ, pos, sym, ap, subst, ◌∙◌, arith}
+use Rattle.std.proofs.Common.{◌≡◌, ℕ, ◌<◌, ◌≤◌, List, [], length, map, ℤ, pos, sym, ap, subst, ◌∙◌, arith}
 use Rattle.std.specs.Prelude.{All, Contains}
 use Rattle.std.proofs.lemmas.List.{length-map}
 use Rattle.std.proofs.lemmas.List.Elements.{All-from_get_or}
@@ -22,11 +22,9 @@ use Rattle.fx_program.specs.ProgramView.{IsSpelled, program_with}
 use Rattle.fx_program.specs.declared.code.Code.{Code}
 use Rattle.fx_cert.specs.CertificateView.{line_view}
 use Rattle.fx_cert.specs.declared.certificate.NodeLine.{NodeLine}
-use Rattle.fx_analysis.specs.Fold.{Absent}
-use Rattle.fx_analysis.specs.PlainRanges.{plain_range, plain_ranges}
-use Rattle.fx_analysis.specs.GreedyPoints.{greedy_points}
-use Rattle.fx_analysis.specs.PlainErrors.{placed_code, plain_error, plain_errors, formless_lines}
-use Rattle.fx_analysis.specs.PlainAttempt.{placed_codes, with_errors, with_points, with_ranges, plain_attempt, attempt_of}
+use Rattle.fx_analysis.specs.PlainRanges.{plain_range}
+use Rattle.fx_analysis.specs.PlainErrors.{placed_code, plain_error, formless_lines}
+use Rattle.fx_analysis.specs.PlainAttempt.{placed_codes, attempt_of}
 use Rattle.fx_analysis.specs.Ordered.{IsInPlace}
 use Rattle.fx_analysis.specs.Listed.{IsWholeList}
 use Rattle.fx_analysis.specs.Laws.{no_node}
@@ -38,27 +36,10 @@ use Rattle.fx_analysis.proofs.AttemptLaw.{attempt_is}
 use Rattle.fx_analysis.proofs.ProgramLaw.{attempt_program, points_long, good_node, code_lawful}
 use Rattle.fx_analysis.proofs.Widths.{width_of}
 
--- ---- the list of a lawful function
-module _ (n : ℕ) (fn : Function) (some_width : Contains widths n) (lawful : IsLawfulFunction fn) (nodes : Nodes)
-    (same : nodes_in nodes.list ≡ nodes_of fn) (inputs : nodes.inputs ≡ length fn.inputs) (states : nodes.states ≡ length fn.states) where
-  as_long : length nodes.list ≡ length (nodes_of fn)
-  as_long = sym (length-map nodes.list node_of) ∙ ap length same
-
-  pub whole_list : IsWholeList nodes
-  whole_list = nodes_are fn nodes lawful.valid same inputs states (let l = as_long in let s = lawful.sizes.nodes in omega (arith, l, s))
-
--- ---- where a part isn't there
-pub none_without_ranges : (n : ℕ) (fn : Function) (why : Absent) → plain_ranges fn [] ≡ Err why → plain_attempt n fn ≡ None
-none_without_ranges n fn why g = ap (with_ranges n fn) g
-
-pub none_without_points : (n : ℕ) (fn : Function) (gs : List Interval) (why : Absent) → plain_ranges fn [] ≡ Ok gs → greedy_points n fn gs ≡ Err why → plain_attempt n fn ≡ None
-none_without_points n fn gs why g p = ap (with_ranges n fn) g ∙ ap (with_points n fn gs) p
-
-pub none_without_errors : (n : ℕ) (fn : Function) (gs : List Interval) (ps : List ℤ) (why : Absent) → plain_ranges fn [] ≡ Ok gs → greedy_points n fn gs ≡ Ok ps → plain_errors fn ps gs [] ≡ Err why → plain_attempt n fn ≡ None
-none_without_errors n fn gs ps why g p h = ap (with_ranges n fn) g ∙ ap (with_points n fn gs) p ∙ ap (with_errors n fn gs ps) h
-
-pub some_of_parts : (n : ℕ) (fn : Function) (gs : List Interval) (ps : List ℤ) (hs : List Interval) → ArePlain n fn gs ps hs → plain_attempt n fn ≡ Some (attempt_of n fn gs ps hs)
-some_of_parts n fn gs ps hs h = ap (with_ranges n fn) h.ranges ∙ ap (with_points n fn gs) h.points ∙ ap (with_errors n fn gs ps) h.errors
+pub whole_list : (fn : Function) (nodes : Nodes) → IsLawfulFunction fn → nodes_in nodes.list ≡ nodes_of fn → nodes.inputs ≡ length fn.inputs → nodes.states ≡ length fn.states → IsWholeList nodes
+whole_list fn nodes lawful same inputs states =
+    let l = sym (length-map nodes.list node_of) ∙ ap length same in let s = lawful.sizes.nodes in
+    nodes_are fn nodes lawful.valid same inputs states (omega (arith, l, s))
 
 -- ---- what codes are made of
 reads : (i m k : ℕ) (node : model.Node) → IsInPlace i 0 k node → k < m → ReadsBelow m node

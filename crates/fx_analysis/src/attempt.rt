@@ -36,7 +36,12 @@ struct PlainValues {
 }
 
 /// The plain ranges, greedy points and plain errors of a function without states.
-fn plan(alloc: Global, nodes: &Nodes, function: &Function, width: u32) -> Result<PlainValues, PlanFault>
+fn plan(
+    alloc: Global,
+    nodes: &Nodes,
+    function: &Function,
+    width: u32,
+) -> Result<PlainValues, PlanFault>
     requires states { function.now.states ≡ [] }
     requires width { Contains widths width }
     requires list { nodes_in nodes.now.list ≡ nodes_of function.now }
