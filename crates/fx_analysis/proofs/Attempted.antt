@@ -18,7 +18,7 @@ use Rattle.fx_cert.specs.declared.certificate.NodeLine.{NodeLine}
 use Rattle.fx_analysis.specs.PlainErrors.{placed_code, formless_line, formless_lines}
 use Rattle.fx_analysis.specs.PlainAttempt.{placed_codes}
 use Rattle.fx_analysis.specs.Laws.{no_node}
-use Rattle.fx_analysis.specs.AttemptView.{ReadsBelow, HasSmallWord, AreSmallWords}
+use Rattle.fx_analysis.specs.AttemptParts.{ReadsBelow, HasSmallWord, AreSmallWords}
 use Rattle.fx_analysis.proofs.Turns.{seen_at}
 
 -- ---- one more line
@@ -31,9 +31,9 @@ lines_more (g ∷ gs) (h ∷ hs) (suc i) d e p q =
     let next : suc i + 1 ≡ suc (i + 1) = omega arith in
     ap (λ (m : ℕ). formless_lines (take m (g ∷ gs)) (take m (h ∷ hs))) next ∙ ap (λ ls. formless_line g h ∷ ls) (lines_more gs hs i d e (omega (arith, p)) (omega (arith, q)))
 
-pub line_more : (gs hs : List Interval) (all lines : List NodeLine) (i : ℕ) (x y : Interval) (l : NodeLine) → i < length gs → i < length hs → x ≡ get_or gs i x → y ≡ get_or hs i y → all ≡ lines ++ l ∷ [] →
+pub one_more_line : (gs hs : List Interval) (all lines : List NodeLine) (i : ℕ) (x y : Interval) (l : NodeLine) → i < length gs → i < length hs → x ≡ get_or gs i x → y ≡ get_or hs i y → all ≡ lines ++ l ∷ [] →
     map line_view lines ≡ formless_lines (take i gs) (take i hs) → line_view l ≡ formless_line x y → map line_view all ≡ formless_lines (take (i + 1) gs) (take (i + 1) hs)
-line_more gs hs all lines i x y l p q x_is y_is pushed before own =
+one_more_line gs hs all lines i x y l p q x_is y_is pushed before own =
     ap (map line_view) pushed ∙ map_push line_view lines l
     ∙ (λ j. before j ++ own j ∷ [])
     ∙ (λ j. formless_lines (take i gs) (take i hs) ++ formless_line (x_is j) (y_is j) ∷ [])
@@ -49,10 +49,10 @@ codes_more fn ps (node ∷ nodes) (f ∷ fs) (suc i) d e p q =
     let next : suc i + 1 ≡ suc (i + 1) = omega arith in
     ap (λ (m : ℕ). placed_codes fn ps (take m (node ∷ nodes)) (take m (f ∷ fs))) next ∙ ap (λ cs. placed_code fn ps node f ∷ cs) (codes_more fn ps nodes fs i d e (omega (arith, p)) (omega (arith, q)))
 
-pub code_more : (fn : Function) (nodes : List Node) (ps : List ℤ) (all codes : List Code) (i : ℕ) (x : Node) (y : Code) → i < length nodes → i < length ps → x ≡ get_or nodes i x → all ≡ codes ++ y ∷ [] →
+pub one_more_code : (fn : Function) (nodes : List Node) (ps : List ℤ) (all codes : List Code) (i : ℕ) (x : Node) (y : Code) → i < length nodes → i < length ps → x ≡ get_or nodes i x → all ≡ codes ++ y ∷ [] →
     map code_of codes ≡ placed_codes fn ps (take i (nodes_in nodes)) (take i ps) → code_of y ≡ placed_code fn ps (node_of x) (at (pos 0) ps i) →
     map code_of all ≡ placed_codes fn ps (take (i + 1) (nodes_in nodes)) (take (i + 1) ps)
-code_more fn nodes ps all codes i x y lt within x_is pushed before own =
+one_more_code fn nodes ps all codes i x y lt within x_is pushed before own =
     let s = seen_at node_of nodes (nodes_in nodes) i x refl lt x_is in
     ap (map code_of) pushed ∙ map_push code_of codes y
     ∙ (λ j. before j ++ own j ∷ [])

@@ -20,6 +20,9 @@ pub mod Widths
 pub mod PointTurns
 pub mod Halves
 pub mod Ends
+pub mod LongDivision
+pub mod UnitEnds
+pub mod Dividing
 pub mod Exacts
 pub mod Checks
 pub mod ExactEnds

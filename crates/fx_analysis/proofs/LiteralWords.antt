@@ -18,32 +18,32 @@ use Rattle.fx_analysis.specs.GreedyPoints.{is_reached}
 use Rattle.fx_analysis.specs.Laws.{Covers}
 
 -- from -m to m
-pub record IsUpTo (m : ℕ) (w : ℤ) : Type 0 where
+pub record LiesUpTo (m : ℕ) (w : ℤ) : Type 0 where
   pub low : neg_ℤ (pos m) ≤ℤ w
   pub high : w ≤ℤ pos m
 
-pub number_value : (d : Dyadic) → formula_value (Num d) ≡ dyadic_value d
+pub dyadic_number : (d : Dyadic) → formula_value (Num d) ≡ dyadic_value d
 unfolding formula_value
-number_value d = refl
+dyadic_number d = refl
 
 -- between so many units on both sides lies a floor between so many
-floor_within : (m : ℕ) (f : ℤ) (c : Rational) → AtMost (times (whole (neg_ℤ (pos m))) (unit f)) c → AtMost c (times (whole (pos m)) (unit f)) → IsUpTo m (floor (scaled c f))
+floor_within : (m : ℕ) (f : ℤ) (c : Rational) → AtMost (times (whole (neg_ℤ (pos m))) (unit f)) c → AtMost c (times (whole (pos m)) (unit f)) → LiesUpTo m (floor (scaled c f))
 floor_within m f c low high = record {
   low = floor-greatest (scaled c f) (neg_ℤ (pos m)) (le_of_times (unit_above f) (le_trans low (le_of_equal (equal_sym (scaled_back c f)))));
   high = whole_order (le_trans (floor_floors (scaled c f)).low (le_of_times (unit_above f) (le_trans (le_of_equal (scaled_back c f)) high)));
 }
 
 -- what such a range holds has a word of half the width's size
-pub reached_word : (n : ℕ) (g : Interval) (f : ℤ) (c : Rational) → is_reached n g f ≡ true → Covers g (record { lo = c; hi = c }) → IsUpTo (2 ^ (n - 2)) (floor (scaled c f))
+pub reached_word : (n : ℕ) (g : Interval) (f : ℤ) (c : Rational) → is_reached n g f ≡ true → Covers g (record { lo = c; hi = c }) → LiesUpTo (2 ^ (n - 2)) (floor (scaled c f))
 reached_word n g f c h covers =
     let low = at_most_true _ _ (both_left (is_dyadic_at_most (word_dyadic (neg_ℤ (pos (2 ^ (n - 2)))) f) g.lo) (is_dyadic_at_most g.hi (word_dyadic (pos (2 ^ (n - 2))) f)) h) in
     let high = at_most_true _ _ (both_right (is_dyadic_at_most (word_dyadic (neg_ℤ (pos (2 ^ (n - 2)))) f) g.lo) (is_dyadic_at_most g.hi (word_dyadic (pos (2 ^ (n - 2))) f)) h) in
     floor_within (2 ^ (n - 2)) f c
-    (le_trans (le_of_equal (equal_sym (word_at_is (neg_ℤ (pos (2 ^ (n - 2)))) f))) (subst (λ (y : Rational). AtMost y c) (sym (number_value (word_dyadic (neg_ℤ (pos (2 ^ (n - 2)))) f))) (le_trans low covers.low)))
-    (le_trans (subst (λ (y : Rational). AtMost c y) (sym (number_value (word_dyadic (pos (2 ^ (n - 2))) f))) (le_trans covers.high high)) (le_of_equal (word_at_is (pos (2 ^ (n - 2))) f)))
+    (le_trans (le_of_equal (equal_sym (word_at_is (neg_ℤ (pos (2 ^ (n - 2)))) f))) (subst (λ (y : Rational). AtMost y c) (sym (dyadic_number (word_dyadic (neg_ℤ (pos (2 ^ (n - 2)))) f))) (le_trans low covers.low)))
+    (le_trans (subst (λ (y : Rational). AtMost c y) (sym (dyadic_number (word_dyadic (pos (2 ^ (n - 2))) f))) (le_trans covers.high high)) (le_of_equal (word_at_is (pos (2 ^ (n - 2))) f)))
 
 -- and that is a word
-pub half_is_word : (n : ℕ) (w : ℤ) → 2 ≤ n → IsUpTo (2 ^ (n - 2)) w → IsWord n w
+pub half_is_word : (n : ℕ) (w : ℤ) → 2 ≤ n → LiesUpTo (2 ^ (n - 2)) w → IsWord n w
 half_is_word n w l h =
     let low = h.low in let high = h.high in let d = pow-add 2 (n - 2) 1 in let same : n - 2 + 1 ≡ n - 1 = omega (arith, l) in
     let p = pow_pos (n - 2) in

@@ -6,8 +6,10 @@ use Rattle.fx_rational.specs.Rational.{Rational, minus, negative, floor, scaled}
 use Rattle.fx_rational.specs.Interval.{Interval}
 use Rattle.fx_model.specs.Tree.{at}
 use Rattle.fx_model.specs.Function.{Function}
-use Rattle.fx_model.specs.Nodes.{Node, Input, State, Const, Neg, Add, Sub, Mul, Copy}
+use Rattle.fx_model.specs.Nodes.{Node, Input, State, Const, Neg, Add, Sub, Mul, Div, Copy}
 use Rattle.fx_inequalities.specs.Formula.{Span, span, formula_value, zero_span, span_sum, span_difference, span_product, loss_at, word_at, unit_at, Num, Sum, Difference}
+use Rattle.fx_inequalities.specs.OperationSpans.{machine_range, quotient_error}
+use Rattle.fx_analysis.specs.Dividing.{cleared_quotient}
 use Rattle.fx_inequalities.specs.Claim.{BelowFraction, AboveFraction, inside}
 use Rattle.fx_inequalities.specs.Certificate.{NodeLine, Row, zero_interval, no_row}
 use Rattle.fx_inequalities.specs.Affine.{range_at, error_at}
@@ -20,7 +22,7 @@ use Rattle.fx_analysis.specs.PlainErrors.{error_sketch, error_grid, unit_value, 
 use Rattle.fx_analysis.proofs.ErrorLaw.{lines_at, error_is, grid_few}
 use Rattle.fx_model.specs.LawfulProgram.{IsPoint}
 use Rattle.fx_judging.specs.Places.{IsShortSpan}
-use Rattle.fx_analysis.specs.Narrowed.{HasFewPlaces}
+use Rattle.fx_analysis.specs.Listed.{HasFewPlaces}
 
 abbrev pub Answer : Type 0
 Answer = Result Interval Why
@@ -71,6 +73,11 @@ module _ (fn : Function) (ps : List ℤ) (gs boxes hs : List Interval) (f : ℤ)
 
   pub copy_is : (a : ℕ) (x : Interval) → a < length hs → x ≡ at zero_interval hs a → around (error_grid f) (span_sum (span x) (loss_at f (shift_of ps a f))) ≡ plain_error fn ps gs boxes hs (Copy a)
   copy_is a x lt e = let l = error_line a x lt e in (λ i. around (error_grid (own i)) (span_sum (l i) (loss_at (own i) (shift_of ps a (own i)))))
+
+  pub quotient_is : (a b : ℕ) (g gb x y : Interval) → a < length hs → b < length hs → g ≡ at zero_interval gs (length hs) → gb ≡ at zero_interval gs b → x ≡ at zero_interval hs a → y ≡ at zero_interval hs b →
+      cleared_quotient f (span gb) (quotient_error (span g) (span x) (span y)) (machine_range (span gb) (span y)) ≡ plain_error fn ps gs boxes hs (Div a b)
+  quotient_is a b g gb x y l m u v e k = let r = range_line b gb m v in let p = error_line a x l e in let q = error_line b y m k in
+      (λ i. cleared_quotient (own i) (r i) (quotient_error (span (u i)) (p i) (q i)) (machine_range (r i) (q i)))
 
   pub literal_is : (c : Rational) → narrowest (error_grid f) (single (minus (formula_value (word_at (floor (scaled c f)) f)) c))
       (λ h. BelowFraction (Difference (word_at (floor (scaled c f)) f) (Num h.hi)) c ∷ AboveFraction c (Difference (word_at (floor (scaled c f)) f) (Num h.lo)) ∷ []) ≡ plain_error fn ps gs boxes hs (Const c)

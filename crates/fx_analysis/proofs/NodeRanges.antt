@@ -15,7 +15,8 @@ use Rattle.fx_inequalities.specs.NodeConditions.{no_input, quotient_claims}
 use Rattle.fx_analysis.specs.Narrow.{span_bounds, quotient_bounds, is_apart, narrowest}
 use Rattle.fx_analysis.specs.declared.fault.Why.{Why}
 use Rattle.fx_analysis.specs.declared.fault.Why.TheVariants.{Zero}
-use Rattle.fx_analysis.specs.Narrowed.{IsPlainInterval, plain_quotient, HasFewPlaces}
+use Rattle.fx_analysis.specs.Narrowed.{IsPlainInterval, plain_quotient}
+use Rattle.fx_analysis.specs.Listed.{HasFewPlaces}
 use Rattle.fx_judging.specs.Places.{IsShortSpan}
 use Rattle.fx_analysis.specs.PlainRanges.{box_row, range_line, range_sketch, plain_range}
 use Rattle.fx_analysis.proofs.RangeLaw.{range_is}

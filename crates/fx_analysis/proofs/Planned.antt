@@ -1,5 +1,5 @@
 -- The parts of a plain attempt, as the code has them: their lengths, and what is asked of points, nodes and words.
-use Rattle.std.proofs.Common.{◌≡◌, ℕ, ◌<◌, ◌≤◌, List, [], length, map, None, Some, Ok, Err, ℤ, pos, sym, ap, subst, ◌∙◌, arith}
+use Rattle.std.proofs.Common.{◌≡◌, ℕ, ◌<◌, ◌≤◌, List, [], length, map, ℤ, pos, sym, ap, subst, ◌∙◌, arith}
 use Rattle.std.specs.Prelude.{All, Contains}
 use Rattle.std.proofs.lemmas.List.{length-map}
 use Rattle.std.proofs.lemmas.List.Elements.{All-from_get_or}
@@ -22,68 +22,24 @@ use Rattle.fx_program.specs.ProgramView.{IsSpelled, program_with}
 use Rattle.fx_program.specs.declared.code.Code.{Code}
 use Rattle.fx_cert.specs.CertificateView.{line_view}
 use Rattle.fx_cert.specs.declared.certificate.NodeLine.{NodeLine}
-use Rattle.fx_analysis.specs.Fold.{Absent}
-use Rattle.fx_analysis.specs.PlainRanges.{plain_range, plain_ranges}
-use Rattle.fx_analysis.specs.GreedyPoints.{greedy_points, points_over}
-use Rattle.fx_analysis.specs.PlainErrors.{placed_code, plain_error, plain_errors, formless_lines}
-use Rattle.fx_analysis.specs.PlainAttempt.{placed_codes, with_errors, with_points, with_ranges, plain_attempt, attempt_of}
-use Rattle.fx_analysis.specs.Narrowed.{HasFewPlaces}
+use Rattle.fx_analysis.specs.PlainRanges.{plain_range}
+use Rattle.fx_analysis.specs.PlainErrors.{placed_code, plain_error, formless_lines}
+use Rattle.fx_analysis.specs.PlainAttempt.{placed_codes, attempt_of}
 use Rattle.fx_analysis.specs.Ordered.{IsInPlace}
 use Rattle.fx_analysis.specs.Listed.{IsWholeList}
 use Rattle.fx_analysis.specs.Laws.{no_node}
-use Rattle.fx_analysis.specs.AttemptView.{ArePlain, ReadsBelow, HasSmallWord, AreSmallWords}
-use Rattle.fx_analysis.proofs.Folded.{all_length, made_at, part_at}
-use Rattle.fx_analysis.proofs.Ordered.{node_list}
+use Rattle.fx_analysis.specs.AttemptParts.{ArePlain, ReadsBelow, HasSmallWord, AreSmallWords}
+use Rattle.fx_analysis.proofs.Folded.{all_length}
 use Rattle.fx_analysis.proofs.NodeLaw.{nodes_are}
-use Rattle.fx_analysis.proofs.NodeRanges.{range_plain, plain_low}
 use Rattle.fx_analysis.proofs.PointLaw.{points_are}
 use Rattle.fx_analysis.proofs.AttemptLaw.{attempt_is}
-use Rattle.fx_analysis.proofs.ProgramLaw.{program_is, points_long, good, code_lawful}
+use Rattle.fx_analysis.proofs.ProgramLaw.{attempt_program, points_long, good_node, code_lawful}
 use Rattle.fx_analysis.proofs.Widths.{width_of}
 
--- ---- ranges and points of a lawful function
-module _ (n : ℕ) (fn : Function) (some_width : Contains widths n) (lawful : IsLawfulFunction fn) (nodes : Nodes)
-    (same : nodes_in nodes.list ≡ nodes_of fn) (inputs : nodes.inputs ≡ length fn.inputs) (states : nodes.states ≡ length fn.states) where
-  as_long : length nodes.list ≡ length (nodes_of fn)
-  as_long = sym (length-map nodes.list node_of) ∙ ap length same
-
-  pub whole_list : IsWholeList nodes
-  whole_list = nodes_are fn nodes lawful.valid same inputs states (let l = as_long in let s = lawful.sizes.nodes in omega (arith, l, s))
-
-  pub ranges_long : (gs : List Interval) → plain_ranges fn [] ≡ Ok gs → length gs ≡ length nodes.list
-  ranges_long gs e = all_length (plain_range fn []) (nodes_of fn) gs e ∙ sym as_long
-
-  pub ranges_low : (gs : List Interval) → plain_ranges fn [] ≡ Ok gs → All HasFewPlaces gs
-  ranges_low gs e = All-from_get_or HasFewPlaces gs zero_interval (λ k lt.
-      let l = ranges_long gs e in let a = as_long in
-      let m = made_at (plain_range fn []) (length fn.inputs) (length fn.states) (nodes_of fn) gs no_node e (node_list fn lawful.valid).ordered k (omega (arith, lt, l, a)) in
-      subst HasFewPlaces (sym (part_at zero_interval m.part)) (plain_low m.x (range_plain fn [] m.part.before (at no_node (nodes_of fn) k) m.x m.part.made)))
-
-  pub points_over_is : (gs : List Interval) → points_over n nodes.inputs nodes.states gs (nodes_in nodes.list) ≡ greedy_points n fn gs
-  points_over_is gs i = points_over n (inputs i) (states i) gs (same i)
-
-  module _ (gs : List Interval) (ps : List ℤ) (pointed : greedy_points n fn gs ≡ Ok ps) where
-    pub as_many_points : length ps ≡ length nodes.list
-    as_many_points = points_long_of ∙ sym as_long
-      where
-        points_long_of : length ps ≡ length (nodes_of fn)
-        points_long_of = all_length _ (nodes_of fn) ps pointed
-
-    pub are_points : All IsPoint ps
-    are_points = All-from_get_or IsPoint ps (pos 0) (λ k lt. let l = as_many_points in let a = as_long in (points_are n fn gs ps lawful.valid pointed k (omega (arith, lt, l, a))).point)
-
--- ---- where a part isn't there
-pub none_without_ranges : (n : ℕ) (fn : Function) (why : Absent) → plain_ranges fn [] ≡ Err why → plain_attempt n fn ≡ None
-none_without_ranges n fn why g = ap (with_ranges n fn) g
-
-pub none_without_points : (n : ℕ) (fn : Function) (gs : List Interval) (why : Absent) → plain_ranges fn [] ≡ Ok gs → greedy_points n fn gs ≡ Err why → plain_attempt n fn ≡ None
-none_without_points n fn gs why g p = ap (with_ranges n fn) g ∙ ap (with_points n fn gs) p
-
-pub none_without_errors : (n : ℕ) (fn : Function) (gs : List Interval) (ps : List ℤ) (why : Absent) → plain_ranges fn [] ≡ Ok gs → greedy_points n fn gs ≡ Ok ps → plain_errors fn ps gs [] ≡ Err why → plain_attempt n fn ≡ None
-none_without_errors n fn gs ps why g p h = ap (with_ranges n fn) g ∙ ap (with_points n fn gs) p ∙ ap (with_errors n fn gs ps) h
-
-pub some_of_parts : (n : ℕ) (fn : Function) (gs : List Interval) (ps : List ℤ) (hs : List Interval) → ArePlain n fn gs ps hs → plain_attempt n fn ≡ Some (attempt_of n fn gs ps hs)
-some_of_parts n fn gs ps hs h = ap (with_ranges n fn) h.ranges ∙ ap (with_points n fn gs) h.points ∙ ap (with_errors n fn gs ps) h.errors
+pub whole_list : (fn : Function) (nodes : Nodes) → IsLawfulFunction fn → nodes_in nodes.list ≡ nodes_of fn → nodes.inputs ≡ length fn.inputs → nodes.states ≡ length fn.states → IsWholeList nodes
+whole_list fn nodes lawful same inputs states =
+    let l = sym (length-map nodes.list node_of) ∙ ap length same in let s = lawful.sizes.nodes in
+    nodes_are fn nodes lawful.valid same inputs states (omega (arith, l, s))
 
 -- ---- what codes are made of
 reads : (i m k : ℕ) (node : model.Node) → IsInPlace i 0 k node → k < m → ReadsBelow m node
@@ -122,17 +78,17 @@ module _ (n : ℕ) (fn : Function) (some_width : Contains widths n) (lawful : Is
   pub all_points : All IsPoint ps
   all_points = All-from_get_or IsPoint ps (pos 0) (λ k lt. let l = each_point in let a = long in (points_are n fn gs ps lawful.valid plain.points k (omega (arith, lt, l, a))).point)
 
-  pub all_read : All (ReadsBelow (length ps)) (nodes_in nodes)
-  all_read = subst (λ (ns : List model.Node). All (ReadsBelow (length ps)) ns) (sym same)
+  pub all_read_below : All (ReadsBelow (length ps)) (nodes_in nodes)
+  all_read_below = subst (λ (ns : List model.Node). All (ReadsBelow (length ps)) ns) (sym same)
       (All-from_get_or (ReadsBelow (length ps)) (nodes_of fn) no_node (λ k lt.
       let l = each_point in let a = long in
-      reads (length fn.inputs) (length ps) k (at no_node (nodes_of fn) k) (good n fn gs ps some_width lawful stateless plain.ranges plain.points k lt).ordered (omega (arith, lt, l, a))))
+      reads (length fn.inputs) (length ps) k (at no_node (nodes_of fn) k) (good_node n fn gs ps some_width lawful stateless plain.ranges plain.points k lt).ordered (omega (arith, lt, l, a))))
 
   pub small_words : AreSmallWords (nodes_in nodes) ps
   small_words = subst (λ (ns : List model.Node). AreSmallWords ns ps) (sym same)
       (λ k lt. let w = width_of n some_width in
       small_word n k fn ps (at no_node (nodes_of fn) k) (at (pos 0) ps k) w.most
-      (code_lawful n fn (length fn.inputs) k ps (at zero_interval gs k) (at no_node (nodes_of fn) k) (at (pos 0) ps k) w.least (good n fn gs ps some_width lawful stateless plain.ranges plain.points k lt)).0)
+      (code_lawful n fn (length fn.inputs) k ps (at zero_interval gs k) (at no_node (nodes_of fn) k) (at (pos 0) ps k) w.least (good_node n fn gs ps some_width lawful stateless plain.ranges plain.points k lt)).0)
 
   no_states : 0 ≡ length fn.states
   no_states = sym (ap length stateless)
@@ -144,10 +100,10 @@ module _ (n : ℕ) (fn : Function) (some_width : Contains widths n) (lawful : Is
       let all : map code_of codes ≡ placed_codes fn ps (nodes_of fn) ps = h ∙ ap (λ (ns : List model.Node). placed_codes fn ps ns ps) same in
       λ j. record { width = n; name = a j; inputs = b j; states = no_states j; outputs = c j; codes = all j }
 
-  pub spelled : (name : List ℕ) (inputs outputs : ℕ) (codes : List Code) → name ≡ fn.name → inputs ≡ length fn.inputs → outputs ≡ length fn.demands →
+  pub attempt_spelled : (name : List ℕ) (inputs outputs : ℕ) (codes : List Code) → name ≡ fn.name → inputs ≡ length fn.inputs → outputs ≡ length fn.demands →
       map code_of codes ≡ placed_codes fn ps (nodes_in nodes) ps → IsSpelled (program_with n name inputs 0 outputs codes)
-  spelled name inputs outputs codes a b c h = record {
-    lawful = subst IsLawfulProgram (sym (program_same name inputs outputs codes a b c h)) (program_is n fn gs ps hs some_width lawful stateless plain.ranges plain.points);
+  attempt_spelled name inputs outputs codes a b c h = record {
+    lawful = subst IsLawfulProgram (sym (program_same name inputs outputs codes a b c h)) (attempt_program n fn gs ps hs some_width lawful stateless plain.ranges plain.points);
     name = subst IsName (sym a) lawful.name;
   }
 

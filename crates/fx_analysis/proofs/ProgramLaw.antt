@@ -27,7 +27,7 @@ use Rattle.fx_analysis.proofs.Widths.{width_of}
 use Rattle.fx_analysis.proofs.RangeLaw.{range_is, fractions_around}
 use Rattle.fx_analysis.proofs.PointLaw.{points_are}
 use Rattle.fx_analysis.proofs.CodeLaw.{codes_are}
-use Rattle.fx_analysis.proofs.LiteralWords.{number_value, reached_word, half_is_word}
+use Rattle.fx_analysis.proofs.LiteralWords.{dyadic_number, reached_word, half_is_word}
 use Rattle.fx_analysis.proofs.Variables.{IsVariable, variable_or_behind}
 
 -- ---- one code
@@ -44,7 +44,7 @@ HoldsLiteral g (Const c) = Covers g (record { lo = c; hi = c })
 HoldsLiteral g node = Unit {0}
 
 -- what is known of node k at point f, in a function without states
-pub record IsGoodNode (n i k : ℕ) (ps : List ℤ) (g : Interval) (node : Node) (f : ℤ) : Type 0 where
+pub record IsPlacedNode (n i k : ℕ) (ps : List ℤ) (g : Interval) (node : Node) (f : ℤ) : Type 0 where
   pub ordered : IsInPlace i 0 k node
   pub behind : IsVariable node ⊎ (i + 0 ≤ k)
   pub shifts : has_shifts n ps node f ≡ true
@@ -55,7 +55,7 @@ behind_all : (i k : ℕ) (node : Node) → (IsVariable node → ⊥) → IsVaria
 behind_all i k node not (inl v) = absurd (not v)
 behind_all i k node not (inr l) = l
 
-pub code_lawful : (n : ℕ) (fn : Function) (i k : ℕ) (ps : List ℤ) (g : Interval) (node : Node) (f : ℤ) → 8 ≤ n → IsGoodNode n i k ps g node f → IsLawfulCode n k (placed_code fn ps node f) × IsPlaced i 0 k (placed_code fn ps node f)
+pub code_lawful : (n : ℕ) (fn : Function) (i k : ℕ) (ps : List ℤ) (g : Interval) (node : Node) (f : ℤ) → 8 ≤ n → IsPlacedNode n i k ps g node f → IsLawfulCode n k (placed_code fn ps node f) × IsPlaced i 0 k (placed_code fn ps node f)
 code_lawful n fn i k ps g (Input j) f wide h = (tt, h.ordered)
 code_lawful n fn i k ps g (State j) f wide h = let o = h.ordered.1 in absurd (omega (arith, o))
 code_lawful n fn i k ps g (Const c) f wide h =
@@ -83,10 +83,10 @@ codes_lawful n fn i k ps (node ∷ nodes) (f ∷ fs) e h = (
       (λ j lt. subst (λ (m : ℕ). IsLawfulCode n m (placed_code fn ps (at no_node nodes j) (at (pos 0) fs j)) × IsPlaced i 0 m (placed_code fn ps (at no_node nodes j) (at (pos 0) fs j))) (omega arith) (h (suc j) (omega (arith, lt)))),
 )
 
-pub codes_length : (fn : Function) (ps : List ℤ) (nodes : List Node) (fs : List ℤ) → length nodes ≡ length fs → length (placed_codes fn ps nodes fs) ≡ length nodes
-codes_length fn ps [] fs e = refl
-codes_length fn ps (node ∷ nodes) [] e = absurd (omega (arith, e))
-codes_length fn ps (node ∷ nodes) (f ∷ fs) e = let l = codes_length fn ps nodes fs (omega (arith, e)) in omega (arith, l)
+pub placed_length : (fn : Function) (ps : List ℤ) (nodes : List Node) (fs : List ℤ) → length nodes ≡ length fs → length (placed_codes fn ps nodes fs) ≡ length nodes
+placed_length fn ps [] fs e = refl
+placed_length fn ps (node ∷ nodes) [] e = absurd (omega (arith, e))
+placed_length fn ps (node ∷ nodes) (f ∷ fs) e = let l = placed_length fn ps nodes fs (omega (arith, e)) in omega (arith, l)
 
 -- ---- copies
 copy_code : (fn : Function) (ps : List ℤ) (node : Node) (f : ℤ) → IsCopyNode node → IsCopy (placed_code fn ps node f)
@@ -119,7 +119,7 @@ literal_held fn gs (Input j) g e = tt
 literal_held fn gs (State j) g e = tt
 literal_held fn gs (Const c) g e =
     let h = (fractions_around c c (span g)).1 (range_is fn [] gs (Const c) g e).hold in
-    record { low = subst (λ (y : Rational). AtMost y c) (number_value g.lo) h.low; high = subst (λ (y : Rational). AtMost c y) (number_value g.hi) h.high }
+    record { low = subst (λ (y : Rational). AtMost y c) (dyadic_number g.lo) h.low; high = subst (λ (y : Rational). AtMost c y) (dyadic_number g.hi) h.high }
 literal_held fn gs (Neg a) g e = tt
 literal_held fn gs (Add a b) g e = tt
 literal_held fn gs (Sub a b) g e = tt
@@ -139,8 +139,8 @@ module _ (n : ℕ) (fn : Function) (gs : List Interval) (ps : List ℤ) (some_wi
   pub points_long : length ps ≡ length (nodes_of fn)
   points_long = all_length (greedy_of n (length fn.inputs) (length (nodes_of fn) - length fn.states) gs) (nodes_of fn) ps pointed
 
-  pub good : (k : ℕ) → k < length (nodes_of fn) → IsGoodNode n (length fn.inputs) k ps (at zero_interval gs k) (at no_node (nodes_of fn) k) (at (pos 0) ps k)
-  good k lt =
+  pub good_node : (k : ℕ) → k < length (nodes_of fn) → IsPlacedNode n (length fn.inputs) k ps (at zero_interval gs k) (at no_node (nodes_of fn) k) (at (pos 0) ps k)
+  good_node k lt =
       let p = points_are n fn gs ps lawful.valid pointed k lt in
       let m = made_at (plain_range fn []) (length fn.inputs) (length fn.states) (nodes_of fn) gs no_node ranged (node_list fn lawful.valid).ordered k lt in
       record {
@@ -154,10 +154,10 @@ module _ (n : ℕ) (fn : Function) (gs : List Interval) (ps : List ℤ) (some_wi
   codes : AreLawful n (length fn.inputs) 0 0 (placed_codes fn ps (nodes_of fn) ps)
   codes = codes_lawful n fn (length fn.inputs) 0 ps (nodes_of fn) ps (sym points_long)
       (λ j lt. let c = placed_code fn ps (at no_node (nodes_of fn) j) (at (pos 0) ps j) in
-      subst (λ (m : ℕ). IsLawfulCode n m c × IsPlaced (length fn.inputs) 0 m c) (omega arith) (code_lawful n fn (length fn.inputs) j ps (at zero_interval gs j) (at no_node (nodes_of fn) j) (at (pos 0) ps j) wide (good j lt)))
+      subst (λ (m : ℕ). IsLawfulCode n m c × IsPlaced (length fn.inputs) 0 m c) (omega arith) (code_lawful n fn (length fn.inputs) j ps (at zero_interval gs j) (at no_node (nodes_of fn) j) (at (pos 0) ps j) wide (good_node j lt)))
 
   long : length (placed_codes fn ps (nodes_of fn) ps) ≡ length (nodes_of fn)
-  long = codes_length fn ps (nodes_of fn) ps (sym points_long)
+  long = placed_length fn ps (nodes_of fn) ps (sym points_long)
 
   -- the nodes are those before the copies and the copies
   split_long : length (nodes_of fn) ≡ length (node_list fn lawful.valid).before + length fn.demands
@@ -190,5 +190,5 @@ module _ (n : ℕ) (fn : Function) (gs : List Interval) (ps : List ℤ) (some_wi
         copies = all_copies _ (omega (arith, z, l, s));
       }
 
-pub program_is : AttemptProgramLaw
-program_is n fn gs ps hs some_width lawful stateless ranged pointed = program n fn gs ps some_width lawful stateless ranged pointed hs
+pub attempt_program : AttemptProgramLaw
+attempt_program n fn gs ps hs some_width lawful stateless ranged pointed = program n fn gs ps some_width lawful stateless ranged pointed hs

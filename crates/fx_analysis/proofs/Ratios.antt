@@ -47,10 +47,10 @@ fraction_answer o e lo hi x y p q nl nh k =
     (λ s t. fractions_fit x y (narrow e (record { lo = x; hi = y })) (subst (λ (r : Rational). bottom r < 2 ^ 62) p nl) (subst (λ (r : Rational). bottom r < 2 ^ 62) q nh) s t)
 
 -- ---- ratios
-power_bottom : (e : ℕ) → suc (pred (2 ^ e)) ≡ 2 ^ e
+pub power_bottom : (e : ℕ) → suc (pred (2 ^ e)) ≡ 2 ^ e
 power_bottom e = let p = pow_pos e in omega arith
 
-some_product : (a b : ℕ) → 0 < a → 0 < b → 0 < a * b
+pub some_product : (a b : ℕ) → 0 < a → 0 < b → 0 < a * b
 some_product a b h k = grind arith
 
 ratio_top : (a b : Dyadic) → (a.m *ℤ pos (suc (pred (2 ^ b.e)))) *ℤ pos (2 ^ 24) ≡ a.m *ℤ pos (2 ^ (24 + b.e))
@@ -95,7 +95,7 @@ above_value d h = record { top = go d.m h }
     go (pos (suc n)) e = omega (arith, ints)
     go (negsuc n) e = absurd cc
 
-forms_value : (d : Dyadic) (f : Formula) → d ≡ formed f → Equal (dyadic_value d) (formula_value f)
+pub forms_value : (d : Dyadic) (f : Formula) → d ≡ formed f → Equal (dyadic_value d) (formula_value f)
 forms_value d f e = subst (λ (x : Dyadic). Equal (dyadic_value x) (formula_value f)) (sym e) (formed_is f)
 
 four_fit : (s t : Span) (g : Interval) → (formula_fits s.lo && formula_fits s.hi) ≡ true → (formula_fits t.lo && formula_fits t.hi) ≡ true → is_small g.lo ≡ true → is_small g.hi ≡ true → is_small (formed t.lo) ≡ true → is_small (formed t.hi) ≡ true →

@@ -67,7 +67,7 @@ unfolding formula_fits formed
 plain_forms a h = let lo = end_fits a.lo h.lo.small in let hi = end_fits a.hi h.hi.small in (rw (lo, hi) refl, refl)
 
 -- ---- the other signs
-zero_less : (d : Dyadic) → dyadic_difference zero_dyadic d ≡ dyadic (neg_ℤ d.m) d.e
+pub zero_less : (d : Dyadic) → dyadic_difference zero_dyadic d ≡ dyadic (neg_ℤ d.m) d.e
 unfolding dyadic_difference
 zero_less d =
     let e : max 0 d.e ≡ d.e = omega arith in
@@ -125,7 +125,7 @@ opposite_forms a h =
     let dl = zero_less_fits a.lo h.lo in let dh = zero_less_fits a.hi h.hi in
     (rw (o, lo, hi, dl, dh) refl, (λ i. record { lo = sym (zero_less a.hi) i; hi = sym (zero_less a.lo) i }))
 
-below_above : (m : ℤ) (e : ℕ) → below_zero m ≡ true → above_zero (dyadic (neg_ℤ m) e).m ≡ true
+pub below_above : (m : ℤ) (e : ℕ) → below_zero m ≡ true → above_zero (dyadic (neg_ℤ m) e).m ≡ true
 below_above (pos n) e h = absurd cc
 below_above (negsuc n) e h = refl
 

@@ -10,8 +10,10 @@ pub mod Narrowed
 pub mod Blame
 pub mod Listed
 pub mod Wide
+pub mod Dividing
 pub mod Exact
 pub mod Places
 pub mod AttemptLaws
 pub mod AttemptView
+pub mod AttemptParts
 pub mod Attempts

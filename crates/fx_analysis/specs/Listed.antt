@@ -1,24 +1,17 @@
--- What contracts ask of a node list, and see of a search.
-use Rattle.std.specs.Prelude.{◌+◌, ◌≤◌, ℤ, Option, Some, None, Result, Ok, Err, length}
-use Rattle.fx_model.specs.Nodes.{Node, Div}
+-- What the calls ask of lists: nodes in their places, and ranges with few binary places.
+use Rattle.std.specs.Prelude.{◌+◌, ◌≤◌, length}
+use Rattle.fx_rational.specs.Interval.{Interval}
 use Rattle.fx_flat.specs.NodeOf.{nodes_in}
 use Rattle.fx_flat.specs.declared.node.Nodes.{Nodes}
-use Rattle.fx_analysis.specs.declared.fault.Why.{Why}
-use Rattle.fx_analysis.specs.declared.fault.Why.TheVariants.{Word}
 use Rattle.fx_analysis.specs.Ordered.{AreInPlace}
 
--- as the nodes of each function are
+-- as the nodes of each function are: so many inputs, states and copies of next states, and at most 4000
 pub record IsWholeList (nodes : Nodes) : Type 0 where
   pub ordered : AreInPlace nodes.inputs nodes.states 0 (nodes_in nodes.list)
   pub room : nodes.inputs + nodes.states + nodes.states ≤ length nodes.list
   pub few : length nodes.list ≤ 4000
 
--- a point, or that there is none
-abbrev pub point_answer : Option ℤ → Result ℤ Why
-point_answer None = Err Word
-point_answer (Some f) = Ok f
-
--- it isn't a quotient
-abbrev pub IsUndivided : Node → Type 0
-IsUndivided (Div a b) = ⊥
-IsUndivided node = Unit {0}
+-- few enough binary places for a product
+pub record HasFewPlaces (i : Interval) : Type 0 where
+  pub lo : i.lo.e ≤ 512
+  pub hi : i.hi.e ≤ 512

@@ -10,10 +10,11 @@ use Rattle.fx_analysis.specs.declared.fault.Why.{Why}
 use Rattle.fx_analysis.specs.declared.fault.Why.TheVariants.{Beyond}
 
 -- ---- on the grid
--- m / 2^e in lowest terms
+-- it has half
 abbrev pub is_even : ℤ → Bool
 is_even m = unsigned_abs m % 2 == 0
 
+-- m / 2^e in lowest terms
 unfoldable pub lowest_dyadic : ℤ → ℕ → Dyadic
 lowest_dyadic m zero = record { m = m; e = 0 }
 lowest_dyadic m (suc e) = if is_even m then lowest_dyadic (floor_div m 2) e else record { m = m; e = suc e }
@@ -31,9 +32,11 @@ pub record Bounds : Type 0 where
   pub lo : Rational
   pub hi : Rational
 
+-- the narrowest on grid e that holds them
 abbrev pub narrow : ℕ → Bounds → Interval
 narrow e b = record { lo = grid_down e b.lo; hi = grid_up e b.hi }
 
+-- those of a span
 abbrev pub span_bounds : Span → Bounds
 span_bounds s = record { lo = formula_value s.lo; hi = formula_value s.hi }
 
@@ -41,6 +44,7 @@ span_bounds s = record { lo = formula_value s.lo; hi = formula_value s.hi }
 unfoldable pub ratio : Rational → Rational → Rational
 ratio p q = over (p.top *ℤ pos (bottom q)) (bottom p * unsigned_abs q.top)
 
+-- the lesser and the greater of two
 abbrev pub lesser_value : Rational → Rational → Rational
 lesser_value x y = if is_at_most x y then x else y
 

@@ -1,12 +1,12 @@
--- What contracts see of the narrowest interval.
-use Rattle.std.specs.Prelude.{◌≡◌, ◌≤◌, Option, Some, None, Result, Ok, Err, true, false, ◌&&◌, if◌then◌else◌}
+-- What contracts see of the narrowest interval, and of a search for a point. No clause of a public call rests on this.
+use Rattle.std.specs.Prelude.{◌≡◌, ◌≤◌, ℤ, Option, Some, None, Result, Ok, Err, true, false, ◌&&◌, if◌then◌else◌}
 use Rattle.fx_rational.specs.Dyadic.{Dyadic, dyadic_value}
 use Rattle.fx_rational.specs.Interval.{Interval}
 use Rattle.fx_inequalities.specs.Formula.{span}
 use Rattle.fx_inequalities.specs.NodeConditions.{quotient_claims}
 use Rattle.fx_analysis.specs.Narrow.{Bounds, is_small, is_apart, quotient_bounds, narrowest}
 use Rattle.fx_analysis.specs.declared.fault.Why.{Why}
-use Rattle.fx_analysis.specs.declared.fault.Why.TheVariants.{Zero, Beyond}
+use Rattle.fx_analysis.specs.declared.fault.Why.TheVariants.{Word, Zero, Beyond}
 
 -- the ends of an interval
 abbrev pub bounds_of : Interval → Bounds
@@ -32,10 +32,10 @@ pub record IsPlainInterval (i : Interval) : Type 0 where
   pub lo : IsPlainEnd i.lo
   pub hi : IsPlainEnd i.hi
 
--- few enough binary places for a product
-pub record HasFewPlaces (i : Interval) : Type 0 where
-  pub lo : i.lo.e ≤ 512
-  pub hi : i.hi.e ≤ 512
+-- a point, or that there is none
+abbrev pub point_answer : Option ℤ → Result ℤ Why
+point_answer None = Err Word
+point_answer (Some f) = Ok f
 
 -- a quotient of plain ranges
 abbrev pub plain_quotient : Interval → Interval → Result Interval Why

@@ -1,4 +1,4 @@
--- A point by its size, and checks of claims that aren't formulas alone.
+-- A point by its size, and checks of claims that aren't formulas alone. No clause of a public call rests on this.
 use Rattle.std.specs.Prelude.{◌≡◌, ◌≤◌, ◌&&◌, if◌then◌else◌, ℤ, pos, negsuc, Bool, Result, Ok, Err}
 use Rattle.fx_rational.specs.Interval.{Interval}
 use Rattle.fx_analysis.specs.declared.fault.Why.{Why}
@@ -6,6 +6,7 @@ use Rattle.fx_analysis.specs.declared.fault.Why.TheVariants.{Beyond}
 use Rattle.fx_analysis.specs.declared.exact.Place.{Place}
 use Rattle.fx_analysis.specs.declared.exact.Place.TheVariants.{High, Low}
 
+-- the point is so many places, or one more below zero
 abbrev pub IsPlace : Place → ℤ → Type 0
 IsPlace (High k) f = (f ≡ pos k) × (k ≤ 62)
 IsPlace (Low k) f = (f ≡ negsuc k) × (k ≤ 63)

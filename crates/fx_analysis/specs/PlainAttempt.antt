@@ -19,12 +19,14 @@ pub record Attempt : Type 0 where
   pub program : Program
   pub certificate : Certificate
 
+-- of these ranges, points and errors; it has no steps
 abbrev pub attempt_of : ℕ → Function → List Interval → List ℤ → List Interval → Attempt
 attempt_of n fn gs ps hs = record {
   program = record { width = n; name = fn.name; inputs = length fn.inputs; states = length fn.states; outputs = length fn.demands; codes = placed_codes fn ps (nodes_of fn) ps };
   certificate = record { inputs = length fn.inputs; states = length fn.states; steps = []; starts = []; rows = []; error_rows = []; lines = formless_lines gs hs };
 }
 
+-- ---- where all three are there
 abbrev pub with_errors : ℕ → Function → List Interval → List ℤ → Result (List Interval) Absent → Option Attempt
 with_errors n fn gs ps (Ok hs) = Some (attempt_of n fn gs ps hs)
 with_errors n fn gs ps (Err why) = None

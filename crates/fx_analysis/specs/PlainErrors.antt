@@ -61,6 +61,7 @@ unit_value f = formula_value (unit_at f)
 abbrev pub widened : ℤ → Bounds → Bounds
 widened f b = record { lo = minus b.lo (unit_value f); hi = plus b.hi (unit_value f) }
 
+-- one number alone
 abbrev pub single : Rational → Bounds
 single x = record { lo = x; hi = x }
 

@@ -18,6 +18,7 @@ use Rattle.fx_analysis.specs.Fold.{Absent, parts_after}
 abbrev pub box_row : Interval → Row
 box_row b = record { coefs = []; bound = b; shares = [] }
 
+-- a line with this range
 abbrev pub range_line : Interval → NodeLine
 range_line g = record { range = g; error = zero_interval; form = None }
 

@@ -1,23 +1,23 @@
 //! The plain attempt: plain ranges, greedy points and plain errors, put together as a program and a certificate.
 
-ghost use Rattle.std.specs.Prelude.{◌≡◌, ◌≤◌, ◌-◌, [], length, map, All, Contains, IfOk, IfErr, IfSome};
+ghost use Rattle.std.specs.Prelude.{◌≡◌, [], length, map, All, Contains, IfOk, IfErr, IfSome};
 ghost use Rattle.std.specs.Option.{option_map};
 ghost use Rattle.fx_model.specs.Function as functions;
 ghost use Rattle.fx_model.specs.LawfulProgram.{widths, IsPoint};
 ghost use Rattle.fx_model.specs.Nodes.{nodes_of};
 ghost use Rattle.fx_inequalities.specs.LawfulCertificate.{IsLawfulCertificate};
-ghost use Rattle.fx_expr.specs.LawfulFunction.{IsLawfulFunction};
 ghost use Rattle.fx_flat.specs.NodeOf.{nodes_in};
 ghost use Rattle.fx_program.specs.CodeView.{code_of};
 ghost use Rattle.fx_cert.specs.CertificateView.{line_view, lines_view, certificate_of};
 ghost use Rattle.fx_analysis.specs.PlainErrors.{formless_line, formless_lines};
 ghost use Rattle.fx_analysis.specs.PlainAttempt as plain;
 ghost use Rattle.fx_analysis.specs.PlainAttempt.{placed_codes};
-ghost use Rattle.fx_analysis.specs.AttemptView.{attempt_in, MeansNone, ArePlain, AreSmallWords, ReadsBelow};
+ghost use Rattle.fx_analysis.specs.AttemptView.{attempt_in};
+ghost use Rattle.fx_analysis.specs.AttemptParts.{MeansNone, ArePlain, AreSmallWords, ReadsBelow};
 
 use crate::code::code;
 use crate::fault::PlanFault;
-use crate::walk::{Plan, points, ranges, roundoff};
+use crate::walk::{points, ranges, roundoff};
 use fx_cert::{Certificate, NodeLine};
 use fx_expr::{Function, Items};
 use fx_flat::{Node, Nodes, flatten};
@@ -26,8 +26,22 @@ use fx_num::Memory;
 use fx_program::{Code, Program};
 use std::alloc::Global;
 
+/// The plain values of a function's nodes at a width.
+#[derive(Debug, Drop)]
+struct PlainValues {
+    width: u32,
+    ranges: Vec<Interval>,
+    points: Vec<i32>,
+    errors: Vec<Interval>,
+}
+
 /// The plain ranges, greedy points and plain errors of a function without states.
-fn plan(alloc: Global, nodes: &Nodes, function: &Function, width: u32) -> Result<Plan, PlanFault>
+fn plan(
+    alloc: Global,
+    nodes: &Nodes,
+    function: &Function,
+    width: u32,
+) -> Result<PlainValues, PlanFault>
     requires states { function.now.states ≡ [] }
     requires width { Contains widths width }
     requires list { nodes_in nodes.now.list ≡ nodes_of function.now }
@@ -41,7 +55,13 @@ fn plan(alloc: Global, nodes: &Nodes, function: &Function, width: u32) -> Result
     let no_boxes = Vec::new(alloc);
     let gs = ranges(alloc, nodes, function, &no_boxes)?;
     let ps = points(alloc, nodes, &gs, width)?;
-    roundoff(alloc, nodes, function, width, ps, gs, &no_boxes)
+    let hs = roundoff(alloc, nodes, function, &ps, &gs, &no_boxes)?;
+    Ok(PlainValues {
+        width,
+        ranges: gs,
+        points: ps,
+        errors: hs,
+    })
 }
 
 /// The codes of these nodes at their points.
@@ -102,7 +122,7 @@ fn assemble(
     alloc: Global,
     nodes: &Nodes,
     function: &Function,
-    plan: &Plan,
+    plan: &PlainValues,
 ) -> Result<(Program, Certificate), Memory>
     requires states { function.now.states ≡ [] }
     requires width { Contains widths plan.now.width }

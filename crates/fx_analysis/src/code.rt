@@ -1,6 +1,6 @@
 //! The codes of single nodes at given points.
 
-ghost use Rattle.std.specs.Prelude.{List, ℤ, ◌≡◌, ◌<◌, ◌≤◌, length, All, FitsSigned, unsigned_abs};
+ghost use Rattle.std.specs.Prelude.{◌≡◌, ◌<◌, length, All, FitsSigned, unsigned_abs};
 ghost use Rattle.std.specs.Int.{w64};
 ghost use Rattle.fx_rational.specs.Rational.{scaled, floor};
 ghost use Rattle.fx_model.specs.Function as functions;
@@ -9,7 +9,7 @@ ghost use Rattle.fx_flat.specs.NodeOf.{node_of};
 ghost use Rattle.fx_program.specs.CodeView.{code_of};
 ghost use Rattle.fx_analysis.specs.GreedyPoints as greedy;
 ghost use Rattle.fx_analysis.specs.PlainErrors.{placed_code};
-ghost use Rattle.fx_analysis.specs.AttemptView.{HasSmallWord, ReadsBelow};
+ghost use Rattle.fx_analysis.specs.AttemptParts.{HasSmallWord, ReadsBelow};
 
 use crate::exact::{bottom_of, top_of};
 use crate::point::{product_shift, quotient_shift, shift};

@@ -14,12 +14,12 @@ ghost use Rattle.fx_expr.specs.Parts.{input_of};
 ghost use Rattle.fx_flat.specs.NodeOf.{node_of};
 ghost use Rattle.fx_analysis.specs.Narrow.{span_bounds, narrowest};
 ghost use Rattle.fx_judging.specs.Judging.{FormsSpan};
-ghost use Rattle.fx_analysis.specs.Narrowed.{HasFewPlaces};
+ghost use Rattle.fx_analysis.specs.Listed.{HasFewPlaces};
 ghost use Rattle.fx_analysis.specs.GreedyPoints.{shift_of, product_shift};
 ghost use Rattle.fx_analysis.specs.Ordered.{IsInPlace};
-ghost use Rattle.fx_analysis.specs.Listed.{IsUndivided};
 ghost use Rattle.fx_analysis.specs.PlainErrors.{error_grid, plain_error};
 
+use crate::divide::quotient_error;
 use crate::exact::{grid, input_error, literal_error};
 use crate::fault::Why;
 use crate::point::{product_shift, shift};
@@ -204,6 +204,31 @@ fn product_error(
     product(ga, gb, ha, hb, k, f)
 }
 
+/// The error of a quotient of range `g`.
+fn division_error(
+    gs: &[Interval],
+    hs: &[Interval],
+    a: u32,
+    b: u32,
+    g: Interval,
+    f: i32,
+) -> Result<Interval, Why>
+    requires a { a < length hs.now }
+    requires b { b < length hs.now }
+    requires ranges { length hs.now ≤ length gs.now }
+    requires low_ranges { All HasFewPlaces gs.now }
+    requires low_errors { All HasFewPlaces hs.now }
+    requires low { HasFewPlaces g }
+    requires point { IsPoint f }
+    ensures { (fn : functions.Function) (ps : List ℤ) (boxes : List model.Interval) → g ≡ at zero_interval gs.now (length hs.now) → f ≡ at (pos 0) ps (length hs.now) →
+        result ≡ plain_error fn ps gs.now boxes hs.now (nodes.Div a b) }
+{
+    let gb = low_at(gs, b);
+    let ha = interval_at(hs, a);
+    let hb = low_at(hs, b);
+    quotient_error(g, gb, ha, hb, f)
+}
+
 /// The error of a state.
 fn state_error(ps: &[i32], boxes: &[Interval], k: u32, f: i32) -> Result<Interval, Why>
     requires within { k < length boxes.now }
@@ -215,7 +240,7 @@ fn state_error(ps: &[i32], boxes: &[Interval], k: u32, f: i32) -> Result<Interva
     settle(interval(x), e)
 }
 
-/// The error of a node that isn't a quotient, after those of the errors `hs`.
+/// The error of a node of range `g` at the point `f`, after those of the errors `hs`.
 pub fn node_error(
     node: &Node,
     function: &Function,
@@ -223,14 +248,16 @@ pub fn node_error(
     gs: &[Interval],
     boxes: &[Interval],
     hs: &[Interval],
+    g: Interval,
     f: i32,
 ) -> Result<Interval, Why>
     requires ordered { IsInPlace (length function.now.inputs) (length function.now.states) (length hs.now) (node_of node.now) }
-    requires undivided { IsUndivided (node_of node.now) }
     requires boxes { length boxes.now ≡ length function.now.states }
     requires points { All IsPoint ps.now }
     requires point { IsPoint f }
     requires own { f ≡ at (pos 0) ps.now (length hs.now) }
+    requires range { g ≡ at zero_interval gs.now (length hs.now) }
+    requires low { HasFewPlaces g }
     requires long { length hs.now ≤ length ps.now }
     requires ranges { length hs.now ≤ length gs.now }
     requires low_ranges { All HasFewPlaces gs.now }
@@ -245,7 +272,7 @@ pub fn node_error(
         Node::Add { a, b } => sum_error(ps, hs, *a, *b, f),
         Node::Sub { a, b } => difference_error(ps, hs, *a, *b, f),
         Node::Mul { a, b } => product_error(ps, gs, hs, *a, *b, f),
-        Node::Div { .. } => unreachable!(),
+        Node::Div { a, b } => division_error(gs, hs, *a, *b, g, f),
         Node::Copy { a } => copy_error(ps, hs, *a, f),
     }
 }

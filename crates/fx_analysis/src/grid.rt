@@ -25,6 +25,7 @@ pub fn exponent(d: Dyadic) -> u32
     d.e
 }
 
+/// Whether it is even.
 fn is_even(m: i128) -> bool
     ensures { result ≡ is_even m }
 {
@@ -68,7 +69,7 @@ pub fn is_small(d: Dyadic) -> bool
     d.m.unsigned_abs() < 1 << 62
 }
 
-/// The interval, where it is short.
+/// The interval, where its mantissas have at most 62 bits.
 pub fn keep(x: Interval) -> Option<Interval>
     ensures { IsIfSmall result x }
 {
@@ -79,7 +80,7 @@ pub fn keep(x: Interval) -> Option<Interval>
     }
 }
 
-/// The narrowest on grid `e` round an interval, where it is short.
+/// The narrowest on grid `e` round an interval, where its mantissas have at most 62 bits.
 pub fn narrowed(x: Interval, e: u32) -> Option<Interval>
     ensures { IsIfSmall result (narrow e (bounds_of x)) }
 {

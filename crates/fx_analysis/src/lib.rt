@@ -1,14 +1,21 @@
-//! Plain ranges, points and errors.
+//! Plain ranges, greedy points and plain errors of a function's nodes.
+//!
+//! Each is the narrowest interval on its grid, or the greatest point, that the inequality of its node allows, so that what is
+//! answered is exactly a definition's list, or the first node at which that list ends, with the reason. Where a claim's
+//! mantissa would leave 128 bits, or an end's pass 62, the reason is Beyond: that is a test of the definition, not a proof.
+//! The trap: a number formed here may be long and its lowest terms short, so nothing is dropped before it is in lowest terms.
 #![tactic(auto)]
 
 mod after;
 mod attempt;
 mod code;
+mod divide;
 mod error;
 mod exact;
 mod fault;
 mod grid;
 mod number;
+mod parts;
 mod point;
 mod quotient;
 mod range;
@@ -23,7 +30,7 @@ ghost use Rattle.fx_analysis.specs.Attempts.{WrittenStepLaw, NoStepsLaw};
 pub use after::attempt_after;
 pub use attempt::plain_attempt;
 pub use fault::{PlanFault, Why};
-pub use walk::{Plan, points, ranges, roundoff};
+pub use walk::{points, ranges, roundoff};
 
 /// The narrowest interval on a grid.
 pub fn narrow_law()

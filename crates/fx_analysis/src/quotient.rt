@@ -80,7 +80,7 @@ pub fn high(i: Interval) -> Dyadic
     i.hi
 }
 
-/// The mantissa, which is short.
+/// The mantissa, which has at most 62 bits.
 fn small_mantissa(d: Dyadic) -> i128
     requires { IsPlainEnd d }
     ensures value { result ≡ d.m }
@@ -168,14 +168,14 @@ fn opposite(a: Interval) -> Interval
 }
 
 /// Whether both ends are above zero.
-fn both_above(i: Interval) -> bool
+pub fn both_above(i: Interval) -> bool
     ensures { result ≡ (above_zero i.lo.m && above_zero i.hi.m) }
 {
     is_above(low(i)) && is_above(high(i))
 }
 
 /// Whether both ends are below zero.
-fn both_below(i: Interval) -> bool
+pub fn both_below(i: Interval) -> bool
     ensures { result ≡ (below_zero i.lo.m && below_zero i.hi.m) }
 {
     is_below(low(i)) && is_below(high(i))

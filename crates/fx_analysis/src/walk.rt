@@ -1,15 +1,14 @@
-//! Ranges, points and errors of all nodes.
+//! Ranges, points and errors of all nodes: walks that stop at the first node without one.
 
 ghost use Rattle.std.specs.Prelude.{◌≡◌, ◌+◌, ◌≤◌, length, All, Contains, IfOk, IfErr, Ok};
 ghost use Rattle.fx_model.specs.Nodes.{nodes_of};
 ghost use Rattle.fx_model.specs.LawfulProgram.{widths, IsPoint};
 ghost use Rattle.fx_analysis.specs.GreedyPoints.{points_over};
 ghost use Rattle.fx_analysis.specs.Ordered.{AreInPlace};
-ghost use Rattle.fx_analysis.specs.Listed.{IsWholeList, IsUndivided};
+ghost use Rattle.fx_analysis.specs.Listed.{IsWholeList, HasFewPlaces};
 ghost use Rattle.fx_flat.specs.NodeOf.{nodes_in};
 ghost use Rattle.fx_analysis.specs.PlainRanges.{plain_ranges};
 ghost use Rattle.fx_analysis.specs.PlainErrors.{plain_errors};
-ghost use Rattle.fx_analysis.specs.Narrowed.{HasFewPlaces};
 ghost use Rattle.fx_analysis.specs.Narrowed.{IsPlainInterval};
 ghost use Rattle.fx_analysis.specs.Blame.{NamesAbsent};
 
@@ -33,6 +32,7 @@ fn walk_ranges(
     requires boxes { length boxes.now ≡ length function.now.states }
     ensures ranges { IfOk result (λ gs. plain_ranges function.now boxes.now ≡ Ok gs.items) }
     ensures plain { IfOk result (λ gs. All IsPlainInterval gs.items) }
+    ensures count { IfOk result (λ gs. length gs.items ≡ length nodes.now) }
     ensures no_plan { IfErr result (λ e. NamesAbsent e (plain_ranges function.now boxes.now)) }
 {
     function.keeps();
@@ -59,6 +59,8 @@ pub fn ranges(
     requires nodes { nodes_in nodes.now.list ≡ nodes_of function.now }
     requires boxes { length boxes.now.items ≡ length function.now.states }
     ensures ranges { IfOk result (λ gs. plain_ranges function.now boxes.now.items ≡ Ok gs.items) }
+    ensures count { IfOk result (λ gs. length gs.items ≡ length nodes.now.list) }
+    ensures few_places { IfOk result (λ gs. All HasFewPlaces gs.items) }
     ensures no_plan { IfErr result (λ e. NamesAbsent e (plain_ranges function.now boxes.now.items)) }
 {
     walk_ranges(alloc, nodes.list.as_slice(), function, boxes.as_slice())
@@ -87,15 +89,18 @@ fn walk_points(
     requires few { length nodes.now ≤ 4000 }
     requires ranges { length ranges.now ≡ length nodes.now }
     ensures points { IfOk result (λ ps. points_over width inputs states ranges.now (nodes_in nodes.now) ≡ Ok ps.items) }
+    ensures lawful { IfOk result (λ ps. All IsPoint ps.items) }
+    ensures count { IfOk result (λ ps. length ps.items ≡ length nodes.now) }
     ensures no_plan { IfErr result (λ e. NamesAbsent e (points_over width inputs states ranges.now (nodes_in nodes.now))) }
 {
     let next = nodes.len() as u32 - states;
     let mut ps = Vec::new(alloc);
     for i in 0..nodes.len() {
+        let node = i as u32;
         match node_point(width, ranges[i], &ps, &nodes[i], inputs, states, next) {
             Some(f) => ps.push(f)?,
             None => return Err(PlanFault::NoPlan {
-                node: i as u32,
+                node,
                 why: Why::Word,
             }),
         }
@@ -114,6 +119,8 @@ pub fn points(
     requires ranges { length ranges.now.items ≡ length nodes.now.list }
     requires width { Contains widths width }
     ensures points { IfOk result (λ ps. points_over width nodes.now.inputs nodes.now.states ranges.now.items (nodes_in nodes.now.list) ≡ Ok ps.items) }
+    ensures lawful { IfOk result (λ ps. All IsPoint ps.items) }
+    ensures count { IfOk result (λ ps. length ps.items ≡ length nodes.now.list) }
     ensures no_plan { IfErr result (λ e. NamesAbsent e (points_over width nodes.now.inputs nodes.now.states ranges.now.items (nodes_in nodes.now.list))) }
 {
     widths_of(width);
@@ -127,7 +134,7 @@ pub fn points(
     )
 }
 
-/// The plain errors of these nodes, none of them a quotient.
+/// The plain errors of these nodes.
 fn walk_errors(
     alloc: Global,
     nodes: &[Node],
@@ -137,19 +144,19 @@ fn walk_errors(
     boxes: &[Interval],
 ) -> Result<Vec<Interval>, PlanFault>
     requires nodes { nodes_in nodes.now ≡ nodes_of function.now }
-    requires undivided { All IsUndivided (nodes_in nodes.now) }
     requires boxes { length boxes.now ≡ length function.now.states }
     requires points { All IsPoint ps.now }
     requires point_count { length ps.now ≡ length nodes.now }
     requires ranges { length gs.now ≡ length nodes.now }
-    requires low { All HasFewPlaces gs.now }
+    requires few_places { All HasFewPlaces gs.now }
     ensures errors { IfOk result (λ hs. plain_errors function.now ps.now gs.now boxes.now ≡ Ok hs.items) }
+    ensures count { IfOk result (λ hs. length hs.items ≡ length nodes.now) }
     ensures no_plan { IfErr result (λ e. NamesAbsent e (plain_errors function.now ps.now gs.now boxes.now)) }
 {
     function.keeps();
     let mut hs = Vec::new(alloc);
     for i in 0..nodes.len() {
-        match node_error(&nodes[i], function, ps, gs, boxes, &hs, ps[i]) {
+        match node_error(&nodes[i], function, ps, gs, boxes, &hs, gs[i], ps[i]) {
             Ok(h) => hs.push(h)?,
             Err(why) => return Err(PlanFault::NoPlan {
                 node: i as u32,
@@ -160,49 +167,32 @@ fn walk_errors(
     Ok(hs)
 }
 
-/// The plain values of a function's nodes at a width.
-#[derive(Debug, Drop)]
-pub struct Plan {
-    pub width: u32,
-    pub points: Vec<i32>,
-    pub ranges: Vec<Interval>,
-    pub errors: Vec<Interval>,
-}
-
-/// The plan of these points and ranges with plain errors, or the first node that has none. So far of functions without quotients.
+/// The plain errors of a function's nodes at these points and ranges, with an error box for each state, or the first node
+/// that has none.
 pub fn roundoff(
     alloc: Global,
     nodes: &Nodes,
     function: &Function,
-    width: u32,
-    points: Vec<i32>,
-    ranges: Vec<Interval>,
+    points: &Vec<i32>,
+    ranges: &Vec<Interval>,
     error_boxes: &Vec<Interval>,
-) -> Result<Plan, PlanFault>
+) -> Result<Vec<Interval>, PlanFault>
     requires nodes { nodes_in nodes.now.list ≡ nodes_of function.now }
     requires boxes { length error_boxes.now.items ≡ length function.now.states }
-    requires points { All IsPoint points.items }
-    requires point_count { length points.items ≡ length nodes.now.list }
-    requires ranges { length ranges.items ≡ length nodes.now.list }
-    requires low { All HasFewPlaces ranges.items }
-    ensures width { IfOk result (λ p. p.width ≡ width) }
-    ensures points { IfOk result (λ p. p.points.items ≡ points.items) }
-    ensures ranges { IfOk result (λ p. p.ranges.items ≡ ranges.items) }
-    ensures errors { IfOk result (λ p. plain_errors function.now points.items ranges.items error_boxes.now.items ≡ Ok p.errors.items) }
-    ensures no_plan { IfErr result (λ e. NamesAbsent e (plain_errors function.now points.items ranges.items error_boxes.now.items)) }
+    requires points { All IsPoint points.now.items }
+    requires point_count { length points.now.items ≡ length nodes.now.list }
+    requires ranges { length ranges.now.items ≡ length nodes.now.list }
+    requires few_places { All HasFewPlaces ranges.now.items }
+    ensures errors { IfOk result (λ hs. plain_errors function.now points.now.items ranges.now.items error_boxes.now.items ≡ Ok hs.items) }
+    ensures count { IfOk result (λ hs. length hs.items ≡ length nodes.now.list) }
+    ensures no_plan { IfErr result (λ e. NamesAbsent e (plain_errors function.now points.now.items ranges.now.items error_boxes.now.items)) }
 {
-    let errors = walk_errors(
+    walk_errors(
         alloc,
         nodes.list.as_slice(),
         function,
-        &points,
-        &ranges,
+        points.as_slice(),
+        ranges.as_slice(),
         error_boxes.as_slice(),
-    )?;
-    Ok(Plan {
-        width,
-        points,
-        ranges,
-        errors,
-    })
+    )
 }

@@ -1,7 +1,7 @@
 //! Quotients on a grid whose numerator may have more than 128 bits.
 //!
 //! The whole part and the binary places are kept apart: places that are zero at the end are dropped before both are put
-//! together, so that what doesn't fit then isn't short.
+//! together, so that what doesn't fit then has more than 62 bits in lowest terms. Such an end is None here.
 
 ghost use Rattle.std.specs.Prelude.{◌≡◌, ◌==◌, ◌%◌, ◌+◌, ◌*◌, ◌/◌, ◌<◌, ◌≤◌, ◌^◌, ◌*ℤ◌, ◌+ℤ◌, ◌-ℤ◌, neg_ℤ, pos, unsigned_abs, true};
 ghost use Rattle.fx_rational.specs.Rational.{floor_div, ceil_div};
@@ -53,7 +53,7 @@ fn is_even(f: u128) -> bool
     f % 2 == 0
 }
 
-/// `w * 2^s + f` over `2^e` in lowest terms, where it is short.
+/// `w * 2^s + f` over `2^e` in lowest terms, where that has at most 62 bits.
 pub fn assembled(w: i128, f: u128, s: u32, e: u32) -> Option<Dyadic>
     requires places { f < 2 ^ s }
     requires few { s ≤ 126 }
@@ -94,7 +94,7 @@ pub fn rest(n: i128, d: u128) -> u128
     n.rem_euclid(d as i128) as u128
 }
 
-/// The floor of `n * 2^e / d` over `2^e` in lowest terms, where it is short.
+/// The floor of `n * 2^e / d` over `2^e` in lowest terms, where that has at most 62 bits.
 pub fn wide_down(n: i128, d: u128, e: u32) -> Option<Dyadic>
     requires some { 0 < d }
     requires few { d < 2 ^ 127 }
@@ -108,14 +108,14 @@ pub fn wide_down(n: i128, d: u128, e: u32) -> Option<Dyadic>
 }
 
 /// The other sign.
-fn opposite(d: Dyadic) -> Dyadic
+pub fn opposite(d: Dyadic) -> Dyadic
     requires { is_small d ≡ true }
     ensures { result ≡ record { m = neg_ℤ d.m; e = d.e } }
 {
     Dyadic { m: -d.m, e: d.e }
 }
 
-/// The ceiling of `n * 2^e / d` over `2^e` in lowest terms, where it is short.
+/// The ceiling of `n * 2^e / d` over `2^e` in lowest terms, where that has at most 62 bits.
 pub fn wide_up(n: i128, d: u128, e: u32) -> Option<Dyadic>
     requires some { 0 < d }
     requires few { d < 2 ^ 127 }
@@ -130,7 +130,7 @@ pub fn wide_up(n: i128, d: u128, e: u32) -> Option<Dyadic>
     }
 }
 
-/// The interval with these ends, where both are short.
+/// The interval with these ends, where both have at most 62 bits.
 pub fn ends(lo: Option<Dyadic>, hi: Option<Dyadic>) -> Option<Interval>
     ensures { (x : model.Interval) → IsEnd lo x.lo → IsEnd hi x.hi → IsIfSmall result x }
 {

@@ -60,3 +60,9 @@ returns-in-Input c =
     (c.input_error.ensures r (ap (λ (i : function.Input). i.err) c.input_at.ensures)
     ∙ (λ i. narrowest (error_grid (f32 i)) (record { lo = minus (negative r) (unit_value (f32 i)); hi = r }) (λ h. BelowFraction (Sum (Num h.lo) (unit_at (f32 i))) (negative r) ∷ AboveFraction r (Num h.hi) ∷ []))
     ∙ input_is c.args.function.now c.args.ps.now c.args.gs.now c.args.boxes.now c.args.hs.now f c.requires.own c.requires.ranges c.in-Input.k r refl)
+
+pub returns-in-Div : goal.returns-in-Div
+returns-in-Div c =
+    let f = c.args.f in let f32 : to_z w32 (of_z w32 f) ≡ f = to_z-of_z w32 f c.ranges.f in let own = f32 ∙ c.requires.own in
+    subst (λ (n : Node). c.division_error.result ≡ plain_error c.args.function.now c.args.ps.now c.args.gs.now c.args.boxes.now c.args.hs.now (node_of n)) (sym c.in-Div.is)
+    (c.division_error.ensures c.args.function.now c.args.ps.now c.args.boxes.now c.requires.range own)

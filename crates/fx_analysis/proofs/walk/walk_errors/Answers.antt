@@ -1,14 +1,13 @@
-use Rattle.std.proofs.Common.{◌≡◌, ◌∙◌, ◌+◌, List, length, ℕ, pos, Result, Ok, Err, ap, sym, subst, refl, arith, get_or}
+use Rattle.std.proofs.Common.{◌≡◌, ◌∙◌, ◌+◌, List, length, ℕ, pos, Result, Ok, Err, ap, sym, subst, arith, get_or}
 use Rattle.std.specs.Prelude.{All}
 use Rattle.std.proofs.lemmas.List.Elements.{All-push}
 use Rattle.fx_rational.specs.Interval.{Interval}
 use Rattle.fx_model.specs.LawfulProgram.{IsPoint}
 use Rattle.fx_model.specs.Nodes.{nodes_of}
-use Rattle.fx_flat.specs.NodeOf.{node_of, nodes_in}
+use Rattle.fx_flat.specs.NodeOf.{node_of}
 use Rattle.fx_analysis.specs.declared.fault.Why.{Why}
 use Rattle.fx_analysis.specs.Ordered.{IsInPlace}
-use Rattle.fx_analysis.specs.Listed.{IsUndivided}
-use Rattle.fx_analysis.specs.Narrowed.{HasFewPlaces}
+use Rattle.fx_analysis.specs.Listed.{HasFewPlaces}
 use Rattle.fx_analysis.specs.PlainErrors.{plain_error}
 use Rattle.fx_analysis.proofs.Ordered.{node_list}
 use Rattle.fx_analysis.proofs.NodeErrors.{error_low}
@@ -22,11 +21,6 @@ node_error-requires-clause-ordered c =
     let o = subst (IsInPlace (length fn.inputs) (length fn.states) c.loop-i.i) s.1 (ordered_at (length fn.inputs) (length fn.states) c.loop-i.i (nodes_of fn) (node_of c.index-nodes-i.result) (node_list fn c.keeps.ensures.valid).ordered s.0) in
     let long : length c.deref.result.now ≡ c.loop-i.i = ap length c.deref.ensures.value ∙ c.loop-i.invariant.walked.count in
     subst (λ (k : ℕ). IsInPlace (length fn.inputs) (length fn.states) k (node_of c.index-nodes-i.result)) (sym long) o
-
-pub node_error-requires-clause-undivided : goal.node_error-requires-clause-undivided
-node_error-requires-clause-undivided c =
-    let s = seen_at node_of c.args.nodes.now (nodes_in c.args.nodes.now) c.loop-i.i c.index-nodes-i.result refl c.loop-i-test.true c.index-nodes-i.is in
-    subst IsUndivided s.1 (c.requires.undivided c.loop-i.i (node_of c.index-nodes-i.result) s.0)
 
 pub returns-in-Err-clause-no_plan : goal.returns-in-Err-clause-no_plan
 returns-in-Err-clause-no_plan c =

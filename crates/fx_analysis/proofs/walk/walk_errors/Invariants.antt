@@ -1,6 +1,6 @@
 use Rattle.std.specs.Prelude.{All}
 use Rattle.fx_model.specs.Nodes.{nodes_of}
-use Rattle.fx_analysis.specs.Narrowed.{HasFewPlaces}
+use Rattle.fx_analysis.specs.Listed.{HasFewPlaces}
 use Rattle.fx_analysis.specs.PlainErrors.{plain_error}
 use Rattle.fx_analysis.proofs.Turns.{IsWalked}
 use Rattle.fx_analysis.proofs.walk.walk_errors.Given as goal
