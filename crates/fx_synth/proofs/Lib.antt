@@ -1,0 +1,2 @@
+mod Better
+mod Outcomes

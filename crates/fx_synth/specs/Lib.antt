@@ -1,2 +1,3 @@
 pub mod Bounds
 pub mod Synthesis
+pub mod Turns

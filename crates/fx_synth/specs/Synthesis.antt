@@ -1,6 +1,11 @@
 -- What a synthesis answers.
-use Rattle.std.specs.Prelude.{◌≡◌, ℕ, Option, Some, None}
+use Rattle.std.specs.Prelude.{◌≡◌, ◌≢◌, ◌<◌, ℕ, List, [], length, Contains, Some, None}
+use Rattle.fx_rational.specs.Rational.{AtMost}
 use Rattle.fx_model.specs.Function.{Function}
+use Rattle.fx_inequalities.specs.Accepted.{certified_bound}
+use Rattle.fx_inequalities.specs.Rewriting.{Rewriting}
+use Rattle.fx_analysis.specs.Attempts.{IsAcceptedAfter, tried_steps}
+use Rattle.fx_analysis.specs.PlainAttempt.{Attempt}
 use Rattle.fx_checker.specs.CertifiedView.{Accepted}
 use Rattle.fx_weight.specs.PlainClass.{Outside, outside_of}
 use Rattle.fx_weight.specs.OutsideView.{outside_view}
@@ -8,14 +13,36 @@ use Rattle.fx_synth.specs.Bounds.{AreWithinWeights}
 use Rattle.fx_synth.specs.declared.fault.SynthFault.{SynthFault}
 use Rattle.fx_synth.specs.declared.fault.SynthFault.TheVariants.{NotFound, Memory}
 
--- what is found is for this function, of its name and at width n; in the class of the plain plan with bounds of the weights
-pub record IsSynthesised (n : ℕ) (fn : Function) (a : Accepted) : Type 0 where
+-- ---- bounds
+-- each bound of a is smaller than that of b
+abbrev pub AreSmaller : Function → Attempt → Attempt → Type 0
+AreSmaller fn a b = (j : ℕ) → j < length fn.demands → ¬ AtMost (certified_bound b.program b.certificate j) (certified_bound a.program a.certificate j)
+
+-- each is at most that of b
+abbrev pub AreNoGreater : Function → Attempt → Attempt → Type 0
+AreNoGreater fn a b = (j : ℕ) → j < length fn.demands → AtMost (certified_bound a.program a.certificate j) (certified_bound b.program b.certificate j)
+
+-- ---- the answer
+-- program and certificate of what is accepted
+abbrev pub attempted : Accepted → Attempt
+attempted a = record { program = a.program; certificate = a.certificate }
+
+-- what is found is for this function, of its name and at width n: in the class of the plain plan with bounds of the weights,
+-- outside it no worse than an accepted plain attempt; and no accepted attempt of so many tries has smaller bounds at all outputs
+pub record IsSynthesised (n tries : ℕ) (fn : Function) (a : Accepted) : Type 0 where
   pub function_is : a.function ≡ fn
   pub named : a.program.name ≡ fn.name
   pub width_is : a.program.width ≡ n
   pub bounded : outside_of n fn ≡ None → AreWithinWeights n fn a.program a.certificate
+  pub no_worse : outside_of n fn ≢ None → (t : Attempt) → IsAcceptedAfter n fn [] t → AreNoGreater fn (attempted a) t
+  pub unbeaten : (steps : List Rewriting) → Contains (tried_steps tries fn) steps → (t : Attempt) → IsAcceptedAfter n fn steps t → ¬ AreSmaller fn t (attempted a)
 
--- why nothing is found: what keeps the function outside the class, or want of memory
-abbrev pub Explains : SynthFault → Option Outside → Type 0
-Explains (NotFound outside) found = found ≡ Some (outside_view outside)
-Explains Memory found = Unit {0}
+-- why nothing is found: this keeps the function outside the class, and no attempt is accepted
+pub record IsUnfound (n tries : ℕ) (fn : Function) (reason : Outside) : Type 0 where
+  pub outside : outside_of n fn ≡ Some reason
+  pub none_accepted : (steps : List Rewriting) → Contains (tried_steps tries fn) steps → (t : Attempt) → ¬ IsAcceptedAfter n fn steps t
+
+-- or there was no memory
+abbrev pub Explains : ℕ → ℕ → Function → SynthFault → Type 0
+Explains n tries fn (NotFound outside) = IsUnfound n tries fn (outside_view outside)
+Explains n tries fn Memory = Unit {0}

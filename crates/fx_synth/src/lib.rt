@@ -1,10 +1,13 @@
 //! Synthesis: a certified program for a function, at a width.
 //!
 //! Whatever is found has passed the checker, so nothing rests on how it was found. For a function in the class of the
-//! plain plan something is found always, with bounds of that plan. The trap: a seed and a number of tries are taken, and
-//! not used yet.
+//! plain plan something is found always, with bounds of that plan; outside it, where the plain attempt or one after a
+//! single step is accepted. The trap: an attempt takes the answer's place only where each of its bounds is smaller, so
+//! that no answer is worse than one before it at any output.
 #![tactic(auto)]
 
+mod answer;
+mod attempt;
 mod fault;
 mod synthesis;
 

@@ -1,0 +1,70 @@
+-- What the turns of a synthesis keep. No clause of a public call rests on this.
+use Rattle.std.specs.Prelude.{◌≡◌, ◌≢◌, ◌⊎◌, ⊤, ℕ, List, [], ◌∷◌, All, Option, Some, None}
+use Rattle.fx_model.specs.Function.{Function}
+use Rattle.fx_inequalities.specs.Accepted.{IsAccepted}
+use Rattle.fx_inequalities.specs.Rewriting.{Rewriting}
+use Rattle.fx_rules.specs.Steps.{rewrite}
+use Rattle.fx_analysis.specs.PlainAttempt.{Attempt}
+use Rattle.fx_checker.specs.CertifiedView.{Accepted}
+use Rattle.fx_weight.specs.PlainClass.{outside_of}
+use Rattle.fx_analysis.specs.Attempts.{IsAcceptedAfter}
+use Rattle.fx_synth.specs.Bounds.{AreWithinWeights}
+use Rattle.fx_synth.specs.Synthesis.{attempted, AreSmaller, AreNoGreater}
+
+-- what the checker made of an attempt for fn
+abbrev pub IsJudged : Function → Attempt → Option Accepted → Type 0
+IsJudged fn t None = ¬ IsAccepted rewrite fn t.program t.certificate
+IsJudged fn t (Some a) = IsAccepted rewrite fn t.program t.certificate × (a ≡ record { function = fn; program = t.program; certificate = t.certificate })
+
+-- the same where there may be none
+abbrev pub AreJudged : Function → Option Attempt → Option Accepted → Type 0
+AreJudged fn None o = o ≡ None
+AreJudged fn (Some t) o = IsJudged fn t o
+
+-- the attempt after these steps, of fn's name and at width n
+pub record IsMade (n : ℕ) (fn : Function) (steps : List Rewriting) (a : Accepted) : Type 0 where
+  pub function_is : a.function ≡ fn
+  pub named : a.program.name ≡ fn.name
+  pub width_is : a.program.width ≡ n
+  pub accepted : IsAcceptedAfter n fn steps (attempted a)
+
+-- what came of the attempt after these steps
+abbrev pub IsOutcome : ℕ → Function → List Rewriting → Option Accepted → Type 0
+IsOutcome n fn steps None = (t : Attempt) → ¬ IsAcceptedAfter n fn steps t
+IsOutcome n fn steps (Some a) = IsMade n fn steps a
+
+-- two that may be compared are for one function
+abbrev pub AreAlike : Option Accepted → Option Accepted → Type 0
+AreAlike (Some a) (Some b) = a.function ≡ b.function
+AreAlike _ _ = ⊤
+
+-- the answer once a candidate is looked at: it is taken where there was no answer, and where its bounds are all smaller
+abbrev pub IsTaken : Option Accepted → Option Accepted → Option Accepted → Type 0
+IsTaken None candidate answer = answer ≡ candidate
+IsTaken (Some a) None answer = answer ≡ Some a
+IsTaken (Some a) (Some c) answer =
+    ((answer ≡ Some c) × AreSmaller a.function (attempted c) (attempted a)) ⊎ ((answer ≡ Some a) × ¬ AreSmaller a.function (attempted c) (attempted a))
+
+-- the attempt after these steps isn't better than the answer, and not accepted where there is none
+abbrev pub Resists : ℕ → Function → Option Accepted → List Rewriting → Type 0
+Resists n fn None steps = (t : Attempt) → ¬ IsAcceptedAfter n fn steps t
+Resists n fn (Some a) steps = (t : Attempt) → IsAcceptedAfter n fn steps t → ¬ AreSmaller fn t (attempted a)
+
+-- an answer for fn at width n, with bounds of the weights in their class, and outside it no worse than the plain attempt
+pub record Suits (n : ℕ) (fn : Function) (a : Accepted) : Type 0 where
+  pub function_is : a.function ≡ fn
+  pub named : a.program.name ≡ fn.name
+  pub width_is : a.program.width ≡ n
+  pub bounded : outside_of n fn ≡ None → AreWithinWeights n fn a.program a.certificate
+  pub no_worse : outside_of n fn ≢ None → (t : Attempt) → IsAcceptedAfter n fn [] t → AreNoGreater fn (attempted a) t
+
+-- there is such an answer, or there is none outside the class
+abbrev pub SuitsIfAny : ℕ → Function → Option Accepted → Type 0
+SuitsIfAny n fn None = outside_of n fn ≢ None
+SuitsIfAny n fn (Some a) = Suits n fn a
+
+-- the answer after the plain attempt and those of these single steps
+pub record Stands (n : ℕ) (fn : Function) (steps : List Rewriting) (answer : Option Accepted) : Type 0 where
+  pub suits : SuitsIfAny n fn answer
+  pub plain : Resists n fn answer []
+  pub each : All (λ s. Resists n fn answer (s ∷ [])) steps

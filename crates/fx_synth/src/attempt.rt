@@ -1,0 +1,76 @@
+//! The attempts: the plain one of a function, and that after a step.
+//!
+//! An attempt that isn't there, or that the checker refuses, is none.
+ghost use Rattle.std.specs.Prelude.{◌≡◌, ◌∷◌, [], Contains, IfOk, IfSome, true};
+ghost use Rattle.std.specs.Option.{option_map};
+ghost use Rattle.fx_model.specs.LawfulProgram.{widths};
+ghost use Rattle.fx_inequalities.specs.LawfulCertificate.{IsLawfulCertificate};
+ghost use Rattle.fx_rules.specs.SingleSteps.{is_there};
+ghost use Rattle.fx_rewrite.specs.StepView.{step_view};
+ghost use Rattle.fx_cert.specs.CertificateView.{certificate_of};
+ghost use Rattle.fx_analysis.specs.AttemptView.{attempt_in};
+ghost use Rattle.fx_synth.specs.Turns.{AreJudged, IsOutcome};
+
+use fx_analysis::{attempt_after, plain_attempt};
+use fx_cert::Certificate;
+use fx_checker::{Certified, CheckKind, check};
+use fx_expr::Function;
+use fx_num::Memory;
+use fx_program::Program;
+use fx_rewrite::Step;
+use fx_rules::rewrite_law;
+use std::alloc::Global;
+
+// What the checker makes of an attempt, where there is one.
+fn judged(
+    alloc: Global,
+    function: &Function,
+    attempt: Option<(Program, Certificate)>,
+) -> Result<Option<Certified>, Memory>
+    requires { IfSome attempt (λ t. IsLawfulCertificate (certificate_of t.1)) }
+    ensures { IfOk result (AreJudged function.now (option_map attempt_in attempt)) }
+{
+    let Some((program, certificate)) = attempt else {
+        return Ok(None);
+    };
+    match check(alloc, function, program, certificate) {
+        Ok(certified) => Ok(Some(certified)),
+        Err(fault) => match fault.kind {
+            CheckKind::Memory => Err(Memory),
+            _ => Ok(None),
+        },
+    }
+}
+
+/// The plain attempt, where it is there and accepted.
+pub fn plain_answer(
+    alloc: Global,
+    function: &Function,
+    width: u32,
+) -> Result<Option<Certified>, Memory>
+    requires stateless { function.now.states ≡ [] }
+    requires width { Contains widths width }
+    ensures { IfOk result (IsOutcome width function.now []) }
+{
+    let attempt = plain_attempt(alloc, function, width)?;
+    let answer = judged(alloc, function, attempt)?;
+    Ok(answer)
+}
+
+/// The attempt after a step, where it is there and accepted.
+pub fn step_answer(
+    alloc: Global,
+    function: &Function,
+    width: u32,
+    step: Step,
+) -> Result<Option<Certified>, Memory>
+    requires stateless { function.now.states ≡ [] }
+    requires width { Contains widths width }
+    requires there { is_there function.now (step_view step) ≡ true }
+    ensures { IfOk result (IsOutcome width function.now (step_view step ∷ [])) }
+{
+    rewrite_law();
+    let attempt = attempt_after(alloc, function, width, step)?;
+    let answer = judged(alloc, function, attempt)?;
+    Ok(answer)
+}
