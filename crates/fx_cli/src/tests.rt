@@ -51,7 +51,7 @@ type Call = (
 );
 
 #[rattlefmt::skip]
-static CALLS: [Call; 42] = [
+static CALLS: [Call; 44] = [
     (HALF, &[], "run", b"x\n0.3\n", 0, "out1\n0.7998046875\n", ""),
     (HALF, &[], "run", b"x\n", 0, "out1\n", ""),
     (HALF, &[], "run", b"", 5, "", "fixd: row: MissingColumn at line 1 column x\n"),
@@ -65,6 +65,8 @@ static CALLS: [Call; 42] = [
     (AVERAGER, &[("box -5:12 0:0 0", "box 0:0 -5:12 0")], "check", b"", 1, "", "fixd: rejected: Start at errorrow 0\n"),
     (AVERAGER, &[], "check", b"", 0, "accepted\nout1 5/2^12\n", ""),
     (HALF, &[], "check", b"", 0, "accepted\nout1 1/2^12\n", ""),
+    (HALF, &[], "show", b"", 0, "0 in 12 0 1 -1/2^12 0\n1 const 12 1/2^1 1/2^1 0 0\n2 add 12 1/2^1 3/2^1 -1/2^12 0\n3 copy 12 1/2^1 3/2^1 -1/2^12 0\nout1 1/2^12\n", ""),
+    (EDGE, &[], "show", b"", 1, "", "fixd: rejected: WordTooSmall at node 1\n"),
     (HALF, &[("plain 1:1 3:1 -1:12 0:0\nplain 1:1 3:1 -1:12 0:0\nend\n", "")], "run", b"x\n", 4, "", "fixd: bundle: BadLine at line 23\n"),
     (HALF, &[("end\n", "")], "run", b"x\n", 4, "", "fixd: bundle: Section at line 25\n"),
     (HALF, &[("end\n", "end\nx\n")], "check", b"", 4, "", "fixd: bundle: Extra at line 26\n"),

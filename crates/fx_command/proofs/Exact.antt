@@ -26,6 +26,8 @@ use Rattle.fx_command.specs.commands.Run as run
 use Rattle.fx_command.specs.commands.Run.{RowsEnd, Runs, Takes, IsReadable, rows_end}
 use Rattle.fx_command.specs.commands.Check.{ReportEnds}
 use Rattle.fx_command.specs.commands.Check as check
+use Rattle.fx_command.specs.commands.Show.{ShowEnds}
+use Rattle.fx_command.specs.commands.Show as show
 use Rattle.fx_command.specs.Promise.{HasEnded, IsAnswer, CallEnds, CallCompletes, FileEnds, file_of}
 use Rattle.fx_command.proofs.SameEnd.{ok_inside, same_end}
 use Rattle.fx_command.proofs.ExactSource.{exact_source, synthesis_decides}
@@ -116,6 +118,11 @@ report_decides : (old new : Streams) (b : Parts) (fn : Function) (end : End) →
 report_decides old new b fn end writes (check.reported put) = refl
 report_decides old new b fn end writes (check.unwritten rose put) = absurd (writes rose)
 
+table_decides : (old new : Streams) (b : Parts) (fn : Function) (end : End) → ¬ Rose old.write_faults new.write_faults → ShowEnds old new b fn end → (end ≡ Done) ⊎ (end ≡ NoMemory)
+table_decides old new b fn end writes (show.shown put) = inl refl
+table_decides old new b fn end writes (show.unwritten rose put) = absurd (writes rose)
+table_decides old new b fn end writes (show.no_memory same) = inr refl
+
 -- ---- the clauses of the call
 module _ (again : BundleAgain) (papers : Option Files) (before after : ℕ) (old new : Streams) (noted noted' : Option (List ℕ)) (failed failed' : ℕ) (status : ℕ) where
   abbrev IsEnd : End → Type 0
@@ -128,6 +135,7 @@ module _ (again : BundleAgain) (papers : Option Files) (before after : ℕ) (old
       by_command : (c : commands.Command) → CallEnds papers before after old new (Some c) h.end → EndsExactly papers before after (file_of c) (FileEnds papers before after c) IsEnd
       by_command (commands.Run name) ends = λ file found e other cause. exact_opening again papers before after name file found IsEnd h.end e h.answer ends other cause
       by_command (commands.Check name) ends = λ file found e other cause. exact_opening again papers before after name file found IsEnd h.end e h.answer ends other cause
+      by_command (commands.Show name) ends = λ file found e other cause. exact_opening again papers before after name file found IsEnd h.end e h.answer ends other cause
       by_command (commands.Synth wanted) ends = λ file found e other cause. exact_source papers before after wanted file found IsEnd old new h.end e h.answer ends other cause
 
   either : (end decided : End) → IsEnd end → (end ≡ decided) ⊎ (end ≡ NoMemory) → OrNoMemory IsEnd decided
@@ -148,5 +156,11 @@ module _ (again : BundleAgain) (papers : Option Files) (before after : ℕ) (old
       by : (b : Parts) (fn : Function) → ¬ Rose old.write_faults new.write_faults → (h.end ≡ NoMemory) ⊎ ReportEnds old new b fn h.end → OrNoMemory IsEnd Done
       by b fn writes (inl none) = inr (subst IsEnd none h.answer)
       by b fn writes (inr ends) = inl (subst IsEnd (report_decides old new b fn h.end writes ends) h.answer)
+  complete (Some (commands.Show name)) h = λ b fn ready writes.
+      by b fn writes (completed again papers before after name ready.file ready.found (ShowEnds old new) b fn h.end ready.is_bundle ready.accepted h.cause)
+    where
+      by : (b : Parts) (fn : Function) → ¬ Rose old.write_faults new.write_faults → (h.end ≡ NoMemory) ⊎ ShowEnds old new b fn h.end → OrNoMemory IsEnd Done
+      by b fn writes (inl none) = inr (subst IsEnd none h.answer)
+      by b fn writes (inr ends) = either h.end Done h.answer (table_decides old new b fn h.end writes ends)
   complete (Some (commands.Synth wanted)) h = λ file fn found source inside writes.
       either h.end Done h.answer (synthesis_decides papers before after wanted file found old new fn h.end source inside writes h.cause)

@@ -1,7 +1,8 @@
 mod Noted
 mod Columns
 mod Accepting
-mod BoundLines
+mod Listed
+mod Shown
 mod Told
 mod SameEnd
 mod ExactSource

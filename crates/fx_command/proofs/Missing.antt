@@ -55,4 +55,5 @@ missing_file papers before after old new noted noted' failed failed' command sta
     by_command : (c : commands.Command) → CallEnds papers before after old new (Some c) h.end → IsMissing papers (file_of c) → IsUnopened old new status
     by_command (commands.Run name) cause missing = by_end papers before after name old new _ h.end status h.answer.status_is missing cause
     by_command (commands.Check name) cause missing = by_end papers before after name old new _ h.end status h.answer.status_is missing cause
+    by_command (commands.Show name) cause missing = by_end papers before after name old new _ h.end status h.answer.status_is missing cause
     by_command (commands.Synth wanted) cause missing = by_synthesis papers before after old new wanted h.end status h.answer.status_is missing cause

@@ -18,6 +18,7 @@ use Rattle.fx_command.specs.Opening.{Spells, IsAcceptedAs, OpeningEnds}
 use Rattle.fx_command.specs.Source.{SourceEnds}
 use Rattle.fx_command.specs.commands.Run.{RunEnds, RunCompletes}
 use Rattle.fx_command.specs.commands.Check.{CheckEnds, CheckCompletes}
+use Rattle.fx_command.specs.commands.Show.{ShownEnds, ShowCompletes}
 use Rattle.fx_command.specs.commands.Synth.{SynthEnds, SynthCompletes}
 
 -- how a call ends, by its command
@@ -25,6 +26,7 @@ abbrev pub CallEnds : Option Files → ℕ → ℕ → Streams → Streams → O
 CallEnds papers before after old new None end = (end ≡ Usage) ⊎ (end ≡ NoMemory)
 CallEnds papers before after old new (Some (commands.Run name)) end = RunEnds papers before after old new name end
 CallEnds papers before after old new (Some (commands.Check name)) end = CheckEnds papers before after old new name end
+CallEnds papers before after old new (Some (commands.Show name)) end = ShownEnds papers before after old new name end
 CallEnds papers before after old new (Some (commands.Synth wanted)) end = SynthEnds papers before after old new wanted end
 
 -- the status and the line on the notes are those of this end
@@ -43,6 +45,7 @@ abbrev pub CallCompletes : Option Files → ℕ → ℕ → Streams → Streams 
 CallCompletes papers before after old new None IsEnd = ⊤
 CallCompletes papers before after old new (Some (commands.Run name)) IsEnd = RunCompletes papers before after old new name IsEnd
 CallCompletes papers before after old new (Some (commands.Check name)) IsEnd = CheckCompletes papers before after old new name IsEnd
+CallCompletes papers before after old new (Some (commands.Show name)) IsEnd = ShowCompletes papers before after old new name IsEnd
 CallCompletes papers before after old new (Some (commands.Synth wanted)) IsEnd = SynthCompletes papers before after old new wanted IsEnd
 
 -- ---- the statuses at which nothing was begun
@@ -55,12 +58,14 @@ is_early status = (status == 1) || (status == 2) || (status == 3) || (status == 
 abbrev pub file_of : Command → List ℕ
 file_of (commands.Run name) = name
 file_of (commands.Check name) = name
+file_of (commands.Show name) = name
 file_of (commands.Synth wanted) = wanted.file
 
 -- why FILE gives no accepted bundle, or no function, as the command asks for
 abbrev pub FileEnds : Option Files → ℕ → ℕ → Command → End → Type 0
 FileEnds papers before after (commands.Run name) end = OpeningEnds papers before after name end
 FileEnds papers before after (commands.Check name) end = OpeningEnds papers before after name end
+FileEnds papers before after (commands.Show name) end = OpeningEnds papers before after name end
 FileEnds papers before after (commands.Synth wanted) end = SourceEnds papers before after wanted.file wanted.function end
 
 -- ---- a file that isn't there

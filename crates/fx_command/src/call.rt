@@ -12,7 +12,7 @@ ghost use Rattle.fx_words.specs.Command as commands;
 ghost use Rattle.fx_words.specs.Command.{Run, texts, command_of};
 ghost use Rattle.fx_command.specs.Promise.{HasEnded, IsAnswer, CallCompletes, FileEnds, Told, IsHonest, IsUnopened, file_of, leaves_input, is_early};
 
-use crate::commands::{check_file, run_file, synth_file};
+use crate::commands::{check_file, run_file, show_file, synth_file};
 use crate::end::End;
 use fx_base::{Shelf, Sink, Source, Status};
 use fx_cert::bundle_text_law;
@@ -41,6 +41,7 @@ fn perform<H: Shelf, S: Source, K: Sink, N: Sink>(
     match read_words(alloc, words.as_slice()) {
         Ok(Command::Run(name)) => run_file(alloc, shelf, name, input, output, notes),
         Ok(Command::Check(name)) => check_file(alloc, shelf, name, output).finish(notes),
+        Ok(Command::Show(name)) => show_file(alloc, shelf, name, output).finish(notes),
         Ok(Command::Synth(wanted)) => synth_file(alloc, shelf, &wanted, output).finish(notes),
         Err(WordFault::Usage) => End::Usage.finish(notes),
         Err(WordFault::Memory) => End::NoMemory.finish(notes),

@@ -2,8 +2,10 @@
 
 mod check;
 mod run;
+mod show;
 mod synth;
 
 pub use check::check_file;
 pub use run::run_file;
+pub use show::show_file;
 pub use synth::synth_file;

@@ -95,8 +95,8 @@ fn put_output<K: Sink>(certified: &Certified, output: u32, sink: &mut K) -> Resu
     put_bound(output, certified.bound(output), sink)
 }
 
-// The lines of all outputs.
-fn put_bounds<K: Sink>(certified: &Certified, sink: &mut K) -> Result<(), Failed>
+/// Writes the lines of all outputs.
+pub fn put_bounds<K: Sink>(certified: &Certified, sink: &mut K) -> Result<(), Failed>
     ensures all { OnOk result (Appends (K.taken sink.old) (K.taken sink.new) (bound_lines certified.now.program certified.now.certificate 0 certified.now.program.outputs)) }
     ensures front { OnErr result (AppendsFront (K.taken sink.old) (K.taken sink.new) (bound_lines certified.now.program certified.now.certificate 0 certified.now.program.outputs)) }
     ensures cause { HasCause (K.faults sink.old) (K.faults sink.new) result }

@@ -1,5 +1,5 @@
 -- What `check FILE` does: it prints the bounds of an accepted bundle.
-use Rattle.std.specs.Prelude.{ℕ, zero, suc, ◌+◌, ◌==◌, List, Option, [], ◌∷◌, ◌++◌, codes, if◌then◌else◌}
+use Rattle.std.specs.Prelude.{ℕ, ◌+◌, ◌==◌, List, Option, [], ◌∷◌, ◌++◌, codes, if◌then◌else◌}
 use Rattle.std.specs.Fmt.{decimal, signed_decimal}
 use Rattle.std.specs.List.{concat}
 use Rattle.std.specs.Io.KnownBytes.{Appends}
@@ -14,6 +14,7 @@ use Rattle.fx_inequalities.specs.Accepted.{bound_dyadic}
 use Rattle.fx_cert.specs.BundleView.{Parts}
 use Rattle.fx_command.specs.Outside.{Streams}
 use Rattle.fx_command.specs.Ends.{End, Done, WriteFault}
+use Rattle.fx_command.specs.Listing.{numbered_lines}
 use Rattle.fx_command.specs.Opening.{OpensThen}
 use Rattle.fx_command.specs.Exact.{IsReady, OrNoMemory}
 
@@ -27,8 +28,7 @@ bound_line j d = concat (codes "out" ∷ decimal (j + 1) ∷ codes " " ∷ bound
 
 -- a line for each of m outputs, of which the first is output j
 abbrev pub bound_lines : Program → Certificate → ℕ → ℕ → List ℕ
-bound_lines p c j zero = []
-bound_lines p c j (suc m) = bound_line j (bound_dyadic p c j) ++ bound_lines p c (j + 1) m
+bound_lines p c = numbered_lines (λ j. bound_line j (bound_dyadic p c j))
 
 -- what is printed of an accepted bundle
 abbrev pub report : Program → Certificate → List ℕ

@@ -19,6 +19,7 @@ unread_words : (papers : Option Files) (before : ℕ) (old : Streams) (command :
 unread_words papers before old None = inr refl
 unread_words papers before old (Some (commands.Run name)) = opening.unopened _ opening.no_memory (record { left = refl; taken = refl })
 unread_words papers before old (Some (commands.Check name)) = opening.unopened _ opening.no_memory (record { left = refl; taken = refl })
+unread_words papers before old (Some (commands.Show name)) = opening.unopened _ opening.no_memory (record { left = refl; taken = refl })
 unread_words papers before old (Some (commands.Synth wanted)) = synth.unopened _ source.no_memory (record { left = refl; taken = refl })
 
 pub returns-in-Err-Usage-clause-ended : goal.returns-in-Err-Usage-clause-ended
