@@ -7,14 +7,14 @@ use Rattle.fx_model.specs.Limits.{source_limit}
 use Rattle.fx_model.specs.Function.{Function}
 use Rattle.fx_lexer.specs.declared.fault.SourceFault.{SourceFault}
 use Rattle.fx_grammar.specs.Sources.{parsed}
-use Rattle.fx_weight.specs.PlainClass.{outside_of}
+use Rattle.fx_synth.specs.Synthesis.{IsUnfound}
 use Rattle.fx_words.specs.Command.{Synthesis}
 use Rattle.fx_command.specs.Outside.{Streams, IfFile, IsFile}
 use Rattle.fx_command.specs.Ends.{End, Done, NoMemory, OverLimit, Misread}
 use Rattle.fx_command.specs.Exact.{IsFound, OrNoMemory}
 use Rattle.fx_command.specs.Source.{IsSourceFor, SourceEnds, unread, long, misread, no_memory}
 use Rattle.fx_command.specs.commands.Synth as synth
-use Rattle.fx_command.specs.commands.Synth.{SynthEnds}
+use Rattle.fx_command.specs.commands.Synth.{SynthEnds, IsServed}
 use Rattle.fx_command.proofs.Told.{of_found, not_missing}
 use Rattle.fx_command.proofs.SameEnd.{ok_inside, same_end}
 
@@ -70,7 +70,7 @@ module _ (papers : Option Files) (before after : ℕ) (s : Synthesis) (file : Li
       SourceEnds papers before after s.file s.function e → OrNoMemory IsEnd e
   exact_source IsEnd old new end e h ends other cause = same_end IsEnd (verdict file s.function) end e h other (actual old new end e other ends (cause_verdict e cause)) (cause_verdict e cause)
 
-  pub synthesis_decides : (old new : Streams) (fn : Function) (end : End) → IsSourceFor file s.function fn → outside_of s.width fn ≡ None → ¬ Rose old.write_faults new.write_faults →
+  pub synthesis_decides : (old new : Streams) (fn : Function) (end : End) → IsSourceFor file s.function fn → IsServed s.width s.tries fn → ¬ Rose old.write_faults new.write_faults →
       SynthEnds papers before after old new s end → (end ≡ Done) ⊎ (end ≡ NoMemory)
   synthesis_decides old new fn end source inside writes (synth.unopened end' why same) = by (cause_verdict end why)
     where
@@ -79,6 +79,10 @@ module _ (papers : Option Files) (before after : ℕ) (s : Synthesis) (file : Li
       by (inr v) = no_end fn end (of_source file s.function fn source) v
   synthesis_decides old new fn end source inside writes (synth.not_found f fn' outside is source' why same) =
       let one = ok_inside (verdict file s.function) fn fn' (of_source file s.function fn source) (source_verdict f fn' is source') in
-      let z = sym inside ∙ ap (outside_of s.width) one ∙ why in absurd cc
+      unserved inside (subst (λ f. IsUnfound s.width s.tries f outside) (sym one) why)
+    where
+      unserved : {R : Type 0} → IsServed s.width s.tries fn → IsUnfound s.width s.tries fn outside → R
+      unserved (inl none) u = let z = sym none ∙ u.outside in absurd cc
+      unserved (inr h) u = absurd (u.none_accepted h.steps h.tried h.attempt h.accepted)
   synthesis_decides old new fn end source inside writes (synth.found f fn' b is source' bundle put) = inl refl
   synthesis_decides old new fn end source inside writes (synth.unwritten f fn' b is source' bundle rose put) = absurd (writes rose)

@@ -19,6 +19,7 @@ use Rattle.fx_grammar.specs.Steps.{◌>>=◌, fault}
 use Rattle.fx_grammar.specs.Sources.{parsed, chosen, called}
 use Rattle.fx_cert.specs.BundleView.{IsLawfulBundle}
 use Rattle.fx_checker.specs.CertifiedView.{Accepted}
+use Rattle.fx_synth.specs.Synthesis.{IsSynthesised}
 use Rattle.fx_words.specs.Command.{Synthesis}
 use Rattle.fx_inequalities.specs.CertificateText.{bundle_text}
 use Rattle.fx_base.specs.Calls.{AppendsFront}
@@ -68,16 +69,15 @@ named_again bytes wanted fn e = read_again _ _ _ wanted fn e
 
 -- ---- the bundle
 pub bundle_for : (file : List ℕ) (s : Synthesis) (a : Accepted) (found : IsFoundIn file s a) → IsLawfulBundle (with_source a file) → IsAccepted rewrite a.function a.program a.certificate →
-    IsBundleFor file s.width found.fn (with_source a file)
+    IsBundleFor file s found.fn (with_source a file)
 bundle_for file s a found lawful accepted = record {
   source_is = refl;
-  width_is = found.found.width_is;
   lawful = lawful;
   accepted = record {
     meant = ap (λ n. parsed file (Some n)) found.found.named ∙ named_again file s.function found.fn found.source.meant;
     accepted = subst (λ fn. IsAccepted rewrite fn a.program a.certificate) found.found.function_is accepted;
   };
-  bounded = found.found.bounded;
+  synthesised = subst (λ f. IsSynthesised s.width s.tries found.fn (record { function = f; program = a.program; certificate = a.certificate })) found.found.function_is found.found;
 }
 
 -- ---- why there is no bundle
@@ -117,7 +117,7 @@ text_is a bytes slice text sent same made is = is ∙ made ∙ ap (λ t. bundle_
 
 -- the bundle, told of what was read
 made_for : (s : Synthesis) (a : Accepted) (bytes slice : List ℕ) → slice ≡ bytes → (found : IsFoundIn bytes s a) → IsLawfulBundle (with_source a slice) → IsAccepted rewrite a.function a.program a.certificate →
-    IsBundleFor bytes s.width found.fn (with_source a bytes)
+    IsBundleFor bytes s found.fn (with_source a bytes)
 made_for s a bytes slice same found lawful accepted = bundle_for bytes s a found (subst (λ t. IsLawfulBundle (with_source a t)) same lawful) accepted
 
 module _ (papers : Option Files) (before after : ℕ) (old new : Streams) (s : Synthesis) (a : Accepted) (bytes first second text sent : List ℕ)
