@@ -1,0 +1,3 @@
+pub mod AffineView
+pub mod Combining
+pub mod AffineAnswers
