@@ -1,6 +1,6 @@
 //! Sums, multiples and products of affine forms.
 
-ghost use Rattle.std.specs.Prelude.{◌≡◌, ◌∷◌, [], ◌++◌, IsTrue, length, MatchResult};
+ghost use Rattle.std.specs.Prelude.{◌≡◌, ◌∷◌, [], ◌++◌, ℕ, IsTrue, length, MatchResult};
 ghost use Rattle.fx_rational.specs.Dyadic as model;
 ghost use Rattle.fx_inequalities.specs.Formula.{Formula, Num, Product, Sum, formed, formula_fits};
 ghost use Rattle.fx_judging.specs.Judging.{Forms, FormsSpan};
@@ -64,12 +64,11 @@ pub fn aff_scale(alloc: Global, a: &Affine, m: Dyadic) -> Result<Affine, AffineF
     with_rest(coefs, scaled(m, a.rest))
 }
 
-/// A coefficient of a product, by those of its operands.
-fn product_coef(c: Dyadic, d: Dyadic, centres: (Dyadic, Dyadic)) -> Option<Dyadic>
-    requires { HasNearProducts (Sum (Product (Num centres.1) (Num c)) (Product (Num centres.0) (Num d))) }
-    ensures { Forms result (Sum (Product (Num centres.1) (Num c)) (Product (Num centres.0) (Num d))) }
+/// A coefficient of a product about these centres, by those of its operands.
+fn product_coef(ma: Dyadic, mb: Dyadic, c: Dyadic, d: Dyadic) -> Option<Dyadic>
+    requires { HasNearProducts (Sum (Product (Num mb) (Num c)) (Product (Num ma) (Num d))) }
+    ensures { Forms result (Sum (Product (Num mb) (Num c)) (Product (Num ma) (Num d))) }
 {
-    let (ma, mb) = centres;
     sum(product(number(mb), number(c)), product(number(ma), number(d)))
 }
 
@@ -85,12 +84,13 @@ pub fn aff_mul(
     requires near { HasNearForm (length a.now.coefs) (product_form (linear_form a.now) (linear_form b.now) ranges centres) }
     ensures { IsFormed result (length a.now.coefs) (product_form (linear_form a.now) (linear_form b.now) ranges centres) }
 {
+    let (ma, mb) = centres;
     let mut coefs = Coefs::new(alloc);
     for j in 0..a.coefs.len() {
         append(
             &mut coefs,
-            product_coef(a.coefs.at(j), b.coefs.at(j), centres),
+            product_coef(ma, mb, a.coefs.at(j), b.coefs.at(j)),
         )?;
     }
-    with_rest(coefs, product_rest((a.rest, b.rest), ranges, centres))
+    with_rest(coefs, product_rest((a.rest, b.rest), ranges, (ma, mb)))
 }

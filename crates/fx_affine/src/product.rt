@@ -1,8 +1,8 @@
 //! Products that fit wherever their exponents do.
 
-ghost use Rattle.std.specs.Prelude.{◌+◌, ◌^◌, ◌≤◌, IsTrue};
+ghost use Rattle.std.specs.Prelude.{◌≡◌, nat_le, ◌+◌, ◌^◌, ◌≤◌, IsTrue};
 ghost use Rattle.std.specs.Option.{SomeIff};
-ghost use Rattle.fx_rational.specs.Dyadic.{Dyadic, dyadic_product, product_fits};
+ghost use Rattle.fx_rational.specs.Dyadic.{dyadic_product, product_fits};
 ghost use Rattle.fx_rational.specs.Interval.{interval_product, interval_product_fits};
 ghost use Rattle.fx_inequalities.specs.Formula.{Formula, Num, Product, Span, point, span, span_difference, span_product};
 ghost use Rattle.fx_inequalities.specs.OperationSpans.{product_rest};

@@ -1,0 +1,52 @@
+-- Coefficients one behind the other.
+use Rattle.std.proofs.Common.{◌≡◌, ℕ, zero, suc, ◌+◌, ◌<◌, Bool, true, false, ◌&&◌, IsTrue, List, [], ◌∷◌, ◌++◌, Option, Some, None, ◌⊎◌, inl, inr, refl, sym, subst, ap₂, ◌∙◌, arith, true≢false}
+use Rattle.fx_rational.specs.Dyadic.{Dyadic}
+use Rattle.fx_rational.specs.Interval.{Interval}
+use Rattle.fx_inequalities.specs.Formula.{Formula, formed, formula_fits}
+use Rattle.fx_text.proofs.Choices.{both_true}
+use Rattle.fx_judging.specs.Judging.{FormsSpan}
+use Rattle.fx_judging.proofs.Judged.{both_again}
+use Rattle.fx_affine.specs.declared.affine.AffineFault.{AffineFault}
+use Rattle.fx_affine.specs.declared.affine.AffineFault.TheVariants.{Beyond, Memory}
+use Rattle.fx_affine.specs.AffineAnswers.{IsAffineFault}
+use Rattle.fx_affine.specs.Combining.{FormulaForm, coefs_fit, form_fits, formed_coefs}
+
+-- the first j fit, and these are what they come to
+pub record IsFront (out : List Dyadic) (j : ℕ) (c : ℕ → Formula) : Type 0 where
+  pub fits : coefs_fit j c ≡ true
+  pub formed : out ≡ formed_coefs j c
+
+pub front_start : (c : ℕ → Formula) → IsFront [] 0 c
+front_start c = record { fits = refl; formed = refl }
+
+-- one more
+pub front_step : (out more : List Dyadic) (j : ℕ) (c : ℕ → Formula) → IsFront out j c → formula_fits (c j) ≡ true → more ≡ out ++ formed (c j) ∷ [] → IsFront more (j + 1) c
+front_step out more j c front fits is =
+    let next : suc j ≡ j + 1 = omega arith in
+    subst (λ (k : ℕ). IsFront more k c) next (record {
+      fits = both_again (coefs_fit j c) (formula_fits (c j)) front.fits fits;
+      formed = is ∙ ap₂ (λ (xs ys : List Dyadic). xs ++ ys) front.formed refl;
+    })
+
+-- where all fit, each does
+each_fits : (n j : ℕ) (c : ℕ → Formula) → coefs_fit n c ≡ true → j < n → formula_fits (c j) ≡ true
+each_fits zero j c all below = absurd (omega (arith, below))
+each_fits (suc n) j c all below =
+    let parts = both_true (coefs_fit n c) (formula_fits (c n)) all in
+    by (each_fits n j c parts.0) parts.1 (split below)
+  where
+    split : j < suc n → (j < n) ⊎ (n ≡ j)
+    split h = grind arith
+    by : (j < n → formula_fits (c j) ≡ true) → formula_fits (c n) ≡ true → (j < n) ⊎ (n ≡ j) → formula_fits (c j) ≡ true
+    by before last (inl h) = before h
+    by before last (inr e) = subst (λ (k : ℕ). formula_fits (c k) ≡ true) e last
+
+untrue : (b : Bool) → (b ≡ true → ⊥) → b ≡ false
+untrue true h = absurd (h refl)
+untrue false h = refl
+
+-- one coefficient that doesn't fit
+pub front_stop : (e : AffineFault) (n j : ℕ) (f : FormulaForm) → j < n → IsAffineFault e (formula_fits (f.coef j)) → IsAffineFault e (form_fits n f)
+front_stop Beyond n j f below h =
+    untrue (form_fits n f) (λ all. true≢false (sym (each_fits n j f.coef (both_true (coefs_fit n f.coef) (formula_fits f.rest.lo && formula_fits f.rest.hi) all).0 below) ∙ h))
+front_stop Memory n j f below h = tt
