@@ -1,14 +1,14 @@
 -- Coefficients one behind the other.
-use Rattle.std.proofs.Common.{◌≡◌, ℕ, zero, suc, ◌+◌, ◌<◌, Bool, true, false, ◌&&◌, IsTrue, List, [], ◌∷◌, ◌++◌, Option, Some, None, ◌⊎◌, inl, inr, refl, sym, subst, ap₂, ◌∙◌, arith, true≢false}
+use Rattle.std.proofs.Common.{◌≡◌, ℕ, zero, suc, ◌+◌, ◌<◌, Bool, true, false, ◌&&◌, IsTrue, List, [], ◌∷◌, ◌++◌, Result, Ok, Err, ◌⊎◌, inl, inr, refl, sym, subst, ap₂, ◌∙◌, arith, true≢false}
 use Rattle.fx_rational.specs.Dyadic.{Dyadic}
-use Rattle.fx_rational.specs.Interval.{Interval}
 use Rattle.fx_inequalities.specs.Formula.{Formula, formed, formula_fits}
 use Rattle.fx_text.proofs.Choices.{both_true}
-use Rattle.fx_judging.specs.Judging.{FormsSpan}
 use Rattle.fx_judging.proofs.Judged.{both_again}
+use Rattle.std.specs.Result.{IsErrAnd}
+use Rattle.fx_affine.specs.declared.affine.Affine.{Affine}
 use Rattle.fx_affine.specs.declared.affine.AffineFault.{AffineFault}
 use Rattle.fx_affine.specs.declared.affine.AffineFault.TheVariants.{Beyond, Memory}
-use Rattle.fx_affine.specs.AffineAnswers.{IsAffineFault}
+use Rattle.fx_affine.specs.AffineAnswers.{IsAffineFault, IsFormed}
 use Rattle.fx_affine.specs.Combining.{FormulaForm, coefs_fit, form_fits, formed_coefs}
 
 -- the first j fit, and these are what they come to
@@ -50,3 +50,8 @@ pub front_stop : (e : AffineFault) (n j : ℕ) (f : FormulaForm) → j < n → I
 front_stop Beyond n j f below h =
     untrue (form_fits n f) (λ all. true≢false (sym (each_fits n j f.coef (both_true (coefs_fit n f.coef) (formula_fits f.rest.lo && formula_fits f.rest.hi) all).0 below) ∙ h))
 front_stop Memory n j f below h = tt
+
+-- the loop ends with the fault
+pub fault_told : (r : Result Affine AffineFault) (e : AffineFault) (n j : ℕ) (f : FormulaForm) → IsErrAnd r (λ y. y ≡ e) → j < n → IsAffineFault e (formula_fits (f.coef j)) → IsFormed r n f
+fault_told (Ok a) e n j f h below fault = absurd h
+fault_told (Err y) e n j f h below fault = subst (λ (d : AffineFault). IsAffineFault d (form_fits n f)) (sym h) (front_stop e n j f below fault)

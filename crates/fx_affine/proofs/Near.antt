@@ -1,9 +1,9 @@
 -- The exponents of products: what a formula asks of the numbers that its parts come to.
-use Rattle.std.proofs.Common.{◌≡◌, ◌+◌, ◌≤◌, ◌^◌, Some, ap, arith}
+use Rattle.std.proofs.Common.{◌≡◌, ℕ, zero, suc, ◌+◌, ◌<◌, ◌≤◌, ◌^◌, Some, ◌⊎◌, inl, inr, ap, subst, arith}
 use Rattle.fx_rational.specs.Dyadic.{Dyadic}
 use Rattle.fx_rational.specs.Interval.{Interval}
 use Rattle.fx_inequalities.specs.Formula.{Formula, Num, Sum, Difference, Product, Least, Greatest, formed, Span, point, span_sum, span_difference, span_product}
-use Rattle.fx_inequalities.specs.OperationSpans.{product_rest}
+use Rattle.fx_inequalities.specs.Affine.{weighted_sum}
 use Rattle.fx_judging.specs.Judging.{Forms, FormsSpan}
 use Rattle.fx_judging.specs.Places.{IsShort, IsShortSpan}
 use Rattle.fx_judging.proofs.Shorts.{formed_places}
@@ -36,6 +36,19 @@ near_sum near = (record { lo = near.lo.0; hi = near.hi.0 }, record { lo = near.l
 
 pub near_difference : {s t : Span} → HasNearSpan (span_difference s t) → HasNearSpan s × HasNearSpan t
 near_difference near = (record { lo = near.lo.0; hi = near.hi.0 }, record { lo = near.hi.1; hi = near.lo.1 })
+
+-- a summand of a weighted sum
+pub near_summand : (z : Span) (n j : ℕ) (c : ℕ → Formula) (v : ℕ → Span) → j < n → HasNearSpan (weighted_sum z n c v) → HasNearSpan (span_product (point (c j)) (v j))
+near_summand z zero j c v below near = absurd (omega (arith, below))
+near_summand z (suc n) j c v below near =
+    let parts = near_sum {s = weighted_sum z n c v} {t = span_product (point (c n)) (v n)} near in
+    by (λ h. near_summand z n j c v h parts.0) parts.1 (split below)
+  where
+    split : j < suc n → (j < n) ⊎ (n ≡ j)
+    split h = grind arith
+    by : (j < n → HasNearSpan (span_product (point (c j)) (v j))) → HasNearSpan (span_product (point (c n)) (v n)) → (j < n) ⊎ (n ≡ j) → HasNearSpan (span_product (point (c j)) (v j))
+    by before last (inl h) = before h
+    by before last (inr e) = subst (λ (k : ℕ). HasNearSpan (span_product (point (c k)) (v k))) e last
 
 -- ---- formulas with few places have near products
 pub near_places : (f : Formula) → IsShort (2 ^ 20) f → HasNearProducts f
