@@ -1,2 +1,3 @@
+mod Indexes
 pub mod Near
 pub mod Fronts

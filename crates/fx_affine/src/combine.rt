@@ -1,6 +1,6 @@
 //! Sums, multiples and products of affine forms.
 
-ghost use Rattle.std.specs.Prelude.{◌≡◌, ◌∷◌, [], ◌++◌, ℕ, IsTrue, length, MatchResult};
+ghost use Rattle.std.specs.Prelude.{◌≡◌, ◌∷◌, [], ◌++◌, ◌+◌, ℕ, IsTrue, length, MatchResult};
 ghost use Rattle.fx_rational.specs.Dyadic as model;
 ghost use Rattle.fx_inequalities.specs.Formula.{Formula, Num, Product, Sum, formed, formula_fits};
 ghost use Rattle.fx_judging.specs.Judging.{Forms, FormsSpan};
@@ -18,7 +18,7 @@ use std::alloc::Global;
 
 /// Appends a coefficient.
 fn append(coefs: &mut Coefs, coef: Option<Dyadic>) -> Result<(), AffineFault>
-    ensures { (f : Formula) → Forms coef f → MatchResult result (λ _. IsTrue (formula_fits f) × (coefs.new ≡ coefs.old ++ formed f ∷ [])) (λ e. IsAffineFault e (formula_fits f)) }
+    ensures { (f : Formula) → Forms coef f → MatchResult result (λ _. IsTrue (formula_fits f) × (coefs.new ≡ coefs.old ++ formed f ∷ [])) (λ e. IsAffineFault e (length coefs.old + 1) (formula_fits f)) }
 {
     let Some(coef) = coef else {
         return Err(AffineFault::Beyond);
