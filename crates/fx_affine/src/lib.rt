@@ -11,6 +11,7 @@ mod affine;
 mod bound;
 mod coefs;
 mod combine;
+mod places;
 mod plan;
 mod product;
 
@@ -18,5 +19,6 @@ pub use affine::{Affine, AffineFault};
 pub use bound::aff_bound;
 pub use coefs::Coefs;
 pub use combine::{aff_add, aff_mul, aff_scale};
+pub use places::aff_places;
 pub use plan::Plan;
 
