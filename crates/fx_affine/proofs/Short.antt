@@ -7,7 +7,7 @@ use Rattle.fx_inequalities.specs.Formula.{Formula, Num, Span, span, point, span_
 use Rattle.fx_inequalities.specs.Certificate.{zero_interval}
 use Rattle.fx_inequalities.specs.Affine.{weighted_sum}
 use Rattle.fx_judging.specs.Places.{IsShort, IsShortSpan}
-use Rattle.fx_judging.proofs.Shorts.{short_sum, short_product, short_span_sum, short_span_difference, short_span_product, short_point, shorter_span}
+use Rattle.fx_judging.proofs.Shorts.{shorter, short_sum, short_product, short_span_sum, short_span_difference, short_span_product, short_point, shorter_span}
 use Rattle.fx_affine.specs.AffineView.{LinearForm}
 use Rattle.fx_affine.specs.Combining.{HasNearSpan, HasNearForm, coef_in, scaled_form, product_form, bound_form}
 use Rattle.fx_affine.specs.ShortForms.{IsShortLinear}
@@ -18,27 +18,36 @@ use Rattle.fx_affine.proofs.Near.{near_places, near_span}
 abbrev half : ℕ
 half = 2 ^ 19
 
-pub near_scaled : (n : ℕ) (a : LinearForm) (m : Dyadic) → IsShortLinear half a → IsShort half (Num m) → HasNearForm n (scaled_form a m)
-near_scaled n a m h k = record {
-  coefs = λ j below. near_places _ (short_product k (h.coefs j));
-  rest = near_span _ (short_span_product (short_point k) h.rest);
-}
+short_half : {p : ℕ} {a : LinearForm} → IsShortLinear p a → p ≤ half → IsShortLinear half a
+short_half h le = record { coefs = λ j. shorter half le (h.coefs j); rest = shorter_span half le h.rest }
 
-pub near_product : (n : ℕ) (a b : LinearForm) (ranges : Interval × Interval) (centres : Dyadic × Dyadic) → IsShortLinear half a → IsShortLinear half b →
+pub near_scaled : (n p : ℕ) (a : LinearForm) (m : Dyadic) → IsShortLinear p a → p ≤ 2 ^ 19 → IsShort half (Num m) → HasNearForm n (scaled_form a m)
+near_scaled n p a m h le k =
+    let short = short_half h le in
+    record {
+      coefs = λ j below. near_places _ (short_product k (short.coefs j));
+      rest = near_span _ (short_span_product (short_point k) short.rest);
+    }
+
+pub near_product : (n p q : ℕ) (a b : LinearForm) (ranges : Interval × Interval) (centres : Dyadic × Dyadic) → IsShortLinear p a → IsShortLinear q b → p ≤ 2 ^ 19 → q ≤ 2 ^ 19 →
     IsShortSpan half (span ranges.0) → IsShortSpan half (span ranges.1) → IsShort half (Num centres.0) → IsShort half (Num centres.1) → HasNearForm n (product_form a b ranges centres)
-near_product n a b ranges centres h k ga gb ma mb = record {
-  coefs = λ j below. near_places _ (short_sum (short_product mb (h.coefs j)) (short_product ma (k.coefs j)));
-  rest = near_span _ (short_span_sum
-    (short_span_difference (short_span_sum (short_span_product (short_point mb) h.rest) (short_span_product (short_point ma) k.rest)) (short_point (short_product ma mb)))
-    (short_span_product (short_span_difference ga (short_point ma)) (short_span_difference gb (short_point mb))));
-}
+near_product n p q a b ranges centres h k pl ql ga gb ma mb =
+    let first = short_half h pl in let second = short_half k ql in
+    record {
+      coefs = λ j below. near_places _ (short_sum (short_product mb (first.coefs j)) (short_product ma (second.coefs j)));
+      rest = near_span _ (short_span_sum
+        (short_span_difference (short_span_sum (short_span_product (short_point mb) first.rest) (short_span_product (short_point ma) second.rest)) (short_point (short_product ma mb)))
+        (short_span_product (short_span_difference ga (short_point ma)) (short_span_difference gb (short_point mb))));
+    }
 
-pub near_bound : (n : ℕ) (a : LinearForm) (ranges : List Interval) → IsShortLinear half a → ((j : ℕ) → IsShortSpan half (span (at zero_interval ranges j))) → HasNearSpan (bound_form a n ranges)
-near_bound n a ranges h k = near_span _ (summed n)
+pub near_bound : (n p : ℕ) (a : LinearForm) (ranges : List Interval) → IsShortLinear p a → p ≤ 2 ^ 19 → ((j : ℕ) → IsShortSpan half (span (at zero_interval ranges j))) → HasNearSpan (bound_form a n ranges)
+near_bound n p a ranges h le k = near_span _ (summed n)
   where
+    short : IsShortLinear half a
+    short = short_half h le
     summed : (n : ℕ) → IsShortSpan (2 ^ 20) (bound_form a n ranges)
-    summed zero = shorter_span (2 ^ 20) (omega arith) h.rest
-    summed (suc n) = short_span_sum (summed n) (short_span_product (short_point (h.coefs n)) (k n))
+    summed zero = shorter_span (2 ^ 20) (omega arith) short.rest
+    summed (suc n) = short_span_sum (summed n) (short_span_product (short_point (short.coefs n)) (k n))
 
 -- ---- the numbers of a form, one after the other
 pub record AreShortBefore (n j : ℕ) (ds : List Dyadic) : Type 0 where

@@ -54,7 +54,7 @@ pub fn aff_add(alloc: Global, a: &Affine, b: &Affine) -> Result<Affine, AffineFa
 
 /// `m * a`.
 pub fn aff_scale(alloc: Global, a: &Affine, m: Dyadic) -> Result<Affine, AffineFault>
-    requires near { HasNearForm (length a.now.coefs) (scaled_form (linear_form a.now) m) }
+    requires { HasNearForm (length a.now.coefs) (scaled_form (linear_form a.now) m) }
     ensures { IsFormed result (length a.now.coefs) (scaled_form (linear_form a.now) m) }
 {
     let mut coefs = Coefs::new(alloc);
