@@ -49,6 +49,14 @@ near_bound n p a ranges h le k = near_span _ (summed n)
     summed zero = shorter_span (2 ^ 20) (omega arith) short.rest
     summed (suc n) = short_span_sum (summed n) (short_span_product (short_point (short.coefs n)) (k n))
 
+-- ---- ranges, one after the other
+pub no_ranges : (k : ℕ) → IsShortSpan half (span (at zero_interval [] k))
+no_ranges k = record { lo = record { few = omega arith }; hi = record { few = omega arith } }
+
+pub range_before : (i : Interval) (is : List Interval) → IsShortSpan half (span i) → ((k : ℕ) → IsShortSpan half (span (at zero_interval is k))) → (k : ℕ) → IsShortSpan half (span (at zero_interval (i ∷ is) k))
+range_before i is h rest zero = h
+range_before i is h rest (suc k) = rest k
+
 -- ---- the numbers of a form, one after the other
 pub record AreShortBefore (n j : ℕ) (ds : List Dyadic) : Type 0 where
   pub each : (k : ℕ) → k < j → (at zero_dyadic ds k).e ≤ n

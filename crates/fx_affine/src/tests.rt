@@ -98,6 +98,13 @@ fn multiplied(
     aff_mul(alloc, a, b, ranges, centres)
 }
 
+fn bound(rt: &impl Abort, a: &Affine, first: Ends, second: Ends) -> Option<Interval> {
+    assert!(rt; a.coefs.len() == 2);
+    assert!(rt; aff_places(a) <= 1 << 19);
+    let ranges = [interval(rt, first), interval(rt, second)];
+    aff_bound(a, &ranges)
+}
+
 #[test]
 fn sums(rt: HostRuntime) {
     let a = form(&rt, rt.alloc(), &[(3, 1), (-1, 0)], ((-1, 3), (1, 2))).expect(&rt, "a form");
@@ -121,6 +128,14 @@ fn products(rt: HostRuntime) {
     let product = multiplied(&rt, rt.alloc(), &a, &b, ranges, ((1, 1), (3, 2)))
         .expect(&rt, "their product");
     assert!(rt; is_form(&rt, &product, &[(10, 3), (-3, 2)], ((-87, 5), (22, 4))));
+}
+
+#[test]
+fn bounds(rt: HostRuntime) {
+    let a = form(&rt, rt.alloc(), &[(3, 1), (-1, 0)], ((-1, 3), (1, 2))).expect(&rt, "a form");
+    let bound_of_it = bound(&rt, &a, ((-1, 0), (1, 0)), ((0, 0), (3, 2)));
+    assert_eq!(rt; bound_of_it, Some(interval(&rt, ((-19, 3), (7, 2)))));
+    assert_eq!(rt; bound(&rt, &a, ((0, 0), (BIG, 0)), ((0, 0), (0, 0))), None);
 }
 
 #[test]
