@@ -38,5 +38,5 @@ pub product_agrees : (v : ℕ) (ls : List NodeLine) (x y x' y' s : ℕ) (f : ℤ
 product_agrees v ls x y x' y' s f form a b ga gb h k e i = record {
   coef = λ j. ap₂ (λ (p q : Formula). Sum (Product (Num form.centre_b) p) (Product (Num form.centre_a) q)) (h.coef j) (k.coef j);
   rest = ap₂ (λ (r t : Span). product_rest (Num form.centre_a) (Num form.centre_b) (range_at ls x) (range_at ls y) r t) h.rest k.rest
-    ∙ ap₂ (λ (g t : Span). product_rest (Num form.centre_a) (Num form.centre_b) g t (span a.rest) (span b.rest)) e i;
+      ∙ ap₂ (λ (g t : Span). product_rest (Num form.centre_a) (Num form.centre_b) g t (span a.rest) (span b.rest)) e i;
 }

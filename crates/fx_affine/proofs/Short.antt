@@ -36,8 +36,8 @@ near_product n p q a b ranges centres h k pl ql ga gb ma mb =
     record {
       coefs = λ j below. near_places _ (short_sum (short_product mb (first.coefs j)) (short_product ma (second.coefs j)));
       rest = near_span _ (short_span_sum
-        (short_span_difference (short_span_sum (short_span_product (short_point mb) first.rest) (short_span_product (short_point ma) second.rest)) (short_point (short_product ma mb)))
-        (short_span_product (short_span_difference ga (short_point ma)) (short_span_difference gb (short_point mb))));
+          (short_span_difference (short_span_sum (short_span_product (short_point mb) first.rest) (short_span_product (short_point ma) second.rest)) (short_point (short_product ma mb)))
+          (short_span_product (short_span_difference ga (short_point ma)) (short_span_difference gb (short_point mb))));
     }
 
 pub near_bound : (n p : ℕ) (a : LinearForm) (ranges : List Interval) → IsShortLinear p a → p ≤ 2 ^ 19 → ((j : ℕ) → IsShortSpan half (span (at zero_interval ranges j))) → HasNearSpan (bound_form a n ranges)
@@ -45,6 +45,7 @@ near_bound n p a ranges h le k = near_span _ (summed n)
   where
     short : IsShortLinear half a
     short = short_half h le
+
     summed : (n : ℕ) → IsShortSpan (2 ^ 20) (bound_form a n ranges)
     summed zero = shorter_span (2 ^ 20) (omega arith) short.rest
     summed (suc n) = short_span_sum (summed n) (short_span_product (short_point (short.coefs n)) (k n))

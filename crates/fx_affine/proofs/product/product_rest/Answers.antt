@@ -18,6 +18,6 @@ returns c =
     let near = near_sum {s = less} {t = far} c.requires in
     c.plus.ensures less far
     (c.minus-less.ensures rests (point (Product ma mb))
-        (c.plus-rests.ensures (span_product (point mb) pa) (span_product (point ma) pb) c.scaled.ensures c.scaled-2.ensures)
-        (c.point.ensures (Product ma mb) (c.product.ensures ma mb (near_difference {s = rests} near.0).1.lo c.number.ensures c.number-2.ensures)))
+    (c.plus-rests.ensures (span_product (point mb) pa) (span_product (point ma) pb) c.scaled.ensures c.scaled-2.ensures)
+    (c.point.ensures (Product ma mb) (c.product.ensures ma mb (near_difference {s = rests} near.0).1.lo c.number.ensures c.number-2.ensures)))
     (c.times.ensures (span_difference ga (point ma)) (span_difference gb (point mb)) near.1 c.centred.ensures c.centred-2.ensures)
