@@ -1,5 +1,5 @@
 -- Coefficients one behind the other.
-use Rattle.std.proofs.Common.{◌≡◌, ℕ, zero, suc, ◌+◌, ◌<◌, Bool, true, false, ◌&&◌, IsTrue, List, [], ◌∷◌, ◌++◌, length, length-append, Result, Ok, Err, refl, sym, subst, ap, ap₂, ◌∙◌, arith, true≢false}
+use Rattle.std.proofs.Common.{◌≡◌, ℕ, zero, suc, ◌+◌, ◌<◌, Bool, true, false, ◌&&◌, List, [], ◌∷◌, ◌++◌, length, length-append, Result, Ok, Err, refl, sym, subst, ap, ap₂, ◌∙◌, arith, true≢false}
 use Rattle.fx_rational.specs.Dyadic.{Dyadic}
 use Rattle.fx_inequalities.specs.Formula.{Formula, formed, formula_fits}
 use Rattle.fx_text.proofs.Choices.{both_true}
