@@ -1,10 +1,12 @@
 //! Whether a decimal lies in a range that is widened by an error.
 //!
-//! All four decimals become whole numbers of 10^-18: their bounds keep those, and the sum of two, inside 128 bits.
+//! Nearly always all four are whole numbers of the number's last place, and 64 bits hold those. Else they become whole
+//! numbers of 10^-18: the bounds of a decimal keep those, and the sum of two, inside 128 bits.
 
-ghost use Rattle.std.specs.Prelude.{◌≡◌, ◌≤◌, ◌^◌, ◌-◌, ◌*◌, ◌*ℤ◌, pos, unsigned_abs};
+ghost use Rattle.std.specs.Prelude.{◌≡◌, ◌≤◌, ◌^◌, ◌-◌, ◌*◌, ◌*ℤ◌, pos, ◌&&◌, unsigned_abs, int_le, IfSome};
 ghost use Rattle.fx_rational.specs.Rational.{is_at_most, minus, plus};
 ghost use Rattle.fx_rational.specs.Decimal.{is_within, decimal_value};
+ghost use Rattle.fx_fraction.specs.Units.{IsUnitsAt};
 
 use crate::decimal::{Decimal, ten_to};
 
@@ -29,10 +31,40 @@ fn is_below(g: Decimal, hi: Decimal, err: Decimal) -> bool
     smallest_units(g) <= smallest_units(hi) + smallest_units(err)
 }
 
+/// `d` in units of 10^-places, where it is a whole number of them that 64 bits hold.
+fn short_units(d: Decimal, places: u8) -> Option<i64>
+    requires { places ≤ 18 }
+    ensures { IfSome result (IsUnitsAt places d) }
+{
+    if d.b > places {
+        return None;
+    }
+    d.a.checked_mul(ten_to(places - d.b) as i64)
+}
+
+fn is_between(least: i64, g: i64, most: i64) -> bool
+    ensures { result ≡ (int_le least g && int_le g most) }
+{
+    least <= g && g <= most
+}
+
+/// Whether `lo - err <= g <= hi + err`, in units of the last place of `g`, where 64 bits hold all of them.
+fn short_within(g: Decimal, lo: Decimal, hi: Decimal, err: Decimal) -> Option<bool>
+    ensures { IfSome result (λ b. b ≡ is_within g lo hi err) }
+{
+    let error = short_units(err, g.b)?;
+    let least = short_units(lo, g.b)?.checked_sub(error)?;
+    let most = short_units(hi, g.b)?.checked_add(error)?;
+    Some(is_between(least, g.a, most))
+}
+
 /// Whether `lo - err <= g <= hi + err`.
 #[tactic(auto, unfolding(fx_rational::specs::Decimal::is_within))]
 pub fn within(g: Decimal, lo: Decimal, hi: Decimal, err: Decimal) -> bool
     ensures { result ≡ is_within g lo hi err }
 {
-    is_above(g, lo, err) && is_below(g, hi, err)
+    match short_within(g, lo, hi, err) {
+        Some(answer) => answer,
+        None => is_above(g, lo, err) && is_below(g, hi, err),
+    }
 }
