@@ -14,11 +14,11 @@ ghost use Rattle.fx_fraction.specs.ReadParts.{number_kept, exponent_kept, IsMant
 use crate::decimal::Decimal;
 use crate::fault::NumberFault;
 use crate::limits::placed;
-use crate::short::read_short;
+use crate::short::{read_plain, read_short};
 use crate::significant::{Significant, read_digits};
 
 /// The text behind its sign, if it has one.
-fn behind_sign(text: &[u8]) -> &[u8]
+pub(crate) fn behind_sign(text: &[u8]) -> &[u8]
     ensures { result.now ≡ behind_sign text.now }
 {
     match text {
@@ -27,7 +27,7 @@ fn behind_sign(text: &[u8]) -> &[u8]
     }
 }
 
-fn is_negative(text: &[u8]) -> bool
+pub(crate) fn is_negative(text: &[u8]) -> bool
     ensures { result ≡ is_minus (sign_of text.now) }
 {
     match text {
@@ -133,6 +133,9 @@ fn read_exponent(text: &[u8]) -> Option<i128>
 pub fn read_decimal(text: &[u8]) -> Result<Decimal, NumberFault>
     ensures { result ≡ decimal_of text.now }
 {
+    if let Some(plain) = read_plain(text) {
+        return Ok(plain);
+    }
     let body = behind_sign(text);
     let Some(mantissa) = read_mantissa(body) else {
         return Err(NumberFault::Malformed);
