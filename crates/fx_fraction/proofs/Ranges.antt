@@ -1,7 +1,8 @@
 -- Comparisons of decimals, in units of 10^-18.
 use Rattle.std.proofs.Common.{◌≡◌, ℕ, suc, pred, ◌+◌, ◌-◌, ◌*◌, ◌^◌, ◌<◌, ◌≤◌, ℤ, pos, negsuc, ◌+ℤ◌, ◌-ℤ◌, ◌*ℤ◌, neg_ℤ, ◌≤ℤ◌, ◌<ℤ◌, Bool, true, false, [], ◌∷◌, FitsSigned, to_z, of_z, refl, sym, ap, subst, ◌∙◌, arith}
 use Rattle.std.specs.Prelude.{◌&&◌, unsigned_abs, int_le}
-use Rattle.std.specs.Int.{w128}
+use Rattle.std.specs.Int.{w32, w64, w128}
+use Rattle.std.proofs.Math.Nat.{pow-le-pow_right}
 use Rattle.std.proofs.lemmas.Nat.{mul-lt, mul-le, pow-add}
 use Rattle.std.proofs.lemmas.Int.{ints, unsigned_abs-mul, to_z-of_z}
 use lib.IntN.{*ℤ_comm}
@@ -190,3 +191,42 @@ units_product a b x y h k ex ey =
     let f : FitsSigned w128 (x *ℤ y) = rw e (unit_fits (a *ℤ pos (10 ^ (18 - b))) s) in
     let v : to_z w128 (of_z w128 (x *ℤ y)) ≡ a *ℤ pos (10 ^ (18 - b)) = to_z-of_z w128 (x *ℤ y) f ∙ e in
     record { fits = f; value = v; small = rw v s }
+
+-- the same of small numbers in 64 bits
+pub record IsShortUnits (a : ℤ) (n : ℕ) (z : ℤ) : Type 0 where
+  pub fits : FitsSigned w64 z
+  pub value : to_z w64 (of_z w64 z) ≡ a *ℤ pos n
+  pub small : unsigned_abs (to_z w64 (of_z w64 z)) ≤ 2 ^ 31 * 10 ^ 9
+
+short_fits : (x : ℤ) → unsigned_abs x ≤ 2 ^ 31 * 10 ^ 9 → FitsSigned w64 x
+short_fits (pos n) h = record { sfits = omega arith }
+short_fits (negsuc n) h = record { sfits = omega arith }
+
+pub short_product : (a : ℤ) (n : ℕ) (z : ℤ) → unsigned_abs a ≤ 2 ^ 31 → n ≤ 10 ^ 9 → z ≡ a *ℤ pos n → IsShortUnits a n z
+short_product a n z h le e =
+    let s : unsigned_abs (a *ℤ pos n) ≤ 2 ^ 31 * 10 ^ 9 = rw (unsigned_abs-mul a (pos n)) (mul-le (unsigned_abs a) n (2 ^ 31) (10 ^ 9) h le) in
+    let f : FitsSigned w64 z = rw e (short_fits (a *ℤ pos n) s) in
+    let v : to_z w64 (of_z w64 z) ≡ a *ℤ pos n = to_z-of_z w64 z f ∙ e in
+    record { fits = f; value = v; small = rw v s }
+
+pub short_size : (a : ℤ) → FitsSigned w32 a → unsigned_abs a ≤ 2 ^ 31
+short_size (pos n) f = let h = f.sfits in omega arith
+short_size (negsuc n) f = let h = f.sfits in omega arith
+
+pub sum_short : (x y : ℤ) → unsigned_abs x ≤ 2 ^ 31 * 10 ^ 9 → unsigned_abs y ≤ 2 ^ 31 * 10 ^ 9 → FitsSigned w64 (x +ℤ y)
+sum_short (pos m) (pos n) h k = record { sfits = omega (arith, ints) }
+sum_short (pos m) (negsuc n) h k = record { sfits = grind (arith, ints) }
+sum_short (negsuc m) (pos n) h k = record { sfits = grind (arith, ints) }
+sum_short (negsuc m) (negsuc n) h k = record { sfits = omega (arith, ints) }
+
+pub difference_short : (x y : ℤ) → unsigned_abs x ≤ 2 ^ 31 * 10 ^ 9 → unsigned_abs y ≤ 2 ^ 31 * 10 ^ 9 → FitsSigned w64 (x -ℤ y)
+difference_short (pos m) (pos n) h k = record { sfits = grind (arith, ints) }
+difference_short (pos m) (negsuc n) h k = record { sfits = grind (arith, ints) }
+difference_short (negsuc m) (pos n) h k = record { sfits = grind (arith, ints) }
+difference_short (negsuc m) (negsuc n) h k = record { sfits = grind (arith, ints) }
+
+pub ten_few : (b : ℕ) → b ≤ 9 → 10 ^ b ≤ 10 ^ 9
+ten_few b h = let ten : 0 < 10 = omega arith in pow-le-pow_right {n = 10} ten h
+
+pub ten_whole : (n : ℕ) → n ≤ 10 ^ 9 → to_z w64 n ≡ pos n
+ten_whole n h = omega (arith, ints)

@@ -1,6 +1,6 @@
 //! Whether a decimal lies in a range that is widened by an error.
 //!
-//! Nearly always all four are whole numbers of the number's last place, and 64 bits hold those. Else they become whole
+//! Nearly always all four are small whole numbers of the number's last place, and 64 bits do. Else they become whole
 //! numbers of 10^-18: the bounds of a decimal keep those, and the sum of two, inside 128 bits.
 
 ghost use Rattle.std.specs.Prelude.{◌≡◌, ◌≤◌, ◌^◌, ◌-◌, ◌*◌, ◌*ℤ◌, pos, ◌&&◌, unsigned_abs, int_le, IfSome};
@@ -31,15 +31,19 @@ fn is_below(g: Decimal, hi: Decimal, err: Decimal) -> bool
     smallest_units(g) <= smallest_units(hi) + smallest_units(err)
 }
 
-/// `d` in units of 10^-places, where it is a whole number of them that 64 bits hold.
+/// `d` in units of 10^-places, where it is a whole number of them and both are small.
 fn short_units(d: Decimal, places: u8) -> Option<i64>
     requires { places ≤ 18 }
-    ensures { IfSome result (IsUnitsAt places d) }
+    ensures units { IfSome result (IsUnitsAt places d) }
+    ensures small { IfSome result (λ u. unsigned_abs u ≤ 2 ^ 31 * 10 ^ 9) }
 {
-    if d.b > places {
+    let Ok(size) = i32::try_from(d.a) else {
+        return None;
+    };
+    if d.b > places || places - d.b > 9 {
         return None;
     }
-    d.a.checked_mul(ten_to(places - d.b) as i64)
+    Some(i64::from(size) * ten_to(places - d.b) as i64)
 }
 
 fn is_between(least: i64, g: i64, most: i64) -> bool
@@ -48,13 +52,13 @@ fn is_between(least: i64, g: i64, most: i64) -> bool
     least <= g && g <= most
 }
 
-/// Whether `lo - err <= g <= hi + err`, in units of the last place of `g`, where 64 bits hold all of them.
+/// Whether `lo - err <= g <= hi + err`, in units of the last place of `g`, where these are small.
 fn short_within(g: Decimal, lo: Decimal, hi: Decimal, err: Decimal) -> Option<bool>
     ensures { IfSome result (λ b. b ≡ is_within g lo hi err) }
 {
     let error = short_units(err, g.b)?;
-    let least = short_units(lo, g.b)?.checked_sub(error)?;
-    let most = short_units(hi, g.b)?.checked_add(error)?;
+    let least = short_units(lo, g.b)? - error;
+    let most = short_units(hi, g.b)? + error;
     Some(is_between(least, g.a, most))
 }
 
