@@ -62,13 +62,22 @@ fn short_within(g: Decimal, lo: Decimal, hi: Decimal, err: Decimal) -> Option<bo
     Some(is_between(least, g.a, most))
 }
 
-/// Whether `lo - err <= g <= hi + err`.
+// Out of line, so that the quick way is short enough to stand where it is called.
 #[tactic(auto, unfolding(fx_rational::specs::Decimal::is_within))]
+#[inline(never)]
+fn wide_within(g: Decimal, lo: Decimal, hi: Decimal, err: Decimal) -> bool
+    ensures { result ≡ is_within g lo hi err }
+{
+    is_above(g, lo, err) && is_below(g, hi, err)
+}
+
+/// Whether `lo - err <= g <= hi + err`.
+#[inline]
 pub fn within(g: Decimal, lo: Decimal, hi: Decimal, err: Decimal) -> bool
     ensures { result ≡ is_within g lo hi err }
 {
     match short_within(g, lo, hi, err) {
         Some(answer) => answer,
-        None => is_above(g, lo, err) && is_below(g, hi, err),
+        None => wide_within(g, lo, hi, err),
     }
 }

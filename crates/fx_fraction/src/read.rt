@@ -129,13 +129,11 @@ fn read_exponent(text: &[u8]) -> Option<i128>
     }
 }
 
-/// The decimal that the text spells.
-pub fn read_decimal(text: &[u8]) -> Result<Decimal, NumberFault>
+// Out of line, so that the quick way is short enough to stand where it is called.
+#[inline(never)]
+fn read_any(text: &[u8]) -> Result<Decimal, NumberFault>
     ensures { result ≡ decimal_of text.now }
 {
-    if let Some(plain) = read_plain(text) {
-        return Ok(plain);
-    }
     let body = behind_sign(text);
     let Some(mantissa) = read_mantissa(body) else {
         return Err(NumberFault::Malformed);
@@ -145,4 +143,15 @@ pub fn read_decimal(text: &[u8]) -> Result<Decimal, NumberFault>
     };
     let places = mantissa.places as i128 - exponent;
     placed(is_negative(text), mantissa.digits, places)
+}
+
+/// The decimal that the text spells.
+#[inline]
+pub fn read_decimal(text: &[u8]) -> Result<Decimal, NumberFault>
+    ensures { result ≡ decimal_of text.now }
+{
+    match read_plain(text) {
+        Some(plain) => Ok(plain),
+        None => read_any(text),
+    }
 }

@@ -7,8 +7,8 @@ use Rattle.std.specs.Str.{all_ascii_digits}
 use Rattle.std.proofs.lemmas.List.Elements.{All-nil, All-cons, All-append}
 use Rattle.std.proofs.lemmas.List.Folds.{list_any_none}
 use Rattle.std.proofs.lemmas.List.Splits.{slice_split_none}
-use Rattle.std.proofs.lemmas.List.{take_all}
-use Rattle.std.proofs.lemmas.Bool.{eqb-true}
+use Rattle.std.proofs.lemmas.List.{get_or_past}
+use Rattle.std.proofs.lemmas.Bool.{eqb-true, ltb-true, ltb-false}
 use Rattle.csv.specs.Records.{field_at}
 use Rattle.fx_rational.specs.Decimal.{Decimal, is_within}
 use Rattle.fx_fraction.specs.Numeral.{Sign, unwritten, plus, minus, Power, Numeral, sign_text, part_text, power_text, numeral_text, part_digits, is_number, is_e, is_power, IsNumeral, numeral_of}
@@ -17,11 +17,11 @@ use Rattle.fx_fraction.proofs.Numerals.{numeral_joined}
 use Rattle.fx_fields.specs.Line.{is_return, is_special, has_mark, line_fields, pieces, plain_fields}
 use Rattle.fx_expr.specs.Parts.{input_of}
 use Rattle.fx_expr.specs.declared.parts.Input as declared
-use Rattle.fx_rows.specs.Blanks.{is_row_blank, without_blanks, without_first, without_last}
+use Rattle.fx_rows.specs.Blanks.{is_row_blank, without_blanks}
 use Rattle.fx_rows.specs.Values.{field_value, after_value, values_from, row_of_fields}
 use Rattle.fx_rows.specs.declared.fault.RowKind.{RowKind}
 use Rattle.fx_rows.proofs.Read.{in_range}
-use Rattle.fx_rows.proofs.Trims.{first_kept, last_kept}
+use Rattle.fx_rows.proofs.Trims.{kept_whole}
 
 -- a test that no byte of a number passes
 pub record Spares (bad : ℕ → Bool) : Type 0 where
@@ -148,16 +148,15 @@ module _ (line : List ℕ) (d : Decimal) (read : Ok d ≡ decimal_of line) where
       by [] s = refl
       by (x ∷ xs) s = let e : eqb x 0xEF ≡ false = s 0 0 (omega arith) in rw e refl
 
-  no_blank : (k : ℕ) → k < length line → is_row_blank (get_or line k 0) ≡ false
-  no_blank k lt = number_spared is_row_blank blank_spares line d read k 0 lt
+  no_blank : (k : ℕ) → is_row_blank (get_or line k 0) ≡ false
+  no_blank k = by (nat_lt k (length line)) refl
+    where
+      by : (t : Bool) → nat_lt k (length line) ≡ t → is_row_blank (get_or line k 0) ≡ false
+      by true e = number_spared is_row_blank blank_spares line d read k 0 (ltb-true k (length line) e)
+      by false e = rw (get_or_past line k 0 (ltb-false k (length line) e)) refl
 
   without_none : without_blanks line ≡ line
-  without_none =
-      let first : without_first line ≡ line =
-      sym (first_kept line 0 (omega arith) (λ k lt. absurd (omega arith)) (λ lt. no_blank 0 lt)) ∙ take_all (length line - 0) line (omega arith) in
-      ap without_last first
-      ∙ sym (last_kept line (length line) (omega arith) (λ k le lt. absurd (omega arith)) (λ lt. no_blank (length line - 1) (omega arith)))
-      ∙ take_all (length line) line (omega arith)
+  without_none = sym (kept_whole line (no_blank 0) (no_blank (length line - 1)))
 
   one_field : line_fields line ≡ plain_fields line → line_fields line ≡ Some (line ∷ [])
   unfolding decimal_of numeral_of
