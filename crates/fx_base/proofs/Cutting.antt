@@ -158,12 +158,12 @@ nowhere-behind xs ys none rest =
 pub first-feed : (bytes : List ℕ) (r : Option ℕ) → IsFirstByte (is_byte 10) bytes r → r ≡ position is_feed bytes
 first-feed bytes None h =
     let n : prefix_len (λ b. not (is_feed b)) bytes ≡ length bytes =
-        position_or_len_is is_feed bytes (length bytes) 0 (omega arith) (λ k lt. false_from_ne_true _ (h k (omega arith) lt)) (λ lt. absurd (omega arith)) in
+    position_or_len_is is_feed bytes (length bytes) 0 (omega arith) (λ k lt. false_from_ne_true _ (h k (omega arith) lt)) (λ lt. absurd (omega arith)) in
     sym (cond-false (nat_lt (prefix_len (λ b. not (is_feed b)) bytes) (length bytes)) (Some (prefix_len (λ b. not (is_feed b)) bytes)) None
     (false_from_ne_true _ (λ e. let less : prefix_len (λ b. not (is_feed b)) bytes < length bytes = ltb-true _ _ e in omega arith)))
 first-feed bytes (Some k) h =
     let high = h.0.high in
     let at : prefix_len (λ b. not (is_feed b)) bytes ≡ k =
-        position_or_len_is is_feed bytes k 0 (omega arith) (λ j lt. false_from_ne_true _ (h.0.before j (omega arith) lt)) (λ _. h.1) in
+    position_or_len_is is_feed bytes k 0 (omega arith) (λ j lt. false_from_ne_true _ (h.0.before j (omega arith) lt)) (λ _. h.1) in
     let within : prefix_len (λ b. not (is_feed b)) bytes < length bytes = omega arith in
     sym (cond-true (nat_lt (prefix_len (λ b. not (is_feed b)) bytes) (length bytes)) (Some (prefix_len (λ b. not (is_feed b)) bytes)) None (lt-ltb _ _ within) ∙ ap Some at)

@@ -157,8 +157,8 @@ pub within_is : (p : ℕ) (g lo hi err : Decimal) (u v e z : ℤ) → IsUnitsAt 
     → (int_le (u -ℤ e) z && int_le z (v +ℤ e)) ≡ is_within g lo hi err
 unfolding is_within
 within_is p g lo hi err u v e z hl hh he hg = rw (
-    above_is p g lo err u e z hl.value he.value hg.value hg.few hl.few he.few,
-    below_is p g hi err v e z hh.value he.value hg.value hg.few hh.few he.few,
+  above_is p g lo err u e z hl.value he.value hg.value hg.few hl.few he.few,
+  below_is p g hi err v e z hh.value he.value hg.value hg.few hh.few he.few,
 ) refl
 
 -- bounds in 128 bits

@@ -154,9 +154,9 @@ plain_is text body tail whole count size places end b p =
     let n = digits_value 10 (first_digits body ++ part_digits (part_of (behind_digits body))) in
     let l = length (part_digits (part_of (behind_digits body))) in
     let size_is : size ≡ n = p.part.value
-        ∙ ap (λ (w : ℕ). digits_value_after 10 w (part_digits (part_of tail))) p.whole_is
-        ∙ ap (λ (xs : List ℕ). digits_value_after 10 (digits_value_after 10 0 (first_digits body)) (part_digits (part_of xs))) behind
-        ∙ sym (digits_after_append 0 (first_digits body) (part_digits (part_of (behind_digits body)))) in
+    ∙ ap (λ (w : ℕ). digits_value_after 10 w (part_digits (part_of tail))) p.whole_is
+    ∙ ap (λ (xs : List ℕ). digits_value_after 10 (digits_value_after 10 0 (first_digits body)) (part_digits (part_of xs))) behind
+    ∙ sym (digits_after_append 0 (first_digits body) (part_digits (part_of (behind_digits body)))) in
     let places_is : places ≡ l = p.part.places ∙ ap (λ (xs : List ℕ). length (part_digits (part_of xs))) behind in
     let nothing : behind_part (behind_digits body) ≡ [] = ap behind_part (sym behind) ∙ sym p.part.rest ∙ drop_all end tail (omega arith) in
     let some : nat_lt 0 (digit_count body + l) ≡ true = (let h = p.some in let q : count + places ≡ digit_count body + l = omega arith in search (rules, tests)) in

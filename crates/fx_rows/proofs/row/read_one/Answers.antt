@@ -28,6 +28,6 @@ returns-clause-read c = λ yes.
     let places : ps ≡ 0 ∷ [] = place-at ps 0 (omega arith) ∙ ap (λ l. get_or ps 0 0 ∷ l) (drop_all 1 ps (omega arith)) ∙ ap (λ n. n ∷ []) first in
     let items : c.push.new.self.items ≡ c.in-Ok.given ∷ [] = search rules in
     let row : row_of_fields is ps (line_fields c.args.line.now) ≡ Some (record { values = c.in-Ok.given ∷ []; fault = None }) =
-        ap (λ l. row_of_fields l ps (line_fields c.args.line.now)) inputs ∙ ap (λ l. row_of_fields (input_of x ∷ []) l (line_fields c.args.line.now)) places
-        ∙ one_value c.args.line.now c.in-Ok.given c.in-Ok.ensures x (sym c.within.ensures ∙ c.if-not-within.false) c.unmarked_line_law.ensures in
+    ap (λ l. row_of_fields l ps (line_fields c.args.line.now)) inputs ∙ ap (λ l. row_of_fields (input_of x ∷ []) l (line_fields c.args.line.now)) places
+    ∙ one_value c.args.line.now c.in-Ok.given c.in-Ok.ensures x (sym c.within.ensures ∙ c.if-not-within.false) c.unmarked_line_law.ensures in
     subst (λ (o : Option Values). IsRowRead (Ok true) c.push.new.self.items o) (sym row) (refl, items)
