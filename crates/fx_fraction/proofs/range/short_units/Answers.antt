@@ -1,4 +1,4 @@
-use Rattle.std.proofs.Common.{SFits, ◌≡◌, ◌≤◌, ◌-◌, ◌^◌, ◌*ℤ◌, ℕ, ℤ, pos, to_z, of_z, subst, ◌∙◌, arith, rules}
+use Rattle.std.proofs.Common.{SFits, ◌≡◌, ◌≤◌, ◌-◌, ◌^◌, ◌*ℤ◌, pos, to_z, of_z, subst, ◌∙◌, rules}
 use Rattle.std.specs.Int.{w32, w64}
 use Rattle.std.proofs.lemmas.Int.{to_z-of_z}
 use Rattle.fx_rational.specs.Decimal.{Decimal}

@@ -1,4 +1,4 @@
-use Rattle.std.proofs.Common.{SFits, FitsSigned, ◌≡◌, ◌+ℤ◌, ◌-ℤ◌, refl, ap, ◌∙◌, rules}
+use Rattle.std.proofs.Common.{SFits, FitsSigned, ◌≡◌, ◌+ℤ◌, ◌-ℤ◌, ap, ◌∙◌, rules}
 use Rattle.std.specs.Prelude.{◌&&◌, int_le}
 use Rattle.std.specs.Int.{w64}
 use Rattle.std.proofs.lemmas.Int.{to_z-of_z}

@@ -1,7 +1,6 @@
 use Rattle.std.proofs.Common.{SFits, ◌≡◌, ◌≢◌, ◌⊎◌, ◌%◌, ℤ, Ok, inl, inr, sym, ap, ◌∙◌, arith, rules}
 use Rattle.std.specs.Int.{w64}
 use Rattle.std.proofs.lemmas.Int.{to_z-of_z}
-use Rattle.fx_rational.specs.Decimal.{Decimal}
 use Rattle.fx_fraction.specs.DecimalOf.{within_limits}
 use Rattle.fx_fraction.specs.Numeral.{signed}
 use Rattle.fx_fraction.proofs.Trimmed.{trimmed_step, trimmed_stops, within_is}

@@ -1,4 +1,4 @@
-use Rattle.std.proofs.Common.{◌≡◌, ap, sym, ◌∙◌, refl, arith}
+use Rattle.std.proofs.Common.{ap, sym, ◌∙◌, refl, arith}
 use Rattle.fx_fraction.specs.DecimalOf.{trimmed, within_limits}
 use Rattle.fx_fraction.proofs.Reading.{plain_is}
 use Rattle.fx_fraction.proofs.short.read_plain.Goals as goal
