@@ -65,8 +65,8 @@ trimmed_stops n (suc p) (inl e) = absurd (omega arith)
 trimmed_stops n (suc p) (inr last) = let b : eqb (n % 10) 0 ≡ false = search (rules, tests) in rw b refl
 
 -- what is within the limits
-pub within_is : (s : Bool) (a b : ℕ) → a < 2 ^ 62 → b ≤ 18 → within_limits s (a, b) ≡ Ok (record { a = signed s a; b = b })
-within_is s a b small few =
+pub limits_keep : (s : Bool) (a b : ℕ) → a < 2 ^ 62 → b ≤ 18 → within_limits s (a, b) ≡ Ok (record { a = signed s a; b = b })
+limits_keep s a b small few =
     let t : nat_lt a (2 ^ 62) ≡ true = search (rules, tests) in
     let u : nat_le b 18 ≡ true = search (rules, tests) in
     rw (t, u) refl

@@ -3,7 +3,7 @@ use Rattle.std.specs.Int.{w64}
 use Rattle.std.proofs.lemmas.Int.{to_z-of_z}
 use Rattle.fx_fraction.specs.DecimalOf.{within_limits}
 use Rattle.fx_fraction.specs.Numeral.{signed}
-use Rattle.fx_fraction.proofs.Trimmed.{trimmed_step, trimmed_stops, within_is}
+use Rattle.fx_fraction.proofs.Trimmed.{trimmed_step, trimmed_stops, limits_keep}
 use Rattle.fx_fraction.proofs.short.lowered.Goals as goal
 use Rattle.fx_fraction.proofs.short.lowered.Goals.{then-loop-left-test+else-front-eq0, else-loop-left-test}
 
@@ -26,5 +26,5 @@ returns c =
     let fits : SFits w64 c.signed.result = search rules in
     let a : signed c.args.is_negative front ≡ c.signed.result = sym c.signed.ensures in
     ap (within_limits c.args.is_negative) (sym c.loop-left.invariant.value ∙ trimmed_stops front left stop)
-    ∙ within_is c.args.is_negative front left c.loop-left.invariant.small c.loop-left.invariant.few
+    ∙ limits_keep c.args.is_negative front left c.loop-left.invariant.small c.loop-left.invariant.few
     ∙ ap (λ (z : ℤ). Ok (record { a = z; b = left })) (a ∙ sym (to_z-of_z w64 c.signed.result fits))
