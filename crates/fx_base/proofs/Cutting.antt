@@ -1,11 +1,13 @@
 -- Lemmas on the first line of a text.
 use Rattle.std.proofs.Common.{◌≡◌, ℕ, ◌+◌, ◌-◌, ◌<◌, ◌≤◌, Bool, true, false, nat_eq, nat_lt, not, cond, List, [], ◌∷◌, ◌++◌, length, get_or, take, drop, arith, refl, sym, ap, subst, ◌∙◌, suc, add-one}
-use Rattle.std.specs.Prelude.{◌==◌, ◌&&◌, if◌then◌else◌, All, None, Some, position, slice_index}
+use Rattle.std.specs.Prelude.{◌==◌, ◌&&◌, if◌then◌else◌, All, Option, None, Some, position, slice_index}
 use Rattle.std.specs.List.{slice_split, prefix_len}
 use Rattle.std.specs.Str.Lines.{lines, lines_of_parts, strip_carriage_return}
 use Rattle.std.proofs.lemmas.List.Splits.{slice_split_at, slice_split_none, length-slice_split}
 use Rattle.std.proofs.lemmas.List.Elements.{All-from_get_or, All-nil, All-cons}
 use Rattle.std.proofs.lemmas.List.Quantifiers.{position-Some}
+use Rattle.std.proofs.lemmas.List.Sums.{position_or_len_is}
+use Rattle.memchr.specs.Find.{IsFirstByte, is_byte}
 use Rattle.std.proofs.lemmas.List.{take-append-drop, length-take-le, get_or-take, take_all}
 use Rattle.std.proofs.lemmas.Option.{none-some}
 use Rattle.std.proofs.Math.Seq.{drop-cons}
@@ -151,3 +153,17 @@ nowhere-behind xs ys none rest =
     let long : prefix_len (λ b. not (is_feed b)) (xs ++ ys) ≡ length (xs ++ ys) = prefix-behind xs ys none ∙ ap (λ k. length xs + k) (whole-prefix ys rest) ∙ sym (length-append xs ys) in
     cond-false (nat_lt (prefix_len (λ b. not (is_feed b)) (xs ++ ys)) (length (xs ++ ys))) (Some (prefix_len (λ b. not (is_feed b)) (xs ++ ys))) None
     (false_from_ne_true _ (λ e. let less : prefix_len (λ b. not (is_feed b)) (xs ++ ys) < length (xs ++ ys) = ltb-true _ _ e in omega arith))
+
+-- a search's answer
+pub first-feed : (bytes : List ℕ) (r : Option ℕ) → IsFirstByte (is_byte 10) bytes r → r ≡ position is_feed bytes
+first-feed bytes None h =
+    let n : prefix_len (λ b. not (is_feed b)) bytes ≡ length bytes =
+    position_or_len_is is_feed bytes (length bytes) 0 (omega arith) (λ k lt. false_from_ne_true _ (h k (omega arith) lt)) (λ lt. absurd (omega arith)) in
+    sym (cond-false (nat_lt (prefix_len (λ b. not (is_feed b)) bytes) (length bytes)) (Some (prefix_len (λ b. not (is_feed b)) bytes)) None
+    (false_from_ne_true _ (λ e. let less : prefix_len (λ b. not (is_feed b)) bytes < length bytes = ltb-true _ _ e in omega arith)))
+first-feed bytes (Some k) h =
+    let high = h.0.high in
+    let at : prefix_len (λ b. not (is_feed b)) bytes ≡ k =
+    position_or_len_is is_feed bytes k 0 (omega arith) (λ j lt. false_from_ne_true _ (h.0.before j (omega arith) lt)) (λ _. h.1) in
+    let within : prefix_len (λ b. not (is_feed b)) bytes < length bytes = omega arith in
+    sym (cond-true (nat_lt (prefix_len (λ b. not (is_feed b)) bytes) (length bytes)) (Some (prefix_len (λ b. not (is_feed b)) bytes)) None (lt-ltb _ _ within) ∙ ap Some at)

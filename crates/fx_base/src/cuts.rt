@@ -3,6 +3,8 @@ ghost use Rattle.std.specs.Prelude.{◌≡◌, ◌≤◌, ◌==◌, ◌+◌, tak
 ghost use Rattle.std.specs.Str.Lines.{strip_carriage_return};
 ghost use Rattle.fx_base.specs.Text.{text_at};
 
+use memchr::memchr;
+
 // How many bytes the mark at the front has: three or none.
 pub(crate) fn mark_len(bytes: &[u8], is_first: bool) -> usize
     ensures skips { text_at is_first bytes.now ≡ drop result bytes.now }
@@ -30,7 +32,7 @@ pub(crate) fn trimmed_len(raw: &[u8]) -> usize
 pub(crate) fn line_end(bytes: &[u8]) -> Option<usize>
     ensures { result ≡ position (λ b. b == 10) bytes.now }
 {
-    bytes.iter().position(|b| *b == 10)
+    memchr(b'\n', bytes)
 }
 
 /// The same, where none stands before a place. It looks at the bytes from there on alone.

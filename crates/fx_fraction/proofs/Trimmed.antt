@@ -1,8 +1,10 @@
 -- The decimal in the fewest places.
-use Rattle.std.proofs.Common.{◌≡◌, ◌≢◌, ◌⊎◌, ℕ, zero, suc, ◌*◌, ◌/◌, ◌^◌, ◌%◌, ◌≤◌, Bool, true, false, cond, eqb, inl, inr, refl, sym, ap, ◌∙◌, arith, rules, tests}
+use Rattle.std.proofs.Common.{◌≡◌, ◌≢◌, ◌⊎◌, ℕ, zero, suc, ◌-◌, ◌*◌, ◌/◌, ◌^◌, ◌%◌, ◌<◌, ◌≤◌, Bool, true, false, cond, eqb, Ok, inl, inr, refl, sym, ap, ◌∙◌, arith, rules, tests}
+use Rattle.std.specs.Prelude.{nat_lt, nat_le}
 use Rattle.std.proofs.Math.Nat.{pow-suc, mul_assoc, mul_comm, mul-mod_left}
 use Rattle.std.proofs.lemmas.Bool.{eqb-true}
-use Rattle.fx_fraction.specs.DecimalOf.{trimmed}
+use Rattle.fx_fraction.specs.DecimalOf.{trimmed, within_limits}
+use Rattle.fx_fraction.specs.Numeral.{signed}
 
 -- the pair is n / 10 ^ p, and has no zero that isn't needed
 pub record IsTrimmed (n p : ℕ) (x : ℕ × ℕ) : Type 0 where
@@ -49,3 +51,22 @@ trimmed_front f (suc z) (suc p) last =
     let m : f * 10 ^ z * 10 % 10 ≡ 0 = mul-mod_left (f * 10 ^ z) 10 in
     let d : f * 10 ^ z * 10 / 10 ≡ f * 10 ^ z = omega arith in
     rw (e, m, d) (trimmed_front f z p last)
+
+-- a zero at the end comes off, and nothing where none does
+pub trimmed_step : (n p : ℕ) → 0 < p → n % 10 ≡ 0 → trimmed (n / 10) (p - 1) ≡ trimmed n p
+unfolding trimmed
+trimmed_step n zero some e = absurd (omega arith)
+trimmed_step n (suc p) some e = let m : suc p - 1 ≡ p = omega arith in rw (e, m) refl
+
+pub trimmed_stops : (n p : ℕ) → (p ≡ 0) ⊎ (n % 10 ≢ 0) → trimmed n p ≡ (n, p)
+unfolding trimmed
+trimmed_stops n zero h = refl
+trimmed_stops n (suc p) (inl e) = absurd (omega arith)
+trimmed_stops n (suc p) (inr last) = let b : eqb (n % 10) 0 ≡ false = search (rules, tests) in rw b refl
+
+-- what is within the limits
+pub limits_keep : (s : Bool) (a b : ℕ) → a < 2 ^ 62 → b ≤ 18 → within_limits s (a, b) ≡ Ok (record { a = signed s a; b = b })
+limits_keep s a b small few =
+    let t : nat_lt a (2 ^ 62) ≡ true = search (rules, tests) in
+    let u : nat_le b 18 ≡ true = search (rules, tests) in
+    rw (t, u) refl

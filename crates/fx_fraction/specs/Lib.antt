@@ -5,3 +5,4 @@ pub mod ReadParts
 pub mod Fractions
 pub mod Back
 pub mod ReadingLaw
+pub mod Units

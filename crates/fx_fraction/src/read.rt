@@ -14,11 +14,11 @@ ghost use Rattle.fx_fraction.specs.ReadParts.{number_kept, exponent_kept, IsMant
 use crate::decimal::Decimal;
 use crate::fault::NumberFault;
 use crate::limits::placed;
-use crate::short::read_short;
+use crate::short::{read_plain, read_short};
 use crate::significant::{Significant, read_digits};
 
 /// The text behind its sign, if it has one.
-fn behind_sign(text: &[u8]) -> &[u8]
+pub(crate) fn behind_sign(text: &[u8]) -> &[u8]
     ensures { result.now ≡ behind_sign text.now }
 {
     match text {
@@ -27,7 +27,7 @@ fn behind_sign(text: &[u8]) -> &[u8]
     }
 }
 
-fn is_negative(text: &[u8]) -> bool
+pub(crate) fn is_negative(text: &[u8]) -> bool
     ensures { result ≡ is_minus (sign_of text.now) }
 {
     match text {
@@ -129,8 +129,9 @@ fn read_exponent(text: &[u8]) -> Option<i128>
     }
 }
 
-/// The decimal that the text spells.
-pub fn read_decimal(text: &[u8]) -> Result<Decimal, NumberFault>
+// Out of line, so that the quick way is short enough to stand where it is called.
+#[inline(never)]
+fn read_any(text: &[u8]) -> Result<Decimal, NumberFault>
     ensures { result ≡ decimal_of text.now }
 {
     let body = behind_sign(text);
@@ -142,4 +143,15 @@ pub fn read_decimal(text: &[u8]) -> Result<Decimal, NumberFault>
     };
     let places = mantissa.places as i128 - exponent;
     placed(is_negative(text), mantissa.digits, places)
+}
+
+/// The decimal that the text spells.
+#[inline]
+pub fn read_decimal(text: &[u8]) -> Result<Decimal, NumberFault>
+    ensures { result ≡ decimal_of text.now }
+{
+    match read_plain(text) {
+        Some(plain) => Ok(plain),
+        None => read_any(text),
+    }
 }

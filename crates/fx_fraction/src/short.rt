@@ -1,15 +1,17 @@
 //! The quick form of most numbers: digits that come to less than 2^62 with the zeros at their end.
 //!
 //! They are added up in one word, and the zeros come off at the end, where `Significant` counts them as they come. What
-//! is longer is read as before.
+//! is longer is read as before. Nearly always there is no power of ten either, and then the decimal is there at once.
 
-ghost use Rattle.std.specs.Prelude.{◌≡◌, ◌+◌, ◌<◌, ◌≤◌, ◌^◌, length, drop, IfSome};
+ghost use Rattle.std.specs.Prelude.{◌≡◌, ◌+◌, ◌<◌, ◌≤◌, ◌^◌, length, drop, IfSome, Ok};
 ghost use Rattle.std.specs.Str.Parse.{digits_value_after};
 ghost use Rattle.fx_fraction.specs.Numeral.{digit_count, first_digits, part_of, part_digits, behind_part};
+ghost use Rattle.fx_fraction.specs.DecimalOf.{trimmed, within_limits, decimal_of};
 ghost use Rattle.fx_fraction.specs.Kept.{Keeps, FitsFront, zeros_of};
 ghost use Rattle.fx_fraction.specs.ReadParts.{IsMantissa, IsShortPart};
 
-use crate::read::Mantissa;
+use crate::decimal::{Decimal, signed};
+use crate::read::{Mantissa, behind_sign, is_negative};
 use crate::significant::Significant;
 
 // Below this a number and one digit more stay below 2^62.
@@ -85,4 +87,35 @@ pub fn read_short(body: &[u8]) -> Option<Mantissa>
         places,
         end: count + end,
     })
+}
+
+/// The decimal of a number and its places, in the fewest places.
+fn lowered(is_negative: bool, size: u64, places: u8) -> Decimal
+    requires few { places ≤ 18 }
+    requires small { size < 2 ^ 62 }
+    ensures { within_limits is_negative (trimmed size places) ≡ Ok result }
+{
+    let mut front = size;
+    let mut left = places;
+    while left > 0 && front % 10 == 0 {
+        front /= 10;
+        left -= 1;
+    }
+    Decimal {
+        a: signed(is_negative, front),
+        b: left,
+    }
+}
+
+/// The decimal that a text spells, where it is short and has no power of ten.
+pub fn read_plain(text: &[u8]) -> Option<Decimal>
+    ensures { IfSome result (λ d. decimal_of text.now ≡ Ok d) }
+{
+    let body = behind_sign(text);
+    let (whole, count) = short_digits(0, body)?;
+    let (size, places, end) = short_part(whole, &body[count..])?;
+    if count + end < body.len() || count + places == 0 || places > 18 {
+        return None;
+    }
+    Some(lowered(is_negative(text), size, places as u8))
 }

@@ -5,3 +5,4 @@ pub mod Trims
 pub mod Taken
 pub mod InRange
 pub mod GivenInRange
+pub mod Numbers

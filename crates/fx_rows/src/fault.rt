@@ -62,7 +62,7 @@ pub(crate) const MEMORY: RowFault = RowFault {
 };
 
 // In bytes: a longer line is bad.
-const LINE_LIMIT: usize = 65_536;
+pub(crate) const LINE_LIMIT: usize = 65_536;
 
 /// What is wrong with a line as a whole.
 pub(crate) fn line_fault(line: &[u8]) -> Option<RowKind>

@@ -1,11 +1,11 @@
 //! The values of a row.
-ghost use Rattle.std.specs.Prelude.{◌≡◌, ◌≢◌, ◌<◌, ◌≤◌, false, [], map, length, option_map, IfOk, IfErr, IsTrue};
+ghost use Rattle.std.specs.Prelude.{◌≡◌, ◌≢◌, ◌<◌, ◌≤◌, true, false, Ok, [], map, length, option_map, IfOk, IfErr, IsTrue};
 ghost use Rattle.std.specs.List.{list_any};
 ghost use Rattle.std.specs.Vec.{vec_capacity};
 ghost use Rattle.fx_rows.specs.declared.fault.RowKind.TheVariants as kind;
 ghost use Rattle.fx_rational.specs.Decimal.{decimal_value};
 ghost use Rattle.fx_model.specs.Rows.{IsInRange};
-ghost use Rattle.fx_model.specs.Limits.{input_limit};
+ghost use Rattle.fx_model.specs.Limits.{input_limit, line_limit};
 ghost use Rattle.fx_expr.specs.Parts.{input_of};
 ghost use Rattle.fx_fields.specs.Line.{line_fields, is_return, is_special, pieces};
 ghost use Rattle.fx_fields.specs.Seen.{seen};
@@ -15,9 +15,9 @@ ghost use Rattle.fx_rows.specs.Values.{field_value, values_from, row_of, row_of_
 
 use crate::blanks::trimmed;
 use crate::columns::Columns;
-use crate::fault::{MEMORY, RowFault, RowKind, line_fault};
+use crate::fault::{LINE_LIMIT, MEMORY, RowFault, RowKind, line_fault};
 use fx_expr::{Function, Input};
-use fx_fields::{Fields, Pieces, piece_from, plain_text, record_of};
+use fx_fields::{Fields, Pieces, piece_from, plain_text, record_of, unmarked_line_law};
 use fx_fraction::{Decimal, read_decimal, within};
 use fx_num::Memory;
 use std::alloc::Global;
@@ -219,6 +219,31 @@ fn read_line(
     }
 }
 
+// Reads a line that is one number, for one input at the first column, as nearly every line is where there is one input.
+// No other test of the line is due then. False leaves the row empty.
+fn read_one(line: &[u8], places: &[u32], inputs: &[Input], row: &mut Vec<Decimal>) -> bool
+    requires many { length places.now ≡ length inputs.now }
+    requires empty { row.old.items ≡ [] }
+    ensures short { IsTrue result → length line.now ≤ line_limit }
+    ensures no_return { IsTrue result → list_any is_return line.now ≡ false }
+    ensures read { IsTrue result → IsRowRead (Ok true) row.new.items (row_of_fields (map input_of inputs.now) places.now (line_fields line.now)) }
+    ensures left { result ≡ false → row.new.items ≡ [] }
+    ensures kept { vec_capacity row.old ≤ vec_capacity row.new }
+{
+    if inputs.len() != 1 || places[0] != 0 || line.len() > LINE_LIMIT {
+        return false;
+    }
+    let input = &inputs[0];
+    let Ok(given) = read_decimal(line) else {
+        return false;
+    };
+    if !within(given, input.lo, input.hi, input.err) {
+        return false;
+    }
+    unmarked_line_law(line);
+    row.push(given).is_ok()
+}
+
 /// Reads the values of a row, in the order of the inputs, and answers false at a blank line. After a fault of an input
 /// `row` holds the values before it, after any other nothing.
 pub fn read_row(
@@ -235,15 +260,13 @@ pub fn read_row(
     ensures in_range { IfOk result (λ b. IsTrue b → IsInRange function.now.inputs (map decimal_value row.new.items)) }
 {
     row.clear();
+    function.keeps();
+    let (places, inputs) = (columns.places.as_slice(), function.inputs.as_slice());
+    if read_one(line, places, inputs, row) {
+        return Ok(true);
+    }
     if let Some(kind) = line_fault(line) {
         return Err(RowFault { kind, input: 0 });
     }
-    function.keeps();
-    read_line(
-        alloc,
-        line,
-        columns.places.as_slice(),
-        function.inputs.as_slice(),
-        row,
-    )
+    read_line(alloc, line, places, inputs, row)
 }

@@ -14,4 +14,4 @@ returns c =
     let e : to_z w128 (of_z w128 x) -ℤ to_z w128 (of_z w128 y) ≡ x -ℤ y = rw (to_z-of_z w128 x fx, to_z-of_z w128 y fy) refl in
     let s : to_z w128 (of_z w128 (to_z w128 (of_z w128 x) -ℤ to_z w128 (of_z w128 y))) ≡ x -ℤ y = ap (λ v. to_z w128 (of_z w128 v)) e ∙ to_z-of_z w128 (x -ℤ y) (difference_fits x y c.smallest_units.ensures.small c.smallest_units-2.ensures.small) in
     ap (λ v. int_le v (to_z w128 (of_z w128 z))) s ∙ ap (λ v. int_le (x -ℤ y) v) (to_z-of_z w128 z fz)
-    ∙ above_is c.args.g c.args.lo c.args.err x y z c.smallest_units.ensures.value c.smallest_units-2.ensures.value c.smallest_units-3.ensures.value c.smallest_units-3.ensures.places c.smallest_units.ensures.places c.smallest_units-2.ensures.places
+    ∙ above_is 18 c.args.g c.args.lo c.args.err x y z c.smallest_units.ensures.value c.smallest_units-2.ensures.value c.smallest_units-3.ensures.value c.smallest_units-3.ensures.places c.smallest_units.ensures.places c.smallest_units-2.ensures.places

@@ -14,4 +14,4 @@ returns c =
     let e : to_z w128 (of_z w128 x) +ℤ to_z w128 (of_z w128 y) ≡ x +ℤ y = rw (to_z-of_z w128 x fx, to_z-of_z w128 y fy) refl in
     let s : to_z w128 (of_z w128 (to_z w128 (of_z w128 x) +ℤ to_z w128 (of_z w128 y))) ≡ x +ℤ y = ap (λ v. to_z w128 (of_z w128 v)) e ∙ to_z-of_z w128 (x +ℤ y) (sum_fits x y c.smallest_units-2.ensures.small c.smallest_units-3.ensures.small) in
     ap (λ v. int_le (to_z w128 (of_z w128 z)) v) s ∙ ap (λ v. int_le v (x +ℤ y)) (to_z-of_z w128 z fz)
-    ∙ below_is c.args.g c.args.hi c.args.err x y z c.smallest_units-2.ensures.value c.smallest_units-3.ensures.value c.smallest_units.ensures.value c.smallest_units.ensures.places c.smallest_units-2.ensures.places c.smallest_units-3.ensures.places
+    ∙ below_is 18 c.args.g c.args.hi c.args.err x y z c.smallest_units-2.ensures.value c.smallest_units-3.ensures.value c.smallest_units.ensures.value c.smallest_units.ensures.places c.smallest_units-2.ensures.places c.smallest_units-3.ensures.places
