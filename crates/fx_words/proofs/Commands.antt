@@ -171,13 +171,13 @@ not-known false false false false e f h g = refl
 pub which-command : (word : Bytes) → IsCommand word ⊎ IsNone word
 which-command word =
     by_name (bytes_eq word (codes "run")) refl (bytes_eq word (codes "check")) refl (bytes_eq word (codes "show")) refl (bytes_eq word (codes "synth")) refl where
-  by_name : (r : Bool) → bytes_eq word (codes "run") ≡ r → (c : Bool) → bytes_eq word (codes "check") ≡ c → (v : Bool) → bytes_eq word (codes "show") ≡ v →
-      (s : Bool) → bytes_eq word (codes "synth") ≡ s → IsCommand word ⊎ IsNone word
-  by_name true e c f v h s g = inl (subst IsCommand (sym ((bytes_eq-Decides word (codes "run")).0 e)) run-is-one)
-  by_name false e true f v h s g = inl (subst IsCommand (sym ((bytes_eq-Decides word (codes "check")).0 f)) check-is-one)
-  by_name false e false f true h s g = inl (subst IsCommand (sym ((bytes_eq-Decides word (codes "show")).0 h)) show-is-one)
-  by_name false e false f false h true g = inl (subst IsCommand (sym ((bytes_eq-Decides word (codes "synth")).0 g)) synth-is-one)
-  by_name false e false f false h false g = inr (record {
-    met = not-met _ _ _ _ (other-way word (codes "run") e) (other-way word (codes "check") f) (other-way word (codes "show") h) (other-way word (codes "synth") g);
-    unknown = not-known _ _ _ _ e f h g;
-  })
+      by_name : (r : Bool) → bytes_eq word (codes "run") ≡ r → (c : Bool) → bytes_eq word (codes "check") ≡ c → (v : Bool) → bytes_eq word (codes "show") ≡ v →
+          (s : Bool) → bytes_eq word (codes "synth") ≡ s → IsCommand word ⊎ IsNone word
+      by_name true e c f v h s g = inl (subst IsCommand (sym ((bytes_eq-Decides word (codes "run")).0 e)) run-is-one)
+      by_name false e true f v h s g = inl (subst IsCommand (sym ((bytes_eq-Decides word (codes "check")).0 f)) check-is-one)
+      by_name false e false f true h s g = inl (subst IsCommand (sym ((bytes_eq-Decides word (codes "show")).0 h)) show-is-one)
+      by_name false e false f false h true g = inl (subst IsCommand (sym ((bytes_eq-Decides word (codes "synth")).0 g)) synth-is-one)
+      by_name false e false f false h false g = inr (record {
+        met = not-met _ _ _ _ (other-way word (codes "run") e) (other-way word (codes "check") f) (other-way word (codes "show") h) (other-way word (codes "synth") g);
+        unknown = not-known _ _ _ _ e f h g;
+      })
