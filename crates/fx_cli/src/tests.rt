@@ -317,26 +317,29 @@ fn takes_little_ahead(rt: HostRuntime) -> Result<(), Fail> {
 
 // a source and a width, how a synthesis ends, what `check` then says of its bundle, and the line on the notes
 #[rattlefmt::skip]
-static SOURCES: [(&str, &str, u8, &str, &str); 19] = [
-    ("def f(x: Real): Real = {\n  require(0 <= x && x <= 1)\n  x + 0.5\n}\n", "16", 0, "accepted\nout1 1/2^8\n", ""),
-    ("def f(x: Real): Real = { require(0 <= x && x <= 1) x + 0.5 }", "8", 0, "accepted\nout1 1\n", ""),
-    ("def f(x: Real): Real = { require(0 <= x && x <= 1) x + 0.5 }", "64", 0, "accepted\nout1 1/2^56\n", ""),
-    ("def f(x: Real): Real = { require(0 <= x && x <= 1) x * 0.000000000000000001 }", "32", 0, "accepted\nout1 1/2^24\n", ""),
-    ("def f(x: Real): Real = { require(0 <= x && x <= 1) x + 0.5 } ensuring(res => res +/- 0.00390625)", "16", 0, "accepted\nout1 1/2^8\n", ""),
-    ("def f(x: Real): Real = { require(0 <= x && x <= 1) x + 0.5 } ensuring(res => res +/- 0.003906249)", "16", 9, "", "fixd: not found: output 1\n"),
+static SOURCES: [(&str, &str, u8, &str, &str); 22] = [
+    ("def f(x: Real): Real = {\n  require(0 <= x && x <= 1)\n  x + 0.5\n}\n", "16", 0, "accepted\nout1 5/2^14\n", ""),
+    ("def f(x: Real): Real = { require(0 <= x && x <= 1) x + 0.5 }", "8", 0, "accepted\nout1 5/2^6\n", ""),
+    ("def f(x: Real): Real = { require(0 <= x && x <= 1) x + 0.5 }", "64", 0, "accepted\nout1 5/2^62\n", ""),
+    ("def f(x: Real): Real = { require(0 <= x && x <= 1) x * 0.000000000000000001 }", "32", 0, "accepted\nout1 517/2^62\n", ""),
+    ("def f(x: Real): Real = { require(0 <= x && x <= 1) x + 0.5 } ensuring(res => res +/- 0.00030517578125)", "16", 0, "accepted\nout1 5/2^14\n", ""),
+    ("def f(x: Real): Real = { require(0 <= x && x <= 1) x + 0.5 } ensuring(res => res +/- 0.000305175)", "16", 9, "", "fixd: not found: output 1\n"),
     ("def f(x: Real, y: Real): Real = { require(-1 <= x && x <= 1 && -1 <= y && y <= 1) x / y }", "16", 9, "", "fixd: not found: node 2\n"),
+    ("def f(x: Real, y: Real): Real = { require(1 <= x && x <= 2 && 1 <= y && y <= 2) x / y }", "16", 0, "accepted\nout1 769/2^21\n", ""),
+    ("def f(x: Real, y: Real): Real = { require(0 <= x && x <= 4e9 && 0 <= y && y <= 4e9) x * y * 0.125 }", "32", 0, "accepted\nout1 8147483648\n", ""),
+    ("def f(x: Real, y: Real): Real = { require(0 <= x && x <= 4e9 && 0 <= y && y <= 4e9) x * y }", "32", 9, "", "fixd: not found: node 2\n"),
     ("def g(u: Real)(x: Real = 0.0): (Real, Real) = { require(-1 <= u && u <= 1) (x, u) }", "16", 9, "", "fixd: not found: node 1\n"),
     ("def f(x: Real): Real = { require(0 <= x && x <= 1) x + 123456789012345678901234567890 }", "16", 3, "", "fixd: source: NumberTooLong at byte 55\n"),
     ("", "16", 3, "", "fixd: source: NoSuchFunction at byte 0\n"),
     ("def f(x: Real): Real = { require(0 <= x && x <= 1) x }\ndef g(x: Real): Real = { require(0 <= x && x <= 1) x }", "16", 3, "", "fixd: source: WhichFunction at byte 0\n"),
-    ("def f(x: Real): Real = { require(0 <= x && x <= 1099511627776) x * 0 }", "64", 9, "", "fixd: not found: node 0\n"),
-    ("def f(x: Real): Real = { require(0 <= x && x <= 549755813888) -x }", "64", 0, "accepted\nout1 1/2^20\n", ""),
+    ("def f(x: Real): Real = { require(0 <= x && x <= 1099511627776) x * 0 }", "64", 0, "accepted\nout1 1/2^62\n", ""),
+    ("def f(x: Real): Real = { require(0 <= x && x <= 549755813888) -x }", "64", 0, "accepted\nout1 1/2^23\n", ""),
     ("def f(x: Real): Real = { require(0 <= x && x <= 1 && x +/- 3) x }", "16", 0, "accepted\nout1 8\n", ""),
-    ("def f(x: Real): Real = { require(0 <= x && x <= 1) 1099511627776 }", "16", 0, "accepted\nout1 134217728\n", ""),
-    ("def f(x: Real): Real = { require(0 <= x && x <= 1) 1099511627777 }", "16", 9, "", "fixd: not found: node 1\n"),
-    ("def f(x: Real): Real = { require(0 <= x && x <= 1) x + 274877906944 }", "8", 0, "accepted\nout1 137438953472\n", ""),
-    ("def f(x: Real): Real = { require(0 <= x && x <= 1) x + 274877906945 }", "8", 9, "", "fixd: not found: node 2\n"),
-    ("def f(x: Real): (Real, Real) = { require(0 <= x && x <= 1) (x, x * 1000) } ensuring((a, b) => b +/- 0.5)", "16", 9, "", "fixd: not found: output 2\n"),
+    ("def f(x: Real): Real = { require(0 <= x && x <= 1) 1099511627776 }", "16", 0, "accepted\nout1 0\n", ""),
+    ("def f(x: Real): Real = { require(0 <= x && x <= 1) 1099511627777 }", "16", 0, "accepted\nout1 1\n", ""),
+    ("def f(x: Real): Real = { require(0 <= x && x <= 1) x + 274877906944 }", "8", 0, "accepted\nout1 17179869185\n", ""),
+    ("def f(x: Real): Real = { require(0 <= x && x <= 1) x + 274877906945 }", "8", 0, "accepted\nout1 8589934594\n", ""),
+    ("def f(x: Real): (Real, Real) = { require(0 <= x && x <= 1) (x, x * 1000) } ensuring((a, b) => b +/- 0.1)", "16", 9, "", "fixd: not found: output 2\n"),
 ];
 
 // Its bundle is taken by `check`, as it stands.
