@@ -17,7 +17,7 @@ ghost use Rattle.fx_analysis.specs.AttemptParts.{MeansNone, ArePlain, AreSmallWo
 
 use crate::code::code;
 use crate::fault::PlanFault;
-use crate::walk::{points, ranges, roundoff};
+use crate::walk::{errors, points, ranges};
 use fx_cert::{Certificate, NodeLine};
 use fx_expr::{Function, Items};
 use fx_flat::{Node, Nodes, flatten};
@@ -55,7 +55,7 @@ fn plan(
     let no_boxes = Vec::new(alloc);
     let gs = ranges(alloc, nodes, function, &no_boxes)?;
     let ps = points(alloc, nodes, &gs, width)?;
-    let hs = roundoff(alloc, nodes, function, &ps, &gs, &no_boxes)?;
+    let hs = errors(alloc, nodes, function, &ps, &gs, &no_boxes)?;
     Ok(PlainValues {
         width,
         ranges: gs,

@@ -13,6 +13,7 @@ mod divide;
 mod error;
 mod exact;
 mod fault;
+mod formless;
 mod grid;
 mod number;
 mod parts;
@@ -30,7 +31,8 @@ ghost use Rattle.fx_analysis.specs.Attempts.{WrittenStepLaw, NoStepsLaw};
 pub use after::attempt_after;
 pub use attempt::plain_attempt;
 pub use fault::{PlanFault, Why};
-pub use walk::{points, ranges, roundoff};
+pub use formless::roundoff;
+pub use walk::{points, ranges};
 
 /// The narrowest interval on a grid.
 pub fn narrow_law()

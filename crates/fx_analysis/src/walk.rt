@@ -169,7 +169,7 @@ fn walk_errors(
 
 /// The plain errors of a function's nodes at these points and ranges, with an error box for each state, or the first node
 /// that has none.
-pub fn roundoff(
+pub(crate) fn errors(
     alloc: Global,
     nodes: &Nodes,
     function: &Function,
