@@ -23,3 +23,6 @@ pub use choose::choose_points;
 pub use facts::NodeFacts;
 pub use fault::PointFault;
 pub use magnitude::Magnitude;
+
+#[cfg(test)]
+mod tests;
