@@ -1,5 +1,5 @@
 -- What is known where no points are chosen.
-use Rattle.std.specs.Prelude.{◌<◌, ℕ, Unit}
+use Rattle.std.specs.Prelude.{◌<◌, ℕ}
 use Rattle.fx_points.specs.declared.fault.PointFault.{PointFault}
 use Rattle.fx_points.specs.declared.fault.PointFault.TheVariants.{NoPoint, Memory}
 

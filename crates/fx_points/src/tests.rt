@@ -15,18 +15,33 @@ fn whole(value: u128) -> Magnitude {
 }
 
 fn facts(cap: i32, size: Magnitude, least: Magnitude) -> NodeFacts {
-    NodeFacts { cap, size, least, error: Magnitude::ZERO }
+    NodeFacts {
+        cap,
+        size,
+        least,
+        error: Magnitude::ZERO,
+    }
 }
 
 fn nodes(list: Vec<Node>) -> Nodes {
-    Nodes { list: Items::from_vec(list), inputs: 1, states: 0, outputs: 1 }
+    Nodes {
+        list: Items::from_vec(list),
+        inputs: 1,
+        states: 0,
+        outputs: 1,
+    }
 }
 
 // 0.25 x, at 32 bits: the literal has the one word that spares the product its shift
 #[test]
 fn an_exact_literal_spares_a_shift(rt: HostRuntime) -> Result<(), Fail> {
     let c = literal(&rt, b"0.25");
-    let list = [Node::Input { k: 0 }, Node::Const { c }, Node::Mul { a: 1, b: 0 }, Node::Copy { a: 2 }];
+    let list = [
+        Node::Input { k: 0 },
+        Node::Const { c },
+        Node::Mul { a: 1, b: 0 },
+        Node::Copy { a: 2 },
+    ];
     let quarter = Magnitude::power_of_two(-2);
     let most = whole(3).times(quarter);
     let known = [
