@@ -52,7 +52,7 @@ fn an_exact_literal_spares_a_shift(rt: HostRuntime) -> Result<(), Fail> {
     ];
     let list = nodes(Vec::from_array(rt.alloc(), list)?);
     let points = choose_points(rt.alloc(), &list, &known, 32)?;
-    assert_eq!(&rt; points.as_slice(), &[29, 2, 31, 31]);
+    assert_eq!(&rt; points.as_slice(), [29, 2, 31, 31].as_slice());
     Ok(())
 }
 
@@ -77,7 +77,7 @@ fn a_shared_node_goes_down_to_its_sums(rt: HostRuntime) -> Result<(), Fail> {
     ];
     let list = nodes(Vec::from_array(rt.alloc(), list)?);
     let points = choose_points(rt.alloc(), &list, &known, 40)?;
-    assert_eq!(&rt; points.as_slice(), &[21, 38, 21, 23, 23]);
+    assert_eq!(&rt; points.as_slice(), [21, 38, 21, 23, 23].as_slice());
     Ok(())
 }
 
@@ -102,7 +102,7 @@ fn a_quotient_keeps_its_shift(rt: HostRuntime) -> Result<(), Fail> {
     ];
     let list = nodes(Vec::from_array(rt.alloc(), list)?);
     let points = choose_points(rt.alloc(), &list, &known, 64)?;
-    assert_eq!(&rt; points.as_slice(), &[60, 57, 57, 62, 62]);
+    assert_eq!(&rt; points.as_slice(), [60, 57, 57, 62, 62].as_slice());
     Ok(())
 }
 
