@@ -1,0 +1,171 @@
+//! One pass from the inputs to the outputs and one back.
+ghost use Rattle.std.specs.Prelude.{◌≡◌, length, IfOk, IfErr};
+ghost use Rattle.fx_points.specs.declared.fault.PointFault.TheVariants as fault;
+ghost use Rattle.fx_points.specs.Faults.{BlamesOneOf};
+
+use crate::choice::Choice;
+use crate::entry::Entry;
+use crate::facts::NodeFacts;
+use crate::fault::PointFault;
+use crate::literal::literal;
+use crate::magnitude::Magnitude;
+use crate::operation::{Factor, Rates, Room, input, product, quotient, sum};
+use fx_flat::Node;
+use std::alloc::Global;
+
+/// What an attempt reads.
+#[derive(Clone, Copy)]
+pub struct Task<'a> {
+    /// The nodes.
+    pub nodes: &'a [Node],
+    /// What is known of each.
+    pub facts: &'a [NodeFacts],
+    /// How often each is an operand.
+    pub uses: &'a [u32],
+    /// The bits of a word.
+    pub width: i8,
+}
+
+/// A point for each node, and the summed cost of the outputs.
+#[derive(Drop)]
+pub struct Chosen {
+    pub points: Vec<i8>,
+    pub cost: Magnitude,
+}
+
+/// The operands of a node, the left one first.
+pub fn operands(node: &Node) -> (Option<u32>, Option<u32>) {
+    match node {
+        Node::Input { .. } | Node::State { .. } | Node::Const { .. } => (None, None),
+        Node::Neg { a } | Node::Copy { a } => (Some(*a), None),
+        Node::Add { a, b } | Node::Sub { a, b } | Node::Mul { a, b } | Node::Div { a, b } => {
+            (Some(*a), Some(*b))
+        }
+    }
+}
+
+/// A factor's entry and size.
+fn factor<'a>(task: Task<'a>, before: &'a [Entry], a: u32) -> Option<Factor<'a>> {
+    let entry = before.get(a as usize)?;
+    let size = task.facts.get(a as usize)?.size;
+    Some(Factor { entry, size })
+}
+
+/// The points that a quotient may have.
+fn quotient_entry(
+    task: Task,
+    before: &[Entry],
+    a: u32,
+    b: u32,
+    size: Magnitude,
+    room: Room,
+) -> Option<Entry> {
+    let inverse = Magnitude::ONE.over(task.facts.get(b as usize)?.least);
+    let x = before.get(a as usize)?;
+    let y = before.get(b as usize)?;
+    Some(Entry::Listed(quotient(x, y, Rates { inverse, size }, room)))
+}
+
+/// The points that node `n` may have, by those of the nodes before it.
+fn entry_of(task: Task, before: &[Entry], n: usize, cap: i8) -> Option<Entry> {
+    let facts = task.facts.get(n)?;
+    let room = Room {
+        cap,
+        width: task.width,
+    };
+    match task.nodes.get(n)? {
+        Node::Input { .. } | Node::State { .. } => Some(Entry::Listed(input(facts.error, cap))),
+        Node::Const { c } => Some(literal(*c, cap)),
+        Node::Neg { a } | Node::Copy { a } => before.get(*a as usize)?.passed_on(i32::from(cap)),
+        Node::Add { a, b } | Node::Sub { a, b } => {
+            let x = before.get(*a as usize)?;
+            let y = before.get(*b as usize)?;
+            sum(x, y, room).map(Entry::Listed)
+        }
+        Node::Mul { a, b } => {
+            let x = factor(task, before, *a)?;
+            let y = factor(task, before, *b)?;
+            product(x, y, room).map(Entry::Listed)
+        }
+        Node::Div { a, b } => quotient_entry(task, before, *a, *b, facts.size, room),
+    }
+}
+
+/// The same, with one point for all uses, or None where no point is left.
+fn settled_entry(task: Task, before: &[Entry], n: usize, cap: i8) -> Option<Entry> {
+    let entry = entry_of(task, before, n, cap)?;
+    let best = entry.best()?;
+    if *task.uses.get(n)? > 1 {
+        Some(Entry::alone(best))
+    } else {
+        Some(entry)
+    }
+}
+
+/// The points that each node may have.
+fn entries(alloc: Global, task: Task, caps: &[i8]) -> Result<Vec<Entry>, PointFault>
+    ensures each { IfOk result (λ entries. length entries.items ≡ length caps.now) }
+    ensures blames { IfErr result (BlamesOneOf (length caps.now)) }
+{
+    let mut entries = Vec::new(alloc);
+    for n in 0..caps.len() {
+        let Some(entry) = settled_entry(task, &entries, n, caps[n]) else {
+            return Err(PointFault::NoPoint { node: n });
+        };
+        entries.push(entry)?;
+    }
+    Ok(entries)
+}
+
+/// The cheapest point of each node.
+fn best_points(alloc: Global, entries: &[Entry]) -> Result<Vec<i8>, PointFault>
+    ensures each { IfOk result (λ points. length points.items ≡ length entries.now) }
+    ensures memory { IfErr result (λ e. e ≡ fault.Memory) }
+{
+    let mut points = Vec::new(alloc);
+    for entry in entries {
+        let point = entry.best().map_or(0, |c| c.point);
+        points.push(point)?;
+    }
+    Ok(points)
+}
+
+/// Gives an operand its point.
+fn set(points: &mut [i8], operand: Option<u32>, point: i8) {
+    if let Some(a) = operand {
+        let a = a as usize;
+        if a < points.len() {
+            points[a] = point;
+        }
+    }
+}
+
+/// From the last node to the first, gives the operands the points that the node's own point asks for. Answers the summed
+/// cost of the outputs.
+fn hand_down(nodes: &[Node], entries: &[Entry], points: &mut [i8]) -> Magnitude {
+    let mut cost = Magnitude::ZERO;
+    for n in (0..points.len()).rev() {
+        if let (Some(node), Some(entry)) = (nodes.get(n), entries.get(n)) {
+            if let Some(choice) = entry.at(i32::from(points[n])) {
+                let (left, right) = operands(node);
+                set(points, left, choice.left);
+                set(points, right, choice.right);
+                if matches!(node, Node::Copy { .. }) {
+                    cost = cost.plus(choice.cost);
+                }
+            }
+        }
+    }
+    cost
+}
+
+/// The cheapest points up to the caps.
+pub fn attempt(alloc: Global, task: Task, caps: &[i8]) -> Result<Chosen, PointFault>
+    ensures each { IfOk result (λ chosen. length chosen.points.items ≡ length caps.now) }
+    ensures blames { IfErr result (BlamesOneOf (length caps.now)) }
+{
+    let entries = entries(alloc, task, caps)?;
+    let mut points = best_points(alloc, &entries)?;
+    let cost = hand_down(task.nodes, &entries, &mut points);
+    Ok(Chosen { points, cost })
+}

@@ -1,0 +1,69 @@
+//! Literals: where their words are exact, and how far they are off elsewhere.
+ghost use Rattle.std.specs.Prelude.{◌≡◌, ◌<◌, ◌≤◌, ◌^◌, ◌*◌};
+
+use crate::choice::{Choice, Choices};
+use crate::entry::{Entry, Exact};
+use crate::magnitude::Magnitude;
+use fx_fraction::Fraction;
+
+/// The numerator without its sign.
+fn top(c: Fraction) -> u64
+    ensures { result < 2 ^ 62 }
+{
+    c.p.unsigned_abs() as u64
+}
+
+/// The denominator.
+fn bottom(c: Fraction) -> u64
+    ensures some { 0 < result }
+    ensures few { result < 2 ^ 62 }
+{
+    c.q as u64
+}
+
+/// The least point at which a literal is a whole word, if there is one.
+fn exact_point(c: Fraction) -> Option<i8> {
+    let p = top(c);
+    let q = bottom(c);
+    if !q.is_power_of_two() {
+        None
+    } else if q == 1 && p != 0 {
+        Some(-(p.trailing_zeros() as i8))
+    } else {
+        Some(q.trailing_zeros() as i8)
+    }
+}
+
+/// `b * 2^s`.
+fn raised(b: u64, s: u8) -> u128
+    requires few { b < 2 ^ 62 }
+    requires shift { s ≤ 64 }
+    ensures { result ≡ b * 2 ^ s }
+{
+    u128::from(b) << u32::from(s)
+}
+
+/// How far the nearest word at a point is from a literal.
+fn nearest_miss(c: Fraction, f: i8) -> Magnitude {
+    let whole = raised(top(c), f.clamp(0, 64).unsigned_abs());
+    let unit = raised(bottom(c), f.clamp(-64, 0).unsigned_abs());
+    if unit == 0 {
+        return Magnitude::GREATEST;
+    }
+    let rest = whole % unit;
+    let miss = rest.min(unit - rest);
+    Magnitude::new(miss, -i32::from(f)).over(Magnitude::new(unit, 0))
+}
+
+/// The points of a literal.
+pub fn literal(c: Fraction, cap: i8) -> Entry {
+    match exact_point(c) {
+        Some(least) if least <= cap => Entry::Exact(Exact {
+            least,
+            greatest: cap,
+        }),
+        _ => Entry::Listed(Choices::down_from(i32::from(cap), Choice::POINTS, |f| {
+            Some(Choice::alone(f, nearest_miss(c, f)))
+        })),
+    }
+}
