@@ -23,6 +23,3 @@ pub use choose::choose_points;
 pub use facts::NodeFacts;
 pub use fault::PointFault;
 pub use magnitude::Magnitude;
-
-#[cfg(test)]
-mod tests;
