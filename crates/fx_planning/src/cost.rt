@@ -8,10 +8,10 @@ use crate::span::Span;
 use fx_expr::Function;
 use fx_fraction::{Decimal, to_fraction};
 
-/// What bounds are measured by: those of another plan, one for each output.
+/// What bounds are measured by: those of another plan.
 #[derive(Clone, Copy, Debug)]
 pub struct Goal<'a> {
-    /// The bounds of the other plan.
+    /// The bounds of the other plan, one for each output. Where there is none, 1 stands for it.
     pub references: &'a [Real],
     /// Whether no bound may be above the other plan's.
     pub is_held: bool,
@@ -61,6 +61,12 @@ pub fn bound(error: Span) -> Real {
     }
 }
 
+/// The bound that an output's is measured by, which is 1 where there is none.
+fn reference(goal: Goal<'_>, j: usize) -> Real {
+    let bound = goal.references.get(j).copied().unwrap_or(Real::ONE);
+    if bound.is_zero() { Real::ONE } else { bound }
+}
+
 /// What the outputs' errors cost.
 pub fn cost_of(function: &Function, goal: Goal<'_>, outputs: &[Span]) -> Cost {
     let demands = function.demands.as_slice();
@@ -69,8 +75,7 @@ pub fn cost_of(function: &Function, goal: Goal<'_>, outputs: &[Span]) -> Cost {
     let mut count = 0_i64;
     for (j, error) in outputs.iter().enumerate() {
         let size = bound(*error);
-        let reference = goal.references.get(j).copied().unwrap_or(Real::ONE);
-        let ratio = size.over(reference);
+        let ratio = size.over(reference(goal, j));
         sum = sum.plus(ratio);
         count = count.saturating_add(1);
         if let Some(Some(d)) = demands.get(j) {

@@ -2,6 +2,7 @@
 
 use crate::grid::{Grids, PLACE_LIMIT};
 use crate::span::{Scaled, Span, bits};
+use fx_expr::Input;
 use fx_fraction::{Decimal, Fraction, to_fraction};
 use fx_num::{ceil_shift, floor_shift, left_fits};
 
@@ -159,4 +160,9 @@ pub fn fits_word(range: Span, point: i32, width: u32) -> bool {
     } else {
         ceil_shift(range.hi, distance) <= top && least <= floor_shift(range.lo, distance)
     }
+}
+
+/// The size of an input's error, rounded up to 60 binary places.
+pub fn input_error(input: &Input) -> Option<Scaled> {
+    decimal_size(input.err)
 }

@@ -90,6 +90,9 @@ impl Ranges {
     /// The greatest point at which the node's range fits a word of so many bits, from -64 to 62.
     pub fn cap(&self, n: usize, width: u32) -> Option<i32> {
         let span = self.span(n)?;
+        if span.size() == 0 {
+            return Some(62);
+        }
         let free = i64::from(width).saturating_add(i64::from(span.e));
         let highest = free.saturating_sub(i64::from(bits(span.size())));
         let point = i32::try_from(highest.clamp(-64, 62)).ok()?;
