@@ -30,7 +30,9 @@ fn movable(setting: &Setting<'_>, n: usize) -> Option<(usize, usize)> {
 
 /// Minus the middle of an error, in units of a literal's point.
 fn units_off(error: Span, point: i32) -> Option<i128> {
-    let places = i64::from(error.e).saturating_add(1).saturating_sub(i64::from(point));
+    let places = i64::from(error.e)
+        .saturating_add(1)
+        .saturating_sub(i64::from(point));
     if places <= 0 {
         return Some(0);
     }
@@ -44,7 +46,11 @@ fn units_off(error: Span, point: i32) -> Option<i128> {
 fn sum_move(setting: &Setting<'_>, n: usize, c: usize, error: Span) -> Option<i128> {
     let units = units_off(error, setting.points.get(c).copied()?)?;
     match setting.nodes.get(n)? {
-        Node::Sub { b, .. } => if *b as usize == c { units.checked_neg() } else { Some(units) },
+        Node::Sub { b, .. } => if *b as usize == c {
+            units.checked_neg()
+        } else {
+            Some(units)
+        },
         _ => Some(units),
     }
 }
@@ -71,7 +77,10 @@ fn moved(
         return Some(error);
     }
     let before = errors.span(c)?;
-    errors.put(c, word_error(setting.literal(c)?, word, f, setting.ranges.grids)?)?;
+    errors.put(
+        c,
+        word_error(setting.literal(c)?, word, f, setting.ranges.grids)?,
+    )?;
     let found = plain_error(setting, errors, &code, setting.points.get(n).copied()?)?;
     if found.is_smaller(error)? {
         let slot = codes.get_mut(c)?;

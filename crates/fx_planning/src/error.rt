@@ -228,7 +228,10 @@ fn formed_error(
     let Some(form) = setting.ranges.form(n) else {
         return Some(NodeError::plain(plain));
     };
-    let e = setting.ranges.grids.error_places_at(setting.points.get(n).copied()?);
+    let e = setting
+        .ranges
+        .grids
+        .error_places_at(setting.points.get(n).copied()?);
     let rest = error_rest(setting, errors, n, code, &form)?.outward(e);
     let row = setting.ranges.rows.row(n);
     let by_form = weighted(row, form.e, rest, &errors.spans)?.outward(e);

@@ -100,7 +100,8 @@ pub fn is_word(w: i128, width: u32) -> bool {
 ///
 /// The grid is such that the checker's product with the literal's denominator fits.
 pub fn word_error(c: Fraction, w: i128, point: i32, grids: Grids) -> Option<Span> {
-    let free = i64::from(point).saturating_add(126)
+    let free = i64::from(point)
+        .saturating_add(126)
         .saturating_sub(i64::from(bits(w.unsigned_abs())))
         .saturating_sub(i64::from(bits(c.q.unsigned_abs())));
     let fine = i64::from(grids.error_places_at(point));
@@ -140,10 +141,7 @@ pub fn exact_point(c: Fraction) -> Option<i32> {
 pub fn decimal_size(d: Decimal) -> Option<Scaled> {
     let c = to_fraction(d);
     let m = ceil_at(c.p, c.q, PLACE_LIMIT as i32)?;
-    Some(Scaled {
-        m,
-        e: PLACE_LIMIT,
-    })
+    Some(Scaled { m, e: PLACE_LIMIT })
 }
 
 /// Whether the numbers of a range, so many places behind the point, are words at a point.

@@ -27,7 +27,13 @@ fn put_line(out: &mut Vec<u8>, word: &[u8], numbers: &[i64]) -> Result<(), Memor
 }
 
 /// The line of a sum or a difference.
-fn put_sum(out: &mut Vec<u8>, word: &[u8], (a, b): (u32, u32), sa: i32, sb: i32) -> Result<(), Memory> {
+fn put_sum(
+    out: &mut Vec<u8>,
+    word: &[u8],
+    (a, b): (u32, u32),
+    sa: i32,
+    sb: i32,
+) -> Result<(), Memory> {
     let numbers = [i64::from(a), i64::from(b), i64::from(sa), i64::from(sb)];
     put_line(out, word, &numbers)
 }

@@ -38,10 +38,7 @@ impl Real {
     pub const ZERO: Real = Real { m: 0, e: 0 };
 
     /// One.
-    pub const ONE: Real = Real {
-        m: 1 << 31,
-        e: -31,
-    };
+    pub const ONE: Real = Real { m: 1 << 31, e: -31 };
 
     /// What stands for a quotient by zero.
     pub const INFINITE: Real = Real {

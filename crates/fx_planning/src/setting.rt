@@ -119,7 +119,11 @@ fn code_of(node: &Node, f: i32, points: &[i32], width: u32) -> Option<Code> {
 
 /// A number as a word.
 pub fn word_at(w: i128, width: u32) -> Option<i64> {
-    if is_word(w, width) { i64::try_from(w).ok() } else { None }
+    if is_word(w, width) {
+        i64::try_from(w).ok()
+    } else {
+        None
+    }
 }
 
 /// The code of a node, where its point is one.

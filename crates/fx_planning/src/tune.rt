@@ -61,7 +61,11 @@ impl Ends {
 /// The lesser of two moves, and the first of equals.
 fn lesser(best: Option<Move>, other: Move) -> Option<Move> {
     match best {
-        Some(first) => if other.bound.is_below(first.bound) { Some(other) } else { Some(first) },
+        Some(first) => if other.bound.is_below(first.bound) {
+            Some(other)
+        } else {
+            Some(first)
+        },
         None => Some(other),
     }
 }
@@ -91,7 +95,14 @@ fn better(
     for t in units..units.saturating_add(2) {
         let bound = ends.bound_after(slope, t);
         if t != 0 && t.unsigned_abs() <= MOVE_LIMIT.unsigned_abs() && bound.is_below(limit) {
-            found = lesser(found, Move { node, units: t, bound });
+            found = lesser(
+                found,
+                Move {
+                    node,
+                    units: t,
+                    bound,
+                },
+            );
         }
     }
     found
