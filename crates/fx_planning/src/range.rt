@@ -231,6 +231,19 @@ fn write_form(ranges: &mut Ranges, n: usize, node: &Node, a: usize, b: usize) ->
     )
 }
 
+/// The form of an operation whose row is written, and the range that it shows.
+fn written_form(
+    ranges: &mut Ranges,
+    n: usize,
+    node: &Node,
+    a: usize,
+    b: usize,
+) -> Option<(Form, Span)> {
+    let form = write_form(ranges, n, node, a, b)?;
+    let sum = weighted(ranges.rows.row(n), form.e, form.rest, &ranges.spans)?;
+    Some((form, ranges.grids.rounded(sum)))
+}
+
 /// The range of an operation, with its form where an operand has one.
 fn operation_range(ranges: &mut Ranges, n: usize, node: &Node) -> Option<(Span, Option<Form>)> {
     let plain = plain_range(ranges, node)?;
@@ -241,9 +254,11 @@ fn operation_range(ranges: &mut Ranges, n: usize, node: &Node) -> Option<(Span, 
     if let Node::Div { .. } = node {
         return Some((plain, None));
     }
-    let form = write_form(ranges, n, node, a, b)?;
-    let sum = weighted(ranges.rows.row(n), form.e, form.rest, &ranges.spans)?;
-    let by_form = ranges.grids.rounded(sum);
+    let Some((form, by_form)) = written_form(ranges, n, node, a, b) else {
+        // a form is of use and never needed: where its numbers leave 128 bits, the node has none
+        ranges.rows.clear(n);
+        return Some((plain, None));
+    };
     let shows_range = by_form.is_narrower(plain)?;
     let range = if shows_range { by_form } else { plain };
     Some((

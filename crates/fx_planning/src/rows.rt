@@ -48,4 +48,11 @@ impl Rows {
         *coefficient = m;
         Some(())
     }
+
+    /// Makes a row zero again.
+    pub fn clear(&mut self, n: usize) {
+        for k in 0..self.width {
+            let _ = self.put(n, k, 0);
+        }
+    }
 }
