@@ -1,0 +1,187 @@
+//! The certificate of a plan, as data.
+//!
+//! A form is written where it shows a range or an error, or where a form that is written is made of it. What is written
+//! goes to lowest terms.
+
+use crate::form::{Form, operands};
+use crate::plan::Plan;
+use crate::range::Ranges;
+use crate::span::{Scaled, Span};
+use fx_cert::{Certificate, Form as FormLine, NodeLine, Share};
+use fx_expr::Items;
+use fx_flat::Node;
+use fx_interval::Interval;
+use fx_num::{Dyadic, Memory, floor_shift};
+use fx_rewrite::Step;
+use std::alloc::Global;
+
+/// A number in lowest terms.
+fn lowest(d: Scaled) -> Dyadic {
+    let places = d.m.trailing_zeros().min(d.e);
+    let e = d.e.saturating_sub(places);
+    Dyadic::new(floor_shift(d.m, places), e.min(1 << 20))
+}
+
+/// An interval, both ends in lowest terms.
+fn interval(span: Span) -> Interval {
+    Interval {
+        lo: lowest(Scaled {
+            m: span.lo,
+            e: span.e,
+        }),
+        hi: lowest(Scaled {
+            m: span.hi,
+            e: span.e,
+        }),
+    }
+}
+
+/// That a form shows what is claimed, by no rows.
+fn shown(alloc: Global, is_shown: bool) -> Option<Items<Share>> {
+    if is_shown {
+        Some(Items::from_vec(Vec::new(alloc)))
+    } else {
+        None
+    }
+}
+
+/// A row's coefficients.
+fn coefficients(alloc: Global, row: &[i128], e: u32) -> Result<Items<Dyadic>, Memory> {
+    let mut coefs = Vec::new(alloc);
+    for m in row {
+        coefs.push(lowest(Scaled { m: *m, e }))?;
+    }
+    Ok(Items::from_vec(coefs))
+}
+
+/// The form of a node, with the rest of its error.
+fn form_line(
+    alloc: Global,
+    row: &[i128],
+    form: &Form,
+    rest: Span,
+    is_shown: bool,
+) -> Result<FormLine, Memory> {
+    Ok(FormLine {
+        centre_a: lowest(form.centre_a),
+        centre_b: lowest(form.centre_b),
+        coefs: coefficients(alloc, row, form.e)?,
+        rest: interval(form.rest),
+        error_rest: interval(rest),
+        range_by: shown(alloc, form.shows_range),
+        error_by: shown(alloc, is_shown),
+    })
+}
+
+/// Whether a node's form shows its range or its error.
+fn shows(ranges: &Ranges, plan: &Plan, n: usize) -> bool {
+    let shows_range = match ranges.form(n) {
+        Some(form) => form.shows_range,
+        None => false,
+    };
+    shows_range || plan.errors.shown.get(n).copied().unwrap_or(false)
+}
+
+fn want(wanted: &mut [bool], a: usize) {
+    if let Some(slot) = wanted.get_mut(a) {
+        *slot = true;
+    }
+}
+
+/// Which forms are written.
+fn wanted_forms(
+    alloc: Global,
+    nodes: &[Node],
+    ranges: &Ranges,
+    plan: &Plan,
+) -> Result<Vec<bool>, Memory> {
+    let mut wanted = vec![in alloc; false; nodes.len()]?;
+    for n in (0..nodes.len()).rev() {
+        if shows(ranges, plan, n) {
+            want(&mut wanted, n);
+        }
+        if wanted.get(n).copied().unwrap_or(false) {
+            if let Some((a, b)) = operands(&nodes[n]) {
+                want(&mut wanted, a);
+                want(&mut wanted, b);
+            }
+        }
+    }
+    Ok(wanted)
+}
+
+/// The line of a node.
+fn line(
+    alloc: Global,
+    ranges: &Ranges,
+    plan: &Plan,
+    n: usize,
+    is_wanted: bool,
+) -> Result<NodeLine, Memory> {
+    let range = interval(ranges.span(n).unwrap_or(Span::ZERO));
+    let error = interval(plan.errors.span(n).unwrap_or(Span::ZERO));
+    let rest = plan.errors.rest(n).unwrap_or(Span::ZERO);
+    let is_shown = plan.errors.shown.get(n).copied().unwrap_or(false);
+    // a variable's form is itself, and isn't written
+    let form = if is_wanted && n >= ranges.rows.width() {
+        ranges.form(n)
+    } else {
+        None
+    };
+    let form = match form {
+        Some(form) => Some(form_line(alloc, ranges.rows.row(n), &form, rest, is_shown)?),
+        None => None,
+    };
+    Ok(NodeLine { range, error, form })
+}
+
+fn lines(
+    alloc: Global,
+    nodes: &[Node],
+    ranges: &Ranges,
+    plan: &Plan,
+) -> Result<Vec<NodeLine>, Memory> {
+    let wanted = wanted_forms(alloc, nodes, ranges, plan)?;
+    let mut lines = Vec::new(alloc);
+    for n in 0..nodes.len() {
+        let is_wanted = wanted.get(n).copied().unwrap_or(false);
+        lines.push(line(alloc, ranges, plan, n, is_wanted)?)?;
+    }
+    Ok(lines)
+}
+
+/// Equal steps.
+fn copied_steps(alloc: Global, steps: &[Step]) -> Result<Vec<Step>, Memory> {
+    let mut copies = Vec::new(alloc);
+    for step in steps {
+        let path = Vec::from_slice(alloc, step.path.as_slice())?;
+        copies.push(Step {
+            place: step.place,
+            path: Items::from_vec(path),
+            rule: step.rule,
+        })?;
+    }
+    Ok(copies)
+}
+
+/// The certificate of a plan behind these steps.
+pub fn certificate_of(
+    alloc: Global,
+    inputs: u32,
+    nodes: &[Node],
+    ranges: &Ranges,
+    plan: &Plan,
+    steps: &[Step],
+) -> Result<Certificate, Memory> {
+    let lines = lines(alloc, nodes, ranges, plan)?;
+    let steps = copied_steps(alloc, steps)?;
+    Ok(Certificate {
+        inputs,
+        states: 0,
+        steps: Items::from_vec(steps),
+        starts: Items::from_vec(Vec::new(alloc)),
+        rows: Items::from_vec(Vec::new(alloc)),
+        error_rows: Items::from_vec(Vec::new(alloc)),
+        lines: Items::from_vec(lines),
+    })
+}

@@ -1,0 +1,84 @@
+//! What a plan costs.
+//!
+//! First comes by how much a bound is above what it has to keep, then the bounds' mean. What fails costs more than any
+//! plan, and the less the further on in the list of nodes it fails.
+
+use crate::real::Real;
+use crate::span::Span;
+use fx_expr::Function;
+use fx_fraction::{Decimal, to_fraction};
+
+/// What bounds are measured by: those of another plan.
+#[derive(Clone, Copy, Debug)]
+pub struct Goal<'a> {
+    /// The bounds of the other plan, one for each output. Where there is none, 1 stands for it.
+    pub references: &'a [Real],
+    /// Whether no bound may be above the other plan's.
+    pub is_held: bool,
+}
+
+/// What is paid for a plan, or for none.
+#[derive(Clone, Copy, Debug, PartialEq, Eq)]
+pub enum Cost {
+    /// The greatest quotient of a bound by what it has to keep, but at least 1, and the mean of those by the references.
+    Planned { excess: Real, mean: Real },
+    /// There is no plan: from the node that fails on so many are left.
+    Failed { left: u32 },
+}
+
+impl Cost {
+    /// Whether it is below another.
+    pub fn is_below(self, other: Cost) -> bool {
+        match (self, other) {
+            (Cost::Planned { .. }, Cost::Failed { .. }) => true,
+            (Cost::Failed { .. }, Cost::Planned { .. }) => false,
+            (Cost::Failed { left: a }, Cost::Failed { left: b }) => a < b,
+            (Cost::Planned { excess: a, mean: x }, Cost::Planned { excess: b, mean: y }) =>
+                a.is_below(b) || (a == b && x.is_below(y)),
+        }
+    }
+}
+
+/// About a demand.
+fn demand(d: Decimal) -> Real {
+    let c = to_fraction(d);
+    Real::of(c.p, 0).over(Real::of(c.q, 0))
+}
+
+/// About the bound that an error interval gives.
+pub fn bound(error: Span) -> Real {
+    match i128::try_from(error.size()) {
+        Ok(m) => Real::of(m, error.e),
+        Err(_) => Real::INFINITE,
+    }
+}
+
+/// The bound that an output's is measured by, which is 1 where there is none.
+fn reference(goal: Goal<'_>, j: usize) -> Real {
+    let bound = goal.references.get(j).copied().unwrap_or(Real::ONE);
+    if bound.is_zero() { Real::ONE } else { bound }
+}
+
+/// What the outputs' errors cost.
+pub fn cost_of(function: &Function, goal: Goal<'_>, outputs: &[Span]) -> Cost {
+    let demands = function.demands.as_slice();
+    let mut excess = Real::ONE;
+    let mut sum = Real::ZERO;
+    let mut count = 0_i64;
+    for (j, error) in outputs.iter().enumerate() {
+        let size = bound(*error);
+        let ratio = size.over(reference(goal, j));
+        sum = sum.plus(ratio);
+        count = count.saturating_add(1);
+        if let Some(Some(d)) = demands.get(j) {
+            excess = excess.max(size.over(demand(*d)));
+        }
+        if goal.is_held {
+            excess = excess.max(ratio);
+        }
+    }
+    Cost::Planned {
+        excess,
+        mean: sum.over(Real::of(i128::from(count), 0)),
+    }
+}

@@ -1,0 +1,188 @@
+//! Affine forms: a node's value as a sum over the inputs and a rest.
+//!
+//! A form keeps what plain intervals lose, that the same input stands in both operands. Its coefficients are cut to 40
+//! bits; what is cut off goes to the rest, and where nothing was, the errors have no such share either.
+
+use crate::grid::{Grids, PLACE_LIMIT};
+use crate::rows::Rows;
+use crate::span::{Scaled, Span, bits};
+use fx_flat::Node;
+use fx_num::{floor_shift, left_fits};
+
+/// How many bits a coefficient has at most.
+const COEFFICIENT_BITS: u32 = 40;
+
+/// How many bits a centre has at most.
+const CENTRE_BITS: u32 = 30;
+
+/// What a form has beside its coefficients, whose row stands in `Rows`.
+#[derive(Clone, Copy, Debug)]
+pub struct Form {
+    /// The grid of the coefficients.
+    pub e: u32,
+    /// Where the value less the sum lies.
+    pub rest: Span,
+    /// Where a product's operands are centred.
+    pub centre_a: Scaled,
+    pub centre_b: Scaled,
+    /// Whether coefficients were cut.
+    pub is_cut: bool,
+    /// Whether the form shows the range.
+    pub shows_range: bool,
+}
+
+impl Form {
+    /// The form of a value that is a rest alone.
+    pub fn of_rest(rest: Span) -> Form {
+        Form {
+            e: 0,
+            rest,
+            centre_a: Scaled::ZERO,
+            centre_b: Scaled::ZERO,
+            is_cut: false,
+            shows_range: false,
+        }
+    }
+}
+
+/// How two rows are mixed: `s` times the first and `t` times the second, on the grid `e`.
+#[derive(Clone, Copy, Debug)]
+pub struct Mix {
+    s: i128,
+    t: i128,
+    pub e: u32,
+}
+
+impl Mix {
+    /// The coefficient that comes of two.
+    pub fn of(self, x: i128, y: i128) -> Option<i128> {
+        if x == 0 && y == 0 {
+            return Some(0);
+        }
+        self.s.checked_mul(x)?.checked_add(self.t.checked_mul(y)?)
+    }
+
+    /// One row by `s` and one by `t`, whose grids are `a` and `b`.
+    fn aligned(a: u32, s: Scaled, b: u32, t: Scaled) -> Option<Mix> {
+        let left = a.checked_add(s.e)?;
+        let right = b.checked_add(t.e)?;
+        let e = left.max(right);
+        Some(Mix {
+            s: left_fits(s.m, e.checked_sub(left)?)?,
+            t: left_fits(t.m, e.checked_sub(right)?)?,
+            e,
+        })
+    }
+}
+
+/// The operands of an operation. One operand stands for both.
+pub fn operands(node: &Node) -> Option<(usize, usize)> {
+    match node {
+        Node::Neg { a } => Some((*a as usize, *a as usize)),
+        Node::Copy { a } => Some((*a as usize, *a as usize)),
+        Node::Add { a, b } => Some((*a as usize, *b as usize)),
+        Node::Sub { a, b } => Some((*a as usize, *b as usize)),
+        Node::Mul { a, b } => Some((*a as usize, *b as usize)),
+        Node::Div { a, b } => Some((*a as usize, *b as usize)),
+        _ => None,
+    }
+}
+
+/// How an operation mixes its operands' rows, whose grids are `a` and `b`.
+pub fn mix_of(node: &Node, form: &Form, a: u32, b: u32) -> Option<Mix> {
+    let one = Scaled { m: 1, e: 0 };
+    let minus_one = Scaled { m: -1, e: 0 };
+    match node {
+        Node::Neg { .. } => Mix::aligned(a, minus_one, b, Scaled::ZERO),
+        Node::Copy { .. } => Mix::aligned(a, one, b, Scaled::ZERO),
+        Node::Add { .. } => Mix::aligned(a, one, b, one),
+        Node::Sub { .. } => Mix::aligned(a, one, b, minus_one),
+        Node::Mul { .. } => Mix::aligned(a, form.centre_b, b, form.centre_a),
+        _ => None,
+    }
+}
+
+/// A number of at most 30 bits near the middle of a range.
+pub fn centre(range: Span) -> Option<Scaled> {
+    let middle = floor_shift(range.lo.checked_add(range.hi)?, 1);
+    let places = bits(middle.unsigned_abs())
+        .saturating_sub(CENTRE_BITS)
+        .min(range.e);
+    Some(Scaled {
+        m: floor_shift(middle, places),
+        e: range.e.saturating_sub(places),
+    })
+}
+
+/// A rest and the sum of the row's coefficients by what is said of each input.
+pub fn weighted(row: &[i128], e: u32, rest: Span, inputs: &[Span]) -> Option<Span> {
+    let mut sum = rest;
+    for (m, span) in row.iter().zip(inputs) {
+        if *m != 0 {
+            sum = sum.plus(span.scaled(Scaled { m: *m, e })?)?;
+        }
+    }
+    Some(sum)
+}
+
+/// Writes the row of an operation, and gives the greatest size in it.
+fn mix_rows(rows: &mut Rows, n: usize, a: usize, b: usize, mix: Mix) -> Option<u128> {
+    let mut greatest = 0;
+    for k in 0..rows.width() {
+        let m = mix.of(rows.at(a, k)?, rows.at(b, k)?)?;
+        rows.put(n, k, m)?;
+        greatest = m.unsigned_abs().max(greatest);
+    }
+    Some(greatest)
+}
+
+/// Cuts so many places off a row's coefficients, and adds what they come to to the rest.
+fn cut_row(
+    rows: &mut Rows,
+    n: usize,
+    e: u32,
+    places: u32,
+    rest: Span,
+    inputs: &[Span],
+) -> Option<Span> {
+    let half = left_fits(1, places.checked_sub(1)?)?;
+    let mut sum = rest;
+    for k in 0..rows.width() {
+        let m = rows.at(n, k)?;
+        let kept = floor_shift(m.checked_add(half)?, places);
+        let off = m.checked_sub(left_fits(kept, places)?)?;
+        if off != 0 {
+            let span = inputs.get(k)?;
+            sum = sum.plus(span.scaled(Scaled { m: off, e })?)?;
+        }
+        rows.put(n, k, kept)?;
+    }
+    Some(sum)
+}
+
+/// Writes the row of an operation whose form has the rest, with at most 40 bits a coefficient.
+pub fn write_row(
+    rows: &mut Rows,
+    n: usize,
+    (a, b): (usize, usize),
+    mix: Mix,
+    form: Form,
+    inputs: &[Span],
+    grids: Grids,
+) -> Option<Form> {
+    let greatest = mix_rows(rows, n, a, b, mix)?;
+    let by_bits = bits(greatest).saturating_sub(COEFFICIENT_BITS).min(mix.e);
+    let places = by_bits.max(mix.e.saturating_sub(PLACE_LIMIT));
+    let is_cut = places > 0;
+    let rest = if is_cut {
+        cut_row(rows, n, mix.e, places, form.rest, inputs)?
+    } else {
+        form.rest
+    };
+    Some(Form {
+        e: mix.e.saturating_sub(places),
+        rest: grids.rounded(rest),
+        is_cut,
+        ..form
+    })
+}

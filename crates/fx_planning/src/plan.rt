@@ -1,0 +1,156 @@
+//! A plan: codes at given points, and what they err.
+
+use crate::cost::{Cost, Goal, cost_of};
+use crate::error::{Errors, find_errors};
+use crate::range::{Failed, Ranges};
+use crate::setting::{Setting, codes_of, count_uses};
+use crate::span::Span;
+use crate::tune::{try_word, tune};
+use fx_expr::Function;
+use fx_flat::Nodes;
+use fx_num::Memory;
+use fx_program::Code;
+use std::alloc::Global;
+
+/// The codes of all nodes, their errors, and what the plan costs.
+#[derive(Debug, Drop)]
+pub struct Plan {
+    /// The width of its words.
+    pub width: u32,
+    pub(crate) codes: Vec<Code>,
+    pub(crate) errors: Errors,
+    pub(crate) cost: Cost,
+}
+
+impl Plan {
+    /// What it costs.
+    pub fn cost(&self) -> Cost {
+        self.cost
+    }
+
+    /// The nodes whose words are too small, so that their points are too great. A plan without such is sound.
+    pub fn small(&self) -> &[u32] {
+        &self.errors.small
+    }
+
+    /// Its codes.
+    pub fn codes(&self) -> &[Code] {
+        &self.codes
+    }
+
+    /// Whether it is better than another: first by how many words are too small.
+    fn is_better(&self, other: &Plan) -> bool {
+        let own = self.errors.small.len();
+        let others = other.errors.small.len();
+        own < others || (own == others && self.cost.is_below(other.cost))
+    }
+}
+
+/// The errors of the outputs.
+pub fn outputs_of<'a>(setting: &Setting<'_>, errors: &'a Errors) -> &'a [Span] {
+    let function = setting.function;
+    let outputs = function.demands.len();
+    let from = errors.spans.len().saturating_sub(outputs);
+    errors.spans.get(from..).unwrap_or(&[])
+}
+
+/// The plan of these codes, whose literals' words are moved where that is wanted, and then tuned.
+fn finished(
+    alloc: Global,
+    setting: &Setting<'_>,
+    codes: &[Code],
+    is_centred: bool,
+) -> Result<Result<Plan, Failed>, Memory> {
+    let mut codes = Vec::from_slice(alloc, codes)?;
+    let errors = match find_errors(alloc, setting, &mut codes, is_centred)? {
+        Ok(errors) => errors,
+        Err(failed) => return Ok(Err(failed)),
+    };
+    let cost = cost_of(setting.function, setting.goal, outputs_of(setting, &errors));
+    let mut plan = Plan {
+        width: setting.width,
+        codes,
+        errors,
+        cost,
+    };
+    if plan.errors.small.is_empty() {
+        tune(alloc, setting, &mut plan)?;
+    }
+    Ok(Ok(plan))
+}
+
+/// The better one of the plans with nearest and with centred words.
+fn better_plan(
+    alloc: Global,
+    setting: &Setting<'_>,
+    codes: &[Code],
+) -> Result<Result<Plan, Failed>, Memory> {
+    let nearest = finished(alloc, setting, codes, false)?;
+    let Ok(centred) = finished(alloc, setting, codes, true)? else {
+        return Ok(nearest);
+    };
+    match nearest {
+        Ok(plan) => {
+            if centred.is_better(&plan) {
+                Ok(Ok(centred))
+            } else {
+                Ok(Ok(plan))
+            }
+        }
+        Err(_) => Ok(Ok(centred)),
+    }
+}
+
+/// The plan of a function at these points, one for each node, or the first node that has none.
+pub fn find_plan(
+    alloc: Global,
+    function: &Function,
+    nodes: &Nodes,
+    ranges: &Ranges,
+    points: &[i32],
+    width: u32,
+    goal: Goal<'_>,
+) -> Result<Result<Plan, Failed>, Memory> {
+    let list = nodes.list.as_slice();
+    let uses = count_uses(alloc, list)?;
+    let codes = match codes_of(alloc, list, points, width)? {
+        Ok(codes) => codes,
+        Err(failed) => return Ok(Err(failed)),
+    };
+    let setting = Setting {
+        function,
+        nodes: list,
+        ranges,
+        points,
+        uses: &uses,
+        width,
+        goal,
+    };
+    better_plan(alloc, &setting, &codes)
+}
+
+/// Moves the word of a literal of a sound plan by so many units, and keeps that where the cost falls.
+///
+/// The points and what the bounds are measured by are those that the plan was made with.
+pub fn move_word(
+    alloc: Global,
+    function: &Function,
+    nodes: &Nodes,
+    ranges: &Ranges,
+    points: &[i32],
+    goal: Goal<'_>,
+    plan: &mut Plan,
+    node: u32,
+    units: i64,
+) -> Result<bool, Memory> {
+    let setting = Setting {
+        function,
+        nodes: nodes.list.as_slice(),
+        ranges,
+        points,
+        uses: &[],
+        width: plan.width,
+        goal,
+    };
+    try_word(alloc, &setting, plan, node as usize, units)
+}

@@ -1,0 +1,324 @@
+//! The first pass: a range for each node, and a form where an operand has one.
+//!
+//! A node's range is the plain one or the form's, whichever is narrower, and later nodes use it. The pass ends at the
+//! first node whose range reaches `2^62` as a mantissa, whose divisor may be zero, or whose numbers leave 128 bits.
+
+use crate::form::{Form, centre, mix_of, operands, weighted, write_row};
+use crate::grid::Grids;
+use crate::literal::{fits_word, range_between, range_of};
+use crate::rows::Rows;
+use crate::span::{Scaled, Span, bits};
+use fx_expr::Function;
+use fx_flat::{Node, Nodes};
+use fx_num::{Memory, left_fits};
+use std::alloc::Global;
+
+/// There is no plan: this node is the first for which the pass has nothing to say.
+#[derive(Clone, Copy, Debug, PartialEq, Eq)]
+pub struct Failed {
+    pub node: u32,
+}
+
+impl Failed {
+    /// The failure of a node.
+    pub fn at(n: usize) -> Failed {
+        Failed {
+            node: u32::try_from(n).unwrap_or(u32::MAX),
+        }
+    }
+}
+
+/// What the first pass says of all nodes.
+#[derive(Debug, Drop)]
+pub struct Ranges {
+    pub(crate) grids: Grids,
+    pub(crate) spans: Vec<Span>,
+    pub(crate) forms: Vec<Option<Form>>,
+    pub(crate) rows: Rows,
+}
+
+impl Ranges {
+    fn new(
+        alloc: Global,
+        count: usize,
+        inputs: usize,
+        grids: Grids,
+    ) -> Result<Option<Ranges>, Memory> {
+        match Rows::new(alloc, count, inputs)? {
+            Some(rows) => Ok(Some(Ranges {
+                grids,
+                spans: Vec::new(alloc),
+                forms: Vec::new(alloc),
+                rows,
+            })),
+            None => Ok(None),
+        }
+    }
+
+    fn push(&mut self, span: Span, form: Option<Form>) -> Result<(), Memory> {
+        self.spans.push(span)?;
+        self.forms.push(form)?;
+        Ok(())
+    }
+
+    /// The range of a node.
+    pub(crate) fn span(&self, n: usize) -> Option<Span> {
+        self.spans.get(n).copied()
+    }
+
+    /// The form of a node, if it has one.
+    pub(crate) fn form(&self, n: usize) -> Option<Form> {
+        self.forms.get(n).copied()?
+    }
+
+    /// The form of a node, which is its range alone where it has none.
+    fn form_or_rest(&self, n: usize) -> Option<Form> {
+        match self.form(n) {
+            Some(form) => Some(form),
+            None => Some(Form::of_rest(self.span(n)?)),
+        }
+    }
+
+    /// The grid of a node's coefficients.
+    pub(crate) fn grid(&self, n: usize) -> u32 {
+        match self.form(n) {
+            Some(form) => form.e,
+            None => 0,
+        }
+    }
+
+    /// The greatest point at which the node's range fits a word of so many bits, from -64 to 62.
+    pub fn cap(&self, n: usize, width: u32) -> Option<i32> {
+        let span = self.span(n)?;
+        if span.size() == 0 {
+            return Some(62);
+        }
+        let free = i64::from(width).saturating_add(i64::from(span.e));
+        let highest = free.saturating_sub(i64::from(bits(span.size())));
+        let point = i32::try_from(highest.clamp(-64, 62)).ok()?;
+        if fits_word(span, point, width) {
+            return Some(point);
+        }
+        Some(point.saturating_sub(1).max(-64))
+    }
+
+    /// The greater end of the node's range without its sign.
+    pub fn size(&self, n: usize) -> Option<Scaled> {
+        let span = self.span(n)?;
+        let m = i128::try_from(span.size()).ok()?;
+        Some(Scaled { m, e: span.e })
+    }
+
+    /// The lesser end of the node's range without its sign, which is the least size of a divisor.
+    pub fn least_size(&self, n: usize) -> Option<Scaled> {
+        let span = self.span(n)?;
+        let m = i128::try_from(span.least_size()).ok()?;
+        Some(Scaled { m, e: span.e })
+    }
+}
+
+/// The floor and the ceiling of a quotient of mantissas by `2^shift`, outward over both ends of the divisor.
+fn outward_quotient(a: Span, b: Span, shift: i64) -> Option<(i128, i128)> {
+    let up = u32::try_from(shift.max(0)).ok()?;
+    let down = u32::try_from(shift.saturating_neg().max(0)).ok()?;
+    let lo = left_fits(a.lo, up)?;
+    let hi = left_fits(a.hi, up)?;
+    let near = left_fits(b.lo, down)?;
+    let far = left_fits(b.hi, down)?;
+    Some((
+        least_floor(lo, near, far)?,
+        least_floor(hi.checked_neg()?, near, far)?.checked_neg()?,
+    ))
+}
+
+/// The lesser floor of a number by two divisors above zero.
+fn least_floor(x: i128, near: i128, far: i128) -> Option<i128> {
+    if near <= 0 || far <= 0 {
+        return None;
+    }
+    Some(x.div_euclid(near).min(x.div_euclid(far)))
+}
+
+/// The quotient of two intervals on the grid `e`, outward, where the divisor's numbers have one sign.
+pub fn quotient(a: Span, b: Span, e: u32) -> Option<Span> {
+    let (a, b) = if b.hi < 0 {
+        (a.negative()?, b.negative()?)
+    } else {
+        (a, b)
+    };
+    let shift = i64::from(e)
+        .saturating_add(i64::from(b.e))
+        .saturating_sub(i64::from(a.e));
+    let (lo, hi) = outward_quotient(a, b, shift)?;
+    Some(Span { lo, hi, e })
+}
+
+/// The range of a quotient.
+fn quotient_range(a: Span, b: Span, grids: Grids) -> Option<Span> {
+    if !b.is_clear() {
+        return None;
+    }
+    let places = i64::from(grids.range_bits)
+        .saturating_add(i64::from(bits(b.least_size())))
+        .saturating_sub(i64::from(bits(a.size())))
+        .saturating_add(i64::from(a.e))
+        .saturating_sub(i64::from(b.e));
+    quotient(a, b, u32::try_from(places.clamp(0, 60)).ok()?)
+}
+
+/// The plain range of an operation.
+fn plain_range(ranges: &Ranges, node: &Node) -> Option<Span> {
+    let (a, b) = operands(node)?;
+    let a = ranges.span(a)?;
+    let b = ranges.span(b)?;
+    let range = match node {
+        Node::Neg { .. } => a.negative()?,
+        Node::Add { .. } => a.plus(b)?,
+        Node::Sub { .. } => a.minus(b)?,
+        Node::Mul { .. } => a.times(b)?,
+        Node::Div { .. } => quotient_range(a, b, ranges.grids)?,
+        _ => a,
+    };
+    Some(ranges.grids.rounded(range))
+}
+
+/// The rest of a product's form, with the operands' centres.
+fn product_form(ranges: &Ranges, a: usize, b: usize) -> Option<Form> {
+    let x = ranges.span(a)?;
+    let y = ranges.span(b)?;
+    let centre_a = centre(x)?;
+    let centre_b = centre(y)?;
+    let left = ranges.form_or_rest(a)?.rest.scaled(centre_b)?;
+    let right = ranges.form_or_rest(b)?.rest.scaled(centre_a)?;
+    let both = Span::single(centre_a).scaled(centre_b)?;
+    let off_a = x.minus(Span::single(centre_a))?;
+    let off_b = y.minus(Span::single(centre_b))?;
+    Some(Form {
+        centre_a,
+        centre_b,
+        ..Form::of_rest(left.plus(right)?.minus(both)?.plus(off_a.times(off_b)?)?)
+    })
+}
+
+/// What an operation's form is, before its row is written.
+fn unwritten_form(ranges: &Ranges, node: &Node, a: usize, b: usize) -> Option<Form> {
+    if let Node::Mul { .. } = node {
+        return product_form(ranges, a, b);
+    }
+    let x = ranges.form_or_rest(a)?.rest;
+    let y = ranges.form_or_rest(b)?.rest;
+    let rest = match node {
+        Node::Neg { .. } => x.negative()?,
+        Node::Add { .. } => x.plus(y)?,
+        Node::Sub { .. } => x.minus(y)?,
+        _ => x,
+    };
+    Some(Form::of_rest(rest))
+}
+
+/// Writes the form of an operation.
+fn write_form(ranges: &mut Ranges, n: usize, node: &Node, a: usize, b: usize) -> Option<Form> {
+    let form = unwritten_form(ranges, node, a, b)?;
+    let mix = mix_of(node, &form, ranges.grid(a), ranges.grid(b))?;
+    write_row(
+        &mut ranges.rows,
+        n,
+        (a, b),
+        mix,
+        form,
+        &ranges.spans,
+        ranges.grids,
+    )
+}
+
+/// The form of an operation whose row is written, and the range that it shows.
+fn written_form(
+    ranges: &mut Ranges,
+    n: usize,
+    node: &Node,
+    a: usize,
+    b: usize,
+) -> Option<(Form, Span)> {
+    let form = write_form(ranges, n, node, a, b)?;
+    let sum = weighted(ranges.rows.row(n), form.e, form.rest, &ranges.spans)?;
+    Some((form, ranges.grids.rounded(sum)))
+}
+
+/// The range of an operation, with its form where an operand has one.
+fn operation_range(ranges: &mut Ranges, n: usize, node: &Node) -> Option<(Span, Option<Form>)> {
+    let plain = plain_range(ranges, node)?;
+    let (a, b) = operands(node)?;
+    if ranges.form(a).is_none() && ranges.form(b).is_none() {
+        return Some((plain, None));
+    }
+    if let Node::Div { .. } = node {
+        return Some((plain, None));
+    }
+    let Some((form, by_form)) = written_form(ranges, n, node, a, b) else {
+        // a form is of use and never needed: where its numbers leave 128 bits, the node has none
+        ranges.rows.clear(n);
+        return Some((plain, None));
+    };
+    let shows_range = by_form.is_narrower(plain)?;
+    let range = if shows_range { by_form } else { plain };
+    Some((
+        range,
+        Some(Form {
+            shows_range,
+            ..form
+        }),
+    ))
+}
+
+/// The range of an input, whose form is itself.
+fn input_range(
+    function: &Function,
+    ranges: &mut Ranges,
+    n: usize,
+    k: usize,
+) -> Option<(Span, Option<Form>)> {
+    let input = function.inputs.as_slice().get(k)?;
+    let range = range_of(input.lo, input.hi, ranges.grids)?;
+    ranges.rows.put(n, k, 1)?;
+    Some((range, Some(Form::of_rest(Span::ZERO))))
+}
+
+/// The range of a node behind those that have one.
+fn node_range(
+    function: &Function,
+    ranges: &mut Ranges,
+    n: usize,
+    node: &Node,
+) -> Option<(Span, Option<Form>)> {
+    let found = match node {
+        Node::Input { k } => input_range(function, ranges, n, *k as usize)?,
+        Node::State { .. } => return None,
+        Node::Const { c } => (range_between(*c, *c, ranges.grids)?, None),
+        _ => operation_range(ranges, n, node)?,
+    };
+    if bits(found.0.size()) > 62 {
+        return None;
+    }
+    Some(found)
+}
+
+/// The ranges of all nodes of a function without states, or the first node that has none.
+pub fn find_ranges(
+    alloc: Global,
+    function: &Function,
+    nodes: &Nodes,
+    grids: Grids,
+) -> Result<Result<Ranges, Failed>, Memory> {
+    let list = nodes.list.as_slice();
+    let inputs = function.inputs.len();
+    let Some(mut ranges) = Ranges::new(alloc, list.len(), inputs, grids)? else {
+        return Ok(Err(Failed::at(0)));
+    };
+    for n in 0..list.len() {
+        match node_range(function, &mut ranges, n, &list[n]) {
+            Some((span, form)) => ranges.push(span, form)?,
+            None => return Ok(Err(Failed::at(n))),
+        }
+    }
+    Ok(Ok(ranges))
+}

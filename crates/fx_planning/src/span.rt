@@ -1,0 +1,157 @@
+//! Intervals of this crate: two mantissas over one exponent.
+//!
+//! A certificate's intervals have a dyadic for each end. Here both ends share a grid, so that a sum aligns once and a
+//! comparison of widths is one of mantissas. Nothing rounds but `outward`, and a mantissa that leaves 128 bits gives None.
+
+use fx_num::{ceil_shift, floor_shift, left_fits};
+
+/// `m / 2^e`, as it was formed.
+#[derive(Clone, Copy, Debug, PartialEq, Eq)]
+pub struct Scaled {
+    /// The mantissa.
+    pub m: i128,
+    /// The exponent: how many binary places.
+    pub e: u32,
+}
+
+/// The numbers from `lo / 2^e` to `hi / 2^e`.
+#[derive(Clone, Copy, Debug, PartialEq, Eq)]
+pub struct Span {
+    pub lo: i128,
+    pub hi: i128,
+    pub e: u32,
+}
+
+/// How many bits a size has.
+pub fn bits(size: u128) -> u32 {
+    128_u32.saturating_sub(size.leading_zeros())
+}
+
+impl Scaled {
+    /// Zero.
+    pub const ZERO: Scaled = Scaled { m: 0, e: 0 };
+
+    /// The number with the other sign.
+    pub fn negative(self) -> Option<Scaled> {
+        let m = self.m.checked_neg()?;
+        Some(Scaled { m, e: self.e })
+    }
+}
+
+impl Span {
+    /// Zero alone.
+    pub const ZERO: Span = Span { lo: 0, hi: 0, e: 0 };
+
+    /// One number alone.
+    pub fn single(d: Scaled) -> Span {
+        Span {
+            lo: d.m,
+            hi: d.m,
+            e: d.e,
+        }
+    }
+
+    /// The same on a grid that isn't coarser.
+    fn raised(self, e: u32) -> Option<Span> {
+        let places = e.checked_sub(self.e)?;
+        let lo = left_fits(self.lo, places)?;
+        let hi = left_fits(self.hi, places)?;
+        Some(Span { lo, hi, e })
+    }
+
+    /// The sum.
+    pub fn plus(self, other: Span) -> Option<Span> {
+        let e = self.e.max(other.e);
+        let a = self.raised(e)?;
+        let b = other.raised(e)?;
+        let lo = a.lo.checked_add(b.lo)?;
+        let hi = a.hi.checked_add(b.hi)?;
+        Some(Span { lo, hi, e })
+    }
+
+    /// The numbers with the other sign.
+    pub fn negative(self) -> Option<Span> {
+        let lo = self.hi.checked_neg()?;
+        let hi = self.lo.checked_neg()?;
+        Some(Span { lo, hi, e: self.e })
+    }
+
+    /// The difference.
+    pub fn minus(self, other: Span) -> Option<Span> {
+        self.plus(other.negative()?)
+    }
+
+    /// The product.
+    pub fn times(self, other: Span) -> Option<Span> {
+        let ll = self.lo.checked_mul(other.lo)?;
+        let lh = self.lo.checked_mul(other.hi)?;
+        let hl = self.hi.checked_mul(other.lo)?;
+        let hh = self.hi.checked_mul(other.hi)?;
+        Some(Span {
+            lo: ll.min(lh).min(hl.min(hh)),
+            hi: ll.max(lh).max(hl.max(hh)),
+            e: self.e.checked_add(other.e)?,
+        })
+    }
+
+    /// The product with one number.
+    pub fn scaled(self, d: Scaled) -> Option<Span> {
+        let a = self.lo.checked_mul(d.m)?;
+        let b = self.hi.checked_mul(d.m)?;
+        let e = self.e.checked_add(d.e)?;
+        Some(Span {
+            lo: a.min(b),
+            hi: a.max(b),
+            e,
+        })
+    }
+
+    /// The narrowest interval round this one on the grid `e`, or the same where its own grid is coarser.
+    pub fn outward(self, e: u32) -> Span {
+        if self.e <= e {
+            return self;
+        }
+        let places = self.e - e;
+        Span {
+            lo: floor_shift(self.lo, places),
+            hi: ceil_shift(self.hi, places),
+            e,
+        }
+    }
+
+    /// The greater end without its sign, as a mantissa.
+    pub fn size(self) -> u128 {
+        self.lo.unsigned_abs().max(self.hi.unsigned_abs())
+    }
+
+    /// The lesser end without its sign, as a mantissa.
+    pub fn least_size(self) -> u128 {
+        self.lo.unsigned_abs().min(self.hi.unsigned_abs())
+    }
+
+    /// How wide it is, as a mantissa.
+    fn width(self) -> Option<i128> {
+        self.hi.checked_sub(self.lo)
+    }
+
+    /// Whether it is narrower than another.
+    pub fn is_narrower(self, other: Span) -> Option<bool> {
+        let e = self.e.max(other.e);
+        let a = left_fits(self.width()?, e.checked_sub(self.e)?)?;
+        let b = left_fits(other.width()?, e.checked_sub(other.e)?)?;
+        Some(a < b)
+    }
+
+    /// Whether its size is below that of another.
+    pub fn is_smaller(self, other: Span) -> Option<bool> {
+        let e = self.e.max(other.e);
+        let a = left_fits(i128::try_from(self.size()).ok()?, e.checked_sub(self.e)?)?;
+        let b = left_fits(i128::try_from(other.size()).ok()?, e.checked_sub(other.e)?)?;
+        Some(a < b)
+    }
+
+    /// Whether zero is none of its numbers.
+    pub fn is_clear(self) -> bool {
+        self.lo > 0 || self.hi < 0
+    }
+}

@@ -1,0 +1,201 @@
+//! Tuning: one literal's word is moved so that an output's error has its middle at zero.
+//!
+//! Which literal, and by how many units, is estimated by the output's slopes. The estimate is tried by the second pass,
+//! and kept where the cost falls.
+
+use crate::adjoint::{Slope, slopes_of};
+use crate::cost::cost_of;
+use crate::error::find_errors;
+use crate::plan::{Plan, outputs_of};
+use crate::real::Real;
+use crate::setting::{Setting, word_at};
+use crate::span::Span;
+use fx_num::Memory;
+use fx_program::Code;
+use std::alloc::Global;
+
+/// The most units that a word is moved by.
+const MOVE_LIMIT: i64 = 1 << 20;
+
+/// How often each output is looked at.
+const ROUNDS: usize = 2;
+
+/// A word moved, and about what the output's bound comes to.
+#[derive(Clone, Copy, Debug)]
+struct Move {
+    node: usize,
+    units: i64,
+    bound: Real,
+}
+
+/// The ends of an output's error.
+#[derive(Clone, Copy, Debug)]
+struct Ends {
+    lo: Real,
+    hi: Real,
+}
+
+impl Ends {
+    fn of(error: Span) -> Ends {
+        Ends {
+            lo: Real::of(error.lo, error.e),
+            hi: Real::of(error.hi, error.e),
+        }
+    }
+
+    /// The bound that they give.
+    fn bound(self) -> Real {
+        self.lo.negative().max(self.hi)
+    }
+
+    /// About the bound where a literal with this slope by unit is moved by so many units.
+    fn bound_after(self, slope: Slope, units: i64) -> Real {
+        let by = Real::of(i128::from(units), 0);
+        let x = slope.lo.times(by);
+        let y = slope.hi.times(by);
+        let below = self.lo.plus(x.min(y)).negative();
+        below.max(self.hi.plus(x.max(y)))
+    }
+}
+
+/// The lesser of two moves, and the first of equals.
+fn lesser(best: Option<Move>, other: Move) -> Option<Move> {
+    match best {
+        Some(first) => if other.bound.is_below(first.bound) {
+            Some(other)
+        } else {
+            Some(first)
+        },
+        None => Some(other),
+    }
+}
+
+/// The better of the best move so far and those of one literal whose point is `f`, where one is below the limit.
+fn better(
+    best: Option<Move>,
+    node: usize,
+    slope: Slope,
+    f: i32,
+    ends: Ends,
+    limit: Real,
+) -> Option<Move> {
+    let unit = Real::power(f.saturating_neg());
+    let slope = Slope {
+        lo: slope.lo.times(unit),
+        hi: slope.hi.times(unit),
+    };
+    let twice = slope.lo.plus(slope.hi);
+    if twice.is_zero() {
+        return best;
+    }
+    let Some(units) = ends.lo.plus(ends.hi).negative().over(twice).floor() else {
+        return best;
+    };
+    let mut found = best;
+    for t in units..units.saturating_add(2) {
+        let bound = ends.bound_after(slope, t);
+        if t != 0 && t.unsigned_abs() <= MOVE_LIMIT.unsigned_abs() && bound.is_below(limit) {
+            found = lesser(
+                found,
+                Move {
+                    node,
+                    units: t,
+                    bound,
+                },
+            );
+        }
+    }
+    found
+}
+
+/// The move that seems best for an output.
+fn best_move(codes: &[Code], slopes: &[Slope], ends: Ends) -> Option<Move> {
+    let now = ends.bound();
+    let limit = now.minus(now.times(Real::power(-13)));
+    let mut best = None;
+    for (n, (code, slope)) in codes.iter().zip(slopes).enumerate() {
+        if let Code::Const { f, .. } = code {
+            best = better(best, n, *slope, *f, ends, limit);
+        }
+    }
+    best
+}
+
+/// The codes with one literal's word moved, if it stays a word.
+fn moved_codes(
+    alloc: Global,
+    codes: &[Code],
+    n: usize,
+    units: i64,
+    width: u32,
+) -> Result<Option<Vec<Code>>, Memory> {
+    let Some(Code::Const { w, f }) = codes.get(n).copied() else {
+        return Ok(None);
+    };
+    let Some(w) = word_at(i128::from(w).saturating_add(i128::from(units)), width) else {
+        return Ok(None);
+    };
+    let mut moved = Vec::from_slice(alloc, codes)?;
+    if let Some(slot) = moved.get_mut(n) {
+        *slot = Code::Const { w, f };
+    }
+    Ok(Some(moved))
+}
+
+/// Moves the word of literal `n`, and keeps that where no word is too small and the cost falls.
+pub fn try_word(
+    alloc: Global,
+    setting: &Setting<'_>,
+    plan: &mut Plan,
+    n: usize,
+    units: i64,
+) -> Result<bool, Memory> {
+    let Some(mut codes) = moved_codes(alloc, &plan.codes, n, units, setting.width)? else {
+        return Ok(false);
+    };
+    let Ok(errors) = find_errors(alloc, setting, &mut codes, false)? else {
+        return Ok(false);
+    };
+    let cost = cost_of(setting.function, setting.goal, outputs_of(setting, &errors));
+    if !errors.small.is_empty() || !cost.is_below(plan.cost) {
+        return Ok(false);
+    }
+    plan.codes = codes;
+    plan.errors = errors;
+    plan.cost = cost;
+    Ok(true)
+}
+
+/// Tunes a plan for one output, and answers whether there was a move to try.
+fn tune_output(
+    alloc: Global,
+    setting: &Setting<'_>,
+    plan: &mut Plan,
+    output: usize,
+) -> Result<bool, Memory> {
+    let Some(error) = plan.errors.span(output) else {
+        return Ok(false);
+    };
+    let slopes = slopes_of(alloc, setting.nodes, setting.ranges, output)?;
+    let Some(best) = best_move(&plan.codes, &slopes, Ends::of(error)) else {
+        return Ok(false);
+    };
+    try_word(alloc, setting, plan, best.node, best.units)?;
+    Ok(true)
+}
+
+/// Tunes a plan for each output, a few rounds.
+pub fn tune(alloc: Global, setting: &Setting<'_>, plan: &mut Plan) -> Result<(), Memory> {
+    let count = setting.nodes.len();
+    let function = setting.function;
+    let outputs = function.demands.len();
+    for turn in 0..outputs.saturating_mul(ROUNDS) {
+        let behind = outputs.saturating_sub(turn.checked_rem(outputs).unwrap_or(0));
+        let output = count.saturating_sub(behind);
+        let has_moved = tune_output(alloc, setting, plan, output)?;
+        if !has_moved && outputs == 1 {
+            return Ok(());
+        }
+    }
+    Ok(())
+}
