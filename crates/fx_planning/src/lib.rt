@@ -53,6 +53,3 @@ pub use range::{Failed, Ranges, find_ranges};
 pub use real::Real;
 pub use span::Scaled;
 pub use writing::write;
-
-#[cfg(test)]
-mod tests;
