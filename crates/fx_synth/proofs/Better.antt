@@ -12,7 +12,7 @@ use Rattle.fx_analysis.specs.PlainAttempt.{Attempt}
 use Rattle.fx_checker.specs.CertifiedView.{Accepted}
 use Rattle.fx_analysis.specs.Attempts.{IsAcceptedAfter, tried_steps}
 use Rattle.fx_synth.specs.Synthesis.{attempted, AreSmaller, AreNoGreater, IsSynthesised, IsUnfound}
-use Rattle.fx_synth.specs.Turns.{IsMade, IsOutcome, IsTaken, Resists, Suits, SuitsIfAny, Stands}
+use Rattle.fx_synth.specs.Turns.{IsAnswerAfter, IsOutcome, IsTaken, Resists, Suits, SuitsIfAny, IsBestAfter}
 
 -- ---- bounds
 no_greater : (fn : Function) (a b : Attempt) → AreSmaller fn a b → AreNoGreater fn a b
@@ -58,7 +58,7 @@ module _ (n : ℕ) (fn : Function) (some : 1 ≤ length fn.demands) where
       (subst (λ x. AreSmaller fn x (attempted a)) (sym (one_attempt n fn steps (attempted c) t out.accepted acc)) beats)))
 
   -- a candidate with smaller bounds suits where the answer did
-  smaller_suits : (steps : List Rewriting) (a c : Accepted) → Suits n fn a → IsMade n fn steps c → AreSmaller fn (attempted c) (attempted a) → Suits n fn c
+  smaller_suits : (steps : List Rewriting) (a c : Accepted) → Suits n fn a → IsAnswerAfter n fn steps c → AreSmaller fn (attempted c) (attempted a) → Suits n fn c
   smaller_suits steps a c suits out smaller = record {
     function_is = out.function_is;
     named = out.named;
@@ -68,7 +68,7 @@ module _ (n : ℕ) (fn : Function) (some : 1 ≤ length fn.demands) where
   }
 
   -- the first candidate suits outside the class, where it is the plain attempt or that isn't accepted
-  first_suits : (steps : List Rewriting) (c : Accepted) → outside_of n fn ≢ None → IsMade n fn steps c →
+  first_suits : (steps : List Rewriting) (c : Accepted) → outside_of n fn ≢ None → IsAnswerAfter n fn steps c →
       ((t : Attempt) → IsAcceptedAfter n fn [] t → AreNoGreater fn (attempted c) t) → Suits n fn c
   first_suits steps c outside out plain = record {
     function_is = out.function_is;
@@ -124,10 +124,10 @@ all_done n done whole e l = ap (take n) (e ∙ append-nil done) ∙ take_all n d
 
 -- ---- what stands
 module _ (n : ℕ) (fn : Function) (some : 1 ≤ length fn.demands) where
-  pub stands_first : (o c r : Option Accepted) → SuitsIfAny n fn o → IsOutcome n fn [] c → IsTaken o c r → Stands n fn [] r
+  pub stands_first : (o c r : Option Accepted) → SuitsIfAny n fn o → IsOutcome n fn [] c → IsTaken o c r → IsBestAfter n fn [] r
   stands_first o c r suits out is = record { suits = plain_suits n fn some o c r suits out is; plain = resists_own n fn some [] o c r suits out is; each = All-nil _ }
 
-  pub stands_next : (done : List Rewriting) (s : Rewriting) (o c r : Option Accepted) → Stands n fn done o → IsOutcome n fn (s ∷ []) c → IsTaken o c r → Stands n fn (done ++ s ∷ []) r
+  pub stands_next : (done : List Rewriting) (s : Rewriting) (o c r : Option Accepted) → IsBestAfter n fn done o → IsOutcome n fn (s ∷ []) c → IsTaken o c r → IsBestAfter n fn (done ++ s ∷ []) r
   stands_next done s o c r h out is = record {
     suits = step_suits n fn some (s ∷ []) o c r h.suits h.plain out is;
     plain = resists n fn some [] (s ∷ []) o c r h.suits out is h.plain;
@@ -139,7 +139,7 @@ module _ (n : ℕ) (fn : Function) (some : 1 ≤ length fn.demands) where
       kept (x ∷ xs) a = All-cons (λ y. Resists n fn r (y ∷ [])) x xs (resists n fn some (x ∷ []) (s ∷ []) o c r h.suits out is (All-head (λ y. Resists n fn o (y ∷ [])) x xs a)) (kept xs (All-tail (λ y. Resists n fn o (y ∷ [])) x xs a))
 
 -- without attempts that may be accepted any answer stands
-pub stands_stateful : (n : ℕ) (fn : Function) (steps : List Rewriting) (o : Option Accepted) → (fn.states ≡ [] → ⊥) → SuitsIfAny n fn o → Stands n fn steps o
+pub stands_stateful : (n : ℕ) (fn : Function) (steps : List Rewriting) (o : Option Accepted) → (fn.states ≡ [] → ⊥) → SuitsIfAny n fn o → IsBestAfter n fn steps o
 stands_stateful n fn steps o state suits = record { suits = suits; plain = never o []; each = all steps }
   where
     never : (o : Option Accepted) (steps : List Rewriting) → Resists n fn o steps
@@ -158,12 +158,12 @@ next_below P j h p k l = ⊎_elim (λ (e : k ≡ j). subst P (sym e) p) (λ (m :
     either k j l = grind arith
 
 -- ---- of all attempts that are made
-each_tried : (n : ℕ) (fn : Function) (tries : ℕ) (o : Option Accepted) → Stands n fn (take tries (single_steps fn)) o → (steps : List Rewriting) → Contains (tried_steps tries fn) steps → Resists n fn o steps
+each_tried : (n : ℕ) (fn : Function) (tries : ℕ) (o : Option Accepted) → IsBestAfter n fn (take tries (single_steps fn)) o → (steps : List Rewriting) → Contains (tried_steps tries fn) steps → Resists n fn o steps
 each_tried n fn tries o h steps c =
     let all = All-map (Resists n fn o) (λ (s : Rewriting). s ∷ []) (take tries (single_steps fn)) h.each in
     All-contains (Resists n fn o) (tried_steps tries fn) steps (All-cons (Resists n fn o) [] (map (λ (s : Rewriting). s ∷ []) (take tries (single_steps fn))) h.plain all) c
 
-pub found : (n tries : ℕ) (fn : Function) (a : Accepted) → Stands n fn (take tries (single_steps fn)) (Some a) → IsSynthesised n tries fn a
+pub found : (n tries : ℕ) (fn : Function) (a : Accepted) → IsBestAfter n fn (take tries (single_steps fn)) (Some a) → IsSynthesised n tries fn a
 found n tries fn a h = record {
   function_is = h.suits.function_is;
   named = h.suits.named;
@@ -173,5 +173,5 @@ found n tries fn a h = record {
   unbeaten = λ steps c t acc. each_tried n fn tries (Some a) h steps c t acc;
 }
 
-pub not_found : (n tries : ℕ) (fn : Function) (reason : Outside) → Stands n fn (take tries (single_steps fn)) None → outside_of n fn ≡ Some reason → IsUnfound n tries fn reason
+pub not_found : (n tries : ℕ) (fn : Function) (reason : Outside) → IsBestAfter n fn (take tries (single_steps fn)) None → outside_of n fn ≡ Some reason → IsUnfound n tries fn reason
 not_found n tries fn reason h outside = record { outside = outside; none_accepted = λ steps c t acc. each_tried n fn tries None h steps c t acc }

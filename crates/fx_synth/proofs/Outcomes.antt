@@ -19,7 +19,7 @@ use Rattle.fx_analysis.specs.PlainErrors.{plain_errors}
 use Rattle.fx_analysis.specs.PlainAttempt.{Attempt, attempt_of, with_errors, with_points, with_ranges, plain_attempt}
 use Rattle.fx_checker.specs.CertifiedView.{Accepted}
 use Rattle.fx_analysis.specs.Attempts.{with_steps, attempt_after}
-use Rattle.fx_synth.specs.Turns.{AreJudged, IsMade, IsOutcome}
+use Rattle.fx_synth.specs.Turns.{AreJudged, IsAnswerAfter, IsOutcome}
 
 -- what each plain attempt of a function has
 pub record IsPlainOf (n : ℕ) (fn : Function) (a : Attempt) : Type 0 where
@@ -57,7 +57,7 @@ judged_outcome n fn steps (Some t) None stateless there own h = λ s acc.
     let same : s ≡ t = some_same (sym acc.there ∙ there) in h (subst (λ x. IsAccepted rewrite fn x.program x.certificate) same acc.accepted)
 judged_outcome n fn steps (Some t) (Some a) stateless there own h =
     let is = own t refl in
-    subst (IsMade n fn steps) (sym h.1) (record { function_is = refl; named = is.0; width_is = is.1; accepted = record { stateless = stateless; there = there; accepted = h.0 } })
+    subst (IsAnswerAfter n fn steps) (sym h.1) (record { function_is = refl; named = is.0; width_is = is.1; accepted = record { stateless = stateless; there = there; accepted = h.0 } })
 
 -- of the plain attempt itself
 pub plain_own : (n : ℕ) (fn : Function) (a : Option Attempt) → plain_attempt n fn ≡ a → (t : Attempt) → a ≡ Some t → (t.program.name ≡ fn.name) × (t.program.width ≡ n)

@@ -22,7 +22,7 @@ AreJudged fn None o = o ≡ None
 AreJudged fn (Some t) o = IsJudged fn t o
 
 -- the attempt after these steps, of fn's name and at width n
-pub record IsMade (n : ℕ) (fn : Function) (steps : List Rewriting) (a : Accepted) : Type 0 where
+pub record IsAnswerAfter (n : ℕ) (fn : Function) (steps : List Rewriting) (a : Accepted) : Type 0 where
   pub function_is : a.function ≡ fn
   pub named : a.program.name ≡ fn.name
   pub width_is : a.program.width ≡ n
@@ -31,12 +31,12 @@ pub record IsMade (n : ℕ) (fn : Function) (steps : List Rewriting) (a : Accept
 -- what came of the attempt after these steps
 abbrev pub IsOutcome : ℕ → Function → List Rewriting → Option Accepted → Type 0
 IsOutcome n fn steps None = (t : Attempt) → ¬ IsAcceptedAfter n fn steps t
-IsOutcome n fn steps (Some a) = IsMade n fn steps a
+IsOutcome n fn steps (Some a) = IsAnswerAfter n fn steps a
 
 -- two that may be compared are for one function
-abbrev pub AreAlike : Option Accepted → Option Accepted → Type 0
-AreAlike (Some a) (Some b) = a.function ≡ b.function
-AreAlike _ _ = ⊤
+abbrev pub AreForOne : Option Accepted → Option Accepted → Type 0
+AreForOne (Some a) (Some b) = a.function ≡ b.function
+AreForOne _ _ = ⊤
 
 -- the answer once a candidate is looked at: it is taken where there was no answer, and where its bounds are all smaller
 abbrev pub IsTaken : Option Accepted → Option Accepted → Option Accepted → Type 0
@@ -64,7 +64,7 @@ SuitsIfAny n fn None = outside_of n fn ≢ None
 SuitsIfAny n fn (Some a) = Suits n fn a
 
 -- the answer after the plain attempt and those of these single steps
-pub record Stands (n : ℕ) (fn : Function) (steps : List Rewriting) (answer : Option Accepted) : Type 0 where
+pub record IsBestAfter (n : ℕ) (fn : Function) (steps : List Rewriting) (answer : Option Accepted) : Type 0 where
   pub suits : SuitsIfAny n fn answer
   pub plain : Resists n fn answer []
   pub each : All (λ s. Resists n fn answer (s ∷ [])) steps

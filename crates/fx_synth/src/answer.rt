@@ -1,7 +1,7 @@
 //! One certified program against another, by their bounds.
 ghost use Rattle.std.specs.Prelude.{◌≡◌, ◌↔◌, length, IsTrue};
 ghost use Rattle.fx_synth.specs.Synthesis.{attempted, AreSmaller};
-ghost use Rattle.fx_synth.specs.Turns.{AreAlike, IsTaken};
+ghost use Rattle.fx_synth.specs.Turns.{AreForOne, IsTaken};
 
 use fx_checker::Certified;
 use fx_num::dle;
@@ -31,7 +31,7 @@ fn are_smaller(a: &Certified, b: &Certified) -> bool
 
 /// The candidate, where there is one and no answer yet, or one of which each bound is smaller; else the answer.
 pub fn taken(answer: Option<Certified>, candidate: Option<Certified>) -> Option<Certified>
-    requires { AreAlike answer candidate }
+    requires { AreForOne answer candidate }
     ensures { IsTaken answer candidate result }
 {
     let Some(answer) = answer else {

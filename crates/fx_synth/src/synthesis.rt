@@ -7,7 +7,7 @@ ghost use Rattle.fx_weight.specs.OutsideView.{outside_view};
 ghost use Rattle.fx_weight.specs.PlainClass.{outside_of};
 ghost use Rattle.fx_synth.specs.Bounds.{AreWithinWeights};
 ghost use Rattle.fx_synth.specs.Synthesis.{Explains, IsSynthesised};
-ghost use Rattle.fx_synth.specs.Turns.{Stands, SuitsIfAny};
+ghost use Rattle.fx_synth.specs.Turns.{IsBestAfter, SuitsIfAny};
 
 use crate::answer::taken;
 use crate::attempt::{plain_answer, step_answer};
@@ -72,7 +72,7 @@ fn attempts(
     requires stateless { function.now.states ≡ [] }
     requires width { Contains widths width }
     requires suits { SuitsIfAny width function.now first }
-    ensures { IfOk result (Stands width function.now (take tries (single_steps function.now))) }
+    ensures { IfOk result (IsBestAfter width function.now (take tries (single_steps function.now))) }
 {
     function.keeps();
     let plain = plain_answer(alloc, function, width)?;
@@ -98,7 +98,7 @@ fn best_answer(
 ) -> Result<Option<Certified>, Memory>
     requires width { Contains widths width }
     requires suits { SuitsIfAny width function.now first }
-    ensures { IfOk result (Stands width function.now (take tries (single_steps function.now))) }
+    ensures { IfOk result (IsBestAfter width function.now (take tries (single_steps function.now))) }
 {
     if function.states.len() > 0 {
         return Ok(first);

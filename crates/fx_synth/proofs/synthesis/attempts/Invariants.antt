@@ -2,9 +2,9 @@ use Rattle.std.proofs.Common.{◌≡◌, ◌++◌, List, length}
 use Rattle.fx_inequalities.specs.Rewriting.{Rewriting}
 use Rattle.fx_rewrite.specs.Left.{left}
 use Rattle.fx_rules.specs.SingleSteps.{single_steps}
-use Rattle.fx_synth.specs.Turns.{Stands}
+use Rattle.fx_synth.specs.Turns.{IsBestAfter}
 use Rattle.fx_synth.proofs.synthesis.attempts.Given as goal
 
 -- so many steps were looked at, the others are left, and the answer stands after those
 abbrev pub invariant-loop-turn : goal.invariant-loop-turn
-invariant-loop-turn l = (done : List Rewriting) × (single_steps l.fn.function ≡ done ++ left l.steps) × (length done ≡ l._turn) × Stands l.fn.width l.fn.function done l.answer
+invariant-loop-turn l = (done : List Rewriting) × (single_steps l.fn.function ≡ done ++ left l.steps) × (length done ≡ l._turn) × IsBestAfter l.fn.width l.fn.function done l.answer

@@ -2,17 +2,17 @@ use Rattle.std.proofs.Common.{◌∙◌, sym, ap, subst, take}
 use Rattle.std.specs.Option.{option_map}
 use Rattle.fx_rules.specs.SingleSteps.{single_steps}
 use Rattle.fx_weight.specs.OutsideView.{outside_view}
-use Rattle.fx_synth.specs.Turns.{Stands}
+use Rattle.fx_synth.specs.Turns.{IsBestAfter}
 use Rattle.fx_synth.proofs.Better.{found, not_found}
 use Rattle.fx_synth.proofs.synthesis.synthesise.Goals as goal
 
 pub returns-in-Some-clause-found : goal.returns-in-Some-clause-found
 returns-in-Some-clause-found c =
     let n = c.args.width in let fn = c.args.function.now in
-    found n c.args.tries fn c.in-Some.certified (subst (Stands n fn (take c.args.tries (single_steps fn))) c.in-Some.is c.in_ok-certified.ensures)
+    found n c.args.tries fn c.in-Some.certified (subst (IsBestAfter n fn (take c.args.tries (single_steps fn))) c.in-Some.is c.in_ok-certified.ensures)
 
 pub returns-in-Some-outside-clause-not_found : goal.returns-in-Some-outside-clause-not_found
 returns-in-Some-outside-clause-not_found c =
     let n = c.args.width in let fn = c.args.function.now in
-    not_found n c.args.tries fn (outside_view c.in-Some-outside.outside) (subst (Stands n fn (take c.args.tries (single_steps fn))) c.in-None.is c.in_ok-certified.ensures)
+    not_found n c.args.tries fn (outside_view c.in-Some-outside.outside) (subst (IsBestAfter n fn (take c.args.tries (single_steps fn))) c.in-None.is c.in_ok-certified.ensures)
     (sym c.in_ok-outside.ensures.outside ∙ ap (option_map outside_view) c.in-Some-outside.is)
