@@ -315,9 +315,9 @@ fn takes_little_ahead(rt: HostRuntime) -> Result<(), Fail> {
     Ok(())
 }
 
-// a source and a width, how a synthesis ends, what `check` then says of its bundle, and the line on the notes
+// a source and a width, how a synthesis without a search ends, what `check` then says of its bundle, and the line on the notes
 #[rattlefmt::skip]
-static SOURCES: [(&str, &str, u8, &str, &str); 22] = [
+static SOURCES: [(&str, &str, u8, &str, &str); 21] = [
     ("def f(x: Real): Real = {\n  require(0 <= x && x <= 1)\n  x + 0.5\n}\n", "16", 0, "accepted\nout1 5/2^14\n", ""),
     ("def f(x: Real): Real = { require(0 <= x && x <= 1) x + 0.5 }", "8", 0, "accepted\nout1 5/2^6\n", ""),
     ("def f(x: Real): Real = { require(0 <= x && x <= 1) x + 0.5 }", "64", 0, "accepted\nout1 5/2^62\n", ""),
@@ -326,7 +326,6 @@ static SOURCES: [(&str, &str, u8, &str, &str); 22] = [
     ("def f(x: Real): Real = { require(0 <= x && x <= 1) x + 0.5 } ensuring(res => res +/- 0.000305175)", "16", 9, "", "fixd: not found: output 1\n"),
     ("def f(x: Real, y: Real): Real = { require(-1 <= x && x <= 1 && -1 <= y && y <= 1) x / y }", "16", 9, "", "fixd: not found: node 2\n"),
     ("def f(x: Real, y: Real): Real = { require(1 <= x && x <= 2 && 1 <= y && y <= 2) x / y }", "16", 0, "accepted\nout1 769/2^21\n", ""),
-    ("def f(x: Real, y: Real): Real = { require(0 <= x && x <= 4e9 && 0 <= y && y <= 4e9) x * y * 0.125 }", "32", 0, "accepted\nout1 8147483648\n", ""),
     ("def f(x: Real, y: Real): Real = { require(0 <= x && x <= 4e9 && 0 <= y && y <= 4e9) x * y }", "32", 9, "", "fixd: not found: node 2\n"),
     ("def g(u: Real)(x: Real = 0.0): (Real, Real) = { require(-1 <= u && u <= 1) (x, u) }", "16", 9, "", "fixd: not found: node 1\n"),
     ("def f(x: Real): Real = { require(0 <= x && x <= 1) x + 123456789012345678901234567890 }", "16", 3, "", "fixd: source: NumberTooLong at byte 55\n"),
@@ -342,34 +341,89 @@ static SOURCES: [(&str, &str, u8, &str, &str); 22] = [
     ("def f(x: Real): (Real, Real) = { require(0 <= x && x <= 1) (x, x * 1000) } ensuring((a, b) => b +/- 0.1)", "16", 9, "", "fixd: not found: output 2\n"),
 ];
 
+// A synthesis of a source in so many tries.
+fn synthesised(alloc: Global, source: &str, width: &str, tries: &str) -> Result<Answer, Fail> {
+    let mut sources = shelf(alloc, source.as_bytes(), 0)?;
+    let mut input = BytesIn::new(b"x\n".to_vec(alloc)?, 1, Vec::new(alloc));
+    let words = ["synth", "--width", width, "--tries", tries, "--", "-x"];
+    call(alloc, &words, &mut sources, &mut input, (0, 0))
+}
+
+// What `check` says of a bundle.
+fn checked(alloc: Global, bundle: &[u8]) -> Result<Answer, Fail> {
+    let mut bundles = shelf(alloc, bundle, 0)?;
+    let mut input = BytesIn::new(b"x\n".to_vec(alloc)?, 1, Vec::new(alloc));
+    call(
+        alloc,
+        &["check", "--", "-x"],
+        &mut bundles,
+        &mut input,
+        (0, 0),
+    )
+}
+
 // Its bundle is taken by `check`, as it stands.
 #[test]
 fn finds_bundles(rt: HostRuntime) -> Result<(), Fail> {
     let alloc = rt.alloc();
     for &(source, width, status, report, line) in &SOURCES {
-        let mut sources = shelf(alloc, source.as_bytes(), 0)?;
-        let mut input = BytesIn::new(b"x\n".to_vec(alloc)?, 1, Vec::new(alloc));
-        let words = ["synth", "--width", width, "--", "-x"];
-        let found = call(alloc, &words, &mut sources, &mut input, (0, 0))?;
+        let found = synthesised(alloc, source, width, "0")?;
         assert!(rt;
             found.status.0 == status && found.notes.bytes() == line.as_bytes(),
             "{source} at {width}"
         );
         if status == 0 {
-            let mut bundles = shelf(alloc, found.output.bytes(), 0)?;
-            let checked = call(
-                alloc,
-                &["check", "--", "-x"],
-                &mut bundles,
-                &mut input,
-                (0, 0),
-            )?;
+            let answer = checked(alloc, found.output.bytes())?;
             assert!(rt;
-                checked.is(0, report, ""),
+                answer.is(0, report, ""),
                 "the bundle of {source} at {width}"
             );
         } else {
             assert!(rt; found.output.bytes().is_empty(), "{source} at {width}");
+        }
+    }
+    Ok(())
+}
+
+// a source with a demand, a width and tries, and the line on the notes where they don't meet it
+#[rattlefmt::skip]
+static SEARCHED: [(&str, &str, &str, &str); 14] = [
+    ("def f(x: Real, y: Real): Real = { require(0 <= x && x <= 4e9 && 0 <= y && y <= 4e9) x * y * 0.125 } ensuring(r => r +/- 8147483648)", "32", "2", ""),
+    ("def f(x: Real, y: Real): Real = { require(0 <= x && x <= 4e9 && 0 <= y && y <= 4e9) x * y * 0.125 } ensuring(r => r +/- 8147483648)", "32", "1", "fixd: not found: node 2\n"),
+    ("def f(x: Real, y: Real, z: Real, w: Real): Real = { require(0 <= x && x <= 4e9 && 0 <= y && y <= 4e9 && 0 <= z && z <= 4e9 && 0 <= w && w <= 4e9) x * y * 0.125 + z * w * 0.125 }", "32", "1000", ""),
+    ("def f(x: Real, y: Real, z: Real, w: Real): Real = { require(0 <= x && x <= 4e9 && 0 <= y && y <= 4e9 && 0 <= z && z <= 4e9 && 0 <= w && w <= 4e9) x * y * 0.125 + z * w * 0.125 }", "32", "0", "fixd: not found: node 4\n"),
+    ("def f(x: Real, y: Real, z: Real): Real = { require(-1 <= x && x <= 1 && -1 <= y && y <= 1 && -1 <= z && z <= 1) x * y - x * y + x * z } ensuring(r => r +/- 0.0003)", "16", "1000", ""),
+    ("def f(x: Real, y: Real, z: Real): Real = { require(-1 <= x && x <= 1 && -1 <= y && y <= 1 && -1 <= z && z <= 1) x * y - x * y + x * z } ensuring(r => r +/- 0.0003)", "16", "0", "fixd: not found: output 1\n"),
+    ("def doppler(u: Real, v: Real, T: Real): Real = { require(-100.0 <= u && u <= 100 && 20 <= v && v <= 20000 && -30 <= T && T <= 50) val t1 = 331.4 + 0.6 * T  (- (t1) * v) / ((t1 + u) * (t1 + u)) } ensuring(r => r +/- 0.00000298)", "32", "3", ""),
+    ("def doppler(u: Real, v: Real, T: Real): Real = { require(-100.0 <= u && u <= 100 && 20 <= v && v <= 20000 && -30 <= T && T <= 50) val t1 = 331.4 + 0.6 * T  (- (t1) * v) / ((t1 + u) * (t1 + u)) } ensuring(r => r +/- 0.93e-6)", "32", "200", ""),
+    ("def doppler(u: Real, v: Real, T: Real): Real = { require(-100.0 <= u && u <= 100 && 20 <= v && v <= 20000 && -30 <= T && T <= 50) val t1 = 331.4 + 0.6 * T  (- (t1) * v) / ((t1 + u) * (t1 + u)) } ensuring(r => r +/- 0.93e-6)", "32", "0", "fixd: not found: node 13\n"),
+    ("def f(x: Real): Real = { require(-5 <= x && x <= 5) 1 / (x * x + 1) }", "32", "200", "fixd: not found: node 5\n"),
+    ("def f(x: Real, y: Real): Real = { require(-1 <= x && x <= 1 && -1 <= y && y <= 1) x / y }", "16", "200", "fixd: not found: node 2\n"),
+    ("def f(x: Real): Real = { require(0 <= x && x <= 1) x + 0.5 } ensuring(r => r +/- 0.00007)", "16", "200", ""),
+    ("def f(x: Real): Real = { require(0 <= x && x <= 1) x + 0.5 } ensuring(r => r +/- 0.00006)", "16", "200", "fixd: not found: output 1\n"),
+    ("def f(x: Real): (Real, Real) = { require(0 <= x && x <= 1) (x, x * 1000) } ensuring((a, b) => b +/- 0.1)", "16", "200", ""),
+];
+
+// A bundle keeps its demand, and `check` says so.
+#[test]
+fn searches_bundles(rt: HostRuntime) -> Result<(), Fail> {
+    let alloc = rt.alloc();
+    for &(source, width, tries, line) in &SEARCHED {
+        let found = synthesised(alloc, source, width, tries)?;
+        assert!(rt;
+            found.notes.bytes() == line.as_bytes(),
+            "{source} in {tries} tries"
+        );
+        if line.is_empty() {
+            let again = synthesised(alloc, source, width, tries)?;
+            assert!(rt;
+                again.output.bytes() == found.output.bytes(),
+                "{source} again"
+            );
+            let answer = checked(alloc, found.output.bytes())?;
+            assert!(rt; answer.status.0 == 0, "the bundle of {source}");
+        } else {
+            assert!(rt; found.status.0 == 9, "{source}");
         }
     }
     Ok(())

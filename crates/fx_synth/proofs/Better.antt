@@ -1,6 +1,7 @@
 -- Bounds that are smaller, and answers that stand.
 use Rattle.std.proofs.Common.{◌≡◌, ◌∙◌, ◌≢◌, ◌⊎◌, ⊎_elim, ℕ, zero, suc, ◌+◌, ◌<◌, ◌≤◌, List, [], ◌∷◌, ◌++◌, map, take, append_assoc, append-nil, true, Option, Some, None, length, refl, sym, ap, subst, arith, inl, inr}
 use Rattle.std.specs.List.{All, Contains}
+use Rattle.std.specs.Prelude.{IfSome}
 use Rattle.std.proofs.Math.Seq.{take-append_seam}
 use Rattle.std.proofs.lemmas.List.Elements.{All-nil, All-head, All-tail, All-cons, All-push, All-map, All-contains, filter_passes}
 use Rattle.fx_rational.proofs.Laws.{le_refl, le_trans, le_total}
@@ -12,18 +13,15 @@ use Rattle.fx_analysis.specs.PlainAttempt.{Attempt}
 use Rattle.fx_checker.specs.CertifiedView.{Accepted}
 use Rattle.fx_analysis.specs.Attempts.{IsAcceptedAfter, tried_steps}
 use Rattle.fx_synth.specs.Synthesis.{attempted, AreSmaller, AreNoGreater, IsSynthesised, IsUnfound}
-use Rattle.fx_synth.specs.Turns.{IsAnswerAfter, IsOutcome, IsTaken, Resists, Suits, SuitsIfAny, IsBestAfter}
+use Rattle.fx_synth.specs.Turns.{IsAnswerFor, IsOffered, IsOutcome, IsTaken, Resists, Suits, SuitsIfAny, IsBestAfter}
 
 -- ---- bounds
-no_greater : (fn : Function) (a b : Attempt) → AreSmaller fn a b → AreNoGreater fn a b
+pub no_greater : (fn : Function) (a b : Attempt) → AreSmaller fn a b → AreNoGreater fn a b
 no_greater fn a b h j l = ⊎_elim (λ is. is) (λ other. absurd (h j l other)) (le_total _ _)
 
-smaller_trans : (fn : Function) (a b c : Attempt) → AreSmaller fn a b → AreSmaller fn b c → AreSmaller fn a c
-smaller_trans fn a b c h k j l over = h j l (le_trans (no_greater fn b c k j l) over)
-
--- with an output no bounds are smaller than themselves
-not_itself : (fn : Function) (a : Attempt) → 1 ≤ length fn.demands → ¬ AreSmaller fn a a
-not_itself fn a some h = h 0 (omega (arith, some)) (le_refl _)
+-- with an output no bounds are smaller than such as are no greater
+pub not_smaller : (fn : Function) (a b : Attempt) → 1 ≤ length fn.demands → AreNoGreater fn b a → ¬ AreSmaller fn a b
+not_smaller fn a b some h beats = beats 0 (omega (arith, some)) (h 0 (omega (arith, some)))
 
 -- ---- one attempt
 -- there is one attempt after the same steps
@@ -33,69 +31,78 @@ one_attempt n fn steps s t h k = some_same (sym h.there ∙ k.there)
     some_same : {x y : Attempt} → Some x ≡ Some y → x ≡ y
     some_same e = cc
 
+-- ---- candidates
+-- what came of an attempt is for its function
+pub offered : (n : ℕ) (fn : Function) (steps : List Rewriting) (c : Option Accepted) → IsOutcome n fn steps c → IsOffered n fn c
+offered n fn steps None out = tt
+offered n fn steps (Some c) out = out.answer
+
+-- by what is said of its parts
+pub offered_by : (n : ℕ) (fn : Function) (c : Option Accepted) → IfSome c (λ a. a.function ≡ fn) → IfSome c (λ a. a.program.name ≡ fn.name) → IfSome c (λ a. a.program.width ≡ n) → IsOffered n fn c
+offered_by n fn None f name width = tt
+offered_by n fn (Some a) f name width = record { function_is = f; named = name; width_is = width }
+
 -- ---- what a turn keeps
-module _ (n : ℕ) (fn : Function) (some : 1 ≤ length fn.demands) where
+module _ (n : ℕ) (fn : Function) where
   -- of another attempt, once a candidate is looked at
-  pub resists : (steps own : List Rewriting) (o c r : Option Accepted) → SuitsIfAny n fn o → IsOutcome n fn own c → IsTaken o c r → Resists n fn o steps → Resists n fn r steps
-  resists steps own None None r suits out is h = subst (λ x. Resists n fn x steps) (sym is) h
-  resists steps own None (Some c) r suits out is h = subst (λ x. Resists n fn x steps) (sym is) (λ t acc. absurd (h t acc))
-  resists steps own (Some a) None r suits out is h = subst (λ x. Resists n fn x steps) (sym is) h
-  resists steps own (Some a) (Some c) r suits out (inr is) h = subst (λ x. Resists n fn x steps) (sym is.0) h
-  resists steps own (Some a) (Some c) r suits out (inl is) h =
-      let smaller : AreSmaller fn (attempted c) (attempted a) = subst (λ f. AreSmaller f (attempted c) (attempted a)) suits.function_is is.1 in
-      subst (λ x. Resists n fn x steps) (sym is.0) (λ t acc beats. h t acc (smaller_trans fn t (attempted c) (attempted a) beats smaller))
+  pub resists : (steps : List Rewriting) (o c r : Option Accepted) → SuitsIfAny n fn o → IsTaken o c r → Resists n fn o steps → Resists n fn r steps
+  resists steps None None r suits is h = subst (λ x. Resists n fn x steps) (sym is) h
+  resists steps None (Some c) r suits is h = subst (λ x. Resists n fn x steps) (sym is) (λ t acc. absurd (h t acc))
+  resists steps (Some a) None r suits is h = subst (λ x. Resists n fn x steps) (sym is) h
+  resists steps (Some a) (Some c) r suits (inr is) h = subst (λ x. Resists n fn x steps) (sym is.0) h
+  resists steps (Some a) (Some c) r suits (inl is) h =
+      let least : AreNoGreater fn (attempted c) (attempted a) = subst (λ f. AreNoGreater f (attempted c) (attempted a)) suits.answer.function_is is.1 in
+      subst (λ x. Resists n fn x steps) (sym is.0) (λ t acc beats. h t acc (λ j l over. beats j l (le_trans (least j l) over)))
 
   -- of the candidate itself
-  pub resists_own : (steps : List Rewriting) (o c r : Option Accepted) → SuitsIfAny n fn o → IsOutcome n fn steps c → IsTaken o c r → Resists n fn r steps
-  resists_own steps None None r suits out is = subst (λ x. Resists n fn x steps) (sym is) out
-  resists_own steps None (Some c) r suits out is = subst (λ x. Resists n fn x steps) (sym is) (λ t acc beats.
-      not_itself fn t some (subst (λ x. AreSmaller fn t x) (one_attempt n fn steps (attempted c) t out.accepted acc) beats))
-  resists_own steps (Some a) None r suits out is = subst (λ x. Resists n fn x steps) (sym is) (λ t acc. absurd (out t acc))
-  resists_own steps (Some a) (Some c) r suits out (inl is) = subst (λ x. Resists n fn x steps) (sym is.0) (λ t acc beats.
-      not_itself fn t some (subst (λ x. AreSmaller fn t x) (one_attempt n fn steps (attempted c) t out.accepted acc) beats))
-  resists_own steps (Some a) (Some c) r suits out (inr is) = subst (λ x. Resists n fn x steps) (sym is.0) (λ t acc beats.
-      is.1 (subst (λ f. AreSmaller f (attempted c) (attempted a)) (sym suits.function_is)
+  pub resists_own : (steps : List Rewriting) (o c r : Option Accepted) → 1 ≤ length fn.demands → SuitsIfAny n fn o → IsOutcome n fn steps c → IsTaken o c r → Resists n fn r steps
+  resists_own steps None None r some suits out is = subst (λ x. Resists n fn x steps) (sym is) out
+  resists_own steps None (Some c) r some suits out is = subst (λ x. Resists n fn x steps) (sym is) (λ t acc.
+      subst (λ x. ¬ AreSmaller fn t x) (sym (one_attempt n fn steps (attempted c) t out.accepted acc)) (not_smaller fn t t some (λ j l. le_refl _)))
+  resists_own steps (Some a) None r some suits out is = subst (λ x. Resists n fn x steps) (sym is) (λ t acc. absurd (out t acc))
+  resists_own steps (Some a) (Some c) r some suits out (inl is) = subst (λ x. Resists n fn x steps) (sym is.0) (λ t acc.
+      subst (λ x. ¬ AreSmaller fn t x) (sym (one_attempt n fn steps (attempted c) t out.accepted acc)) (not_smaller fn t t some (λ j l. le_refl _)))
+  resists_own steps (Some a) (Some c) r some suits out (inr is) = subst (λ x. Resists n fn x steps) (sym is.0) (λ t acc beats.
+      is.1 (subst (λ f. AreSmaller f (attempted c) (attempted a)) (sym suits.answer.function_is)
       (subst (λ x. AreSmaller fn x (attempted a)) (sym (one_attempt n fn steps (attempted c) t out.accepted acc)) beats)))
 
-  -- a candidate with smaller bounds suits where the answer did
-  smaller_suits : (steps : List Rewriting) (a c : Accepted) → Suits n fn a → IsAnswerAfter n fn steps c → AreSmaller fn (attempted c) (attempted a) → Suits n fn c
-  smaller_suits steps a c suits out smaller = record {
-    function_is = out.function_is;
-    named = out.named;
-    width_is = out.width_is;
-    bounded = λ inside j l. le_trans (no_greater fn (attempted c) (attempted a) smaller j l) (suits.bounded inside j l);
-    no_worse = λ outside t acc j l. le_trans (no_greater fn (attempted c) (attempted a) smaller j l) (suits.no_worse outside t acc j l);
+  -- a candidate with no greater bounds suits where the answer did
+  least_suits : (a c : Accepted) → Suits n fn a → IsAnswerFor n fn c → AreNoGreater fn (attempted c) (attempted a) → Suits n fn c
+  least_suits a c suits own least = record {
+    answer = own;
+    bounded = λ inside j l. le_trans (least j l) (suits.bounded inside j l);
+    no_worse = λ outside t acc j l. le_trans (least j l) (suits.no_worse outside t acc j l);
   }
 
-  -- the first candidate suits outside the class, where it is the plain attempt or that isn't accepted
-  first_suits : (steps : List Rewriting) (c : Accepted) → outside_of n fn ≢ None → IsAnswerAfter n fn steps c →
-      ((t : Attempt) → IsAcceptedAfter n fn [] t → AreNoGreater fn (attempted c) t) → Suits n fn c
-  first_suits steps c outside out plain = record {
-    function_is = out.function_is;
-    named = out.named;
-    width_is = out.width_is;
-    bounded = λ inside. absurd (outside inside);
-    no_worse = λ other t acc. plain t acc;
-  }
+  -- the first candidate suits outside the class, where it is no worse than the plain attempt
+  first_suits : (c : Accepted) → outside_of n fn ≢ None → IsAnswerFor n fn c → ((t : Attempt) → IsAcceptedAfter n fn [] t → AreNoGreater fn (attempted c) t) → Suits n fn c
+  first_suits c outside own plain = record { answer = own; bounded = λ inside. absurd (outside inside); no_worse = λ other t acc. plain t acc }
+
+  -- any candidate, where the first one is no worse than the plain attempt
+  suits_by : (o c r : Option Accepted) → SuitsIfAny n fn o → IsOffered n fn c → IsTaken o c r →
+      ((a : Accepted) → o ≡ None → c ≡ Some a → (t : Attempt) → IsAcceptedAfter n fn [] t → AreNoGreater fn (attempted a) t) → SuitsIfAny n fn r
+  suits_by None None r suits own is plain = subst (SuitsIfAny n fn) (sym is) suits
+  suits_by None (Some c) r suits own is plain = subst (SuitsIfAny n fn) (sym is) (first_suits c suits own (plain c refl refl))
+  suits_by (Some a) None r suits own is plain = subst (SuitsIfAny n fn) (sym is) suits
+  suits_by (Some a) (Some c) r suits own (inr is) plain = subst (SuitsIfAny n fn) (sym is.0) suits
+  suits_by (Some a) (Some c) r suits own (inl is) plain =
+      subst (SuitsIfAny n fn) (sym is.0) (least_suits a c suits own (subst (λ f. AreNoGreater f (attempted c) (attempted a)) suits.answer.function_is is.1))
 
   -- after the plain attempt
   pub plain_suits : (o c r : Option Accepted) → SuitsIfAny n fn o → IsOutcome n fn [] c → IsTaken o c r → SuitsIfAny n fn r
-  plain_suits None None r suits out is = subst (SuitsIfAny n fn) (sym is) suits
-  plain_suits None (Some c) r suits out is =
-      subst (SuitsIfAny n fn) (sym is) (first_suits [] c suits out (λ t acc. subst (λ x. AreNoGreater fn (attempted c) x) (one_attempt n fn [] (attempted c) t out.accepted acc) (λ j l. le_refl _)))
-  plain_suits (Some a) None r suits out is = subst (SuitsIfAny n fn) (sym is) suits
-  plain_suits (Some a) (Some c) r suits out (inr is) = subst (SuitsIfAny n fn) (sym is.0) suits
-  plain_suits (Some a) (Some c) r suits out (inl is) =
-      subst (SuitsIfAny n fn) (sym is.0) (smaller_suits [] a c suits out (subst (λ f. AreSmaller f (attempted c) (attempted a)) suits.function_is is.1))
+  plain_suits o c r suits out is = suits_by o c r suits (offered n fn [] c out) is (λ a none e t acc. own a c e out t acc)
+    where
+      own : (a : Accepted) (c : Option Accepted) → c ≡ Some a → IsOutcome n fn [] c → (t : Attempt) → IsAcceptedAfter n fn [] t → AreNoGreater fn (attempted a) t
+      own a None e out t acc = absurd cc
+      own a (Some b) e out t acc =
+          let same : b ≡ a = cc in
+          subst (λ (x : Accepted). AreNoGreater fn (attempted x) t) same
+          (subst (λ x. AreNoGreater fn (attempted b) x) (one_attempt n fn [] (attempted b) t out.accepted acc) (λ j l. le_refl _))
 
   -- after another one
-  pub step_suits : (steps : List Rewriting) (o c r : Option Accepted) → SuitsIfAny n fn o → Resists n fn o [] → IsOutcome n fn steps c → IsTaken o c r → SuitsIfAny n fn r
-  step_suits steps None None r suits plain out is = subst (SuitsIfAny n fn) (sym is) suits
-  step_suits steps None (Some c) r suits plain out is = subst (SuitsIfAny n fn) (sym is) (first_suits steps c suits out (λ t acc. absurd (plain t acc)))
-  step_suits steps (Some a) None r suits plain out is = subst (SuitsIfAny n fn) (sym is) suits
-  step_suits steps (Some a) (Some c) r suits plain out (inr is) = subst (SuitsIfAny n fn) (sym is.0) suits
-  step_suits steps (Some a) (Some c) r suits plain out (inl is) =
-      subst (SuitsIfAny n fn) (sym is.0) (smaller_suits steps a c suits out (subst (λ f. AreSmaller f (attempted c) (attempted a)) suits.function_is is.1))
+  pub next_suits : (o c r : Option Accepted) → SuitsIfAny n fn o → Resists n fn o [] → IsOffered n fn c → IsTaken o c r → SuitsIfAny n fn r
+  next_suits o c r suits plain own is =
+      suits_by o c r suits own is (λ a none e t acc. absurd ((subst (λ x. Resists n fn x []) none plain) t acc))
 
 -- ---- steps one after the other
 element : {A : Type 0} (P : A → Type 0) (xs : List A) (y : A) (ys : List A) → All P (xs ++ y ∷ ys) → P y
@@ -123,20 +130,28 @@ all_done n done whole e l = ap (take n) (e ∙ append-nil done) ∙ take_all n d
     take_all (suc n) (x ∷ xs) l = ap (λ ys. x ∷ ys) (take_all n xs (omega arith))
 
 -- ---- what stands
-module _ (n : ℕ) (fn : Function) (some : 1 ≤ length fn.demands) where
-  pub stands_first : (o c r : Option Accepted) → SuitsIfAny n fn o → IsOutcome n fn [] c → IsTaken o c r → IsBestAfter n fn [] r
-  stands_first o c r suits out is = record { suits = plain_suits n fn some o c r suits out is; plain = resists_own n fn some [] o c r suits out is; each = All-nil _ }
+module _ (n : ℕ) (fn : Function) where
+  each_resists : (xs : List Rewriting) (o c r : Option Accepted) → SuitsIfAny n fn o → IsTaken o c r → All (λ s. Resists n fn o (s ∷ [])) xs → All (λ s. Resists n fn r (s ∷ [])) xs
+  each_resists [] o c r suits is a = All-nil _
+  each_resists (x ∷ xs) o c r suits is a =
+      All-cons (λ s. Resists n fn r (s ∷ [])) x xs (resists n fn (x ∷ []) o c r suits is (All-head (λ s. Resists n fn o (s ∷ [])) x xs a))
+      (each_resists xs o c r suits is (All-tail (λ s. Resists n fn o (s ∷ [])) x xs a))
 
-  pub stands_next : (done : List Rewriting) (s : Rewriting) (o c r : Option Accepted) → IsBestAfter n fn done o → IsOutcome n fn (s ∷ []) c → IsTaken o c r → IsBestAfter n fn (done ++ s ∷ []) r
-  stands_next done s o c r h out is = record {
-    suits = step_suits n fn some (s ∷ []) o c r h.suits h.plain out is;
-    plain = resists n fn some [] (s ∷ []) o c r h.suits out is h.plain;
-    each = All-push (λ x. Resists n fn r (x ∷ [])) done s (kept done h.each) (resists_own n fn some (s ∷ []) o c r h.suits out is);
+  pub stands_first : (o c r : Option Accepted) → 1 ≤ length fn.demands → SuitsIfAny n fn o → IsOutcome n fn [] c → IsTaken o c r → IsBestAfter n fn [] r
+  stands_first o c r some suits out is = record { suits = plain_suits n fn o c r suits out is; plain = resists_own n fn [] o c r some suits out is; each = All-nil _ }
+
+  -- once a candidate is looked at, wherever it comes from
+  pub stands_still : (done : List Rewriting) (o c r : Option Accepted) → IsBestAfter n fn done o → IsOffered n fn c → IsTaken o c r → IsBestAfter n fn done r
+  stands_still done o c r h own is = record {
+    suits = next_suits n fn o c r h.suits h.plain own is;
+    plain = resists n fn [] o c r h.suits is h.plain;
+    each = each_resists done o c r h.suits is h.each;
   }
-    where
-      kept : (xs : List Rewriting) → All (λ x. Resists n fn o (x ∷ [])) xs → All (λ x. Resists n fn r (x ∷ [])) xs
-      kept [] a = All-nil _
-      kept (x ∷ xs) a = All-cons (λ y. Resists n fn r (y ∷ [])) x xs (resists n fn some (x ∷ []) (s ∷ []) o c r h.suits out is (All-head (λ y. Resists n fn o (y ∷ [])) x xs a)) (kept xs (All-tail (λ y. Resists n fn o (y ∷ [])) x xs a))
+
+  pub stands_next : (done : List Rewriting) (s : Rewriting) (o c r : Option Accepted) → 1 ≤ length fn.demands → IsBestAfter n fn done o → IsOutcome n fn (s ∷ []) c → IsTaken o c r → IsBestAfter n fn (done ++ s ∷ []) r
+  stands_next done s o c r some h out is =
+      let still = stands_still done o c r h (offered n fn (s ∷ []) c out) is in
+      record { suits = still.suits; plain = still.plain; each = All-push (λ x. Resists n fn r (x ∷ [])) done s still.each (resists_own n fn (s ∷ []) o c r some h.suits out is) }
 
 -- without attempts that may be accepted any answer stands
 pub stands_stateful : (n : ℕ) (fn : Function) (steps : List Rewriting) (o : Option Accepted) → (fn.states ≡ [] → ⊥) → SuitsIfAny n fn o → IsBestAfter n fn steps o
@@ -165,9 +180,9 @@ each_tried n fn tries o h steps c =
 
 pub found : (n tries : ℕ) (fn : Function) (a : Accepted) → IsBestAfter n fn (take tries (single_steps fn)) (Some a) → IsSynthesised n tries fn a
 found n tries fn a h = record {
-  function_is = h.suits.function_is;
-  named = h.suits.named;
-  width_is = h.suits.width_is;
+  function_is = h.suits.answer.function_is;
+  named = h.suits.answer.named;
+  width_is = h.suits.answer.width_is;
   bounded = h.suits.bounded;
   no_worse = h.suits.no_worse;
   unbeaten = λ steps c t acc. each_tried n fn tries (Some a) h steps c t acc;

@@ -25,10 +25,9 @@ use Rattle.fx_synth.specs.Turns.{AreJudged, IsAnswerAfter, IsOutcome}
 pub record IsPlainOf (n : ℕ) (fn : Function) (a : Attempt) : Type 0 where
   pub named : a.program.name ≡ fn.name
   pub width_is : a.program.width ≡ n
-  pub no_steps : a.certificate.steps ≡ []
 
 by_errors : (n : ℕ) (fn : Function) (gs : List Interval) (ps : List ℤ) (r : Result (List Interval) Absent) (a : Attempt) → with_errors n fn gs ps r ≡ Some a → IsPlainOf n fn a
-by_errors n fn gs ps (Ok hs) a e = let same : attempt_of n fn gs ps hs ≡ a = cc in subst (IsPlainOf n fn) same (record { named = refl; width_is = refl; no_steps = refl })
+by_errors n fn gs ps (Ok hs) a e = let same : attempt_of n fn gs ps hs ≡ a = cc in subst (IsPlainOf n fn) same (record { named = refl; width_is = refl })
 by_errors n fn gs ps (Err why) a e = absurd cc
 
 by_points : (n : ℕ) (fn : Function) (gs : List Interval) (r : Result (List ℤ) Absent) (a : Attempt) → with_points n fn gs r ≡ Some a → IsPlainOf n fn a
@@ -42,10 +41,6 @@ by_ranges n fn (Err why) a e = absurd cc
 pub plain_of : (n : ℕ) (fn : Function) (a : Attempt) → plain_attempt n fn ≡ Some a → IsPlainOf n fn a
 plain_of n fn a e = by_ranges n fn (plain_ranges fn []) a e
 
--- the plain attempt begins with no steps as it is
-pub without_steps : (n : ℕ) (fn : Function) (a : Attempt) → plain_attempt n fn ≡ Some a → attempt_after n fn [] ≡ Some a
-without_steps n fn a e = ap (option_map (with_steps [])) e ∙ ap (λ (s : List Rewriting). Some (with_steps s a)) (sym (plain_of n fn a e).no_steps)
-
 some_same : {x y : Attempt} → Some x ≡ Some y → x ≡ y
 some_same e = cc
 
@@ -57,13 +52,9 @@ judged_outcome n fn steps (Some t) None stateless there own h = λ s acc.
     let same : s ≡ t = some_same (sym acc.there ∙ there) in h (subst (λ x. IsAccepted rewrite fn x.program x.certificate) same acc.accepted)
 judged_outcome n fn steps (Some t) (Some a) stateless there own h =
     let is = own t refl in
-    subst (IsAnswerAfter n fn steps) (sym h.1) (record { function_is = refl; named = is.0; width_is = is.1; accepted = record { stateless = stateless; there = there; accepted = h.0 } })
+    subst (IsAnswerAfter n fn steps) (sym h.1) (record { answer = record { function_is = refl; named = is.0; width_is = is.1 }; accepted = record { stateless = stateless; there = there; accepted = h.0 } })
 
--- of the plain attempt itself
-pub plain_own : (n : ℕ) (fn : Function) (a : Option Attempt) → plain_attempt n fn ≡ a → (t : Attempt) → a ≡ Some t → (t.program.name ≡ fn.name) × (t.program.width ≡ n)
-plain_own n fn a is t some = let p = plain_of n fn t (is ∙ some) in (p.named, p.width_is)
-
--- of that after steps which keep the name
+-- an attempt after steps that keep the name is of it, and at the width
 pub after_own : (n : ℕ) (fn : Function) (steps : List Rewriting) (a : Option Attempt) → (rewritten_by rewrite fn steps).name ≡ fn.name → attempt_after n fn steps ≡ a →
     (t : Attempt) → a ≡ Some t → (t.program.name ≡ fn.name) × (t.program.width ≡ n)
 after_own n fn steps a keeps is t some = by (plain_attempt n (rewritten_by rewrite fn steps)) refl (is ∙ some)
@@ -81,11 +72,6 @@ step_named law fn s there = by (rewrite fn s) refl there
     by : (r : Option Function) → rewrite fn s ≡ r → is_some r ≡ true → (unwrap_or r fn).name ≡ fn.name
     by None e t = absurd cc
     by (Some h) e t = ap (λ (f : Function). f.name) ((law.exact fn s h).0 e).result
-
--- of the plain attempt
-pub plain_there : (n : ℕ) (fn : Function) (a : Option Attempt) → a ≡ plain_attempt n fn → attempt_after n fn [] ≡ a
-plain_there n fn None e = ap (option_map (with_steps [])) (sym e)
-plain_there n fn (Some t) e = without_steps n fn t (sym e)
 
 -- as many outputs as the function has
 pub outputs_are : (fn : Function) (p : Program) (cert : Certificate) → IsCertified rewrite fn p cert → p.outputs ≡ length fn.demands

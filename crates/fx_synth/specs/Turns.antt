@@ -21,11 +21,20 @@ abbrev pub AreJudged : Function → Option Attempt → Option Accepted → Type 
 AreJudged fn None o = o ≡ None
 AreJudged fn (Some t) o = IsJudged fn t o
 
--- the attempt after these steps, of fn's name and at width n
-pub record IsAnswerAfter (n : ℕ) (fn : Function) (steps : List Rewriting) (a : Accepted) : Type 0 where
+-- for fn, of its name and at width n
+pub record IsAnswerFor (n : ℕ) (fn : Function) (a : Accepted) : Type 0 where
   pub function_is : a.function ≡ fn
   pub named : a.program.name ≡ fn.name
   pub width_is : a.program.width ≡ n
+
+-- the same where there may be none
+abbrev pub IsOffered : ℕ → Function → Option Accepted → Type 0
+IsOffered n fn None = ⊤
+IsOffered n fn (Some a) = IsAnswerFor n fn a
+
+-- the attempt after these steps
+pub record IsAnswerAfter (n : ℕ) (fn : Function) (steps : List Rewriting) (a : Accepted) : Type 0 where
+  pub answer : IsAnswerFor n fn a
   pub accepted : IsAcceptedAfter n fn steps (attempted a)
 
 -- what came of the attempt after these steps
@@ -38,12 +47,13 @@ abbrev pub AreForOne : Option Accepted → Option Accepted → Type 0
 AreForOne (Some a) (Some b) = a.function ≡ b.function
 AreForOne _ _ = ⊤
 
--- the answer once a candidate is looked at: it is taken where there was no answer, and where its bounds are all smaller
+-- the answer once a candidate is looked at: the candidate where there was no answer; else it is no worse at any output where
+-- it is taken, and not better at all of them where it isn't
 abbrev pub IsTaken : Option Accepted → Option Accepted → Option Accepted → Type 0
 IsTaken None candidate answer = answer ≡ candidate
 IsTaken (Some a) None answer = answer ≡ Some a
 IsTaken (Some a) (Some c) answer =
-    ((answer ≡ Some c) × AreSmaller a.function (attempted c) (attempted a)) ⊎ ((answer ≡ Some a) × ¬ AreSmaller a.function (attempted c) (attempted a))
+    ((answer ≡ Some c) × AreNoGreater a.function (attempted c) (attempted a)) ⊎ ((answer ≡ Some a) × ¬ AreSmaller a.function (attempted c) (attempted a))
 
 -- the attempt after these steps isn't better than the answer, and not accepted where there is none
 abbrev pub Resists : ℕ → Function → Option Accepted → List Rewriting → Type 0
@@ -52,9 +62,7 @@ Resists n fn (Some a) steps = (t : Attempt) → IsAcceptedAfter n fn steps t →
 
 -- an answer for fn at width n, with bounds of the weights in their class, and outside it no worse than the plain attempt
 pub record Suits (n : ℕ) (fn : Function) (a : Accepted) : Type 0 where
-  pub function_is : a.function ≡ fn
-  pub named : a.program.name ≡ fn.name
-  pub width_is : a.program.width ≡ n
+  pub answer : IsAnswerFor n fn a
   pub bounded : outside_of n fn ≡ None → AreWithinWeights n fn a.program a.certificate
   pub no_worse : outside_of n fn ≢ None → (t : Attempt) → IsAcceptedAfter n fn [] t → AreNoGreater fn (attempted a) t
 

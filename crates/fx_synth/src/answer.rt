@@ -1,10 +1,11 @@
 //! One certified program against another, by their bounds.
-ghost use Rattle.std.specs.Prelude.{◌≡◌, ◌↔◌, length, IsTrue};
-ghost use Rattle.fx_synth.specs.Synthesis.{attempted, AreSmaller};
+ghost use Rattle.std.specs.Prelude.{◌≡◌, ◌↔◌, false, length, IsTrue};
+ghost use Rattle.fx_synth.specs.Synthesis.{attempted, AreNoGreater, AreSmaller};
 ghost use Rattle.fx_synth.specs.Turns.{AreForOne, IsTaken};
 
 use fx_checker::Certified;
-use fx_num::dle;
+use fx_num::{Dyadic, Memory, dle};
+use std::alloc::Global;
 
 // How many outputs the function has.
 fn outputs_of(certified: &Certified) -> u32
@@ -15,21 +16,35 @@ fn outputs_of(certified: &Certified) -> u32
     certified.program().outputs
 }
 
-// Whether the bound of `a` is smaller than that of `b` at each of so many outputs.
-fn are_smaller(a: &Certified, b: &Certified) -> bool
+// Whether the bound of `a` is at most that of `b` at each output.
+fn are_no_greater(a: &Certified, b: &Certified) -> bool
     requires { a.now.function ≡ b.now.function }
-    ensures { IsTrue result ↔ AreSmaller b.now.function (attempted a.now) (attempted b.now) }
+    ensures { IsTrue result ↔ AreNoGreater b.now.function (attempted a.now) (attempted b.now) }
 {
     let outputs = outputs_of(a).min(outputs_of(b));
     for j in 0..outputs {
-        if dle(b.bound(j), a.bound(j)) {
+        if !dle(a.bound(j), b.bound(j)) {
             return false;
         }
     }
     true
 }
 
-/// The candidate, where there is one and no answer yet, or one of which each bound is smaller; else the answer.
+// Whether no bound of `a` is greater than that of `b`, and one is smaller.
+fn is_better(a: &Certified, b: &Certified) -> bool
+    requires { a.now.function ≡ b.now.function }
+    ensures taken { IsTrue result → AreNoGreater b.now.function (attempted a.now) (attempted b.now) }
+    ensures left { result ≡ false → ¬ AreSmaller b.now.function (attempted a.now) (attempted b.now) }
+{
+    b.function().keeps();
+    if are_no_greater(b, a) {
+        return false;
+    }
+    are_no_greater(a, b)
+}
+
+/// The candidate, where there is one and no answer yet, or one that is no worse at any output and better at some; else the
+/// answer.
 pub fn taken(answer: Option<Certified>, candidate: Option<Certified>) -> Option<Certified>
     requires { AreForOne answer candidate }
     ensures { IsTaken answer candidate result }
@@ -40,9 +55,20 @@ pub fn taken(answer: Option<Certified>, candidate: Option<Certified>) -> Option<
     let Some(candidate) = candidate else {
         return Some(answer);
     };
-    if are_smaller(&candidate, &answer) {
+    if is_better(&candidate, &answer) {
         Some(candidate)
     } else {
         Some(answer)
     }
+}
+
+/// The bounds of an answer, one for each output, or none where there is no answer.
+pub fn bounds_of(alloc: Global, answer: &Option<Certified>) -> Result<Vec<Dyadic>, Memory> {
+    let mut bounds = Vec::new(alloc);
+    if let Some(certified) = answer {
+        for j in 0..outputs_of(certified) {
+            bounds.push(certified.bound(j))?;
+        }
+    }
+    Ok(bounds)
 }

@@ -11,7 +11,7 @@ ghost use Rattle.fx_cert.specs.CertificateView.{certificate_of};
 ghost use Rattle.fx_analysis.specs.AttemptView.{attempt_in};
 ghost use Rattle.fx_synth.specs.Turns.{AreJudged, IsOutcome};
 
-use fx_analysis::{attempt_after, plain_attempt};
+use fx_analysis::{attempt_after, no_steps_law, plain_attempt};
 use fx_cert::Certificate;
 use fx_checker::{Certified, CheckKind, check};
 use fx_expr::Function;
@@ -52,6 +52,7 @@ pub fn plain_answer(
     requires width { Contains widths width }
     ensures { IfOk result (IsOutcome width function.now []) }
 {
+    no_steps_law();
     let attempt = plain_attempt(alloc, function, width)?;
     let answer = judged(alloc, function, attempt)?;
     Ok(answer)

@@ -1,6 +1,7 @@
-//! The plain plan, the plain attempt and the attempts after one step, each passed through the checker.
-ghost use Rattle.std.specs.Prelude.{◌≡◌, ◌≤◌, [], None, Contains, IfOk, IfErr, option_map, take};
+//! The plain plan, the plain attempt, the attempts after one step and a search, each passed through the checker.
+ghost use Rattle.std.specs.Prelude.{◌≡◌, ◌≤◌, [], List, None, Contains, IfOk, IfErr, option_map, take};
 ghost use Rattle.fx_model.specs.LawfulProgram.{widths};
+ghost use Rattle.fx_inequalities.specs.Rewriting.{Rewriting};
 ghost use Rattle.fx_rules.specs.SingleSteps.{single_steps};
 ghost use Rattle.fx_weight.specs.Laws.{IsInClass};
 ghost use Rattle.fx_weight.specs.OutsideView.{outside_view};
@@ -9,13 +10,14 @@ ghost use Rattle.fx_synth.specs.Bounds.{AreWithinWeights};
 ghost use Rattle.fx_synth.specs.Synthesis.{Explains, IsSynthesised};
 ghost use Rattle.fx_synth.specs.Turns.{IsBestAfter, SuitsIfAny};
 
-use crate::answer::taken;
+use crate::answer::{bounds_of, taken};
 use crate::attempt::{plain_answer, step_answer};
 use crate::fault::SynthFault;
 use fx_checker::{Certified, check};
 use fx_expr::Function;
 use fx_num::Memory;
 use fx_rewrite::SingleSteps;
+use fx_search::search;
 use fx_weight::{Outside, WeightFault, bound_law, class_law, find_outside, plain_plan};
 use std::alloc::Global;
 
@@ -88,8 +90,26 @@ fn attempts(
     Ok(answer)
 }
 
-// The best answer of all.
-fn best_answer(
+// The answer, or what the search finds where that is better.
+fn searched(
+    alloc: Global,
+    function: &Function,
+    width: u32,
+    seed: u64,
+    tries: u32,
+    answer: Option<Certified>,
+) -> Result<Option<Certified>, Memory>
+    requires width { Contains widths width }
+    requires suits { SuitsIfAny width function.now answer }
+    ensures { (steps : List Rewriting) → IsBestAfter width function.now steps answer → IfOk result (IsBestAfter width function.now steps) }
+{
+    let held = bounds_of(alloc, &answer)?;
+    let candidate = search(alloc, function, width, seed, tries, &held)?;
+    Ok(taken(answer, candidate))
+}
+
+// The same of any function: one with states has no attempts.
+fn tried(
     alloc: Global,
     function: &Function,
     width: u32,
@@ -107,11 +127,29 @@ fn best_answer(
     Ok(answer)
 }
 
+// The best answer of all.
+fn best_answer(
+    alloc: Global,
+    function: &Function,
+    width: u32,
+    seed: u64,
+    tries: u32,
+    first: Option<Certified>,
+) -> Result<Option<Certified>, Memory>
+    requires width { Contains widths width }
+    requires suits { SuitsIfAny width function.now first }
+    ensures { IfOk result (IsBestAfter width function.now (take tries (single_steps function.now))) }
+{
+    let answer = tried(alloc, function, width, tries, first)?;
+    let best = searched(alloc, function, width, seed, tries, answer)?;
+    Ok(best)
+}
+
 /// A certified program of this width for the function.
 ///
 /// Where the plain plan serves the function, it is the first answer. The plain attempt and those after each of the first
-/// `tries` single steps follow in their order, and take its place where each of their bounds is smaller. The seed is for a
-/// search that is to come.
+/// `tries` single steps follow in their order, and then what a search finds in as many tries, with the choices that the seed
+/// gives. One takes the answer's place where it is no worse at any output and better at some.
 pub fn synthesise(
     alloc: Global,
     function: &Function,
@@ -124,10 +162,9 @@ pub fn synthesise(
     ensures found { IfOk result (IsSynthesised width tries function.now) }
     ensures not_found { IfErr result (Explains width tries function.now) }
 {
-    let _ = seed;
     let outside = find_outside(alloc, function, width)?;
     let first = first_answer(alloc, function, width, outside)?;
-    match best_answer(alloc, function, width, tries, first)? {
+    match best_answer(alloc, function, width, seed, tries, first)? {
         Some(certified) => Ok(certified),
         None => match outside {
             Some(outside) => Err(SynthFault::NotFound { outside }),

@@ -1,10 +1,11 @@
-use Rattle.std.proofs.Common.{[], sym}
+use Rattle.std.proofs.Common.{◌∙◌, [], refl, sym}
 use Rattle.std.specs.Option.{option_map}
 use Rattle.fx_analysis.specs.AttemptView.{attempt_in}
-use Rattle.fx_synth.proofs.Outcomes.{judged_outcome, plain_own, plain_there}
+use Rattle.fx_synth.proofs.Outcomes.{judged_outcome, after_own}
 use Rattle.fx_synth.proofs.attempt.plain_answer.Goals as goal
 
 pub returns : goal.returns
 returns c =
-    let n = c.args.width in let fn = c.args.function.now in let a = option_map attempt_in c.in_ok-attempt.attempt in let is = c.in_ok-attempt.ensures.attempt in
-    judged_outcome n fn [] a c.in_ok-answer.answer c.requires.stateless (plain_there n fn a is) (plain_own n fn a (sym is)) c.in_ok-answer.ensures
+    let n = c.args.width in let fn = c.args.function.now in let a = option_map attempt_in c.in_ok-attempt.attempt in
+    let is = c.no_steps_law.ensures n fn ∙ sym c.in_ok-attempt.ensures.attempt in
+    judged_outcome n fn [] a c.in_ok-answer.answer c.requires.stateless is (after_own n fn [] a refl is) c.in_ok-answer.ensures

@@ -10,7 +10,7 @@ use Rattle.fx_synth.proofs.synthesis.attempts.Goals as goal
 pub loop-turn-init : goal.loop-turn-init
 loop-turn-init c =
     let fn = c.args.function.now in
-    ([], sym c.new-steps.ensures, refl, stands_first c.args.width fn c.keeps.ensures.sizes.some_output c.args.first c.in_ok-plain.plain c.taken-answer.result c.requires.suits c.in_ok-plain.ensures c.taken-answer.ensures)
+    ([], sym c.new-steps.ensures, refl, stands_first c.args.width fn c.args.first c.in_ok-plain.plain c.taken-answer.result c.keeps.ensures.sizes.some_output c.requires.suits c.in_ok-plain.ensures c.taken-answer.ensures)
 
 pub step_answer-requires-clause-there : goal.step_answer-requires-clause-there
 step_answer-requires-clause-there c =
@@ -28,5 +28,5 @@ loop-turn-preserved c =
       kept.0 ++ s ∷ [],
       kept.1 ∙ ap (λ (l : List Rewriting). kept.0 ++ l) next ∙ one_done kept.0 s (left c.next.new.self),
       more,
-      stands_next c.args.width fn c.keeps.ensures.sizes.some_output kept.0 s c.loop-turn.answer c.in_ok-candidate.candidate c.taken-answer-in-loop-turn.result kept.3 c.in_ok-candidate.ensures c.taken-answer-in-loop-turn.ensures,
+      stands_next c.args.width fn kept.0 s c.loop-turn.answer c.in_ok-candidate.candidate c.taken-answer-in-loop-turn.result c.keeps.ensures.sizes.some_output kept.3 c.in_ok-candidate.ensures c.taken-answer-in-loop-turn.ensures,
     )
