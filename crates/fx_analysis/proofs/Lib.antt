@@ -37,3 +37,5 @@ pub mod Attempted
 pub mod Planned
 pub mod WrittenSteps
 pub mod Afterwards
+pub mod Trimmed
+pub mod Reached

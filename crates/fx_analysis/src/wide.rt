@@ -23,6 +23,10 @@ pub fn places(r: u128, d: u128, s: u32) -> u128
     ensures value { result ≡ r * 2 ^ s / d }
     ensures small { result < 2 ^ s }
 {
+    // nearly always they come by one division
+    if r <= u128::MAX >> s {
+        return (r << s) / d;
+    }
     let mut left = r;
     let mut f: u128 = 0;
     for i in 0..s {
