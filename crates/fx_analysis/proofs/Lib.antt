@@ -39,3 +39,4 @@ pub mod WrittenSteps
 pub mod Afterwards
 pub mod Trimmed
 pub mod Reached
+pub mod Shorts

@@ -17,7 +17,7 @@ use Rattle.fx_analysis.proofs.Narrows.{half_of}
 use Rattle.fx_analysis.proofs.Ends.{floor_only, whole_places}
 
 -- ---- a factor that both have
-split_power : (s e : ℕ) → s ≤ e → 2 ^ (e - s) * 2 ^ s ≡ 2 ^ e
+pub split_power : (s e : ℕ) → s ≤ e → 2 ^ (e - s) * 2 ^ s ≡ 2 ^ e
 split_power s e h = let k : (e - s) + s ≡ e = omega (arith, h) in sym (pow-add 2 (e - s) s) ∙ ap (λ (n : ℕ). 2 ^ n) k
 
 spread : (q d k r : ℤ) → (q *ℤ d +ℤ r) *ℤ k ≡ q *ℤ (d *ℤ k) +ℤ r *ℤ k

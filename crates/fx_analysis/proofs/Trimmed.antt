@@ -1,18 +1,20 @@
 -- A mantissa is brought to lowest terms by one shift: as often as it can be halved, and as places allow.
-use Rattle.std.proofs.Common.{◌≡◌, ℕ, zero, suc, ◌+◌, ◌-◌, ◌*◌, ◌/◌, ◌%◌, ◌^◌, ◌<◌, ◌≤◌, ◌⊎◌, inl, inr, ⊎_elim, min, true, false, ℤ, pos, negsuc, ◌*ℤ◌, neg_ℤ, ◌==◌, refl, sym, ap, subst, ◌∙◌, arith}
+use Rattle.std.proofs.Common.{◌≡◌, ℕ, zero, suc, ◌+◌, ◌-◌, ◌*◌, ◌/◌, ◌%◌, ◌^◌, ◌<◌, ◌≤◌, ◌⊎◌, inl, inr, ⊎_elim, min, false, ℤ, pos, negsuc, ◌+ℤ◌, ◌*ℤ◌, neg_ℤ, ◌==◌, [], ◌∷◌, refl, sym, ap, ap₂, ◌∙◌, arith}
 use Rattle.std.specs.Prelude.{unsigned_abs}
 use Rattle.std.specs.Int.{w128, trailing_zeros}
 use Rattle.std.specs.Int.Count.{under, count_trailing_zeros}
 use Rattle.std.proofs.lemmas.Int.{ints}
 use Rattle.std.proofs.Math.Pow.{pow_mono}
-use Rattle.std.proofs.lemmas.Nat.{div-add-mod', mod_below, pow_pos}
+use Rattle.std.proofs.lemmas.Nat.{div-add-mod', div-mul-add, mod_below, mul-le, pow_pos}
 use Rattle.fx_algebra.proofs.Integers.{neg_ℤ-*ℤ}
+use Rattle.fx_algebra.proofs.Quote.{by_quotes, quotes}
 use Rattle.fx_rational.specs.Rational.{floor_div}
 use Rattle.fx_rational.specs.Dyadic.{dyadic}
 use Rattle.fx_rational.proofs.Lowest.{size-neg_ℤ}
 use Rattle.fx_analysis.specs.Narrow.{is_even, lowest_dyadic}
 use Rattle.fx_analysis.proofs.Ends.{floor_only}
 use Rattle.fx_analysis.proofs.Halves.{double_power, halves, is_even_double}
+use Rattle.fx_analysis.proofs.LongDivision.{split_power}
 use Rattle.fx_analysis.proofs.Spelling.{doubled, trim_zero, trim_even, trim_odd}
 
 -- ---- halved as often as s
@@ -108,3 +110,53 @@ trimmed m s e few least =
     none : (r n s : ℕ) → n ≡ r * 2 ^ s → n < 2 ^ 128 → 128 ≤ s → r ≡ 0
     none zero n s e l k = refl
     none (suc r) n s e l k = absurd (let p : 2 ^ 128 ≤ 2 ^ s = pow_mono k in omega (arith, e, l, p))
+
+-- ---- a whole part and places that end in zeros
+joined_times : (w q a b : ℤ) → (w *ℤ a +ℤ q) *ℤ b ≡ w *ℤ (a *ℤ b) +ℤ q *ℤ b
+joined_times w q a b = by_quotes {ρ = w ∷ q ∷ a ∷ b ∷ []} (search quotes depth 20) (search quotes depth 20) refl
+
+pub fewer_places : (w : ℤ) (f q t s e : ℕ) → t ≤ s → s ≤ e → f ≡ q * 2 ^ t → lowest_dyadic (w *ℤ pos (2 ^ (s - t)) +ℤ pos q) (e - t) ≡ lowest_dyadic (w *ℤ pos (2 ^ s) +ℤ pos f) e
+fewer_places w f q t s e fits low is =
+    trim_times (w *ℤ pos (2 ^ (s - t)) +ℤ pos q) t e (omega (arith, fits, low))
+    ∙ ap (λ (z : ℤ). lowest_dyadic z e) (joined_times w (pos q) (pos (2 ^ (s - t))) (pos (2 ^ t)) ∙ ap₂ (λ (k n : ℕ). w *ℤ pos k +ℤ pos n) (split_power t s fits) (sym is))
+
+-- no places
+pub no_places : (w : ℤ) (f q s e : ℕ) → f < 2 ^ s → s ≤ e → f ≡ q * 2 ^ s → lowest_dyadic w (e - s) ≡ lowest_dyadic (w *ℤ pos (2 ^ s) +ℤ pos f) e
+no_places w f zero s e few low is = trim_times w s e low ∙ ap (λ (z : ℤ). lowest_dyadic z e) (omega (arith, ints, is))
+no_places w f (suc q) s e few low is = absurd (omega (arith, few, is))
+
+shifted_is : (f q t : ℕ) → f ≡ q * 2 ^ t → f / 2 ^ t ≡ q
+shifted_is f q t is = let p = pow_pos t in let e : f ≡ q * 2 ^ t + 0 = omega (arith, is) in ap (λ (n : ℕ). n / 2 ^ t) e ∙ div-mul-add q (2 ^ t) 0 p
+
+few_left : (f q t s : ℕ) → t ≤ s → f < 2 ^ s → f ≡ q * 2 ^ t → q < 2 ^ (s - t)
+few_left f q t s fits few is = by (q < 2 ^ (s - t)) (below q (2 ^ (s - t)))
+  where
+    below : (a b : ℕ) → (a < b) ⊎ (b ≤ a)
+    below a b = grind arith
+
+    by : (G : Type 0) → G ⊎ (2 ^ (s - t) ≤ q) → G
+    by G (inl h) = h
+    by G (inr h) = absurd (let p = split_power t s fits in let m = mul-le (2 ^ (s - t)) (2 ^ t) q (2 ^ t) h (omega arith) in omega (arith, few, is, p, m))
+
+odd_left : (q : ℕ) → q % 2 ≡ 1 → (q % 2 == 0) ≡ false
+odd_left q odd = ap (λ (k : ℕ). k == 0) odd
+
+-- places that don't all end in zeros, without those zeros
+pub record Parts (f s t : ℕ) : Type 0 where
+  pub rest : ℕ
+  pub is : f ≡ rest * 2 ^ t
+  pub shifted : f / 2 ^ t ≡ rest
+  pub odd : (rest % 2 == 0) ≡ false
+  pub few : rest < 2 ^ (s - t)
+  pub less : t < s
+
+pub parts : (f s t : ℕ) → f < 2 ^ s → s ≤ 126 → t ≡ min (count_trailing_zeros 128 f) s → (t ≡ s → ⊥) → Parts f s t
+parts f s t few most least other =
+    let h = halved 128 f t (omega (arith, least)) in let l : t < s = omega (arith, least, other) in record {
+      rest = h.rest;
+      is = h.is;
+      shifted = shifted_is f h.rest t h.is;
+      odd = odd_left h.rest (h.odd (omega (arith, least, l)) (omega (arith, l, most)));
+      few = few_left f h.rest t s (omega (arith, l)) few h.is;
+      less = l;
+    }
