@@ -26,7 +26,7 @@ pub places_are : (n f d l : ℕ) → n ≡ f * d + l → l < d → f ≡ n / d
 places_are n f d l h lt = sym (ap (λ (k : ℕ). k / d) h ∙ div-mul-add f d l lt)
 
 -- ---- an even number
-halves : (h : ℤ) → floor_div (h *ℤ pos 2) 2 ≡ h
+pub halves : (h : ℤ) → floor_div (h *ℤ pos 2) 2 ≡ h
 halves h = let f = floor_is (h *ℤ pos 2) 2 (omega arith) in let p = f.not_above in let q = f.greatest in omega (arith, ints, p, q)
 
 whole_half : (w : ℤ) (f s : ℕ) → 0 < s → f % 2 ≡ 0 → (w *ℤ pos (2 ^ (s - 1)) +ℤ pos (f / 2)) *ℤ pos 2 ≡ w *ℤ pos (2 ^ s) +ℤ pos f
@@ -42,7 +42,7 @@ even_test f h = grind (arith, h)
 odd_test : (f : ℕ) → (f % 2 == 0) ≡ false → f % 2 ≡ 1
 odd_test f h = let l = mod_below f 2 (omega arith) in let z : (f % 2 ≡ 0 → ⊥) = λ e. absurd (grind (arith, h, e)) in grind (arith, l, z)
 
-is_even_double : (h : ℤ) → is_even (h *ℤ pos 2) ≡ true
+pub is_even_double : (h : ℤ) → is_even (h *ℤ pos 2) ≡ true
 is_even_double h = let e = even_double h in rw e refl
 
 pub even_step : (w : ℤ) (f s e : ℕ) → 0 < s → s ≤ e → (f % 2 == 0) ≡ true → lowest_dyadic (w *ℤ pos (2 ^ (s - 1)) +ℤ pos (f / 2)) (e - 1) ≡ lowest_dyadic (w *ℤ pos (2 ^ s) +ℤ pos f) e

@@ -37,3 +37,6 @@ pub mod Attempted
 pub mod Planned
 pub mod WrittenSteps
 pub mod Afterwards
+pub mod Trimmed
+pub mod Reached
+pub mod Shorts

@@ -17,13 +17,13 @@ use Rattle.fx_analysis.proofs.Narrows.{half_of}
 use Rattle.fx_analysis.proofs.Ends.{floor_only, whole_places}
 
 -- ---- a factor that both have
-split_power : (s e : ℕ) → s ≤ e → 2 ^ (e - s) * 2 ^ s ≡ 2 ^ e
+pub split_power : (s e : ℕ) → s ≤ e → 2 ^ (e - s) * 2 ^ s ≡ 2 ^ e
 split_power s e h = let k : (e - s) + s ≡ e = omega (arith, h) in sym (pow-add 2 (e - s) s) ∙ ap (λ (n : ℕ). 2 ^ n) k
 
 spread : (q d k r : ℤ) → (q *ℤ d +ℤ r) *ℤ k ≡ q *ℤ (d *ℤ k) +ℤ r *ℤ k
 spread q d k r = by_quotes {ρ = q ∷ d ∷ k ∷ r ∷ []} (search quotes depth 20) (search quotes depth 20) refl
 
-less_times : (r d k : ℕ) → r < d → 0 < k → r * k < d * k
+pub less_times : (r d k : ℕ) → r < d → 0 < k → r * k < d * k
 less_times r d k h some = let m = mul-le (suc r) k d k h (omega arith) in omega (arith, m, some)
 
 -- what a floor leaves

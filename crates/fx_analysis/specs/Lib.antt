@@ -17,3 +17,4 @@ pub mod AttemptLaws
 pub mod AttemptView
 pub mod AttemptParts
 pub mod Attempts
+pub mod Short

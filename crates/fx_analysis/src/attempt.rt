@@ -72,7 +72,7 @@ fn put_codes(alloc: Global, nodes: &[Node], ps: &[i32]) -> Result<Vec<Code>, Mem
     requires literals { AreSmallWords (nodes_in nodes.now) ps.now }
     ensures { IfOk result (λ cs. (fn : functions.Function) → map code_of cs.items ≡ placed_codes fn ps.now (nodes_in nodes.now) ps.now) }
 {
-    let mut codes = Vec::new(alloc);
+    let mut codes = Vec::with_capacity(alloc, nodes.len())?;
     for i in 0..nodes.len() {
         codes.push(code(nodes[i], ps[i], ps))?;
     }
@@ -95,7 +95,7 @@ fn put_lines(alloc: Global, gs: &[Interval], hs: &[Interval]) -> Result<Vec<Node
     requires { length gs.now ≡ length hs.now }
     ensures { IfOk result (λ ls. map line_view ls.items ≡ formless_lines gs.now hs.now) }
 {
-    let mut lines = Vec::new(alloc);
+    let mut lines = Vec::with_capacity(alloc, gs.len())?;
     for i in 0..gs.len() {
         lines.push(line(gs[i], hs[i]))?;
     }

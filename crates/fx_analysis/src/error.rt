@@ -25,10 +25,11 @@ use crate::fault::Why;
 use crate::point::{product_shift, shift};
 use crate::range::{input_at, interval_at};
 use crate::settle::settle;
+use crate::short::{plus, times};
 use fx_expr::Function;
 use fx_flat::Node;
 use fx_interval::Interval;
-use fx_judging::{interval, loss, minus, plus, times, zero};
+use fx_judging::{interval, loss, minus, zero};
 
 /// The error of a negation.
 fn negation(x: Interval, f: i32) -> Result<Interval, Why>

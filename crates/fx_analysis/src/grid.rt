@@ -1,9 +1,10 @@
 //! Ends on a grid, in lowest terms.
 
+ghost use Rattle.std.specs.Int.{w128, trailing_zeros};
 ghost use Rattle.std.specs.Prelude.{◌≡◌, ◌&&◌, ◌^◌, ◌≤◌, ◌<◌, ◌*ℤ◌, pos, unsigned_abs, true, false, Option};
 ghost use Rattle.fx_rational.specs.Rational.{floor_div, ceil_div};
 ghost use Rattle.fx_rational.specs.Dyadic.{dyadic_value};
-ghost use Rattle.fx_analysis.specs.Narrow.{is_even, lowest_dyadic, grid_down, grid_up, is_small, narrow};
+ghost use Rattle.fx_analysis.specs.Narrow.{lowest_dyadic, grid_down, grid_up, is_small, narrow};
 ghost use Rattle.fx_judging.specs.Judging.{FormsSpan};
 ghost use Rattle.fx_analysis.specs.Narrowed.{bounds_of, IsIfSmall};
 
@@ -25,11 +26,11 @@ pub fn exponent(d: Dyadic) -> u32
     d.e
 }
 
-/// Whether it is even.
-fn is_even(m: i128) -> bool
-    ensures { result ≡ is_even m }
+/// How often it can be halved.
+fn halvings(m: i128) -> u32
+    ensures { result ≡ trailing_zeros w128 (unsigned_abs m) }
 {
-    m.unsigned_abs() % 2 == 0
+    m.unsigned_abs().trailing_zeros()
 }
 
 /// `m / 2^e` in lowest terms.
@@ -37,13 +38,8 @@ pub fn trim(m: i128, e: u32) -> Dyadic
     requires { e ≤ 2 ^ 20 }
     ensures { result ≡ lowest_dyadic m e }
 {
-    if e == 0 {
-        return Dyadic::new(m, 0);
-    }
-    if is_even(m) {
-        return trim(floor_shift(m, 1), e - 1);
-    }
-    Dyadic::new(m, e)
+    let s = halvings(m).min(e);
+    Dyadic::new(floor_shift(m, s), e - s)
 }
 
 /// The greatest of grid `e` that isn't above `d`.

@@ -21,6 +21,7 @@ mod point;
 mod quotient;
 mod range;
 mod settle;
+mod short;
 mod walk;
 mod wide;
 

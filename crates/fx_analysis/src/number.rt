@@ -6,7 +6,7 @@ ghost use Rattle.fx_analysis.specs.Narrow.{lowest_dyadic, grid_down, grid_up};
 
 use crate::grid::trim;
 use fx_fraction::Fraction;
-use fx_num::{Dyadic, left_fits};
+use fx_num::Dyadic;
 
 /// The numerator.
 pub fn numerator(c: Fraction) -> i128
@@ -32,10 +32,7 @@ pub fn left(p: i128, s: u32) -> i128
     ensures value { result ≡ p *ℤ pos (2 ^ s) }
     ensures small { unsigned_abs result < 2 ^ 126 }
 {
-    match left_fits(p, s) {
-        Some(shifted) => shifted,
-        None => unreachable!(),
-    }
+    p << s
 }
 
 /// The other sign.

@@ -1,6 +1,6 @@
 //! Greedy points of single nodes.
 
-ghost use Rattle.std.specs.Prelude.{◌≡◌, ◌<◌, ◌≤◌, ◌-◌, ◌+◌, ◌*◌, ◌^◌, ◌-ℤ◌, neg_ℤ, pos, unsigned_abs, length, All};
+ghost use Rattle.std.specs.Prelude.{ℤ, ◌≡◌, ◌<◌, ◌≤◌, ◌-◌, ◌+◌, ◌*◌, ◌^◌, ◌-ℤ◌, ◌<ℤ◌, ◌≤ℤ◌, neg_ℤ, pos, unsigned_abs, length, All, false};
 ghost use Rattle.fx_rational.specs.Dyadic.{word_dyadic};
 ghost use Rattle.fx_model.specs.Tree.{at};
 ghost use Rattle.fx_model.specs.LawfulProgram.{IsPoint};
@@ -32,7 +32,7 @@ fn power(s: u32) -> i64
     two_to(s) as i64
 }
 
-/// A quarter of the words of this width.
+/// Half the size of the least word of this width.
 fn half(width: u32) -> i64
     requires low { 8 ≤ width }
     requires high { width ≤ 64 }
@@ -158,11 +158,7 @@ fn has_shifts(width: u32, ps: &[i32], node: &Node, f: i32, inputs: u32, states: 
     ensures { result ≡ has_shifts width ps.now (node_of node.now) f }
 {
     match node {
-        Node::Add { a, b } => {
-            let least = least_shift(width);
-            is_from_to(least, 64, shift(ps, *a, f)) && is_from_to(least, 64, shift(ps, *b, f))
-        }
-        Node::Sub { a, b } => {
+        Node::Add { a, b } | Node::Sub { a, b } => {
             let least = least_shift(width);
             is_from_to(least, 64, shift(ps, *a, f)) && is_from_to(least, 64, shift(ps, *b, f))
         }
@@ -202,6 +198,45 @@ fn candidate(d: u32) -> i32
     62 - d as i32
 }
 
+/// The greatest point at which words may reach this number, by its bits.
+fn bits_point(width: u32, d: Dyadic) -> i32
+    requires { width ≤ 64 }
+{
+    if d.m == 0 {
+        return 62;
+    }
+    // a power of two is itself reached
+    let bits = 128u32.saturating_sub((d.m.unsigned_abs() - 1).leading_zeros());
+    (width as i32)
+        .saturating_sub(2)
+        .saturating_add(d.e as i32)
+        .saturating_sub(bits as i32)
+}
+
+/// How many points from the greatest down words don't reach, as the sizes of the range's ends have it.
+fn guess(width: u32, g: Interval) -> u32
+    requires { width ≤ 64 }
+    ensures { result ≤ 126 }
+{
+    let f = bits_point(width, g.lo).min(bits_point(width, g.hi));
+    (62 - f.clamp(-64, 62)) as u32
+}
+
+/// How many points from the greatest down words don't reach, for certain.
+fn unreached(width: u32, g: Interval) -> u32
+    requires low { 8 ≤ width }
+    requires high { width ≤ 64 }
+    ensures few { result ≤ 126 }
+    ensures none { (h : ℤ) → (pos 62 -ℤ pos result) <ℤ h → h ≤ℤ pos 62 → is_reached width g h ≡ false }
+{
+    let d = guess(width, g);
+    // the ends of a range that holds nothing may say too little, and then all points are tried
+    if d == 0 || is_reached(width, g, candidate(d - 1)) {
+        return 0;
+    }
+    d
+}
+
 /// The greatest point that a node may have.
 fn search(width: u32, g: Interval, ps: &[i32], node: &Node, inputs: u32, states: u32) -> Option<i32>
     requires low { 8 ≤ width }
@@ -210,7 +245,8 @@ fn search(width: u32, g: Interval, ps: &[i32], node: &Node, inputs: u32, states:
     requires points { All IsPoint ps.now }
     ensures { point_answer result ≡ first_point 127 (is_point width g ps.now (node_of node.now)) (pos 62) }
 {
-    for d in 0..127 {
+    let first = unreached(width, g);
+    for d in first..127 {
         let f = candidate(d);
         if is_point(width, g, ps, node, f, inputs, states) {
             return Some(f);

@@ -20,11 +20,12 @@ ghost use Rattle.fx_analysis.specs.PlainRanges as plain;
 use crate::fault::Why;
 use crate::quotient::{between, quotient};
 use crate::settle::settle;
+use crate::short::{plus, times};
 use fx_expr::{Function, Input};
 use fx_flat::Node;
 use fx_fraction::{Fraction, to_fraction};
 use fx_interval::Interval;
-use fx_judging::{interval, minus, plus, reduced, times, zero};
+use fx_judging::{interval, minus, reduced, zero};
 
 /// Input `k` of the function.
 pub fn input_at(function: &Function, k: u32) -> &Input

@@ -36,7 +36,7 @@ fn walk_ranges(
     ensures no_plan { IfErr result (λ e. NamesAbsent e (plain_ranges function.now boxes.now)) }
 {
     function.keeps();
-    let mut gs = Vec::new(alloc);
+    let mut gs = Vec::with_capacity(alloc, nodes.len())?;
     for i in 0..nodes.len() {
         match node_range(nodes[i], function, boxes, &gs) {
             Ok(g) => gs.push(g)?,
@@ -94,7 +94,7 @@ fn walk_points(
     ensures no_plan { IfErr result (λ e. NamesAbsent e (points_over width inputs states ranges.now (nodes_in nodes.now))) }
 {
     let next = nodes.len() as u32 - states;
-    let mut ps = Vec::new(alloc);
+    let mut ps = Vec::with_capacity(alloc, nodes.len())?;
     for i in 0..nodes.len() {
         let node = i as u32;
         match node_point(width, ranges[i], &ps, &nodes[i], inputs, states, next) {
@@ -154,7 +154,7 @@ fn walk_errors(
     ensures no_plan { IfErr result (λ e. NamesAbsent e (plain_errors function.now ps.now gs.now boxes.now)) }
 {
     function.keeps();
-    let mut hs = Vec::new(alloc);
+    let mut hs = Vec::with_capacity(alloc, nodes.len())?;
     for i in 0..nodes.len() {
         match node_error(&nodes[i], function, ps, gs, boxes, &hs, gs[i], ps[i]) {
             Ok(h) => hs.push(h)?,

@@ -3,7 +3,7 @@
 //! The whole part and the binary places are kept apart: places that are zero at the end are dropped before both are put
 //! together, so that what doesn't fit then has more than 62 bits in lowest terms. Such an end is None here.
 
-ghost use Rattle.std.specs.Prelude.{◌≡◌, ◌==◌, ◌%◌, ◌+◌, ◌*◌, ◌/◌, ◌<◌, ◌≤◌, ◌^◌, ◌*ℤ◌, ◌+ℤ◌, ◌-ℤ◌, neg_ℤ, pos, unsigned_abs, true};
+ghost use Rattle.std.specs.Prelude.{◌≡◌, ◌+◌, ◌*◌, ◌/◌, ◌<◌, ◌≤◌, ◌^◌, ◌*ℤ◌, ◌+ℤ◌, ◌-ℤ◌, neg_ℤ, pos, unsigned_abs, true};
 ghost use Rattle.fx_rational.specs.Rational.{floor_div, ceil_div};
 ghost use Rattle.fx_rational.specs.Interval as model;
 ghost use Rattle.fx_analysis.specs.Narrowed.{IsIfSmall};
@@ -23,6 +23,10 @@ pub fn places(r: u128, d: u128, s: u32) -> u128
     ensures value { result ≡ r * 2 ^ s / d }
     ensures small { result < 2 ^ s }
 {
+    // nearly always they come by one division
+    if r <= u128::MAX >> s {
+        return (r << s) / d;
+    }
     let mut left = r;
     let mut f: u128 = 0;
     for i in 0..s {
@@ -46,13 +50,6 @@ pub fn signed(f: u128) -> i128
     f as i128
 }
 
-/// Whether it is even.
-fn is_even(f: u128) -> bool
-    ensures { result ≡ (f % 2 == 0) }
-{
-    f % 2 == 0
-}
-
 /// `w * 2^s + f` over `2^e` in lowest terms, where that has at most 62 bits.
 pub fn assembled(w: i128, f: u128, s: u32, e: u32) -> Option<Dyadic>
     requires places { f < 2 ^ s }
@@ -61,17 +58,15 @@ pub fn assembled(w: i128, f: u128, s: u32, e: u32) -> Option<Dyadic>
     requires low { e ≤ 2 ^ 20 }
     ensures { IsEnd result (lowest_dyadic (w *ℤ pos (2 ^ s) +ℤ pos f) e) }
 {
-    if s == 0 {
-        return Some(trim(w, e));
+    let t = f.trailing_zeros().min(s);
+    if t == s {
+        return Some(trim(w, e - s));
     }
-    if is_even(f) {
-        return assembled(w, f / 2, s - 1, e - 1);
-    }
-    match left_fits(w, s) {
+    match left_fits(w, s - t) {
         None => None,
-        Some(m) => match add_fits(m, signed(f)) {
+        Some(m) => match add_fits(m, signed(f >> t)) {
             None => None,
-            Some(n) => Some(Dyadic::new(n, e)),
+            Some(n) => Some(Dyadic::new(n, e - t)),
         },
     }
 }
