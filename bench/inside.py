@@ -1,13 +1,14 @@
 #!/usr/bin/env python3
 """Measures calls inside `fixd` that no command shows alone: inside.py [PROGRAM]
 
-Printing a bundle, applying rewriting steps and listing single steps, by a program over the proved crates that makes each call many times.
-Without PROGRAM that program is written into a folder of its own beside links to the crates, and `rt` proves and builds it, which takes as long as
+Printing a bundle, applying rewriting steps, listing single steps and plain attempts, by a program over the proved crates that makes each call
+many times. Without PROGRAM that program is written into a folder of its own beside copies of the crates, and `rt` proves and builds it, which takes as long as
 `make run` does the first time. Figures are seconds of the processor of the greater number of calls less those of the smaller one. Outside the
 gate: figures depend on the machine.
 """
 import os
 import resource
+import shutil
 import subprocess
 import sys
 import tempfile
@@ -16,9 +17,10 @@ HERE = os.path.dirname(os.path.abspath(__file__))
 ROOT = os.path.join(HERE, "..")
 
 BODY = """\
-//! Calls from inside `fixd`, many times over: `print FILE TIMES`, `rewrite FILE TIMES`, `steps FILE TIMES`.
+//! Calls from inside `fixd`, many times over: `print FILE TIMES`, `rewrite FILE TIMES`, `steps FILE TIMES`, `attempt FILE TIMES`.
 #![tactic(auto)]
 
+use fx_analysis::plain_attempt;
 use fx_cert::{print_bundle, read_bundle};
 use fx_expr::Function;
 use fx_parser::parse;
@@ -117,6 +119,27 @@ fn listed(alloc: Global, bytes: &[u8], times: u64) -> u64 {
     count
 }
 
+// How many nodes so many plain attempts have.
+fn attempted(alloc: Global, bytes: &[u8], times: u64) -> u64 {
+    if bytes.len() > SOURCE_LIMIT {
+        return 0;
+    }
+    let Ok(function) = parse(alloc, bytes, None) else {
+        return 0;
+    };
+    if function.states.len() != 0 {
+        return 0;
+    }
+    let mut count = 0u64;
+    for _ in 0..times {
+        match plain_attempt(alloc, &function, 32) {
+            Ok(Some((_, certificate))) => count = count.wrapping_add(certificate.lines.len() as u64),
+            _ => return count,
+        }
+    }
+    count
+}
+
 fn main(rt: HostRuntime) -> ExitCode {
     let alloc = rt.alloc();
     let Ok(all) = env::args(&rt) else {
@@ -135,6 +158,7 @@ fn main(rt: HostRuntime) -> ExitCode {
         "print" => printed(alloc, bytes.as_slice(), times) as u64,
         "rewrite" => rewritten(alloc, bytes.as_slice(), times),
         "steps" => listed(alloc, bytes.as_slice(), times),
+        "attempt" => attempted(alloc, bytes.as_slice(), times),
         _ => return ExitCode::FAILURE,
     };
     match println!(rt; "{count}") {
@@ -146,11 +170,11 @@ fn main(rt: HostRuntime) -> ExitCode {
 
 
 def built(folder):
-    """The program, proved and built in a repository that links to this one's crates."""
+    """The program, proved and built in a repository with copies of this one's crates, since `rt` takes no links."""
     crates = os.path.join(folder, "crates")
     os.makedirs(os.path.join(crates, "inside", "src"))
     for name in os.listdir(os.path.join(ROOT, "crates")):
-        os.symlink(os.path.abspath(os.path.join(ROOT, "crates", name)), os.path.join(crates, name))
+        shutil.copytree(os.path.join(ROOT, "crates", name), os.path.join(crates, name), ignore=shutil.ignore_patterns("out"))
     with open(os.path.join(ROOT, "crates.txt")) as file:
         lines = [line for line in file if not line.startswith("fx_cli:")]
     below = next(line for line in lines if line.startswith("fx_synth:")).split(":")[1].strip()
@@ -214,12 +238,22 @@ def measure_rewrite(program, folder, nodes, times):
         print(f"{nodes} nodes: {(b - a) / (more - few):.0f} {what} a second")
 
 
+def measure_attempt(program, folder, nodes, times):
+    path = os.path.join(folder, f"{nodes}.fixd")
+    with open(path, "w") as file:
+        file.write(source(nodes))
+    (few, a), (more, b) = seconds(program, "attempt", path, times), seconds(program, "attempt", path, 6 * times)
+    print(f"a plain attempt of {a // times} nodes: {(more - few) / (5 * times) * 1e6:.1f} microseconds")
+
+
 def main():
     with tempfile.TemporaryDirectory() as folder:
         program = sys.argv[1] if len(sys.argv) > 1 else built(folder)
         measure_print(program, folder)
         for nodes, times in ((20, 20000), (200, 2000), (2000, 100)):
             measure_rewrite(program, folder, nodes, times)
+        for nodes, times in ((12, 20000), (40, 10000), (150, 2000)):
+            measure_attempt(program, folder, nodes, times)
 
 
 main()

@@ -88,12 +88,12 @@ trimmed m s e few least =
     let i = signed m h.rest (2 ^ s) h.is in let z = i.0 in
     let floor : floor_div m (2 ^ s) ≡ z = floor_only m z (2 ^ s) 0 (omega (arith, ints, i.1)) (pow_pos s) in
     let end : (e - s ≡ 0) ⊎ ((is_even z ≡ false) ⊎ (z ≡ pos 0)) = ⊎_elim
-        (λ (l : e ≤ zeros). inl (omega (arith, least, l)))
-        (λ (l : zeros < e). inr (⊎_elim
-            (λ (k : s < 128). inl (odd_not_even z h.rest i.2 (h.odd (omega (arith, least, l)) k)))
-            (λ (k : 128 ≤ s). inr (nothing z h.rest i.2 (none h.rest (unsigned_abs m) s h.is few k)))
-            (before s 128)))
-        (up_to e zeros)
+    (λ (l : e ≤ zeros). inl (omega (arith, least, l)))
+    (λ (l : zeros < e). inr (⊎_elim
+    (λ (k : s < 128). inl (odd_not_even z h.rest i.2 (h.odd (omega (arith, least, l)) k)))
+    (λ (k : 128 ≤ s). inr (nothing z h.rest i.2 (none h.rest (unsigned_abs m) s h.is few k)))
+    (before s 128)))
+    (up_to e zeros)
     in
     ap (λ (y : ℤ). dyadic y (e - s)) floor ∙ ended z (e - s) end ∙ trim_times z s e (omega (arith, least)) ∙ ap (λ (y : ℤ). lowest_dyadic y e) (sym i.1)
   where
