@@ -1,0 +1,145 @@
+//! Moves: a few rules at one place, in a fixed order.
+//!
+//! A move looks at the signs first and then follows its table. Where a rule in the middle is refused, as at a limit, what
+//! was done stays: the steps so far are a draft as good as any.
+
+use crate::draft::{Draft, Site};
+use crate::rule::{
+    ADD_NEGATION, DROP_NEGATIONS, EXCHANGE_FACTORS, EXCHANGE_TERMS, GROUP_FACTORS_LEFT,
+    GROUP_FACTORS_RIGHT, GROUP_TERMS_LEFT, GROUP_TERMS_RIGHT, NEGATE_TERMS, SUBTRACT,
+};
+use fx_expr::{Expr, operand};
+use fx_num::Memory;
+use std::alloc::Global;
+
+/// The tree itself.
+const HERE: &[u8] = &[];
+/// Its first operand.
+const LEFT: &[u8] = &[0];
+/// Its second operand.
+const RIGHT: &[u8] = &[1];
+
+/// A rule at a path below a move's site, if the move has it.
+#[derive(Clone, Copy)]
+struct Turn<'a> {
+    is_part: bool,
+    below: &'a [u8],
+    rule: u8,
+}
+
+/// A rule at a path, if it is part of a move.
+fn when<'a>(is_part: bool, below: &'a [u8], rule: u8) -> Turn<'a> {
+    Turn {
+        is_part,
+        below,
+        rule,
+    }
+}
+
+/// A rule at a path.
+fn always<'a>(below: &'a [u8], rule: u8) -> Turn<'a> {
+    when(true, below, rule)
+}
+
+/// Makes the turns in their order, and answers whether all were made.
+fn follow(
+    alloc: Global,
+    draft: &mut Draft,
+    site: &Site,
+    turns: &[Turn<'_>],
+) -> Result<bool, Memory> {
+    for turn in turns {
+        if turn.is_part && !draft.apply(alloc, site, turn.below, turn.rule)? {
+            return Ok(false);
+        }
+    }
+    Ok(true)
+}
+
+/// Whether a tree is a difference, if it is a sum or a difference.
+pub fn is_minus(e: &Expr) -> Option<bool> {
+    match e {
+        Expr::Add(_, _) => Some(false),
+        Expr::Sub(_, _) => Some(true),
+        _ => None,
+    }
+}
+
+/// The same of the tree at a site, and of one of its operands.
+fn signs(draft: &Draft, site: &Site, number: u8) -> Option<(bool, bool)> {
+    let e = draft.at(site)?;
+    Some((is_minus(e)?, is_minus(operand(e, number)?)?))
+}
+
+/// `(a + b) + c` to `(a + c) + b`, with any signs.
+pub fn swap(alloc: Global, draft: &mut Draft, site: &Site) -> Result<bool, Memory> {
+    let Some((outer, inner)) = signs(draft, site, 0) else {
+        return Ok(false);
+    };
+    let turns = [
+        when(outer, HERE, ADD_NEGATION),
+        when(inner, LEFT, ADD_NEGATION),
+        always(HERE, GROUP_TERMS_RIGHT),
+        always(RIGHT, EXCHANGE_TERMS),
+        always(HERE, GROUP_TERMS_LEFT),
+        when(outer, LEFT, SUBTRACT),
+        when(inner, HERE, SUBTRACT),
+    ];
+    follow(alloc, draft, site, &turns)
+}
+
+/// `(a + b) + c` to `a + (b + c)`, with any signs.
+pub fn rotate_right(alloc: Global, draft: &mut Draft, site: &Site) -> Result<bool, Memory> {
+    let Some((outer, inner)) = signs(draft, site, 0) else {
+        return Ok(false);
+    };
+    let turns = [
+        when(outer, HERE, ADD_NEGATION),
+        when(inner, LEFT, ADD_NEGATION),
+        always(HERE, GROUP_TERMS_RIGHT),
+        when(inner && !outer, RIGHT, EXCHANGE_TERMS),
+        when(inner || outer, RIGHT, SUBTRACT),
+    ];
+    follow(alloc, draft, site, &turns)
+}
+
+/// `a + (b + c)` to `(a + b) + c`, with any signs.
+pub fn rotate_left(alloc: Global, draft: &mut Draft, site: &Site) -> Result<bool, Memory> {
+    let Some((outer, inner)) = signs(draft, site, 1) else {
+        return Ok(false);
+    };
+    let both = outer && inner;
+    let turns = [
+        when(outer, HERE, ADD_NEGATION),
+        when(both, &[1, 0], ADD_NEGATION),
+        when(outer, RIGHT, NEGATE_TERMS),
+        when(both, &[1, 1], DROP_NEGATIONS),
+        when(inner && !outer, RIGHT, ADD_NEGATION),
+        always(HERE, GROUP_TERMS_LEFT),
+        when(outer, LEFT, SUBTRACT),
+        when(outer != inner, HERE, SUBTRACT),
+    ];
+    follow(alloc, draft, site, &turns)
+}
+
+/// `a + b` to `b + a`, and `a - b` to `-b + a`.
+pub fn turn_round(alloc: Global, draft: &mut Draft, site: &Site) -> Result<bool, Memory> {
+    let Some(minus) = draft.at(site).and_then(is_minus) else {
+        return Ok(false);
+    };
+    let turns = [
+        when(minus, HERE, ADD_NEGATION),
+        always(HERE, EXCHANGE_TERMS),
+    ];
+    follow(alloc, draft, site, &turns)
+}
+
+/// `(a * b) * c` to `(a * c) * b`.
+pub fn exchange_last(alloc: Global, draft: &mut Draft, site: &Site) -> Result<bool, Memory> {
+    let turns = [
+        always(HERE, GROUP_FACTORS_RIGHT),
+        always(RIGHT, EXCHANGE_FACTORS),
+        always(HERE, GROUP_FACTORS_LEFT),
+    ];
+    follow(alloc, draft, site, &turns)
+}

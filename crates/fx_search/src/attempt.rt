@@ -1,0 +1,182 @@
+//! One attempt: a function as it stands, with ranges, points, words and errors.
+//!
+//! Points are chosen up to caps, at which the ranges fit their words. Where an error doesn't fit beside its range, the
+//! node's cap goes below its point, and all is chosen again.
+ghost use Rattle.std.specs.Prelude.{◌≡◌, length, IfOk};
+
+use crate::task::Task;
+use fx_expr::Function;
+use fx_flat::{Node, Nodes, flatten};
+use fx_num::Memory;
+use fx_planning::{Cost, Failed, Grids, Plan, Ranges, Scaled, find_plan, find_ranges, input_error};
+use fx_points::{Magnitude, NodeFacts, PointFault, choose_points};
+use std::alloc::Global;
+
+/// So often points are chosen again, at most.
+const TURNS: u32 = 8;
+
+/// A point for each node, and the plan at these points.
+#[derive(Drop)]
+pub struct Placed {
+    pub points: Vec<i32>,
+    pub plan: Plan,
+}
+
+/// A function's nodes with all that was found for them.
+#[derive(Drop)]
+pub struct Attempt {
+    pub nodes: Nodes,
+    pub ranges: Ranges,
+    pub placed: Placed,
+}
+
+/// A size for ranking, where there is one.
+fn magnitude(size: Option<Scaled>) -> Magnitude {
+    let Some(size) = size else {
+        return Magnitude::GREATEST;
+    };
+    let places = i32::try_from(size.e).unwrap_or(i32::MAX);
+    Magnitude::new(size.m.unsigned_abs(), places.saturating_neg())
+}
+
+/// The error that an input is given with.
+fn given_error(function: &Function, node: &Node) -> Magnitude {
+    let Node::Input { k } = node else {
+        return Magnitude::ZERO;
+    };
+    match function.inputs.as_slice().get(*k as usize) {
+        Some(input) => magnitude(input_error(input)),
+        None => Magnitude::ZERO,
+    }
+}
+
+/// The greatest point of each node by its range.
+fn range_caps(
+    alloc: Global,
+    nodes: &Nodes,
+    ranges: &Ranges,
+    width: u32,
+) -> Result<Vec<i32>, Memory> {
+    let mut caps = Vec::new(alloc);
+    for n in 0..nodes.list.len() {
+        caps.push(ranges.cap(n, width).unwrap_or(-65))?;
+    }
+    Ok(caps)
+}
+
+/// What the choice of points reads of each node.
+fn facts_of(
+    alloc: Global,
+    function: &Function,
+    nodes: &Nodes,
+    ranges: &Ranges,
+    caps: &[i32],
+) -> Result<Vec<NodeFacts>, Memory>
+    ensures { IfOk result (λ facts. length facts.items ≡ length nodes.now.list) }
+{
+    let list = nodes.list.as_slice();
+    let mut facts = Vec::new(alloc);
+    for n in 0..list.len() {
+        facts.push(NodeFacts {
+            cap: caps.get(n).copied().unwrap_or(-65),
+            size: magnitude(ranges.size(n)),
+            least: magnitude(ranges.least_size(n)),
+            error: given_error(function, &list[n]),
+        })?;
+    }
+    Ok(facts)
+}
+
+/// The best points up to these caps, and their plan, or the first node that has none.
+fn placed_within(
+    alloc: Global,
+    task: Task<'_>,
+    function: &Function,
+    nodes: &Nodes,
+    ranges: &Ranges,
+    caps: &[i32],
+) -> Result<Result<Placed, Failed>, Memory> {
+    let facts = facts_of(alloc, function, nodes, ranges, caps)?;
+    let points = match choose_points(alloc, nodes, &facts, task.width.min(64)) {
+        Ok(points) => points,
+        Err(PointFault::NoPoint { node }) => return Ok(Err(Failed::at(node))),
+        Err(PointFault::Memory) => return Err(Memory),
+    };
+    let found = find_plan(
+        alloc,
+        function,
+        nodes,
+        ranges,
+        &points,
+        task.width,
+        task.goal(),
+    )?;
+    match found {
+        Ok(plan) => Ok(Ok(Placed { points, plan })),
+        Err(failed) => Ok(Err(failed)),
+    }
+}
+
+/// Puts the caps of the nodes whose words are too small below their points.
+fn lower(caps: &mut [i32], placed: &Placed) {
+    for n in placed.plan.small() {
+        let n = *n as usize;
+        if let (Some(cap), Some(point)) = (caps.get_mut(n), placed.points.get(n)) {
+            *cap = (*cap).min(*point).saturating_sub(1);
+        }
+    }
+}
+
+/// The best points at which no word is too small, or the first node that has none.
+fn backed_off(
+    alloc: Global,
+    task: Task<'_>,
+    function: &Function,
+    nodes: &Nodes,
+    ranges: &Ranges,
+) -> Result<Result<Placed, Failed>, Memory> {
+    let mut caps = range_caps(alloc, nodes, ranges, task.width)?;
+    let mut failed = Failed::at(0);
+    for _turn in 0..TURNS {
+        let placed = match placed_within(alloc, task, function, nodes, ranges, &caps)? {
+            Ok(placed) => placed,
+            Err(failed) => return Ok(Err(failed)),
+        };
+        let Some(node) = placed.plan.small().first() else {
+            return Ok(Ok(placed));
+        };
+        failed = Failed { node: *node };
+        lower(&mut caps, &placed);
+    }
+    Ok(Err(failed))
+}
+
+/// What it costs to fail at a node: the less, the further on it is.
+fn failure(nodes: &Nodes, failed: Failed) -> Cost {
+    let count = u32::try_from(nodes.list.len()).unwrap_or(u32::MAX);
+    Cost::Failed {
+        left: count.saturating_sub(failed.node),
+    }
+}
+
+/// The attempt of a function as it stands, or what its failure costs.
+pub fn attempted(
+    alloc: Global,
+    task: Task<'_>,
+    function: &Function,
+    grids: Grids,
+) -> Result<Result<Attempt, Cost>, Memory> {
+    let nodes = flatten(alloc, function)?;
+    let ranges = match find_ranges(alloc, function, &nodes, grids)? {
+        Ok(ranges) => ranges,
+        Err(failed) => return Ok(Err(failure(&nodes, failed))),
+    };
+    match backed_off(alloc, task, function, &nodes, &ranges)? {
+        Ok(placed) => Ok(Ok(Attempt {
+            nodes,
+            ranges,
+            placed,
+        })),
+        Err(failed) => Ok(Err(failure(&nodes, failed))),
+    }
+}

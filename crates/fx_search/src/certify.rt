@@ -1,0 +1,108 @@
+//! From an attempt to a certified program.
+//!
+//! What is written is judged by the checker. Where it refuses, a formula mostly left 128 bits, and the same attempt is made
+//! on coarser grids.
+ghost use Rattle.std.specs.Prelude.{◌≡◌, ◌∷◌, [], Contains, IfOk, IfSome};
+
+use crate::attempt::{Attempt, attempted};
+use crate::polish::Polish;
+use crate::task::Task;
+use fx_checker::{Certified, CheckKind, check};
+use fx_moves::Draft;
+use fx_num::{Dyadic, Memory, dle};
+use fx_planning::{Grids, write};
+use fx_rewrite::Step;
+use std::alloc::Global;
+
+/// What the checker makes of an attempt behind these steps.
+fn judged(
+    alloc: Global,
+    task: Task<'_>,
+    steps: &[Step],
+    attempt: &Attempt,
+) -> Result<Option<Certified>, Memory>
+    ensures function_is { IfOk result (λ o. IfSome o (λ c. c.function ≡ task.entry.source.now)) }
+    ensures named { IfOk result (λ o. IfSome o (λ c. c.program.name ≡ task.entry.source.now.name)) }
+    ensures width_is { IfOk result (λ o. IfSome o (λ c. c.program.width ≡ task.entry.width)) }
+{
+    let plan = &attempt.placed.plan;
+    let written = write(
+        alloc,
+        task.source,
+        steps,
+        &attempt.nodes,
+        &attempt.ranges,
+        plan,
+    )?;
+    let Some((program, certificate)) = written else {
+        return Ok(None);
+    };
+    if program.width != task.width {
+        return Ok(None);
+    }
+    match check(alloc, task.source, program, certificate) {
+        Ok(certified) => Ok(Some(certified)),
+        Err(fault) => match fault.kind {
+            CheckKind::Memory => Err(Memory),
+            _ => Ok(None),
+        },
+    }
+}
+
+/// The same of a draft, on grids, polished by looking at so many plans.
+fn certified_on(
+    alloc: Global,
+    task: Task<'_>,
+    draft: &Draft,
+    plans: u32,
+    grids: Grids,
+) -> Result<Option<Certified>, Memory>
+    ensures function_is { IfOk result (λ o. IfSome o (λ c. c.function ≡ task.entry.source.now)) }
+    ensures named { IfOk result (λ o. IfSome o (λ c. c.program.name ≡ task.entry.source.now.name)) }
+    ensures width_is { IfOk result (λ o. IfSome o (λ c. c.program.width ≡ task.entry.width)) }
+{
+    match attempted(alloc, task, &draft.function, grids)? {
+        Ok(mut attempt) => {
+            let mut polish = Polish::new(alloc, task, &draft.function, plans);
+            polish.run(&mut attempt)?;
+            let certified = judged(alloc, task, &draft.steps, &attempt)?;
+            Ok(certified)
+        }
+        Err(_) => Ok(None),
+    }
+}
+
+/// The certified program of a draft, on the finest grids on which there is one.
+pub fn certified(
+    alloc: Global,
+    task: Task<'_>,
+    draft: &Draft,
+    plans: u32,
+) -> Result<Option<Certified>, Memory>
+    ensures function_is { IfOk result (λ o. IfSome o (λ c. c.function ≡ task.entry.source.now)) }
+    ensures named { IfOk result (λ o. IfSome o (λ c. c.program.name ≡ task.entry.source.now.name)) }
+    ensures width_is { IfOk result (λ o. IfSome o (λ c. c.program.width ≡ task.entry.width)) }
+{
+    let fine = certified_on(alloc, task, draft, plans, Grids::FINE)?;
+    if fine.is_some() {
+        return Ok(fine);
+    }
+    let coarse = certified_on(alloc, task, draft, plans, Grids::COARSE)?;
+    if coarse.is_some() {
+        return Ok(coarse);
+    }
+    let coarsest = certified_on(alloc, task, draft, plans, Grids::COARSEST)?;
+    Ok(coarsest)
+}
+
+/// Whether no bound is above the one that stands.
+pub fn keeps(certified: &Certified, held: &[Dyadic]) -> bool {
+    for j in 0..certified.program().outputs {
+        if let Some(bound) = held.get(j as usize) {
+            if !dle(certified.bound(j), *bound) {
+                return false;
+            }
+        }
+    }
+    true
+}

@@ -1,0 +1,181 @@
+//! Polish: points and words of an attempt moved one by one, as long as its cost falls.
+
+use crate::attempt::{Attempt, Placed};
+use crate::task::Task;
+use fx_expr::Function;
+use fx_flat::Node;
+use fx_num::Memory;
+use fx_planning::{find_plan, move_word};
+use std::alloc::Global;
+
+/// By how much a point is moved.
+const POINT_MOVES: [i32; 3] = [1, -1, -2];
+
+/// By how many units a word is moved.
+const WORD_MOVES: [i64; 4] = [1, -1, 2, -2];
+
+/// No more rounds are made, though each had a gain.
+const ROUNDS: u32 = 64;
+
+/// What is polished, and how many plans may still be looked at.
+#[derive(Drop)]
+pub struct Polish<'a> {
+    alloc: Global,
+    task: Task<'a>,
+    function: &'a Function,
+    budget: u32,
+}
+
+/// The node whose point a node has to have, if there is one.
+fn follows(node: &Node) -> Option<u32> {
+    match node {
+        Node::Neg { a } | Node::Copy { a } => Some(*a),
+        _ => None,
+    }
+}
+
+/// The points, one of them moved, and those that have to be the same.
+fn moved_points(
+    alloc: Global,
+    nodes: &[Node],
+    points: &[i32],
+    n: usize,
+    by: i32,
+) -> Result<Vec<i32>, Memory> {
+    let mut moved = Vec::new(alloc);
+    for (i, (node, point)) in nodes.iter().zip(points).enumerate() {
+        let same = follows(node).and_then(|a| moved.get(a as usize).copied());
+        let by = if i == n { by } else { 0 };
+        moved.push(same.unwrap_or(point.saturating_add(by)))?;
+    }
+    Ok(moved)
+}
+
+impl<'a> Polish<'a> {
+    /// So many plans of a function are looked at, at most.
+    pub fn new(alloc: Global, task: Task<'a>, function: &'a Function, budget: u32) -> Polish<'a> {
+        Polish {
+            alloc,
+            task,
+            function,
+            budget,
+        }
+    }
+
+    /// Counts a plan, if there may be another.
+    fn spend(&mut self) -> bool {
+        let is_left = self.budget > 0;
+        self.budget = self.budget.saturating_sub(1);
+        is_left
+    }
+
+    /// Moves a point, and keeps that where the cost falls.
+    fn move_point(&mut self, attempt: &mut Attempt, n: usize, by: i32) -> Result<bool, Memory> {
+        if !self.spend() {
+            return Ok(false);
+        }
+        let nodes = attempt.nodes.list.as_slice();
+        let points = moved_points(self.alloc, nodes, &attempt.placed.points, n, by)?;
+        let found = find_plan(
+            self.alloc,
+            self.function,
+            &attempt.nodes,
+            &attempt.ranges,
+            &points,
+            self.task.width,
+            self.task.goal(),
+        )?;
+        match found {
+            Ok(plan) => {
+                let old = attempt.placed.plan.cost();
+                if !plan.small().is_empty() || !plan.cost().is_below(old) {
+                    return Ok(false);
+                }
+                attempt.placed = Placed { points, plan };
+                Ok(true)
+            }
+            Err(_) => Ok(false),
+        }
+    }
+
+    /// Moves the word of a literal, and keeps that where the cost falls.
+    fn move_word(&mut self, attempt: &mut Attempt, n: u32, units: i64) -> Result<bool, Memory> {
+        if !self.spend() {
+            return Ok(false);
+        }
+        move_word(
+            self.alloc,
+            self.function,
+            &attempt.nodes,
+            &attempt.ranges,
+            &attempt.placed.points,
+            self.task.goal(),
+            &mut attempt.placed.plan,
+            n,
+            units,
+        )
+    }
+
+    /// Moves the point of a node this way and that.
+    fn turn_point(&mut self, attempt: &mut Attempt, n: usize) -> Result<bool, Memory> {
+        let mut has_gain = false;
+        for by in &POINT_MOVES {
+            if self.move_point(attempt, n, *by)? {
+                has_gain = true;
+            }
+        }
+        Ok(has_gain)
+    }
+
+    /// Moves the word of a literal this way and that.
+    fn turn_word(&mut self, attempt: &mut Attempt, n: u32) -> Result<bool, Memory> {
+        let mut has_gain = false;
+        for units in &WORD_MOVES {
+            if self.move_word(attempt, n, *units)? {
+                has_gain = true;
+            }
+        }
+        Ok(has_gain)
+    }
+
+    /// Moves the points of all nodes that have one of their own.
+    fn turn_points(&mut self, attempt: &mut Attempt) -> Result<bool, Memory> {
+        let mut has_gain = false;
+        for n in 0..attempt.nodes.list.len() {
+            let own = match attempt.nodes.list.as_slice().get(n) {
+                Some(node) => follows(node).is_none(),
+                None => false,
+            };
+            if own && self.turn_point(attempt, n)? {
+                has_gain = true;
+            }
+        }
+        Ok(has_gain)
+    }
+
+    /// Moves the words of all literals.
+    fn turn_words(&mut self, attempt: &mut Attempt) -> Result<bool, Memory> {
+        let mut has_gain = false;
+        let count = u32::try_from(attempt.nodes.list.len()).unwrap_or(u32::MAX);
+        for n in 0..count {
+            let node = attempt.nodes.list.as_slice().get(n as usize);
+            let is_literal = matches!(node, Some(Node::Const { .. }));
+            if is_literal && self.turn_word(attempt, n)? {
+                has_gain = true;
+            }
+        }
+        Ok(has_gain)
+    }
+
+    /// Rounds over all points and words, until one has no gain.
+    pub fn run(&mut self, attempt: &mut Attempt) -> Result<(), Memory> {
+        for _round in 0..ROUNDS {
+            let points = self.turn_points(attempt)?;
+            let words = self.turn_words(attempt)?;
+            if self.budget == 0 || !(points || words) {
+                return Ok(());
+            }
+        }
+        Ok(())
+    }
+}

@@ -1,0 +1,107 @@
+//! The search, from its first draw to what the checker has certified.
+ghost use Rattle.std.specs.Prelude.{◌≡◌, ◌∷◌, [], Contains, IfOk, IfSome};
+ghost use Rattle.fx_model.specs.LawfulProgram.{widths};
+
+use crate::certify::{certified, keeps};
+use crate::climb::best_draft;
+use crate::task::{Task, references};
+use fx_checker::Certified;
+use fx_expr::Function;
+use fx_moves::Draft;
+use fx_num::{Dyadic, Memory};
+use rand_core::SeedableRng;
+use rand_pcg::Pcg32;
+use std::alloc::Global;
+
+/// A function of more nodes gets fewer tries, so that
+const MANY_NODES: u32 = 500;
+
+/// tries by nodes are at most so many.
+const WORK_LIMIT: u32 = 1 << 18;
+
+/// So many tries at most serve a function of so many nodes, and the first one always.
+fn affordable(nodes: u32, tries: u32) -> u32 {
+    if nodes <= MANY_NODES {
+        tries
+    } else {
+        tries.min((WORK_LIMIT / nodes).max(1))
+    }
+}
+
+/// The certified program of a draft, unless a bound is above the one that stands.
+fn suited(
+    alloc: Global,
+    task: Task<'_>,
+    draft: &Draft,
+    plans: u32,
+    held: &[Dyadic],
+) -> Result<Option<Certified>, Memory>
+    ensures function_is { IfOk result (λ o. IfSome o (λ c. c.function ≡ task.entry.source.now)) }
+    ensures named { IfOk result (λ o. IfSome o (λ c. c.program.name ≡ task.entry.source.now.name)) }
+    ensures width_is { IfOk result (λ o. IfSome o (λ c. c.program.width ≡ task.entry.width)) }
+{
+    let Some(found) = certified(alloc, task, draft, plans)? else {
+        return Ok(None);
+    };
+    if keeps(&found, held) {
+        Ok(Some(found))
+    } else {
+        Ok(None)
+    }
+}
+
+/// The best that is found for a task, else what the source as it stands gives.
+fn best(
+    alloc: Global,
+    task: Task<'_>,
+    seed: u64,
+    tries: u32,
+    held: &[Dyadic],
+) -> Result<Option<Certified>, Memory>
+    ensures function_is { IfOk result (λ o. IfSome o (λ c. c.function ≡ task.entry.source.now)) }
+    ensures named { IfOk result (λ o. IfSome o (λ c. c.program.name ≡ task.entry.source.now.name)) }
+    ensures width_is { IfOk result (λ o. IfSome o (λ c. c.program.width ≡ task.entry.width)) }
+{
+    let mut rng = Pcg32::seed_from_u64(seed);
+    let nodes = task.source.nodes();
+    let draft = best_draft(alloc, &mut rng, task, affordable(nodes, tries))?;
+    let plans = affordable(nodes, tries.saturating_mul(2));
+    let found = suited(alloc, task, &draft, plans, held)?;
+    if found.is_some() || draft.steps.is_empty() {
+        return Ok(found);
+    }
+    let source = Draft::new(alloc, task.source)?;
+    let plain = suited(alloc, task, &source, plans, held)?;
+    Ok(plain)
+}
+
+/// The best certified program that the search finds in so many tries, if it finds one.
+///
+/// `held` has the bounds of the answer that stands so far, one for each output, and none of them is exceeded; it is empty
+/// where there is no answer. The first try is the function as it stands. A function with states is none for this search.
+pub fn search(
+    alloc: Global,
+    function: &Function,
+    width: u32,
+    seed: u64,
+    tries: u32,
+    held: &[Dyadic],
+) -> Result<Option<Certified>, Memory>
+    requires width { Contains widths width }
+    ensures function_is { IfOk result (λ o. IfSome o (λ c. c.function ≡ function.now)) }
+    ensures named { IfOk result (λ o. IfSome o (λ c. c.program.name ≡ function.now.name)) }
+    ensures width_is { IfOk result (λ o. IfSome o (λ c. c.program.width ≡ width)) }
+{
+    if tries == 0 || function.states.len() > 0 {
+        return Ok(None);
+    }
+    let references = references(alloc, held)?;
+    let task = Task {
+        source: function,
+        width,
+        references: &references,
+        is_held: !held.is_empty(),
+    };
+    let found = best(alloc, task, seed, tries, held)?;
+    Ok(found)
+}
