@@ -73,7 +73,11 @@ pub fn demo_number(text: &str) -> Option<u32>
     ensures limited { IfSome result (λ n. (1 ≤ n) × (n ≤ 500)) }
 {
     let number = number_up_to(text, 500)?;
-    if number >= 1 { Some(number as u32) } else { None }
+    if number >= 1 {
+        Some(number as u32)
+    } else {
+        None
+    }
 }
 
 // Whether words have that width.
