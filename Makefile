@@ -1,12 +1,21 @@
-# What a newcomer runs: the first example, and the gate.
-.PHONY: run test
+# What a newcomer runs: a first look, the examples proved and built, and the gate.
+.PHONY: try run install test
 
 PROGRAM := build/fixd
 SOURCES := $(shell git ls-files crates crates.txt)
+PREFIX ?= /usr/local
 
-# proves the program, builds it, and runs the first example
+# the first example by the same sources, compiled without a proof of anything: a look, in a minute or two
+try:
+	@cd crates/fx_cli && rt try -- run ../../examples/half/half.bundle < ../../examples/half/half.csv
+	@echo "this was a try: nothing of it is proved; 'make run' proves first" >&2
+
+# proves the program, builds it, runs the first example, and goes from a source to its rows
 run: $(PROGRAM)
 	@$(PROGRAM) run examples/half/half.bundle < examples/half/half.csv
+	@$(PROGRAM) synth --width 16 examples/smooth/smooth.fixd > build/smooth.bundle
+	@$(PROGRAM) check build/smooth.bundle
+	@$(PROGRAM) run build/smooth.bundle < examples/smooth/smooth.csv
 
 $(PROGRAM): $(SOURCES)
 	@echo "proving and building $(PROGRAM): up to an hour the first time, seconds later" >&2
@@ -14,6 +23,11 @@ $(PROGRAM): $(SOURCES)
 	@(cd crates/fx_cli && rt run -- run ../../examples/half/half.bundle < ../../examples/half/half.csv) > build/build.log 2>&1 \
 	  || { cat build/build.log >&2; exit 1; }
 	@cp crates/fx_cli/out/fx_cli $(PROGRAM)
+
+# puts the program and its manual page where a system expects them
+install: $(PROGRAM)
+	install -D -m 755 $(PROGRAM) $(DESTDIR)$(PREFIX)/bin/fixd
+	install -D -m 644 docs/fixd.1 $(DESTDIR)$(PREFIX)/share/man/man1/fixd.1
 
 # every proof from nothing, every wrong body that must be refused, every test
 test:

@@ -189,7 +189,7 @@ const READ_FAULT: &str = "fixd: read fault\n";
 
 // words, and how they end where `-x` is the one file
 #[rattlefmt::skip]
-static WORDS: [(&[&str], u8, &str, &str); 31] = [
+static WORDS: [(&[&str], u8, &str, &str); 38] = [
     (&[], 2, "", USAGE),
     (&["run"], 2, "", USAGE),
     (&["check"], 2, "", USAGE),
@@ -212,6 +212,13 @@ static WORDS: [(&[&str], u8, &str, &str); 31] = [
     (&["Run", "a"], 2, "", USAGE),
     (&["walk", "a"], 2, "", USAGE),
     (&["demo", "0"], 2, "", USAGE),
+    (&["demo", "501"], 2, "", USAGE),
+    (&["demo", "-1"], 2, "", USAGE),
+    (&["demo"], 2, "", USAGE),
+    (&["demo", "3", "4"], 2, "", USAGE),
+    (&["demo", "000000000000000000003"], 2, "", USAGE),
+    (&["synth", "--width=", "f"], 2, "", USAGE),
+    (&["synth", "--width", "16", "--seed", "-1", "f"], 2, "", USAGE),
     (&["--help"], 2, "", USAGE),
     (&["run", "a"], 6, "", READ_FAULT),
     (&["check", "a"], 6, "", READ_FAULT),
@@ -461,5 +468,21 @@ fn takes_long_lines(rt: HostRuntime) -> Result<(), Fail> {
             "a line of {length} bytes"
         );
     }
+    Ok(())
+}
+
+// The demonstration of three temps, once more; and where its line can't be written.
+#[test]
+fn demonstrates(rt: HostRuntime) -> Result<(), Fail> {
+    let alloc = rt.alloc();
+    let mut shelf = shelf(alloc, b"", 0)?;
+    let mut input = BytesIn::new(b"x\n".to_vec(alloc)?, 1, Vec::new(alloc));
+    let first = call(alloc, &["demo", "3"], &mut shelf, &mut input, (0, 0))?;
+    let again = call(alloc, &["demo", "--", "03"], &mut shelf, &mut input, (0, 0))?;
+    let line = first.output.bytes();
+    assert!(rt; first.status == Status::DONE && line == again.output.bytes());
+    assert!(rt; line.starts_with(b"demo 3 nodes 13 rows 1000 last 1.236"));
+    let unwritten = call(alloc, &["demo", "3"], &mut shelf, &mut input, (1, 0))?;
+    assert!(rt; unwritten.is(7, "", "fixd: write fault\n"));
     Ok(())
 }

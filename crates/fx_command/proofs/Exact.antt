@@ -28,6 +28,8 @@ use Rattle.fx_command.specs.commands.Check.{ReportEnds}
 use Rattle.fx_command.specs.commands.Check as check
 use Rattle.fx_command.specs.commands.Show.{ShowEnds}
 use Rattle.fx_command.specs.commands.Show as show
+use Rattle.fx_command.specs.commands.Demo.{DemoEnds}
+use Rattle.fx_command.specs.commands.Demo as demo
 use Rattle.fx_command.specs.Promise.{HasEnded, IsAnswer, CallEnds, CallCompletes, FileEnds, file_of}
 use Rattle.fx_command.proofs.SameEnd.{ok_inside, same_end}
 use Rattle.fx_command.proofs.ExactSource.{exact_source, synthesis_decides}
@@ -123,20 +125,29 @@ table_decides old new b fn end writes (show.shown put) = inl refl
 table_decides old new b fn end writes (show.unwritten rose put) = absurd (writes rose)
 table_decides old new b fn end writes (show.no_memory same) = inr refl
 
+demo_decides : (old new : Streams) (n : ℕ) (end : End) → ¬ Rose old.write_faults new.write_faults → DemoEnds old new n end → (end ≡ Done) ⊎ (end ≡ NoMemory)
+demo_decides old new n end writes (demo.demonstrated line is put) = inl refl
+demo_decides old new n end writes (demo.unwritten line is rose put) = absurd (writes rose)
+demo_decides old new n end writes (demo.no_memory same) = inr refl
+
 -- ---- the clauses of the call
 module _ (again : BundleAgain) (papers : Option Files) (before after : ℕ) (old new : Streams) (noted noted' : Option (List ℕ)) (failed failed' : ℕ) (status : ℕ) where
   abbrev IsEnd : End → Type 0
   IsEnd end = IsAnswer noted noted' failed failed' status end
 
-  pub exact : (command : Option commands.Command) (c : commands.Command) → HasEnded papers before after old new noted noted' failed failed' command status → command ≡ Some c →
-      EndsExactly papers before after (file_of c) (FileEnds papers before after c) IsEnd
-  exact command c h is = by_command c (subst (λ (x : Option commands.Command). CallEnds papers before after old new x h.end) is h.cause)
+  pub exact : (command : Option commands.Command) (c : commands.Command) (name : List ℕ) → HasEnded papers before after old new noted noted' failed failed' command status → command ≡ Some c → file_of c ≡ Some name →
+      EndsExactly papers before after name (FileEnds papers before after c) IsEnd
+  exact command c name h is = by_command c (subst (λ (x : Option commands.Command). CallEnds papers before after old new x h.end) is h.cause)
     where
-      by_command : (c : commands.Command) → CallEnds papers before after old new (Some c) h.end → EndsExactly papers before after (file_of c) (FileEnds papers before after c) IsEnd
-      by_command (commands.Run name) ends = λ file found e other cause. exact_opening again papers before after name file found IsEnd h.end e h.answer ends other cause
-      by_command (commands.Check name) ends = λ file found e other cause. exact_opening again papers before after name file found IsEnd h.end e h.answer ends other cause
-      by_command (commands.Show name) ends = λ file found e other cause. exact_opening again papers before after name file found IsEnd h.end e h.answer ends other cause
-      by_command (commands.Synth wanted) ends = λ file found e other cause. exact_source papers before after wanted file found IsEnd old new h.end e h.answer ends other cause
+      there : (IsCause : End → Type 0) (file : List ℕ) → Some file ≡ Some name → EndsExactly papers before after file IsCause IsEnd → EndsExactly papers before after name IsCause IsEnd
+      there IsCause file e ends = let is : file ≡ name = cc in subst (λ n. EndsExactly papers before after n IsCause IsEnd) is ends
+
+      by_command : (c : commands.Command) → CallEnds papers before after old new (Some c) h.end → file_of c ≡ Some name → EndsExactly papers before after name (FileEnds papers before after c) IsEnd
+      by_command (commands.Run file) ends e = there _ file e (λ bytes found e other cause. exact_opening again papers before after file bytes found IsEnd h.end e h.answer ends other cause)
+      by_command (commands.Check file) ends e = there _ file e (λ bytes found e other cause. exact_opening again papers before after file bytes found IsEnd h.end e h.answer ends other cause)
+      by_command (commands.Show file) ends e = there _ file e (λ bytes found e other cause. exact_opening again papers before after file bytes found IsEnd h.end e h.answer ends other cause)
+      by_command (commands.Synth wanted) ends e = there _ wanted.file e (λ bytes found e other cause. exact_source papers before after wanted bytes found IsEnd old new h.end e h.answer ends other cause)
+      by_command (commands.Demo n) ends e = absurd cc
 
   either : (end decided : End) → IsEnd end → (end ≡ decided) ⊎ (end ≡ NoMemory) → OrNoMemory IsEnd decided
   either end decided h (inl is) = inl (subst IsEnd is h)
@@ -164,3 +175,4 @@ module _ (again : BundleAgain) (papers : Option Files) (before after : ℕ) (old
       by b fn writes (inr ends) = either h.end Done h.answer (table_decides old new b fn h.end writes ends)
   complete (Some (commands.Synth wanted)) h = λ file fn found source inside writes.
       either h.end Done h.answer (synthesis_decides papers before after wanted file found old new fn h.end source inside writes h.cause)
+  complete (Some (commands.Demo n)) h = λ writes. either h.end Done h.answer (demo_decides old new n h.end writes h.cause)

@@ -12,7 +12,7 @@ ghost use Rattle.fx_words.specs.Command as commands;
 ghost use Rattle.fx_words.specs.Command.{Run, texts, command_of};
 ghost use Rattle.fx_command.specs.Promise.{HasEnded, IsAnswer, CallCompletes, FileEnds, Told, IsHonest, IsUnopened, file_of, leaves_input, is_early};
 
-use crate::commands::{check_file, run_file, show_file, synth_file};
+use crate::commands::{check_file, print_demo, run_file, show_file, synth_file};
 use crate::end::End;
 use fx_base::{Shelf, Sink, Source, Status};
 use fx_cert::bundle_text_law;
@@ -43,13 +43,16 @@ fn perform<H: Shelf, S: Source, K: Sink, N: Sink>(
         Ok(Command::Check(name)) => check_file(alloc, shelf, name, output).finish(notes),
         Ok(Command::Show(name)) => show_file(alloc, shelf, name, output).finish(notes),
         Ok(Command::Synth(wanted)) => synth_file(alloc, shelf, &wanted, output).finish(notes),
+        Ok(Command::Demo(number)) => print_demo(alloc, number, output).finish(notes),
         Err(WordFault::Usage) => End::Usage.finish(notes),
         Err(WordFault::Memory) => End::NoMemory.finish(notes),
     }
 }
 
-/// Does what the words say, and answers with the status of the command: `run FILE` runs the rows of the input through the
-/// bundle in FILE, and `check FILE` prints its bounds.
+/// Does what the words say, and answers with the status of the command.
+///
+/// `run FILE` runs the rows of the input through the bundle in FILE, `check FILE` prints its bounds and `show FILE` its codes
+/// too, `synth FILE` prints a bundle for a source, and `demo N` what comes of a source of its own.
 pub fn fixd<H: Shelf, S: Source, K: Sink, N: Sink>(
     alloc: Global,
     words: &Vec<String>,
@@ -72,7 +75,7 @@ pub fn fixd<H: Shelf, S: Source, K: Sink, N: Sink>(
         (N.taken notes.old) (N.taken notes.new) (N.faults notes.old) (N.faults notes.new) (command_of (texts words.now.items)) result }
 
     // A cause that FILE gives is how the call ends, where the shelf tells its files and doesn't fail, and there is memory.
-    ensures exact { (c : commands.Command) → command_of (texts words.now.items) ≡ Some c → EndsExactly (H.papers shelf.old) (H.faults shelf.old) (H.faults shelf.new) (file_of c)
+    ensures exact { (c : commands.Command) (name : List ℕ) → command_of (texts words.now.items) ≡ Some c → file_of c ≡ Some name → EndsExactly (H.papers shelf.old) (H.faults shelf.old) (H.faults shelf.new) name
         (FileEnds (H.papers shelf.old) (H.faults shelf.old) (H.faults shelf.new) c)
         (IsAnswer (N.taken notes.old) (N.taken notes.new) (N.faults notes.old) (N.faults notes.new) result) }
 
@@ -86,7 +89,7 @@ pub fn fixd<H: Shelf, S: Source, K: Sink, N: Sink>(
     ensures early { is_early result ≡ true → (input.new ≡ input.old) × (output.new ≡ output.old) }
 
     // Where the shelf tells its files and FILE is none of them, nothing is touched.
-    ensures missing { (c : commands.Command) → command_of (texts words.now.items) ≡ Some c → IsMissing (H.papers shelf.old) (file_of c) → IsUnopened
+    ensures missing { (c : commands.Command) (name : List ℕ) → command_of (texts words.now.items) ≡ Some c → file_of c ≡ Some name → IsMissing (H.papers shelf.old) name → IsUnopened
         (record { left = S.left input.old; read_faults = S.faults input.old; taken = K.taken output.old; write_faults = K.faults output.old })
         (record { left = S.left input.new; read_faults = S.faults input.new; taken = K.taken output.new; write_faults = K.faults output.new }) result }
 

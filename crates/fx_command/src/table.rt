@@ -10,7 +10,7 @@ ghost use Rattle.fx_model.specs.Tree.{at};
 ghost use Rattle.fx_inequalities.specs.Certificate.{no_line};
 ghost use Rattle.fx_program.specs.CodeView.{code_of};
 ghost use Rattle.fx_cert.specs.CertificateView.{line_view, lines_view};
-ghost use Rattle.fx_command.specs.Listing.{numbered_lines};
+ghost use Rattle.fx_demo.specs.Listing.{numbered_lines};
 ghost use Rattle.fx_command.specs.commands.Show.{instruction_name, value_text, shown_fields, shown_line};
 
 use fx_cert::NodeLine;
@@ -39,8 +39,8 @@ fn instruction(code: Code) -> &'static str
     }
 }
 
-// A space and a value.
-fn put_value(out: &mut Vec<u8>, value: Dyadic) -> Result<(), AllocError>
+/// A space and a value.
+pub fn put_value(out: &mut Vec<u8>, value: Dyadic) -> Result<(), AllocError>
     ensures { OnOk result (out.new.items ≡ out.old.items ++ 32 ∷ value_text value) }
 {
     put_number(out, value.m)?;

@@ -12,7 +12,7 @@ use Rattle.clap.specs.Kinds.{Kinds, or_else}
 use Rattle.clap.specs.Faults.{fault_of, walk_fault, turn_fault, step_fault, word_fault, other_fault, flag_word_fault, flags_fault, bundle_fault, bundle_step_fault, settle_fault, check_fault, defaults_fault, entered_fault}
 use Rattle.fx_words.specs.App.{fixd_app}
 use Rattle.fx_words.specs.Command as words
-use Rattle.fx_words.specs.Command.{command_given, options_of, synth_options}
+use Rattle.fx_words.specs.Command.{command_given, demo_given, options_of, synth_options}
 use Rattle.fx_words.specs.Grammar.{Bytes, Entry, ends_options, is_dashed, value_named}
 use Rattle.fx_words.proofs.Booleans.{and-true}
 use Rattle.fx_words.proofs.Pending.{faults_from, has_required, is_nil, nil-or_else, settled_now, walk_at}
@@ -96,6 +96,18 @@ synth-is-one = record {
   wants = no-synthesis;
 }
 
+demo-is-one : IsCommand (codes "demo")
+unfolding walk_fault walked defaults_fault
+demo-is-one = record {
+  options = [];
+  apart = tt;
+  known = refl;
+  faults = λ rest. ap₂ by_walk (stopped-walk (walk_from nothing_held) (codes "demo") [] rest) (sym (walk_stopped [] commands (walk_from nothing_held) (codes "demo") [] rest))
+      ∙ nil-or_else (faults_from (codes "demo") (options_rules []) (walk_at [] settled_now 1 false) rest) [] ∙ and-true _;
+  rows = λ rest. ap (λ w. entered (built fixd_app) w.stopped) (sym (walk_stopped [] commands (walk_from nothing_held) (codes "demo") [] rest));
+  wants = λ ps e. ap demo_given (no-file ps e);
+}
+
 -- ---- a first word that is none
 
 pub no-words : is_nil (fault_of fixd_app []) ≡ false
@@ -150,34 +162,38 @@ other-way xs ys e = by_other (bytes_eq ys xs) refl where
   by_other true f = sym ((bytes_eq-Decides xs ys).1 (sym ((bytes_eq-Decides ys xs).0 f))) ∙ e
   by_other false f = refl
 
-not-met : (r c v s : Bool) → r ≡ false → c ≡ false → v ≡ false → s ≡ false
+not-met : (r c v s d : Bool) → r ≡ false → c ≡ false → v ≡ false → s ≡ false → d ≡ false
     → option_map (λ (p : Bytes × List Bytes). p.0)
-    (if r || false then Some (codes "run", []) else if c || false then Some (codes "check", []) else if v || false then Some (codes "show", []) else if s || false then Some (codes "synth", []) else None)
+    (if r || false then Some (codes "run", []) else if c || false then Some (codes "check", []) else if v || false then Some (codes "show", []) else if s || false then Some (codes "synth", [])
+    else if d || false then Some (codes "demo", []) else None)
     ≡ None
-not-met true c v s e f h g = absurd (cc)
-not-met false true v s e f h g = absurd (cc)
-not-met false false true s e f h g = absurd (cc)
-not-met false false false true e f h g = absurd (cc)
-not-met false false false false e f h g = refl
+not-met true c v s d e f h g i = absurd (cc)
+not-met false true v s d e f h g i = absurd (cc)
+not-met false false true s d e f h g i = absurd (cc)
+not-met false false false true d e f h g i = absurd (cc)
+not-met false false false false true e f h g i = absurd (cc)
+not-met false false false false false e f h g i = refl
 
-not-known : (r c v s : Bool) → r ≡ false → c ≡ false → v ≡ false → s ≡ false →
-    (if r then Some [] else if c then Some [] else if v then Some [] else if s then Some synth_options else None) ≡ None
-not-known true c v s e f h g = absurd (cc)
-not-known false true v s e f h g = absurd (cc)
-not-known false false true s e f h g = absurd (cc)
-not-known false false false true e f h g = absurd (cc)
-not-known false false false false e f h g = refl
+not-known : (r c v s d : Bool) → r ≡ false → c ≡ false → v ≡ false → s ≡ false → d ≡ false →
+    (if r then Some [] else if c then Some [] else if v then Some [] else if s then Some synth_options else if d then Some [] else None) ≡ None
+not-known true c v s d e f h g i = absurd (cc)
+not-known false true v s d e f h g i = absurd (cc)
+not-known false false true s d e f h g i = absurd (cc)
+not-known false false false true d e f h g i = absurd (cc)
+not-known false false false false true e f h g i = absurd (cc)
+not-known false false false false false e f h g i = refl
 
 pub which-command : (word : Bytes) → IsCommand word ⊎ IsNone word
 which-command word =
-    by_name (bytes_eq word (codes "run")) refl (bytes_eq word (codes "check")) refl (bytes_eq word (codes "show")) refl (bytes_eq word (codes "synth")) refl where
+    by_name (bytes_eq word (codes "run")) refl (bytes_eq word (codes "check")) refl (bytes_eq word (codes "show")) refl (bytes_eq word (codes "synth")) refl (bytes_eq word (codes "demo")) refl where
       by_name : (r : Bool) → bytes_eq word (codes "run") ≡ r → (c : Bool) → bytes_eq word (codes "check") ≡ c → (v : Bool) → bytes_eq word (codes "show") ≡ v →
-          (s : Bool) → bytes_eq word (codes "synth") ≡ s → IsCommand word ⊎ IsNone word
-      by_name true e c f v h s g = inl (subst IsCommand (sym ((bytes_eq-Decides word (codes "run")).0 e)) run-is-one)
-      by_name false e true f v h s g = inl (subst IsCommand (sym ((bytes_eq-Decides word (codes "check")).0 f)) check-is-one)
-      by_name false e false f true h s g = inl (subst IsCommand (sym ((bytes_eq-Decides word (codes "show")).0 h)) show-is-one)
-      by_name false e false f false h true g = inl (subst IsCommand (sym ((bytes_eq-Decides word (codes "synth")).0 g)) synth-is-one)
-      by_name false e false f false h false g = inr (record {
-        met = not-met _ _ _ _ (other-way word (codes "run") e) (other-way word (codes "check") f) (other-way word (codes "show") h) (other-way word (codes "synth") g);
-        unknown = not-known _ _ _ _ e f h g;
+          (s : Bool) → bytes_eq word (codes "synth") ≡ s → (d : Bool) → bytes_eq word (codes "demo") ≡ d → IsCommand word ⊎ IsNone word
+      by_name true e c f v h s g d i = inl (subst IsCommand (sym ((bytes_eq-Decides word (codes "run")).0 e)) run-is-one)
+      by_name false e true f v h s g d i = inl (subst IsCommand (sym ((bytes_eq-Decides word (codes "check")).0 f)) check-is-one)
+      by_name false e false f true h s g d i = inl (subst IsCommand (sym ((bytes_eq-Decides word (codes "show")).0 h)) show-is-one)
+      by_name false e false f false h true g d i = inl (subst IsCommand (sym ((bytes_eq-Decides word (codes "synth")).0 g)) synth-is-one)
+      by_name false e false f false h false g true i = inl (subst IsCommand (sym ((bytes_eq-Decides word (codes "demo")).0 i)) demo-is-one)
+      by_name false e false f false h false g false i = inr (record {
+        met = not-met _ _ _ _ _ (other-way word (codes "run") e) (other-way word (codes "check") f) (other-way word (codes "show") h) (other-way word (codes "synth") g) (other-way word (codes "demo") i);
+        unknown = not-known _ _ _ _ _ e f h g i;
       })

@@ -12,11 +12,11 @@ option_rule name = record (new_rule name) { long = Some name; action = Some Set 
 abbrev pub required_option_rule : Bytes → Rule
 required_option_rule name = record (option_rule name) { required = true }
 
--- FILE
+-- FILE, or the number of `demo`
 abbrev pub file_rule : Rule
 file_rule = record (new_rule (codes "file")) { action = Some Set; required = true }
 
--- a command that takes FILE alone
+-- a command that takes this one word alone
 abbrev pub file_app : Bytes → App
 file_app name = with_rule (new_app name) file_rule
 
@@ -38,4 +38,6 @@ top_app = record (new_app (codes "fixd")) {
 }
 
 abbrev pub fixd_app : App
-fixd_app = with_subcommand (with_subcommand (with_subcommand (with_subcommand top_app (file_app (codes "run")).top) (file_app (codes "check")).top) (file_app (codes "show")).top) synth_app.top
+fixd_app =
+    with_subcommand (with_subcommand (with_subcommand (with_subcommand (with_subcommand top_app (file_app (codes "run")).top) (file_app (codes "check")).top)
+    (file_app (codes "show")).top) synth_app.top) (file_app (codes "demo")).top

@@ -4,7 +4,7 @@ use Rattle.std.specs.Str.{bytes_eq}
 use Rattle.std.specs.declared.alloc.Global.{Global}
 use Rattle.fx_model.specs.LawfulProgram.{widths}
 use Rattle.fx_words.specs.Grammar.{Bytes, entries_in, once, value_named, have_values}
-use Rattle.fx_words.specs.Numbers.{number_or, width_given}
+use Rattle.fx_words.specs.Numbers.{demo_number, number_or, width_given}
 
 -- what a synthesis is asked for
 pub record Synthesis : Type 0 where
@@ -20,6 +20,7 @@ pub data Command : Type 0 where
   Check : (file : Bytes) → Command
   Show : (file : Bytes) → Command
   Synth : Synthesis → Command
+  Demo : (n : ℕ) → Command
 
 -- each word as its bytes
 abbrev pub texts : List (String Global) → List Bytes
@@ -48,6 +49,10 @@ synthesis_given given =
     (number_or 200 tries_limit (given (codes "tries")))
     (given (codes "file"))
 
+-- a demonstration of this number
+abbrev pub demo_given : Option Bytes → Option Command
+demo_given text = option_map Demo (option_and_then demo_number text)
+
 -- the options of the command of this name
 abbrev pub options_of : Bytes → Option (List Bytes)
 options_of word =
@@ -55,27 +60,30 @@ options_of word =
     else if bytes_eq word (codes "check") then Some []
     else if bytes_eq word (codes "show") then Some []
     else if bytes_eq word (codes "synth") then Some synth_options
+    else if bytes_eq word (codes "demo") then Some []
     else None
 
--- the command of this name, from what is given under each name of an option and under `file`
+-- the command of this name, from what is given under each name of an option and under `file`, where the number of `demo` stands too
 abbrev pub command_given : Bytes → (Bytes → Option Bytes) → Option Command
 command_given word given =
     if bytes_eq word (codes "run") then option_map Run (given (codes "file"))
     else if bytes_eq word (codes "check") then option_map Check (given (codes "file"))
     else if bytes_eq word (codes "show") then option_map Show (given (codes "file"))
     else if bytes_eq word (codes "synth") then synthesis_given given
+    else if bytes_eq word (codes "demo") then demo_given (given (codes "file"))
     else None
 
 -- the same, where the value of each of these options is one
 abbrev pub lawful_command : Bytes → List Bytes → (Bytes → Option Bytes) → Option Command
 lawful_command word options given = if have_values options given then command_given word given else None
 
--- a synthesis is at one of the widths, with at most so many tries
+-- a synthesis is at one of the widths, with at most so many tries; a demonstration has a number from 1 to 500
 abbrev pub IsLawfulCommand : Command → Type 0
 IsLawfulCommand (Synth s) = Contains widths s.width × (s.tries ≤ tries_limit)
+IsLawfulCommand (Demo n) = (1 ≤ n) × (n ≤ 500)
 IsLawfulCommand command = Unit {0}
 
--- the command of the words, where they are one: its name, and then its options and FILE
+-- the command of the words, where they are one: its name, and then its options and FILE, or the number of `demo`
 abbrev pub command_of : List Bytes → Option Command
 command_of [] = None
 command_of (word ∷ words) =

@@ -11,7 +11,7 @@ use clap::ArgMatches;
 use clap::error::ErrorKind;
 use std::alloc::Global;
 
-/// What is to be done, with the name of FILE.
+/// What is to be done, with the name of FILE or the number of a demonstration.
 #[derive(Clone, Copy, Debug, PartialEq, Eq)]
 pub enum Command<'a> {
     /// Runs the rows of the input.
@@ -22,6 +22,8 @@ pub enum Command<'a> {
     Show(&'a str),
     /// Makes a bundle of a source.
     Synth(Synthesis<'a>),
+    /// Synthesises and runs the source of this number.
+    Demo(u32),
 }
 
 /// What a synthesis is asked for.

@@ -3,12 +3,12 @@ ghost use Rattle.std.specs.Prelude.{◌≡◌, IfSome, option_map, codes, true};
 ghost use Rattle.std.specs.Option.{option_copied, option_map_or};
 ghost use Rattle.clap.specs.Words.{first_of, found_of, rows_of, subcommand_rows_of};
 ghost use Rattle.fx_words.specs.Command as words;
-ghost use Rattle.fx_words.specs.Command.{IsLawfulCommand, lawful_command, synth_options};
+ghost use Rattle.fx_words.specs.Command.{IsLawfulCommand, demo_given, lawful_command, synth_options};
 ghost use Rattle.fx_words.specs.CommandView.{command_found, command_view};
 ghost use Rattle.fx_words.specs.Grammar.{is_value, have_values};
 
 use crate::command::{Command, Synthesis};
-use crate::number::{is_value, number_or, width_given};
+use crate::number::{demo_number, is_value, number_or, width_given};
 use clap::ArgMatches;
 
 /// The most tries that can be asked for.
@@ -92,6 +92,14 @@ fn synth_in<'a>(matches: &ArgMatches<'a>) -> Option<Command<'a>>
     }))
 }
 
+fn demo_in<'a>(matches: &ArgMatches<'a>) -> Option<Command<'a>>
+    ensures command { option_map command_view result ≡ demo_given (first_of (codes "file") (rows_of (found_of matches.now))) }
+    ensures lawful { IfSome result (λ c. IsLawfulCommand (command_view c)) }
+{
+    let number = demo_number(text_of(matches, "file")?)?;
+    Some(Command::Demo(number))
+}
+
 /// The command of what was found.
 pub fn command_in<'a>(matches: &ArgMatches<'a>) -> Option<Command<'a>>
     ensures command { option_map command_view result ≡ command_found (subcommand_rows_of matches.now) }
@@ -103,6 +111,7 @@ pub fn command_in<'a>(matches: &ArgMatches<'a>) -> Option<Command<'a>>
         "check" => check_in(found),
         "show" => show_in(found),
         "synth" => synth_in(found),
+        "demo" => demo_in(found),
         _ => None,
     }
 }

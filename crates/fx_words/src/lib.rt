@@ -1,6 +1,6 @@
 //! The words of the command line.
 //!
-//! A command's name comes first, and then its options and FILE. `specs/Grammar.antt` says which words are such, without
+//! A command's name comes first, and then its options and FILE, or the number of `demo`. `specs/Grammar.antt` says which words are such, without
 //! `clap`, and `specs/Command.antt` which command they are; `read_words` lets `clap` read them, and answers the same. The
 //! trap: `clap` takes an empty value, and one behind `=` that begins with a minus, and knows none of our numbers; so values
 //! are tested when a command is made of them. To add a command, give it a variant of `Command`, a line in `options_of` and

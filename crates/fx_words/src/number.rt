@@ -5,7 +5,7 @@ ghost use Rattle.std.specs.List.{list_all, list_any};
 ghost use Rattle.std.specs.Option.{option_copied};
 ghost use Rattle.fx_model.specs.LawfulProgram.{widths};
 ghost use Rattle.fx_words.specs.Grammar.{is_value};
-ghost use Rattle.fx_words.specs.Numbers.{is_numeral, number_up_to, number_or, width_given};
+ghost use Rattle.fx_words.specs.Numbers.{demo_number, is_numeral, number_up_to, number_or, width_given};
 
 /// Whether an option may have this value.
 pub fn is_value(text: &str) -> bool
@@ -64,6 +64,19 @@ pub fn number_or(text: Option<&str>, other: u64, limit: u64) -> Option<u64>
     match text {
         Some(text) => number_up_to(text, limit),
         None => Some(other),
+    }
+}
+
+/// The number of a demonstration.
+pub fn demo_number(text: &str) -> Option<u32>
+    ensures number { result ≡ demo_number text.now }
+    ensures limited { IfSome result (λ n. (1 ≤ n) × (n ≤ 500)) }
+{
+    let number = number_up_to(text, 500)?;
+    if number >= 1 {
+        Some(number as u32)
+    } else {
+        None
     }
 }
 

@@ -8,7 +8,7 @@ ghost use Rattle.fx_words.specs.App.{file_rule, option_rule, required_option_rul
 use clap::{Arg, ArgAction, Command as Parser};
 use std::alloc::{AllocError, Global};
 
-// FILE.
+// FILE, or the number of `demo`.
 fn file<'a>(alloc: Global) -> Arg<'a>
     ensures rule { rule_of result ≡ file_rule }
     ensures own { result.global ≡ false }
@@ -33,7 +33,7 @@ fn required_option<'a>(alloc: Global, name: &'a str) -> Arg<'a>
     option(alloc, name).required(true)
 }
 
-// A command that takes FILE alone.
+// A command that takes this one word alone.
 fn file_command<'a>(alloc: Global, name: &'a str) -> Result<Parser<'a>, AllocError>
     ensures app { IfOk result (λ c. app_of c ≡ file_app name.entry.now) }
     ensures own { IfOk result (λ c. (out-Command c).has_globals ≡ false) }
@@ -91,8 +91,10 @@ pub fn fixd<'a>(alloc: Global) -> Result<Parser<'a>, AllocError>
     let check = file_command(alloc, "check")?;
     let show = file_command(alloc, "show")?;
     let synth = synth(alloc)?;
+    let demo = file_command(alloc, "demo")?;
     let line = with_command(top(alloc), run)?;
     let line = with_command(line, check)?;
     let line = with_command(line, show)?;
-    with_command(line, synth)
+    let line = with_command(line, synth)?;
+    with_command(line, demo)
 }

@@ -1,6 +1,6 @@
 //! What no clause says: that there is memory for a call; and the words of a person's table.
 use super::*;
-use Command::{Check, Run, Show, Synth};
+use Command::{Check, Demo, Run, Show, Synth};
 use std::alloc::Global;
 use std::test::Fail;
 
@@ -15,7 +15,7 @@ const SHORT: Synthesis<'static> = Synthesis {
 
 // words behind the program's name, and the command that they are
 #[rattlefmt::skip]
-static WORDS: [(&[&str], Option<Command<'static>>); 71] = [
+static WORDS: [(&[&str], Option<Command<'static>>); 83] = [
     (&[], None),
     (&["run"], None),
     (&["check"], None),
@@ -33,6 +33,18 @@ static WORDS: [(&[&str], Option<Command<'static>>); 71] = [
     (&["Run", "a"], None),
     (&["walk", "a"], None),
     (&["demo", "0"], None),
+    (&["demo"], None),
+    (&["demo", "1"], Some(Demo(1))),
+    (&["demo", "500"], Some(Demo(500))),
+    (&["demo", "501"], None),
+    (&["demo", "-1"], None),
+    (&["demo", "+1"], None),
+    (&["demo", "1", "2"], None),
+    (&["demo", "--", "007"], Some(Demo(7))),
+    (&["demo", "--width", "16", "3"], None),
+    (&["demo", "00000000000000000003"], Some(Demo(3))),
+    (&["demo", "000000000000000000003"], None),
+    (&["demo", "18446744073709551617"], None),
     (&["--help"], None),
     (&["run", "--help"], None),
     (&["help", "run"], None),

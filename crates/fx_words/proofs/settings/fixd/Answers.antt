@@ -12,4 +12,5 @@ returns c =
     let two : app_of c.in_ok-line-2.line ≡ line (line top_app (file_app (codes "run"))) (file_app (codes "check")) = c.in_ok-line-2.ensures ∙ ap₂ line one c.in_ok-check.ensures.app in
     let three : app_of c.in_ok-line-3.line ≡ line (line (line top_app (file_app (codes "run"))) (file_app (codes "check"))) (file_app (codes "show")) =
     c.in_ok-line-3.ensures ∙ ap₂ line two c.in_ok-show.ensures.app in
-    IfOk-weaker c.with_command-4.result _ (λ r. app_of r ≡ fixd_app) (λ r e. e ∙ ap₂ line three c.in_ok-synth.ensures.app) c.with_command-4.ensures
+    let four = c.in_ok-line-4.ensures ∙ ap₂ line three c.in_ok-synth.ensures.app in
+    IfOk-weaker c.with_command-5.result _ (λ r. app_of r ≡ fixd_app) (λ r e. e ∙ ap₂ line four c.in_ok-demo.ensures.app) c.with_command-5.ensures

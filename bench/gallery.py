@@ -1,0 +1,320 @@
+#!/usr/bin/env python3
+"""Makes docs/gallery.md and its pictures: of each example at three widths, what is certified and what is seen.
+
+    bench/gallery.py PROGRAM [--rows 100000] [--widths 16,24,32] [--only NAME,..] [--out docs/gallery.md] [--gappa FOLDER]
+
+PROGRAM is `fixd` as built. Exact outputs come by Python's fractions (bench/sources.py), so the script knows nothing of `fixd`'s
+arithmetic but the numbers that it prints. A row's true inputs are random decimals or corners of the ranges, and where an input
+has an error, the given value differs from the true one by a random part of it, or by all of it. With --gappa the input of Gappa
+for each program as it is written goes to FOLDER, as NAME.WIDTH.g; where `gappa` is installed its bound stands in the table.
+"""
+import argparse
+import itertools
+import os
+import random
+import re
+import shutil
+import subprocess
+import sys
+import tempfile
+import time
+from fractions import Fraction
+
+from gallery_pictures import error_over_input, error_over_time
+from sources import evaluator, functions_of
+
+ROOT = os.path.join(os.path.dirname(os.path.abspath(__file__)), "..")
+CODE_ENDS = {"add": 2, "sub": 2, "mul": 2, "div": 2, "neg": 1, "copy": 1}
+RUN_OF_A_FILTER = 2000
+
+HEAD = """# Gallery
+
+Made by `bench/gallery.py` with {rows:,} rows a function, random ones and corners of the ranges; {when}. For each example and width:
+how many nodes it has, the certified bound of the program as it is written (`--tries 0`) and of the one that `synth` finds
+(`--tries 200`), the greatest error seen of the latter, as a part of its bound, how long `synth` took, and Gappa's bound of the former
+program{gappa}. In a picture the line above and below is the bound, and each stroke the greatest and least error that was
+seen where the first input had that value. Errors are those of the outputs against exact values; nothing rounds in the comparison.
+
+| function | bits | nodes | bound as written | bound found | error seen | of the bound | seconds | Gappa |
+|---|---|---|---|---|---|---|---|---|
+"""
+
+
+def fixd(words, **options):
+    """Returns what the program prints, or None where its status isn't 0."""
+    ran = subprocess.run([PROGRAM, *words], stdout=subprocess.PIPE, stderr=subprocess.PIPE, text=True, **options)
+    if ran.returncode not in (0, 9):
+        sys.exit(f"fixd {' '.join(words)}: {ran.stderr.strip()}")
+    return ran.stdout if ran.returncode == 0 else None
+
+
+def synthesised(path, function, width, tries):
+    """Returns the bundle, or None where none is found, and the seconds that it took."""
+    start = time.monotonic()
+    text = fixd(["synth", "--width", str(width), "--tries", str(tries), "--function", function.name, path])
+    return text, time.monotonic() - start
+
+
+def bound_of(text):
+    """Returns the number of `m` or `m/2^e`."""
+    top, _, places = text.partition("/2^")
+    return Fraction(int(top), 2 ** int(places or 0))
+
+
+def bounds_of(bundle):
+    return [bound_of(line.split()[1]) for line in fixd(["check", bundle]).splitlines()[1:]]
+
+
+def short(number):
+    return f"{float(number):.3g}"
+
+
+# ---- rows
+
+def places_of(number):
+    """Returns how many decimal places a decimal has."""
+    places = 0
+    while (number * 10 ** places).denominator != 1:
+        places += 1
+    return places
+
+
+def decimal(number):
+    places = places_of(number)
+    digits = str(abs(int(number * 10 ** places))).rjust(places + 1, "0")
+    text = digits if places == 0 else f"{digits[:-places]}.{digits[-places:]}"
+    return f"-{text}" if number < 0 else text
+
+
+def true_value(draw, span):
+    places = max(6, places_of(span["lo"]), places_of(span["hi"]))
+    unit = 10 ** places
+    return Fraction(draw.randint(int(span["lo"] * unit), int(span["hi"] * unit)), unit)
+
+
+def given_value(draw, true, span):
+    if not span["err"]:
+        return true
+    return true + span["err"] * Fraction(draw.choice([-1, 1, draw.randint(-1000, 1000) / Fraction(1000)]))
+
+
+def rows_of(function, count):
+    """Yields true and given rows: corners first, and then random ones."""
+    draw = random.Random(1)
+    spans = list(function.inputs.values())
+    corners = itertools.islice(itertools.product(*[(span["lo"], span["hi"]) for span in spans]), 4096)
+    for n, corner in enumerate(itertools.chain(corners, itertools.repeat(None))):
+        if n == count:
+            return
+        true = corner or [true_value(draw, span) for span in spans]
+        yield list(true), [given_value(draw, value, span) for value, span in zip(true, spans)]
+
+
+def exact_outputs(function, trues):
+    """Returns the exact outputs of each row, the state carried."""
+    exact, state = evaluator(function), list(function.states.values())
+    outputs = []
+    for row in trues:
+        results = exact(*row, *state)
+        count = len(results) - len(state)
+        outputs.append(results[:count])
+        state = results[count:]
+    return outputs
+
+
+def write_rows(path, function, givens):
+    with open(path, "w", encoding="utf-8") as file:
+        file.write(",".join(function.inputs) + "\n")
+        file.writelines(",".join(map(decimal, row)) + "\n" for row in givens)
+
+
+def errors_of(bundle, rows, exact):
+    """Returns the error of each row's outputs, as floats of exact differences."""
+    with open(rows, encoding="utf-8") as file:
+        printed = fixd(["run", bundle], stdin=file).splitlines()[1:]
+    return [[float(Fraction(text) - value) for text, value in zip(line.split(","), values)] for line, values in zip(printed, exact)]
+
+
+# ---- Gappa
+
+def literals_of(tree):
+    """Yields the literals of a tree, in the order of the codes."""
+    if isinstance(tree, Fraction):
+        yield tree
+    elif not isinstance(tree, str):
+        for part in tree[1:]:
+            yield from literals_of(part)
+
+
+def gappa_input(bundle, function):
+    """Returns the input of Gappa for the bundle's program: each code rounded down to its point, beside the exact formula."""
+    trees = [tree for _, tree in function.temps] + function.results
+    literals = itertools.chain.from_iterable(map(literals_of, trees))
+    lines = iter(bundle[bundle.index("\nprogram\n"):].splitlines()[6:])
+    codes = [line.split() for line in itertools.takewhile(lambda line: line != "certificate", lines)]
+    names = list(function.inputs)
+    points, rounded, exact = [], [], []
+    for n, (word, *fields) in enumerate(codes):
+        operands = [int(f) for f in fields[:CODE_ENDS.get(word, 0)]]
+        shifts = [int(f) for f in fields[CODE_ENDS.get(word, 0):]]
+        if word == "in":
+            points.append(int(fields[1]))
+            value = whole = f"m{fields[0]}"
+        elif word == "const":
+            points.append(int(fields[1]))
+            value, whole = f"{fields[0]}b{-int(fields[1])}", decimal(next(literals))
+        else:
+            value, whole, point = operation(word, operands, shifts, points)
+            points.append(point)
+        way = "zr" if word == "div" else "dn"
+        rounded.append(f"r{n} = {value};" if word in ("const", "neg") else f"r{n} = fixed<{-points[n]},{way}>({value});")
+        exact.append(f"e{n} = {whole};")
+    last = len(codes) - 1
+    ranges = " /\\ ".join(f"m{k} in [{decimal(span['lo'])},{decimal(span['hi'])}]" for k, span in enumerate(function.inputs.values()))
+    head = f"# {function.name}: inputs {', '.join(names)}\n"
+    return head + "\n".join(rounded + exact) + f"\n{{ {ranges} -> r{last} - e{last} in ? }}\n"
+
+
+def operation(word, operands, shifts, points):
+    """Returns a code's value of rounded operands, the same of exact ones, and its point."""
+    sign = {"add": "+", "sub": "-", "mul": "*", "div": "/"}.get(word)
+    f = [points[k] for k in operands]
+    if sign:
+        point = {"+": f[0] - shifts[0], "-": f[0] - shifts[0], "*": sum(f) - shifts[0], "/": f[0] + shifts[0] - f[1]}[sign]
+        parts = [f"fixed<{-point},dn>(r{k})" for k in operands] if sign in "+-" else [f"r{k}" for k in operands]
+        return f"{parts[0]} {sign} {parts[1]}", f"e{operands[0]} {sign} e{operands[1]}", point
+    minus = "-" if word == "neg" else ""
+    return f"{minus}r{operands[0]}", f"{minus}e{operands[0]}", f[0] - (shifts[0] if shifts else 0)
+
+
+def gappa_bound(text):
+    ran = subprocess.run(["gappa"], input=text, stdout=subprocess.PIPE, stderr=subprocess.STDOUT, text=True)
+    found = re.search(r"in \[(\S+?)(?: \{(\S+), .*?)?, (\S+?)(?: \{(\S+), .*?)?\]", ran.stdout)
+    if not found:
+        return "none"
+    return short(max(abs(float(found[2] or found[1])), abs(float(found[4] or found[3]))))
+
+
+# ---- the table
+
+class Gallery:
+    def __init__(self, options, folder):
+        self.options = options
+        self.folder = folder
+        self.lines = []
+        self.pictures = []
+        self.has_gappa = shutil.which("gappa") is not None
+
+    def picture(self, name, text):
+        place = os.path.join(os.path.dirname(self.options.out), "gallery")
+        os.makedirs(place, exist_ok=True)
+        with open(os.path.join(place, f"{name}.svg"), "w", encoding="utf-8") as file:
+            file.write(text)
+        self.pictures.append(f"![{name}](gallery/{name}.svg)")
+
+    def row(self, *fields):
+        self.lines.append("| " + " | ".join(map(str, fields)) + " |")
+
+    def gappa(self, name, bundle, function):
+        if bundle is None or not (self.options.gappa or self.has_gappa):
+            return ""
+        text = gappa_input(bundle, function)
+        if self.options.gappa:
+            os.makedirs(self.options.gappa, exist_ok=True)
+            with open(os.path.join(self.options.gappa, f"{name}.g"), "w", encoding="utf-8") as file:
+                file.write(text)
+        return gappa_bound(text) if self.has_gappa else ""
+
+    def bundle_file(self, text):
+        path = os.path.join(self.folder, "now.bundle")
+        with open(path, "w", encoding="utf-8") as file:
+            file.write(text)
+        return path
+
+    def function(self, path, function):
+        """The rows of the table of a function without state, and its picture at the least width at which there is a program."""
+        trues, givens = zip(*rows_of(function, self.options.rows))
+        exact = exact_outputs(function, trues)
+        rows = os.path.join(self.folder, "rows.csv")
+        write_rows(rows, function, givens)
+        is_drawn = False
+        for width in self.options.widths:
+            plain, _ = synthesised(path, function, width, 0)
+            found, seconds = synthesised(path, function, width, 200)
+            written = short(max(bounds_of(self.bundle_file(plain)))) if plain else "not found"
+            if found is None:
+                self.row(f"`{function.name}`", width, "", written, "not found", "", "", f"{seconds:.2f}", "")
+                continue
+            bundle = self.bundle_file(found)
+            bounds = bounds_of(bundle)
+            errors = errors_of(bundle, rows, exact)
+            seen = [max(abs(row[j]) for row in errors) for j in range(len(bounds))]
+            part = max(s / float(b) if b else 0.0 for s, b in zip(seen, bounds))
+            nodes = int(re.search(r"^sizes \d+ \d+ \d+ (\d+)$", plain or found, re.M)[1])
+            gappa = self.gappa(f"{function.name}.{width}", plain, function)
+            self.row(f"`{function.name}`", width, nodes, written, short(max(bounds)), short(max(seen)), f"{100 * part:.0f}%", f"{seconds:.2f}", gappa)
+            if not is_drawn:
+                is_drawn = True
+                first = [float(row[0]) for row in trues]
+                title = f"{function.name}, {width} bits: error over {next(iter(function.inputs))}"
+                self.picture(function.name, error_over_input(title, first, [row[0] for row in errors], float(bounds[0])))
+
+    def filter(self, path, bundle, function):
+        """A filter's row, by the bundle that stands beside its source, and its picture over time."""
+        trues, givens = zip(*rows_of(function, min(self.options.rows, RUN_OF_A_FILTER)))
+        exact = exact_outputs(function, trues)
+        rows = os.path.join(self.folder, "rows.csv")
+        write_rows(rows, function, givens)
+        bound = bounds_of(bundle)[0]
+        errors = [row[0] for row in errors_of(bundle, rows, exact)]
+        seen = max(map(abs, errors))
+        with open(bundle, encoding="utf-8") as file:
+            text = file.read()
+        width = re.search(r"^width (\d+)$", text, re.M)[1]
+        nodes = re.search(r"^sizes \d+ \d+ \d+ (\d+)$", text, re.M)[1]
+        name = os.path.basename(os.path.dirname(path))
+        self.row(f"`{name}`, by hand", width, nodes, short(bound), "", short(seen), f"{100 * seen / float(bound):.0f}%", "", "")
+        self.picture(name, error_over_time(f"{name}, {width} bits: error over time", errors[:400], float(bound)))
+
+    def example(self, path):
+        with open(path, encoding="utf-8") as file:
+            functions = functions_of(file.read())
+        for function in functions:
+            if self.options.only and function.name not in self.options.only:
+                continue
+            bundle = path.removesuffix(".fixd") + ".bundle"
+            if not function.states:
+                self.function(path, function)
+            elif os.path.exists(bundle):
+                self.filter(path, bundle, function)
+            print(f"{function.name} done", file=sys.stderr)
+
+    def write(self):
+        gappa = "" if self.has_gappa else " (empty: `gappa` wasn't there)"
+        head = HEAD.format(rows=self.options.rows, when=time.strftime("%Y-%m-%d"), gappa=gappa)
+        with open(self.options.out, "w", encoding="utf-8") as file:
+            file.write(head + "\n".join(self.lines) + "\n\n" + "\n".join(self.pictures) + "\n")
+
+
+def main():
+    global PROGRAM
+    parser = argparse.ArgumentParser()
+    parser.add_argument("program")
+    parser.add_argument("--rows", type=int, default=100_000)
+    parser.add_argument("--widths", type=lambda text: [int(w) for w in text.split(",")], default=[16, 24, 32])
+    parser.add_argument("--only", type=lambda text: text.split(","))
+    parser.add_argument("--out", default=os.path.join(ROOT, "docs/gallery.md"))
+    parser.add_argument("--gappa")
+    options = parser.parse_args()
+    PROGRAM = os.path.abspath(options.program)
+    examples = sorted(os.path.join(folder, name) for folder, _, names in os.walk(os.path.join(ROOT, "examples"))
+                      for name in names if name.endswith(".fixd"))
+    with tempfile.TemporaryDirectory(prefix="fixd-gallery-") as folder:
+        gallery = Gallery(options, folder)
+        for path in examples:
+            gallery.example(path)
+        gallery.write()
+
+
+if __name__ == "__main__":
+    main()

@@ -1,0 +1,70 @@
+#!/usr/bin/env bash
+# Tries the recipes of docs/recipes.md with build/fixd, in a folder of its own. GNU parallel is left out where it isn't installed.
+# Outside the gate, which builds no program at a fixed place. bench/recipes.sh [PROGRAM]
+set -euo pipefail
+cd "$(dirname "$0")/.."
+
+program=$(realpath "${1:-build/fixd}")
+[ -x "$program" ] || { echo "recipes: build it first: make run" >&2; exit 1; }
+folder=$(mktemp -d)
+trap 'rm -rf "$folder"' EXIT
+cp examples/smooth/smooth.fixd examples/smooth/smooth.csv "$folder"
+cd "$folder"
+mkdir bin && ln -s "$program" bin/fixd && PATH="$folder/bin:$PATH"
+
+same() { cmp "$2" "$3" && echo "$1: as it should be"; }
+
+fixd synth --width 16 smooth.fixd > smooth.bundle
+[ "$(fixd check smooth.bundle | head -1)" = accepted ] && echo "synth and check: as they should be"
+
+# rows enough for parts
+{ echo now,last,older; for n in $(seq 1 5000); do echo "0.$n,-0.$((n % 97)),0.$((n % 89))"; done; } > all.csv
+fixd run smooth.bundle < all.csv | tail -n +2 > whole.out
+
+# a pipe: each answer comes before the next row is there
+(head -2 all.csv; sleep 1; sed -n 3p all.csv) | fixd run smooth.bundle | tail -n +2 > pipe.out
+head -2 whole.out | same "a pipe" - pipe.out
+
+# parts by split
+head -1 all.csv > header
+tail -n +2 all.csv | split -l 1000 - part.
+for part in part.??; do (cat header "$part" | fixd run smooth.bundle | tail -n +2 > "$part.out") & done; wait
+cat part.??.out > split.out
+same "parts by split" whole.out split.out
+
+if command -v parallel > /dev/null; then
+  parallel --will-cite --pipepart --header : --block 10k -a all.csv -k 'fixd run smooth.bundle | tail -n +2' > parallel.out
+  same "parts by parallel" whole.out parallel.out
+  mkdir logs && cp all.csv logs/a.csv && cp smooth.csv logs/b.csv
+  parallel --will-cite 'fixd run smooth.bundle < {} > {.}.out' ::: logs/*.csv
+  tail -n +2 logs/a.out | same "files by parallel" whole.out -
+else
+  echo "parallel isn't installed: left out"
+fi
+
+# a bundle in a repository
+count=$(sed -n 's/^source //p' smooth.bundle | head -1)
+tail -n +3 smooth.bundle | head -c "$count" | same "the bundle's source" - smooth.fixd
+fixd synth --width 16 smooth.fixd | same "made anew" - smooth.bundle
+
+# two bundles of one source
+fixd synth --width 16 --tries 0 smooth.fixd > plain.bundle
+diff <(fixd show plain.bundle) <(fixd show smooth.bundle) > /dev/null && echo "two bundles: alike" || echo "two bundles: compared"
+
+# statuses
+status=0; printf 'now,last,older\n0,0,0\n2,0,0\n' | fixd run smooth.bundle > bad.out 2> bad.line || status=$?
+[ "$status" = 5 ] && [ "$(cat bad.line)" = "fixd: row: OutOfRange at line 3 column now" ] && echo "a bad row: as it should be"
+status=0; echo 'def f(x: Real, y: Real): Real = { require(1 <= x && x <= 2 && -1 <= y && y <= 1) x / y }' > q.fixd
+fixd synth --width 16 q.fixd 2> bad.line || status=$?
+[ "$status" = 9 ] && [ "$(cat bad.line)" = "fixd: not found: node 2" ] && echo "nothing found: as it should be"
+
+# where a fault stands
+at() {
+  line=$(head -c "$2" "$1" | wc -l)
+  column=$(head -c "$2" "$1" | tail -n +$((line + 1)) | wc -c)
+  sed -n "$((line + 1))p" "$1"; printf '%*s^\n' "$column" ''
+}
+printf 'def f(x: Real): Real = {\n  require(0 <= x && x <= 1)\n  x + y\n}\n' > f.fixd
+fixd synth --width 16 f.fixd 2> bad.line || true
+[ "$(cat bad.line)" = "fixd: source: UnknownName at byte 59" ]
+[ "$(at f.fixd 59)" = "$(printf '  x + y\n      ^')" ] && echo "a caret: as it should be"

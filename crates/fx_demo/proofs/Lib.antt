@@ -1,0 +1,4 @@
+pub mod Listed
+mod Feeds
+mod Lengths
+mod Running

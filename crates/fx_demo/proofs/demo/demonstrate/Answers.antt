@@ -1,0 +1,11 @@
+use Rattle.std.proofs.Common.{subst}
+use Rattle.fx_demo.specs.LastLine.{IsLastLine}
+use Rattle.fx_demo.proofs.demo.demonstrate.Goals as goal
+
+pub returns : goal.returns
+returns c = record {
+  program = c.in_ok-certified.ensures;
+  text = c.in_ok-page.page.taken;
+  run = c.in_ok-page.ensures;
+  last_is = subst (λ text. IsLastLine text c.in_ok-last.last.items) c.bytes.ensures c.in_ok-last.ensures;
+}

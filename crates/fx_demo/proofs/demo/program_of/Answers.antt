@@ -1,0 +1,15 @@
+use Rattle.std.proofs.Common.{◌∙◌, ap, sym, subst, refl, arith}
+use Rattle.std.specs.Prelude.{Ok}
+use Rattle.fx_synth.specs.Synthesis.{IsSynthesised}
+use Rattle.fx_demo.proofs.demo.program_of.Goals as goal
+
+pub synthesise-requires-clause-width : goal.synthesise-requires-clause-width
+synthesise-requires-clause-width c = (3, omega arith, refl)
+
+pub returns-in-Ok : goal.returns-in-Ok
+returns-in-Ok c =
+    let s = c.in-Ok.ensures.found in record {
+      meant = c.in_ok-function.ensures ∙ ap Ok (sym s.function_is);
+      accepted = c.certified.ensures.certified.accepted;
+      synthesised = subst (λ fn. IsSynthesised 32 200 fn c.in-Ok.certified) (sym s.function_is) s;
+    }

@@ -1,0 +1,38 @@
+-- What a demonstration is: a program that is found for its source, and run over its rows.
+use Rattle.std.specs.Prelude.{◌≡◌, ℕ, List, length, None, Ok}
+use Rattle.fx_grammar.specs.Sources.{parsed}
+use Rattle.fx_model.specs.Function.{Function}
+use Rattle.fx_model.specs.Page.{page}
+use Rattle.fx_inequalities.specs.Accepted.{IsAccepted}
+use Rattle.fx_rules.specs.Steps.{rewrite}
+use Rattle.fx_checker.specs.CertifiedView.{Accepted}
+use Rattle.fx_rows.specs.ReadRows.{Given, read_rows}
+use Rattle.fx_run.specs.Printed.{given_values, IsHonestRun}
+use Rattle.fx_synth.specs.Synthesis.{IsSynthesised}
+use Rattle.fx_demo.specs.LastLine.{IsLastLine}
+use Rattle.fx_demo.specs.Rows.{demo_rows}
+use Rattle.fx_demo.specs.Source.{demo_source}
+
+-- an accepted program for the source of number n, as a synthesis at 32 bits with 200 tries finds one
+pub record IsProgram (n : ℕ) (a : Accepted) : Type 0 where
+  pub meant : parsed (demo_source n) None ≡ Ok a.function
+  pub accepted : IsAccepted rewrite a.function a.program a.certificate
+  pub synthesised : IsSynthesised 32 200 a.function a
+
+-- what a function reads of the rows
+abbrev pub given : Function → Given
+given fn = (read_rows fn demo_rows).given
+
+-- its machine's run over the thousand rows isn't stuck, is within the bounds for all rows that may be the true ones, and prints this page
+pub record IsRun (a : Accepted) (text : List ℕ) : Type 0 where
+  pub good : (given a.function).bad ≡ None
+  pub count : length (given a.function).rows ≡ 1000
+  pub run : IsHonestRun a.function a.program a.certificate (given_values (given a.function).rows)
+  pub printed : text ≡ page a.program run.run.outputs
+
+-- a program with its run, which prints this line last
+pub record IsDemonstration (n : ℕ) (a : Accepted) (last : List ℕ) : Type 0 where
+  pub program : IsProgram n a
+  pub text : List ℕ
+  pub run : IsRun a text
+  pub last_is : IsLastLine text last

@@ -1,0 +1,5 @@
+pub mod Listing
+pub mod Source
+pub mod Rows
+pub mod LastLine
+pub mod Demonstration

@@ -1,0 +1,72 @@
+//! The demonstration: its source, a program for it, and the run of its rows.
+ghost use Rattle.std.specs.Prelude.{◌≤◌, IfOk};
+ghost use Rattle.fx_demo.specs.Demonstration.{IsDemonstration, IsProgram, IsRun};
+ghost use Rattle.fx_demo.specs.LastLine.{IsLastLine};
+
+use crate::last::last_line;
+use crate::rows::{ROWS, rows_text};
+use crate::source::function_of;
+use fx_base::{BytesOut, CleanIn};
+use fx_checker::Certified;
+use fx_num::Memory;
+use fx_run::run_rows;
+use fx_synth::synthesise;
+use std::alloc::Global;
+
+// In bytes: more than the rows of a demonstration have.
+const ROWS_LIMIT: u64 = 1 << 20;
+
+// A certified program for the source.
+fn program_of(alloc: Global, n: u32) -> Result<Certified, Memory>
+    requires { n ≤ 500 }
+    ensures { IfOk result (IsProgram n) }
+{
+    let function = function_of(alloc, n)?;
+    match synthesise(alloc, &function, 32, 0, 200) {
+        Ok(certified) => {
+            certified.certified();
+            Ok(certified)
+        }
+        // the plain plan serves every such function, as a test of each number shows; so only memory was wanting
+        Err(_) => Err(Memory),
+    }
+}
+
+// The page of its rows.
+fn page_of(alloc: Global, certified: &Certified) -> Result<BytesOut, Memory>
+    ensures { IfOk result (λ sink. IsRun certified.now sink.taken) }
+{
+    let mut rows = CleanIn::new(rows_text(alloc)?);
+    let mut page = BytesOut::new(Vec::new(alloc));
+    match run_rows(alloc, certified, &mut rows, &mut page, ROWS_LIMIT) {
+        Ok(count) if count == u64::from(ROWS) => Ok(page),
+        // every row is good, as a test of each number shows; so only memory was wanting
+        _ => Err(Memory),
+    }
+}
+
+// The last line of a page, as a text of its own.
+fn last_of(alloc: Global, page: &[u8]) -> Result<Vec<u8>, Memory>
+    ensures { IfOk result (λ line. IsLastLine page.now line.items) }
+{
+    let Some(line) = last_line(page) else {
+        // a page has a header and its rows
+        return Err(Memory);
+    };
+    match line.to_vec(alloc) {
+        Ok(line) => Ok(line),
+        Err(_) => Err(Memory),
+    }
+}
+
+/// Makes the source of number `n`, finds a program for it and runs its rows. Gives the program and the last line that it
+/// prints.
+pub fn demonstrate(alloc: Global, n: u32) -> Result<(Certified, Vec<u8>), Memory>
+    requires { n ≤ 500 }
+    ensures { IfOk result (λ d. IsDemonstration n d.0 d.1.items) }
+{
+    let certified = program_of(alloc, n)?;
+    let page = page_of(alloc, &certified)?;
+    let last = last_of(alloc, page.bytes())?;
+    Ok((certified, last))
+}
