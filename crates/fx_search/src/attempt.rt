@@ -64,7 +64,17 @@ fn range_caps(
     Ok(caps)
 }
 
-/// What the choice of points reads of each node.
+/// What the choice of points reads of a node.
+fn fact_of(function: &Function, node: &Node, ranges: &Ranges, n: usize, cap: i32) -> NodeFacts {
+    NodeFacts {
+        cap,
+        size: magnitude(ranges.size(n)),
+        least: magnitude(ranges.least_size(n)),
+        error: given_error(function, node),
+    }
+}
+
+/// The same of each node, with these caps.
 fn facts_of(
     alloc: Global,
     function: &Function,
@@ -77,12 +87,8 @@ fn facts_of(
     let list = nodes.list.as_slice();
     let mut facts = Vec::new(alloc);
     for n in 0..list.len() {
-        facts.push(NodeFacts {
-            cap: caps.get(n).copied().unwrap_or(-65),
-            size: magnitude(ranges.size(n)),
-            least: magnitude(ranges.least_size(n)),
-            error: given_error(function, &list[n]),
-        })?;
+        let cap = caps.get(n).copied().unwrap_or(-65);
+        facts.push(fact_of(function, &list[n], ranges, n, cap))?;
     }
     Ok(facts)
 }
