@@ -72,6 +72,26 @@ fn certified_on(
     }
 }
 
+/// The same on the coarser grids, the coarsest last.
+fn certified_coarsely(
+    alloc: Global,
+    task: Task<'_>,
+    draft: &Draft,
+    plans: u32,
+) -> Result<Option<Certified>, Memory>
+    ensures function_is { IfOk result (λ o. IfSome o (λ c. c.function ≡ task.entry.source.now)) }
+    ensures named { IfOk result (λ o. IfSome o (λ c. c.program.name ≡ task.entry.source.now.name)) }
+    ensures width_is { IfOk result (λ o. IfSome o (λ c. c.program.width ≡ task.entry.width)) }
+{
+    match certified_on(alloc, task, draft, plans, Grids::COARSE)? {
+        Some(found) => Ok(Some(found)),
+        None => {
+            let found = certified_on(alloc, task, draft, plans, Grids::COARSEST)?;
+            Ok(found)
+        }
+    }
+}
+
 /// The certified program of a draft, on the finest grids on which there is one.
 pub fn certified(
     alloc: Global,
@@ -83,16 +103,13 @@ pub fn certified(
     ensures named { IfOk result (λ o. IfSome o (λ c. c.program.name ≡ task.entry.source.now.name)) }
     ensures width_is { IfOk result (λ o. IfSome o (λ c. c.program.width ≡ task.entry.width)) }
 {
-    let fine = certified_on(alloc, task, draft, plans, Grids::FINE)?;
-    if fine.is_some() {
-        return Ok(fine);
+    match certified_on(alloc, task, draft, plans, Grids::FINE)? {
+        Some(found) => Ok(Some(found)),
+        None => {
+            let found = certified_coarsely(alloc, task, draft, plans)?;
+            Ok(found)
+        }
     }
-    let coarse = certified_on(alloc, task, draft, plans, Grids::COARSE)?;
-    if coarse.is_some() {
-        return Ok(coarse);
-    }
-    let coarsest = certified_on(alloc, task, draft, plans, Grids::COARSEST)?;
-    Ok(coarsest)
 }
 
 /// Whether no bound is above the one that stands.

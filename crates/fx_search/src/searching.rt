@@ -50,7 +50,23 @@ fn suited(
     }
 }
 
-/// The best that is found for a task, else what the source as it stands gives.
+/// What the source as it stands gives, for want of a program by any steps.
+fn unstepped(
+    alloc: Global,
+    task: Task<'_>,
+    plans: u32,
+    held: &[Dyadic],
+) -> Result<Option<Certified>, Memory>
+    ensures function_is { IfOk result (λ o. IfSome o (λ c. c.function ≡ task.entry.source.now)) }
+    ensures named { IfOk result (λ o. IfSome o (λ c. c.program.name ≡ task.entry.source.now.name)) }
+    ensures width_is { IfOk result (λ o. IfSome o (λ c. c.program.width ≡ task.entry.width)) }
+{
+    let source = Draft::new(alloc, task.source)?;
+    let found = suited(alloc, task, &source, plans, held)?;
+    Ok(found)
+}
+
+/// The best that is found for a task.
 fn best(
     alloc: Global,
     task: Task<'_>,
@@ -66,13 +82,13 @@ fn best(
     let nodes = task.source.nodes();
     let draft = best_draft(alloc, &mut rng, task, affordable(nodes, tries))?;
     let plans = affordable(nodes, tries.saturating_mul(2));
-    let found = suited(alloc, task, &draft, plans, held)?;
-    if found.is_some() || draft.steps.is_empty() {
-        return Ok(found);
+    match suited(alloc, task, &draft, plans, held)? {
+        Some(found) => Ok(Some(found)),
+        None => {
+            let found = unstepped(alloc, task, plans, held)?;
+            Ok(found)
+        }
     }
-    let source = Draft::new(alloc, task.source)?;
-    let plain = suited(alloc, task, &source, plans, held)?;
-    Ok(plain)
 }
 
 /// The best certified program that the search finds in so many tries, if it finds one.
