@@ -2,7 +2,7 @@
 //!
 //! What is written is judged by the checker. Where it refuses, a formula mostly left 128 bits, and the same attempt is made
 //! on coarser grids.
-ghost use Rattle.std.specs.Prelude.{◌≡◌, ◌∷◌, [], Contains, IfOk, IfSome};
+ghost use Rattle.std.specs.Prelude.{◌≡◌, IfOk, IfSome};
 
 use crate::attempt::{Attempt, attempted};
 use crate::polish::Polish;

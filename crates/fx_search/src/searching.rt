@@ -1,5 +1,5 @@
 //! The search, from its first draw to what the checker has certified.
-ghost use Rattle.std.specs.Prelude.{◌≡◌, ◌∷◌, [], Contains, IfOk, IfSome};
+ghost use Rattle.std.specs.Prelude.{◌≡◌, Contains, IfOk, IfSome};
 ghost use Rattle.fx_model.specs.LawfulProgram.{widths};
 
 use crate::certify::{certified, keeps};
