@@ -8,14 +8,17 @@ use Rattle.fx_rules.specs.Steps.{rewrite}
 use Rattle.fx_checker.specs.CertifiedView.{Accepted}
 use Rattle.fx_rows.specs.ReadRows.{Given, read_rows}
 use Rattle.fx_run.specs.Printed.{given_values, IsHonestRun}
+use Rattle.fx_weight.specs.PlainClass.{outside_of}
 use Rattle.fx_synth.specs.Synthesis.{IsSynthesised}
 use Rattle.fx_demo.specs.LastLine.{IsLastLine}
 use Rattle.fx_demo.specs.Rows.{demo_rows}
 use Rattle.fx_demo.specs.Source.{demo_source}
 
--- an accepted program for the source of number n, as a synthesis at 32 bits with 200 tries finds one
+-- an accepted program for the source of number n, as a synthesis at 32 bits with 200 tries finds one; the plain plan serves its
+-- function, so that its bounds are at most those of the plan
 pub record IsProgram (n : ℕ) (a : Accepted) : Type 0 where
   pub meant : parsed (demo_source n) None ≡ Ok a.function
+  pub served : outside_of 32 a.function ≡ None
   pub accepted : IsAccepted rewrite a.function a.program a.certificate
   pub synthesised : IsSynthesised 32 200 a.function a
 

