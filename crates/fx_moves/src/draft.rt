@@ -12,7 +12,7 @@ use fx_rewrite::{Step, StepFault, apply};
 use std::alloc::Global;
 
 /// The most steps of a draft.
-pub const STEP_LIMIT: usize = 64;
+const STEP_LIMIT: usize = 64;
 
 /// A function, and the steps that made it of the source's.
 #[derive(Drop)]
@@ -75,6 +75,11 @@ impl Draft {
             function: self.function.copy(alloc)?,
             steps: copied(alloc, &self.steps)?,
         })
+    }
+
+    /// How many steps more there may be.
+    pub fn room(&self) -> usize {
+        STEP_LIMIT.saturating_sub(self.steps.len())
     }
 
     /// Whether both functions have the same trees.

@@ -13,8 +13,11 @@ use fx_num::Memory;
 use rand_core::Rng;
 use std::alloc::Global;
 
-/// No chain is longer.
-const HEIGHT_LIMIT: usize = 200;
+/// About so many steps factor two terms that stand side by side,
+const FACTOR_STEPS: usize = 8;
+
+/// and so many bring a term past another.
+const SWAP_STEPS: usize = 3;
 
 /// A factor that two products have: its paths in both.
 #[derive(Drop)]
@@ -244,11 +247,11 @@ fn terms(e: &Expr) -> Option<(&Expr, &Expr)> {
     }
 }
 
-/// The terms of a chain that have a factor in common with another term.
-fn partners(alloc: Global, chain: &Expr, term: &Expr) -> Result<Vec<Term>, Memory> {
+/// Those of so many terms at a chain's end that have a factor in common with another term.
+fn partners(alloc: Global, chain: &Expr, term: &Expr, count: usize) -> Result<Vec<Term>, Memory> {
     let mut found = Vec::new(alloc);
     let mut here = chain;
-    for depth in 0..HEIGHT_LIMIT {
+    for depth in 0..count {
         let Some((left, right)) = terms(here) else {
             return Ok(found);
         };
@@ -269,7 +272,7 @@ fn partners(alloc: Global, chain: &Expr, term: &Expr) -> Result<Vec<Term>, Memor
     Ok(found)
 }
 
-/// A drawn partner of the last term of the chain at a site.
+/// A drawn partner of the last term of the chain at a site, near enough for the steps that are left.
 fn drawn_partner<R: Rng>(
     alloc: Global,
     rng: &mut R,
@@ -279,7 +282,8 @@ fn drawn_partner<R: Rng>(
     let Some((chain, term)) = draft.at(site).and_then(terms) else {
         return Ok(None);
     };
-    let found = partners(alloc, chain, term)?;
+    let count = draft.room().saturating_sub(FACTOR_STEPS) / SWAP_STEPS;
+    let found = partners(alloc, chain, term, count)?;
     match draw_index(rng, found.len()) {
         Some(i) => Ok(Some(found[i])),
         None => Ok(None),
