@@ -1,5 +1,8 @@
 //! The demonstration: its source, a program for it, and the run of its rows.
-ghost use Rattle.std.specs.Prelude.{◌≤◌, IfOk};
+ghost use Rattle.std.specs.Prelude.{◌≡◌, ◌≤◌, None, Ok, IfOk};
+ghost use Rattle.fx_grammar.specs.Sources.{parsed};
+ghost use Rattle.fx_weight.specs.PlainClass.{outside_of};
+ghost use Rattle.fx_demo.specs.Source.{demo_source};
 ghost use Rattle.fx_demo.specs.Demonstration.{IsDemonstration, IsProgram, IsRun};
 ghost use Rattle.fx_demo.specs.LastLine.{IsLastLine};
 
@@ -8,6 +11,7 @@ use crate::rows::{ROWS, rows_text};
 use crate::source::function_of;
 use fx_base::{BytesOut, CleanIn};
 use fx_checker::Certified;
+use fx_expr::Function;
 use fx_num::Memory;
 use fx_run::run_rows;
 use fx_synth::synthesise;
@@ -17,10 +21,11 @@ use std::alloc::Global;
 // In bytes: more than the rows of a demonstration have.
 const ROWS_LIMIT: u64 = 1 << 20;
 
-// A certified program for the source.
-fn program_of(alloc: Global, n: u32) -> Result<Certified, Memory>
+/// The function of the source of number `n`, which the plain plan serves at 32 bits.
+pub(crate) fn served_function(alloc: Global, n: u32) -> Result<Function, Memory>
     requires { n ≤ 500 }
-    ensures { IfOk result (IsProgram n) }
+    ensures meant { IfOk result (λ fn. parsed (demo_source n) None ≡ Ok fn) }
+    ensures served { IfOk result (λ fn. outside_of 32 fn ≡ None) }
 {
     let function = function_of(alloc, n)?;
     let outside = find_outside(alloc, &function, 32)?;
@@ -28,6 +33,15 @@ fn program_of(alloc: Global, n: u32) -> Result<Certified, Memory>
         // the plain plan serves every such function, as a test of each number shows
         return Err(Memory);
     }
+    Ok(function)
+}
+
+// A certified program for the source.
+fn program_of(alloc: Global, n: u32) -> Result<Certified, Memory>
+    requires { n ≤ 500 }
+    ensures { IfOk result (IsProgram n) }
+{
+    let function = served_function(alloc, n)?;
     match synthesise(alloc, &function, 32, 0, 200) {
         Ok(certified) => {
             certified.certified();
