@@ -31,8 +31,11 @@ ghost use Rattle.fx_analysis.specs.Attempts.{WrittenStepLaw, NoStepsLaw};
 
 pub use after::attempt_after;
 pub use attempt::plain_attempt;
+pub use exact::grid as error_grid;
 pub use fault::{PlanFault, Why};
 pub use formless::roundoff;
+pub use grid::is_small;
+pub use settle::settle as narrowest_round;
 pub use walk::{points, ranges};
 
 /// The narrowest interval on a grid.

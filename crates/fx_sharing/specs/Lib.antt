@@ -1,2 +1,3 @@
 pub mod Coefficients
 pub mod Boxes
+pub mod KeptRows

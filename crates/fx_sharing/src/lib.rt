@@ -14,5 +14,5 @@ mod share;
 mod start;
 
 pub use node::{first, node_fault};
-pub use row::row_judgement;
+pub use row::{row_bound_of, row_judgement};
 pub use start::{start_judgement, start_row_judgement};

@@ -1,18 +1,17 @@
 //! The conditions Row and ErrorRow: one step keeps each row.
 
-ghost use Rattle.std.specs.Prelude.{◌≡◌, ◌+◌, ◌<◌, ◌≤◌, ◌^◌, ℕ};
+ghost use Rattle.std.specs.Prelude.{◌≡◌, ◌+◌, ◌<◌, ◌≤◌, ◌^◌};
 ghost use Rattle.fx_model.specs.Tree.{at};
 ghost use Rattle.fx_rational.specs.Dyadic.{zero_dyadic};
 ghost use Rattle.fx_inequalities.specs.Certificate.{no_row};
-ghost use Rattle.fx_inequalities.specs.Claim.{inside};
-ghost use Rattle.fx_inequalities.specs.Formula.{Formula, Num, Product, Span, point, span, span_product, zero_span};
+ghost use Rattle.fx_inequalities.specs.Formula.{Product, point, span_product, zero_span};
 ghost use Rattle.fx_inequalities.specs.Affine.{affine_at, bound_by_rows, rows_of, sum_of, weighted_sum};
 ghost use Rattle.fx_judging.specs.Judging.{Forms, FormsSpan, judged};
-ghost use Rattle.fx_cert.specs.CertificateView.{boxes_in, form_view as form_view, lines_view, rows_in, shares_of};
+ghost use Rattle.fx_cert.specs.CertificateView.{lines_view, rows_in, shares_of};
 ghost use Rattle.fx_sharing.specs.Coefficients.{AreFormed};
-ghost use Rattle.fx_sharing.specs.Boxes.{box_at};
-ghost use Rattle.fx_conditions.specs.Sides.{side_at, side_rest};
-ghost use Rattle.fx_conditions.specs.Limits.{AreShortBoxes, AreShortLines, AreShortRows, AreShortShares, IsShortForm};
+ghost use Rattle.fx_sharing.specs.KeptRows.{kept_row, next_row};
+ghost use Rattle.fx_conditions.specs.Sides.{side_rest};
+ghost use Rattle.fx_conditions.specs.Limits.{AreShortLines, AreShortRows};
 
 use crate::bound::{VARIABLES, bound_by_rows};
 use fx_cert::{Form, NodeLine, Row, Share, StartBox};
@@ -148,7 +147,7 @@ fn row_rest(
 }
 
 /// Where row `i` of the next states lies.
-fn row_bound_of(
+pub fn row_bound_of(
     rows: &[Row],
     side: &Side,
     lines: &[NodeLine],
@@ -161,9 +160,7 @@ fn row_bound_of(
     requires rows { AreShortRows (rows_in rows.now) }
     requires few { next + states < 2 ^ 32 }
     requires variables { inputs + states ≤ 96 }
-    ensures { let ls = lines_view lines.now in let rs = rows_of states (rows_in rows.now) in let form = λ (s : ℕ). affine_at (inputs + states) ls (next + s) in
-        FormsSpan result (bound_by_rows inputs states (λ j. sum_of states (λ s. Product (rs.coef i s) ((form s).coef j))) (weighted_sum zero_span states (rs.coef i) (λ s. side_rest side.now (form s)))
-        (side_at side.now ls) rs (at no_row (rows_in rows.now) i).shares) }
+    ensures { FormsSpan result (next_row inputs states next (lines_view lines.now) (rows_in rows.now) side.now i) }
 {
     let variables = inputs + states;
     let coefs = row_coefs(rows, states, lines, variables, next, i);
@@ -194,9 +191,7 @@ pub fn row_judgement(
     requires rows { AreShortRows (rows_in rows.now) }
     requires few { next + states < 2 ^ 32 }
     requires variables { inputs + states ≤ 96 }
-    ensures { let ls = lines_view lines.now in let rs = rows_of states (rows_in rows.now) in let form = λ (s : ℕ). affine_at (inputs + states) ls (next + s) in
-        result ≡ judged (inside (bound_by_rows inputs states (λ j. sum_of states (λ s. Product (rs.coef i s) ((form s).coef j))) (weighted_sum zero_span states (rs.coef i) (λ s. side_rest side.now (form s)))
-        (side_at side.now ls) rs (at no_row (rows_in rows.now) i).shares) (rs.bound i)) }
+    ensures { result ≡ judged (kept_row inputs states next (lines_view lines.now) (rows_in rows.now) side.now i) }
 {
     let bound = row_bound_of(rows, side, lines, inputs, states, next, i);
     lies_in(bound, bound_of(rows, states, i))

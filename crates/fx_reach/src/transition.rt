@@ -1,0 +1,20 @@
+//! One step of the states, as rows see it.
+
+use fx_cert::NodeLine;
+
+/// How many variables there are, where the next states stand, and the lines of all nodes.
+#[derive(Debug, Drop)]
+pub struct Transition<'a> {
+    /// How many inputs there are.
+    pub inputs: u32,
+    /// How many states there are.
+    pub states: u32,
+    /// How many outputs there are.
+    pub outputs: u32,
+    /// The node of the first next state.
+    pub next: u32,
+    /// Where the point of each node's word stands.
+    pub points: &'a [i32],
+    /// Where each node's value and error lie, and its form.
+    pub lines: Vec<NodeLine>,
+}

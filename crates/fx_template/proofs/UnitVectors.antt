@@ -1,0 +1,92 @@
+-- Unit vectors, entry by entry.
+use Rattle.std.proofs.Common.{◌≡◌, ℕ, zero, suc, ◌+◌, ◌-◌, ◌<◌, ◌≤◌, ◌^◌, ◌==◌, ℤ, pos, Bool, true, false, if◌then◌else◌, List, [], ◌∷◌, ◌++◌, length, get_or, refl, sym, ap, subst, ◌∙◌, append_assoc, arith}
+use Rattle.std.specs.Prelude.{All, unsigned_abs}
+use Rattle.std.proofs.lemmas.List.{ext_get_or}
+use Rattle.std.proofs.lemmas.List.FromFn.{map-range_with_len_more}
+use Rattle.fx_rational.specs.Dyadic.{Dyadic, IsWritten, zero_dyadic}
+use Rattle.fx_model.specs.Tree.{at}
+use Rattle.fx_inequalities.specs.LawfulCertificate.{AreUnitRows, unit_vector, zeros}
+use Rattle.fx_inequalities.specs.Certificate.{Row, no_row}
+use Rattle.fx_template.specs.Listed.{tabulate}
+use Rattle.fx_template.specs.Units.{unit_entry}
+use Rattle.fx_template.proofs.Lists.{tabulate_at, tabulate_length}
+
+one : Dyadic
+one = record { m = pos 1; e = 0 }
+
+zero_more : (j : ℕ) → zeros j ++ zero_dyadic ∷ [] ≡ zeros (suc j)
+zero_more zero = refl
+zero_more (suc j) = ap (λ xs. zero_dyadic ∷ xs) (zero_more j)
+
+other : (i j : ℕ) → j < i → unit_entry i j ≡ zero_dyadic
+other i j lt = by (i == j) refl
+  where
+    by : (t : Bool) → (i == j) ≡ t → (if t then record { m = pos 1; e = 0 } else zero_dyadic) ≡ zero_dyadic
+    by true e = absurd (grind (arith, lt, e))
+    by false e = refl
+
+later : (i j : ℕ) → i < j → unit_entry i j ≡ zero_dyadic
+later i j lt = by (i == j) refl
+  where
+    by : (t : Bool) → (i == j) ≡ t → (if t then record { m = pos 1; e = 0 } else zero_dyadic) ≡ zero_dyadic
+    by true e = absurd (grind (arith, lt, e))
+    by false e = refl
+
+here : (i : ℕ) → unit_entry i i ≡ record { m = pos 1; e = 0 }
+here i = by (i == i) refl
+  where
+    by : (t : Bool) → (i == i) ≡ t → (if t then record { m = pos 1; e = 0 } else zero_dyadic) ≡ record { m = pos 1; e = 0 }
+    by true e = refl
+    by false e = absurd (grind (arith, e))
+
+more : (f : ℕ → Dyadic) (n : ℕ) → tabulate (suc n) f ≡ tabulate n f ++ f n ∷ []
+more f n = let next : n + 1 ≡ suc n = omega arith in subst (λ (m : ℕ). tabulate m f ≡ tabulate n f ++ f n ∷ []) next (map-range_with_len_more f 0 n n (omega arith))
+
+before : (i n : ℕ) → n ≤ i → tabulate n (unit_entry i) ≡ zeros n
+before i zero le = refl
+before i (suc n) le = more (unit_entry i) n ∙ (λ k. before i n (omega (arith, le)) k ++ other i n (omega (arith, le)) k ∷ []) ∙ zero_more n
+
+behind : (i d : ℕ) → tabulate (suc i + d) (unit_entry i) ≡ zeros i ++ record { m = pos 1; e = 0 } ∷ zeros d
+behind i zero = let same : suc i ≡ suc i + 0 = omega arith in
+    subst (λ (m : ℕ). tabulate m (unit_entry i) ≡ zeros i ++ record { m = pos 1; e = 0 } ∷ []) same (more (unit_entry i) i ∙ (λ k. before i i (omega arith) k ++ here i k ∷ []))
+behind i (suc d) = let same : suc (suc i + d) ≡ suc i + suc d = omega arith in
+    subst (λ (m : ℕ). tabulate m (unit_entry i) ≡ zeros i ++ record { m = pos 1; e = 0 } ∷ zeros (suc d)) same
+    (more (unit_entry i) (suc i + d) ∙ (λ k. behind i d k ++ later i (suc i + d) (omega arith) k ∷ []) ∙ append_assoc (zeros i) (record { m = pos 1; e = 0 } ∷ zeros d) (zero_dyadic ∷ []) ∙ ap (λ xs. zeros i ++ record { m = pos 1; e = 0 } ∷ xs) (zero_more d))
+
+-- a unit vector has its entries
+pub unit_is : (k i : ℕ) → i < k → tabulate k (unit_entry i) ≡ unit_vector k i
+unit_is k i lt = let same : suc i + (k - (i + 1)) ≡ k = omega (arith, lt) in
+    subst (λ (m : ℕ). tabulate m (unit_entry i) ≡ unit_vector k i) same (behind i (k - (i + 1)))
+
+-- a list that has them is the unit vector
+pub unit_by : (xs : List Dyadic) (i : ℕ) → i < length xs → ((j : ℕ) → j < length xs → at zero_dyadic xs j ≡ unit_entry i j) → xs ≡ unit_vector (length xs) i
+unit_by xs i lt h = ext_get_or zero_dyadic xs (tabulate (length xs) (unit_entry i)) (sym (tabulate_length (unit_entry i) (length xs))) (λ j less. h j less ∙ sym (tabulate_at (unit_entry i) (length xs) j zero_dyadic less)) ∙ unit_is (length xs) i lt
+
+-- ---- its entries are 0 and 1
+pub entry_at : (k i j : ℕ) → i < k → j < k → at zero_dyadic (unit_vector k i) j ≡ unit_entry i j
+entry_at k i j lt less = ap (λ xs. at zero_dyadic xs j) (sym (unit_is k i lt)) ∙ tabulate_at (unit_entry i) k j zero_dyadic less
+
+pub entry_whole : (i j : ℕ) → (unit_entry i j).e ≡ 0
+entry_whole i j = by (i == j)
+  where
+    by : (t : Bool) → (let d : Dyadic = if t then record { m = pos 1; e = 0 } else zero_dyadic in d).e ≡ 0
+    by true = refl
+    by false = refl
+
+pub entry_written : (i j : ℕ) → IsWritten (unit_entry i j)
+entry_written i j = by (i == j)
+  where
+    by : (t : Bool) → IsWritten (if t then record { m = pos 1; e = 0 } else zero_dyadic)
+    by true = record { small = omega arith; places = omega arith; one_spelling = λ lt. absurd (omega (arith, lt)) }
+    by false = record { small = omega arith; places = omega arith; one_spelling = λ lt. absurd (omega (arith, lt)) }
+
+pub unit_length : (k i : ℕ) → i < k → length (unit_vector k i) ≡ k
+unit_length k i lt = ap length (sym (unit_is k i lt)) ∙ tabulate_length (unit_entry i) k
+
+-- ---- unit rows by their numbers
+pub units_from : (k m : ℕ) (rows : List Row) → ((i : ℕ) → i < length rows → i + m < k → (at no_row rows i).coefs ≡ unit_vector k (i + m)) → AreUnitRows k m rows
+units_from k m [] h = tt
+units_from k m (r ∷ rows) h = (
+  (let same : 0 + m ≡ m = omega arith in subst (λ (n : ℕ). n < k → r.coefs ≡ unit_vector k n) same (λ lt. h 0 (omega arith) lt)),
+  units_from k (m + 1) rows (λ i less lt. let same : suc i + m ≡ i + (m + 1) = omega arith in subst (λ (n : ℕ). (at no_row rows i).coefs ≡ unit_vector k n) same (h (suc i) (omega (arith, less)) (omega (arith, lt)))),
+)

@@ -1,0 +1,7 @@
+pub mod Listed
+pub mod Transitions
+pub mod PlainRounds
+pub mod Rows
+pub mod Answers
+pub mod Units
+pub mod RoundView

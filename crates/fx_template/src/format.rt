@@ -1,0 +1,104 @@
+//! Whether rows are such as a certificate may have.
+
+ghost use Rattle.std.specs.Prelude.{◌≡◌, ◌+◌, ◌<◌, ◌≤◌, true, length, All};
+ghost use Rattle.fx_model.specs.Tree.{at};
+ghost use Rattle.fx_rational.specs.Dyadic.{IsWritten};
+ghost use Rattle.fx_rational.specs.Interval.{IsWrittenInterval};
+ghost use Rattle.fx_inequalities.specs.LawfulCertificate.{AreShares, unit_vector};
+ghost use Rattle.fx_cert.specs.CertificateView.{row_view, rows_in, shares_of};
+ghost use Rattle.fx_template.specs.Rows.{AreCountedRows, AreWrittenBounds, IsCountedRow};
+
+use crate::unit::unit_entry;
+use fx_analysis::is_small;
+use fx_cert::{Row, Share};
+use fx_interval::Interval;
+use fx_num::Dyadic;
+
+/// Whether a text can spell it.
+fn is_written(d: Dyadic) -> bool
+    ensures { result ≡ true → IsWritten d }
+{
+    is_small(d) && d.e <= 96 && (d.e == 0 || d.m.unsigned_abs() % 2 == 1)
+}
+
+/// Whether a text can spell both ends.
+fn is_written_interval(x: Interval) -> bool
+    ensures { result ≡ true → IsWrittenInterval x }
+{
+    is_written(x.lo) && is_written(x.hi)
+}
+
+/// Whether a text can spell each.
+fn are_written(coefs: &[Dyadic]) -> bool
+    ensures { result ≡ true → All IsWritten coefs.now }
+{
+    for j in 0..coefs.len() {
+        if !is_written(coefs[j]) {
+            return false;
+        }
+    }
+    true
+}
+
+/// Whether the coefficients are the unit vector of state `i`.
+fn is_unit(coefs: &[Dyadic], i: u32) -> bool
+    requires { length coefs.now ≤ 32 }
+    ensures { i < length coefs.now → result ≡ true → coefs.now ≡ unit_vector (length coefs.now) i }
+{
+    for j in 0..coefs.len() {
+        if coefs[j] != unit_entry(i, j as u32) {
+            return false;
+        }
+    }
+    true
+}
+
+/// Whether the rows of shares rise and are below the count, from `least` on.
+fn are_shares(shares: &[Share], count: u32) -> bool
+    requires { count ≤ 512 }
+    ensures { result ≡ true → AreShares count 0 (shares_of shares.now) }
+{
+    let mut least = 0;
+    for share in shares {
+        let share = *share;
+        if share.row < least || share.row >= count || !is_written(share.times) {
+            return false;
+        }
+        least = share.row + 1;
+    }
+    true
+}
+
+/// Whether this is row `i` of so many over so many states.
+fn is_row(row: &Row, i: u32, states: u32, count: u32) -> bool
+    requires states { states ≤ 32 }
+    requires count { count ≤ 512 }
+    ensures counted { result ≡ true → IsCountedRow states count (row_view row.now) }
+    ensures written { result ≡ true → IsWrittenInterval row.now.bound }
+    ensures unit { result ≡ true → i < states → row.now.coefs ≡ unit_vector states i }
+{
+    let coefs = row.coefs.as_slice();
+    coefs.len() == states as usize
+        && are_written(coefs)
+        && (i >= states || is_unit(coefs, i))
+        && is_written_interval(row.bound)
+        && are_shares(row.shares.as_slice(), count)
+}
+
+/// Whether they are the rows of a certificate over so many states, the unit rows first.
+pub fn are_rows(rows: &[Row], states: u32) -> bool
+    requires states { states ≤ 32 }
+    ensures counted { result ≡ true → AreCountedRows states (rows_in rows.now) }
+    ensures written { result ≡ true → AreWrittenBounds (rows_in rows.now) }
+{
+    let count = rows.len();
+    if count < states as usize || count > 512 {
+        return false;
+    }
+    for i in 0..count {
+        if !is_row(&rows[i], i as u32, states, count as u32) {
+            return false;
+        }
+    }
+    true
+}

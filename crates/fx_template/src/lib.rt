@@ -1,0 +1,27 @@
+//! Rows that one step keeps, for a plan of a program with states.
+//!
+//! The ranges of the states alone are seldom kept by a step: a filter's state is bounded because combinations of states
+//! are. A search proposes such rows, with shares that show each by others; whatever it proposes is tested by the very
+//! comparisons of the checker before it is handed out, so nothing rests on its numbers. Where nothing it proposes passes,
+//! plain rounds raise the bounds of the unit rows alone: they are a definition, `find_rows` is equal to it, and only where
+//! some unit row doesn't stand after them is there no answer.
+//! The trap: a round replaces all bounds at once, of rows and of error rows. One bound that isn't there ends both.
+#![tactic(auto)]
+
+mod find;
+mod format;
+mod planned;
+mod round;
+mod stand;
+mod template;
+mod unit;
+
+ghost use Rattle.fx_template.specs.Rows.{WrittenLaw};
+
+pub use find::{find_rows, rows_over};
+pub use template::{TemplateFault, Templates};
+
+/// Counted rows whose bounds can be spelled are rows that a certificate may have.
+pub fn written_law()
+    ensures { WrittenLaw }
+{}

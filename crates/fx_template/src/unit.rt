@@ -1,0 +1,79 @@
+//! Unit rows, one for each state.
+
+ghost use Rattle.std.specs.Prelude.{◌≡◌, ◌∷◌, ◌++◌, ◌+◌, ◌<◌, pos, length, map, IfOk};
+ghost use Rattle.fx_model.specs.Tree.{at};
+ghost use Rattle.fx_inequalities.specs.Certificate.{zero_interval};
+ghost use Rattle.fx_inequalities.specs.LawfulCertificate.{unit_vector};
+ghost use Rattle.fx_cert.specs.CertificateView.{row_view, rows_in};
+ghost use Rattle.fx_conditions.specs.Limits.{AreShortRows};
+ghost use Rattle.fx_template.specs.PlainRounds.{unit_row, unit_rows};
+ghost use Rattle.fx_template.specs.RoundView.{AreShortBounds};
+ghost use Rattle.fx_template.specs.Units.{unit_entry};
+
+use fx_cert::Row;
+use fx_conditions::zero_alone;
+use fx_expr::Items;
+use fx_interval::Interval;
+use fx_num::Dyadic;
+use std::alloc::{AllocError, Global};
+
+/// Entry `j` of the unit vector of state `i`.
+pub fn unit_entry(i: u32, j: u32) -> Dyadic
+    ensures { result ≡ unit_entry i j }
+{
+    if i == j {
+        Dyadic { m: 1, e: 0 }
+    } else {
+        Dyadic { m: 0, e: 0 }
+    }
+}
+
+/// The unit vector of state `i` among so many.
+fn unit_vector(alloc: Global, states: u32, i: u32) -> Result<Items<Dyadic>, AllocError>
+    requires { i < states }
+    ensures { IfOk result (λ v. v ≡ unit_vector states i) }
+{
+    let mut entries = Vec::new(alloc);
+    for j in 0..states {
+        let entry = unit_entry(i, j);
+        entries.push(entry)?;
+    }
+    Ok(Items::from_vec(entries))
+}
+
+/// Bound `i` of a list, and 0 past its end.
+pub fn bound_at(bounds: &[Interval], i: u32) -> Interval
+    ensures { result ≡ at zero_interval bounds.now i }
+{
+    match bounds.get(i as usize) {
+        Some(bound) => *bound,
+        None => zero_alone(),
+    }
+}
+
+/// The unit row of state `i` among so many, with this bound and no shares.
+fn unit_row(alloc: Global, states: u32, bound: Interval, i: u32) -> Result<Row, AllocError>
+    requires { i < states }
+    ensures { IfOk result (λ r. row_view r ≡ unit_row states bound i) }
+{
+    Ok(Row {
+        coefs: unit_vector(alloc, states, i)?,
+        bound,
+        shares: Items::from_vec(Vec::new(alloc)),
+    })
+}
+
+/// The unit rows with these bounds.
+pub fn unit_rows(alloc: Global, states: u32, bounds: &[Interval]) -> Result<Vec<Row>, AllocError>
+    requires { AreShortBounds bounds.now }
+    ensures rows { IfOk result (λ rows. rows_in rows.items ≡ unit_rows states bounds.now) }
+    ensures short { IfOk result (λ rows. AreShortRows (rows_in rows.items)) }
+{
+    let mut rows = Vec::new(alloc);
+    for i in 0..states {
+        let bound = bound_at(bounds, i);
+        let row = unit_row(alloc, states, bound, i)?;
+        rows.push(row)?;
+    }
+    Ok(rows)
+}
