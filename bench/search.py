@@ -61,7 +61,8 @@ def main():
                 count = int(sizes[0].split()[-1]) if sizes else count
                 print(f"{count} nodes, {tries} tries: {seconds:.3f} s, {memory} KiB", flush=True)
             between = figures[TRIES[-1]] - figures[TRIES[-2]]
-            if between > 0:
+            # the search gives functions of more nodes fewer attempts
+            if between > 0 and count <= 500:
                 print(f"{count} nodes: {(TRIES[-1] - TRIES[-2]) / between:.0f} attempts a second", flush=True)
         doppler = os.path.join(HERE, "../examples/daisy/doppler.fixd")
         seconds, memory, _ = used(["synth", "--width", "32", doppler])

@@ -348,12 +348,25 @@ static SOURCES: [(&str, &str, u8, &str, &str); 21] = [
     ("def f(x: Real): (Real, Real) = { require(0 <= x && x <= 1) (x, x * 1000) } ensuring((a, b) => b +/- 0.1)", "16", 9, "", "fixd: not found: output 2\n"),
 ];
 
-// A synthesis of a source in so many tries.
-fn synthesised(alloc: Global, source: &str, width: &str, tries: &str) -> Result<Answer, Fail> {
+// A synthesis of a source in so many tries, with a seed.
+fn seeded(
+    alloc: Global,
+    source: &str,
+    width: &str,
+    tries: &str,
+    seed: &str,
+) -> Result<Answer, Fail> {
     let mut sources = shelf(alloc, source.as_bytes(), 0)?;
     let mut input = BytesIn::new(b"x\n".to_vec(alloc)?, 1, Vec::new(alloc));
-    let words = ["synth", "--width", width, "--tries", tries, "--", "-x"];
+    let words = [
+        "synth", "--seed", seed, "--width", width, "--tries", tries, "--", "-x",
+    ];
     call(alloc, &words, &mut sources, &mut input, (0, 0))
+}
+
+// The same with the first seed.
+fn synthesised(alloc: Global, source: &str, width: &str, tries: &str) -> Result<Answer, Fail> {
+    seeded(alloc, source, width, tries, "0")
 }
 
 // What `check` says of a bundle.
@@ -433,6 +446,21 @@ fn searches_bundles(rt: HostRuntime) -> Result<(), Fail> {
             assert!(rt; found.status.0 == 9, "{source}");
         }
     }
+    Ok(())
+}
+
+// of which different seeds find different programs in few tries
+const MANY_WAYS: &str =
+    "def f(x: Real, y: Real, z: Real): Real = { require(-1 <= x && x <= 2 && 0 <= y && y <= 3 && 1 <= z && z <= 2) x * y + x * z - y * z + x * x * z + y * y }";
+
+// The search draws its choices from the seed.
+#[test]
+fn a_seed_matters(rt: HostRuntime) -> Result<(), Fail> {
+    let alloc = rt.alloc();
+    let first = seeded(alloc, MANY_WAYS, "32", "12", "0")?;
+    let second = seeded(alloc, MANY_WAYS, "32", "12", "1")?;
+    assert!(rt; first.status.0 == 0 && second.status.0 == 0);
+    assert!(rt; first.output.bytes() != second.output.bytes());
     Ok(())
 }
 

@@ -5,8 +5,11 @@ use std::test::Fail;
 #[test]
 fn every_source_is_served(rt: HostRuntime) -> Result<(), Fail> {
     for n in 1..501 {
-        let function = served_function(rt.alloc(), n);
-        assert!(rt; matches!(function, Ok(f) if f.nodes() == 3 * n + 4), "number {n}");
+        let nodes = match served_function(rt.alloc(), n) {
+            Ok(function) => function.nodes(),
+            Err(_) => 0,
+        };
+        assert!(rt; nodes == 3 * n + 4, "number {n}");
     }
     Ok(())
 }

@@ -5,7 +5,7 @@
 
 use crate::grid::{Grids, PLACE_LIMIT};
 use crate::rows::Rows;
-use crate::span::{Scaled, Span, bits};
+use crate::span::{Scaled, Span, bits, product};
 use fx_flat::Node;
 use fx_num::{floor_shift, left_fits};
 
@@ -59,7 +59,7 @@ impl Mix {
         if x == 0 && y == 0 {
             return Some(0);
         }
-        self.s.checked_mul(x)?.checked_add(self.t.checked_mul(y)?)
+        product(self.s, x)?.checked_add(product(self.t, y)?)
     }
 
     /// One row by `s` and one by `t`, whose grids are `a` and `b`.

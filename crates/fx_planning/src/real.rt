@@ -8,7 +8,7 @@ use crate::span::bits;
 /// How many bits a mantissa has.
 const MANTISSA_BITS: i64 = 32;
 
-/// `m * 2^e`, where m is zero or has 32 bits.
+/// `m * 2^e`, where m is zero or has 32 bits, so that no product of two wraps in 128.
 #[derive(Clone, Copy, Debug, PartialEq, Eq)]
 pub struct Real {
     m: i64,
@@ -74,7 +74,7 @@ impl Real {
 
     /// The product.
     pub fn times(self, other: Real) -> Real {
-        let m = i128::from(self.m).saturating_mul(i128::from(other.m));
+        let m = i128::from(self.m).wrapping_mul(i128::from(other.m));
         let e = i64::from(self.e).saturating_add(i64::from(other.e));
         Real::rounded(m, e)
     }
@@ -84,7 +84,7 @@ impl Real {
         if divisor.m == 0 {
             return Real::INFINITE;
         }
-        let top = i128::from(self.m).saturating_mul(1 << 40);
+        let top = i128::from(self.m).wrapping_mul(1 << 40);
         let Some(m) = top.checked_div(i128::from(divisor.m)) else {
             return Real::INFINITE;
         };
@@ -106,7 +106,7 @@ impl Real {
         if lesser.m == 0 || distance > 60 {
             return self;
         }
-        let m = i128::from(self.m).saturating_mul(1_i128 << distance.unsigned_abs().min(60) as u32);
+        let m = i128::from(self.m).wrapping_mul(1_i128 << distance.unsigned_abs().min(60) as u32);
         Real::rounded(m.saturating_add(i128::from(lesser.m)), i64::from(lesser.e))
     }
 

@@ -27,6 +27,15 @@ pub fn bits(size: u128) -> u32 {
     128_u32.saturating_sub(size.leading_zeros())
 }
 
+/// The product of two mantissas.
+pub fn product(a: i128, b: i128) -> Option<i128> {
+    // most have 64 bits, whose product fits without a test
+    if let (Ok(x), Ok(y)) = (i64::try_from(a), i64::try_from(b)) {
+        return Some(i128::from(x).wrapping_mul(i128::from(y)));
+    }
+    a.checked_mul(b)
+}
+
 impl Scaled {
     /// Zero.
     pub const ZERO: Scaled = Scaled { m: 0, e: 0 };
@@ -53,6 +62,9 @@ impl Span {
 
     /// The same on a grid that isn't coarser.
     fn raised(self, e: u32) -> Option<Span> {
+        if self.e == e {
+            return Some(self);
+        }
         let places = e.checked_sub(self.e)?;
         let lo = left_fits(self.lo, places)?;
         let hi = left_fits(self.hi, places)?;
@@ -83,10 +95,10 @@ impl Span {
 
     /// The product.
     pub fn times(self, other: Span) -> Option<Span> {
-        let ll = self.lo.checked_mul(other.lo)?;
-        let lh = self.lo.checked_mul(other.hi)?;
-        let hl = self.hi.checked_mul(other.lo)?;
-        let hh = self.hi.checked_mul(other.hi)?;
+        let ll = product(self.lo, other.lo)?;
+        let lh = product(self.lo, other.hi)?;
+        let hl = product(self.hi, other.lo)?;
+        let hh = product(self.hi, other.hi)?;
         Some(Span {
             lo: ll.min(lh).min(hl.min(hh)),
             hi: ll.max(lh).max(hl.max(hh)),
@@ -96,8 +108,8 @@ impl Span {
 
     /// The product with one number.
     pub fn scaled(self, d: Scaled) -> Option<Span> {
-        let a = self.lo.checked_mul(d.m)?;
-        let b = self.hi.checked_mul(d.m)?;
+        let a = product(self.lo, d.m)?;
+        let b = product(self.hi, d.m)?;
         let e = self.e.checked_add(d.e)?;
         Some(Span {
             lo: a.min(b),
