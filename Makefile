@@ -7,7 +7,7 @@ PREFIX ?= /usr/local
 
 # the first example by the same sources, compiled without a proof of anything: a look, in a minute or two
 try:
-	@cd crates/fx_cli && rt try -- run ../../examples/half/half.bundle < ../../examples/half/half.csv
+	@cd crates/fx_cli && rt try -- run data/half.bundle < ../../examples/half/half.csv
 	@echo "this was a try: nothing of it is proved; 'make run' proves first" >&2
 
 # proves the program, builds it, runs the first example, and goes from a source to its rows
