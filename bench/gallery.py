@@ -20,6 +20,7 @@ import tempfile
 import time
 from fractions import Fraction
 
+from calls import Fixd
 from gallery_pictures import error_over_input, error_over_time
 from sources import evaluator, functions_of
 
@@ -38,31 +39,6 @@ seen where the first input had that value. Errors are those of the outputs again
 | function | bits | nodes | bound as written | bound found | error seen | of the bound | seconds | Gappa |
 |---|---|---|---|---|---|---|---|---|
 """
-
-
-def fixd(words, **options):
-    """Returns what the program prints, or None where its status isn't 0."""
-    ran = subprocess.run([PROGRAM, *words], stdout=subprocess.PIPE, stderr=subprocess.PIPE, text=True, **options)
-    if ran.returncode not in (0, 9):
-        sys.exit(f"fixd {' '.join(words)}: {ran.stderr.strip()}")
-    return ran.stdout if ran.returncode == 0 else None
-
-
-def synthesised(path, function, width, tries):
-    """Returns the bundle, or None where none is found, and the seconds that it took."""
-    start = time.monotonic()
-    text = fixd(["synth", "--width", str(width), "--tries", str(tries), "--function", function.name, path])
-    return text, time.monotonic() - start
-
-
-def bound_of(text):
-    """Returns the number of `m` or `m/2^e`."""
-    top, _, places = text.partition("/2^")
-    return Fraction(int(top), 2 ** int(places or 0))
-
-
-def bounds_of(bundle):
-    return [bound_of(line.split()[1]) for line in fixd(["check", bundle]).splitlines()[1:]]
 
 
 def short(number):
@@ -128,10 +104,10 @@ def write_rows(path, function, givens):
         file.writelines(",".join(map(decimal, row)) + "\n" for row in givens)
 
 
-def errors_of(bundle, rows, exact):
+def errors_of(fixd, bundle, rows, exact):
     """Returns the error of each row's outputs, as floats of exact differences."""
     with open(rows, encoding="utf-8") as file:
-        printed = fixd(["run", bundle], stdin=file).splitlines()[1:]
+        printed = fixd.call(["run", bundle], stdin=file).splitlines()[1:]
     return [[float(Fraction(text) - value) for text, value in zip(line.split(","), values)] for line, values in zip(printed, exact)]
 
 
@@ -201,6 +177,7 @@ class Gallery:
     def __init__(self, options, folder):
         self.options = options
         self.folder = folder
+        self.fixd = Fixd(os.path.abspath(options.program))
         self.lines = []
         self.pictures = []
         self.has_gappa = shutil.which("gappa") is not None
@@ -239,15 +216,15 @@ class Gallery:
         write_rows(rows, function, givens)
         is_drawn = False
         for width in self.options.widths:
-            plain, _ = synthesised(path, function, width, 0)
-            found, seconds = synthesised(path, function, width, 200)
-            written = short(max(bounds_of(self.bundle_file(plain)))) if plain else "not found"
+            plain, _ = self.fixd.synthesised(path, function.name, width, 0)
+            found, seconds = self.fixd.synthesised(path, function.name, width, 200)
+            written = short(max(self.fixd.bounds_of(self.bundle_file(plain)))) if plain else "not found"
             if found is None:
                 self.row(f"`{function.name}`", width, "", written, "not found", "", "", f"{seconds:.2f}", "")
                 continue
             bundle = self.bundle_file(found)
-            bounds = bounds_of(bundle)
-            errors = errors_of(bundle, rows, exact)
+            bounds = self.fixd.bounds_of(bundle)
+            errors = errors_of(self.fixd, bundle, rows, exact)
             seen = [max(abs(row[j]) for row in errors) for j in range(len(bounds))]
             part = max(s / float(b) if b else 0.0 for s, b in zip(seen, bounds))
             nodes = int(re.search(r"^sizes \d+ \d+ \d+ (\d+)$", plain or found, re.M)[1])
@@ -265,8 +242,8 @@ class Gallery:
         exact = exact_outputs(function, trues)
         rows = os.path.join(self.folder, "rows.csv")
         write_rows(rows, function, givens)
-        bound = bounds_of(bundle)[0]
-        errors = [row[0] for row in errors_of(bundle, rows, exact)]
+        bound = self.fixd.bounds_of(bundle)[0]
+        errors = [row[0] for row in errors_of(self.fixd, bundle, rows, exact)]
         seen = max(map(abs, errors))
         with open(bundle, encoding="utf-8") as file:
             text = file.read()
@@ -297,7 +274,6 @@ class Gallery:
 
 
 def main():
-    global PROGRAM
     parser = argparse.ArgumentParser()
     parser.add_argument("program")
     parser.add_argument("--rows", type=int, default=100_000)
@@ -306,7 +282,6 @@ def main():
     parser.add_argument("--out", default=os.path.join(ROOT, "docs/gallery.md"))
     parser.add_argument("--gappa")
     options = parser.parse_args()
-    PROGRAM = os.path.abspath(options.program)
     examples = sorted(os.path.join(folder, name) for folder, _, names in os.walk(os.path.join(ROOT, "examples"))
                       for name in names if name.endswith(".fixd"))
     with tempfile.TemporaryDirectory(prefix="fixd-gallery-") as folder:

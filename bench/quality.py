@@ -8,45 +8,35 @@ the worst of the functions, with --table each function too. `-` stands where not
 import argparse
 import glob
 import os
-import re
 import statistics
-import subprocess
 import tempfile
-import time
 from fractions import Fraction
+
+from calls import Fixd
+from sources import functions_of
 
 HERE = os.path.dirname(os.path.abspath(__file__))
 
 
 def functions():
-    """The file, name and source of each function."""
+    """The file and the name of each function without state."""
     files = sorted(glob.glob(os.path.join(HERE, "../examples/daisy/*.fixd")))
     for path in files + [os.path.join(HERE, "functions.fixd")]:
         with open(path, encoding="utf-8") as file:
-            for name in re.findall(r"\bdef\s+(\w+)", file.read()):
-                yield path, name
+            for function in functions_of(file.read()):
+                if not function.states:
+                    yield path, function.name
 
 
-def bounds(program, bundle):
-    """The certified bounds of a bundle's text."""
-    with tempfile.NamedTemporaryFile() as file:
-        file.write(bundle)
-        file.flush()
-        text = subprocess.run([program, "check", file.name], check=True, capture_output=True, text=True).stdout
-    found = []
-    for line in text.splitlines()[1:]:
-        whole, _, power = line.split()[1].partition("/2^")
-        found.append(Fraction(int(whole), 2 ** int(power or 0)))
-    return found
-
-
-def synthesised(program, path, name, width, tries):
+def synthesised(fixd, path, name, width, tries):
     """The bounds of what is found, or None, and the seconds that it took."""
-    start = time.perf_counter()
-    words = ["synth", "--width", str(width), "--tries", str(tries), "--function", name, path]
-    run = subprocess.run([program, *words], capture_output=True)
-    seconds = time.perf_counter() - start
-    return (bounds(program, run.stdout) if run.returncode == 0 else None), seconds
+    text, seconds = fixd.synthesised(path, name, width, tries)
+    if text is None:
+        return None, seconds
+    with tempfile.NamedTemporaryFile("w", encoding="utf-8") as file:
+        file.write(text)
+        file.flush()
+        return fixd.bounds_of(file.name), seconds
 
 
 def quotient(found, written):
@@ -60,14 +50,14 @@ def shown(value):
     return "     -" if value is None else f"{value:6.3f}"
 
 
-def measured(program, width, tries, table):
+def measured(fixd, width, tries, table):
     """Prints one width's figures."""
     columns = [[] for _ in tries]
     for path, name in functions():
-        written, _ = synthesised(program, path, name, width, 0)
+        written, _ = synthesised(fixd, path, name, width, 0)
         cells = []
         for column, count in zip(columns, tries):
-            found, seconds = synthesised(program, path, name, width, count)
+            found, seconds = synthesised(fixd, path, name, width, count)
             value = quotient(found, written)
             if value is not None:
                 column.append(value)
@@ -87,8 +77,9 @@ def main():
     parser.add_argument("--table", action="store_true")
     words = parser.parse_args()
     tries = [int(t) for t in words.tries.split(",")]
+    fixd = Fixd(os.path.abspath(words.program))
     for width in words.widths.split(","):
-        measured(words.program, int(width), tries, words.table)
+        measured(fixd, int(width), tries, words.table)
 
 
 if __name__ == "__main__":

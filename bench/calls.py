@@ -1,0 +1,35 @@
+"""Calls of a built `fixd` that more than one script makes."""
+import subprocess
+import sys
+import time
+from fractions import Fraction
+
+
+def bound_of(text):
+    """Returns the number of `m` or `m/2^e`."""
+    top, _, places = text.partition("/2^")
+    return Fraction(int(top), 2 ** int(places or 0))
+
+
+class Fixd:
+    """A program that is called by its words."""
+
+    def __init__(self, program):
+        self.program = program
+
+    def call(self, words, **options):
+        """Returns what the program prints, or None where nothing is found; any other status ends the script."""
+        ran = subprocess.run([self.program, *words], stdout=subprocess.PIPE, stderr=subprocess.PIPE, text=True, **options)
+        if ran.returncode not in (0, 9):
+            sys.exit(f"fixd {' '.join(words)}: {ran.stderr.strip()}")
+        return ran.stdout if ran.returncode == 0 else None
+
+    def synthesised(self, path, name, width, tries):
+        """Returns the bundle for the function of this name, or None where none is found, and the seconds that it took."""
+        start = time.monotonic()
+        text = self.call(["synth", "--width", str(width), "--tries", str(tries), "--function", name, path])
+        return text, time.monotonic() - start
+
+    def bounds_of(self, bundle):
+        """Returns the certified bounds of the bundle in this file."""
+        return [bound_of(line.split()[1]) for line in self.call(["check", bundle]).splitlines()[1:]]
