@@ -24,12 +24,17 @@ class Fixd:
             sys.exit(f"fixd {' '.join(words)}: {ran.stderr.strip()}")
         return ran.stdout if ran.returncode == 0 else None
 
-    def synthesised(self, path, name, width, tries):
+    def synthesised(self, path, name, width, tries, **options):
         """Returns the bundle for the function of this name, or None where none is found, and the seconds that it took."""
         start = time.monotonic()
-        text = self.call(["synth", "--width", str(width), "--tries", str(tries), "--function", name, path])
+        text = self.call(["synth", "--width", str(width), "--tries", str(tries), "--function", name, path], **options)
         return text, time.monotonic() - start
 
     def bounds_of(self, bundle):
         """Returns the certified bounds of the bundle in this file."""
         return [bound_of(line.split()[1]) for line in self.call(["check", bundle]).splitlines()[1:]]
+
+    def ranges_of(self, bundle):
+        """Returns the certified range of each code of the bundle in this file."""
+        lines = [line.split() for line in self.call(["show", bundle]).splitlines()]
+        return [(bound_of(fields[3]), bound_of(fields[4])) for fields in lines if len(fields) > 2]
