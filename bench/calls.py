@@ -34,7 +34,8 @@ class Fixd:
         """Returns the certified bounds of the bundle in this file."""
         return [bound_of(line.split()[1]) for line in self.call(["check", bundle]).splitlines()[1:]]
 
-    def ranges_of(self, bundle):
-        """Returns the certified range of each code of the bundle in this file."""
-        lines = [line.split() for line in self.call(["show", bundle]).splitlines()]
-        return [(bound_of(fields[3]), bound_of(fields[4])) for fields in lines if len(fields) > 2]
+    def intervals_of(self, bundle):
+        """Returns the certified range and the certified error of each code of the bundle in this file."""
+        lines = [line.split()[3:] for line in self.call(["show", bundle]).splitlines()]
+        ends = [[bound_of(text) for text in fields] for fields in lines if fields]
+        return [(lo, hi) for lo, hi, _, _ in ends], [(lo, hi) for _, _, lo, hi in ends]

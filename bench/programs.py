@@ -12,7 +12,7 @@ The model is that of the certificate, with each rounding as a source of its own:
 
 Each source lies anew in its interval at each step, whatever the others do; the one rounding that enters several next states or outputs is
 one source. The worst case is the sum over all steps before. A literal is the one of the source, or its negative, that the code's certified
-range holds; where rewriting made another one, it is the middle of that range.
+range holds; where rewriting made another one, its word is taken to be off by the middle of the code's certified error.
 """
 from dataclasses import dataclass, field
 from fractions import Fraction
@@ -76,11 +76,8 @@ def literals_of(tree):
 
 
 def literal_in(ends, literals):
-    """Returns the literal that an interval holds, or its middle."""
-    for value in literals:
-        if ends[0] <= value <= ends[1]:
-            return value
-    return (ends[0] + ends[1]) / 2
+    """Returns the literal that an interval holds, or None."""
+    return next((value for value in literals if ends[0] <= value <= ends[1]), None)
 
 
 def combined(first, factor, second, other):
@@ -102,7 +99,7 @@ class Node:
 class Roundings:
     """The errors of a linear program's codes. Source k below the number of states is the error of state k."""
 
-    def __init__(self, function, linear, codes, ranges):
+    def __init__(self, function, linear, codes, intervals):
         self.linear, self.codes, self.nodes = linear, codes, []
         self.inputs, self.states = len(function.inputs), len(function.states)
         self.errors = [span["err"] for span in function.inputs.values()]
@@ -111,8 +108,8 @@ class Roundings:
         found = {x for tree in trees for x in literals_of(tree)}
         self.literals = found | {-x for x in found}
         self.spans = {}
-        for code, ends in zip(codes, ranges):
-            self.nodes.append(self.node(code, ends))
+        for code, ends, off in zip(codes, *intervals):
+            self.nodes.append(self.node(code, ends, off))
 
     def source(self, lo, hi):
         """Returns the form of a new source with this interval."""
@@ -131,7 +128,8 @@ class Roundings:
             self.spans[key] = self.linear.span(of_states, of_inputs)
         return self.spans[key]
 
-    def node(self, code, ends):
+    def node(self, code, ends, off):
+        """Returns the node of a code, of which this range and this error are certified."""
         u = unit(code.point)
         if code.word == "in":
             err = self.errors[code.numbers[0]]
@@ -139,7 +137,8 @@ class Roundings:
         if code.word == "st":
             return Node({self.inputs + code.numbers[0]: Fraction(1)}, {code.numbers[0]: Fraction(1)})
         if code.word == "const":
-            return self.known({ONE: literal_in(ends, self.literals)}, code.numbers[0], u)
+            literal = literal_in(ends, self.literals)
+            return self.known({ONE: code.numbers[0] * u - sum(off) / 2 if literal is None else literal}, code.numbers[0], u)
         parts = [self.nodes[k] for k in code.operands]
         exact = self.exact(code.word, parts)
         if all(part.word is not None for part in parts):

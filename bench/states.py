@@ -76,11 +76,11 @@ def certified_of(source, ranges):
 
 def ratios(fixd, source, path):
     """Returns both ratios of a linear source's bundle; ends the script where what is certified doesn't hold its limit."""
-    ranges, limits = fixd.ranges_of(path), limits_of(source.linear)
+    intervals, limits = fixd.intervals_of(path), limits_of(source.linear)
     with open(path, encoding="utf-8") as file:
         codes = codes_of(file.read())
-    pairs = list(zip(certified_of(source, ranges), limits))
-    errors = list(zip(fixd.bounds_of(path), Roundings(source.function, source.linear, codes, ranges).limits()))
+    pairs = list(zip(certified_of(source, intervals[0]), limits))
+    errors = list(zip(fixd.bounds_of(path), Roundings(source.function, source.linear, codes, intervals).limits()))
     for certified, limit in pairs + [((-bound, bound), limit) for bound, limit in errors]:
         if not holds(certified, limit):
             sys.exit(f"{source.name}: {told(certified)} is certified, and the limit is {told(limit)}")

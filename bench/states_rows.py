@@ -223,7 +223,7 @@ def compared(fixd, source, bundle, rows_file, exact, lost):
         printed = [list(map(printed_value, line.split(","))) for line in fixd.call(["run", bundle], stdin=file).splitlines()[1:]]
     if len(printed) != len(exact):
         sys.exit(f"{source.name}: {len(printed)} rows are printed, and {len(exact)} are due")
-    ranges, first = fixd.ranges_of(bundle), -len(source.function.states) - len(exact[0])
+    ranges, first = fixd.intervals_of(bundle)[0], -len(source.function.states) - len(exact[0])
     errors, parts = [], []
     for j, bound in enumerate(fixd.bounds_of(bundle)):
         if lost[j] > CLOSE * bound:
