@@ -24,12 +24,18 @@ class Fixd:
             sys.exit(f"fixd {' '.join(words)}: {ran.stderr.strip()}")
         return ran.stdout if ran.returncode == 0 else None
 
-    def synthesised(self, path, name, width, tries):
+    def synthesised(self, path, name, width, tries, **options):
         """Returns the bundle for the function of this name, or None where none is found, and the seconds that it took."""
         start = time.monotonic()
-        text = self.call(["synth", "--width", str(width), "--tries", str(tries), "--function", name, path])
+        text = self.call(["synth", "--width", str(width), "--tries", str(tries), "--function", name, path], **options)
         return text, time.monotonic() - start
 
     def bounds_of(self, bundle):
         """Returns the certified bounds of the bundle in this file."""
         return [bound_of(line.split()[1]) for line in self.call(["check", bundle]).splitlines()[1:]]
+
+    def intervals_of(self, bundle):
+        """Returns the certified range and the certified error of each code of the bundle in this file."""
+        lines = [line.split()[3:] for line in self.call(["show", bundle]).splitlines()]
+        ends = [[bound_of(text) for text in fields] for fields in lines if fields]
+        return [(lo, hi) for lo, hi, _, _ in ends], [(lo, hi) for _, _, lo, hi in ends]

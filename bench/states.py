@@ -1,0 +1,164 @@
+#!/usr/bin/env python3
+"""Measures what `synth` finds for functions with state: states.py [PROGRAM] [--widths 16,24,..] [--bundles FOLDER] [--write]
+
+For each source of examples/states and each width: whether a bundle is found and in how many seconds, and, where the source is linear,
+how far its certificate is from the least that holds:
+
+- *range / limit*: the width of the certified range of a state or output over that of the least interval that holds its exact value at
+  all times, for any inputs in range: sums of absolute impulse responses, and the way back from the start. The worst state or output.
+- *error / limit*: the certified bound of an output over the worst error that the roundings of this very program can add up to, each
+  rounding taken as a source of its own (bench/programs.py says exactly what is counted). The worst output.
+
+1 means that no certificate of that program can be narrower, if roundings are looked at one by one. Of a nonlinear source no limits are
+known. A source whose comment begins with `not found` has no bound and must end so; all others count. With --bundles the bundles are
+kept as NAME.WIDTH.bundle, and with --write the tables go to docs/states.md. Outside the gate: it takes some minutes, and seconds depend
+on the machine.
+"""
+import argparse
+import os
+import statistics
+import sys
+import tempfile
+from dataclasses import dataclass
+from fractions import Fraction
+
+from calls import Fixd
+from corpus import HERE, PAGE, bundle_made, corpus
+from pages import put
+from programs import Roundings, codes_of
+
+LOST = Fraction(1, 2 ** 80)
+
+
+@dataclass
+class Measured:
+    """What came of a source at a width; a ratio that isn't known is None."""
+    found: bool
+    seconds: float
+    range_ratio: float = None
+    error_ratio: float = None
+
+
+def width_of(ends):
+    return ends[1] - ends[0]
+
+
+def holds(certified, limit):
+    """Says whether an interval holds a limit, but for what its sum lost on the way."""
+    return limit is not None and certified[0] <= limit[0] + LOST * width_of(limit) and limit[1] - LOST * width_of(limit) <= certified[1]
+
+
+def told(ends):
+    return f"from {float(ends[0]):.9g} to {float(ends[1]):.9g}" if ends else "none"
+
+
+def worst(pairs):
+    """Returns the greatest quotient of what is certified and its limit, where the limit isn't 0."""
+    return max((float(certified / limit) for certified, limit in pairs if limit), default=None)
+
+
+def unit_row(k, count):
+    return [int(i == k) for i in range(count)]
+
+
+def limits_of(linear):
+    """Returns the least intervals of the states and of the outputs."""
+    states, none = len(linear.A), [0] * len(linear.ranges)
+    return [linear.span(unit_row(k, states), none) for k in range(states)] + [linear.span(c, d) for c, d in zip(linear.C, linear.D)]
+
+
+def certified_of(source, ranges):
+    """Returns the certified ranges of the states and of the outputs, of those of all codes."""
+    inputs, states = len(source.function.inputs), len(source.function.states)
+    first = len(ranges) - states
+    return ranges[inputs:inputs + states] + ranges[first - len(source.linear.C):first]
+
+
+def ratios(fixd, source, path):
+    """Returns both ratios of a linear source's bundle; ends the script where what is certified doesn't hold its limit."""
+    intervals, limits = fixd.intervals_of(path), limits_of(source.linear)
+    with open(path, encoding="utf-8") as file:
+        codes = codes_of(file.read())
+    pairs = list(zip(certified_of(source, intervals[0]), limits))
+    errors = list(zip(fixd.bounds_of(path), Roundings(source.function, source.linear, codes, intervals).limits()))
+    for certified, limit in pairs + [((-bound, bound), limit) for bound, limit in errors]:
+        if not holds(certified, limit):
+            sys.exit(f"{source.name}: {told(certified)} is certified, and the limit is {told(limit)}")
+    return (worst((width_of(certified), width_of(limit)) for certified, limit in pairs),
+            worst((bound, max(-limit[0], limit[1])) for bound, limit in errors))
+
+
+def measured(fixd, source, width, options, folder):
+    path, seconds = bundle_made(fixd, source, width, folder, options.limit)
+    if path is None:
+        return Measured(False, seconds)
+    if source.mark == "not found":
+        sys.exit(f"{source.name}: a bundle is found, and no state of it is bounded")
+    return Measured(True, seconds, *(ratios(fixd, source, path) if source.linear else (None, None)))
+
+
+# ---- tables
+
+def shown(values):
+    """Returns figures side by side, a dash where there is none."""
+    return " ".join("-" if value is None else f"{value:.3f}" for value in values)
+
+
+def source_line(source, row, widths):
+    found = " ".join(str(width) for width, at in zip(widths, row) if at.found) or "no"
+    kind = source.kind() + (f", {source.mark}" if source.mark == "a limit" else "")
+    seconds = max(at.seconds for at in row)
+    fields = [f"`{source.name}`", kind if source.mark != "not found" else "unbounded", len(source.function.states), found]
+    is_measured = source.linear and found != "no"
+    fields += [shown(at.range_ratio for at in row), shown(at.error_ratio for at in row)] if is_measured else ["", ""]
+    return "| " + " | ".join(map(str, [*fields, f"{seconds:.2f}"])) + " |"
+
+
+def median_and_worst(values, places=3):
+    return f"{statistics.median(values):.{places}f}, {max(values):.{places}f}" if values else "-"
+
+
+def width_line(width, column):
+    """The figures of one width, of the sources that have a bound."""
+    found = [at for at in column if at.found]
+    ranges = [at.range_ratio for at in found if at.range_ratio is not None]
+    errors = [at.error_ratio for at in found if at.error_ratio is not None]
+    seconds = median_and_worst([at.seconds for at in column], 2)
+    return f"| {width} | {len(found)} of {len(column)} | {median_and_worst(ranges)} | {median_and_worst(errors)} | {seconds} |"
+
+
+def tables(rows, widths):
+    """Returns the table of widths and that of sources."""
+    bounded = [row for source, row in rows if source.mark != "not found"]
+    lines = ["| width | found | range / limit: median, worst | error / limit: median, worst | seconds: median, worst |"]
+    lines += ["|---|---|---|---|---|"]
+    lines += [width_line(width, [row[k] for row in bounded]) for k, width in enumerate(widths)] if bounded else []
+    lines += ["", f"| source | kind | states | found at | range / limit at {', '.join(map(str, widths))} | error / limit | longest, s |"]
+    lines += ["|---|---|---|---|---|---|---|"] + [source_line(source, row, widths) for source, row in rows]
+    return "\n".join(lines) + "\n"
+
+
+def main():
+    parser = argparse.ArgumentParser(description=__doc__.splitlines()[0])
+    parser.add_argument("program", nargs="?", default=os.path.join(HERE, "../build/fixd"))
+    parser.add_argument("--widths", type=lambda text: [int(w) for w in text.split(",")], default=[16, 24, 32])
+    parser.add_argument("--only", type=lambda text: text.split(","))
+    parser.add_argument("--bundles", help="a folder in which the bundles are kept")
+    parser.add_argument("--limit", type=float, default=600, help="the seconds after which a search counts as not found")
+    parser.add_argument("--write", action="store_true", help="put the tables into docs/states.md")
+    options = parser.parse_args()
+    fixd, rows = Fixd(os.path.abspath(options.program)), []
+    with tempfile.TemporaryDirectory(prefix="fixd-states-") as own:
+        folder = options.bundles or own
+        os.makedirs(folder, exist_ok=True)
+        for source in corpus(options.only):
+            rows.append((source, [measured(fixd, source, width, options, folder) for width in options.widths]))
+            print(source_line(*rows[-1], options.widths), file=sys.stderr, flush=True)
+    text = tables(rows, options.widths)
+    print(text, end="")
+    if options.write:
+        put(PAGE, "found", text)
+
+
+if __name__ == "__main__":
+    main()
