@@ -1,10 +1,29 @@
-//! Which rows of the states to propose for a certificate, over one step of the states.
+//! How far rows of states reach, and chains of their images.
 //!
-//! Nothing is promised of what is proposed, and nothing rests on it: whoever takes it tests it. So far nothing is.
+//! A row of the states, its image one step later, the image of that and so on show each other without loss: only where
+//! the chain is closed something may be lost. What later drives add to a row is its reach, the least bound that any
+//! certificate could have; it is worked out ahead, so that what a closing costs is known before a row is kept.
+//!
+//! Nothing is promised of these numbers, and nothing rests on them: rows made of them are tested by who takes them. All
+//! are whole numbers of 128 bits, and one that leaves them drops what asked for it.
+//! The trap: sizes are whole at one power of two for all, coefficients at another, bounds at one for each row.
 #![tactic(auto)]
 
-mod propose;
+mod ahead;
+mod chain;
+mod linear;
+mod pool;
+mod sum;
 mod transition;
+mod whole;
 
-pub use propose::propose as propose_rows;
+pub use ahead::{Ahead, look_ahead};
+pub use chain::{Chain, Costs, find_closing, room, times_of, unit_cost, wanted_length};
+pub use linear::Linear;
+pub use pool::Pool;
+pub use sum::{plus_scaled, times};
 pub use transition::Transition;
+pub use whole::{
+    PLACES, bits, ceil_at, floor_at, lowest, magnitude, moved_down, moved_up, product, quotient,
+    share_of,
+};

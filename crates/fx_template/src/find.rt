@@ -22,7 +22,8 @@ use fx_conditions::Side;
 use fx_expr::Items;
 use fx_flat::Nodes;
 use fx_num::Memory;
-use fx_reach::{Transition, propose_rows};
+use fx_proposal::propose_rows;
+use fx_reach::Transition;
 use fx_sharing::row_judgement;
 use std::alloc::Global;
 
@@ -83,11 +84,14 @@ fn plain_templates(alloc: Global, t: &Transition, rounds: u32) -> Result<Templat
 
 /// Rows of both kinds that might be kept, if some are found.
 fn proposed(alloc: Global, t: &Transition) -> Result<Option<Templates>, Memory> {
-    let Some(rows) = propose_rows(alloc, t, &Side::Value, None)? else {
+    let Some(values) = propose_rows(alloc, t, &Side::Value, None, None)? else {
         return Ok(None);
     };
-    match propose_rows(alloc, t, &Side::Error, None)? {
-        Some(error_rows) => Ok(Some(Templates { rows, error_rows })),
+    match propose_rows(alloc, t, &Side::Error, None, None)? {
+        Some(errors) => Ok(Some(Templates {
+            rows: values.into_rows(),
+            error_rows: errors.into_rows(),
+        })),
         None => Ok(None),
     }
 }

@@ -1,0 +1,458 @@
+//! Taking a row apart by others at a small cost: rows of a basis are exchanged one at a time, from the unit rows on.
+//!
+//! What the shares leave of a row goes to the unit rows, so that nothing rests on how accurate this is, and stopping at
+//! any time is lawful. Entries are whole with 40 binary places, in coordinates in which each row costs 1.
+
+use fx_cert::Share;
+use fx_num::{Memory, floor_shift, left_fits};
+use fx_reach::{PLACES, Pool, bits, product, quotient, share_of};
+use std::alloc::Global;
+
+/// How many binary places entries have.
+const EXCHANGE_PLACES: u32 = 40;
+
+/// One.
+const ONE: i128 = 1 << EXCHANGE_PLACES;
+
+/// The rows of a pool in coordinates in which each costs 1; rows that would be too long are none.
+#[derive(Debug, Drop)]
+pub struct ScaledRows<'a> {
+    pool: &'a Pool,
+    rows: Vec<Option<Vec<i128>>>,
+}
+
+/// A basis, the inverse of its matrix, and how often each of its rows is taken.
+#[derive(Debug, Drop)]
+struct Basis {
+    states: usize,
+    rows: Vec<(usize, i128)>,
+    inverse: Vec<Vec<i128>>,
+    times: Vec<i128>,
+}
+
+/// What a row takes apart to, and what that costs.
+#[derive(Debug, Drop)]
+pub struct Exchanged {
+    pub cost: i128,
+    pub shares: Vec<Share>,
+}
+
+/// Entry `j` of a row, scaled by the costs of the state and of the row.
+fn scaled_entry(entry: i128, state_cost: i128, cost: i128) -> Option<i128> {
+    let z = entry.checked_mul(state_cost)?;
+    let moved = if bits(z.unsigned_abs()).saturating_add(EXCHANGE_PLACES) < 127 {
+        floor_shift(left_fits(z, EXCHANGE_PLACES)?, PLACES)
+    } else {
+        floor_shift(z, PLACES - EXCHANGE_PLACES)
+    };
+    let entry = quotient(moved, cost)?;
+    if entry.unsigned_abs() >> (EXCHANGE_PLACES + 16) != 0 {
+        return None;
+    }
+    Some(entry)
+}
+
+/// Row `i` scaled.
+fn scaled_row(alloc: Global, pool: &Pool, i: usize) -> Result<Option<Vec<i128>>, Memory> {
+    let row = pool.row(i);
+    let cost = pool.cost(i);
+    let mut scaled = Vec::new(alloc);
+    for j in 0..pool.states {
+        let entry = row.get(j).copied().unwrap_or(0);
+        match scaled_entry(entry, pool.cost(j), cost) {
+            Some(entry) => scaled.push(entry)?,
+            None => return Ok(None),
+        }
+    }
+    Ok(Some(scaled))
+}
+
+impl<'a> ScaledRows<'a> {
+    /// The rows of a pool behind its unit rows.
+    pub fn of(alloc: Global, pool: &'a Pool) -> Result<ScaledRows<'a>, Memory> {
+        let mut rows = Vec::new(alloc);
+        for i in pool.states..pool.len() {
+            rows.push(scaled_row(alloc, pool, i)?)?;
+        }
+        Ok(ScaledRows { pool, rows })
+    }
+
+    /// What the unit rows cost for a row.
+    fn unit_cost(&self, row: &[i128]) -> Option<i128> {
+        let mut total: i128 = 0;
+        for j in 0..self.pool.states {
+            let entry = row.get(j).copied()?.checked_abs()?;
+            total = total.checked_add(entry.checked_mul(self.pool.cost(j))?)?;
+        }
+        Some(floor_shift(total, PLACES))
+    }
+}
+
+/// The product of two rows with 40 binary places.
+fn dot(a: &[i128], b: &[i128]) -> Option<i128> {
+    let mut total: i128 = 0;
+    for (x, y) in a.iter().zip(b) {
+        if *x != 0 && *y != 0 {
+            total = total.checked_add(x.checked_mul(*y)?)?;
+        }
+    }
+    Some(floor_shift(total, EXCHANGE_PLACES))
+}
+
+/// A unit vector with one entry.
+fn unit(alloc: Global, states: usize, i: usize, entry: i128) -> Result<Vec<i128>, Memory> {
+    let mut row = vec![in alloc; 0_i128; states]?;
+    if let Some(slot) = row.get_mut(i) {
+        *slot = entry;
+    }
+    Ok(row)
+}
+
+/// A row to come into the basis, with its sign and how much it gains.
+#[derive(Clone, Copy, Debug)]
+struct Entering {
+    row: usize,
+    sign: i128,
+    gain: i128,
+}
+
+impl Entering {
+    /// The better one of this and a row that gains so much.
+    fn or(self, row: usize, gain: i128) -> Entering {
+        if gain.unsigned_abs() > self.gain.unsigned_abs() {
+            Entering {
+                row,
+                sign: if gain > 0 { 1 } else { -1 },
+                gain,
+            }
+        } else {
+            self
+        }
+    }
+}
+
+impl Basis {
+    /// The unit rows, with the signs of a row.
+    fn units(alloc: Global, row: &[i128]) -> Result<Basis, Memory> {
+        let states = row.len();
+        let mut basis = Basis {
+            states,
+            rows: Vec::new(alloc),
+            inverse: Vec::new(alloc),
+            times: Vec::new(alloc),
+        };
+        for j in 0..states {
+            let sign = if row[j] >= 0 { 1 } else { -1 };
+            basis.rows.push((j, sign))?;
+            basis
+                .inverse
+                .push(unit(alloc, states, j, if sign < 0 { -ONE } else { ONE })?)?;
+            basis.times.push(row[j].saturating_abs())?;
+        }
+        Ok(basis)
+    }
+
+    /// Sums of the inverse's columns: what each state is worth.
+    fn worth(&self, alloc: Global) -> Result<Vec<i128>, Memory> {
+        let mut sums = vec![in alloc; 0_i128; self.states]?;
+        for row in &self.inverse {
+            add_row(&mut sums, row);
+        }
+        Ok(sums)
+    }
+
+    /// The row that gains most.
+    fn entering(&self, scaled: &ScaledRows<'_>, worth: &[i128]) -> Option<Entering> {
+        let start = ONE + (ONE >> 12);
+        let mut best = Entering {
+            row: usize::MAX,
+            sign: 1,
+            gain: start,
+        };
+        for j in 0..worth.len() {
+            best = best.or(j, worth[j]);
+        }
+        best = best_row(best, scaled, worth);
+        if best.row == usize::MAX {
+            None
+        } else {
+            Some(best)
+        }
+    }
+
+    /// The entering row in terms of the basis.
+    fn column(&self, alloc: Global, row: &[i128], sign: i128) -> Result<Option<Vec<i128>>, Memory> {
+        let mut column = Vec::new(alloc);
+        for own in &self.inverse {
+            match dot(own, row) {
+                Some(entry) => column.push(entry.saturating_mul(sign))?,
+                None => return Ok(None),
+            }
+        }
+        Ok(Some(column))
+    }
+
+    /// The row of the basis that is used up first.
+    fn leaving(&self, column: &[i128]) -> Option<usize> {
+        let mut best = None;
+        for a in 0..column.len() {
+            if column[a] > ONE >> 24 && self.is_used_before(a, best, column) {
+                best = Some(a);
+            }
+        }
+        best
+    }
+
+    /// Whether row `a` is used up before another, or at about the same time with a greater pivot: a small one would make
+    /// the inverse's numbers long.
+    fn is_used_before(&self, a: usize, best: Option<usize>, column: &[i128]) -> bool {
+        let Some(b) = best else {
+            return true;
+        };
+        let ta = self.times.get(a).copied().unwrap_or(0);
+        let tb = self.times.get(b).copied().unwrap_or(0);
+        let ca = column.get(a).copied().unwrap_or(1);
+        let cb = column.get(b).copied().unwrap_or(1);
+        let own = ta.saturating_mul(cb);
+        let other = tb.saturating_mul(ca);
+        let slack = other >> 16;
+        own < other.saturating_sub(slack) || (own <= other.saturating_add(slack) && ca > cb)
+    }
+
+    /// The leaving row of the inverse over the pivot.
+    fn pivot_row(
+        &self,
+        alloc: Global,
+        leave: usize,
+        pivot: i128,
+    ) -> Result<Option<Vec<i128>>, Memory> {
+        let mut row = Vec::new(alloc);
+        let old = match self.inverse.get(leave) {
+            Some(old) => old.as_slice(),
+            None => &[],
+        };
+        for x in old {
+            match pivoted(*x, pivot) {
+                Some(entry) => row.push(entry)?,
+                None => return Ok(None),
+            }
+        }
+        Ok(Some(row))
+    }
+
+    /// Takes so many times the pivot's row from another of the inverse.
+    fn reduce(&mut self, a: usize, row: &[i128], c: i128, ratio: i128) -> Option<()> {
+        reduce_row(self.inverse.get_mut(a)?, row, c)?;
+        let time = self.times.get_mut(a)?;
+        *time = time
+            .checked_sub(product(c, ratio, EXCHANGE_PLACES)?)?
+            .max(0);
+        Some(())
+    }
+
+    /// Takes them from all others.
+    fn reduce_all(
+        &mut self,
+        leave: usize,
+        row: &[i128],
+        column: &[i128],
+        ratio: i128,
+    ) -> Option<()> {
+        for a in 0..column.len() {
+            if a != leave && column[a] != 0 {
+                self.reduce(a, row, column[a], ratio)?;
+            }
+        }
+        Some(())
+    }
+
+    /// Exchanges the leaving row for the entering one. None where a number gets too long.
+    fn exchange(
+        &mut self,
+        alloc: Global,
+        leave: usize,
+        entering: Entering,
+        column: &[i128],
+    ) -> Result<Option<()>, Memory> {
+        let pivot = column.get(leave).copied().unwrap_or(0);
+        let time = self.times.get(leave).copied().unwrap_or(0);
+        let Some(row) = self.pivot_row(alloc, leave, pivot)? else {
+            return Ok(None);
+        };
+        let Some(ratio) = pivoted(time, pivot) else {
+            return Ok(None);
+        };
+        if self.reduce_all(leave, &row, column, ratio).is_none() {
+            return Ok(None);
+        }
+        if let Some(slot) = self.times.get_mut(leave) {
+            *slot = ratio;
+        }
+        if let Some(slot) = self.inverse.get_mut(leave) {
+            *slot = row;
+        }
+        if let Some(slot) = self.rows.get_mut(leave) {
+            *slot = (entering.row, entering.sign);
+        }
+        Ok(Some(()))
+    }
+}
+
+/// Adds a row to sums.
+fn add_row(sums: &mut Vec<i128>, row: &[i128]) {
+    for (sum, x) in sums.iter_mut().zip(row) {
+        *sum = sum.saturating_add(*x);
+    }
+}
+
+/// The better one of what is there and the pool's rows.
+fn best_row(first: Entering, scaled: &ScaledRows<'_>, worth: &[i128]) -> Entering {
+    let mut best = first;
+    for i in 0..scaled.rows.len() {
+        if let Some(row) = &scaled.rows[i] {
+            if let Some(gain) = dot(worth, row) {
+                best = best.or(i.saturating_add(scaled.pool.states), gain);
+            }
+        }
+    }
+    best
+}
+
+/// A number over a pivot, of at most 24 bits before its places.
+fn pivoted(x: i128, pivot: i128) -> Option<i128> {
+    let entry = quotient(left_fits(x, EXCHANGE_PLACES)?, pivot)?;
+    if entry.unsigned_abs() >> (EXCHANGE_PLACES + 24) != 0 {
+        return None;
+    }
+    Some(entry)
+}
+
+/// Takes so many times a row from another.
+fn reduce_row(own: &mut Vec<i128>, row: &[i128], c: i128) -> Option<()> {
+    for (x, z) in own.iter_mut().zip(row) {
+        *x = x.checked_sub(product(c, *z, EXCHANGE_PLACES)?)?;
+    }
+    Some(())
+}
+
+/// A row over its cost, in the scaled coordinates.
+fn goal_row(
+    alloc: Global,
+    pool: &Pool,
+    row: &[i128],
+    cost: i128,
+) -> Result<Option<Vec<i128>>, Memory> {
+    let mut goal = Vec::new(alloc);
+    for j in 0..pool.states {
+        let entry = row.get(j).copied().unwrap_or(0);
+        match scaled_entry(entry, pool.cost(j), cost) {
+            Some(entry) => goal.push(entry)?,
+            None => return Ok(None),
+        }
+    }
+    Ok(Some(goal))
+}
+
+/// The entering row itself.
+fn entering_row(alloc: Global, scaled: &ScaledRows<'_>, i: usize) -> Result<Vec<i128>, Memory> {
+    let states = scaled.pool.states;
+    if i < states {
+        return unit(alloc, states, i, ONE);
+    }
+    match scaled.rows.get(i.saturating_sub(states)) {
+        Some(Some(row)) => Ok(Vec::from_slice(alloc, row)?),
+        _ => Ok(vec![in alloc; 0_i128; states]?),
+    }
+}
+
+/// One exchange, and whether there was one.
+fn exchange_once(
+    alloc: Global,
+    scaled: &ScaledRows<'_>,
+    basis: &mut Basis,
+) -> Result<bool, Memory> {
+    let worth = basis.worth(alloc)?;
+    let Some(entering) = basis.entering(scaled, &worth) else {
+        return Ok(false);
+    };
+    let row = entering_row(alloc, scaled, entering.row)?;
+    let Some(column) = basis.column(alloc, &row, entering.sign)? else {
+        return Ok(false);
+    };
+    let Some(leave) = basis.leaving(&column) else {
+        return Ok(false);
+    };
+    Ok(basis.exchange(alloc, leave, entering, &column)?.is_some())
+}
+
+/// How often row `i` is taken, as a share.
+fn share_at(pool: &Pool, (i, sign): (usize, i128), time: i128, cost: i128) -> Option<Share> {
+    if i < pool.states || time == 0 {
+        return None;
+    }
+    let n = time.checked_mul(sign)?.checked_mul(cost)?;
+    let d = left_fits(pool.cost(i), EXCHANGE_PLACES)?;
+    Some(Share {
+        row: u32::try_from(i).ok()?,
+        times: share_of(n, d)?,
+    })
+}
+
+/// Puts a share where its row stands in the order of rows.
+fn insert(shares: &mut Vec<Share>, share: Share) -> Result<(), Memory> {
+    let mut place: usize = 0;
+    for other in shares.iter() {
+        if other.row < share.row {
+            place = place.saturating_add(1);
+        }
+    }
+    if place <= shares.len() {
+        shares.insert(place, share)?;
+    }
+    Ok(())
+}
+
+/// The shares of a basis.
+fn shares_of(alloc: Global, pool: &Pool, basis: &Basis, cost: i128) -> Result<Vec<Share>, Memory> {
+    let mut shares = Vec::new(alloc);
+    for (row, time) in basis.rows.iter().zip(&basis.times) {
+        if let Some(share) = share_at(pool, *row, *time, cost) {
+            insert(&mut shares, share)?;
+        }
+    }
+    Ok(shares)
+}
+
+/// What all rows of a basis cost together.
+fn basis_cost(basis: &Basis, cost: i128) -> i128 {
+    let mut total: i128 = 0;
+    for time in &basis.times {
+        total = total.saturating_add(*time);
+    }
+    product(total, cost, EXCHANGE_PLACES).unwrap_or(i128::MAX)
+}
+
+/// Takes a row of 48 binary places apart.
+pub fn exchange(alloc: Global, scaled: &ScaledRows<'_>, row: &[i128]) -> Result<Exchanged, Memory> {
+    let none = Exchanged {
+        cost: 0,
+        shares: Vec::new(alloc),
+    };
+    let Some(cost) = scaled.unit_cost(row) else {
+        return Ok(none);
+    };
+    let Some(goal) = goal_row(alloc, scaled.pool, row, cost)? else {
+        return Ok(none);
+    };
+    let mut basis = Basis::units(alloc, &goal)?;
+    let turns = scaled.pool.states.saturating_mul(8).saturating_add(16);
+    for _turn in 0..turns {
+        if !exchange_once(alloc, scaled, &mut basis)? {
+            break;
+        }
+    }
+    Ok(Exchanged {
+        cost: basis_cost(&basis, cost),
+        shares: shares_of(alloc, scaled.pool, &basis, cost)?,
+    })
+}

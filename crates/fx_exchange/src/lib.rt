@@ -1,0 +1,14 @@
+//! Rows taken apart by others: so many times each, and what they leave by the unit rows.
+//!
+//! A row is a sum of other rows in many ways, and what bounds it is the cheapest of them. The simplex step finds a cheap
+//! one: rows of a basis are exchanged one at a time, from the unit rows on, until no row makes the sum cheaper.
+//!
+//! Nothing is promised of the shares: whoever takes them tests the bound that they show. Stopping at any time is lawful,
+//! since what the shares leave goes to the unit rows.
+#![tactic(auto)]
+
+mod apart;
+mod basis;
+
+pub use apart::{Apart, Combination, take_apart};
+pub use basis::{Exchanged, ScaledRows, exchange};

@@ -1,0 +1,91 @@
+//! What chains begin with: the unit rows, and what the outputs take of the states.
+
+use fx_conditions::coef_of;
+use fx_num::Memory;
+use fx_reach::{Ahead, Chain, Linear, PLACES, Transition, floor_at, look_ahead, unit_cost};
+use std::alloc::Global;
+
+/// The chains that begin with the unit rows. None where one isn't bounded.
+pub fn unit_chains(alloc: Global, linear: &Linear) -> Result<Option<Vec<Chain>>, Memory> {
+    let mut chains = Vec::new(alloc);
+    for k in 0..linear.states {
+        let mut row = vec![in alloc; 0_i128; linear.states]?;
+        if let Some(entry) = row.get_mut(k) {
+            *entry = 1 << PLACES;
+        }
+        match look_ahead(alloc, linear, &row)? {
+            Some(ahead) => chains.push(Chain {
+                ahead,
+                state: Some(k),
+            })?,
+            None => return Ok(None),
+        }
+    }
+    Ok(Some(chains))
+}
+
+/// What a node takes of the states. None where it is nothing.
+fn state_part(alloc: Global, t: &Transition, node: u32) -> Result<Option<Vec<i128>>, Memory> {
+    let variables = t.inputs.saturating_add(t.states);
+    let mut row = Vec::new(alloc);
+    let mut is_some = false;
+    for k in 0..t.states {
+        let coef = coef_of(&t.lines, variables, node, t.inputs.saturating_add(k));
+        let entry = match coef {
+            Some(coef) => floor_at(coef, PLACES as i32).unwrap_or(0),
+            None => 0,
+        };
+        is_some = is_some || entry != 0;
+        row.push(entry)?;
+    }
+    if is_some { Ok(Some(row)) } else { Ok(None) }
+}
+
+/// Whether a row begins a chain, or is the image of what begins one.
+fn is_known(chains: &[Chain], row: &[i128]) -> bool {
+    for chain in chains {
+        if chain.ahead.row(0) == row || chain.ahead.row(1) == row {
+            return true;
+        }
+    }
+    false
+}
+
+/// Whether a row costs clearly more on the unit rows than it reaches.
+fn is_worth(ahead: &Ahead, row: &[i128], widths: &[i128]) -> bool {
+    match unit_cost(row, widths) {
+        Some(cost) => cost.saturating_mul(64) > ahead.width(0).saturating_mul(65),
+        None => false,
+    }
+}
+
+/// How wide the chains' first rows reach.
+fn widths_of(alloc: Global, chains: &[Chain]) -> Result<Vec<i128>, Memory> {
+    let mut widths = Vec::new(alloc);
+    for chain in chains {
+        widths.push(chain.ahead.width(0))?;
+    }
+    Ok(widths)
+}
+
+/// Adds the chains that begin with what the outputs take of the states.
+pub fn add_output_chains(
+    alloc: Global,
+    t: &Transition,
+    linear: &Linear,
+    chains: &mut Vec<Chain>,
+) -> Result<(), Memory> {
+    let widths = widths_of(alloc, chains)?;
+    for node in t.next.saturating_sub(t.outputs)..t.next {
+        if let Some(row) = state_part(alloc, t, node)? {
+            if !is_known(chains, &row) {
+                if let Some(ahead) = look_ahead(alloc, linear, &row)? {
+                    if is_worth(&ahead, &row, &widths) {
+                        chains.push(Chain { ahead, state: None })?;
+                    }
+                }
+            }
+        }
+    }
+    Ok(())
+}

@@ -1,0 +1,61 @@
+//! What comes of a row in one step, as exact numbers: on each state, and by what drives it.
+
+use crate::ends::Ends;
+use fx_conditions::{zero_alone, zero_dyadic};
+use fx_interval::Interval;
+use fx_num::{Dyadic, dadd, dsub};
+use fx_reach::{Linear, Pool, ceil_at, floor_at, plus_scaled, times};
+
+/// Coefficient `j` of what row `i` is of the next states.
+fn image_coef(linear: &Linear, pool: &Pool, i: usize, j: usize) -> Option<Dyadic> {
+    let mut total = zero_dyadic();
+    for k in 0..linear.states {
+        let own = pool.coef(i, k);
+        if own.m != 0 {
+            total = dadd(total, times(own, linear.coef(k, j))?)?;
+        }
+    }
+    Some(total)
+}
+
+/// What the rests of the next states add to row `i`.
+fn rests_of(linear: &Linear, pool: &Pool, i: usize) -> Option<Interval> {
+    let mut total = zero_alone();
+    for (k, rest) in linear.rests.iter().enumerate() {
+        total = plus_scaled(total, pool.coef(i, k), *rest)?;
+    }
+    Some(total)
+}
+
+/// What drives row `i`.
+pub fn drive_of(linear: &Linear, pool: &Pool, i: usize) -> Option<Interval> {
+    let mut total = rests_of(linear, pool, i)?;
+    for (j, span) in linear.spans.iter().enumerate() {
+        total = plus_scaled(total, image_coef(linear, pool, i, j)?, *span)?;
+    }
+    Some(total)
+}
+
+/// What the shares leave of row `i`'s image at state `j`.
+pub fn left_coef(linear: &Linear, pool: &Pool, i: usize, j: usize) -> Option<Dyadic> {
+    let mut left = image_coef(linear, pool, i, linear.inputs.checked_add(j)?)?;
+    for share in pool.shares(i) {
+        let coef = pool.coef(share.row as usize, j);
+        if coef.m != 0 {
+            left = dsub(left, times(share.times, coef)?)?;
+        }
+    }
+    Some(left)
+}
+
+/// Where the row is at the start.
+pub fn start_of(pool: &Pool, i: usize, starts: &[Interval], places: i32) -> Option<Ends> {
+    let mut total = zero_alone();
+    for (k, start) in starts.iter().enumerate() {
+        total = plus_scaled(total, pool.coef(i, k), *start)?;
+    }
+    Some(Ends {
+        lo: floor_at(total.lo, places)?,
+        hi: ceil_at(total.hi, places)?,
+    })
+}

@@ -1,0 +1,239 @@
+//! What a row is after one step, of the bounds of all rows.
+
+use crate::ends::Ends;
+use crate::image::{drive_of, left_coef, start_of};
+use fx_conditions::zero_dyadic;
+use fx_interval::Interval;
+use fx_num::{Dyadic, Memory, ceil_shift, dadd, dle, floor_shift, left_fits};
+use fx_reach::{Linear, Pool, ceil_at, floor_at};
+use std::alloc::Global;
+
+/// How many binary places a row's share in itself has.
+const OWN_PLACES: u32 = 40;
+
+/// So many times the bound of a row.
+#[derive(Clone, Copy, Debug)]
+struct Term {
+    row: usize,
+    times: i128,
+}
+
+/// What a row is after one step.
+#[derive(Debug, Drop)]
+pub struct Left {
+    terms: Vec<Term>,
+    drive: Ends,
+    /// The terms and the drive have so many places more than the bound.
+    places: u32,
+    /// The row's share in itself, from below and from above.
+    own_down: i128,
+    own_up: i128,
+    /// Where the row is at the start, if its bound has to hold that.
+    pub start: Option<Ends>,
+}
+
+/// A term before it is whole: a row and how often it is taken.
+#[derive(Clone, Copy, Debug)]
+struct Taken {
+    row: usize,
+    times: Dyadic,
+}
+
+/// All terms of row `i`: its shares, and what they leave on the unit rows.
+fn terms_of(
+    alloc: Global,
+    linear: &Linear,
+    pool: &Pool,
+    i: usize,
+) -> Result<Option<Vec<Taken>>, Memory> {
+    let mut terms = Vec::new(alloc);
+    for share in pool.shares(i) {
+        terms.push(Taken {
+            row: share.row as usize,
+            times: share.times,
+        })?;
+    }
+    if put_left(&mut terms, linear, pool, i)?.is_none() {
+        return Ok(None);
+    }
+    Ok(Some(terms))
+}
+
+/// Puts what the shares leave behind them.
+fn put_left(
+    terms: &mut Vec<Taken>,
+    linear: &Linear,
+    pool: &Pool,
+    i: usize,
+) -> Result<Option<()>, Memory> {
+    for j in 0..linear.states {
+        match left_coef(linear, pool, i, j) {
+            Some(coef) => if coef.m != 0 {
+                terms.push(Taken {
+                    row: j,
+                    times: coef,
+                })?;
+            },
+            None => return Ok(None),
+        }
+    }
+    Ok(Some(()))
+}
+
+/// How often row `i` is taken of itself, if that is below 1.
+fn own_of(terms: &[Taken], i: usize) -> Option<Dyadic> {
+    let mut total = zero_dyadic();
+    for term in terms {
+        if term.row == i {
+            total = dadd(total, term.times)?;
+        }
+    }
+    let most = Dyadic {
+        m: (1 << 20) - 1,
+        e: 20,
+    };
+    if total.m > 0 && dle(total, most) {
+        Some(total)
+    } else {
+        None
+    }
+}
+
+/// The most places that a term of these comes to.
+fn most_places(terms: &[Taken], places: &[i32], own: i32, without: Option<usize>) -> Option<i32> {
+    let mut most = own.checked_add(8)?;
+    for term in terms {
+        if Some(term.row) != without {
+            let e = i32::try_from(term.times.e).ok()?;
+            most = most.max(e.checked_add(*places.get(term.row)?)?);
+        }
+    }
+    Some(most)
+}
+
+/// The terms as whole numbers with so many places.
+fn whole_terms(
+    alloc: Global,
+    terms: &[Taken],
+    places: &[i32],
+    most: i32,
+    without: Option<usize>,
+) -> Result<Option<Vec<Term>>, Memory> {
+    let mut wholes = Vec::new(alloc);
+    for term in terms {
+        if Some(term.row) != without {
+            match whole_times(*term, places, most) {
+                Some(times) => wholes.push(Term {
+                    row: term.row,
+                    times,
+                })?,
+                None => return Ok(None),
+            }
+        }
+    }
+    Ok(Some(wholes))
+}
+
+/// How often a term's bound is taken, as a whole number.
+fn whole_times(term: Taken, places: &[i32], most: i32) -> Option<i128> {
+    let own = *places.get(term.row)?;
+    floor_at(term.times, most.checked_sub(own)?)
+}
+
+/// The left side of row `i`.
+pub fn left_of(
+    alloc: Global,
+    linear: &Linear,
+    pool: &Pool,
+    i: usize,
+    places: &[i32],
+    starts: Option<&[Interval]>,
+) -> Result<Option<Left>, Memory> {
+    let Some(terms) = terms_of(alloc, linear, pool, i)? else {
+        return Ok(None);
+    };
+    let own = own_of(&terms, i);
+    let without = if own.is_some() { Some(i) } else { None };
+    let own_places = places.get(i).copied().unwrap_or(0);
+    let Some(most) = most_places(&terms, places, own_places, without) else {
+        return Ok(None);
+    };
+    let Some(wholes) = whole_terms(alloc, &terms, places, most, without)? else {
+        return Ok(None);
+    };
+    Ok(finished(linear, pool, i, wholes, own, own_places, most, starts))
+}
+
+/// The left side of row `i` of these terms.
+fn finished(
+    linear: &Linear,
+    pool: &Pool,
+    i: usize,
+    terms: Vec<Term>,
+    own: Option<Dyadic>,
+    places: i32,
+    most: i32,
+    starts: Option<&[Interval]>,
+) -> Option<Left> {
+    let drive = drive_of(linear, pool, i)?;
+    let own = own.unwrap_or(zero_dyadic());
+    let start = match starts {
+        Some(starts) => Some(start_of(pool, i, starts, places)?),
+        None => None,
+    };
+    Some(Left {
+        terms,
+        drive: Ends {
+            lo: floor_at(drive.lo, most)?,
+            hi: ceil_at(drive.hi, most)?,
+        },
+        places: u32::try_from(most.checked_sub(places)?).ok()?,
+        own_down: floor_at(own, OWN_PLACES as i32)?,
+        own_up: ceil_at(own, OWN_PLACES as i32)?,
+        start,
+    })
+}
+
+/// An end over what the row's share in itself leaves of 1, away from zero or toward it as is right for a lower end.
+fn lower_over(lo: i128, down: i128, up: i128) -> Option<i128> {
+    let share = if lo < 0 { up } else { down };
+    let rest = (1_i128 << OWN_PLACES).checked_sub(share)?;
+    if rest <= 0 {
+        return None;
+    }
+    Some(left_fits(lo, OWN_PLACES)?.div_euclid(rest))
+}
+
+impl Left {
+    /// Where the row lies after one step, with the start if there is one.
+    pub fn at(&self, bounds: &[Ends]) -> Option<Ends> {
+        let mut lo = self.drive.lo;
+        let mut hi = self.drive.hi;
+        for term in &self.terms {
+            let bound = *bounds.get(term.row)?;
+            let a = term.times.checked_mul(bound.lo)?;
+            let b = term.times.checked_mul(bound.hi)?;
+            lo = lo.checked_add(a.min(b))?;
+            hi = hi.checked_add(a.max(b))?;
+        }
+        self.settled(floor_shift(lo, self.places), ceil_shift(hi, self.places))
+    }
+
+    /// With the row's share in itself, and the start.
+    fn settled(&self, lo: i128, hi: i128) -> Option<Ends> {
+        let (lo, hi) = if self.own_up > 0 {
+            let lo = lower_over(lo, self.own_down, self.own_up)?;
+            let hi = lower_over(hi.checked_neg()?, self.own_down, self.own_up)?.checked_neg()?;
+            (lo, hi)
+        } else {
+            (lo, hi)
+        };
+        match self.start {
+            Some(start) => Some(Ends {
+                lo: lo.min(start.lo),
+                hi: hi.max(start.hi),
+            }),
+            None => Some(Ends { lo, hi }),
+        }
+    }
+}

@@ -1,0 +1,19 @@
+//! Which rows to propose for a certificate of a function with states, and with which bounds.
+//!
+//! Chains of images are built as long as there is place, closed on the unit rows, on themselves, or by an exchange of a
+//! few rows for others; then the bounds of all rows are solved for together, from their reaches outward until one step
+//! keeps them, and lowered again. Tries of rising room go on until one comes close to the reaches.
+//!
+//! Nothing is promised of what is proposed, and nothing rests on it: whoever takes it tests it.
+#![tactic(auto)]
+
+mod build;
+mod chains;
+mod ends;
+mod image;
+mod left;
+mod propose;
+mod system;
+mod tries;
+
+pub use propose::{Proposal, propose_rows};

@@ -1,0 +1,219 @@
+//! Bounds for rows with shares: from the guessed reaches, outward until a pass proves them, and lowered again.
+//!
+//! Each row's bound is whole at a power of two of its own, so that products of coefficients and bounds fit 128 bits
+//! whatever the scales of the states are.
+
+use crate::ends::{Ends, widened};
+use crate::left::{Left, left_of};
+use fx_interval::Interval;
+use fx_num::{Memory, left_fits};
+use fx_reach::{Linear, Pool, bits, lowest, moved_down, moved_up};
+use std::alloc::Global;
+
+/// How many bits a bound has about.
+const BOUND_BITS: i64 = 36;
+
+/// The left sides of all rows, and how many places their bounds have.
+#[derive(Debug, Drop)]
+pub struct System {
+    lefts: Vec<Left>,
+    places: Vec<i32>,
+    states: usize,
+}
+
+/// How many places the bounds have, row by row.
+fn bound_places(alloc: Global, pool: &Pool) -> Result<Vec<i32>, Memory> {
+    let mut places = Vec::new(alloc);
+    for i in 0..pool.len() {
+        let length = i64::from(bits(pool.width(i).max(1).unsigned_abs()));
+        let e = BOUND_BITS
+            .saturating_sub(length)
+            .saturating_add(i64::from(pool.scale));
+        places.push(e.clamp(0, 90) as i32)?;
+    }
+    Ok(places)
+}
+
+impl System {
+    /// The left sides of a pool's rows, which hold the starts if some are given.
+    pub fn of(
+        alloc: Global,
+        linear: &Linear,
+        pool: &Pool,
+        starts: Option<&[Interval]>,
+    ) -> Result<Option<System>, Memory> {
+        let places = bound_places(alloc, pool)?;
+        let mut lefts = Vec::new(alloc);
+        for i in 0..pool.len() {
+            match left_of(alloc, linear, pool, i, &places, starts)? {
+                Some(left) => lefts.push(left)?,
+                None => return Ok(None),
+            }
+        }
+        Ok(Some(System {
+            lefts,
+            places,
+            states: pool.states,
+        }))
+    }
+
+    /// The guess for a row: its reach, and half of its room on both sides.
+    fn guess(&self, pool: &Pool, i: usize) -> Option<Ends> {
+        let down = pool.scale.checked_sub(*self.places.get(i)?)?;
+        let half = pool.room(i).checked_add(1)? >> 1;
+        let (lo, hi) = pool.reach(i);
+        let own = Ends {
+            lo: moved_down(lo.checked_sub(half)?, down)?.checked_sub(1)?,
+            hi: moved_up(hi.checked_add(half)?, down)?.checked_add(1)?,
+        };
+        match self.lefts.get(i)?.start {
+            Some(start) => Some(own.and(start)),
+            None => Some(own),
+        }
+    }
+
+    /// The guesses for all rows.
+    fn guesses(&self, alloc: Global, pool: &Pool) -> Result<Option<Vec<Ends>>, Memory> {
+        let mut bounds = Vec::new(alloc);
+        for i in 0..self.lefts.len() {
+            match self.guess(pool, i) {
+                Some(ends) => bounds.push(ends)?,
+                None => return Ok(None),
+            }
+        }
+        Ok(Some(bounds))
+    }
+
+    /// The left side of row `i`.
+    fn left(&self, i: usize, bounds: &[Ends]) -> Option<Ends> {
+        self.lefts.get(i)?.at(bounds)
+    }
+
+    /// Follows the left sides once, last row first. Whether a unit bound moved; None where one got far too wide.
+    fn follow(&self, bounds: &mut [Ends], first: &[Ends]) -> Option<bool> {
+        let mut moved = false;
+        for i in (0..self.lefts.len()).rev() {
+            let new = self.left(i, bounds)?;
+            let slot = bounds.get_mut(i)?;
+            if i < self.states {
+                let lo = new.lo.checked_sub(slot.lo)?.checked_abs()?;
+                let hi = new.hi.checked_sub(slot.hi)?.checked_abs()?;
+                moved = moved || left_fits(lo.max(hi), 14)? > new.width();
+                if new.width() >> 6 > first.get(i)?.width() {
+                    return None;
+                }
+            }
+            *slot = new;
+        }
+        Some(moved)
+    }
+
+    /// Follows them until no unit bound moves.
+    fn settle(&self, bounds: &mut [Ends], first: &[Ends]) -> Option<()> {
+        for _turn in 0..256 {
+            if !self.follow(bounds, first)? {
+                return Some(());
+            }
+        }
+        Some(())
+    }
+
+    /// Raises the bounds to their left sides. Whether none had to be: then one step keeps all rows.
+    fn raise(&self, bounds: &mut [Ends]) -> Option<bool> {
+        let mut held = true;
+        for i in (0..self.lefts.len()).rev() {
+            let new = self.left(i, bounds)?;
+            let slot = bounds.get_mut(i)?;
+            if !slot.hold(new) {
+                held = false;
+                *slot = slot.and(new);
+            }
+        }
+        Some(held)
+    }
+
+    /// Raises them a few times.
+    fn is_raised(&self, bounds: &mut [Ends]) -> Option<bool> {
+        for _turn in 0..8 {
+            if self.raise(bounds)? {
+                return Some(true);
+            }
+        }
+        Some(false)
+    }
+
+    /// Lowers each bound to its left side. Whether a unit bound gained.
+    fn lower(&self, bounds: &mut [Ends]) -> Option<bool> {
+        let mut gained = false;
+        for i in (0..self.lefts.len()).rev() {
+            let new = self.left(i, bounds)?;
+            let slot = bounds.get_mut(i)?;
+            let cut = slot.cut(new);
+            if i < self.states {
+                let gain = slot.width().checked_sub(cut.width())?;
+                gained = gained || left_fits(gain, 12)? > cut.width();
+            }
+            *slot = cut;
+        }
+        Some(gained)
+    }
+
+    /// Lowers them until no unit bound gains.
+    fn tighten(&self, bounds: &mut [Ends]) -> Option<()> {
+        for _turn in 0..48 {
+            if !self.lower(bounds)? {
+                return Some(());
+            }
+        }
+        Some(())
+    }
+
+    /// Widens the bounds by a little, and by more where that isn't enough, until a pass proves them.
+    fn prove(&self, alloc: Global, bounds: &[Ends]) -> Result<Option<Vec<Ends>>, Memory> {
+        for step in 0..8_i32 {
+            let k = 12_i32.saturating_sub(step.saturating_mul(2));
+            let Some(mut wider) = widened(alloc, bounds, k)? else {
+                return Ok(None);
+            };
+            match self.is_raised(&mut wider) {
+                Some(true) => return Ok(Some(wider)),
+                Some(false) => {}
+                None => return Ok(None),
+            }
+        }
+        Ok(None)
+    }
+
+    /// Bounds that one step keeps, if some are found.
+    pub fn solve(&self, alloc: Global, pool: &Pool) -> Result<Option<Vec<Ends>>, Memory> {
+        let Some(first) = self.guesses(alloc, pool)? else {
+            return Ok(None);
+        };
+        let mut bounds = Vec::from_slice(alloc, &first)?;
+        if self.settle(&mut bounds, &first).is_none() {
+            return Ok(None);
+        }
+        let Some(mut proved) = self.prove(alloc, &bounds)? else {
+            return Ok(None);
+        };
+        if self.tighten(&mut proved).is_none() {
+            return Ok(None);
+        }
+        Ok(Some(proved))
+    }
+
+    /// A bound as an interval.
+    pub fn interval(&self, i: usize, ends: Ends) -> Interval {
+        let places = self.places.get(i).copied().unwrap_or(0).unsigned_abs();
+        Interval {
+            lo: lowest(ends.lo, places),
+            hi: lowest(ends.hi, places),
+        }
+    }
+
+    /// How far a bound reaches, as reaches are counted.
+    pub fn reach(&self, pool: &Pool, i: usize, ends: Ends) -> Option<(i128, i128)> {
+        let up = (*self.places.get(i)?).checked_sub(pool.scale)?;
+        Some((moved_down(ends.lo, up)?, moved_up(ends.hi, up)?))
+    }
+}

@@ -1,0 +1,164 @@
+//! Looking ahead: a row, its images under the linear part, and how far each reaches.
+//!
+//! A row of the states becomes its image one step later, and what drives it is added. The sum of all later drives is the
+//! row's reach, the least bound that any certificate could have. It is known before a row is kept, so that what a closing
+//! of a chain costs is known too.
+
+use crate::linear::Linear;
+use fx_num::Memory;
+use std::alloc::Global;
+
+/// After how many steps it is looked for the first time whether the drives end.
+const FIRST: usize = 64;
+
+/// How many times the steps are doubled at most.
+const DOUBLINGS: u32 = 8;
+
+/// A row and its images, with the reach of each.
+#[derive(Debug, Drop)]
+pub struct Ahead {
+    states: usize,
+    rows: Vec<i128>,
+    lo: Vec<i128>,
+    hi: Vec<i128>,
+}
+
+/// The drives of the two halves of what was looked at.
+#[derive(Clone, Copy, Debug)]
+struct Halves {
+    first: i128,
+    both: i128,
+}
+
+impl Ahead {
+    /// How many rows there are.
+    pub fn len(&self) -> usize {
+        self.lo.len()
+    }
+
+    /// Row `i`, with 48 binary places.
+    pub fn row(&self, i: usize) -> &[i128] {
+        let from = i.saturating_mul(self.states);
+        let to = from.saturating_add(self.states);
+        self.rows.as_slice().get(from..to).unwrap_or(&[])
+    }
+
+    /// From where to where row `i` reaches.
+    pub fn reach(&self, i: usize) -> (i128, i128) {
+        let lo = self.lo.get(i).copied().unwrap_or(0);
+        let hi = self.hi.get(i).copied().unwrap_or(0);
+        (lo, hi)
+    }
+
+    /// How wide that is.
+    pub fn width(&self, i: usize) -> i128 {
+        let (lo, hi) = self.reach(i);
+        hi.saturating_sub(lo)
+    }
+
+    /// One step more.
+    fn push_step(&mut self, linear: &Linear, t: usize) -> Result<Option<()>, Memory> {
+        let Some((lo, hi)) = linear.drive(self.row(t)) else {
+            return Ok(None);
+        };
+        let (before_lo, before_hi) = self.reach(t);
+        let Some(lo) = before_lo.checked_add(lo) else {
+            return Ok(None);
+        };
+        let Some(hi) = before_hi.checked_add(hi) else {
+            return Ok(None);
+        };
+        self.lo.push(lo)?;
+        self.hi.push(hi)?;
+        linear.push_image(&mut self.rows, t.saturating_mul(self.states))
+    }
+
+    /// Steps up to this one.
+    fn push_steps(&mut self, linear: &Linear, end: usize) -> Result<Option<()>, Memory> {
+        let from = self.lo.len().saturating_sub(1);
+        for t in from..end {
+            if self.push_step(linear, t)?.is_none() {
+                return Ok(None);
+            }
+        }
+        Ok(Some(()))
+    }
+
+    /// How much the drives so far come to, and those of the first half.
+    fn halves(&self, end: usize) -> Halves {
+        Halves {
+            first: self.width(end / 2),
+            both: self.width(end),
+        }
+    }
+
+    /// Turns the sums of the drives before each row into the sums of those behind it.
+    fn turn(&mut self, end: usize, halves: Halves) -> Option<()> {
+        let lo = total(&self.lo, end, halves)?;
+        let hi = total(&self.hi, end, halves)?;
+        for sum in &mut self.lo {
+            *sum = lo.checked_sub(*sum)?;
+        }
+        turn_ends(&mut self.hi, hi)
+    }
+}
+
+/// The same of the other ends.
+fn turn_ends(sums: &mut Vec<i128>, total: i128) -> Option<()> {
+    for sum in sums.iter_mut() {
+        *sum = total.checked_sub(*sum)?;
+    }
+    Some(())
+}
+
+/// All drives, where those that weren't looked at shrink as the second half did.
+fn total(sums: &[i128], end: usize, halves: Halves) -> Option<i128> {
+    let all = *sums.get(end)?;
+    let first = *sums.get(end / 2)?;
+    let second = all.checked_sub(first)?;
+    let left = halves.first.checked_mul(2)?.checked_sub(halves.both)?;
+    if left <= 0 {
+        return Some(all);
+    }
+    let more = second.checked_mul(halves.first)?.div_euclid(left);
+    first.checked_add(more)
+}
+
+impl Halves {
+    /// Whether the second half adds next to nothing.
+    fn are_over(self) -> bool {
+        let second = self.both.saturating_sub(self.first);
+        second <= self.both >> 20
+    }
+
+    /// Whether the second half is clearly less than the first.
+    fn shrink(self) -> bool {
+        let second = self.both.saturating_sub(self.first);
+        second.saturating_mul(16) <= self.first.saturating_mul(15)
+    }
+}
+
+/// Looks ahead from a row, until its drives end. None where they don't.
+pub fn look_ahead(alloc: Global, linear: &Linear, row: &[i128]) -> Result<Option<Ahead>, Memory> {
+    let mut ahead = Ahead {
+        states: linear.states,
+        rows: Vec::from_slice(alloc, row)?,
+        lo: vec![in alloc; 0_i128; 1]?,
+        hi: vec![in alloc; 0_i128; 1]?,
+    };
+    let mut end = FIRST;
+    for turn in 0..DOUBLINGS.saturating_add(1) {
+        if ahead.push_steps(linear, end)?.is_none() {
+            return Ok(None);
+        }
+        let halves = ahead.halves(end);
+        if halves.are_over() || turn == DOUBLINGS {
+            if !halves.shrink() || ahead.turn(end, halves).is_none() {
+                return Ok(None);
+            }
+            return Ok(Some(ahead));
+        }
+        end = end.saturating_mul(2);
+    }
+    Ok(None)
+}

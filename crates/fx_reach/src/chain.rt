@@ -1,0 +1,184 @@
+//! Chains of images, and where they are closed.
+//!
+//! A row is shown by its image, that by the next, and so on. Inside a chain nothing is lost; only where it is closed, on
+//! the unit rows, on itself or by an exchange. With every bound at its reach and a room for the whole chain, a closing
+//! holds exactly where what it costs is at most the image's reach and that room.
+
+use crate::ahead::Ahead;
+use crate::whole::{PLACES, floor_at, moved_down, product, share_of};
+use fx_num::{Dyadic, Memory, floor_shift};
+use std::alloc::Global;
+
+/// What was looked at from a row on, and the state whose unit row it is, if it is one.
+#[derive(Debug, Drop)]
+pub struct Chain {
+    pub ahead: Ahead,
+    pub state: Option<usize>,
+}
+
+/// How wide the unit rows reach, and what they cost with their room.
+#[derive(Debug, Drop)]
+pub struct Costs {
+    widths: Vec<i128>,
+    costs: Vec<i128>,
+    /// The room is the width of a chain's first row over `2^shift`.
+    pub shift: i32,
+}
+
+impl Costs {
+    /// Those of chains that begin with all unit rows.
+    pub fn of(alloc: Global, chains: &[Chain], shift: i32) -> Result<Costs, Memory> {
+        let mut widths = Vec::new(alloc);
+        let mut costs = Vec::new(alloc);
+        for chain in chains {
+            if chain.state.is_some() {
+                let width = chain.ahead.width(0);
+                widths.push(width)?;
+                costs.push(width.saturating_add(room(width, shift)))?;
+            }
+        }
+        Ok(Costs {
+            widths,
+            costs,
+            shift,
+        })
+    }
+
+    /// The state that weighs most in a row.
+    fn heaviest(&self, row: &[i128]) -> usize {
+        let mut best = 0;
+        let mut most = 0;
+        for (j, (r, width)) in row.iter().zip(&self.widths).enumerate() {
+            let weight = r.unsigned_abs().saturating_mul(width.unsigned_abs());
+            if weight > most {
+                most = weight;
+                best = j;
+            }
+        }
+        best
+    }
+}
+
+/// The room of a chain whose first row is so wide.
+pub fn room(width: i128, shift: i32) -> i128 {
+    moved_down(width, shift).unwrap_or(0)
+}
+
+/// What a row costs on the unit rows.
+pub fn unit_cost(row: &[i128], costs: &[i128]) -> Option<i128> {
+    let mut total: i128 = 0;
+    for (r, cost) in row.iter().zip(costs) {
+        total = total.checked_add(r.checked_abs()?.checked_mul(*cost)?)?;
+    }
+    Some(floor_shift(total, PLACES))
+}
+
+/// What so many times a row leave of its image costs on the unit rows.
+fn left_cost(image: &[i128], row: &[i128], times: i128, costs: &[i128]) -> Option<i128> {
+    let mut total: i128 = 0;
+    for ((r, q), cost) in image.iter().zip(row).zip(costs) {
+        let left = r.checked_sub(product(times, *q, PLACES)?)?;
+        total = total.checked_add(left.checked_abs()?.checked_mul(*cost)?)?;
+    }
+    Some(floor_shift(total, PLACES))
+}
+
+/// How often the image of row `i` takes that row, where the chain can be closed on it within the limit.
+fn on_itself(ahead: &Ahead, i: usize, costs: &Costs, limit: i128) -> Option<Dyadic> {
+    let row = ahead.row(i);
+    let image = ahead.row(i.saturating_add(1));
+    let j = costs.heaviest(image);
+    let r = *image.get(j)?;
+    let q = *row.get(j)?;
+    if i == 0 || r.signum() != q.signum() || r == 0 || r.unsigned_abs() >= q.unsigned_abs() {
+        return None;
+    }
+    let times = share_of(r, q)?;
+    let whole = floor_at(times, PLACES as i32)?;
+    let own = ahead
+        .width(i)
+        .checked_add(room(ahead.width(0), costs.shift))?;
+    let cost = product(whole, own, PLACES)?.checked_add(left_cost(
+        image,
+        row,
+        whole,
+        &costs.costs,
+    )?)?;
+    if cost <= limit { Some(times) } else { None }
+}
+
+/// How often the image of row `i` takes that row, where the chain can be closed behind it: not at all where the unit rows
+/// suffice.
+pub fn find_closing(ahead: &Ahead, i: usize, costs: &Costs) -> Option<Dyadic> {
+    let first = ahead.width(0);
+    let next = i.saturating_add(1);
+    let limit = ahead
+        .width(next)
+        .checked_add(room(first, costs.shift))?
+        .checked_add(first >> 30)?;
+    if unit_cost(ahead.row(next), &costs.costs)? <= limit {
+        return Some(Dyadic { m: 0, e: 0 });
+    }
+    on_itself(ahead, i, costs, limit)
+}
+
+/// How many rows a chain wants to have: up to the first behind which it can be closed, else all that were looked at.
+pub fn wanted_length(ahead: &Ahead, costs: &Costs) -> usize {
+    let end = ahead.len().saturating_sub(1);
+    for i in 0..end {
+        if find_closing(ahead, i, costs).is_some() {
+            return i.saturating_add(1);
+        }
+    }
+    end
+}
+
+/// The times 0, 1, 2 and so on below an end, and then steps that grow as the time over `g`.
+fn growing_times(alloc: Global, end: usize, g: usize, most: usize) -> Result<Vec<usize>, Memory> {
+    let mut times = Vec::new(alloc);
+    let mut t: usize = 0;
+    for _turn in 0..most.saturating_add(1) {
+        if t >= end {
+            break;
+        }
+        times.push(t)?;
+        t = t.saturating_add(t.checked_div(g).unwrap_or(0).max(1));
+    }
+    Ok(times)
+}
+
+/// So many times one after the other.
+fn first_times(alloc: Global, count: usize) -> Result<Vec<usize>, Memory> {
+    let mut times = Vec::new(alloc);
+    for t in 0..count {
+        times.push(t)?;
+    }
+    Ok(times)
+}
+
+/// The times of the rows that are kept of a chain that wants to have `length` and is closed behind them or not, at most so
+/// many; none where they don't suffice.
+pub fn times_of(
+    alloc: Global,
+    length: usize,
+    is_closed: bool,
+    most: usize,
+    is_growing: bool,
+) -> Result<Option<Vec<usize>>, Memory> {
+    let count = length.min(most);
+    if !is_growing || (is_closed && count == length) {
+        return Ok(Some(first_times(alloc, count)?));
+    }
+    let mut g: usize = 512;
+    for _turn in 0..128 {
+        let times = growing_times(alloc, length, g, most)?;
+        if times.len() <= count {
+            return Ok(Some(times));
+        }
+        if g <= 4 {
+            return Ok(None);
+        }
+        g = g.saturating_sub((g / 16).max(1));
+    }
+    Ok(None)
+}

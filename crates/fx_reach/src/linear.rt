@@ -1,0 +1,278 @@
+//! The linear part of a step, and what drives it: the inputs and the rests of the next states.
+
+use crate::transition::Transition;
+use crate::whole::{PLACES, ceil_at, floor_at, magnitude};
+use fx_conditions::{Side, coef_of, side_of, side_rest_of, zero_alone, zero_dyadic};
+use fx_interval::Interval;
+use fx_num::{Dyadic, Memory, ceil_shift, floor_shift};
+use std::alloc::Global;
+
+/// How many bits the greatest size has while sizes are guessed.
+const SIZE_BITS: i32 = 44;
+
+/// Something that is added to the next states, each so many times.
+#[derive(Debug, Drop)]
+struct Drive {
+    coefs: Vec<i128>,
+    lo: i128,
+    hi: i128,
+}
+
+/// A step of the states on one side, of values or of errors.
+#[derive(Debug, Drop)]
+pub struct Linear {
+    /// How many inputs there are.
+    pub inputs: usize,
+    /// How many states there are.
+    pub states: usize,
+    /// Coefficients of the next states over all variables, state after state.
+    pub coefs: Vec<Dyadic>,
+    /// The rests of the next states.
+    pub rests: Vec<Interval>,
+    /// Where the inputs lie.
+    pub spans: Vec<Interval>,
+    /// The coefficients over the states alone, with 48 binary places.
+    matrix: Vec<i128>,
+    drives: Vec<Drive>,
+    /// Sizes are whole with so many binary places.
+    pub scale: i32,
+}
+
+/// The greater magnitude.
+fn greater(a: Option<i32>, b: Option<i32>) -> Option<i32> {
+    match a {
+        Some(x) => match b {
+            Some(y) => Some(x.max(y)),
+            None => a,
+        },
+        None => b,
+    }
+}
+
+/// Puts the coefficients of next state `k` behind the others.
+fn put_coefs(coefs: &mut Vec<Dyadic>, t: &Transition, k: u32) -> Result<(), Memory> {
+    let variables = t.inputs.saturating_add(t.states);
+    for j in 0..variables {
+        let coef = coef_of(&t.lines, variables, t.next.saturating_add(k), j);
+        coefs.push(coef.unwrap_or(zero_dyadic()))?;
+    }
+    Ok(())
+}
+
+/// The coefficients of all next states.
+fn all_coefs(alloc: Global, t: &Transition) -> Result<Vec<Dyadic>, Memory> {
+    let mut coefs = Vec::new(alloc);
+    for k in 0..t.states {
+        put_coefs(&mut coefs, t, k)?;
+    }
+    Ok(coefs)
+}
+
+/// The rests of all next states.
+fn all_rests(alloc: Global, t: &Transition, side: &Side) -> Result<Vec<Interval>, Memory> {
+    let variables = t.inputs.saturating_add(t.states);
+    let mut rests = Vec::new(alloc);
+    for k in 0..t.states {
+        let rest = side_rest_of(side, &t.lines, variables, t.next.saturating_add(k));
+        rests.push(rest.unwrap_or(zero_alone()))?;
+    }
+    Ok(rests)
+}
+
+/// Where all inputs lie.
+fn all_spans(alloc: Global, t: &Transition, side: &Side) -> Result<Vec<Interval>, Memory> {
+    let mut spans = Vec::new(alloc);
+    for j in 0..t.inputs {
+        spans.push(side_of(side, &t.lines, j).unwrap_or(zero_alone()))?;
+    }
+    Ok(spans)
+}
+
+/// With so many binary places that the greatest of these has the wanted bits.
+fn scale_of(spans: &[Interval], rests: &[Interval]) -> i32 {
+    let mut top = None;
+    for span in spans {
+        top = greater(top, magnitude(*span));
+    }
+    greater_of_rests(top, rests)
+}
+
+fn greater_of_rests(first: Option<i32>, rests: &[Interval]) -> i32 {
+    let mut top = first;
+    for rest in rests {
+        top = greater(top, magnitude(*rest));
+    }
+    match top {
+        Some(top) => SIZE_BITS.saturating_sub(top).clamp(-200, 200),
+        None => 0,
+    }
+}
+
+impl Linear {
+    /// Coefficient of variable `j` in next state `k`.
+    pub fn coef(&self, k: usize, j: usize) -> Dyadic {
+        let variables = self.inputs.saturating_add(self.states);
+        let place = k.saturating_mul(variables).saturating_add(j);
+        match self.coefs.get(place) {
+            Some(coef) => *coef,
+            None => zero_dyadic(),
+        }
+    }
+
+    /// Coefficient of state `j` in next state `k`, with 48 binary places.
+    pub fn entry(&self, k: usize, j: usize) -> i128 {
+        let place = k.saturating_mul(self.states).saturating_add(j);
+        self.matrix.get(place).copied().unwrap_or(0)
+    }
+
+    /// How much of variable `j` comes to each next state.
+    fn drive_coefs(&self, alloc: Global, j: usize) -> Result<Option<Vec<i128>>, Memory> {
+        let mut coefs = Vec::new(alloc);
+        for k in 0..self.states {
+            match floor_at(self.coef(k, j), PLACES as i32) {
+                Some(coef) => coefs.push(coef)?,
+                None => return Ok(None),
+            }
+        }
+        Ok(Some(coefs))
+    }
+
+    /// Adds what drives by these coefficients, if it isn't zero.
+    fn add_drive(&mut self, coefs: Vec<i128>, span: Interval) -> Result<Option<()>, Memory> {
+        let Some(lo) = floor_at(span.lo, self.scale) else {
+            return Ok(None);
+        };
+        let Some(hi) = ceil_at(span.hi, self.scale) else {
+            return Ok(None);
+        };
+        if lo != 0 || hi != 0 {
+            self.drives.push(Drive { coefs, lo, hi })?;
+        }
+        Ok(Some(()))
+    }
+
+    /// Adds all inputs.
+    fn add_inputs(&mut self, alloc: Global) -> Result<Option<()>, Memory> {
+        for j in 0..self.inputs {
+            let Some(coefs) = self.drive_coefs(alloc, j)? else {
+                return Ok(None);
+            };
+            let span = self.spans.get(j).copied().unwrap_or(zero_alone());
+            if self.add_drive(coefs, span)?.is_none() {
+                return Ok(None);
+            }
+        }
+        Ok(Some(()))
+    }
+
+    /// Adds all rests.
+    fn add_rests(&mut self, alloc: Global) -> Result<Option<()>, Memory> {
+        for k in 0..self.states {
+            let mut coefs = vec![in alloc; 0_i128; self.states]?;
+            if let Some(coef) = coefs.get_mut(k) {
+                *coef = 1 << PLACES;
+            }
+            let rest = self.rests.get(k).copied().unwrap_or(zero_alone());
+            if self.add_drive(coefs, rest)?.is_none() {
+                return Ok(None);
+            }
+        }
+        Ok(Some(()))
+    }
+
+    /// Works the coefficients over the states out.
+    fn add_matrix(&mut self) -> Result<Option<()>, Memory> {
+        let count = self.states.saturating_mul(self.states);
+        for place in 0..count {
+            let k = place.checked_div(self.states).unwrap_or(0);
+            let j = place.checked_rem(self.states).unwrap_or(0);
+            match floor_at(self.coef(k, self.inputs.saturating_add(j)), PLACES as i32) {
+                Some(coef) => self.matrix.push(coef)?,
+                None => return Ok(None),
+            }
+        }
+        Ok(Some(()))
+    }
+
+    /// The step of a transition, if its numbers have few enough bits.
+    pub fn of(alloc: Global, t: &Transition, side: &Side) -> Result<Option<Linear>, Memory> {
+        let rests = all_rests(alloc, t, side)?;
+        let spans = all_spans(alloc, t, side)?;
+        let scale = scale_of(&spans, &rests);
+        let mut linear = Linear {
+            inputs: t.inputs as usize,
+            states: t.states as usize,
+            coefs: all_coefs(alloc, t)?,
+            rests,
+            spans,
+            matrix: Vec::new(alloc),
+            drives: Vec::new(alloc),
+            scale,
+        };
+        if linear.add_matrix()?.is_none() || linear.add_inputs(alloc)?.is_none() {
+            return Ok(None);
+        }
+        if linear.add_rests(alloc)?.is_none() {
+            return Ok(None);
+        }
+        Ok(Some(linear))
+    }
+
+    /// Entry `j` of a row's image: what the row is of the next states, as a row of the states.
+    fn image_entry(&self, row: &[i128], j: usize) -> Option<i128> {
+        let mut total: i128 = 1 << (PLACES - 1);
+        for k in 0..self.states {
+            let r = *row.get(k)?;
+            if r != 0 {
+                let a = *self
+                    .matrix
+                    .get(k.saturating_mul(self.states).saturating_add(j))?;
+                total = total.checked_add(r.checked_mul(a)?)?;
+            }
+        }
+        Some(floor_shift(total, PLACES))
+    }
+
+    /// Puts a row's image in its place behind the others.
+    pub fn push_image(&self, rows: &mut Vec<i128>, from: usize) -> Result<Option<()>, Memory> {
+        for j in 0..self.states {
+            let row = rows.as_slice().get(from..).unwrap_or(&[]);
+            match self.image_entry(row, j) {
+                Some(entry) => {
+                    // an entry of 2^28 has left any filter that stands
+                    if entry.unsigned_abs() >> (PLACES + 28) != 0 {
+                        return Ok(None);
+                    }
+                    rows.push(entry)?;
+                }
+                None => return Ok(None),
+            }
+        }
+        Ok(Some(()))
+    }
+
+    /// What drives a row, from where to where.
+    pub fn drive(&self, row: &[i128]) -> Option<(i128, i128)> {
+        let mut lo: i128 = 0;
+        let mut hi: i128 = 0;
+        for drive in &self.drives {
+            let g = weight(row, &drive.coefs)?;
+            let a = g.checked_mul(drive.lo)?;
+            let b = g.checked_mul(drive.hi)?;
+            lo = lo.checked_add(a.min(b))?;
+            hi = hi.checked_add(a.max(b))?;
+        }
+        Some((floor_shift(lo, PLACES), ceil_shift(hi, PLACES)))
+    }
+}
+
+/// The product of a row and a drive's coefficients.
+fn weight(row: &[i128], coefs: &[i128]) -> Option<i128> {
+    let mut total: i128 = 0;
+    for (r, c) in row.iter().zip(coefs) {
+        if *c != 0 {
+            total = total.checked_add(r.checked_mul(*c)?)?;
+        }
+    }
+    Some(floor_shift(total, PLACES))
+}

@@ -1,0 +1,213 @@
+//! Rows that are proposed, with shares, and how far each is guessed to reach.
+
+use crate::whole::{PLACES, bits, floor_at, lowest};
+use fx_cert::Share;
+use fx_conditions::zero_dyadic;
+use fx_num::{Dyadic, Memory, floor_shift};
+use std::alloc::Global;
+
+/// How many bits a coefficient has, counted from what its chain begins with.
+const COEFFICIENT_BITS: i64 = 30;
+
+/// All rows of one kind, the unit rows first.
+#[derive(Debug, Drop)]
+pub struct Pool {
+    /// How many states there are.
+    pub states: usize,
+    /// Reaches are whole with so many binary places.
+    pub scale: i32,
+    /// Coefficients, row after row.
+    coefs: Vec<Dyadic>,
+    /// The same with 48 binary places.
+    wholes: Vec<i128>,
+    lo: Vec<i128>,
+    hi: Vec<i128>,
+    rooms: Vec<i128>,
+    shares: Vec<Vec<Share>>,
+}
+
+impl Pool {
+    /// None yet.
+    pub fn new(alloc: Global, states: usize, scale: i32) -> Pool {
+        Pool {
+            states,
+            scale,
+            coefs: Vec::new(alloc),
+            wholes: Vec::new(alloc),
+            lo: Vec::new(alloc),
+            hi: Vec::new(alloc),
+            rooms: Vec::new(alloc),
+            shares: Vec::new(alloc),
+        }
+    }
+
+    /// How many there are.
+    pub fn len(&self) -> usize {
+        self.lo.len()
+    }
+
+    /// Coefficient `j` of row `i`.
+    pub fn coef(&self, i: usize, j: usize) -> Dyadic {
+        let place = i.saturating_mul(self.states).saturating_add(j);
+        match self.coefs.get(place) {
+            Some(coef) => *coef,
+            None => zero_dyadic(),
+        }
+    }
+
+    /// Row `i` with 48 binary places.
+    pub fn row(&self, i: usize) -> &[i128] {
+        let from = i.saturating_mul(self.states);
+        let to = from.saturating_add(self.states);
+        self.wholes.as_slice().get(from..to).unwrap_or(&[])
+    }
+
+    /// From where to where row `i` is guessed to reach.
+    pub fn reach(&self, i: usize) -> (i128, i128) {
+        let lo = self.lo.get(i).copied().unwrap_or(0);
+        let hi = self.hi.get(i).copied().unwrap_or(0);
+        (lo, hi)
+    }
+
+    /// How wide that is.
+    pub fn width(&self, i: usize) -> i128 {
+        let (lo, hi) = self.reach(i);
+        hi.saturating_sub(lo)
+    }
+
+    /// How much wider its bound may get.
+    pub fn room(&self, i: usize) -> i128 {
+        self.rooms.get(i).copied().unwrap_or(0)
+    }
+
+    /// What row `i` costs: how wide its bound gets.
+    pub fn cost(&self, i: usize) -> i128 {
+        self.width(i).saturating_add(self.room(i))
+    }
+
+    /// Gives row `i` what its bound came to in the place of a guess.
+    pub fn put_reach(&mut self, i: usize, (lo, hi): (i128, i128)) {
+        if let Some(slot) = self.lo.get_mut(i) {
+            *slot = lo;
+        }
+        if let Some(slot) = self.hi.get_mut(i) {
+            *slot = hi;
+        }
+        if let Some(slot) = self.rooms.get_mut(i) {
+            *slot = 0;
+        }
+    }
+
+    /// The shares of row `i`.
+    pub fn shares(&self, i: usize) -> &[Share] {
+        match self.shares.get(i) {
+            Some(shares) => shares.as_slice(),
+            None => &[],
+        }
+    }
+
+    /// Gives row `i` these shares.
+    pub fn put_shares(&mut self, i: usize, shares: Vec<Share>) {
+        if let Some(slot) = self.shares.get_mut(i) {
+            *slot = shares;
+        }
+    }
+
+    /// Gives row `i` one share.
+    pub fn put_share(&mut self, alloc: Global, i: usize, share: Share) -> Result<(), Memory> {
+        let mut shares = Vec::new(alloc);
+        shares.push(share)?;
+        self.put_shares(i, shares);
+        Ok(())
+    }
+
+    /// Puts a coefficient behind the others.
+    fn push_coef(&mut self, coef: Dyadic) -> Result<(), Memory> {
+        self.coefs.push(coef)?;
+        self.wholes
+            .push(floor_at(coef, PLACES as i32).unwrap_or(0))?;
+        Ok(())
+    }
+
+    /// Puts a reach behind the others, and gives the row's number.
+    fn push_reach(
+        &mut self,
+        alloc: Global,
+        (lo, hi): (i128, i128),
+        room: i128,
+    ) -> Result<usize, Memory> {
+        let i = self.lo.len();
+        self.lo.push(lo)?;
+        self.hi.push(hi)?;
+        self.rooms.push(room)?;
+        self.shares.push(Vec::new(alloc))?;
+        Ok(i)
+    }
+
+    /// Adds the unit row of state `i`.
+    pub fn push_unit(
+        &mut self,
+        alloc: Global,
+        i: usize,
+        reach: (i128, i128),
+        room: i128,
+    ) -> Result<usize, Memory> {
+        for j in 0..self.states {
+            let m = if i == j { 1 } else { 0 };
+            self.push_coef(Dyadic { m, e: 0 })?;
+        }
+        self.push_reach(alloc, reach, room)
+    }
+
+    /// Adds a row as it stands.
+    pub fn push_known(
+        &mut self,
+        alloc: Global,
+        coefs: &[Dyadic],
+        reach: (i128, i128),
+    ) -> Result<usize, Memory> {
+        for j in 0..self.states {
+            self.push_coef(coefs.get(j).copied().unwrap_or(zero_dyadic()))?;
+        }
+        self.push_reach(alloc, reach, 0)
+    }
+
+    /// Adds a row whose coefficients are rounded to as many places as the width of its chain's first row calls for.
+    pub fn push_row(
+        &mut self,
+        alloc: Global,
+        row: &[i128],
+        widest: i128,
+        reach: (i128, i128),
+        room: i128,
+    ) -> Result<usize, Memory> {
+        for j in 0..self.states {
+            let entry = row.get(j).copied().unwrap_or(0);
+            let places = coef_places(self.width(j), widest);
+            self.push_coef(rounded(entry, places))?;
+        }
+        self.push_reach(alloc, reach, room)
+    }
+}
+
+/// How many binary places the coefficient of a state has in a row.
+fn coef_places(state_width: i128, widest: i128) -> u32 {
+    if state_width == 0 {
+        return 0;
+    }
+    let own = i64::from(bits(state_width.unsigned_abs()));
+    let first = i64::from(bits(widest.max(1).unsigned_abs()));
+    COEFFICIENT_BITS
+        .saturating_add(own)
+        .saturating_sub(first)
+        .clamp(0, 56) as u32
+}
+
+/// An entry of 48 binary places, to the nearest of so many.
+fn rounded(entry: i128, places: u32) -> Dyadic {
+    if places >= PLACES {
+        return lowest(entry, PLACES);
+    }
+    let cut = floor_shift(entry, PLACES.saturating_sub(places).saturating_sub(1));
+    lowest(floor_shift(cut.saturating_add(1), 1), places)
+}

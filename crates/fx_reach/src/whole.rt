@@ -1,0 +1,114 @@
+//! Whole numbers of 128 bits in place of fractions, for guesses: each stands over a power of two that its place says.
+//!
+//! Nothing rests on what is worked out here. What leaves 128 bits is None, and drops what asked for it.
+
+use fx_interval::Interval;
+use fx_num::{Dyadic, ceil_shift, floor_shift, left_fits};
+
+/// How many binary places a coefficient has while rows are worked out.
+pub const PLACES: u32 = 48;
+
+/// How many bits a size has.
+pub fn bits(size: u128) -> u32 {
+    128_u32.saturating_sub(size.leading_zeros())
+}
+
+/// `m / 2^e` in lowest terms.
+pub fn lowest(m: i128, e: u32) -> Dyadic {
+    let places = if m == 0 { e } else { m.trailing_zeros().min(e) };
+    Dyadic::new(
+        floor_shift(m, places),
+        e.saturating_sub(places).min(1 << 20),
+    )
+}
+
+/// The floor of `d * 2^e`.
+pub fn floor_at(d: Dyadic, e: i32) -> Option<i128> {
+    let places = i64::from(e).saturating_sub(i64::from(d.e));
+    let distance = u32::try_from(places.unsigned_abs()).ok()?;
+    if places >= 0 {
+        left_fits(d.m, distance)
+    } else {
+        Some(floor_shift(d.m, distance))
+    }
+}
+
+/// The ceiling of `d * 2^e`.
+pub fn ceil_at(d: Dyadic, e: i32) -> Option<i128> {
+    let places = i64::from(e).saturating_sub(i64::from(d.e));
+    let distance = u32::try_from(places.unsigned_abs()).ok()?;
+    if places >= 0 {
+        left_fits(d.m, distance)
+    } else {
+        Some(ceil_shift(d.m, distance))
+    }
+}
+
+/// The floor of `m / 2^s`, or `m * 2^-s`.
+pub fn moved_down(m: i128, s: i32) -> Option<i128> {
+    let distance = s.unsigned_abs();
+    if s >= 0 {
+        Some(floor_shift(m, distance))
+    } else {
+        left_fits(m, distance)
+    }
+}
+
+/// The ceiling.
+pub fn moved_up(m: i128, s: i32) -> Option<i128> {
+    let distance = s.unsigned_abs();
+    if s >= 0 {
+        Some(ceil_shift(m, distance))
+    } else {
+        left_fits(m, distance)
+    }
+}
+
+/// The floor of `a * b / 2^s`.
+pub fn product(a: i128, b: i128, s: u32) -> Option<i128> {
+    Some(floor_shift(a.checked_mul(b)?, s))
+}
+
+/// The floor of a quotient by a number above zero.
+pub fn quotient(a: i128, b: i128) -> Option<i128> {
+    if b > 0 { Some(a.div_euclid(b)) } else { None }
+}
+
+/// One more than the exponent of the greatest power of two that isn't above the greater end's size; None for zero alone.
+pub fn magnitude(x: Interval) -> Option<i32> {
+    let lo = magnitude_of(x.lo);
+    let hi = magnitude_of(x.hi);
+    match lo {
+        Some(lo) => match hi {
+            Some(hi) => Some(lo.max(hi)),
+            None => Some(lo),
+        },
+        None => hi,
+    }
+}
+
+/// The same of one number.
+fn magnitude_of(d: Dyadic) -> Option<i32> {
+    if d.m == 0 {
+        return None;
+    }
+    let length = i64::from(bits(d.m.unsigned_abs()));
+    i32::try_from(length.saturating_sub(i64::from(d.e))).ok()
+}
+
+/// `n / d` with about 30 significant bits and at most 40 binary places, for `d` other than zero.
+pub fn share_of(n: i128, d: i128) -> Option<Dyadic> {
+    if n == 0 || d == 0 {
+        return None;
+    }
+    let top = i64::from(bits(n.unsigned_abs()));
+    let bottom = i64::from(bits(d.unsigned_abs()));
+    let e = (30_i64)
+        .saturating_add(bottom)
+        .saturating_sub(top)
+        .clamp(0, 40) as u32;
+    let n = if d < 0 { n.checked_neg()? } else { n };
+    let twice = left_fits(n, e.saturating_add(1))?;
+    let m = quotient(twice, d.checked_abs()?)?.checked_add(1)?;
+    Some(lowest(floor_shift(m, 1), e))
+}
