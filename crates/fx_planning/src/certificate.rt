@@ -3,13 +3,14 @@
 //! A form is written where it shows a range or an error, or where a form that is written is made of it. What is written
 //! goes to lowest terms.
 
+use crate::error::Errors;
 use crate::form::{Form, operands};
 use crate::plan::Plan;
 use crate::range::Ranges;
 use crate::span::{Scaled, Span};
-use fx_cert::{Certificate, Form as FormLine, NodeLine, Share};
+use fx_cert::{Certificate, Form as FormLine, NodeLine, Row, Share, StartBox};
 use fx_expr::Items;
-use fx_flat::Node;
+use fx_flat::{Node, Nodes};
 use fx_interval::Interval;
 use fx_num::{Dyadic, Memory, floor_shift};
 use fx_rewrite::Step;
@@ -23,7 +24,7 @@ fn lowest(d: Scaled) -> Dyadic {
 }
 
 /// An interval, both ends in lowest terms.
-fn interval(span: Span) -> Interval {
+pub fn interval(span: Span) -> Interval {
     Interval {
         lo: lowest(Scaled {
             m: span.lo,
@@ -74,12 +75,12 @@ fn form_line(
 }
 
 /// Whether a node's form shows its range or its error.
-fn shows(ranges: &Ranges, plan: &Plan, n: usize) -> bool {
+fn shows(ranges: &Ranges, errors: &Errors, n: usize) -> bool {
     let shows_range = match ranges.form(n) {
         Some(form) => form.shows_range,
         None => false,
     };
-    shows_range || plan.errors.shown.get(n).copied().unwrap_or(false)
+    shows_range || errors.shown.get(n).copied().unwrap_or(false)
 }
 
 fn want(wanted: &mut [bool], a: usize) {
@@ -88,16 +89,17 @@ fn want(wanted: &mut [bool], a: usize) {
     }
 }
 
-/// Which forms are written.
+/// Which forms are written: also those of all nodes from `from` on.
 fn wanted_forms(
     alloc: Global,
     nodes: &[Node],
     ranges: &Ranges,
-    plan: &Plan,
+    errors: &Errors,
+    from: usize,
 ) -> Result<Vec<bool>, Memory> {
     let mut wanted = vec![in alloc; false; nodes.len()]?;
     for n in (0..nodes.len()).rev() {
-        if shows(ranges, plan, n) {
+        if n >= from || shows(ranges, errors, n) {
             want(&mut wanted, n);
         }
         if wanted.get(n).copied().unwrap_or(false) {
@@ -114,14 +116,14 @@ fn wanted_forms(
 fn line(
     alloc: Global,
     ranges: &Ranges,
-    plan: &Plan,
+    errors: &Errors,
     n: usize,
     is_wanted: bool,
 ) -> Result<NodeLine, Memory> {
     let range = interval(ranges.span(n).unwrap_or(Span::ZERO));
-    let error = interval(plan.errors.span(n).unwrap_or(Span::ZERO));
-    let rest = plan.errors.rest(n).unwrap_or(Span::ZERO);
-    let is_shown = plan.errors.shown.get(n).copied().unwrap_or(false);
+    let error = interval(errors.span(n).unwrap_or(Span::ZERO));
+    let rest = errors.rest(n).unwrap_or(Span::ZERO);
+    let is_shown = errors.shown.get(n).copied().unwrap_or(false);
     // a variable's form is itself, and isn't written
     let form = if is_wanted && n >= ranges.rows.width() {
         ranges.form(n)
@@ -139,15 +141,45 @@ fn lines(
     alloc: Global,
     nodes: &[Node],
     ranges: &Ranges,
-    plan: &Plan,
+    errors: &Errors,
+    from: usize,
 ) -> Result<Vec<NodeLine>, Memory> {
-    let wanted = wanted_forms(alloc, nodes, ranges, plan)?;
+    let wanted = wanted_forms(alloc, nodes, ranges, errors, from)?;
     let mut lines = Vec::new(alloc);
     for n in 0..nodes.len() {
         let is_wanted = wanted.get(n).copied().unwrap_or(false);
-        lines.push(line(alloc, ranges, plan, n, is_wanted)?)?;
+        lines.push(line(alloc, ranges, errors, n, is_wanted)?)?;
     }
     Ok(lines)
+}
+
+/// The node of the first output, from which on forms are written of a function with states.
+fn first_result(nodes: &Nodes) -> usize {
+    let results = (nodes.outputs as usize).saturating_add(nodes.states as usize);
+    nodes.list.len().saturating_sub(results)
+}
+
+/// The lines of ranges alone, with the forms of all results.
+pub fn range_lines(alloc: Global, nodes: &Nodes, ranges: &Ranges) -> Result<Vec<NodeLine>, Memory> {
+    let list = nodes.list.as_slice();
+    let errors = Errors::zeros(alloc, list.len())?;
+    lines(alloc, list, ranges, &errors, first_result(nodes))
+}
+
+/// The lines of ranges and a plan, with the forms of all results.
+pub fn plan_lines(
+    alloc: Global,
+    nodes: &Nodes,
+    ranges: &Ranges,
+    plan: &Plan,
+) -> Result<Vec<NodeLine>, Memory> {
+    lines(
+        alloc,
+        nodes.list.as_slice(),
+        ranges,
+        &plan.errors,
+        first_result(nodes),
+    )
 }
 
 /// Equal steps.
@@ -173,7 +205,7 @@ pub fn certificate_of(
     plan: &Plan,
     steps: &[Step],
 ) -> Result<Certificate, Memory> {
-    let lines = lines(alloc, nodes, ranges, plan)?;
+    let lines = lines(alloc, nodes, ranges, &plan.errors, nodes.len())?;
     let steps = copied_steps(alloc, steps)?;
     Ok(Certificate {
         inputs,
@@ -182,6 +214,36 @@ pub fn certificate_of(
         starts: Items::from_vec(Vec::new(alloc)),
         rows: Items::from_vec(Vec::new(alloc)),
         error_rows: Items::from_vec(Vec::new(alloc)),
+        lines: Items::from_vec(lines),
+    })
+}
+
+/// Where a function with states starts, and the rows that one step keeps.
+#[derive(Debug, Drop)]
+pub struct Kept {
+    /// A box for each state.
+    pub starts: Vec<StartBox>,
+    /// The rows of values.
+    pub rows: Items<Row>,
+    /// The rows of errors.
+    pub error_rows: Items<Row>,
+}
+
+/// The certificate of these lines for a function with states.
+pub fn state_certificate(
+    alloc: Global,
+    nodes: &Nodes,
+    lines: Vec<NodeLine>,
+    kept: Kept,
+    steps: &[Step],
+) -> Result<Certificate, Memory> {
+    Ok(Certificate {
+        inputs: nodes.inputs,
+        states: nodes.states,
+        steps: Items::from_vec(copied_steps(alloc, steps)?),
+        starts: Items::from_vec(kept.starts),
+        rows: kept.rows,
+        error_rows: kept.error_rows,
         lines: Items::from_vec(lines),
     })
 }

@@ -56,6 +56,16 @@ impl Errors {
         }
     }
 
+    /// No errors, of so many nodes.
+    pub fn zeros(alloc: Global, count: usize) -> Result<Errors, Memory> {
+        Ok(Errors {
+            spans: vec![in alloc; Span::ZERO; count]?,
+            rests: vec![in alloc; Span::ZERO; count]?,
+            shown: vec![in alloc; false; count]?,
+            small: Vec::new(alloc),
+        })
+    }
+
     fn push(&mut self, error: NodeError) -> Result<(), Memory> {
         self.spans.push(error.span)?;
         self.rests.push(error.rest)?;
@@ -294,6 +304,15 @@ fn input_error(setting: &Setting<'_>, n: usize, k: usize) -> Option<NodeError> {
     })
 }
 
+/// The error of a state, which is its box.
+fn state_error(setting: &Setting<'_>, k: usize) -> Option<NodeError> {
+    Some(NodeError {
+        span: setting.boxes.get(k).copied()?,
+        rest: Span::ZERO,
+        is_shown: false,
+    })
+}
+
 /// The error of an operation, with a literal's word moved before it where that is wanted and helps.
 fn operation_error(
     setting: &Setting<'_>,
@@ -327,7 +346,7 @@ fn node_error(
 ) -> Option<NodeError> {
     match codes.get(n).copied()? {
         Code::Input { k, .. } => input_error(setting, n, k as usize),
-        Code::State { .. } => None,
+        Code::State { k, .. } => state_error(setting, k as usize),
         Code::Const { .. } => literal_error(setting, codes, n, setting.literal(n)?),
         _ => operation_error(setting, codes, errors, n, is_centred),
     }

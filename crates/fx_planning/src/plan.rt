@@ -50,8 +50,9 @@ impl Plan {
 pub fn outputs_of<'a>(setting: &Setting<'_>, errors: &'a Errors) -> &'a [Span] {
     let function = setting.function;
     let outputs = function.demands.len();
-    let from = errors.spans.len().saturating_sub(outputs);
-    errors.spans.get(from..).unwrap_or(&[])
+    let to = errors.spans.len().saturating_sub(function.states.len());
+    let from = to.saturating_sub(outputs);
+    errors.spans.get(from..to).unwrap_or(&[])
 }
 
 /// The plan of these codes, whose literals' words are moved where that is wanted, and then tuned.
@@ -113,7 +114,7 @@ pub fn find_plan(
 ) -> Result<Result<Plan, Failed>, Memory> {
     let list = nodes.list.as_slice();
     let uses = count_uses(alloc, list)?;
-    let codes = match codes_of(alloc, list, points, width)? {
+    let codes = match codes_of(alloc, function, list, points, width)? {
         Ok(codes) => codes,
         Err(failed) => return Ok(Err(failed)),
     };
@@ -123,6 +124,7 @@ pub fn find_plan(
         ranges,
         points,
         uses: &uses,
+        boxes: &[],
         width,
         goal,
     };
@@ -149,8 +151,51 @@ pub fn move_word(
         ranges,
         points,
         uses: &[],
+        boxes: &[],
         width: plan.width,
         goal,
     };
     try_word(alloc, &setting, plan, node as usize, units)
+}
+
+/// The plan of a function at these points with the nearest words, and a box in which the error of each state lies; or the
+/// first node that has none.
+pub fn find_plan_in(
+    alloc: Global,
+    function: &Function,
+    nodes: &Nodes,
+    ranges: &Ranges,
+    points: &[i32],
+    width: u32,
+    boxes: &[Span],
+) -> Result<Result<Plan, Failed>, Memory> {
+    let list = nodes.list.as_slice();
+    let mut codes = match codes_of(alloc, function, list, points, width)? {
+        Ok(codes) => codes,
+        Err(failed) => return Ok(Err(failed)),
+    };
+    let setting = Setting {
+        function,
+        nodes: list,
+        ranges,
+        points,
+        uses: &[],
+        boxes,
+        width,
+        goal: Goal {
+            references: &[],
+            is_held: false,
+        },
+    };
+    let errors = match find_errors(alloc, &setting, &mut codes, false)? {
+        Ok(errors) => errors,
+        Err(failed) => return Ok(Err(failed)),
+    };
+    let cost = cost_of(function, setting.goal, outputs_of(&setting, &errors));
+    Ok(Ok(Plan {
+        width,
+        codes,
+        errors,
+        cost,
+    }))
 }

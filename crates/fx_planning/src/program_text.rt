@@ -13,6 +13,7 @@ pub struct Head<'a> {
     pub width: u32,
     pub name: &'a str,
     pub inputs: usize,
+    pub states: usize,
     pub outputs: usize,
 }
 
@@ -67,7 +68,7 @@ fn put_head(out: &mut Vec<u8>, head: Head<'_>, count: usize) -> Result<(), Memor
     end_line(out)?;
     begin_line(out, b"sizes")?;
     put_number(out, head.inputs)?;
-    put_number(out, 0_u32)?;
+    put_number(out, head.states)?;
     put_number(out, head.outputs)?;
     put_number(out, count)?;
     end_line(out)?;

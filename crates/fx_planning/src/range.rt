@@ -283,16 +283,29 @@ fn input_range(
     Some((range, Some(Form::of_rest(Span::ZERO))))
 }
 
+/// The range of a state, which is its box, and whose form is itself.
+fn state_range(
+    ranges: &mut Ranges,
+    boxes: &[Span],
+    n: usize,
+    k: usize,
+) -> Option<(Span, Option<Form>)> {
+    let range = boxes.get(k).copied()?;
+    ranges.rows.put(n, n, 1)?;
+    Some((range, Some(Form::of_rest(Span::ZERO))))
+}
+
 /// The range of a node behind those that have one.
 fn node_range(
     function: &Function,
     ranges: &mut Ranges,
+    boxes: &[Span],
     n: usize,
     node: &Node,
 ) -> Option<(Span, Option<Form>)> {
     let found = match node {
         Node::Input { k } => input_range(function, ranges, n, *k as usize)?,
-        Node::State { .. } => return None,
+        Node::State { k } => state_range(ranges, boxes, n, *k as usize)?,
         Node::Const { c } => (range_between(*c, *c, ranges.grids)?, None),
         _ => operation_range(ranges, n, node)?,
     };
@@ -309,16 +322,80 @@ pub fn find_ranges(
     nodes: &Nodes,
     grids: Grids,
 ) -> Result<Result<Ranges, Failed>, Memory> {
+    find_ranges_in(alloc, function, nodes, grids, &[])
+}
+
+/// The ranges of all nodes, with a box in which each state lies, or the first node that has none.
+pub fn find_ranges_in(
+    alloc: Global,
+    function: &Function,
+    nodes: &Nodes,
+    grids: Grids,
+    boxes: &[Span],
+) -> Result<Result<Ranges, Failed>, Memory> {
     let list = nodes.list.as_slice();
-    let inputs = function.inputs.len();
-    let Some(mut ranges) = Ranges::new(alloc, list.len(), inputs, grids)? else {
+    let variables = function.inputs.len().saturating_add(boxes.len());
+    let Some(mut ranges) = Ranges::new(alloc, list.len(), variables, grids)? else {
         return Ok(Err(Failed::at(0)));
     };
     for n in 0..list.len() {
-        match node_range(function, &mut ranges, n, &list[n]) {
+        match node_range(function, &mut ranges, boxes, n, &list[n]) {
             Some((span, form)) => ranges.push(span, form)?,
             None => return Ok(Err(Failed::at(n))),
         }
     }
     Ok(Ok(ranges))
+}
+
+/// The narrowest of a node's plain range, its form's and one that rows show, and which it is.
+fn narrowest(
+    ranges: &Ranges,
+    n: usize,
+    node: &Node,
+    by_rows: Option<Span>,
+) -> Option<(Span, bool, bool)> {
+    let mut best = plain_range(ranges, node)?;
+    let mut by_form = false;
+    if let Some(form) = ranges.form(n) {
+        let sum = weighted(ranges.rows.row(n), form.e, form.rest, &ranges.spans)?;
+        let range = ranges.grids.rounded(sum);
+        if range.is_narrower(best)? {
+            best = range;
+            by_form = true;
+        }
+    }
+    match by_rows {
+        Some(range) => if range.is_narrower(best)? {
+            Some((range, false, true))
+        } else {
+            Some((best, by_form, false))
+        },
+        None => Some((best, by_form, false)),
+    }
+}
+
+impl Ranges {
+    /// Takes another range for a node.
+    pub fn put_span(&mut self, n: usize, span: Span) {
+        if let Some(slot) = self.spans.get_mut(n) {
+            *slot = span;
+        }
+    }
+
+    /// Says whether a node's form shows its range.
+    fn put_shown(&mut self, n: usize, is_shown: bool) {
+        if let Some(Some(form)) = self.forms.get_mut(n) {
+            form.shows_range = is_shown;
+        }
+    }
+
+    /// Narrows the range of an operation after those of its operands, and answers whether rows show it.
+    pub fn narrow(&mut self, n: usize, node: &Node, by_rows: Option<Span>) -> bool {
+        let Some((span, by_form, is_by_rows)) = narrowest(self, n, node, by_rows) else {
+            return false;
+        };
+        self.put_span(n, span);
+        self.put_shown(n, by_form);
+        is_by_rows
+    }
 }

@@ -4,9 +4,10 @@ use crate::cost::Goal;
 use crate::form::operands;
 use crate::literal::{is_word, nearest};
 use crate::range::{Failed, Ranges};
+use crate::span::Span;
 use fx_expr::Function;
 use fx_flat::Node;
-use fx_fraction::Fraction;
+use fx_fraction::{Fraction, to_fraction};
 use fx_num::Memory;
 use fx_program::Code;
 use std::alloc::Global;
@@ -19,6 +20,8 @@ pub struct Setting<'a> {
     pub ranges: &'a Ranges,
     pub points: &'a [i32],
     pub uses: &'a [u32],
+    /// Where the error of each state lies.
+    pub boxes: &'a [Span],
     pub width: u32,
     pub goal: Goal<'a>,
 }
@@ -73,11 +76,21 @@ fn quotient_shift(points: &[i32], a: u32, b: u32, point: i32, width: u32) -> Opt
     if s <= width { Some(s) } else { None }
 }
 
+/// The word that a state starts with: the nearest.
+pub fn start_word(function: &Function, k: usize, f: i32, width: u32) -> Option<i64> {
+    let state = function.states.as_slice().get(k)?;
+    word_at(nearest(to_fraction(state.start), f)?, width)
+}
+
 /// The code of a node at its point, with the nearest word where it is a literal.
-fn code_of(node: &Node, f: i32, points: &[i32], width: u32) -> Option<Code> {
+fn code_of(function: &Function, node: &Node, f: i32, points: &[i32], width: u32) -> Option<Code> {
     Some(match node {
         Node::Input { k } => Code::Input { k: *k, f },
-        Node::State { .. } => return None,
+        Node::State { k } => Code::State {
+            k: *k,
+            f,
+            w: start_word(function, *k as usize, f, width)?,
+        },
         Node::Const { c } => Code::Const {
             w: word_at(nearest(*c, f)?, width)?,
             f,
@@ -117,6 +130,11 @@ fn code_of(node: &Node, f: i32, points: &[i32], width: u32) -> Option<Code> {
     })
 }
 
+/// Whether a node has a code at a point, after those of its operands.
+pub fn has_code(function: &Function, node: &Node, f: i32, points: &[i32], width: u32) -> bool {
+    f >= -64 && f <= 62 && code_of(function, node, f, points, width).is_some()
+}
+
 /// A number as a word.
 pub fn word_at(w: i128, width: u32) -> Option<i64> {
     if is_word(w, width) {
@@ -127,24 +145,31 @@ pub fn word_at(w: i128, width: u32) -> Option<i64> {
 }
 
 /// The code of a node, where its point is one.
-fn code_at(nodes: &[Node], n: usize, points: &[i32], width: u32) -> Option<Code> {
+fn code_at(
+    function: &Function,
+    nodes: &[Node],
+    n: usize,
+    points: &[i32],
+    width: u32,
+) -> Option<Code> {
     let f = points.get(n).copied()?;
     if f < -64 || f > 62 {
         return None;
     }
-    code_of(nodes.get(n)?, f, points, width)
+    code_of(function, nodes.get(n)?, f, points, width)
 }
 
 /// The codes of all nodes, or the first node whose point gives no code of the width.
 pub fn codes_of(
     alloc: Global,
+    function: &Function,
     nodes: &[Node],
     points: &[i32],
     width: u32,
 ) -> Result<Result<Vec<Code>, Failed>, Memory> {
     let mut codes = Vec::new(alloc);
     for n in 0..nodes.len() {
-        match code_at(nodes, n, points, width) {
+        match code_at(function, nodes, n, points, width) {
             Some(code) => codes.push(code)?,
             None => return Ok(Err(Failed::at(n))),
         }

@@ -7,11 +7,11 @@ ghost use Rattle.std.specs.Prelude.{◌≡◌, IfOk, IfSome};
 ghost use Rattle.fx_inequalities.specs.LawfulCertificate.{IsLawfulCertificate};
 ghost use Rattle.fx_cert.specs.CertificateView as view;
 
-use crate::certificate::certificate_of;
+use crate::certificate::{Kept, certificate_of, state_certificate};
 use crate::plan::Plan;
 use crate::program_text::{Head, program_text};
 use crate::range::Ranges;
-use fx_cert::{Certificate, print_certificate, read_certificate};
+use fx_cert::{Certificate, NodeLine, print_certificate, read_certificate};
 use fx_expr::Function;
 use fx_flat::Nodes;
 use fx_num::Memory;
@@ -61,6 +61,7 @@ fn program_of(alloc: Global, function: &Function, plan: &Plan) -> Result<Option<
         width: plan.width,
         name: function.name.as_str(),
         inputs: function.inputs.len(),
+        states: function.states.len(),
         outputs: function.demands.len(),
     };
     let text = program_text(alloc, head, &plan.codes)?;
@@ -95,6 +96,31 @@ pub fn write(
     };
     let list = nodes.list.as_slice();
     let written = certificate_of(alloc, program.inputs, list, ranges, plan, steps)?;
+    match lawful(alloc, &written)? {
+        Some(certificate) => Ok(Some((program, certificate))),
+        None => Ok(None),
+    }
+}
+
+/// The program of a plan and the certificate of these lines for the source's function with states, whose nodes behind
+/// the steps are given. None where no text can hold them.
+pub fn write_with_states(
+    alloc: Global,
+    function: &Function,
+    steps: &[Step],
+    nodes: &Nodes,
+    plan: &Plan,
+    lines: Vec<NodeLine>,
+    kept: Kept,
+) -> Result<Option<(Program, Certificate)>, Memory>
+    ensures width { IfOk result (λ found. IfSome found (λ x. x.0.width ≡ plan.now.width)) }
+    ensures name { IfOk result (λ found. IfSome found (λ x. x.0.name ≡ function.now.name)) }
+    ensures lawful { IfOk result (λ found. IfSome found (λ x. IsLawfulCertificate (view.certificate_of x.1))) }
+{
+    let Some(program) = program_of(alloc, function, plan)? else {
+        return Ok(None);
+    };
+    let written = state_certificate(alloc, nodes, lines, kept, steps)?;
     match lawful(alloc, &written)? {
         Some(certificate) => Ok(Some((program, certificate))),
         None => Ok(None),
