@@ -2,12 +2,14 @@
 //!
 //! What is written is judged by the checker. Where it refuses, a formula mostly left 128 bits, and the same attempt is made
 //! on coarser grids.
-ghost use Rattle.std.specs.Prelude.{◌≡◌, IfOk, IfSome};
+ghost use Rattle.std.specs.Prelude.{IfOk};
+ghost use Rattle.fx_feedback.specs.Answers.{IsOffered};
 
 use crate::attempt::{Attempt, attempted};
 use crate::polish::Polish;
 use crate::task::Task;
-use fx_checker::{Certified, CheckKind, check};
+use fx_checker::Certified;
+use fx_feedback::judged;
 use fx_moves::Draft;
 use fx_num::{Dyadic, Memory, dle};
 use fx_planning::{Grids, write};
@@ -15,15 +17,13 @@ use fx_rewrite::Step;
 use std::alloc::Global;
 
 /// What the checker makes of an attempt behind these steps.
-fn judged(
+fn judged_after(
     alloc: Global,
     task: Task<'_>,
     steps: &[Step],
     attempt: &Attempt,
 ) -> Result<Option<Certified>, Memory>
-    ensures function_is { IfOk result (λ o. IfSome o (λ c. c.function ≡ task.entry.source.now)) }
-    ensures named { IfOk result (λ o. IfSome o (λ c. c.program.name ≡ task.entry.source.now.name)) }
-    ensures width_is { IfOk result (λ o. IfSome o (λ c. c.program.width ≡ task.entry.width)) }
+    ensures { IfOk result (IsOffered task.entry.width task.entry.source.now) }
 {
     let plan = &attempt.placed.plan;
     let written = write(
@@ -34,19 +34,8 @@ fn judged(
         &attempt.ranges,
         plan,
     )?;
-    let Some((program, certificate)) = written else {
-        return Ok(None);
-    };
-    if program.width != task.width {
-        return Ok(None);
-    }
-    match check(alloc, task.source, program, certificate) {
-        Ok(certified) => Ok(Some(certified)),
-        Err(fault) => match fault.kind {
-            CheckKind::Memory => Err(Memory),
-            _ => Ok(None),
-        },
-    }
+    let certified = judged(alloc, task.source, task.width, written)?;
+    Ok(certified)
 }
 
 /// The same of a draft, on grids, polished by looking at so many plans.
@@ -57,15 +46,13 @@ fn certified_on(
     plans: u32,
     grids: Grids,
 ) -> Result<Option<Certified>, Memory>
-    ensures function_is { IfOk result (λ o. IfSome o (λ c. c.function ≡ task.entry.source.now)) }
-    ensures named { IfOk result (λ o. IfSome o (λ c. c.program.name ≡ task.entry.source.now.name)) }
-    ensures width_is { IfOk result (λ o. IfSome o (λ c. c.program.width ≡ task.entry.width)) }
+    ensures { IfOk result (IsOffered task.entry.width task.entry.source.now) }
 {
     match attempted(alloc, task, &draft.function, grids)? {
         Ok(mut attempt) => {
             let mut polish = Polish::new(alloc, task, &draft.function, plans);
             polish.run(&mut attempt)?;
-            let certified = judged(alloc, task, &draft.steps, &attempt)?;
+            let certified = judged_after(alloc, task, &draft.steps, &attempt)?;
             Ok(certified)
         }
         Err(_) => Ok(None),
@@ -79,9 +66,7 @@ fn certified_coarsely(
     draft: &Draft,
     plans: u32,
 ) -> Result<Option<Certified>, Memory>
-    ensures function_is { IfOk result (λ o. IfSome o (λ c. c.function ≡ task.entry.source.now)) }
-    ensures named { IfOk result (λ o. IfSome o (λ c. c.program.name ≡ task.entry.source.now.name)) }
-    ensures width_is { IfOk result (λ o. IfSome o (λ c. c.program.width ≡ task.entry.width)) }
+    ensures { IfOk result (IsOffered task.entry.width task.entry.source.now) }
 {
     match certified_on(alloc, task, draft, plans, Grids::COARSE)? {
         Some(found) => Ok(Some(found)),
@@ -99,9 +84,7 @@ pub fn certified(
     draft: &Draft,
     plans: u32,
 ) -> Result<Option<Certified>, Memory>
-    ensures function_is { IfOk result (λ o. IfSome o (λ c. c.function ≡ task.entry.source.now)) }
-    ensures named { IfOk result (λ o. IfSome o (λ c. c.program.name ≡ task.entry.source.now.name)) }
-    ensures width_is { IfOk result (λ o. IfSome o (λ c. c.program.width ≡ task.entry.width)) }
+    ensures { IfOk result (IsOffered task.entry.width task.entry.source.now) }
 {
     match certified_on(alloc, task, draft, plans, Grids::FINE)? {
         Some(found) => Ok(Some(found)),

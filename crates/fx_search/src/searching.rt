@@ -1,12 +1,14 @@
 //! The search, from its first draw to what the checker has certified.
-ghost use Rattle.std.specs.Prelude.{◌≡◌, Contains, IfOk, IfSome};
+ghost use Rattle.std.specs.Prelude.{Contains, IfOk};
 ghost use Rattle.fx_model.specs.LawfulProgram.{widths};
+ghost use Rattle.fx_feedback.specs.Answers.{IsOffered};
 
 use crate::certify::{certified, keeps};
 use crate::climb::best_draft;
 use crate::task::{Task, references};
 use fx_checker::Certified;
 use fx_expr::Function;
+use fx_feedback::certify_states;
 use fx_moves::Draft;
 use fx_num::{Dyadic, Memory};
 use rand_core::SeedableRng;
@@ -36,9 +38,7 @@ fn suited(
     plans: u32,
     held: &[Dyadic],
 ) -> Result<Option<Certified>, Memory>
-    ensures function_is { IfOk result (λ o. IfSome o (λ c. c.function ≡ task.entry.source.now)) }
-    ensures named { IfOk result (λ o. IfSome o (λ c. c.program.name ≡ task.entry.source.now.name)) }
-    ensures width_is { IfOk result (λ o. IfSome o (λ c. c.program.width ≡ task.entry.width)) }
+    ensures { IfOk result (IsOffered task.entry.width task.entry.source.now) }
 {
     let Some(found) = certified(alloc, task, draft, plans)? else {
         return Ok(None);
@@ -57,9 +57,7 @@ fn unstepped(
     plans: u32,
     held: &[Dyadic],
 ) -> Result<Option<Certified>, Memory>
-    ensures function_is { IfOk result (λ o. IfSome o (λ c. c.function ≡ task.entry.source.now)) }
-    ensures named { IfOk result (λ o. IfSome o (λ c. c.program.name ≡ task.entry.source.now.name)) }
-    ensures width_is { IfOk result (λ o. IfSome o (λ c. c.program.width ≡ task.entry.width)) }
+    ensures { IfOk result (IsOffered task.entry.width task.entry.source.now) }
 {
     let source = Draft::new(alloc, task.source)?;
     let found = suited(alloc, task, &source, plans, held)?;
@@ -74,9 +72,7 @@ fn best(
     tries: u32,
     held: &[Dyadic],
 ) -> Result<Option<Certified>, Memory>
-    ensures function_is { IfOk result (λ o. IfSome o (λ c. c.function ≡ task.entry.source.now)) }
-    ensures named { IfOk result (λ o. IfSome o (λ c. c.program.name ≡ task.entry.source.now.name)) }
-    ensures width_is { IfOk result (λ o. IfSome o (λ c. c.program.width ≡ task.entry.width)) }
+    ensures { IfOk result (IsOffered task.entry.width task.entry.source.now) }
 {
     let mut rng = Pcg32::seed_from_u64(seed);
     let nodes = task.source.nodes();
@@ -94,7 +90,8 @@ fn best(
 /// The best certified program that the search finds in so many tries, if it finds one.
 ///
 /// `held` has the bounds of the answer that stands so far, one for each output, and none of them is exceeded; it is empty
-/// where there is no answer. The first try is the function as it stands. A function with states is none for this search.
+/// where there is no answer. The first try is the function as it stands, and for one with states (`certify_states`) it is
+/// the only one, made whatever the number of tries.
 pub fn search(
     alloc: Global,
     function: &Function,
@@ -104,11 +101,13 @@ pub fn search(
     held: &[Dyadic],
 ) -> Result<Option<Certified>, Memory>
     requires width { Contains widths width }
-    ensures function_is { IfOk result (λ o. IfSome o (λ c. c.function ≡ function.now)) }
-    ensures named { IfOk result (λ o. IfSome o (λ c. c.program.name ≡ function.now.name)) }
-    ensures width_is { IfOk result (λ o. IfSome o (λ c. c.program.width ≡ width)) }
+    ensures { IfOk result (IsOffered width function.now) }
 {
-    if tries == 0 || function.states.len() > 0 {
+    if function.states.len() > 0 {
+        let found = certify_states(alloc, function, width)?;
+        return Ok(found);
+    }
+    if tries == 0 {
         return Ok(None);
     }
     let references = references(alloc, held)?;

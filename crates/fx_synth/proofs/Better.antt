@@ -13,7 +13,8 @@ use Rattle.fx_analysis.specs.PlainAttempt.{Attempt}
 use Rattle.fx_checker.specs.CertifiedView.{Accepted}
 use Rattle.fx_analysis.specs.Attempts.{IsAcceptedAfter, tried_steps}
 use Rattle.fx_synth.specs.Synthesis.{attempted, AreSmaller, AreNoGreater, IsSynthesised, IsUnfound}
-use Rattle.fx_synth.specs.Turns.{IsAnswerFor, IsOffered, IsOutcome, IsTaken, Resists, Suits, SuitsIfAny, IsBestAfter}
+use Rattle.fx_feedback.specs.Answers.{IsAnswerFor, IsOffered}
+use Rattle.fx_synth.specs.Turns.{IsOutcome, IsTaken, Resists, Suits, SuitsIfAny, IsBestAfter}
 
 -- ---- bounds
 pub no_greater : (fn : Function) (a b : Attempt) → AreSmaller fn a b → AreNoGreater fn a b
@@ -36,11 +37,6 @@ one_attempt n fn steps s t h k = some_same (sym h.there ∙ k.there)
 pub offered : (n : ℕ) (fn : Function) (steps : List Rewriting) (c : Option Accepted) → IsOutcome n fn steps c → IsOffered n fn c
 offered n fn steps None out = tt
 offered n fn steps (Some c) out = out.answer
-
--- by what is said of its parts
-pub offered_by : (n : ℕ) (fn : Function) (c : Option Accepted) → IfSome c (λ a. a.function ≡ fn) → IfSome c (λ a. a.program.name ≡ fn.name) → IfSome c (λ a. a.program.width ≡ n) → IsOffered n fn c
-offered_by n fn None f name width = tt
-offered_by n fn (Some a) f name width = record { function_is = f; named = name; width_is = width }
 
 -- ---- what a turn keeps
 module _ (n : ℕ) (fn : Function) where

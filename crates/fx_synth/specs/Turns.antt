@@ -6,6 +6,7 @@ use Rattle.fx_inequalities.specs.Rewriting.{Rewriting}
 use Rattle.fx_rules.specs.Steps.{rewrite}
 use Rattle.fx_analysis.specs.PlainAttempt.{Attempt}
 use Rattle.fx_checker.specs.CertifiedView.{Accepted}
+use Rattle.fx_feedback.specs.Answers.{IsAnswerFor, IsOffered}
 use Rattle.fx_weight.specs.PlainClass.{outside_of}
 use Rattle.fx_analysis.specs.Attempts.{IsAcceptedAfter}
 use Rattle.fx_synth.specs.Bounds.{AreWithinWeights}
@@ -20,17 +21,6 @@ IsJudged fn t (Some a) = IsAccepted rewrite fn t.program t.certificate × (a ≡
 abbrev pub AreJudged : Function → Option Attempt → Option Accepted → Type 0
 AreJudged fn None o = o ≡ None
 AreJudged fn (Some t) o = IsJudged fn t o
-
--- for fn, of its name and at width n
-pub record IsAnswerFor (n : ℕ) (fn : Function) (a : Accepted) : Type 0 where
-  pub function_is : a.function ≡ fn
-  pub named : a.program.name ≡ fn.name
-  pub width_is : a.program.width ≡ n
-
--- the same where there may be none
-abbrev pub IsOffered : ℕ → Function → Option Accepted → Type 0
-IsOffered n fn None = ⊤
-IsOffered n fn (Some a) = IsAnswerFor n fn a
 
 -- the attempt after these steps
 pub record IsAnswerAfter (n : ℕ) (fn : Function) (steps : List Rewriting) (a : Accepted) : Type 0 where

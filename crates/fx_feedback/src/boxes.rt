@@ -1,0 +1,104 @@
+//! Boxes of states: where each is taken to lie, until its row says so.
+
+use fx_cert::Row;
+use fx_interval::Interval;
+use fx_num::{Memory, floor_shift, left_fits};
+use fx_planning::{Span, interval};
+use std::alloc::Global;
+
+/// An interval over one exponent.
+pub fn span_of(x: Interval) -> Option<Span> {
+    let e = x.lo.e.max(x.hi.e);
+    Some(Span {
+        lo: left_fits(x.lo.m, e.checked_sub(x.lo.e)?)?,
+        hi: left_fits(x.hi.m, e.checked_sub(x.hi.e)?)?,
+        e,
+    })
+}
+
+/// The same number over more places.
+fn raised(m: i128, places: u32) -> Option<i128> {
+    left_fits(m, places)
+}
+
+/// What holds both.
+fn hull(a: Span, b: Span) -> Option<Span> {
+    let e = a.e.max(b.e);
+    let x = e.checked_sub(a.e)?;
+    let y = e.checked_sub(b.e)?;
+    Some(Span {
+        lo: raised(a.lo, x)?.min(raised(b.lo, y)?),
+        hi: raised(a.hi, x)?.max(raised(b.hi, y)?),
+        e,
+    })
+}
+
+/// Whether a box holds a bound.
+fn holds(outer: Span, inner: Span) -> Option<bool> {
+    let both = hull(outer, inner)?;
+    let places = both.e.checked_sub(outer.e)?;
+    Some(raised(outer.lo, places)? == both.lo && raised(outer.hi, places)? == both.hi)
+}
+
+/// A box wider by `2^-places` of its width on both sides.
+fn widened(x: Span, places: u32) -> Option<Span> {
+    let more = floor_shift(x.hi.checked_sub(x.lo)?, places).checked_add(1)?;
+    Some(Span {
+        lo: x.lo.checked_sub(more)?,
+        hi: x.hi.checked_add(more)?,
+        e: x.e,
+    })
+}
+
+/// A box that holds a bound: the same if it does, else both, widened, with so many bits.
+fn next_box(old: Span, bound: Interval, places: u32) -> Option<Span> {
+    let bound = span_of(bound)?;
+    if holds(old, bound)? {
+        return Some(old);
+    }
+    let wider = widened(hull(old, bound)?, places)?;
+    let bits = 128_u32.saturating_sub(wider.size().leading_zeros());
+    let e = wider.e.saturating_add(44).saturating_sub(bits).min(90);
+    Some(wider.outward(e))
+}
+
+/// Whether each box holds the bound of its unit row.
+pub fn hold_all(boxes: &[Span], rows: &[Row]) -> bool {
+    for (outer, row) in boxes.iter().zip(rows) {
+        let held = match span_of(row.bound) {
+            Some(bound) => holds(*outer, bound).unwrap_or(false),
+            None => false,
+        };
+        if !held {
+            return false;
+        }
+    }
+    true
+}
+
+/// The boxes to take next: those that hold stay. The later the turn, the more the others are widened.
+pub fn next_boxes(
+    alloc: Global,
+    boxes: &[Span],
+    rows: &[Row],
+    turn: u32,
+) -> Result<Option<Vec<Span>>, Memory> {
+    let places = 10_u32.saturating_sub(turn / 2);
+    let mut next = Vec::new(alloc);
+    for (old, row) in boxes.iter().zip(rows) {
+        match next_box(*old, row.bound, places) {
+            Some(span) => next.push(span)?,
+            None => return Ok(None),
+        }
+    }
+    Ok(Some(next))
+}
+
+/// Spans as intervals.
+pub fn intervals(alloc: Global, spans: &[Span]) -> Result<Vec<Interval>, Memory> {
+    let mut list = Vec::new(alloc);
+    for span in spans {
+        list.push(interval(*span))?;
+    }
+    Ok(list)
+}

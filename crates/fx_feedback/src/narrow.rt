@@ -1,0 +1,248 @@
+//! Narrower ranges of all nodes, and errors of the outputs, by the rows that stand.
+//!
+//! What is made of several states lies closer than its states do one by one, where they cancel. The rows know that, and
+//! an exchange finds which of them to take. Ranges are narrowed before there are points, in the order of the nodes.
+
+use crate::boxes::span_of;
+use crate::settle::Values;
+use crate::task::Task;
+use fx_cert::{Form, NodeLine, Row, Share};
+use fx_exchange::{Apart, Combination, take_apart};
+use fx_expr::Items;
+use fx_flat::Nodes;
+use fx_interval::{Interval, outward};
+use fx_num::{Dyadic, Memory, dle};
+use fx_planning::{Ranges, Span, range_lines};
+use fx_reach::lowest;
+use std::alloc::Global;
+
+/// How many places behind its point an error has.
+const ERROR_PLACES: i32 = 16;
+
+/// Where the inputs lie, and rows of the states.
+#[derive(Clone, Copy, Debug)]
+struct Standing<'a> {
+    spans: &'a [Interval],
+    rows: &'a [Row],
+    states: usize,
+}
+
+impl<'a> Standing<'a> {
+    /// A form's part in the variables and a rest, by rows.
+    fn apart(
+        self,
+        alloc: Global,
+        coefs: &[Dyadic],
+        rest: Interval,
+    ) -> Result<Option<Apart>, Memory> {
+        let combination = Combination {
+            coefs,
+            spans: self.spans,
+            rest,
+        };
+        take_apart(alloc, &combination, self.rows, self.states)
+    }
+}
+
+/// In lowest terms.
+fn in_lowest_terms(d: Dyadic) -> Dyadic {
+    lowest(d.m, d.e)
+}
+
+/// An error on the grid of its point, outward.
+fn on_grid(x: Interval, point: i32) -> Interval {
+    let e = point.saturating_add(ERROR_PLACES).clamp(0, 90);
+    let wider = outward(x, e.unsigned_abs());
+    Interval {
+        lo: in_lowest_terms(wider.lo),
+        hi: in_lowest_terms(wider.hi),
+    }
+}
+
+/// Whether an interval lies in another and isn't the same.
+fn is_narrower(x: Interval, other: Interval) -> bool {
+    dle(other.lo, x.lo) && dle(x.hi, other.hi) && x != other
+}
+
+/// Where the errors of all inputs lie.
+fn input_errors(alloc: Global, lines: &[NodeLine], inputs: u32) -> Result<Vec<Interval>, Memory> {
+    let mut spans = Vec::new(alloc);
+    for line in lines.iter().take(inputs as usize) {
+        spans.push(line.error)?;
+    }
+    Ok(spans)
+}
+
+/// A form's error by rows, if that is narrower.
+fn error_by_rows(
+    alloc: Global,
+    form: &mut Form,
+    error: Interval,
+    standing: Standing<'_>,
+    point: i32,
+) -> Result<Option<Interval>, Memory> {
+    let Some(apart) = standing.apart(alloc, form.coefs.as_slice(), form.error_rest)? else {
+        return Ok(None);
+    };
+    let bound = on_grid(apart.bound, point);
+    if !is_narrower(bound, error) {
+        return Ok(None);
+    }
+    form.error_by = Some(apart.shares);
+    Ok(Some(bound))
+}
+
+/// Narrows the error of a line.
+fn narrow_line(
+    alloc: Global,
+    line: &mut NodeLine,
+    standing: Standing<'_>,
+    point: i32,
+) -> Result<(), Memory> {
+    let error = line.error;
+    if let Some(form) = &mut line.form {
+        if let Some(narrower) = error_by_rows(alloc, form, error, standing, point)? {
+            line.error = narrower;
+        }
+    }
+    Ok(())
+}
+
+/// Narrows the errors of all outputs by the rows of errors.
+pub fn narrow_outputs(
+    alloc: Global,
+    nodes: &Nodes,
+    lines: &mut Vec<NodeLine>,
+    rows: &[Row],
+    points: &[i32],
+) -> Result<(), Memory> {
+    let spans = input_errors(alloc, lines, nodes.inputs)?;
+    let states = nodes.states as usize;
+    let standing = Standing {
+        spans: &spans,
+        rows,
+        states,
+    };
+    let end = nodes.list.len().saturating_sub(states);
+    let start = end.saturating_sub(nodes.outputs as usize);
+    for n in start..end {
+        let point = points.get(n).copied().unwrap_or(0);
+        if let Some(line) = lines.get_mut(n) {
+            narrow_line(alloc, line, standing, point)?;
+        }
+    }
+    Ok(())
+}
+
+/// Takes the bounds of the unit rows for the ranges of the states.
+fn narrow_states(ranges: &mut Ranges, rows: &[Row], inputs: usize, states: usize) {
+    for (k, row) in rows.iter().take(states).enumerate() {
+        if let Some(span) = span_of(row.bound) {
+            ranges.put_span(inputs.saturating_add(k), span);
+        }
+    }
+}
+
+/// Where the values of all inputs lie.
+fn input_ranges(alloc: Global, lines: &[NodeLine], inputs: usize) -> Result<Vec<Interval>, Memory> {
+    let mut spans = Vec::new(alloc);
+    for line in lines.iter().take(inputs) {
+        spans.push(line.range)?;
+    }
+    Ok(spans)
+}
+
+/// Whether a form takes anything of the states.
+fn has_states(form: &Form, inputs: usize) -> bool {
+    for coef in form.coefs.as_slice().iter().skip(inputs) {
+        if coef.m != 0 {
+            return true;
+        }
+    }
+    false
+}
+
+/// The range of a line by rows, and the shares that show it.
+fn range_by_rows(
+    alloc: Global,
+    task: Task<'_>,
+    line: &NodeLine,
+    standing: Standing<'_>,
+) -> Result<Option<(Span, Items<Share>)>, Memory> {
+    let Some(form) = &line.form else {
+        return Ok(None);
+    };
+    if !has_states(form, standing.spans.len()) {
+        return Ok(None);
+    }
+    let Some(apart) = standing.apart(alloc, form.coefs.as_slice(), form.rest)? else {
+        return Ok(None);
+    };
+    match span_of(apart.bound) {
+        Some(span) => Ok(Some((task.grids.rounded(span), apart.shares))),
+        None => Ok(None),
+    }
+}
+
+/// Narrows the range of node `n`, and gives the shares that show it, if rows do.
+fn narrow_node(
+    alloc: Global,
+    task: Task<'_>,
+    values: &mut Values,
+    n: usize,
+    line: &NodeLine,
+    spans: &[Interval],
+) -> Result<Option<Items<Share>>, Memory> {
+    let Some(node) = task.nodes.list.as_slice().get(n) else {
+        return Ok(None);
+    };
+    let standing = Standing {
+        spans,
+        rows: values.proposal.rows(),
+        states: task.nodes.states as usize,
+    };
+    match range_by_rows(alloc, task, line, standing)? {
+        Some((span, shares)) => if values.ranges.narrow(n, node, Some(span)) {
+            Ok(Some(shares))
+        } else {
+            Ok(None)
+        },
+        None => {
+            values.ranges.narrow(n, node, None);
+            Ok(None)
+        }
+    }
+}
+
+/// Narrows all ranges, and gives the shares that show them, node by node.
+pub fn narrow_ranges(
+    alloc: Global,
+    task: Task<'_>,
+    values: &mut Values,
+) -> Result<Vec<Option<Items<Share>>>, Memory> {
+    let inputs = task.nodes.inputs as usize;
+    let lines = range_lines(alloc, task.nodes, &values.ranges)?;
+    let spans = input_ranges(alloc, &lines, inputs)?;
+    narrow_states(
+        &mut values.ranges,
+        values.proposal.rows(),
+        inputs,
+        task.nodes.states as usize,
+    );
+    let mut shares = Vec::new(alloc);
+    for (n, line) in lines.iter().enumerate() {
+        shares.push(narrow_node(alloc, task, values, n, line, &spans)?)?;
+    }
+    Ok(shares)
+}
+
+/// Writes the shares that show ranges into the lines.
+pub fn put_shares(lines: &mut Vec<NodeLine>, shares: Vec<Option<Items<Share>>>) {
+    for (line, own) in lines.iter_mut().zip(shares) {
+        if let Some(form) = &mut line.form {
+            if own.is_some() {
+                form.range_by = own;
+            }
+        }
+    }
+}

@@ -1,0 +1,171 @@
+//! Points: the finest at which each range fits its word, but no finer than what a product goes into.
+
+use crate::task::Task;
+use fx_flat::{Node, Nodes};
+use fx_num::Memory;
+use fx_planning::{Ranges, has_code, operands};
+use std::alloc::Global;
+
+/// The least point.
+const LEAST: i32 = -64;
+
+/// The greatest point of node `n` by its range, by its cap, and of a state by what comes next.
+fn cap_of(nodes: &Nodes, ranges: &Ranges, n: usize, width: u32, cap: i32) -> i32 {
+    let own = ranges.cap(n, width).unwrap_or(LEAST).min(cap);
+    match nodes.list.as_slice().get(n) {
+        Some(Node::State { k }) => {
+            let next = first_next(nodes).saturating_add(*k as usize);
+            ranges.cap(next, width).unwrap_or(LEAST).min(own)
+        }
+        _ => own,
+    }
+}
+
+/// The node of the first next state.
+pub fn first_next(nodes: &Nodes) -> usize {
+    nodes.list.len().saturating_sub(nodes.states as usize)
+}
+
+/// The only point that a negation, or the copy of a next state, can have.
+fn only_point(nodes: &Nodes, n: usize, points: &[i32]) -> Option<i32> {
+    let first = first_next(nodes);
+    if n >= first {
+        let state = (nodes.inputs as usize).saturating_add(n.saturating_sub(first));
+        return points.get(state).copied();
+    }
+    match nodes.list.as_slice().get(n) {
+        Some(Node::Neg { a }) => points.get(*a as usize).copied(),
+        _ => None,
+    }
+}
+
+/// The greatest point from a cap down at which a node has a code.
+fn greatest(task: Task<'_>, n: usize, points: &[i32], cap: i32) -> Option<i32> {
+    let node = task.nodes.list.as_slice().get(n)?;
+    let steps = cap.saturating_sub(LEAST).saturating_add(1).clamp(0, 127);
+    for down in 0..steps {
+        let f = cap.saturating_sub(down);
+        if has_code(task.function, node, f, points, task.width) {
+            return Some(f);
+        }
+    }
+    None
+}
+
+/// The point of node `n`.
+fn point_of(task: Task<'_>, ranges: &Ranges, n: usize, points: &[i32], cap: i32) -> Option<i32> {
+    let cap = cap_of(task.nodes, ranges, n, task.width, cap);
+    let Some(only) = only_point(task.nodes, n, points) else {
+        return greatest(task, n, points, cap);
+    };
+    let node = task.nodes.list.as_slice().get(n)?;
+    if only <= ranges.cap(n, task.width)?
+        && has_code(task.function, node, only, points, task.width)
+    {
+        Some(only)
+    } else {
+        None
+    }
+}
+
+/// The greatest points up to these caps, if each node has one.
+pub fn greatest_points(
+    alloc: Global,
+    task: Task<'_>,
+    ranges: &Ranges,
+    caps: &[i32],
+) -> Result<Option<Vec<i32>>, Memory> {
+    let mut points = Vec::new(alloc);
+    for n in 0..task.nodes.list.len() {
+        let cap = caps.get(n).copied().unwrap_or(62);
+        match point_of(task, ranges, n, &points, cap) {
+            Some(point) => points.push(point)?,
+            None => return Ok(None),
+        }
+    }
+    Ok(Some(points))
+}
+
+/// The caps with those of negated nodes lowered, so that what is negated fits at the same point.
+pub fn caps_of_negated(
+    alloc: Global,
+    nodes: &[Node],
+    ranges: &Ranges,
+    width: u32,
+    caps: &[i32],
+) -> Result<Vec<i32>, Memory> {
+    let mut lowered = Vec::from_slice(alloc, caps)?;
+    for n in (0..nodes.len()).rev() {
+        if let Node::Neg { a } = &nodes[n] {
+            let own = lowered.get(n).copied().unwrap_or(LEAST);
+            let own = ranges.cap(n, width).unwrap_or(LEAST).min(own);
+            if let Some(cap) = lowered.get_mut(*a as usize) {
+                *cap = (*cap).min(own);
+            }
+        }
+    }
+    Ok(lowered)
+}
+
+/// What a node asks of its operands: the point of a sum, which a finer operand would only round to once more.
+fn asked(node: &Node, own: i32, point: i32) -> i32 {
+    match node {
+        Node::Add { .. } => point,
+        Node::Sub { .. } => point,
+        Node::Copy { .. } => point,
+        Node::Neg { .. } => own,
+        _ => i32::MAX,
+    }
+}
+
+/// Raises what is asked of a node.
+fn ask(needs: &mut [i32], a: usize, point: i32) {
+    if let Some(need) = needs.get_mut(a) {
+        *need = (*need).max(point);
+    }
+}
+
+/// The finest point that any use of a node asks for: none is the least number, and the greatest says that no point is
+/// too fine.
+fn needs(alloc: Global, nodes: &[Node], points: &[i32]) -> Result<Vec<i32>, Memory> {
+    let mut needs = vec![in alloc; i32::MIN; nodes.len()]?;
+    for n in (0..nodes.len()).rev() {
+        if let Some((a, b)) = operands(&nodes[n]) {
+            let own = needs.get(n).copied().unwrap_or(i32::MAX);
+            let point = asked(&nodes[n], own, points.get(n).copied().unwrap_or(i32::MAX));
+            ask(&mut needs, a, point);
+            ask(&mut needs, b, point);
+        }
+    }
+    Ok(needs)
+}
+
+/// Whether a node may be as coarse as what it goes into: a sum may not, since its operands would be rounded one by one.
+fn may_be_lowered(node: &Node) -> bool {
+    match node {
+        Node::Mul { .. } => true,
+        Node::Const { .. } => true,
+        Node::Input { .. } => true,
+        _ => false,
+    }
+}
+
+/// The caps with those of products, literals and inputs lowered to what they go into.
+pub fn lowered_caps(
+    alloc: Global,
+    nodes: &[Node],
+    points: &[i32],
+    caps: &[i32],
+) -> Result<Vec<i32>, Memory> {
+    let needs = needs(alloc, nodes, points)?;
+    let mut lowered = Vec::from_slice(alloc, caps)?;
+    for n in 0..nodes.len() {
+        let need = needs.get(n).copied().unwrap_or(i32::MAX);
+        if may_be_lowered(&nodes[n]) && need > i32::MIN {
+            if let Some(cap) = lowered.get_mut(n) {
+                *cap = (*cap).min(need);
+            }
+        }
+    }
+    Ok(lowered)
+}

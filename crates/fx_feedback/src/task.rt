@@ -1,0 +1,14 @@
+//! What an attempt is made of.
+
+use fx_expr::Function;
+use fx_flat::Nodes;
+use fx_planning::Grids;
+
+/// What an attempt goes on.
+#[derive(Clone, Copy, Debug)]
+pub struct Task<'a> {
+    pub function: &'a Function,
+    pub nodes: &'a Nodes,
+    pub width: u32,
+    pub grids: Grids,
+}
