@@ -324,7 +324,7 @@ fn takes_little_ahead(rt: HostRuntime) -> Result<(), Fail> {
 
 // a source and a width, how a synthesis without a search ends, what `check` then says of its bundle, and the line on the notes
 #[rattlefmt::skip]
-static SOURCES: [(&str, &str, u8, &str, &str); 21] = [
+static SOURCES: [(&str, &str, u8, &str, &str); 32] = [
     ("def f(x: Real): Real = {\n  require(0 <= x && x <= 1)\n  x + 0.5\n}\n", "16", 0, "accepted\nout1 5/2^14\n", ""),
     ("def f(x: Real): Real = { require(0 <= x && x <= 1) x + 0.5 }", "8", 0, "accepted\nout1 5/2^6\n", ""),
     ("def f(x: Real): Real = { require(0 <= x && x <= 1) x + 0.5 }", "64", 0, "accepted\nout1 5/2^62\n", ""),
@@ -334,7 +334,18 @@ static SOURCES: [(&str, &str, u8, &str, &str); 21] = [
     ("def f(x: Real, y: Real): Real = { require(-1 <= x && x <= 1 && -1 <= y && y <= 1) x / y }", "16", 9, "", "fixd: not found: node 2\n"),
     ("def f(x: Real, y: Real): Real = { require(1 <= x && x <= 2 && 1 <= y && y <= 2) x / y }", "16", 0, "accepted\nout1 769/2^21\n", ""),
     ("def f(x: Real, y: Real): Real = { require(0 <= x && x <= 4e9 && 0 <= y && y <= 4e9) x * y }", "32", 9, "", "fixd: not found: node 2\n"),
-    ("def g(u: Real)(x: Real = 0.0): (Real, Real) = { require(-1 <= u && u <= 1) (x, u) }", "16", 9, "", "fixd: not found: node 1\n"),
+    ("def biquad(u: Real)(x1: Real = 0, x2: Real = 0): (Real, Real, Real) = {\n  require(-1 <= u && u <= 1)\n  val n = 1.5 * x1 - 0.7 * x2 + 0.1 * u\n  (n, n, x1)\n}\n", "32", 0, "accepted\nout1 118503/2^43\n", ""),
+    ("def g(u: Real)(x: Real = 0.0): (Real, Real) = {\n  require(-1 <= u && u <= 1)\n  val y = 0.5 * x + 0.5 * u\n  (y, y)\n}\n", "16", 0, "accepted\nout1 5/2^14\n", ""),
+    ("def f(u: Real)(x: Real = 0): (Real, Real) = {\n  require(-1 <= u && u <= 1)\n  val y = 0.999 * x + 0.001 * u\n  (y, y)\n}\n", "32", 0, "accepted\nout1 35676379/2^44\n", ""),
+    ("def f(u: Real)(x: Real = 0, y: Real = 0): (Real, Real, Real) = {\n  require(-1 <= u && u <= 1)\n  val a = 0.9 * x + 0.1 * u\n  val b = 0.9 * y + 0.1 * a\n  (b, a, b)\n}\n", "32", 0, "accepted\nout1 89115/2^41\n", ""),
+    ("def f(u: Real)(x: Real = 0, y: Real = 0): (Real, Real, Real) = {\n  require(-1 <= u && u <= 1)\n  val n = 1.9 * x - 0.9801 * y + 0.01 * u\n  (n, n, x)\n}\n", "32", 0, "accepted\nout1 40865775/2^45\n", ""),
+    ("def f(u: Real)(x0: Real = 0, x1: Real = 0, x2: Real = 0, x3: Real = 0, x4: Real = 0, x5: Real = 0, x6: Real = 0, x7: Real = 0, x8: Real = 0, x9: Real = 0, x10: Real = 0, x11: Real = 0, x12: Real = 0, x13: Real = 0, x14: Real = 0, x15: Real = 0): (Real, Real, Real, Real, Real, Real, Real, Real, Real, Real, Real, Real, Real, Real, Real, Real, Real) = { require(-1 <= u && u <= 1) (x15, u, x0, x1, x2, x3, x4, x5, x6, x7, x8, x9, x10, x11, x12, x13, x14) }", "16", 0, "accepted\nout1 1/2^14\n", ""),
+    ("def f(u: Real)(x: Real = 100): (Real, Real) = {\n  require(-1 <= u && u <= 1)\n  val y = 0.5 * x + u\n  (y, y)\n}\n", "16", 0, "accepted\nout1 3/2^8\n", ""),
+    ("def f(u: Real)(a: Real = 0, b: Real = 0, c: Real = 0, d: Real = 0, e: Real = 0, g: Real = 0): (Real, Real, Real, Real, Real, Real, Real) = {\n  require(-1 <= u && u <= 1)\n  val p = 1.5 * a - 0.6 * b + 0.1 * u\n  val q = 1.4 * c - 0.5 * d + 0.1 * p\n  val r = 1.2 * e - 0.4 * g + 0.2 * q\n  (r, p, a, q, c, r, e)\n}\n", "32", 0, "accepted\nout1 4555063/2^46\n", ""),
+    ("def f(u: Real)(x: Real = 0, y: Real = 0): (Real, Real, Real) = {\n  require(-1 <= u && u <= 1)\n  val a = 0.5 * x + 0.1 * u\n  val b = 0.5 * y + 0.01 * x * y + 0.1 * u\n  (b, a, b)\n}\n", "32", 0, "accepted\nout1 264269/2^48\n", ""),
+    ("def f(u: Real)(x: Real = 0): (Real, Real) = { require(-1 <= u && u <= 1) (x, x + u) }", "32", 9, "", "fixd: not found: node 1\n"),
+    ("def f(u: Real)(x: Real = 0): (Real, Real) = { require(-1 <= u && u <= 1) (x, 1.01 * x + u) }", "32", 9, "", "fixd: not found: node 1\n"),
+    ("def g(u: Real)(x: Real = 0.0): (Real, Real) = { require(-1 <= u && u <= 1) (x, u) }", "16", 0, "accepted\nout1 1/2^14\n", ""),
     ("def f(x: Real): Real = { require(0 <= x && x <= 1) x + 123456789012345678901234567890 }", "16", 3, "", "fixd: source: NumberTooLong at byte 55\n"),
     ("", "16", 3, "", "fixd: source: NoSuchFunction at byte 0\n"),
     ("def f(x: Real): Real = { require(0 <= x && x <= 1) x }\ndef g(x: Real): Real = { require(0 <= x && x <= 1) x }", "16", 3, "", "fixd: source: WhichFunction at byte 0\n"),
