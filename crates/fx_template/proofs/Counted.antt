@@ -1,5 +1,5 @@
 -- Rows that were tested: counted, short, and what the plain ones are.
-use Rattle.std.proofs.Common.{◌≡◌, ℕ, zero, suc, ◌+◌, ◌<◌, ◌≤◌, Bool, true, List, [], ◌∷◌, length, get_or, Option, Some, None, inl, inr, refl, sym, ap, subst, ◌∙◌, arith}
+use Rattle.std.proofs.Common.{◌≡◌, ℕ, ◌+◌, ◌<◌, ◌≤◌, List, [], ◌∷◌, length, Option, Some, None, inl, inr, refl, sym, ap, subst, ◌∙◌, arith}
 use Rattle.std.specs.Prelude.{All}
 use Rattle.std.specs.Option.{option_map}
 use Rattle.std.proofs.lemmas.Bool.{cases_lt}
@@ -7,7 +7,7 @@ use Rattle.std.proofs.lemmas.List.{get_or_default, get_or_past}
 use Rattle.fx_rational.specs.Dyadic.{Dyadic, IsWritten, zero_dyadic}
 use Rattle.fx_rational.specs.Interval.{IsWrittenInterval}
 use Rattle.fx_model.specs.Tree.{at}
-use Rattle.fx_inequalities.specs.Formula.{Num, span}
+use Rattle.fx_inequalities.specs.Formula.{Num}
 use Rattle.fx_inequalities.specs.Certificate.{Row, Share, no_row}
 use Rattle.fx_inequalities.specs.LawfulCertificate.{AreShares, unit_vector}
 use Rattle.fx_judging.specs.Places.{IsShort}

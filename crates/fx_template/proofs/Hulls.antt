@@ -1,5 +1,5 @@
 -- What holds both of two spans.
-use Rattle.std.proofs.Common.{◌≡◌, Bool, true, ◌&&◌, Option, Some, None, ◌⊎◌, inl, inr, refl, sym, ap, ◌∙◌}
+use Rattle.std.proofs.Common.{◌≡◌, true, ◌&&◌, Some, None, ◌⊎◌, inl, inr, refl, ◌∙◌}
 use Rattle.fx_rational.specs.Dyadic.{least, greatest}
 use Rattle.fx_rational.specs.Interval.{Interval}
 use Rattle.fx_inequalities.specs.Formula.{Span, formed, formula_fits}

@@ -1,5 +1,5 @@
 -- Rounds: what each bound is, and that bounds stay short and can be spelled.
-use Rattle.std.proofs.Common.{◌≡◌, ℕ, zero, suc, ◌+◌, ◌-◌, ◌<◌, ◌≤◌, ℤ, pos, negsuc, List, length, Option, Some, None, Result, Ok, inl, inr, refl, sym, ap, subst, ◌∙◌, arith}
+use Rattle.std.proofs.Common.{◌≡◌, ℕ, zero, suc, ◌+◌, ◌-◌, ◌<◌, ◌≤◌, ℤ, pos, negsuc, List, Option, Some, None, Ok, inl, inr, refl, sym, ap, subst, ◌∙◌, arith}
 use Rattle.std.proofs.lemmas.Bool.{cases_lt}
 use Rattle.std.proofs.lemmas.List.{get_or_past}
 use Rattle.std.proofs.lemmas.Int.{ints}
@@ -9,13 +9,12 @@ use Rattle.fx_rational.specs.Interval.{Interval, IsWrittenInterval}
 use Rattle.fx_model.specs.Tree.{at}
 use Rattle.fx_inequalities.specs.Formula.{span}
 use Rattle.fx_inequalities.specs.Claim.{inside}
-use Rattle.fx_inequalities.specs.Certificate.{no_line, zero_interval}
+use Rattle.fx_inequalities.specs.Certificate.{zero_interval}
 use Rattle.fx_judging.specs.Places.{IsShortSpan}
 use Rattle.fx_conditions.specs.declared.side.Side.{Side}
 use Rattle.fx_conditions.specs.declared.side.Side.TheVariants.{Value, Error}
 use Rattle.fx_analysis.specs.Narrow.{span_bounds}
 use Rattle.fx_analysis.specs.Laws.{IsNarrowestOf}
-use Rattle.fx_analysis.specs.declared.fault.Why.{Why}
 use Rattle.fx_analysis.proofs.Narrowest.{narrowest_is}
 use Rattle.fx_analysis.proofs.Quotients.{around_inside}
 use Rattle.fx_template.specs.Transitions.{IsModestTransition, Transition}

@@ -1,26 +1,23 @@
 -- Unit rows: short, counted and kept.
-use Rattle.std.proofs.Common.{◌≡◌, ℕ, zero, suc, ◌+◌, ◌<◌, ◌≤◌, Bool, true, false, ◌&&◌, if◌then◌else◌, List, [], ◌∷◌, length, get_or, Option, Some, None, inl, inr, refl, sym, ap, subst, ◌∙◌, arith}
-use Rattle.std.specs.Prelude.{All}
+use Rattle.std.proofs.Common.{◌≡◌, ℕ, ◌+◌, ◌<◌, ◌≤◌, ◌&&◌, List, length, get_or, None, inl, inr, sym, ap, subst, ◌∙◌, arith}
 use Rattle.std.proofs.lemmas.Bool.{cases_lt}
 use Rattle.std.proofs.lemmas.List.{get_or_default, get_or_past}
 use Rattle.fx_rational.specs.Dyadic.{Dyadic, IsWritten, zero_dyadic}
 use Rattle.fx_rational.specs.Interval.{Interval, IsWrittenInterval}
 use Rattle.fx_model.specs.Tree.{at}
-use Rattle.fx_model.specs.Limits.{row_limit}
 use Rattle.fx_inequalities.specs.Formula.{Num, span}
 use Rattle.fx_inequalities.specs.Certificate.{Row, no_row, zero_interval}
 use Rattle.fx_inequalities.specs.LawfulCertificate.{unit_vector}
-use Rattle.fx_bounds.proofs.Claims.{both_left, both_right}
+use Rattle.fx_bounds.proofs.Claims.{both_right}
 use Rattle.fx_judging.specs.Places.{IsShort, IsShortSpan}
 use Rattle.fx_conditions.specs.Limits.{AreShortRows, IsShortRow}
 use Rattle.fx_conditions.specs.declared.side.Side.{Side}
 use Rattle.fx_sharing.specs.KeptRows.{kept_row}
 use Rattle.fx_analysis.specs.Narrow.{is_small}
-use Rattle.fx_template.specs.Listed.{first_untrue, tabulate}
+use Rattle.fx_template.specs.Listed.{first_untrue}
 use Rattle.fx_template.specs.Transitions.{Transition}
 use Rattle.fx_template.specs.PlainRounds.{are_met, stands, unit_row, unit_rows}
 use Rattle.fx_template.specs.Rows.{AreCountedRows, AreKept, AreWrittenBounds, IsCountedRow}
-use Rattle.fx_template.specs.Units.{unit_entry}
 use Rattle.fx_template.specs.RoundView.{AreShortBounds}
 use Rattle.fx_template.proofs.Lists.{all_true, tabulate_all, tabulate_at, tabulate_length}
 use Rattle.fx_template.proofs.UnitVectors.{entry_at, entry_whole, entry_written, unit_length, units_from}

@@ -1,12 +1,12 @@
 -- Plain rounds: bounds of the unit rows alone, raised until one step keeps them or the rounds are over.
-use Rattle.std.specs.Prelude.{ℕ, zero, suc, ◌+◌, ℤ, pos, Bool, ◌&&◌, List, [], Option, Some, None, Result}
+use Rattle.std.specs.Prelude.{ℕ, zero, suc, ◌+◌, pos, Bool, ◌&&◌, List, [], Option, Some, None, Result}
 use Rattle.std.specs.List.{list_all}
 use Rattle.std.specs.Option.{option_map}
 use Rattle.fx_rational.specs.Interval.{Interval}
 use Rattle.fx_model.specs.Tree.{at}
 use Rattle.fx_inequalities.specs.Formula.{Least, Greatest, Span, span}
 use Rattle.fx_inequalities.specs.Claim.{Claim, fits, holds, inside}
-use Rattle.fx_inequalities.specs.Certificate.{NodeLine, Row, no_line, zero_interval}
+use Rattle.fx_inequalities.specs.Certificate.{Row, no_line, zero_interval}
 use Rattle.fx_inequalities.specs.LawfulCertificate.{unit_vector}
 use Rattle.fx_conditions.specs.declared.side.Side.{Side}
 use Rattle.fx_conditions.specs.declared.side.Side.TheVariants.{Value, Error}
