@@ -86,6 +86,7 @@ stuck_word : machine_step negated_program (whole (negsuc 1) ∷ []) [] ≡ None
 unfolding over scaled floor
 stuck_word = refl
 
+-- x - x, by way of 512 x: the sum is a word, its operands leave the double word
 abbrev wide_program : Program
 wide_program = record {
   width = 8;
@@ -93,7 +94,7 @@ wide_program = record {
   inputs = 1;
   states = 0;
   outputs = 1;
-  codes = machine.Input 0 (pos 0) ∷ machine.Copy 0 (negsuc 8) ∷ machine.Copy 1 (pos 9) ∷ [];
+  codes = machine.Input 0 (pos 0) ∷ machine.Neg 0 ∷ machine.Add 0 1 (negsuc 8) (negsuc 8) ∷ machine.Copy 2 (pos 0) ∷ [];
 }
 
 stuck_double_word : machine_step wide_program (whole (pos 127) ∷ []) [] ≡ None
