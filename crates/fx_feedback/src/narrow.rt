@@ -152,11 +152,15 @@ fn input_ranges(alloc: Global, lines: &[NodeLine], inputs: usize) -> Result<Vec<
     Ok(spans)
 }
 
-/// Whether a form takes anything of the states.
-fn has_states(form: &Form, inputs: usize) -> bool {
+/// Whether a form takes something of several states: of one alone no row says more than its unit row.
+fn has_several_states(form: &Form, inputs: usize) -> bool {
+    let mut has_one = false;
     for coef in form.coefs.as_slice().iter().skip(inputs) {
         if coef.m != 0 {
-            return true;
+            if has_one {
+                return true;
+            }
+            has_one = true;
         }
     }
     false
@@ -172,7 +176,7 @@ fn range_by_rows(
     let Some(form) = &line.form else {
         return Ok(None);
     };
-    if !has_states(form, standing.spans.len()) {
+    if !has_several_states(form, standing.spans.len()) {
         return Ok(None);
     }
     let Some(apart) = standing.apart(alloc, form.coefs.as_slice(), form.rest)? else {

@@ -92,6 +92,11 @@ impl Ahead {
         }
     }
 
+    /// Whether the row is clearly less than the first: what drives it may come late, through many states.
+    fn has_faded(&self, end: usize) -> bool {
+        total_size(self.row(end)) <= total_size(self.row(0)) >> 2
+    }
+
     /// Turns the sums of the drives before each row into the sums of those behind it.
     fn turn(&mut self, end: usize, halves: Halves) -> Option<()> {
         let lo = total(&self.lo, end, halves)?;
@@ -101,6 +106,15 @@ impl Ahead {
         }
         turn_ends(&mut self.hi, hi)
     }
+}
+
+/// How great all entries are together.
+fn total_size(row: &[i128]) -> u128 {
+    let mut total: u128 = 0;
+    for entry in row {
+        total = total.saturating_add(entry.unsigned_abs());
+    }
+    total
 }
 
 /// The same of the other ends.
@@ -152,7 +166,7 @@ pub fn look_ahead(alloc: Global, linear: &Linear, row: &[i128]) -> Result<Option
             return Ok(None);
         }
         let halves = ahead.halves(end);
-        if halves.are_over() || turn == DOUBLINGS {
+        if (halves.are_over() && ahead.has_faded(end)) || turn == DOUBLINGS {
             if !halves.shrink() || ahead.turn(end, halves).is_none() {
                 return Ok(None);
             }
