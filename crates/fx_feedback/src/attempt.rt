@@ -131,7 +131,7 @@ fn checked(
     Ok(certified)
 }
 
-/// An attempt with these grids.
+/// An attempt on these grids.
 fn attempted(alloc: Global, task: Task<'_>) -> Result<Option<Certified>, Memory>
     ensures { IfOk result (IsOffered task.entry.width task.entry.function.now) }
 {
@@ -145,7 +145,28 @@ fn attempted(alloc: Global, task: Task<'_>) -> Result<Option<Certified>, Memory>
     }
 }
 
-/// A certified program for a function with states, if one is found.
+/// The same on the coarser grids, the coarsest last.
+fn attempted_coarsely(alloc: Global, task: Task<'_>) -> Result<Option<Certified>, Memory>
+    ensures { IfOk result (IsOffered task.entry.width task.entry.function.now) }
+{
+    let coarse = Task {
+        grids: Grids::COARSE,
+        ..task
+    };
+    match attempted(alloc, coarse)? {
+        Some(found) => Ok(Some(found)),
+        None => {
+            let coarsest = Task {
+                grids: Grids::COARSEST,
+                ..task
+            };
+            let found = attempted(alloc, coarsest)?;
+            Ok(found)
+        }
+    }
+}
+
+/// A certified program for a function with states, if one is found: on the finest grids on which there is one.
 pub fn certify_states(
     alloc: Global,
     function: &Function,
@@ -161,5 +182,11 @@ pub fn certify_states(
         width,
         grids: Grids::FINE,
     };
-    attempted(alloc, task)
+    match attempted(alloc, task)? {
+        Some(found) => Ok(Some(found)),
+        None => {
+            let found = attempted_coarsely(alloc, task)?;
+            Ok(found)
+        }
+    }
 }
