@@ -1,4 +1,4 @@
-"""The functions with state of examples/states, and their bundles. For bench/states.py and bench/states_rows.py."""
+"""The functions with state of examples/states, and their bundles. For bench/states.py, states_rows.py and driven.py."""
 import glob
 import os
 import subprocess

@@ -1,6 +1,6 @@
 """Linear functions with state: their matrices, taken exactly from a source, and how far what is linear in the states may reach.
 
-For bench/states.py and bench/states_rows.py. Matrices are exact fractions. A reach is summed in whole numbers at 2^-160, so that
+For bench/states.py, states_rows.py and driven.py. Matrices are exact fractions. A reach is summed in whole numbers at 2^-160, so that
 what is lost on the way stays far below the figures that are printed.
 """
 from dataclasses import dataclass

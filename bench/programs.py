@@ -1,4 +1,6 @@
-"""Programs of bundles: their codes, and the worst error that the roundings of a linear one may add up to. For bench/states.py.
+"""Programs of bundles: their codes, and the worst error that the roundings of a linear one may add up to.
+
+For bench/states.py and driven.py, which takes the codes alone.
 
 The model is that of the certificate, with each rounding as a source of its own:
 

@@ -188,15 +188,19 @@ def outputs_of(step, function, rows, bits):
     return found
 
 
+def lost_of(linear):
+    """Returns for each output of a linear source what its exact output may be off by."""
+    count = len(linear.A)
+    once = [([int(k == j) for k in range(count)], (Fraction(0), Fraction(1))) for j in range(count)]
+    spread = [reach(row, linear.A, once, [0] * count) for row in linear.C]
+    # a next state loses below one unit at each row, a start too; the sum itself is rounded
+    return [Fraction(2 * (1 + 2 * math.ceil(ends[1] - ends[0])), 2 ** FINE) for ends in spread]
+
+
 def exact_outputs(source, rows, places):
     """Returns the outputs of all rows at 2^-FINE, and for each output what they may be off by."""
     if source.linear:
-        linear, count = source.linear, len(source.linear.A)
-        once = [([int(k == j) for k in range(count)], (Fraction(0), Fraction(1))) for j in range(count)]
-        spread = [reach(row, linear.A, once, [0] * count) for row in linear.C]
-        # a next state loses below one unit at each row, a start too; the sum itself is rounded
-        lost = [Fraction(2 * (1 + 2 * math.ceil(ends[1] - ends[0])), 2 ** FINE) for ends in spread]
-        return outputs_of(linear_step(linear, places), source.function, rows, FINE), lost
+        return outputs_of(linear_step(source.linear, places), source.function, rows, FINE), lost_of(source.linear)
     fine = outputs_of(formula_step(source.function, places, FINE), source.function, rows, FINE)
     finer = outputs_of(formula_step(source.function, places, FINER), source.function, rows, FINER)
     lost = [Fraction(1 + max(abs(a[j] - b[j]) for a, b in zip(fine, finer)), 2 ** FINE) for j in range(len(fine[0]))]
