@@ -378,9 +378,9 @@ def driven_of(fixd, case, options):
 
 def source_row(fixd, source, options, folder):
     """Returns for each width the output that is driven least far, None where there is no bundle, and the seconds."""
-    lost, row = lost_of(source.linear), []
-    for width in options.widths:
-        bundle = bundle_kept(source, width, folder) or bundle_made(fixd, source, width, folder, options.limit)[0]
+    bundles = [bundle_kept(source, width, folder) or bundle_made(fixd, source, width, folder, options.limit)[0] for width in options.widths]
+    lost, row = lost_of(source.linear) if any(bundles) else None, []
+    for bundle in bundles:
         start = time.monotonic()
         found = driven_of(fixd, case_of(fixd, source, bundle, lost), options) if bundle else []
         row.append((min(found, key=lambda output: output.error, default=None), time.monotonic() - start))
@@ -426,6 +426,8 @@ def main():
         for source in corpus(options.only):
             if source.linear and source.mark != "not found":
                 row = source_row(fixd, source, options, folder)
+                if not any(output for output, _ in row):
+                    continue
                 found.append((source, row))
                 print(source_line(source, row), f"{sum(seconds for _, seconds in row):.1f} s", file=sys.stderr, flush=True)
     text = table(found, options)
