@@ -96,19 +96,34 @@ fn magnitude_of(d: Dyadic) -> Option<i32> {
     i32::try_from(length.saturating_sub(i64::from(d.e))).ok()
 }
 
-/// `n / d` with about 30 significant bits and at most 40 binary places, for `d` other than zero.
-pub fn share_of(n: i128, d: i128) -> Option<Dyadic> {
-    if n == 0 || d == 0 {
-        return None;
-    }
+/// How many bits of a numerator and its denominator are used.
+const QUOTIENT_BITS: u32 = 62;
+
+/// `n / d` with about 30 significant bits and at most 40 binary places, where both have few bits and `d` is above zero.
+fn short_share(n: i128, d: i128) -> Option<Dyadic> {
     let top = i64::from(bits(n.unsigned_abs()));
     let bottom = i64::from(bits(d.unsigned_abs()));
     let e = (30_i64)
         .saturating_add(bottom)
         .saturating_sub(top)
         .clamp(0, 40) as u32;
-    let n = if d < 0 { n.checked_neg()? } else { n };
     let twice = left_fits(n, e.saturating_add(1))?;
-    let m = quotient(twice, d.checked_abs()?)?.checked_add(1)?;
+    let m = quotient(twice, d)?.checked_add(1)?;
     Some(lowest(floor_shift(m, 1), e))
+}
+
+/// `n / d` with about 30 significant bits and at most 40 binary places, unless one of them is 0. Of numbers that are too
+/// long to be moved up the last bits are left out.
+pub fn share_of(n: i128, d: i128) -> Option<Dyadic> {
+    let longest = bits(n.unsigned_abs()).max(bits(d.unsigned_abs()));
+    let over = longest.saturating_sub(QUOTIENT_BITS);
+    let numerator = floor_shift(n, over);
+    let denominator = floor_shift(d, over);
+    if numerator == 0 || denominator == 0 {
+        return None;
+    }
+    if denominator < 0 {
+        return short_share(numerator.checked_neg()?, denominator.checked_neg()?);
+    }
+    short_share(numerator, denominator)
 }
