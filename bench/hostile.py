@@ -1,0 +1,191 @@
+#!/usr/bin/env python3
+"""Gives `fixd` hostile files: hostile.py [--seconds S] [--search] [PROGRAM [PART ..]]
+
+Tested is that each text gets its one answer, and that no text makes `check` work for long: it gets no budget, and its work is bounded by the
+text alone. The parts are
+
+- `edits`: one line of the first example's bundle made wrong, and the kind and line that docs/formats.md gives;
+- `cuts`: that bundle cut behind each of its lines;
+- `lines`: 64 MiB of the lines of each section of a bundle, and of bytes that are nothing;
+- `sources`: texts of a megabyte for `synth` that open, nest, repeat or end wrongly;
+- `costly`: the accepted bundles of costly.py and bundles.py, which make a checker work as much as they can.
+
+A fault is another status, line or output than is due, a signal, or more than S seconds of the processor (2 without it; a program that isn't optimised needs
+more). With `--search` a source of 4,000 nodes is searched with 100,000 tries, and the seconds until it ends are told. The script ends
+with 1 where there is a fault. Outside the gate: it needs a built program, and 1 GiB of memory.
+"""
+import os
+import re
+import resource
+import subprocess
+import sys
+import tempfile
+
+from search import source as long_source
+
+HERE = os.path.dirname(os.path.abspath(__file__))
+HALF = os.path.join(HERE, "..", "examples", "half", "half.bundle")
+AVERAGE = os.path.join(HERE, "..", "examples", "average", "average.bundle")
+MOST = 67108864
+
+# the line that is made wrong, its text, and the fault
+EDITS = [
+    (2, "source 100000", "Section at line 2"), (2, "source 63", "Section at line 2"), (11, "sizes 1 0 1 4001", "TooMany at line 11"),
+    (12, "in 0 63", "OutOfRange at line 12"), (13, "const 02048 12", "BadNumber at line 13"), (14, "add 0 2 0 0", "OutOfRange at line 14"),
+    (21, "plain 0:0 2:1 -1:12 0:0", "BadNumber at line 21"), (21, "plain 0:0 1:97 -1:12 0:0", "OutOfRange at line 21"),
+    (21, "plain 0:0 4611686018427387904:0 -1:12 0:0", "OutOfRange at line 21"), (25, "End", "Section at line 25"),
+]
+
+
+class Judge:
+    """A program, and what it answers to files."""
+
+    def __init__(self, program, seconds, folder):
+        self.program, self.seconds, self.folder, self.faults = program, seconds, folder, 0
+
+    def call(self, words, data):
+        """Status, output, line, and seconds of the processor of a call on a file of these bytes."""
+        path = os.path.join(self.folder, "file")
+        with open(path, "wb") as file:
+            file.write(data)
+        before = resource.getrusage(resource.RUSAGE_CHILDREN)
+        ran = subprocess.run([self.program, *words, path], stdin=subprocess.DEVNULL, capture_output=True)
+        after = resource.getrusage(resource.RUSAGE_CHILDREN)
+        used = after.ru_utime + after.ru_stime - before.ru_utime - before.ru_stime
+        return ran.returncode, ran.stdout, ran.stderr.decode("utf-8", "replace"), used
+
+    def judge(self, what, words, data, status, answer):
+        """One line of the table. `answer` is a pattern of the line, or at status 0 of the output."""
+        came, output, line, used = self.call(words, data)
+        told = output.decode("utf-8", "replace") if status == 0 else line
+        right = came == status and re.fullmatch(answer, told, re.DOTALL) is not None and (line == "" if status == 0 else output == b"")
+        slow = used > self.seconds
+        self.faults += (not right) + slow
+        wrong = "" if right else f" FAULT: has to be {status}"
+        late = f" FAULT: more than {self.seconds:g} s" if slow else ""
+        print(f"| {what} | {len(data):,} | {used:.3f} | {came} | {told.strip().splitlines()[-1][:80] if told.strip() else ''}{wrong}{late} |", flush=True)
+
+    def bundle(self, what, data, fault):
+        """A text that is no bundle, by this fault."""
+        self.judge(what, ["check"], data, 4, re.escape(f"fixd: bundle: {fault}\n"))
+
+
+def head(title):
+    print(f"\n{title}\n\n| what | bytes | seconds | status | |\n|---|---|---|---|---|")
+
+
+def half_lines():
+    with open(HALF, "rb") as file:
+        return file.read().splitlines(keepends=True)
+
+
+def try_edits(judge):
+    """One line is made wrong."""
+    head("One wrong line")
+    for number, line, fault in EDITS:
+        made = half_lines()
+        made[number - 1] = line.encode() + b"\n"
+        judge.bundle(f"line {number}: `{line}`", b"".join(made), fault)
+
+
+def try_cuts(judge):
+    """The bundle ends early: behind each line."""
+    head("Cut behind a line")
+    for count in range(25):
+        kind = f"Section at line {count + 1}" if count in (0, 1, 6, 15, 24) else f"BadLine at line {count + 1}"
+        judge.bundle(f"{count} lines", b"".join(half_lines()[:count]), "Section at line 2" if 2 <= count <= 5 else kind)
+
+
+def filled(front, line, size=MOST):
+    """A text that begins so and goes on with one line over and over."""
+    return front + line * ((size - len(front)) // len(line))
+
+
+def try_lines(judge):
+    """Each section has lines without end: they are read up to the first that can't be there, or the first field that can't."""
+    head("64 MiB of the lines of a section")
+    lines = half_lines()
+    def front(count, *more):
+        return b"".join(lines[:count]) + b"".join(more)
+    path = b"01" * 100
+    pairs = b"".join(b" %d 1:0" % row for row in range(512))
+    starts = open(AVERAGE, "rb").read().split(b"start ")[0]
+    for what, text, fault in [
+        ("`fixd bundle 1`", filled(b"", lines[0]), "Section at line 2"), ("a source", filled(b"fixd bundle 1\nsource 60000000\n", b"  x + 0.5\n"), "TooMany at line 2"),
+        ("codes", filled(front(10, b"sizes 1 0 1 4000\n", lines[11]), b"add 0 0 0 0\n"), "BadLine at line 4011"),
+        ("steps", filled(front(18, b"steps 10000\n"), b"step 1999 %s 30\n" % path), "BadLine at line 10020"),
+        ("start boxes", filled(starts, b"start 0:0 0:0 0:0 0:0\n"), f"BadLine at line {starts.count(10) + 2}"),
+        ("rows of 512 shares", filled(front(19, b"rows 512 512\n"), b"row 0:0 0:0 512%s\n" % pairs), "BadLine at line 1045"),
+        ("plain lines", filled(front(20), lines[20]), "Section at line 25"), ("`end`", filled(front(25), b"end\n"), "Extra at line 26"),
+        ("line feeds", filled(front(20), b"\n"), "BadLine at line 21"), ("zero bytes", filled(front(20), b"\0"), "BadLine at line 21"),
+        ("digits of a width", filled(front(8, b"width "), b"1") + b"\n", "BadNumber at line 9"),
+        ("digits of a dyadic", filled(front(20, b"plain "), b"9") + b":0 1:0 0:0 0:0\n", "OutOfRange at line 21"),
+        ("zeros of an exponent", filled(front(20, b"plain 1:"), b"0") + b"\n", "BadNumber at line 21"),
+        ("letters of a name", filled(front(9, b"name "), b"f"), "BadLine at line 10"), ("blanks", filled(front(20, b"plain"), b" "), "BadLine at line 21")]:
+        judge.bundle(what, text[:MOST], fault)
+
+
+def try_sources(judge):
+    """Sources of about a megabyte."""
+    head("Sources")
+    front, words = "def f(x: Real): Real = { require(0 <= x && x <= 1) ", ["synth", "--width", "16", "--tries", "0"]
+    whole, million = front + "x }", 1000000
+    nested = "(" * 450000 + "0 <= x && x <= 1" + ")" * 450000
+    many = "".join(f"def f{k}(x: Real): Real = {{require(0<=x && x<=1) x}}\n" for k in range(20000))
+    spans = "".join(f" val t{k} = x" for k in range(60000))
+    for what, source, status, answer in [
+        ("comments opened in one another", "/*" * 500000, 3, f"EndOfText at byte {million}"), ("comments nested and closed", "/*" * 250000 + "*/" * 250000 + whole, 0, ""),
+        ("`(` in `require`", front[:33] + "(" * million, 3, f"EndOfText at byte {million + 33}"),
+        ("`(` and `)` in `require`", f"def f(x: Real): Real = {{ require({nested}) x }}", 0, ""), ("`(` in an expression", front + "(" * 500000, 3, "TooDeep at byte 251"),
+        ("minus signs", front + "-" * million + "x }", 3, "Unexpected at byte 52"), ("300,000 terms", front + "x+" * 300000 + "x }", 3, r"Too(Many|Deep) at byte \d+"),
+        ("a name of a megabyte", front + "y" * million + " }", 3, "UnknownName at byte 51"), ("20,000 functions", many, 3, "WhichFunction at byte 0"),
+        ("the same name 20,000 times", whole * 18000, 3, r"NamedTwice at byte 58"), ("60,000 temps", front + spans + " x }", 3, r"TooMany at byte \d+"),
+        ("digits of a number", front + "1" * million + " }", 3, "NumberTooLong at byte 51"), ("a letter behind digits", front + "1" * million + "x }", 3, "BadNumber at byte 51"),
+        ("line feeds", front + "\n" * million + "x }", 0, ""), ("a zero byte at the end", whole + " " * million + "\0", 3, f"BadCharacter at byte {million + len(whole)}")]:
+        due = rf"fixd: source: {answer}\n" if status else "fixd bundle 1\n.*end\n"
+        judge.judge(what, words, source.encode(), status, due)
+    judge.judge("a byte that isn't UTF-8 at the end", words, whole.encode() + b" " * million + b"\xff", 3, rf"fixd: source: BadUtf8 at byte {million + len(whole)}\n")
+
+
+def made(script, kind):
+    return subprocess.run([sys.executable, os.path.join(HERE, script), kind], stdout=subprocess.PIPE, check=True).stdout
+
+
+def try_costly(judge):
+    """Bundles that are accepted and cost as much as they can, but for one whose last line is wrong."""
+    head("Bundles made to cost")
+    for script, kind in [("bundles.py", "plain"), ("bundles.py", "forms"), ("bundles.py", "steps"), ("costly.py", "name"), ("costly.py", "temps"),
+                         ("costly.py", "quotients"), ("costly.py", "copies"), ("costly.py", "great"), ("costly.py", "rows"), ("costly.py", "shares")]:
+        judge.judge(f"`{kind}`", ["check"], made(script, kind), 0, r"accepted\nout1 \d+(/2\^\d+)?\n")
+    text = made("bundles.py", "long")
+    judge.judge("`long`", ["check"], text, 4, r"fixd: bundle: Section at line \d+\n")
+
+
+def try_search(judge):
+    """A search that has much to try ends when its budget is spent."""
+    head("A search of 100,000 tries")
+    for nodes in (500, 1500, 3990):
+        judge.judge(f"about {nodes} nodes", ["synth", "--width", "32", "--tries", "100000"], long_source(nodes).encode(), 0, "fixd bundle 1\n.*end\n")
+
+
+def main():
+    words, seconds, searched = sys.argv[1:], 2.0, False
+    if words[:1] == ["--seconds"]:
+        seconds, words = float(words[1]), words[2:]
+    if words[:1] == ["--search"]:
+        searched, words = True, words[1:]
+    program = words[0] if words else os.path.join(HERE, "..", "build", "fixd")
+    parts = {"edits": try_edits, "cuts": try_cuts, "lines": try_lines, "sources": try_sources, "costly": try_costly}
+    with tempfile.TemporaryDirectory() as folder:
+        judge = Judge(os.path.abspath(program), seconds, folder)
+        for name in words[1:] or ([] if searched else parts):
+            parts[name](judge)
+        if searched:
+            judge.seconds = float("inf")
+            try_search(judge)
+    print(f"\n{judge.faults} faults")
+    sys.exit(1 if judge.faults else 0)
+
+
+if __name__ == "__main__":
+    main()
