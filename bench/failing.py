@@ -10,7 +10,7 @@ turn, by an error of the system. Tested is that the run ends
   FILE was only interrupted, or where the run has no call of this number.
 
 A fault is any other status, output or line, and is shown with the command that repeats it; the script then ends with 1. Outside the gate: it needs a built program, `cc`,
-and the GNU C library, and works with no program that has the address sanitizer.
+and the GNU C library.
 """
 import errno
 import os
@@ -54,7 +54,7 @@ class Failing:
         """Status, output and line of a run."""
         with open(self.rows, "wb") as file:
             file.write(data)
-        settings = {**os.environ, **self.settings(kind, at, error), "LD_PRELOAD": self.library, "FAIL_REPORT": self.report}
+        settings = {"ASAN_OPTIONS": "verify_asan_link_order=0", **os.environ, **self.settings(kind, at, error), "LD_PRELOAD": self.library, "FAIL_REPORT": self.report}
         with open(self.rows, "rb") as source:
             ran = subprocess.run([self.program, *words], stdin=source, capture_output=True, env=settings, timeout=600)
         return ran.returncode, ran.stdout, ran.stderr

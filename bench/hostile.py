@@ -125,26 +125,34 @@ def try_lines(judge):
         judge.bundle(what, text[:MOST], fault)
 
 
-def try_sources(judge):
+def sources(million):
+    """Texts of about so many bytes, and the status and answer of `synth` at each."""
+    front = "def f(x: Real): Real = { require(0 <= x && x <= 1) "
+    whole, half = front + "x }", million // 2
+    nested = "(" * half + "0 <= x && x <= 1" + ")" * half
+    many = "".join(f"def f{k}(x: Real): Real = {{require(0<=x && x<=1) x}}\n" for k in range(million // 55))
+    spans = "".join(f" val t{k} = x" for k in range(million // 17))
+    end = million + len(whole)
+    return [
+        ("comments opened in one another", "/*" * half, 3, f"EndOfText at byte {million}"),
+        ("comments nested and closed", "/*" * (half // 2) + "*/" * (half // 2) + whole, 0, ""),
+        ("`(` in `require`", front[:33] + "(" * million, 3, f"EndOfText at byte {million + 33}"),
+        ("`(` and `)` in `require`", f"def f(x: Real): Real = {{ require({nested}) x }}", 0, ""),
+        ("`(` in an expression", front + "(" * million, 3, "TooDeep at byte 251"), ("minus signs", front + "-" * million + "x }", 3, "Unexpected at byte 52"),
+        ("`x+x+..`", front + "x+" * half + "x }", 3, "TooMany at byte 0"), ("a name that nothing has", front + "y" * million + " }", 3, "UnknownName at byte 51"),
+        ("functions", many, 3, "WhichFunction at byte 0"), ("the same function over and over", whole * (million // len(whole)), 3, "NamedTwice at byte 58"),
+        ("temps", front + spans + " x }", 3, r"TooMany at byte \d+"), ("digits of a number", front + "1" * million + " }", 3, "NumberTooLong at byte 51"),
+        ("a letter behind digits", front + "1" * million + "x }", 3, "NumberTooLong at byte 51"), ("line feeds", front + "\n" * million + "x }", 0, ""),
+        ("blanks, and a zero byte", whole + " " * million + "\0", 3, f"BadCharacter at byte {end}"),
+        ("blanks, and a byte that isn't UTF-8", whole + " " * million + "\udcff", 3, f"BadUtf8 at byte {end}")]
+
+
+def try_sources(judge, million=1000000):
     """Sources of about a megabyte."""
     head("Sources")
-    front, words = "def f(x: Real): Real = { require(0 <= x && x <= 1) ", ["synth", "--width", "16", "--tries", "0"]
-    whole, million = front + "x }", 1000000
-    nested = "(" * 450000 + "0 <= x && x <= 1" + ")" * 450000
-    many = "".join(f"def f{k}(x: Real): Real = {{require(0<=x && x<=1) x}}\n" for k in range(20000))
-    spans = "".join(f" val t{k} = x" for k in range(60000))
-    for what, source, status, answer in [
-        ("comments opened in one another", "/*" * 500000, 3, f"EndOfText at byte {million}"), ("comments nested and closed", "/*" * 250000 + "*/" * 250000 + whole, 0, ""),
-        ("`(` in `require`", front[:33] + "(" * million, 3, f"EndOfText at byte {million + 33}"),
-        ("`(` and `)` in `require`", f"def f(x: Real): Real = {{ require({nested}) x }}", 0, ""), ("`(` in an expression", front + "(" * 500000, 3, "TooDeep at byte 251"),
-        ("minus signs", front + "-" * million + "x }", 3, "Unexpected at byte 52"), ("300,000 terms", front + "x+" * 300000 + "x }", 3, r"Too(Many|Deep) at byte \d+"),
-        ("a name of a megabyte", front + "y" * million + " }", 3, "UnknownName at byte 51"), ("20,000 functions", many, 3, "WhichFunction at byte 0"),
-        ("the same name 20,000 times", whole * 18000, 3, r"NamedTwice at byte 58"), ("60,000 temps", front + spans + " x }", 3, r"TooMany at byte \d+"),
-        ("digits of a number", front + "1" * million + " }", 3, "NumberTooLong at byte 51"), ("a letter behind digits", front + "1" * million + "x }", 3, "BadNumber at byte 51"),
-        ("line feeds", front + "\n" * million + "x }", 0, ""), ("a zero byte at the end", whole + " " * million + "\0", 3, f"BadCharacter at byte {million + len(whole)}")]:
+    for what, source, status, answer in sources(million):
         due = rf"fixd: source: {answer}\n" if status else "fixd bundle 1\n.*end\n"
-        judge.judge(what, words, source.encode(), status, due)
-    judge.judge("a byte that isn't UTF-8 at the end", words, whole.encode() + b" " * million + b"\xff", 3, rf"fixd: source: BadUtf8 at byte {million + len(whole)}\n")
+        judge.judge(what, ["synth", "--width", "16", "--tries", "0"], source.encode("utf-8", "surrogateescape"), status, due)
 
 
 def made(script, kind):

@@ -10,16 +10,11 @@
    program with the address sanitizer brings its own malloc, which no library comes before: its entries are turned to the
    functions here once `main` begins (on x86-64), so that its allocator still serves what isn't refused. */
 #define _GNU_SOURCE
-#include <dlfcn.h>
+#include "turn.h"
+
 #include <errno.h>
 #include <fcntl.h>
-#include <stddef.h>
-#include <stdint.h>
-#include <stdio.h>
 #include <stdlib.h>
-#include <string.h>
-#include <sys/mman.h>
-#include <unistd.h>
 
 void *__libc_malloc(size_t size);
 void *__libc_calloc(size_t count, size_t size);
@@ -80,37 +75,12 @@ int posix_memalign(void **block, size_t alignment, size_t size) {
     return 0;
 }
 
-/* turns an entry that is one jump to `mine` by way of `stub`, which lies near it; answers where it jumped before */
-static void *turned(unsigned char *entry, void *mine, unsigned char *stub) {
-    int32_t away;
-    if (!entry || entry[0] != 0xe9) return NULL;
-    memcpy(&away, entry + 1, 4);
-    void *before = entry + 5 + away;
-    memcpy(stub, "\xff\x25\0\0\0\0", 6);
-    memcpy(stub + 6, &mine, 8);
-    intptr_t there = stub - (entry + 5);
-    away = (int32_t)there;
-    uintptr_t page = (uintptr_t)entry & ~(uintptr_t)4095;
-    if (away != there || mprotect((void *)page, 8192, PROT_READ | PROT_WRITE | PROT_EXEC)) return NULL;
-    memcpy(entry + 1, &away, 4);
-    return before;
-}
-
-/* turns the entries of a malloc and a realloc that the program brings, which are all that `fixd` calls */
-static void turn_sanitizer(void) {
-    unsigned char *entry = dlsym(RTLD_DEFAULT, "malloc");
-    Dl_info found, ours;
-    if (!dladdr(entry, &found) || !dladdr(&report, &ours) || found.dli_fbase == ours.dli_fbase) return;
-    void *near = (void *)(((uintptr_t)entry & ~(uintptr_t)4095) + (64 << 20));
-    unsigned char *stubs = mmap(near, 4096, PROT_READ | PROT_WRITE | PROT_EXEC, MAP_PRIVATE | MAP_ANONYMOUS, -1, 0);
-    void *made = stubs == MAP_FAILED ? NULL : turned(entry, our_malloc, stubs);
-    void *grown = made ? turned(dlsym(RTLD_DEFAULT, "realloc"), our_realloc, stubs + 32) : NULL;
-    if (!grown) {
-        fprintf(stderr, "refuse: the program's own malloc can't be turned\n");
-        _exit(99);
-    }
-    next_malloc = (void *(*)(size_t))made;
-    next_realloc = (void *(*)(void *, size_t))grown;
+/* turns malloc and realloc, which are all that `fixd` calls, where the program brings its own */
+static void turn_own(void) {
+    if (!is_brought("malloc", &report)) return;
+    unsigned char *stubs = stubs_near("malloc");
+    next_malloc = (void *(*)(size_t))turned("malloc", our_malloc, stubs);
+    next_realloc = (void *(*)(void *, size_t))turned("realloc", our_realloc, stubs + 32);
 }
 
 /* writes the count once, where it is asked for */
@@ -130,7 +100,7 @@ static int counted_main(int count, char **words, char **environment) {
     refused_at = at ? strtoul(at, NULL, 10) : 0;
     all_behind = getenv("REFUSE_ALL") != NULL;
     report = getenv("REFUSE_REPORT");
-    turn_sanitizer();
+    turn_own();
     counting = 1;
     int status = first_main(count, words, environment);
     tell();
