@@ -96,14 +96,11 @@ def try_cuts(judge):
         judge.bundle(f"{count} lines", b"".join(half_lines()[:count]), "Section at line 2" if 2 <= count <= 5 else kind)
 
 
-def filled(front, line, size=MOST):
-    """A text that begins so and goes on with one line over and over."""
-    return front + line * ((size - len(front)) // len(line))
-
-
-def try_lines(judge):
+def try_lines(judge, most=MOST):
     """Each section has lines without end: they are read up to the first that can't be there, or the first field that can't."""
     head("64 MiB of the lines of a section")
+    def filled(front, line, tail=b""):
+        return front + line * ((most - len(front) - len(tail)) // len(line)) + tail
     lines = half_lines()
     def front(count, *more):
         return b"".join(lines[:count]) + b"".join(more)
@@ -118,11 +115,11 @@ def try_lines(judge):
         ("rows of 512 shares", filled(front(19, b"rows 512 512\n"), b"row 0:0 0:0 512%s\n" % pairs), "BadLine at line 1045"),
         ("plain lines", filled(front(20), lines[20]), "Section at line 25"), ("`end`", filled(front(25), b"end\n"), "Extra at line 26"),
         ("line feeds", filled(front(20), b"\n"), "BadLine at line 21"), ("zero bytes", filled(front(20), b"\0"), "BadLine at line 21"),
-        ("digits of a width", filled(front(8, b"width "), b"1") + b"\n", "BadNumber at line 9"),
-        ("digits of a dyadic", filled(front(20, b"plain "), b"9") + b":0 1:0 0:0 0:0\n", "OutOfRange at line 21"),
-        ("zeros of an exponent", filled(front(20, b"plain 1:"), b"0") + b"\n", "BadNumber at line 21"),
+        ("digits of a width", filled(front(8, b"width "), b"1", b"\n"), "OutOfRange at line 9"),
+        ("digits of a dyadic", filled(front(20, b"plain "), b"9", b":0 1:0 0:0 0:0\n"), "OutOfRange at line 21"),
+        ("zeros of an exponent", filled(front(20, b"plain 1:"), b"0", b" 1:0 0:0 0:0\n"), "BadNumber at line 21"),
         ("letters of a name", filled(front(9, b"name "), b"f"), "BadLine at line 10"), ("blanks", filled(front(20, b"plain"), b" "), "BadLine at line 21")]:
-        judge.bundle(what, text[:MOST], fault)
+        judge.bundle(what, text, fault)
 
 
 def sources(million):
