@@ -9,7 +9,6 @@ script ends with 1 where there is a fault. Outside the gate: it needs a built pr
 as another user and fills a file system of 4 KiB.
 """
 import contextlib
-import errno
 import fcntl
 import itertools
 import os
@@ -137,7 +136,13 @@ def try_signals(table, _):
               [signal.SIGHUP, signal.SIGINT, signal.SIGTERM, signal.SIGUSR1, signal.SIGALRM], {0: PAGE}),
              ("SIGTERM", [signal.SIGTERM], [], {-signal.SIGTERM: PAGE[:9]}), ("SIGINT", [signal.SIGINT], [], {-signal.SIGINT: PAGE[:9]})]
     for name, sent, ignored, ends in pairs:
-        child = table.start(["run", AVERAGE], stdin=subprocess.PIPE, preexec_fn=lambda: [signal.signal(s, signal.SIG_IGN) for s in ignored])
+        def begin():
+            # a shell in the background leaves SIGINT ignored
+            for number in (signal.SIGINT, signal.SIGTERM):
+                signal.signal(number, signal.SIG_DFL)
+            for number in ignored:
+                signal.signal(number, signal.SIG_IGN)
+        child = table.start(["run", AVERAGE], stdin=subprocess.PIPE, preexec_fn=begin)
         os.write(child.stdin.fileno(), ROWS[:4])
         page = line_within(child.stdout, 20) + line_within(child.stdout, 20)
         for _ in range(20 if 0 in ends else 1):

@@ -9,11 +9,15 @@ without it), a sample spread over all of them is refused, and the table says so.
 - with 8 and `fixd: out of memory`, and a front of that run's output; or
 - where the standard library met the refusal while it read or wrote, with 6 or 7 and its line, and such a front.
 
+`limits` is `check` of a bundle of 2 MB under limits on all memory (RLIMIT_AS) from 3,000 to 40,000 KiB, which ends in the first or the second of these
+ways, once there is enough for the program to begin.
+
 Anything else is a fault: a signal, another status or line, other output, or one that isn't over after ten minutes. It is shown with the command that
-repeats it, and the script ends with 1. A RUN is one of the names in the table; without one, all are made. Outside the gate: it needs a
-built program, `cc`, and the GNU C library.
+repeats it, and the script ends with 1. A RUN is one of the names in the table, or `limits`; without one, all are made. Outside the gate: it
+needs a built program, `cc`, and the GNU C library.
 """
 import os
+import resource
 import subprocess
 import sys
 import tempfile
@@ -128,6 +132,37 @@ def refuse(refuser, name, words, rows, most):
     return faults
 
 
+def limited(program, path, limit):
+    """Status, output and line of `check` where all memory is limited to so many KiB; status 127 where the program can't begin."""
+    def narrow():
+        resource.setrlimit(resource.RLIMIT_AS, (limit * 1024, limit * 1024))
+    try:
+        ran = subprocess.run([program, "check", path], stdin=subprocess.DEVNULL, capture_output=True, preexec_fn=narrow)
+    except (OSError, subprocess.SubprocessError):
+        return 127, b"", b""
+    return ran.returncode, ran.stdout, ran.stderr
+
+
+def try_limits(program, folder):
+    """Prints how `check` ends under each limit, and gives the count of faults."""
+    path, ends, faults = os.path.join(folder, "forms"), Counter(), 0
+    with open(path, "wb") as file:
+        subprocess.run([sys.executable, os.path.join(HERE, "bundles.py"), "forms"], stdout=file, check=True)
+    if limited(program, path, 1048576)[0] != 0:
+        print("limits: left out, since this program can't begin with a GiB")
+        return 0
+    whole = limited(program, path, 1048576)
+    for limit in range(3000, 40001, 500):
+        seen = limited(program, path, limit)
+        end = "not begun" if seen[0] == 127 and ends.keys() <= {"not begun"} else ending(whole, seen)
+        ends[end] += 1
+        if end not in ("not begun", "8", "whole"):
+            faults += 1
+            print(f"FAULT: {seen} within {limit} KiB")
+    print("limits: " + ", ".join(f"{count} {end}" for end, count in ends.items()))
+    return faults
+
+
 def main():
     words, most = sys.argv[1:], 3000
     if words[:1] == ["--most"]:
@@ -140,6 +175,8 @@ def main():
         for name, called, rows in runs(folder):
             if not words[1:] or name in words[1:]:
                 faults += refuse(refuser, name, called, rows, most)
+        if not words[1:] or "limits" in words[1:]:
+            faults += try_limits(refuser.program, folder)
     sys.exit(1 if faults else 0)
 
 
