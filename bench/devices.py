@@ -1,11 +1,11 @@
 #!/usr/bin/env python3
-"""Runs `fixd` against real devices that stall, fail, fill up, go away or change: devices.py [PROGRAM]
+"""Runs `fixd` against real devices that stall, fail, fill up, go away or change: devices.py [--long] [PROGRAM]
 
 Tested is what docs/messages.md and docs/formats.md say of a failed read or write, on pipes, files and devices of the system: which
 status and line come, and what stands on the output. A line of the table says what was done, what has to come, and what came. A fault is
 any other status, a line that isn't that status's, output that isn't what is due (or, where a front of it is due, no front), an
 answer that comes later than the row before it was whole, or a run that hangs. Where the page leaves several ends open, all are named. The
-script ends with 1 where there is a fault. Outside the gate: it needs a built program and Linux; as root, it also reads a file
+script ends with 1 where there is a fault. With `--long` an input of 1 GiB and of a byte more come too, some minutes. Outside the gate: it needs a built program and Linux; as root, it also reads a file
 as another user and fills a file system of 4 KiB.
 """
 import contextlib
@@ -461,13 +461,30 @@ def try_changes(table, folder):
             table.row(f"a FILE that {name} while it is read, {seen.count(once)} of {times}", once, ends)
 
 
+def try_long(table, _):
+    """An input that is as long as it may be, and one that is a byte longer: both are blank behind two lines."""
+    for size, status in ((1 << 30, 0), ((1 << 30) + 1, 10)):
+        child = table.start(["run", AVERAGE], stdin=subprocess.PIPE)
+        block, left = b"\n" * 65536, size - len(ROWS)
+        with contextlib.suppress(BrokenPipeError), child.stdin:
+            child.stdin.write(ROWS)
+            while left:
+                left -= child.stdin.write(block[:left])
+        child.stdin = None
+        table.row(f"an input of {size:,} bytes", table.end(child), {status: PAGE}, front=status == 10)
+
+
 def main():
-    program = sys.argv[1] if len(sys.argv) > 1 else os.path.join(HERE, "..", "build", "fixd")
+    words = sys.argv[1:]
+    parts = [try_pieces, try_stalled_input, try_signals, try_other_inputs, try_full, try_readers, try_closed, try_notes, try_names, try_rights,
+             try_pipes, try_changes]
+    if words[:1] == ["--long"]:
+        words, parts = words[1:], [*parts, try_long]
+    program = words[0] if words else os.path.join(HERE, "..", "build", "fixd")
     if not os.access(program, os.X_OK):
         sys.exit("devices: build it first: make run")
     table = Table(os.path.realpath(program))
-    for part in (try_pieces, try_stalled_input, try_signals, try_other_inputs, try_full, try_readers, try_closed, try_notes, try_names, try_rights,
-                 try_pipes, try_changes):
+    for part in parts:
         with tempfile.TemporaryDirectory() as folder:
             os.chmod(folder, 0o755)
             part(table, folder)

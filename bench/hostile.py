@@ -159,18 +159,19 @@ def made(script, kind):
 def try_costly(judge):
     """Bundles that are accepted and cost as much as they can, but for one whose last line is wrong."""
     head("Bundles made to cost")
+    text = b""
     for script, kind in [("bundles.py", "plain"), ("bundles.py", "forms"), ("bundles.py", "steps"), ("costly.py", "name"), ("costly.py", "temps"),
                          ("costly.py", "quotients"), ("costly.py", "copies"), ("costly.py", "great"), ("costly.py", "rows"), ("costly.py", "shares")]:
-        judge.judge(f"`{kind}`", ["check"], made(script, kind), 0, r"accepted\nout1 \d+(/2\^\d+)?\n")
-    text = made("bundles.py", "long")
-    judge.judge("`long`", ["check"], text, 4, r"fixd: bundle: Section at line \d+\n")
+        text = made(script, kind)
+        judge.judge(f"`{kind}`", ["check"], text, 0, r"accepted\nout1 \d+(/2\^\d+)?\n")
+    judge.bundle("`shares`, with another last line, so that it is read alone", text[:-4] + b"fin\n", f"Section at line {text.count(10)}")
 
 
 def try_search(judge):
     """A search that has much to try ends when its budget is spent."""
     head("A search of 100,000 tries")
-    for nodes in (500, 1500, 3990):
-        judge.judge(f"about {nodes} nodes", ["synth", "--width", "32", "--tries", "100000"], long_source(nodes).encode(), 0, "fixd bundle 1\n.*end\n")
+    for asked, nodes in ((150, 158), (460, 494), (1500, 1614), (3700, 3980)):
+        judge.judge(f"{nodes:,} nodes", ["synth", "--width", "32", "--tries", "100000"], long_source(asked).encode(), 0, "fixd bundle 1\n.*end\n")
 
 
 def main():
