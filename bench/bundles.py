@@ -182,4 +182,5 @@ def long():
 
 
 KINDS = {"columns": columns, "plain": plain_nodes, "forms": forms, "rows": rows, "steps": steps, "long": long}
-sys.stdout.write(KINDS[sys.argv[1]]())
+if __name__ == "__main__":
+    sys.stdout.write(KINDS[sys.argv[1]]())
