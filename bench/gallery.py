@@ -33,7 +33,7 @@ HEAD = """# Gallery
 Made by `bench/gallery.py` with {rows:,} rows a function, random ones and corners of the ranges; {when}. For each example and width:
 how many nodes it has, the certified bound of the program as it is written (`--tries 0`) and of the one that `synth` finds
 (`--tries 200`), the greatest error seen of the latter, as a part of its bound, how long `synth` took, and Gappa's bound of the former
-program{gappa}. In a picture the line above and below is the bound, and each stroke the greatest and least error that was
+program, which knows nothing of errors that inputs are given with{gappa}. In a picture the line above and below is the bound, and each stroke the greatest and least error that was
 seen where the first input had that value. Errors are those of the outputs against exact values; nothing rounds in the comparison.
 
 | function | bits | nodes | bound as written | bound found | error seen | of the bound | seconds | Gappa |
