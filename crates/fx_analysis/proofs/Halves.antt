@@ -13,9 +13,6 @@ use Rattle.fx_analysis.proofs.Narrows.{half_of}
 use Rattle.fx_analysis.proofs.Spelling.{even_double, doubled, trim_even, trim_odd}
 
 -- ---- one place more
-pub double_power : (i : ℕ) → 2 ^ (i + 1) ≡ 2 ^ i + 2 ^ i
-double_power i = let e = pow-add 2 i 1 in omega (arith, e)
-
 pub place_zero : (r p q f d l : ℕ) → q ≡ p + p → r * p ≡ f * d + l → r * q ≡ (f + f) * d + (l + l)
 place_zero r p q f d l e h = rw e (omega (arith, h))
 

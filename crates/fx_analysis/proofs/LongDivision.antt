@@ -9,6 +9,7 @@ use Rattle.fx_algebra.proofs.Quote.{by_quotes, quotes}
 use Rattle.fx_rational.specs.Rational.{floor_div}
 use Rattle.fx_rational.proofs.Floors.{floor_is}
 use Rattle.fx_model.specs.LawfulProgram.{IsPoint}
+use Rattle.fx_fraction.proofs.Halvings.{split_power, less_times}
 use Rattle.fx_analysis.specs.Narrow.{is_even, is_small, lowest_dyadic}
 use Rattle.fx_analysis.specs.PlainErrors.{error_grid}
 use Rattle.fx_analysis.specs.Wide.{units_below}
@@ -17,14 +18,8 @@ use Rattle.fx_analysis.proofs.Narrows.{half_of}
 use Rattle.fx_analysis.proofs.Ends.{floor_only, whole_places}
 
 -- ---- a factor that both have
-pub split_power : (s e : ℕ) → s ≤ e → 2 ^ (e - s) * 2 ^ s ≡ 2 ^ e
-split_power s e h = let k : (e - s) + s ≡ e = omega (arith, h) in sym (pow-add 2 (e - s) s) ∙ ap (λ (n : ℕ). 2 ^ n) k
-
 spread : (q d k r : ℤ) → (q *ℤ d +ℤ r) *ℤ k ≡ q *ℤ (d *ℤ k) +ℤ r *ℤ k
 spread q d k r = by_quotes {ρ = q ∷ d ∷ k ∷ r ∷ []} (search quotes depth 20) (search quotes depth 20) refl
-
-pub less_times : (r d k : ℕ) → r < d → 0 < k → r * k < d * k
-less_times r d k h some = let m = mul-le (suc r) k d k h (omega arith) in omega (arith, m, some)
 
 -- what a floor leaves
 abbrev pub left_of : ℤ → ℕ → ℕ

@@ -13,43 +13,9 @@ use Rattle.fx_rational.specs.Dyadic.{dyadic}
 use Rattle.fx_rational.proofs.Lowest.{size-neg_ℤ}
 use Rattle.fx_analysis.specs.Narrow.{is_even, lowest_dyadic}
 use Rattle.fx_analysis.proofs.Ends.{floor_only}
-use Rattle.fx_analysis.proofs.Halves.{double_power, halves, is_even_double}
-use Rattle.fx_analysis.proofs.LongDivision.{split_power}
+use Rattle.fx_analysis.proofs.Halves.{halves, is_even_double}
+use Rattle.fx_fraction.proofs.Halvings.{halved, split_power}
 use Rattle.fx_analysis.proofs.Spelling.{doubled, trim_zero, trim_even, trim_odd}
-
--- ---- halved as often as s
-pub record Halved (k n s : ℕ) : Type 0 where
-  pub rest : ℕ
-  pub is : n ≡ rest * 2 ^ s
-  pub odd : s ≡ count_trailing_zeros k n → s < k → rest % 2 ≡ 1
-
-once : (n : ℕ) → n ≡ n * 2 ^ 0
-once n = omega arith
-
-twice : (n q s : ℕ) → n % 2 ≡ 0 → n / 2 ≡ q * 2 ^ s → n ≡ q * 2 ^ suc s
-twice n q s even half =
-    let d = div-add-mod' n 2 in let one : suc s ≡ s + 1 = omega arith in let p : 2 ^ suc s ≡ 2 ^ s + 2 ^ s = ap (λ (k : ℕ). 2 ^ k) one ∙ double_power s in
-    let e : q * 2 ^ suc s ≡ q * 2 ^ s + q * 2 ^ s = ap (λ (k : ℕ). q * k) p ∙ (let m : q * (2 ^ s + 2 ^ s) ≡ q * 2 ^ s + q * 2 ^ s = grind arith in m) in
-    omega (arith, d, even, half, e)
-
-pub halved : (k n s : ℕ) → s ≤ count_trailing_zeros k n → Halved k n s
-unfolding count_trailing_zeros
-halved zero n zero l = record { rest = n; is = once n; odd = λ _ h. absurd (omega (arith, h)) }
-halved zero n (suc s) l = absurd (omega (arith, l))
-halved (suc k) n zero l = record { rest = n; is = once n; odd = λ e _. by (n % 2) refl e }
-  where
-    by : (d : ℕ) → n % 2 ≡ d → 0 ≡ under d (count_trailing_zeros k (n / 2)) → n % 2 ≡ 1
-    by zero h e = absurd (omega (arith, e))
-    by (suc d) h e = let m = mod_below n 2 (omega arith) in omega (arith, h, m)
-halved (suc k) n (suc s) l = by (n % 2) refl l (halved k (n / 2) s)
-  where
-    by : (d : ℕ) → n % 2 ≡ d → suc s ≤ under d (count_trailing_zeros k (n / 2)) → (s ≤ count_trailing_zeros k (n / 2) → Halved k (n / 2) s) → Halved (suc k) n (suc s)
-    by zero h l half = let r = half (omega (arith, l)) in record {
-      rest = r.rest;
-      is = twice n r.rest s h r.is;
-      odd = λ e lt. r.odd (let f : suc s ≡ suc (count_trailing_zeros k (n / 2)) = e ∙ ap (λ (d : ℕ). under d (count_trailing_zeros k (n / 2))) h in omega (arith, f)) (omega (arith, lt));
-    }
-    by (suc d) h l half = absurd (omega (arith, l))
 
 -- a whole number of this size
 signed : (m : ℤ) (r p : ℕ) → unsigned_abs m ≡ r * p → (z : ℤ) × (m ≡ z *ℤ pos p) × (unsigned_abs z ≡ r)
@@ -125,38 +91,5 @@ pub no_places : (w : ℤ) (f q s e : ℕ) → f < 2 ^ s → s ≤ e → f ≡ q 
 no_places w f zero s e few low is = trim_times w s e low ∙ ap (λ (z : ℤ). lowest_dyadic z e) (omega (arith, ints, is))
 no_places w f (suc q) s e few low is = absurd (omega (arith, few, is))
 
-shifted_is : (f q t : ℕ) → f ≡ q * 2 ^ t → f / 2 ^ t ≡ q
-shifted_is f q t is = let p = pow_pos t in let e : f ≡ q * 2 ^ t + 0 = omega (arith, is) in ap (λ (n : ℕ). n / 2 ^ t) e ∙ div-mul-add q (2 ^ t) 0 p
-
-few_left : (f q t s : ℕ) → t ≤ s → f < 2 ^ s → f ≡ q * 2 ^ t → q < 2 ^ (s - t)
-few_left f q t s fits few is = by (q < 2 ^ (s - t)) (below q (2 ^ (s - t)))
-  where
-    below : (a b : ℕ) → (a < b) ⊎ (b ≤ a)
-    below a b = grind arith
-
-    by : (G : Type 0) → G ⊎ (2 ^ (s - t) ≤ q) → G
-    by G (inl h) = h
-    by G (inr h) = absurd (let p = split_power t s fits in let m = mul-le (2 ^ (s - t)) (2 ^ t) q (2 ^ t) h (omega arith) in omega (arith, few, is, p, m))
-
-odd_left : (q : ℕ) → q % 2 ≡ 1 → (q % 2 == 0) ≡ false
+pub odd_left : (q : ℕ) → q % 2 ≡ 1 → (q % 2 == 0) ≡ false
 odd_left q odd = ap (λ (k : ℕ). k == 0) odd
-
--- places that don't all end in zeros, without those zeros
-pub record Parts (f s t : ℕ) : Type 0 where
-  pub rest : ℕ
-  pub is : f ≡ rest * 2 ^ t
-  pub shifted : f / 2 ^ t ≡ rest
-  pub odd : (rest % 2 == 0) ≡ false
-  pub few : rest < 2 ^ (s - t)
-  pub less : t < s
-
-pub parts : (f s t : ℕ) → f < 2 ^ s → s ≤ 126 → t ≡ min (count_trailing_zeros 128 f) s → (t ≡ s → ⊥) → Parts f s t
-parts f s t few most least other =
-    let h = halved 128 f t (omega (arith, least)) in let l : t < s = omega (arith, least, other) in record {
-      rest = h.rest;
-      is = h.is;
-      shifted = shifted_is f h.rest t h.is;
-      odd = odd_left h.rest (h.odd (omega (arith, least, l)) (omega (arith, l, most)));
-      few = few_left f h.rest t s (omega (arith, l)) few h.is;
-      less = l;
-    }

@@ -7,6 +7,8 @@ pub mod Reading
 pub mod Mantissas
 pub mod Quanta
 pub mod Tails
+pub mod Halvings
+pub mod Spelled
 pub mod Terms
 pub mod Ranges
 pub mod Numerals

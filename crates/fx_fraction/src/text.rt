@@ -1,13 +1,15 @@
 //! The decimal text of a word at a binary point.
 //!
-//! The whole part goes through `itoa`; behind the point each step of a long division gives one digit: ten times the
-//! rest over 2^(left + 1) is five times the rest over 2^left, so that 64 bits hold every step but the first at 62
-//! places. The division ends by itself, with a digit that isn't 0, since 2 divides 10.
+//! The whole part goes through `itoa`, and so do at most 18 digits behind the point: of an odd number over 2^places there
+//! are as many as places, and they are the number times 5^places. More digits come by long division, one at each step: ten
+//! times the rest over 2^(left + 1) is five times the rest over 2^left, so that 64 bits hold every step but the first at
+//! 62 places. The division ends by itself, with a digit that isn't 0, since 2 divides 10.
 
-ghost use Rattle.std.specs.Prelude.{◌≡◌, ◌+◌, ◌*◌, ◌-◌, ◌/◌, ◌%◌, ◌^◌, ◌≤◌, ◌<◌, ◌++◌, ◌∷◌, [], map, take, drop, length, decimal, pos, negsuc, neg_ℤ, ◌≤ℤ◌, ◌<ℤ◌, unsigned_abs};
+ghost use Rattle.std.specs.Prelude.{◌≡◌, ◌+◌, ◌*◌, ◌-◌, ◌/◌, ◌%◌, ◌^◌, ◌≤◌, ◌<◌, ◌++◌, ◌∷◌, [], map, take, drop, length, decimal, pos, negsuc, neg_ℤ, ◌≤ℤ◌, ◌<ℤ◌, unsigned_abs, ℕ};
 ghost use Rattle.fx_model.specs.WordText.{digits_after, pointed, size_text, minus_sign, decimal_text};
 
-use itoa::{Buffer, Integer};
+use crate::decimal::ten_to;
+use itoa::{Buffer, Integer, write_digits};
 
 /// Puts bytes at a place, and gives the place behind them.
 fn put(out: &mut [u8], at: usize, bytes: &[u8]) -> usize
@@ -41,6 +43,40 @@ fn put_number<I: Integer>(out: &mut [u8], at: usize, number: I) -> usize
     let mut buffer = Buffer::new();
     let text = buffer.format(number);
     put(out, at, text.as_bytes())
+}
+
+/// A whole number, which has one digit nearly always.
+fn put_whole(out: &mut [u8], at: usize, whole: u64) -> usize
+    requires { at + 40 ≤ length out.old }
+    ensures written { take result out.new ≡ take at out.old ++ decimal whole }
+    ensures rest { drop result out.new ≡ drop result out.old }
+    ensures end { (at ≤ result) × (result ≤ at + 40) }
+{
+    if whole < 10 {
+        put_byte(out, at, b'0' + whole as u8)
+    } else {
+        put_number(out, at, whole)
+    }
+}
+
+/// A point and the digits behind it of `rest / 2^places`.
+///
+/// `itoa` writes their number behind a one, so that no zero is lost, and the point takes the one's place.
+fn put_few(out: &mut [u8], at: usize, rest: u64, places: u32) -> usize
+    requires some { 0 < places }
+    requires few { places ≤ 18 }
+    requires below { rest < 2 ^ places }
+    requires odd { rest % 2 ≡ 1 }
+    requires room { at + places + 1 ≤ length out.old }
+    ensures written { (zeros : ℕ) → take result out.new ≡ take at out.old ++ pointed (digits_after (places + zeros) (rest * 2 ^ zeros)) }
+    ensures rest { drop result out.new ≡ drop result out.old }
+    ensures end { result ≡ at + places + 1 }
+{
+    let power = ten_to(places as u8);
+    let end = at + places as usize + 1;
+    write_digits(power + rest * (power >> places), out, end);
+    put_byte(out, at, b'.');
+    end
 }
 
 /// The first digit behind the point of `rest / 2^(left + 1)`, and what is left over 2^left.
@@ -94,6 +130,11 @@ fn put_part(out: &mut [u8], at: usize, rest: u64, point: u32) -> usize
     if rest == 0 {
         return at;
     }
+    let zeros = rest.trailing_zeros();
+    let places = point - zeros;
+    if places <= 18 {
+        return put_few(out, at, rest >> zeros, places);
+    }
     let end = put_byte(out, at, b'.');
     put_digits(out, end, rest, point)
 }
@@ -112,7 +153,7 @@ fn put_size(out: &mut [u8], at: usize, size: u64, point: i32) -> usize
     if point < 0 {
         return put_number(out, at, u128::from(size) << shift);
     }
-    let end = put_number(out, at, size >> shift);
+    let end = put_whole(out, at, size >> shift);
     put_part(out, end, size & ((1 << shift) - 1), shift)
 }
 

@@ -18,7 +18,7 @@ returns-clause-written c =
     size_in_two (take c.args.at c.args.out.now) _ _ c.args.size c.args.point c.unsigned_abs-shift.result _ _
     (omega (arith, ints)) k refl
     (mask_is c.args.size c.unsigned_abs-shift.result (high_few c.args.point c.unsigned_abs-shift.result (omega (arith, ints)) c.requires.high k))
-    c.put_number-end.ensures.written c.put_part.ensures.written
+    c.put_whole-end.ensures.written c.put_part.ensures.written
 
 pub returns-clause-rest : goal.returns-clause-rest
-returns-clause-rest c = c.put_part.ensures.rest ∙ drop_later c.put_number-end.result c.put_part.result c.put_number-end.new.out c.args.out.now (omega (arith, c.put_part.ensures.end)) c.put_number-end.ensures.rest
+returns-clause-rest c = c.put_part.ensures.rest ∙ drop_later c.put_whole-end.result c.put_part.result c.put_whole-end.new.out c.args.out.now (omega (arith, c.put_part.ensures.end)) c.put_whole-end.ensures.rest
