@@ -1,5 +1,5 @@
 -- How many nodes a function has once a tree is exchanged.
-use Rattle.std.proofs.Common.{◌≡◌, ℕ, zero, suc, ◌+◌, ◌-◌, ◌≤◌, min, List, [], ◌∷◌, Option, Some, None, refl, sym, ap, subst, ◌∙◌, arith, length}
+use Rattle.std.proofs.Common.{◌≡◌, ℕ, zero, suc, ◌+◌, ◌-◌, ◌≤◌, min, List, [], ◌∷◌, Option, Some, None, refl, sym, subst, ◌∙◌, arith, length}
 use Rattle.std.specs.Prelude.{slice_get}
 use Rattle.std.specs.Option.{option_and_then}
 use Rattle.fx_model.specs.Tree as model
@@ -13,7 +13,6 @@ use Rattle.fx_model.proofs.Counted.{node_count_is}
 use Rattle.fx_expr.specs.LawfulFunction.{IsLawfulFunction}
 use Rattle.fx_expr.specs.FunctionOf.{function_of, IsFunction}
 use Rattle.fx_expr.specs.declared.function.Function.TheInside.{Inside}
-use Rattle.fx_expr.specs.declared.size.Size.{Size}
 use Rattle.fx_expr.specs.SizeOf.{size_counted, size_of}
 use Rattle.fx_expr.proofs.Sizes.{nodes_counted}
 
@@ -88,8 +87,8 @@ pub all_counted : (f : Function) (v a b n : ℕ) → v ≡ length f.inputs + len
 all_counted f v a b n p q r e few = let c = node_count_is f in omega arith
 
 -- the same of a function in memory
-pub replaced : (inside : Inside) (now : Function) (k : ℕ) (path : List ℕ) (old new : Tree) (a b : Size) → function_of inside ≡ now → IsFunction inside → IsLawfulFunction (with_tree now k path new) → found (function_of inside) k path ≡ Some old → a ≡ size_of old → b ≡ size_of new →
-    Recounted (function_of inside) k path new inside.nodes a.nodes b.nodes
+pub replaced : (inside : Inside) (now : Function) (k : ℕ) (path : List ℕ) (old new : Tree) (a b : ℕ) → function_of inside ≡ now → IsFunction inside → IsLawfulFunction (with_tree now k path new) → found (function_of inside) k path ≡ Some old →
+    ((t : Tree) → found now k path ≡ Some t → a ≡ (size_of t).nodes) → b ≡ (size_of new).nodes → Recounted (function_of inside) k path new inside.nodes a b
 replaced inside now k path old new a b same is lawful there p q =
-    recounted (function_of inside) k path old new inside.nodes a.nodes b.nodes there is.nodes is.lawful.sizes.nodes (subst (λ (f : Function). length (nodes_of (with_tree f k path new)) ≤ 4000) (sym same) lawful.sizes.nodes)
-    (ap (λ (s : Size). s.nodes) p) (ap (λ (s : Size). s.nodes) q)
+    recounted (function_of inside) k path old new inside.nodes a b there is.nodes is.lawful.sizes.nodes (subst (λ (f : Function). length (nodes_of (with_tree f k path new)) ≤ 4000) (sym same) lawful.sizes.nodes)
+    (p old (subst (λ (f : Function). found f k path ≡ Some old) same there)) q

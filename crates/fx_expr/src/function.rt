@@ -11,12 +11,12 @@ ghost use Rattle.fx_model.specs.Paths as paths;
 ghost use Rattle.fx_model.specs.Paths.{found, put, subtree, tree_at, temps_changed, results_changed, with_tree};
 ghost use Rattle.fx_expr.specs.LawfulFunction.{IsLawfulFunction};
 ghost use Rattle.fx_expr.specs.FunctionOf.{made_function};
+ghost use Rattle.fx_expr.specs.SizeOf.{size_of};
 
 use crate::count::{count_results, count_temps};
 use crate::expr::Expr;
 use crate::items::Items;
 use crate::parts::{Input, State, Temp};
-use crate::size::Size;
 use crate::trees::{exchange_in, tree_in};
 use fx_fraction::Decimal;
 use fx_name::Name;
@@ -143,15 +143,18 @@ impl Function {
     }
 
     /// Puts a tree in place of the subtree at a place and a path, and gives the subtree.
-    pub fn replace(&mut self, place: u32, path: &[u8], new: Expr) -> Expr
+    ///
+    /// Whoever judged the exchange knows how many nodes go and come, so neither tree is walked over again.
+    pub fn replace(&mut self, place: u32, path: &[u8], new: Expr, less: u32, more: u32) -> Expr
         requires there { IsSome (found self.old place path.now) }
         requires lawful { IsLawfulFunction (with_tree self.old place path.now (tree new)) }
+        requires less { (old : Tree) → found self.old place path.now ≡ Some old → less ≡ (size_of old).nodes }
+        requires more { more ≡ (size_of (tree new)).nodes }
         ensures function { self.new ≡ with_tree self.old place path.now (tree new) }
         ensures old { found self.old place path.now ≡ Some (tree result) }
     {
-        let more = Size::of(&new).nodes;
         let old = exchange_in(&mut self.temps, &mut self.results, place, path, new);
-        self.nodes = self.nodes - Size::of(&old).nodes + more;
+        self.nodes = self.nodes - less + more;
         old
     }
 

@@ -1,12 +1,14 @@
 -- When a step is refused, and by which fault.
-use Rattle.std.specs.Prelude.{◌≡◌, Option, Some, None}
+use Rattle.std.specs.Prelude.{◌≡◌, Some, None}
 use Rattle.fx_model.specs.Tree.{Tree}
 use Rattle.fx_model.specs.Function.{Function}
 use Rattle.fx_model.specs.Paths.{found, with_tree}
 use Rattle.fx_inequalities.specs.Rewriting.{Rewriting}
+use Rattle.fx_expr.specs.SizeOf.{size_of}
 use Rattle.fx_rules.specs.Rules.{RewritesTree}
 use Rattle.fx_rules.specs.Turned.{Becomes, turned}
 use Rattle.fx_rules.specs.Steps.{rewrite, IsUnmatched}
+use Rattle.fx_rewrite.specs.declared.measure.Sizes.{Sizes}
 use Rattle.fx_rewrite.specs.declared.fault.StepFault.{StepFault}
 use Rattle.fx_rewrite.specs.declared.fault.StepFault.TheVariants.{NoPlace, NoMatch, TooLong, Memory}
 
@@ -17,13 +19,14 @@ IsRefused NoMatch f s = (old : Tree) × (found f s.place s.path ≡ Some old) ×
 IsRefused TooLong f s = (old : Tree) × (new : Tree) × (found f s.place s.path ≡ Some old) × RewritesTree s.rule old new × (rewrite f s ≡ None)
 IsRefused Memory f s = Unit {0}
 
--- the step is there: a tree is found, it becomes another, and the limits are kept
-pub record IsAdmitted (f : Function) (s : Rewriting) (old : Tree) : Type 0 where
+-- so refused, it is no step
+abbrev pub IsRefusedThere : StepFault → Function → Rewriting → Type 0
+IsRefusedThere fault f s = IsRefused fault f s × (rewrite f s ≡ None)
+
+-- the step is there: a tree is found, it becomes another, the limits are kept, and both trees have these sizes
+pub record IsAdmitted (f : Function) (s : Rewriting) (old : Tree) (sizes : Sizes) : Type 0 where
   pub new : Tree
   pub becomes : turned s.rule old ≡ Becomes new
   pub is : rewrite f s ≡ Some (with_tree f s.place s.path new)
-
--- the verdict on a step at a tree that is found
-abbrev pub Judges : Option StepFault → Function → Rewriting → Tree → Type 0
-Judges None f s old = IsAdmitted f s old
-Judges (Some fault) f s old = IsRefused fault f s × (rewrite f s ≡ None)
+  pub less : sizes.old ≡ size_of old
+  pub more : sizes.new ≡ size_of new

@@ -10,26 +10,25 @@ ghost use Rattle.fx_rewrite.specs.Refusals.{IsRefused};
 ghost use Rattle.fx_rewrite.specs.StepView.{step_view};
 
 use crate::fault::StepFault;
-use crate::judge::{find, refusal};
+use crate::judge::{admit, find};
+use crate::measure::Sizes;
 use crate::spare::{Spare, prepare, turn};
 use crate::step::Step;
 use crate::turn::leaf;
 use fx_expr::Function;
 use std::alloc::Global;
 
-/// Whether the step is there, and then the memory that it needs.
-fn prepared(alloc: Global, function: &Function, step: &Step) -> Result<Spare, StepFault>
-    ensures { MatchResult result (λ s. IsPrepared function.now (step_view step.now) s) (λ fault. IsRefused fault function.now (step_view step.now)) }
+/// Whether the step is there, and then the memory that it needs and the sizes of what goes and comes.
+fn prepared(alloc: Global, function: &Function, step: &Step) -> Result<(Spare, Sizes), StepFault>
+    ensures { MatchResult result (λ x. IsPrepared function.now (step_view step.now) x.0 x.1) (λ fault. IsRefused fault function.now (step_view step.now)) }
 {
     let path = step.path.as_slice();
     let Some(old) = find(function, step.place, path) else {
         return Err(StepFault::NoPlace);
     };
-    if let Some(fault) = refusal(function, old, path.len(), step.rule) {
-        return Err(fault);
-    }
+    let sizes = admit(function, old, path.len(), step.rule)?;
     match prepare(alloc, old, step.rule) {
-        Ok(spare) => Ok(spare),
+        Ok(spare) => Ok((spare, sizes)),
         Err(_) => Err(StepFault::Memory),
     }
 }
@@ -40,11 +39,11 @@ pub fn apply(alloc: Global, function: &mut Function, step: &Step) -> Result<(), 
     ensures same { OnErr result (function.new ≡ function.old) }
     ensures refused { IfErr result (λ fault. IsRefused fault function.old (step_view step.now)) }
 {
-    let spare = prepared(alloc, function, step)?;
+    let (spare, sizes) = prepared(alloc, function, step)?;
     function.keeps();
     let path = step.path.as_slice();
-    let old = function.replace(step.place, path, leaf());
+    let old = function.replace(step.place, path, leaf(), sizes.old.nodes, 0);
     let new = turn(old, step.rule, spare);
-    function.replace(step.place, path, new);
+    function.replace(step.place, path, new, 0, sizes.new.nodes);
     Ok(())
 }

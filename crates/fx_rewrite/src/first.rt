@@ -7,7 +7,7 @@ ghost use Rattle.fx_rules.specs.SingleSteps.{steps_by};
 ghost use Rattle.fx_rewrite.specs.Ahead.{rules_from, there};
 ghost use Rattle.fx_rewrite.specs.FirstOf.{Begins};
 
-use crate::judge::refusal;
+use crate::judge::admit;
 use fx_expr::{Expr, Function, at};
 
 /// The first of the rules from this number on that can be applied to `old`, which is found so deep in the function.
@@ -18,9 +18,9 @@ fn first_rule(function: &Function, old: &Expr, depth: usize, from: u8) -> Option
     if from > 30 {
         return None;
     }
-    match refusal(function, old, depth, from) {
-        None => Some(from),
-        Some(_) => first_rule(function, old, depth, from + 1),
+    match admit(function, old, depth, from) {
+        Ok(_) => Some(from),
+        Err(_) => first_rule(function, old, depth, from + 1),
     }
 }
 

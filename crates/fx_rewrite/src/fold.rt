@@ -6,6 +6,7 @@ ghost use Rattle.std.specs.Prelude.{◌≡◌, pos};
 ghost use Rattle.fx_rational.specs.Rational.{Rational, whole, negative, quotient};
 ghost use Rattle.fx_fraction.specs.Fractions.{GivesLowest};
 ghost use Rattle.fx_model.specs.Tree.{Tree};
+ghost use Rattle.fx_model.specs.Tree as model;
 ghost use Rattle.fx_expr.specs.TreeOf.{tree};
 ghost use Rattle.fx_rules.specs.Turned as turns;
 ghost use Rattle.fx_rules.specs.Turned.{Turned, folded, folded_option, turned_25, turned_26, turned_27, turned_28, turned_29, turned_30};
@@ -13,7 +14,7 @@ ghost use Rattle.fx_rewrite.specs.MeasureOf.{measure_of};
 ghost use Rattle.fx_rewrite.specs.FoldedOf.{Folds};
 ghost use Rattle.fx_rewrite.specs.Turns.{Turns};
 
-use crate::measure::Measure;
+use crate::measure::{Measure, gives};
 use crate::turn::leaf;
 use fx_expr::{Expr, Size};
 use fx_fraction::{Fraction, fadd, fdiv, fmul, fneg, fsub};
@@ -145,30 +146,33 @@ pub fn fold_30(e: &Expr) -> Folded
     opposite(*l)
 }
 
-/// The size of a folded literal.
-pub fn measured(folded: Folded) -> Measure
-    ensures { (t : Turned) → Folds folded t → result ≡ measure_of t }
+/// The sizes of a tree and of the literal that it is folded into.
+pub fn measured(e: &Expr, folded: Folded) -> Measure
+    ensures { (t : Turned) → Folds folded t → result ≡ measure_of (tree e.now) t }
 {
     match folded {
         Folded::NoMatch => Measure::NoMatch,
         Folded::TooLong => Measure::TooLong,
-        Folded::Literal(_) => Measure::Gives(Size::literal()),
+        Folded::Literal(_) => gives(Size::of(e), Size::literal()),
     }
 }
 
-/// The size of a product with a folded literal.
+/// The sizes of a quotient by a literal, and of the product with the literal that it is folded into.
 fn measured_product(a: &Expr, folded: Folded) -> Measure
-    ensures { (t : Turned) → Folds folded t → result ≡ measure_of (turns.in_product (tree a.now) t) }
+    ensures { (l : Rational) (t : Turned) → Folds folded t → result ≡ measure_of (model.Quotient (tree a.now) (model.Literal l)) (turns.in_product (tree a.now) t) }
 {
     match folded {
         Folded::NoMatch => Measure::NoMatch,
         Folded::TooLong => Measure::TooLong,
-        Folded::Literal(_) => Measure::Gives(Size::of(a).with(Size::literal())),
+        Folded::Literal(_) => {
+            let size = Size::of(a).with(Size::literal());
+            gives(size, size)
+        }
     }
 }
 
 pub fn measure_25(e: &Expr) -> Measure
-    ensures { result ≡ measure_of (turned_25 (tree e.now)) }
+    ensures { result ≡ measure_of (tree e.now) (turned_25 (tree e.now)) }
 {
     let Expr::Div(a, x) = e else {
         return Measure::NoMatch;

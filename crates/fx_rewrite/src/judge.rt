@@ -2,21 +2,21 @@
 //!
 //! The function was lawful, so only the path and the new tree decide the height, and only the old and the new tree the
 //! nodes: nothing else is looked at.
-ghost use Rattle.std.specs.Prelude.{◌≡◌, ◌↔◌, ◌+◌, ◌≤◌, ℕ, List, IsTrue, Some, None, MatchOption, length};
+ghost use Rattle.std.specs.Prelude.{◌≡◌, ◌↔◌, ◌+◌, ◌≤◌, ℕ, List, IsTrue, Some, None, MatchOption, MatchResult, length};
 ghost use Rattle.fx_model.specs.Tree.{Tree};
 ghost use Rattle.fx_model.specs.Paths.{found, with_tree};
 ghost use Rattle.fx_inequalities.specs.Rewriting.{Rewriting};
 ghost use Rattle.fx_expr.specs.SizeOf.{size_of};
 ghost use Rattle.fx_expr.specs.TreeOf.{tree};
 ghost use Rattle.fx_rules.specs.Steps.{is_within_limits};
-ghost use Rattle.fx_rewrite.specs.Refusals.{Judges};
+ghost use Rattle.fx_rewrite.specs.Refusals.{IsAdmitted, IsRefusedThere};
 ghost use Rattle.fx_rewrite.specs.StepView.{step_view};
 
 use crate::fault::StepFault;
-use crate::measure::Measure;
+use crate::measure::{Measure, Sizes};
 use crate::rule::measure;
 use crate::step::Step;
-use fx_expr::{Expr, Function, Size, at};
+use fx_expr::{Expr, Function, at};
 
 /// The tree that a step speaks of.
 pub fn find<'a>(function: &'a Function, place: u32, path: &[u8]) -> Option<&'a Expr>
@@ -40,28 +40,29 @@ fn is_small(nodes: u32, old: u32, new: u32) -> bool
     u64::from(nodes) + u64::from(new) <= 4000 + u64::from(old)
 }
 
-/// Whether the limits are kept with a tree of this size in place of `old`.
-fn fits(function: &Function, old: &Expr, depth: usize, size: Size) -> bool
-    ensures { (place : ℕ) → (path : List ℕ) → (new : Tree) → found function.now place path ≡ Some (tree old.now) → depth ≡ length path → size ≡ size_of new →
+/// Whether the limits are kept with a tree in place of `old`, by the sizes of both.
+fn fits(function: &Function, old: &Expr, depth: usize, sizes: Sizes) -> bool
+    ensures { (place : ℕ) → (path : List ℕ) → (new : Tree) → found function.now place path ≡ Some (tree old.now) → depth ≡ length path → sizes.old ≡ size_of (tree old.now) → sizes.new ≡ size_of new →
         result ≡ is_within_limits (with_tree function.now place path new) place }
 {
     function.keeps();
-    is_low(depth, size.height) && is_small(function.nodes(), Size::of(old).nodes, size.nodes)
+    is_low(depth, sizes.new.height) && is_small(function.nodes(), sizes.old.nodes, sizes.new.nodes)
 }
 
-/// Why the rule of this number can't be applied to `old`, which is found so deep in the function; none where it can.
-pub fn refusal(function: &Function, old: &Expr, depth: usize, rule: u8) -> Option<StepFault>
-    ensures { (place : ℕ) → (path : List ℕ) → found function.now place path ≡ Some (tree old.now) → depth ≡ length path →
-        Judges result function.now (record { place = place; path = path; rule = rule }) (tree old.now) }
+/// The sizes of `old`, which is found so deep in the function, and of what the rule of this number makes of it, or why it can't be
+/// applied there.
+pub fn admit(function: &Function, old: &Expr, depth: usize, rule: u8) -> Result<Sizes, StepFault>
+    ensures { (place : ℕ) → (path : List ℕ) → found function.now place path ≡ Some (tree old.now) → depth ≡ length path → let s : Rewriting = record { place = place; path = path; rule = rule } in
+        MatchResult result (λ sizes. IsAdmitted function.now s (tree old.now) sizes) (λ fault. IsRefusedThere fault function.now s) }
 {
     match measure(old, rule) {
-        Measure::NoMatch => Some(StepFault::NoMatch),
-        Measure::TooLong => Some(StepFault::TooLong),
-        Measure::Gives(size) => {
-            if fits(function, old, depth, size) {
-                None
+        Measure::NoMatch => Err(StepFault::NoMatch),
+        Measure::TooLong => Err(StepFault::TooLong),
+        Measure::Gives(sizes) => {
+            if fits(function, old, depth, sizes) {
+                Ok(sizes)
             } else {
-                Some(StepFault::TooLong)
+                Err(StepFault::TooLong)
             }
         }
     }

@@ -1,13 +1,21 @@
 //! What each rule would make of a tree, by its size alone.
 //!
-//! Nothing is built: a rule is tried by reference, and the size of its right side follows from the sizes of its letters.
-//! Each function is a row of the table.
-ghost use Rattle.std.specs.Prelude.{◌≡◌};
+//! Nothing is built: a rule is tried by reference, and the sizes of its two sides follow from the sizes of its letters, so
+//! that each letter is walked over once. Each function is a row of the table.
+ghost use Rattle.std.specs.Prelude.{◌≡◌, IsTrue};
 ghost use Rattle.fx_expr.specs.TreeOf.{tree};
 ghost use Rattle.fx_rules.specs.Turned.{same_tree, turned_1, turned_2, turned_3, turned_4, turned_5, turned_6, turned_7, turned_8, turned_9, turned_10, turned_11, turned_12, turned_13, turned_14, turned_15, turned_16, turned_17, turned_18, turned_19, turned_20, turned_21, turned_22, turned_23, turned_24};
 ghost use Rattle.fx_rewrite.specs.MeasureOf.{measure_of};
+ghost use Rattle.fx_rewrite.specs.declared.measure.Measure.TheVariants.{Gives};
 
 use fx_expr::{Expr, Size, same};
+
+/// The sizes of a tree and of the one that stands in its place.
+#[derive(Clone, Copy, Debug, PartialEq, Eq)]
+pub struct Sizes {
+    pub old: Size,
+    pub new: Size,
+}
 
 /// What a rule makes of a tree.
 #[derive(Clone, Copy, Debug, PartialEq, Eq)]
@@ -16,30 +24,38 @@ pub enum Measure {
     NoMatch,
     /// The folded literal leaves its limits.
     TooLong,
-    /// A tree of this size.
-    Gives(Size),
+    /// A tree of the new size, of one of the old.
+    Gives(Sizes),
+}
+
+/// A tree of the first size becomes one of the second.
+pub fn gives(old: Size, new: Size) -> Measure
+    ensures { result ≡ Gives (record { old = old; new = new }) }
+{
+    Measure::Gives(Sizes { old, new })
 }
 
 /// Whether the trees of one letter are the same.
 pub fn alike(a: &Expr, b: &Expr) -> bool
-    ensures { result ≡ same_tree (tree a.now) (tree b.now) }
+    ensures is { result ≡ same_tree (tree a.now) (tree b.now) }
+    ensures same { IsTrue result → tree a.now ≡ tree b.now }
 {
     same(a, b)
 }
 
 pub fn measure_1(e: &Expr) -> Measure
-    ensures { result ≡ measure_of (turned_1 (tree e.now)) }
+    ensures { result ≡ measure_of (tree e.now) (turned_1 (tree e.now)) }
 {
     let Expr::Add(a, b) = e else {
         return Measure::NoMatch;
     };
     let a = Size::of(a);
     let b = Size::of(b);
-    Measure::Gives(b.with(a))
+    gives(a.with(b), b.with(a))
 }
 
 pub fn measure_2(e: &Expr) -> Measure
-    ensures { result ≡ measure_of (turned_2 (tree e.now)) }
+    ensures { result ≡ measure_of (tree e.now) (turned_2 (tree e.now)) }
 {
     let Expr::Add(x, c) = e else {
         return Measure::NoMatch;
@@ -50,11 +66,11 @@ pub fn measure_2(e: &Expr) -> Measure
     let a = Size::of(a);
     let b = Size::of(b);
     let c = Size::of(c);
-    Measure::Gives(a.with(b.with(c)))
+    gives(a.with(b).with(c), a.with(b.with(c)))
 }
 
 pub fn measure_3(e: &Expr) -> Measure
-    ensures { result ≡ measure_of (turned_3 (tree e.now)) }
+    ensures { result ≡ measure_of (tree e.now) (turned_3 (tree e.now)) }
 {
     let Expr::Add(a, x) = e else {
         return Measure::NoMatch;
@@ -65,22 +81,22 @@ pub fn measure_3(e: &Expr) -> Measure
     let a = Size::of(a);
     let b = Size::of(b);
     let c = Size::of(c);
-    Measure::Gives(a.with(b).with(c))
+    gives(a.with(b.with(c)), a.with(b).with(c))
 }
 
 pub fn measure_4(e: &Expr) -> Measure
-    ensures { result ≡ measure_of (turned_4 (tree e.now)) }
+    ensures { result ≡ measure_of (tree e.now) (turned_4 (tree e.now)) }
 {
     let Expr::Mul(a, b) = e else {
         return Measure::NoMatch;
     };
     let a = Size::of(a);
     let b = Size::of(b);
-    Measure::Gives(b.with(a))
+    gives(a.with(b), b.with(a))
 }
 
 pub fn measure_5(e: &Expr) -> Measure
-    ensures { result ≡ measure_of (turned_5 (tree e.now)) }
+    ensures { result ≡ measure_of (tree e.now) (turned_5 (tree e.now)) }
 {
     let Expr::Mul(x, c) = e else {
         return Measure::NoMatch;
@@ -91,11 +107,11 @@ pub fn measure_5(e: &Expr) -> Measure
     let a = Size::of(a);
     let b = Size::of(b);
     let c = Size::of(c);
-    Measure::Gives(a.with(b.with(c)))
+    gives(a.with(b).with(c), a.with(b.with(c)))
 }
 
 pub fn measure_6(e: &Expr) -> Measure
-    ensures { result ≡ measure_of (turned_6 (tree e.now)) }
+    ensures { result ≡ measure_of (tree e.now) (turned_6 (tree e.now)) }
 {
     let Expr::Mul(a, x) = e else {
         return Measure::NoMatch;
@@ -106,11 +122,11 @@ pub fn measure_6(e: &Expr) -> Measure
     let a = Size::of(a);
     let b = Size::of(b);
     let c = Size::of(c);
-    Measure::Gives(a.with(b).with(c))
+    gives(a.with(b.with(c)), a.with(b).with(c))
 }
 
 pub fn measure_7(e: &Expr) -> Measure
-    ensures { result ≡ measure_of (turned_7 (tree e.now)) }
+    ensures { result ≡ measure_of (tree e.now) (turned_7 (tree e.now)) }
 {
     let Expr::Mul(a, x) = e else {
         return Measure::NoMatch;
@@ -121,11 +137,11 @@ pub fn measure_7(e: &Expr) -> Measure
     let a = Size::of(a);
     let b = Size::of(b);
     let c = Size::of(c);
-    Measure::Gives(a.with(b).with(a.with(c)))
+    gives(a.with(b.with(c)), a.with(b).with(a.with(c)))
 }
 
 pub fn measure_8(e: &Expr) -> Measure
-    ensures { result ≡ measure_of (turned_8 (tree e.now)) }
+    ensures { result ≡ measure_of (tree e.now) (turned_8 (tree e.now)) }
 {
     let Expr::Mul(x, c) = e else {
         return Measure::NoMatch;
@@ -136,11 +152,11 @@ pub fn measure_8(e: &Expr) -> Measure
     let a = Size::of(a);
     let b = Size::of(b);
     let c = Size::of(c);
-    Measure::Gives(a.with(c).with(b.with(c)))
+    gives(a.with(b).with(c), a.with(c).with(b.with(c)))
 }
 
 pub fn measure_9(e: &Expr) -> Measure
-    ensures { result ≡ measure_of (turned_9 (tree e.now)) }
+    ensures { result ≡ measure_of (tree e.now) (turned_9 (tree e.now)) }
 {
     let Expr::Mul(a, x) = e else {
         return Measure::NoMatch;
@@ -151,11 +167,11 @@ pub fn measure_9(e: &Expr) -> Measure
     let a = Size::of(a);
     let b = Size::of(b);
     let c = Size::of(c);
-    Measure::Gives(a.with(b).with(a.with(c)))
+    gives(a.with(b.with(c)), a.with(b).with(a.with(c)))
 }
 
 pub fn measure_10(e: &Expr) -> Measure
-    ensures { result ≡ measure_of (turned_10 (tree e.now)) }
+    ensures { result ≡ measure_of (tree e.now) (turned_10 (tree e.now)) }
 {
     let Expr::Mul(x, c) = e else {
         return Measure::NoMatch;
@@ -166,11 +182,11 @@ pub fn measure_10(e: &Expr) -> Measure
     let a = Size::of(a);
     let b = Size::of(b);
     let c = Size::of(c);
-    Measure::Gives(a.with(c).with(b.with(c)))
+    gives(a.with(b).with(c), a.with(c).with(b.with(c)))
 }
 
 pub fn measure_11(e: &Expr) -> Measure
-    ensures { result ≡ measure_of (turned_11 (tree e.now)) }
+    ensures { result ≡ measure_of (tree e.now) (turned_11 (tree e.now)) }
 {
     let Expr::Add(x, y) = e else {
         return Measure::NoMatch;
@@ -187,11 +203,11 @@ pub fn measure_11(e: &Expr) -> Measure
     let a = Size::of(a);
     let b = Size::of(b);
     let c = Size::of(c);
-    Measure::Gives(a.with(b.with(c)))
+    gives(a.with(b).with(a.with(c)), a.with(b.with(c)))
 }
 
 pub fn measure_12(e: &Expr) -> Measure
-    ensures { result ≡ measure_of (turned_12 (tree e.now)) }
+    ensures { result ≡ measure_of (tree e.now) (turned_12 (tree e.now)) }
 {
     let Expr::Add(x, y) = e else {
         return Measure::NoMatch;
@@ -208,11 +224,11 @@ pub fn measure_12(e: &Expr) -> Measure
     let a = Size::of(a);
     let b = Size::of(b);
     let c = Size::of(c);
-    Measure::Gives(a.with(b).with(c))
+    gives(a.with(c).with(b.with(c)), a.with(b).with(c))
 }
 
 pub fn measure_13(e: &Expr) -> Measure
-    ensures { result ≡ measure_of (turned_13 (tree e.now)) }
+    ensures { result ≡ measure_of (tree e.now) (turned_13 (tree e.now)) }
 {
     let Expr::Sub(x, y) = e else {
         return Measure::NoMatch;
@@ -229,11 +245,11 @@ pub fn measure_13(e: &Expr) -> Measure
     let a = Size::of(a);
     let b = Size::of(b);
     let c = Size::of(c);
-    Measure::Gives(a.with(b.with(c)))
+    gives(a.with(b).with(a.with(c)), a.with(b.with(c)))
 }
 
 pub fn measure_14(e: &Expr) -> Measure
-    ensures { result ≡ measure_of (turned_14 (tree e.now)) }
+    ensures { result ≡ measure_of (tree e.now) (turned_14 (tree e.now)) }
 {
     let Expr::Sub(x, y) = e else {
         return Measure::NoMatch;
@@ -250,22 +266,22 @@ pub fn measure_14(e: &Expr) -> Measure
     let a = Size::of(a);
     let b = Size::of(b);
     let c = Size::of(c);
-    Measure::Gives(a.with(b).with(c))
+    gives(a.with(c).with(b.with(c)), a.with(b).with(c))
 }
 
 pub fn measure_15(e: &Expr) -> Measure
-    ensures { result ≡ measure_of (turned_15 (tree e.now)) }
+    ensures { result ≡ measure_of (tree e.now) (turned_15 (tree e.now)) }
 {
     let Expr::Sub(a, b) = e else {
         return Measure::NoMatch;
     };
     let a = Size::of(a);
     let b = Size::of(b);
-    Measure::Gives(a.with(b.above()))
+    gives(a.with(b), a.with(b.above()))
 }
 
 pub fn measure_16(e: &Expr) -> Measure
-    ensures { result ≡ measure_of (turned_16 (tree e.now)) }
+    ensures { result ≡ measure_of (tree e.now) (turned_16 (tree e.now)) }
 {
     let Expr::Add(a, x) = e else {
         return Measure::NoMatch;
@@ -275,11 +291,11 @@ pub fn measure_16(e: &Expr) -> Measure
     };
     let a = Size::of(a);
     let b = Size::of(b);
-    Measure::Gives(a.with(b))
+    gives(a.with(b.above()), a.with(b))
 }
 
 pub fn measure_17(e: &Expr) -> Measure
-    ensures { result ≡ measure_of (turned_17 (tree e.now)) }
+    ensures { result ≡ measure_of (tree e.now) (turned_17 (tree e.now)) }
 {
     let Expr::Neg(x) = e else {
         return Measure::NoMatch;
@@ -288,11 +304,11 @@ pub fn measure_17(e: &Expr) -> Measure
         return Measure::NoMatch;
     };
     let a = Size::of(a);
-    Measure::Gives(a)
+    gives(a.above().above(), a)
 }
 
 pub fn measure_18(e: &Expr) -> Measure
-    ensures { result ≡ measure_of (turned_18 (tree e.now)) }
+    ensures { result ≡ measure_of (tree e.now) (turned_18 (tree e.now)) }
 {
     let Expr::Neg(x) = e else {
         return Measure::NoMatch;
@@ -302,11 +318,11 @@ pub fn measure_18(e: &Expr) -> Measure
     };
     let a = Size::of(a);
     let b = Size::of(b);
-    Measure::Gives(a.above().with(b))
+    gives(a.with(b).above(), a.above().with(b))
 }
 
 pub fn measure_19(e: &Expr) -> Measure
-    ensures { result ≡ measure_of (turned_19 (tree e.now)) }
+    ensures { result ≡ measure_of (tree e.now) (turned_19 (tree e.now)) }
 {
     let Expr::Mul(x, b) = e else {
         return Measure::NoMatch;
@@ -316,11 +332,11 @@ pub fn measure_19(e: &Expr) -> Measure
     };
     let a = Size::of(a);
     let b = Size::of(b);
-    Measure::Gives(a.with(b).above())
+    gives(a.above().with(b), a.with(b).above())
 }
 
 pub fn measure_20(e: &Expr) -> Measure
-    ensures { result ≡ measure_of (turned_20 (tree e.now)) }
+    ensures { result ≡ measure_of (tree e.now) (turned_20 (tree e.now)) }
 {
     let Expr::Neg(x) = e else {
         return Measure::NoMatch;
@@ -330,11 +346,11 @@ pub fn measure_20(e: &Expr) -> Measure
     };
     let a = Size::of(a);
     let b = Size::of(b);
-    Measure::Gives(a.above().with(b.above()))
+    gives(a.with(b).above(), a.above().with(b.above()))
 }
 
 pub fn measure_21(e: &Expr) -> Measure
-    ensures { result ≡ measure_of (turned_21 (tree e.now)) }
+    ensures { result ≡ measure_of (tree e.now) (turned_21 (tree e.now)) }
 {
     let Expr::Div(x, c) = e else {
         return Measure::NoMatch;
@@ -345,11 +361,11 @@ pub fn measure_21(e: &Expr) -> Measure
     let a = Size::of(a);
     let b = Size::of(b);
     let c = Size::of(c);
-    Measure::Gives(a.with(c).with(b.with(c)))
+    gives(a.with(b).with(c), a.with(c).with(b.with(c)))
 }
 
 pub fn measure_22(e: &Expr) -> Measure
-    ensures { result ≡ measure_of (turned_22 (tree e.now)) }
+    ensures { result ≡ measure_of (tree e.now) (turned_22 (tree e.now)) }
 {
     let Expr::Add(x, y) = e else {
         return Measure::NoMatch;
@@ -366,11 +382,11 @@ pub fn measure_22(e: &Expr) -> Measure
     let a = Size::of(a);
     let b = Size::of(b);
     let c = Size::of(c);
-    Measure::Gives(a.with(b).with(c))
+    gives(a.with(c).with(b.with(c)), a.with(b).with(c))
 }
 
 pub fn measure_23(e: &Expr) -> Measure
-    ensures { result ≡ measure_of (turned_23 (tree e.now)) }
+    ensures { result ≡ measure_of (tree e.now) (turned_23 (tree e.now)) }
 {
     let Expr::Div(x, c) = e else {
         return Measure::NoMatch;
@@ -381,11 +397,11 @@ pub fn measure_23(e: &Expr) -> Measure
     let a = Size::of(a);
     let b = Size::of(b);
     let c = Size::of(c);
-    Measure::Gives(a.with(b.with(c)))
+    gives(a.with(b).with(c), a.with(b.with(c)))
 }
 
 pub fn measure_24(e: &Expr) -> Measure
-    ensures { result ≡ measure_of (turned_24 (tree e.now)) }
+    ensures { result ≡ measure_of (tree e.now) (turned_24 (tree e.now)) }
 {
     let Expr::Div(a, x) = e else {
         return Measure::NoMatch;
@@ -396,5 +412,5 @@ pub fn measure_24(e: &Expr) -> Measure
     let a = Size::of(a);
     let b = Size::of(b);
     let c = Size::of(c);
-    Measure::Gives(a.with(b).with(c))
+    gives(a.with(b.with(c)), a.with(b).with(c))
 }

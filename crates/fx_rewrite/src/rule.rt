@@ -17,10 +17,10 @@ use fx_expr::Expr;
 
 /// What the rule of this number makes of a tree.
 pub fn measure(e: &Expr, rule: u8) -> Measure
-    ensures { result ≡ measure_of (turned rule (tree e.now)) }
+    ensures { result ≡ measure_of (tree e.now) (turned rule (tree e.now)) }
 {
     if rule >= 26 {
-        return measured(fold(e, rule));
+        return measured(e, fold(e, rule));
     }
     match rule {
         1 => measure::measure_1(e),

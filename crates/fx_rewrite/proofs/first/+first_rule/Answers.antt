@@ -3,11 +3,11 @@ use Rattle.fx_rewrite.specs.Refusals.{IsAdmitted}
 use Rattle.fx_rewrite.proofs.Firsts.{rule_is_there, rule_is_not}
 use Rattle.fx_rewrite.proofs.first.+first_rule.Goals as goal
 
-pub returns-in-None : goal.returns-in-None
-returns-in-None t c place path there depth =
-    let a : IsAdmitted c.args.function.now (record { place = place; path = path; rule = c.args.from }) (tree c.args.old.now) = c.in-None.ensures place path there depth in
+pub returns-in-Ok : goal.returns-in-Ok
+returns-in-Ok t c place path there depth =
+    let a : IsAdmitted c.args.function.now (record { place = place; path = path; rule = c.args.from }) (tree c.args.old.now) _ = c.in-Ok.ensures place path there depth in
     rule_is_there c.args.function.now place path c.args.from _ c.if-from-gt30.false a.is
 
-pub returns-in-Some : goal.returns-in-Some
-returns-in-Some t c place path there depth =
-    rule_is_not c.args.function.now place path c.args.from c.first_rule.result c.if-from-gt30.false (c.in-Some.ensures place path there depth).1 (c.first_rule.ensures place path there depth)
+pub returns-in-Err : goal.returns-in-Err
+returns-in-Err t c place path there depth =
+    rule_is_not c.args.function.now place path c.args.from c.first_rule.result c.if-from-gt30.false (c.in-Err.ensures place path there depth).1 (c.first_rule.ensures place path there depth)
