@@ -1,5 +1,7 @@
 #!/usr/bin/env python3
-"""Writes a bundle of N codes, rows for it, and a C program of the same arithmetic: make.py N ROWS FOLDER [mixed]
+"""Writes a bundle of N codes, rows for it, and two C programs of the same arithmetic: make.py N ROWS FOLDER [mixed]
+
+chain.c is compiled for its one program; codes.c goes over a list of codes, as `fixd` does, and would do so with any.
 
 The chain is x - (x - (x - ..)), in words of 32 bits. Points go from 11 to 10 and back, so that each difference shifts both
 of its operands and no compiler can leave one out. The mixed program has sums, differences and negations in random order, at
@@ -73,13 +75,59 @@ def shifted(word, shift):
     return f"({word} >> {shift})" if shift > 0 else f"{word} * {2 ** -shift}"
 
 
-def program(operations):
+def compiled(operations):
+    """The operations as statements of C, one for each code."""
     words = []
     for i, (kind, _, shift_x, shift_before) in enumerate(operations):
         before = shifted(f"w[{i}]", shift_before)
         sign = "-" if kind == "sub" else "+"
         words.append(f"        w[{i + 1}] = " + (f"-w[{i}];" if kind == "neg" else f"{shifted('w[0]', shift_x)} {sign} {before};"))
-    body = "\n".join(words)
+    last = len(operations)
+    return "", "\n".join([*words, f"        w[{last + 1}] = w[{last}];"])
+
+
+def interpreted(operations):
+    """The operations as a list of codes, and the loop over any such list."""
+    lines = ["    {IN, 0, 0, 0, 0},"]
+    for i, (kind, _, shift_x, shift_before) in enumerate(operations):
+        lines.append(f"    {{NEG, {i}, 0, 0, 0}}," if kind == "neg" else f"    {{{kind.upper()}, 0, {i}, {shift_x}, {shift_before}}},")
+    lines.append(f"    {{COPY, {len(operations)}, 0, 0, 0}},")
+    table = "\n".join(lines)
+    above = f"""
+enum kind {{ IN, STATE, CONST, NEG, ADD, SUB, MUL, DIV, COPY }};
+
+struct code {{ enum kind kind; uint32_t a, b; int32_t sa, sb; }};
+
+static struct code codes[] = {{
+{table}
+}};
+
+static int32_t states[1];
+
+/* a word times 2^-s, rounded down */
+static inline int64_t shifted(int64_t w, int32_t s) {{ return s >= 0 ? w >> (s < 32 ? s : 31) : w << -s; }}
+
+static void step(const struct code *c, size_t count, int32_t x) {{
+    for (size_t i = 0; i < count; i++, c++) {{
+        switch (c->kind) {{
+        case IN: w[i] = x; break;
+        case STATE: w[i] = states[c->a]; break;
+        case CONST: w[i] = c->sa; break;
+        case NEG: w[i] = -w[c->a]; break;
+        case ADD: w[i] = (int32_t)(shifted(w[c->a], c->sa) + shifted(w[c->b], c->sb)); break;
+        case SUB: w[i] = (int32_t)(shifted(w[c->a], c->sa) - shifted(w[c->b], c->sb)); break;
+        case MUL: w[i] = (int32_t)(((int64_t)w[c->a] * w[c->b]) >> c->sa); break;
+        case DIV: w[i] = (int32_t)(((int64_t)w[c->a] << c->sa) / w[c->b]); break;
+        case COPY: w[i] = (int32_t)shifted(w[c->a], c->sa); break;
+        }}
+    }}
+}}
+"""
+    return above, "        step(codes, sizeof codes / sizeof *codes, w[0]);"
+
+
+def program(operations, parts):
+    above, body = parts
     count = len(operations) + 2
     point = operations[-1][1]
     return f"""#include <stdint.h>
@@ -87,7 +135,7 @@ def program(operations):
 #include <string.h>
 
 static int32_t w[{count}];
-
+{above}
 /* the word of a decimal from 0 to 1, rounded down to {POINT} places */
 static int32_t read_word(const char *s) {{
     int64_t a = 0, b = 1;
@@ -121,7 +169,6 @@ int main(void) {{
     while (fgets(line, sizeof line, stdin)) {{
         w[0] = read_word(line);
 {body}
-        w[{count - 1}] = w[{count - 2}];
         print_word(w[{count - 1}]);
     }}
     return 0;
@@ -135,7 +182,9 @@ def main():
     with open(f"{folder}/chain.bundle", "w") as file:
         file.write(bundle(operations))
     with open(f"{folder}/chain.c", "w") as file:
-        file.write(program(operations))
+        file.write(program(operations, compiled(operations)))
+    with open(f"{folder}/codes.c", "w") as file:
+        file.write(program(operations, interpreted(operations)))
     with open(f"{folder}/chain.csv", "w") as file:
         file.write("x\n")
         for i in range(rows):
