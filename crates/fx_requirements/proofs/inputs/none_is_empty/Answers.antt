@@ -7,7 +7,7 @@ use Rattle.fx_requirements.proofs.Passes.{stops, passes, all_passed}
 use Rattle.fx_requirements.proofs.inputs.none_is_empty.Goals as goal
 
 pub returns-then-is_empty_range : goal.returns-then-is_empty_range
-returns-then-is_empty_range c = inl (stops is_empty_range (λ at. fault at EmptyRange) c.args.subjects.now c.loop-subject.subject-index _ (all_pass is_empty_range (λ at. fault at EmptyRange) (map subject_of c.args.subjects.now)) c.loop-subject-test.true c.loop-subject.invariant (sym c.is_empty_range.ensures ∙ c.if-is_empty_range.true))
+returns-then-is_empty_range c = rw c.at.ensures (inl (stops is_empty_range (λ at. fault at EmptyRange) c.args.subjects.now c.loop-subject.subject-index _ (all_pass is_empty_range (λ at. fault at EmptyRange) (map subject_of c.args.subjects.now)) c.loop-subject-test.true c.loop-subject.invariant (sym c.is_empty_range.ensures ∙ c.if-is_empty_range.true)))
 
 pub loop-subject-preserved : goal.loop-subject-preserved
 loop-subject-preserved c = passes is_empty_range (λ at. fault at EmptyRange) c.args.subjects.now c.loop-subject.subject-index _ (all_pass is_empty_range (λ at. fault at EmptyRange) (map subject_of c.args.subjects.now)) c.loop-subject-test.true c.loop-subject.invariant (sym c.is_empty_range.ensures ∙ c.if-is_empty_range.false)
