@@ -22,8 +22,7 @@ use fx_cursor::{
     peek, place_at, real, want, with_name, wrong,
 };
 use fx_expr::Expr;
-use fx_expressions::{Context, Operand, expression};
-use fx_fraction::{Decimal, to_fraction};
+use fx_expressions::{Context, Operand, expression, is_high, tree_or};
 use fx_grammar::Head;
 use fx_lexer::{SourceFault, SourceKind, Token};
 use std::alloc::Global;
