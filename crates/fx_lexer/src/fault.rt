@@ -83,6 +83,15 @@ pub struct SourceFault {
     pub kind: SourceKind,
 }
 
+impl SourceFault {
+    /// The fault of a kind at a byte.
+    pub fn at(at: u32, kind: SourceKind) -> Self
+        ensures { result ≡ record { at = at; kind = kind } }
+    {
+        SourceFault { at, kind }
+    }
+}
+
 impl fmt::Display for SourceFault {
     fn fmt<W: fmt::Write>(&self, f: &mut fmt::Formatter<W>) -> fmt::Result {
         write!(f, "{} at byte {}", self.kind, self.at)
@@ -95,10 +104,7 @@ impl From<AllocError> for SourceFault {
     ghost from_gives = { λ _ fault. fault ≡ source_memory };
 
     fn from(_e: AllocError) -> SourceFault {
-        SourceFault {
-            at: 0,
-            kind: SourceKind::Memory,
-        }
+        SourceFault::at(0, SourceKind::Memory)
     }
 }
 
@@ -106,9 +112,6 @@ impl<T: Drop> From<AllocFailed<T>> for SourceFault {
     ghost from_gives = { λ _ fault. fault ≡ source_memory };
 
     fn from(_e: AllocFailed<T>) -> SourceFault {
-        SourceFault {
-            at: 0,
-            kind: SourceKind::Memory,
-        }
+        SourceFault::at(0, SourceKind::Memory)
     }
 }

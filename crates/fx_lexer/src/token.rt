@@ -76,12 +76,7 @@ pub fn tokens<'a>(alloc: Global, text: &'a str) -> Result<Vec<Token<'a>>, Source
     while !rest.is_empty() {
         let item = match first_item(rest.as_bytes()) {
             Ok(item) => item,
-            Err(kind) => {
-                return Err(SourceFault {
-                    at: place_of(kind, at, end),
-                    kind,
-                });
-            }
+            Err(kind) => return Err(SourceFault::at(place_of(kind, at, end), kind)),
         };
         let (front, after) = rest.split_at(item.len);
         match item.kind {

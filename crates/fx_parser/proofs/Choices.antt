@@ -14,7 +14,7 @@ use Rattle.fx_grammar.specs.Sources.{functions_of}
 use Rattle.fx_parser.specs.LawfulNames.{IsLawfulAndNamed}
 use Rattle.fx_parser.proofs.Reading.{fine, same_ok}
 use Rattle.fx_parser.proofs.SoundFunctions.{functions_ok}
-use Rattle.fx_parser.proofs.Keys.{shift, some}
+use Rattle.fx_cursor.proofs.Keys.{shift, some}
 
 module _ (text : Text) where
   first : List Function → ℕ

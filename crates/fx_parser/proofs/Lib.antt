@@ -1,9 +1,3 @@
-pub mod Rooms
-pub mod Turns
-pub mod Places
-pub mod Passes
-pub mod Ends
-pub mod Keys
 pub mod Reading
 pub mod SoundTokens
 pub mod NodeCounts

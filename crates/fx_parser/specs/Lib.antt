@@ -1,4 +1,3 @@
-pub mod Texts
 pub mod Views
 pub mod LawfulTokens
 pub mod LawfulNames

@@ -1,29 +1,17 @@
 -- What the values of the code stand for.
-use Rattle.std.specs.Prelude.{◌≡◌, ◌≤◌, ◌+◌, length, ℕ, List, map, Vec, Option, Ok, Err, nat_lt, if◌then◌else◌}
+use Rattle.std.specs.Prelude.{◌≡◌, ◌≤◌, ◌+◌, length, ℕ, List, map, Ok, Err, nat_lt, if◌then◌else◌}
 use Rattle.fx_lexer.specs.declared.fault.SourceKind.TheVariants.{TooMany}
-use Rattle.std.specs.Option.{option_map}
-use Rattle.std.specs.Global.{Global}
-use Rattle.fx_rational.specs.Rational.{Rational}
 use Rattle.fx_rational.specs.Decimal.{decimal_value}
 use Rattle.fx_model.specs.Limits.{input_limit, state_limit, temp_limit, node_limit}
 use Rattle.fx_model.specs.Function as model
 use Rattle.fx_expr.specs.TreeOf.{tree}
-use Rattle.fx_lexer.specs.declared.token.Token.{Token}
-use Rattle.fx_lexer.specs.Tokens.{lexeme_of}
 use Rattle.fx_grammar.specs.Steps.{Tokens, Parsed, fault}
-use Rattle.fx_grammar.specs.Operands as operands
-use Rattle.fx_grammar.specs.Expressions.{Known}
-use Rattle.fx_grammar.specs.Ranges as ranges
 use Rattle.fx_grammar.specs.Fronts as fronts
 use Rattle.fx_grammar.specs.Bodies as bodies
 use Rattle.fx_grammar.specs.Functions as functions
-use Rattle.fx_parser.specs.declared.operand.Operand.{Operand}
-use Rattle.fx_parser.specs.declared.operand.Context.{Context}
-use Rattle.fx_parser.specs.declared.subject.Subject.{Subject}
-use Rattle.fx_parser.specs.declared.subject.Named.{Named}
-use Rattle.fx_parser.specs.declared.condition.Conditions.{Conditions}
-use Rattle.fx_parser.specs.declared.numeral.Numeral.{Numeral}
-use Rattle.fx_parser.specs.Texts.{numeral_decimal}
+use Rattle.fx_grammar.specs.Sources.{function_names}
+use Rattle.fx_cursor.specs.Texts.{numeral_decimal}
+use Rattle.fx_requirements.specs.Views.{subjects_of, inputs_value, demand_value}
 use Rattle.fx_parser.specs.declared.front.State.{State}
 use Rattle.fx_parser.specs.declared.front.Declared.{Declared}
 use Rattle.fx_parser.specs.declared.body.Temp.{Temp}
@@ -32,35 +20,6 @@ use Rattle.fx_parser.specs.declared.body.Results.{Results}
 use Rattle.fx_parser.specs.declared.function.Front.{Front}
 use Rattle.fx_parser.specs.declared.function.Draft.{Draft}
 use Rattle.fx_parser.specs.declared.source.Drafts.{Drafts}
-use Rattle.fx_grammar.specs.Sources.{function_names}
-
-abbrev pub lexemes : List Token → Tokens
-lexemes ts = map lexeme_of ts
-
-abbrev pub operand_of : Operand → operands.Operand
-operand_of x = record { tree = option_map tree x.expr; height = x.height; nodes = x.nodes }
-
-abbrev pub known_in : Context → Known
-known_in c = record { names = c.names.now; inputs = c.inputs; states = c.states; end = c.end }
-
-abbrev pub subject_of : Subject → ranges.Subject
-subject_of s = record { name = s.name.now; at = s.at; lo = option_map numeral_decimal s.lo; hi = option_map numeral_decimal s.hi; err = option_map numeral_decimal s.err }
-
-abbrev pub subjects_of : Vec Subject Global → ranges.Subjects
-subjects_of v = map subject_of v.items
-
--- the set has their names
-abbrev pub IsNamed : Named → Type 0
-IsNamed n = n.names ≡ ranges.names_of (subjects_of n.subjects)
-
-abbrev pub conditions_in : Conditions → ranges.Conditions
-conditions_in c = record { depth = c.depth; wants = c.wants; subjects = subjects_of c.subjects }
-
-abbrev pub inputs_value : Vec Subject Global → List model.Input
-inputs_value v = map ranges.declared_input (subjects_of v)
-
-abbrev pub demand_value : Option Numeral → Option Rational
-demand_value d = option_map decimal_value (option_map numeral_decimal d)
 
 abbrev pub state_value : State → model.State
 state_value s = record { name = s.name.now; start = decimal_value (numeral_decimal s.start) }

@@ -4,9 +4,10 @@
 //! tree that is too high is found at the token behind its expression, and loses there to some others.
 ghost use Rattle.std.specs.Prelude.{◌≡◌, ◌≤◌, ◌<◌, ◌+◌, ◌^◌, length, map, min, option_map, IfOk, [], ◌∷◌, ◌++◌, Ok, IsOk, None};
 ghost use Rattle.fx_lexer.specs.Faults.{GivesParsed};
-ghost use Rattle.fx_parser.specs.Views.{lexemes, operand_of};
+ghost use Rattle.fx_cursor.specs.Views.{lexemes};
+ghost use Rattle.fx_expressions.specs.Views.{operand_of};
 ghost use Rattle.fx_parser.specs.Views.{body_value, results_value, HasBodyRoom};
-ghost use Rattle.fx_parser.specs.Texts.{all_texts};
+ghost use Rattle.fx_cursor.specs.Texts.{all_texts};
 ghost use Rattle.fx_grammar.specs.Steps.{name_place};
 ghost use Rattle.fx_expr.specs.TreeOf.{tree};
 ghost use Rattle.fx_grammar.specs.Operands.{is_high};
@@ -16,13 +17,12 @@ ghost use Rattle.fx_grammar.specs.Operands.{tree_or};
 ghost use Rattle.fx_grammar.specs.Bodies.{too_high, whole_at, typed_at, with_temp, val_at, vals_at, count_of, known_of, single_high, single_at, element_at, tuple_at, result_at};
 ghost use Rattle.fx_grammar.specs.declared.head.Head.TheVariants.{Comma};
 
-use crate::expr::expression;
-use crate::limits::{HEIGHT_LIMIT, NODE_LIMIT, TEMP_LIMIT};
-use crate::names::{Names, free, with_name};
-use crate::operand::{Context, Operand};
-use crate::steps::{Parsed, behind, next_is, past_semicolon, peek, place_at, real, want, wrong};
+use fx_cursor::{
+    HEIGHT_LIMIT, NODE_LIMIT, Names, Parsed, TEMP_LIMIT, behind, free, next_is, past_semicolon,
+    peek, place_at, real, want, with_name, wrong,
+};
 use fx_expr::Expr;
-use fx_fraction::{Decimal, to_fraction};
+use fx_expressions::{Context, Operand, expression, is_high, tree_or};
 use fx_grammar::Head;
 use fx_lexer::{SourceFault, SourceKind, Token};
 use std::alloc::Global;
@@ -51,17 +51,6 @@ pub struct Results {
     pub nodes: u32,
 }
 
-/// The tree, which is there where it isn't too high.
-#[tactic(auto, using(crate::proofs::Ends::zero_is))]
-fn tree_or(expr: Option<Expr>) -> Expr
-    ensures { tree result ≡ tree_or (option_map tree expr) }
-{
-    match expr {
-        Some(expr) => expr,
-        None => Expr::Lit(to_fraction(Decimal { a: 0, b: 0 })),
-    }
-}
-
 fn with_nodes(a: u32, b: u32) -> u32
     ensures { result ≡ min 4001 (a + b) }
 {
@@ -72,12 +61,6 @@ fn with_nodes(a: u32, b: u32) -> u32
     }
 }
 
-fn is_high(x: &Operand) -> bool
-    ensures { result ≡ is_high (operand_of x.now) }
-{
-    x.height == HEIGHT_LIMIT + 1
-}
-
 /// The fault of a tree that is too high, found at the token behind it.
 fn too_high(end: u32, first: u32, tokens: &[Token<'_>]) -> SourceFault
     ensures { result ≡ too_high end first (lexemes tokens.now) }
@@ -85,10 +68,7 @@ fn too_high(end: u32, first: u32, tokens: &[Token<'_>]) -> SourceFault
     if peek(tokens) == Head::Unsupported {
         wrong(end, tokens)
     } else {
-        SourceFault {
-            at: first,
-            kind: SourceKind::TooDeep,
-        }
+        SourceFault::at(first, SourceKind::TooDeep)
     }
 }
 
@@ -250,10 +230,7 @@ fn single_high(
         && peek(behind(rest)) != Head::Ensuring
         && body.inputs + body.states + 1 + with_nodes(body.nodes, nodes) > NODE_LIMIT
     {
-        return SourceFault {
-            at: word,
-            kind: SourceKind::TooMany,
-        };
+        return SourceFault::at(word, SourceKind::TooMany);
     }
     too_high(end, first, rest)
 }
@@ -323,10 +300,7 @@ fn element<'t, 'a>(
     let (operand, rest) = read(alloc, end, false, body, tokens)?;
     if is_high(&operand) {
         if peek(rest) == Head::Close && results.trees.len() + 1 != reals {
-            return Err(SourceFault {
-                at: first,
-                kind: SourceKind::WrongArity,
-            });
+            return Err(SourceFault::at(first, SourceKind::WrongArity));
         }
         return Err(too_high(end, place_at(end, tokens), rest));
     }
@@ -377,10 +351,7 @@ fn tuple<'t, 'a>(
     let (results, rest) = elements(alloc, end, open.at, reals, body, rest)?;
     let (_, rest) = want(end, Head::Close, rest)?;
     if results.trees.len() != reals {
-        return Err(SourceFault {
-            at: open.at,
-            kind: SourceKind::WrongArity,
-        });
+        return Err(SourceFault::at(open.at, SourceKind::WrongArity));
     }
     Ok((results, rest))
 }

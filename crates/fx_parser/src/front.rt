@@ -2,9 +2,9 @@
 ghost use Rattle.std.specs.Prelude.{◌≡◌, ◌≤◌, ◌<◌, ◌+◌, ◌^◌, length, map, IfOk, [], IfNone, IfSome, Ok};
 ghost use Rattle.fx_lexer.specs.Faults.{GivesParsed};
 ghost use Rattle.fx_lexer.specs.Tokens.{lexeme_of};
-ghost use Rattle.fx_parser.specs.Texts.{all_texts};
-ghost use Rattle.fx_parser.specs.Views.{lexemes};
-ghost use Rattle.fx_parser.specs.Views.{subjects_of, IsNamed};
+ghost use Rattle.fx_cursor.specs.Texts.{all_texts};
+ghost use Rattle.fx_cursor.specs.Views.{lexemes};
+ghost use Rattle.fx_requirements.specs.Views.{subjects_of, IsNamed};
 ghost use Rattle.fx_parser.specs.Views.{declared_of, state_value};
 ghost use Rattle.fx_grammar.specs.Ranges.{names_of};
 ghost use Rattle.fx_grammar.specs.Steps.{has_name, free_at, separated, listed, real_at};
@@ -12,13 +12,13 @@ ghost use Rattle.fx_grammar.specs.Fronts.{param_at, declared_state, states_at, o
 ghost use Rattle.fx_grammar.specs.Functions.{new_name};
 ghost use Rattle.fx_grammar.specs.declared.head.Head.TheVariants.{Comma};
 
-use crate::limits::{INPUT_LIMIT, OUTPUT_LIMIT, STATE_LIMIT};
-use crate::names::{Names, free, with_name};
-use crate::numeral::Numeral;
-use crate::steps::{Parsed, behind, next_is, peek, place_at, real, signed, want, wrong};
-use crate::subject::{Named, no_subjects, with_subject};
+use fx_cursor::{
+    INPUT_LIMIT, Names, Numeral, OUTPUT_LIMIT, Parsed, STATE_LIMIT, behind, free, next_is, peek,
+    place_at, real, signed, want, with_name, wrong,
+};
 use fx_grammar::Head;
 use fx_lexer::{SourceFault, SourceKind, Token};
+use fx_requirements::{Named, no_subjects, with_subject};
 use std::alloc::Global;
 
 /// A state and its start.
@@ -33,12 +33,6 @@ pub struct State<'a> {
 pub struct Declared<'a> {
     pub names: Names<'a>,
     pub states: Vec<State<'a>>,
-}
-
-fn fault(at: u32, kind: SourceKind) -> SourceFault
-    ensures { result ≡ record { at = at; kind = kind } }
-{
-    SourceFault { at, kind }
 }
 
 /// A parameter behind those that were read.
@@ -136,7 +130,7 @@ fn one_real<'t, 'a>(
 {
     let (_, rest) = real(end, tokens)?;
     if reals + 1 > states + OUTPUT_LIMIT {
-        return Err(fault(first, SourceKind::TooMany));
+        return Err(SourceFault::at(first, SourceKind::TooMany));
     }
     Ok((reals + 1, rest))
 }
@@ -205,7 +199,7 @@ fn more_than<'t, 'a>(
     ensures more { IfOk result (λ x. states < x.0) }
 {
     if count <= states {
-        return Err(fault(first, SourceKind::WrongArity));
+        return Err(SourceFault::at(first, SourceKind::WrongArity));
     }
     Ok((count, rest))
 }

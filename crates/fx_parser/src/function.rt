@@ -1,24 +1,23 @@
 //! One function, from its name to the brace that closes it and its demands.
 ghost use Rattle.std.specs.Prelude.{◌≡◌, ◌≤◌, ◌<◌, ◌+◌, ◌-◌, ◌^◌, length, map, IfOk, Ok, None, []};
 ghost use Rattle.fx_lexer.specs.Faults.{GivesParsed};
-ghost use Rattle.fx_parser.specs.Texts.{all_texts};
-ghost use Rattle.fx_parser.specs.Views.{lexemes, subject_of, subjects_of, draft_of, front_value, body_value, results_value, HasBodyRoom, bounded};
+ghost use Rattle.fx_cursor.specs.Texts.{all_texts};
+ghost use Rattle.fx_cursor.specs.Views.{lexemes};
+ghost use Rattle.fx_requirements.specs.Views.{subject_of, subjects_of};
+ghost use Rattle.fx_parser.specs.Views.{draft_of, front_value, body_value, results_value, HasBodyRoom, bounded};
 ghost use Rattle.fx_grammar.specs.Steps.{has_name, name_place};
 ghost use Rattle.fx_grammar.specs.Functions.{front_at, body_of, require_word_at, body_at};
 ghost use Rattle.fx_grammar.specs.Bodies.{count_of};
 
 use crate::body::{Body, Results, Temp, outcome, vals};
-use crate::ensuring::{first_place, maybe_ensuring};
 use crate::front::{Declared, State, params, states, type_at};
-use crate::inputs::require;
-use crate::limits::NODE_LIMIT;
-use crate::names::{Names, place};
-use crate::numeral::Numeral;
-use crate::steps::{Parsed, behind, past_semicolon, peek, want, wrong};
-use crate::subject::{Named, Subject};
+use fx_cursor::{
+    NODE_LIMIT, Names, Numeral, Parsed, behind, past_semicolon, peek, place, want, wrong,
+};
 use fx_expr::Expr;
 use fx_grammar::Head;
 use fx_lexer::{SourceFault, SourceKind, Token};
+use fx_requirements::{Named, Subject, first_place, maybe_ensuring, require};
 use std::alloc::Global;
 
 /// A function of the source.
@@ -56,10 +55,7 @@ pub fn read_front<'t, 'a>(
 {
     let (token, rest) = want(end, Head::Name, tokens)?;
     if place(functions, token.text).is_some() {
-        return Err(SourceFault {
-            at: token.at,
-            kind: SourceKind::NamedTwice,
-        });
+        return Err(SourceFault::at(token.at, SourceKind::NamedTwice));
     }
     let (_, rest) = want(end, Head::Open, rest)?;
     let (named, rest) = params(alloc, end, rest)?;
@@ -95,10 +91,7 @@ fn require_word<'t, 'a>(
     if head == Head::Unsupported {
         return Err(wrong(end, tokens));
     }
-    Err(SourceFault {
-        at: first_place(subjects),
-        kind: SourceKind::NoRange,
-    })
+    Err(SourceFault::at(first_place(subjects), SourceKind::NoRange))
 }
 
 /// What is known behind the `require`, before any `val`.
@@ -173,10 +166,7 @@ fn within_nodes<'t, 'a>(
     ensures name { IfOk result (λ x. x.0.name.now ≡ draft.entry.name.now) }
 {
     if nodes > NODE_LIMIT as usize {
-        return Err(SourceFault {
-            at: word,
-            kind: SourceKind::TooMany,
-        });
+        return Err(SourceFault::at(word, SourceKind::TooMany));
     }
     Ok((draft, rest))
 }

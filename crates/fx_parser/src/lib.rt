@@ -8,20 +8,10 @@
 #![tactic(auto)]
 
 mod body;
-mod condition;
-mod ensuring;
-mod expr;
 mod front;
 mod function;
-mod inputs;
-mod limits;
-mod names;
-mod numeral;
-mod operand;
 mod owned;
 mod source;
-mod steps;
-mod subject;
 mod wanted;
 
 pub use wanted::parse;

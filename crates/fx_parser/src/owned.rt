@@ -10,17 +10,17 @@ ghost use Rattle.fx_rational.specs.Decimal.{decimal_value};
 ghost use Rattle.std.specs.Option.{option_map};
 ghost use Rattle.fx_lexer.specs.Faults.{GivesParsed};
 ghost use Rattle.fx_parser.specs.LawfulNames.{IsLawfulAndNamed};
-ghost use Rattle.fx_parser.specs.Views.{subject_of, state_value, temp_value, demand_value, draft_of};
+ghost use Rattle.fx_requirements.specs.Views.{subject_of, demand_value};
+ghost use Rattle.fx_parser.specs.Views.{state_value, temp_value, draft_of};
 
 use crate::function::Draft;
-use crate::inputs::or_zero;
-use crate::numeral::{Numeral, numeral_value};
-use crate::subject::Subject;
 use crate::{body, front};
+use fx_cursor::{Numeral, numeral_value};
 use fx_expr::{Function, Input, Items, State, Temp};
 use fx_fraction::Decimal;
 use fx_lexer::SourceFault;
 use fx_name::Name;
+use fx_requirements::{Subject, or_zero};
 use std::alloc::Global;
 
 fn owned_name(alloc: Global, text: &str) -> Result<Name, SourceFault>

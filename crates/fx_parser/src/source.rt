@@ -1,12 +1,12 @@
 //! A source: imports, an object, functions.
 ghost use Rattle.std.specs.Prelude.{◌≡◌, ◌≤◌, ◌<◌, ◌^◌, length, IfOk, IsOk, []};
 ghost use Rattle.fx_lexer.specs.Faults.{GivesParsed};
-ghost use Rattle.fx_parser.specs.Views.{lexemes, drafts_of, AreNamed};
+ghost use Rattle.fx_cursor.specs.Views.{lexemes};
+ghost use Rattle.fx_parser.specs.Views.{drafts_of, AreNamed};
 ghost use Rattle.fx_grammar.specs.Sources.{dot_at, import_at, imports_at, one_def, defs_at, ended, object_at, source_of};
 
 use crate::function::{Draft, read_body, read_front};
-use crate::names::{Names, no_names, with_name};
-use crate::steps::{Parsed, behind, next_is, peek, place_at, want, wrong};
+use fx_cursor::{Names, Parsed, behind, next_is, no_names, peek, place_at, want, with_name, wrong};
 use fx_grammar::Head;
 use fx_lexer::{SourceFault, Token};
 use std::alloc::Global;

@@ -9,9 +9,9 @@ ghost use Rattle.fx_parser.specs.Choice.{IsChoice, wanted_in};
 ghost use Rattle.fx_parser.specs.Views.{draft_of, drafts_of, AreNamed};
 
 use crate::function::Draft;
-use crate::names::place;
 use crate::owned::owned;
 use crate::source::{Drafts, functions_in};
+use fx_cursor::place;
 use fx_expr::Function;
 use fx_lexer::{SourceFault, SourceKind, tokens};
 use std::alloc::Global;
@@ -75,7 +75,7 @@ fn chosen<'a>(drafts: Drafts<'a>, name: Option<&str>) -> Result<Draft<'a>, Sourc
             let Drafts { mut list, .. } = drafts;
             Ok(list.swap_remove(k))
         }
-        Err(kind) => Err(SourceFault { at: 0, kind }),
+        Err(kind) => Err(SourceFault::at(0, kind)),
     }
 }
 
@@ -99,9 +99,6 @@ pub fn parse(alloc: Global, bytes: &[u8], name: Option<&str>) -> Result<Function
 {
     match str::from_utf8(bytes) {
         Ok(text) => function_in(alloc, text, name),
-        Err(e) => Err(SourceFault {
-            at: e.valid_up_to() as u32,
-            kind: SourceKind::BadUtf8,
-        }),
+        Err(e) => Err(SourceFault::at(e.valid_up_to() as u32, SourceKind::BadUtf8)),
     }
 }

@@ -14,7 +14,7 @@ pub returns-in-Err-clause-value : goal.returns-in-Err-clause-value
 returns-in-Err-clause-value c =
     let whole = tokens_of c.args.text.now in
     let e : first_item c.loop-rest.rest.now ≡ Err c.in-Err.kind = ap first_item (sym c.as_bytes.ensures.value) ∙ sym c.first_item.ensures ∙ c.in-Err.is in
-    inl (rw c.place_of.ensures (fails (map lexeme_of c.loop-rest.found.items) c.loop-rest.at c.loop-rest.fresh whole c.loop-rest.rest.now c.in-Err.kind (not_empty _ c.loop-rest-test.ensures) e c.loop-rest.invariant.on
+    inl (rw (c.at.ensures, c.place_of.ensures) (fails (map lexeme_of c.loop-rest.found.items) c.loop-rest.at c.loop-rest.fresh whole c.loop-rest.rest.now c.in-Err.kind (not_empty _ c.loop-rest-test.ensures) e c.loop-rest.invariant.on
     ∙ ap (λ n. let r : Lexemes = Err (record { at = place_of c.in-Err.kind c.loop-rest.at n; kind = c.in-Err.kind }) in r) c.loop-rest.invariant.place))
 
 pub split_at-requires : goal.split_at-requires

@@ -1,10 +1,10 @@
 use Rattle.std.proofs.Common.{◌<◌, length, []}
 use Rattle.fx_grammar.specs.declared.head.Head.TheVariants as heads
 use Rattle.fx_grammar.specs.Steps.{separated, stands_next, behind}
-use Rattle.fx_parser.specs.Views.{lexemes}
+use Rattle.fx_cursor.specs.Views.{lexemes}
 use Rattle.fx_grammar.specs.Bodies.{element_at}
 use Rattle.fx_parser.specs.Views.{body_value, results_value}
-use Rattle.fx_parser.proofs.Turns.{IsOn}
+use Rattle.fx_cursor.proofs.Turns.{IsOn}
 use Rattle.fx_parser.proofs.body.elements.Given as goal
 
 abbrev pub invariant-items : goal.invariant-items

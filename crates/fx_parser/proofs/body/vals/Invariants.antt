@@ -1,11 +1,11 @@
 use Rattle.std.proofs.Common.{◌≡◌, ◌≤◌, length}
 use Rattle.fx_grammar.specs.declared.head.Head.TheVariants as heads
 use Rattle.fx_grammar.specs.Steps.{stands_next, behind}
-use Rattle.fx_parser.specs.Views.{lexemes}
+use Rattle.fx_cursor.specs.Views.{lexemes}
 use Rattle.fx_grammar.specs.Bodies.{val_at, vals_at}
 use Rattle.fx_grammar.specs.Steps.{past_semicolon}
 use Rattle.fx_parser.specs.Views.{body_value, HasBodyRoom}
-use Rattle.fx_parser.proofs.Turns.{IsOn}
+use Rattle.fx_cursor.proofs.Turns.{IsOn}
 use Rattle.fx_parser.proofs.body.vals.Given as goal
 
 abbrev pub invariant-items : goal.invariant-items

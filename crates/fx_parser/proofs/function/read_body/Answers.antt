@@ -6,7 +6,9 @@ use Rattle.std.proofs.Common.{rules, tests}
 use Rattle.fx_grammar.specs.Steps.{want, past_semicolon}
 use Rattle.fx_grammar.specs.Bodies.{Body, vals_at}
 use Rattle.std.proofs.lemmas.List.{length-map}
-use Rattle.fx_parser.specs.Views.{lexemes, subject_of, body_value, state_value, demand_value, front_value}
+use Rattle.fx_cursor.specs.Views.{lexemes}
+use Rattle.fx_requirements.specs.Views.{subject_of, demand_value}
+use Rattle.fx_parser.specs.Views.{body_value, state_value, front_value}
 use Rattle.std.specs.Prelude.{◌⊎◌}
 use Rattle.std.proofs.Common.{◌+◌, arith}
 use Rattle.fx_expr.specs.TreeOf.{tree}

@@ -1,7 +1,8 @@
 use Rattle.std.proofs.Common.{map}
 use Rattle.fx_model.specs.Names.{IsName}
 use Rattle.fx_grammar.specs.Ranges.{declared_input}
-use Rattle.fx_parser.specs.Views.{subject_of, state_value, temp_value}
+use Rattle.fx_requirements.specs.Views.{subject_of}
+use Rattle.fx_parser.specs.Views.{state_value, temp_value}
 use Rattle.fx_parser.proofs.Unmapped.{unmapped}
 use Rattle.fx_parser.proofs.owned.owned.Goals as goal
 

@@ -1,7 +1,7 @@
 use Rattle.std.proofs.Common.{◌≡◌, map, take}
 use Rattle.fx_expr.specs.Parts as parts
 use Rattle.fx_grammar.specs.Ranges.{declared_input}
-use Rattle.fx_parser.specs.Views.{subject_of}
+use Rattle.fx_requirements.specs.Views.{subject_of}
 use Rattle.fx_parser.proofs.owned.owned_inputs.Given as goal
 
 abbrev pub invariant-loop-subject : goal.invariant-loop-subject

@@ -2,10 +2,10 @@ use Rattle.std.proofs.Common.{◌≡◌, true, false, sym, ◌∙◌, arith}
 use Rattle.std.proofs.lemmas.Result.{err_from_is_err_and}
 use Rattle.fx_grammar.specs.declared.head.Head.TheVariants as heads
 use Rattle.fx_grammar.specs.Steps.{stands_next}
-use Rattle.fx_parser.specs.Views.{lexemes}
+use Rattle.fx_cursor.specs.Views.{lexemes}
 use Rattle.fx_grammar.specs.Sources.{one_def, defs_at}
 use Rattle.fx_parser.specs.Views.{drafts_of}
-use Rattle.fx_parser.proofs.Turns.{goes_further, fails, is_over, lengths}
+use Rattle.fx_cursor.proofs.Turns.{goes_further, fails, is_over, lengths}
 use Rattle.fx_parser.proofs.source.defs.Goals as goal
 
 pub returns-in_err-more-clause-value : goal.returns-in_err-more-clause-value

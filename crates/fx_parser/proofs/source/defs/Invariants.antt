@@ -1,10 +1,10 @@
 use Rattle.std.proofs.Common.{◌<◌, ◌≤◌, ◌^◌, length}
 use Rattle.fx_grammar.specs.declared.head.Head.TheVariants as heads
 use Rattle.fx_grammar.specs.Steps.{stands_next}
-use Rattle.fx_parser.specs.Views.{lexemes}
+use Rattle.fx_cursor.specs.Views.{lexemes}
 use Rattle.fx_grammar.specs.Sources.{one_def, defs_at}
 use Rattle.fx_parser.specs.Views.{drafts_of, AreNamed}
-use Rattle.fx_parser.proofs.Turns.{IsOn}
+use Rattle.fx_cursor.proofs.Turns.{IsOn}
 use Rattle.fx_parser.proofs.source.defs.Given as goal
 
 abbrev pub invariant-items : goal.invariant-items

@@ -2,9 +2,9 @@ use Rattle.std.proofs.Common.{◌≡◌, true, false, arith, rules, tests}
 use Rattle.std.proofs.lemmas.Result.{err_from_is_err_and}
 use Rattle.fx_grammar.specs.declared.head.Head.TheVariants as heads
 use Rattle.fx_grammar.specs.Steps.{stands_next, behind}
-use Rattle.fx_parser.specs.Views.{lexemes}
+use Rattle.fx_cursor.specs.Views.{lexemes}
 use Rattle.fx_grammar.specs.Sources.{dot_at, import_at}
-use Rattle.fx_parser.proofs.Turns.{goes_further, fails, is_over, lengths}
+use Rattle.fx_cursor.proofs.Turns.{goes_further, fails, is_over, lengths}
 use Rattle.fx_parser.proofs.source.import.Goals as goal
 
 pub returns-in_err-after-clause-value : goal.returns-in_err-after-clause-value

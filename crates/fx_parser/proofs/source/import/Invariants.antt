@@ -1,9 +1,9 @@
 use Rattle.std.proofs.Common.{◌<◌, length}
 use Rattle.fx_grammar.specs.declared.head.Head.TheVariants as heads
 use Rattle.fx_grammar.specs.Steps.{stands_next, behind}
-use Rattle.fx_parser.specs.Views.{lexemes}
+use Rattle.fx_cursor.specs.Views.{lexemes}
 use Rattle.fx_grammar.specs.Sources.{dot_at, import_at}
-use Rattle.fx_parser.proofs.Turns.{IsOn}
+use Rattle.fx_cursor.proofs.Turns.{IsOn}
 use Rattle.fx_parser.proofs.source.import.Given as goal
 
 abbrev pub invariant-items : goal.invariant-items

@@ -12,5 +12,5 @@ returns-in-Ok c =
 
 pub returns-in-Err : goal.returns-in-Err
 returns-in-Err c =
-    inl (of_no_text c.args.bytes.now (option_map (λ n. n.now) c.args.name) c.in-Err.ensures.cases.0
-    ∙ ap (λ at. Err (fault at BadUtf8)) (sym (c.valid_up_to.ensures ∙ c.in-Err.ensures.valid_len)))
+    rw c.at.ensures (inl (of_no_text c.args.bytes.now (option_map (λ n. n.now) c.args.name) c.in-Err.ensures.cases.0
+    ∙ ap (λ at. Err (fault at BadUtf8)) (sym (c.valid_up_to.ensures ∙ c.in-Err.ensures.valid_len))))

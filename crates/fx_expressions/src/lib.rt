@@ -1,0 +1,11 @@
+//! Expressions, as they stand in a source: from tokens to trees, with their heights and nodes.
+//!
+//! `expression` gives exactly what the definition of `fx_grammar` gives, or that memory ran out. A tree that is too high is
+//! never built, and the recursion is that of at most 200 open parentheses.
+#![tactic(auto)]
+
+mod expr;
+mod operand;
+
+pub use expr::expression;
+pub use operand::{Context, Operand, is_high, tree_or};

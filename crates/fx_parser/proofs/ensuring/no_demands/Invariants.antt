@@ -1,6 +1,0 @@
-use Rattle.std.proofs.Common.{◌≡◌, replicate, map, None}
-use Rattle.fx_parser.specs.Views.{demand_value}
-use Rattle.fx_parser.proofs.ensuring.no_demands.Given as goal
-
-abbrev pub invariant-loop : goal.invariant-loop
-invariant-loop l = map demand_value l.demands.items ≡ replicate l.counter None

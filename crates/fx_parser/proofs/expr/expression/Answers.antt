@@ -1,6 +1,0 @@
-use Rattle.fx_parser.specs.Views.{known_in}
-use Rattle.fx_parser.proofs.Rooms.{expr_is}
-use Rattle.fx_parser.proofs.expr.expression.Goals as goal
-
-pub returns-clause-value : goal.returns-clause-value
-returns-clause-value c = rw (expr_is (known_in c.args.context.now) c.args.outside 200) c.sum.ensures.value

@@ -1,0 +1,6 @@
+use Rattle.std.proofs.Common.{◌≡◌, replicate, map, None}
+use Rattle.fx_requirements.specs.Views.{demand_value}
+use Rattle.fx_requirements.proofs.ensuring.no_demands.Given as goal
+
+abbrev pub invariant-loop : goal.invariant-loop
+invariant-loop l = map demand_value l.demands.items ≡ replicate l.counter None
