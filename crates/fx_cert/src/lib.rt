@@ -26,6 +26,3 @@ pub use certificate::{Certificate, Form, NodeLine, Row, Share, StartBox};
 pub use law::{bundle_law, bundle_text_law, certificate_law, certificate_text_law};
 pub use print::{print_bundle, print_certificate};
 pub use read::{certificate_at, read_certificate};
-
-#[cfg(test)]
-mod tests;

@@ -15,6 +15,3 @@ mod source;
 mod wanted;
 
 pub use wanted::parse;
-
-#[cfg(test)]
-mod tests;

@@ -1,8 +1,11 @@
 //! Bundles and certificates read and printed again, and edits of them: the first fault of each, by a reader of the same
 //! texts in another language.
 
-use super::*;
 use TextKind::{BadLine, BadNumber, Extra, OutOfRange, Section, TooMany};
+use fx_cert::{
+    bundle_law, bundle_text_law, certificate_law, certificate_text_law, print_bundle,
+    print_certificate, read_bundle, read_certificate,
+};
 use fx_text::TextKind;
 use std::alloc::Global;
 use std::test::Fail;

@@ -7,7 +7,7 @@ mod limits;
 mod parts;
 mod prefix;
 
-use super::*;
+use fx_parser::parse;
 use std::process::Abort;
 use std::test::Fail;
 

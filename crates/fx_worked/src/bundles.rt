@@ -1,7 +1,7 @@
 //! Worked bundles and edits of them: what each comes to is what a checker in another language says of it.
 
-use super::*;
 use fx_cert::{Bundle, read_bundle};
+use fx_checker::{Certified, CheckFault, check};
 use fx_parser::parse;
 use std::alloc::Global;
 use std::process::Abort;

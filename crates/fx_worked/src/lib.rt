@@ -1,0 +1,12 @@
+//! Worked texts, with the answers that they get: sources, certificates and bundles.
+//!
+//! Tests alone, of `fx_parser`, `fx_cert` and `fx_checker`. They stand here since a crate's tests are proved with all of it,
+//! and these three take longest.
+#![tactic(auto)]
+
+#[cfg(test)]
+mod bundles;
+#[cfg(test)]
+mod certificates;
+#[cfg(test)]
+mod sources;
