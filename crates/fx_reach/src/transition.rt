@@ -1,6 +1,7 @@
 //! One step of the states, as rows see it.
 
 use fx_cert::NodeLine;
+use fx_flat::Nodes;
 
 /// How many variables there are, where the next states stand, and the lines of all nodes.
 #[derive(Debug, Drop)]
@@ -17,4 +18,19 @@ pub struct Transition<'a> {
     pub points: &'a [i32],
     /// Where each node's value and error lie, and its form.
     pub lines: Vec<NodeLine>,
+}
+
+impl<'a> Transition<'a> {
+    /// The step of these nodes, with their points and lines.
+    pub fn over(nodes: &Nodes, points: &'a [i32], lines: Vec<NodeLine>) -> Transition<'a> {
+        let next = nodes.list.len().saturating_sub(nodes.states as usize);
+        Transition {
+            inputs: nodes.inputs,
+            states: nodes.states,
+            outputs: nodes.outputs,
+            next: u32::try_from(next).unwrap_or(0),
+            points,
+            lines,
+        }
+    }
 }
