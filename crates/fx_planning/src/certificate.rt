@@ -166,6 +166,17 @@ pub fn range_lines(alloc: Global, nodes: &Nodes, ranges: &Ranges) -> Result<Vec<
     lines(alloc, list, ranges, &errors, first_result(nodes))
 }
 
+/// The lines of ranges and a plan, with no forms but those that show something.
+pub fn shown_lines(
+    alloc: Global,
+    nodes: &Nodes,
+    ranges: &Ranges,
+    plan: &Plan,
+) -> Result<Vec<NodeLine>, Memory> {
+    let list = nodes.list.as_slice();
+    lines(alloc, list, ranges, &plan.errors, list.len())
+}
+
 /// The lines of ranges and a plan, with the forms of all results.
 pub fn plan_lines(
     alloc: Global,
@@ -196,28 +207,6 @@ fn copied_steps(alloc: Global, steps: &[Step]) -> Result<Vec<Step>, Memory> {
     Ok(copies)
 }
 
-/// The certificate of a plan behind these steps.
-pub fn certificate_of(
-    alloc: Global,
-    inputs: u32,
-    nodes: &[Node],
-    ranges: &Ranges,
-    plan: &Plan,
-    steps: &[Step],
-) -> Result<Certificate, Memory> {
-    let lines = lines(alloc, nodes, ranges, &plan.errors, nodes.len())?;
-    let steps = copied_steps(alloc, steps)?;
-    Ok(Certificate {
-        inputs,
-        states: 0,
-        steps: Items::from_vec(steps),
-        starts: Items::from_vec(Vec::new(alloc)),
-        rows: Items::from_vec(Vec::new(alloc)),
-        error_rows: Items::from_vec(Vec::new(alloc)),
-        lines: Items::from_vec(lines),
-    })
-}
-
 /// Where a function with states starts, and the rows that one step keeps.
 #[derive(Debug, Drop)]
 pub struct Kept {
@@ -229,8 +218,19 @@ pub struct Kept {
     pub error_rows: Items<Row>,
 }
 
-/// The certificate of these lines for a function with states.
-pub fn state_certificate(
+impl Kept {
+    /// Nothing, of a function without states.
+    pub fn nothing(alloc: Global) -> Kept {
+        Kept {
+            starts: Vec::new(alloc),
+            rows: Items::from_vec(Vec::new(alloc)),
+            error_rows: Items::from_vec(Vec::new(alloc)),
+        }
+    }
+}
+
+/// The certificate of these lines behind these steps.
+pub fn certificate_of(
     alloc: Global,
     nodes: &Nodes,
     lines: Vec<NodeLine>,
