@@ -16,7 +16,8 @@ use fx_checker::Certified;
 use fx_expr::{Function, Items};
 use fx_flat::{Nodes, flatten};
 use fx_num::Memory;
-use fx_planning::{Grids, Kept, Plan, Ranges, Span, plan_lines, write_with_states};
+use fx_planning::{Kept, Plan, plan_lines, write_with_states};
+use fx_ranges::{Grids, Ranges, Span};
 use std::alloc::Global;
 
 /// So often points are chosen again, at most.

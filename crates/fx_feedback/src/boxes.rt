@@ -3,7 +3,8 @@
 use fx_cert::Row;
 use fx_interval::Interval;
 use fx_num::{Memory, floor_shift, left_fits};
-use fx_planning::{Span, interval};
+use fx_planning::interval;
+use fx_ranges::Span;
 use fx_reach::bits;
 use std::alloc::Global;
 

@@ -11,7 +11,8 @@ use fx_expr::Items;
 use fx_flat::Nodes;
 use fx_interval::{Interval, outward};
 use fx_num::{Dyadic, Memory, dle};
-use fx_planning::{Ranges, Span, range_lines};
+use fx_planning::range_lines;
+use fx_ranges::{Ranges, Span};
 use fx_reach::lowest;
 use std::alloc::Global;
 

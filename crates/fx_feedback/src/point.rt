@@ -3,7 +3,7 @@
 use crate::task::Task;
 use fx_flat::{Node, Nodes};
 use fx_num::Memory;
-use fx_planning::{Ranges, has_code, operands};
+use fx_ranges::{Ranges, has_code, operands};
 use std::alloc::Global;
 
 /// The least point.

@@ -8,8 +8,8 @@ use crate::task::Task;
 use fx_cert::NodeLine;
 use fx_conditions::Side;
 use fx_num::Memory;
-use fx_planning::Span;
 use fx_proposal::{Proposal, propose_rows};
+use fx_ranges::Span;
 use fx_reach::Transition;
 use std::alloc::Global;
 

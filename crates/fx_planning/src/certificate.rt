@@ -4,15 +4,13 @@
 //! goes to lowest terms.
 
 use crate::error::Errors;
-use crate::form::{Form, operands};
 use crate::plan::Plan;
-use crate::range::Ranges;
-use crate::span::{Scaled, Span};
 use fx_cert::{Certificate, Form as FormLine, NodeLine, Row, Share, StartBox};
 use fx_expr::Items;
 use fx_flat::{Node, Nodes};
 use fx_interval::Interval;
 use fx_num::{Dyadic, Memory, floor_shift};
+use fx_ranges::{Form, Ranges, Scaled, Span, operands};
 use fx_rewrite::Step;
 use std::alloc::Global;
 
@@ -125,13 +123,13 @@ fn line(
     let rest = errors.rest(n).unwrap_or(Span::ZERO);
     let is_shown = errors.shown.get(n).copied().unwrap_or(false);
     // a variable's form is itself, and isn't written
-    let form = if is_wanted && n >= ranges.rows.width() {
+    let form = if is_wanted && n >= ranges.variables() {
         ranges.form(n)
     } else {
         None
     };
     let form = match form {
-        Some(form) => Some(form_line(alloc, ranges.rows.row(n), &form, rest, is_shown)?),
+        Some(form) => Some(form_line(alloc, ranges.row(n), &form, rest, is_shown)?),
         None => None,
     };
     Ok(NodeLine { range, error, form })

@@ -2,14 +2,13 @@
 
 use crate::cost::{Cost, Goal, cost_of};
 use crate::error::{Errors, find_errors};
-use crate::range::{Failed, Ranges};
-use crate::setting::{Setting, codes_of, count_uses};
-use crate::span::Span;
+use crate::setting::{Setting, count_uses};
 use crate::tune::{try_word, tune};
 use fx_expr::Function;
 use fx_flat::Nodes;
 use fx_num::Memory;
 use fx_program::Code;
+use fx_ranges::{Failed, Ranges, Span, codes_of};
 use std::alloc::Global;
 
 /// The codes of all nodes, their errors, and what the plan costs.
