@@ -200,5 +200,6 @@ pub fn find_plan_in(
             is_held: false,
         },
     };
-    planned(alloc, &setting, codes, false)
+    let plan = planned(alloc, &setting, codes, false)?;
+    Ok(plan)
 }

@@ -1,5 +1,7 @@
 //! One step of the states, as rows see it.
 
+ghost use Rattle.std.specs.Prelude.{◌≡◌, ◌≤◌, ◌-◌, length};
+
 use fx_cert::NodeLine;
 use fx_flat::Nodes;
 
@@ -22,7 +24,13 @@ pub struct Transition<'a> {
 
 impl<'a> Transition<'a> {
     /// The step of these nodes, with their points and lines.
-    pub fn over(nodes: &Nodes, points: &'a [i32], lines: Vec<NodeLine>) -> Transition<'a> {
+    pub fn over(nodes: &Nodes, points: &'a [i32], lines: Vec<NodeLine>) -> Transition<'a>
+        ensures inputs { result.inputs ≡ nodes.now.inputs }
+        ensures states { result.states ≡ nodes.now.states }
+        ensures next { length nodes.now.list ≤ 4000 → result.next ≡ length nodes.now.list - nodes.now.states }
+        ensures points { result.points.now ≡ points.now }
+        ensures lines { result.lines ≡ lines }
+    {
         let next = nodes.list.len().saturating_sub(nodes.states as usize);
         Transition {
             inputs: nodes.inputs,
