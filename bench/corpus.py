@@ -1,10 +1,14 @@
 """The functions with state of examples/states, and their bundles. For bench/states.py, states_rows.py and driven.py."""
+import argparse
+import contextlib
 import glob
 import os
 import subprocess
+import tempfile
 from dataclasses import dataclass
 
 from linear import is_linear, linear_of
+from pages import put
 from sources import functions_of
 
 HERE = os.path.dirname(os.path.abspath(__file__))
@@ -70,3 +74,38 @@ def bundle_made(fixd, source, width, folder, limit):
     with open(path, "w", encoding="utf-8") as file:
         file.write(text)
     return path, seconds
+
+
+def bundles_at(fixd, source, folder, options):
+    """Returns for each width the file of the source's bundle, which is made where the folder hasn't it, or None."""
+    return [bundle_kept(source, width, folder) or bundle_made(fixd, source, width, folder, options.limit)[0] for width in options.widths]
+
+
+# ---- what the three scripts are called with, and hand out
+
+def parser_of(description):
+    """Returns a parser of the words that all of them take; the description's first line says what the script does."""
+    parser = argparse.ArgumentParser(description=description.splitlines()[0])
+    parser.add_argument("program", nargs="?", default=os.path.join(HERE, "../build/fixd"))
+    parser.add_argument("--widths", type=lambda text: [int(w) for w in text.split(",")], default=[16, 24, 32])
+    parser.add_argument("--only", type=lambda text: text.split(","))
+    parser.add_argument("--bundles", help="a folder in which the bundles are kept")
+    parser.add_argument("--limit", type=float, default=600, help="the seconds after which a search counts as not found")
+    parser.add_argument("--write", action="store_true", help="put what is printed into docs/states.md")
+    return parser
+
+
+@contextlib.contextmanager
+def bundle_folder(options):
+    """Gives the folder of the bundles: that of the options, or one that goes when the script ends."""
+    with tempfile.TemporaryDirectory(prefix="fixd-states-") as own:
+        folder = options.bundles or own
+        os.makedirs(folder, exist_ok=True)
+        yield folder
+
+
+def hand_out(options, name, text):
+    """Prints a text, and puts it into the page where that is wanted."""
+    print(text, end="")
+    if options.write:
+        put(PAGE, name, text)

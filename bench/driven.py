@@ -19,10 +19,8 @@ further from the exact output than its bound. The table has for each width:
 
 With --write the table goes to docs/states.md. Outside the gate; it takes some minutes.
 """
-import argparse
 import os
 import random
-import statistics
 import sys
 import tempfile
 import time
@@ -30,8 +28,8 @@ from dataclasses import dataclass
 from fractions import Fraction
 
 from calls import Fixd
-from corpus import HERE, PAGE, bundle_kept, bundle_made, corpus
-from pages import put
+from corpus import bundle_folder, bundles_at, corpus, hand_out, parser_of
+from pages import shown, summed
 from programs import codes_of, unit
 from states_rows import FINE, compiled, linear_step, lost_of, outputs_of, places_of, printed_value, spans_of, write_rows
 
@@ -378,17 +376,13 @@ def driven_of(fixd, case, options):
 
 def source_row(fixd, source, options, folder):
     """Returns for each width the output that is driven least far, None where there is no bundle, and the seconds."""
-    bundles = [bundle_kept(source, width, folder) or bundle_made(fixd, source, width, folder, options.limit)[0] for width in options.widths]
+    bundles = bundles_at(fixd, source, folder, options)
     lost, row = lost_of(source.linear) if any(bundles) else None, []
     for bundle in bundles:
         start = time.monotonic()
         found = driven_of(fixd, case_of(fixd, source, bundle, lost), options) if bundle else []
         row.append((min(found, key=lambda output: output.error, default=None), time.monotonic() - start))
     return row
-
-
-def shown(values):
-    return " ".join("-" if value is None else f"{value:.3f}" for value in values)
 
 
 def source_line(source, row):
@@ -402,27 +396,19 @@ def table(found, options):
     for k, width in enumerate(options.widths):
         at = [row[k][0] for _, row in found if row[k][0]]
         if at:
-            figures = [f"{statistics.median(values):.3f}, {min(values):.3f}" for values in ([x.error for x in at], [x.most for x in at])]
-            lines.append(f"| {width} | {len(at)} | {' | '.join(figures)} | {sum(row[k][1] for _, row in found) / 60:.1f} |")
+            errors, mosts = summed([x.error for x in at], min), summed([x.most for x in at], min)
+            lines.append(f"| {width} | {len(at)} | {errors} | {mosts} | {sum(row[k][1] for _, row in found) / 60:.1f} |")
     lines += ["", f"| source | error seen / bound at {', '.join(map(str, options.widths))} | losses at most / bound |", "|---|---|---|"]
     return "\n".join(lines + [source_line(source, row) for source, row in found]) + "\n"
 
 
 def main():
-    parser = argparse.ArgumentParser(description=__doc__.splitlines()[0])
-    parser.add_argument("program", nargs="?", default=os.path.join(HERE, "../build/fixd"))
-    parser.add_argument("--widths", type=lambda text: [int(w) for w in text.split(",")], default=[16, 24, 32])
-    parser.add_argument("--only", type=lambda text: text.split(","))
+    parser = parser_of(__doc__)
     parser.add_argument("--rows", type=int, default=3000, help="the most rows that are chosen for an output and a side")
     parser.add_argument("--draws", type=int, default=60_000, help=f"inputs drawn for all of them, {LEAST_TRIES} to {MOST_TRIES} a row")
-    parser.add_argument("--bundles", help="a folder with bundles, and for those that are made")
-    parser.add_argument("--limit", type=float, default=600, help="the seconds after which a search counts as not found")
-    parser.add_argument("--write", action="store_true", help="put the table into docs/states.md")
     options = parser.parse_args()
     fixd, found = Fixd(os.path.abspath(options.program)), []
-    with tempfile.TemporaryDirectory(prefix="fixd-driven-") as own:
-        folder = options.bundles or own
-        os.makedirs(folder, exist_ok=True)
+    with bundle_folder(options) as folder:
         for source in corpus(options.only):
             if source.linear and source.mark != "not found":
                 row = source_row(fixd, source, options, folder)
@@ -430,10 +416,7 @@ def main():
                     continue
                 found.append((source, row))
                 print(source_line(source, row), f"{sum(seconds for _, seconds in row):.1f} s", file=sys.stderr, flush=True)
-    text = table(found, options)
-    print(text, end="")
-    if options.write:
-        put(PAGE, "driven", text)
+    hand_out(options, "driven", table(found, options))
 
 
 if __name__ == "__main__":

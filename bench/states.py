@@ -14,17 +14,14 @@ known. A source whose comment begins with `not found` has no bound and must end 
 kept as NAME.WIDTH.bundle, and with --write the tables go to docs/states.md. Outside the gate: it takes some minutes, and seconds depend
 on the machine.
 """
-import argparse
 import os
-import statistics
 import sys
-import tempfile
 from dataclasses import dataclass
 from fractions import Fraction
 
 from calls import Fixd
-from corpus import HERE, PAGE, bundle_made, corpus
-from pages import put
+from corpus import bundle_folder, bundle_made, corpus, hand_out, parser_of
+from pages import shown, summed
 from programs import Roundings, codes_of
 
 LOST = Fraction(1, 2 ** 80)
@@ -99,11 +96,6 @@ def measured(fixd, source, width, options, folder):
 
 # ---- tables
 
-def shown(values):
-    """Returns figures side by side, a dash where there is none."""
-    return " ".join("-" if value is None else f"{value:.3f}" for value in values)
-
-
 def source_line(source, row, widths):
     found = " ".join(str(width) for width, at in zip(widths, row) if at.found) or "no"
     kind = source.kind() + (f", {source.mark}" if source.mark == "a limit" else "")
@@ -114,17 +106,13 @@ def source_line(source, row, widths):
     return "| " + " | ".join(map(str, [*fields, f"{seconds:.2f}"])) + " |"
 
 
-def median_and_worst(values, places=3):
-    return f"{statistics.median(values):.{places}f}, {max(values):.{places}f}" if values else "-"
-
-
 def width_line(width, column):
     """The figures of one width, of the sources that have a bound."""
     found = [at for at in column if at.found]
     ranges = [at.range_ratio for at in found if at.range_ratio is not None]
     errors = [at.error_ratio for at in found if at.error_ratio is not None]
-    seconds = median_and_worst([at.seconds for at in column], 2)
-    return f"| {width} | {len(found)} of {len(column)} | {median_and_worst(ranges)} | {median_and_worst(errors)} | {seconds} |"
+    seconds = summed([at.seconds for at in column], max, 2)
+    return f"| {width} | {len(found)} of {len(column)} | {summed(ranges, max)} | {summed(errors, max)} | {seconds} |"
 
 
 def tables(rows, widths):
@@ -139,25 +127,13 @@ def tables(rows, widths):
 
 
 def main():
-    parser = argparse.ArgumentParser(description=__doc__.splitlines()[0])
-    parser.add_argument("program", nargs="?", default=os.path.join(HERE, "../build/fixd"))
-    parser.add_argument("--widths", type=lambda text: [int(w) for w in text.split(",")], default=[16, 24, 32])
-    parser.add_argument("--only", type=lambda text: text.split(","))
-    parser.add_argument("--bundles", help="a folder in which the bundles are kept")
-    parser.add_argument("--limit", type=float, default=600, help="the seconds after which a search counts as not found")
-    parser.add_argument("--write", action="store_true", help="put the tables into docs/states.md")
-    options = parser.parse_args()
+    options = parser_of(__doc__).parse_args()
     fixd, rows = Fixd(os.path.abspath(options.program)), []
-    with tempfile.TemporaryDirectory(prefix="fixd-states-") as own:
-        folder = options.bundles or own
-        os.makedirs(folder, exist_ok=True)
+    with bundle_folder(options) as folder:
         for source in corpus(options.only):
             rows.append((source, [measured(fixd, source, width, options, folder) for width in options.widths]))
             print(source_line(*rows[-1], options.widths), file=sys.stderr, flush=True)
-    text = tables(rows, options.widths)
-    print(text, end="")
-    if options.write:
-        put(PAGE, "found", text)
+    hand_out(options, "found", tables(rows, options.widths))
 
 
 if __name__ == "__main__":

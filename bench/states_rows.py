@@ -21,20 +21,18 @@ The script ends with an error where a number is further off than its bound. Its 
 the bound, and the width of the exact outputs that were seen over that of the certified range; the worst output. With --write it goes to
 docs/states.md. Outside the gate; it takes some minutes.
 """
-import argparse
 import math
 import os
 import random
-import statistics
 import sys
 import tempfile
 from dataclasses import dataclass
 from fractions import Fraction
 
 from calls import Fixd
-from corpus import HERE, PAGE, bundle_kept, bundle_made, corpus
+from corpus import bundle_folder, bundles_at, corpus, hand_out, parser_of
 from linear import reach
-from pages import put
+from pages import shown, summed
 
 FINE, FINER = 200, 264
 LONGEST_HOLD = 2000
@@ -247,7 +245,7 @@ def compared(fixd, source, bundle, rows_file, exact, lost):
 
 def source_row(fixd, source, options, folder):
     """Returns what is seen of a source at each width, None where there is no bundle."""
-    bundles = [bundle_kept(source, width, folder) or bundle_made(fixd, source, width, folder, options.limit)[0] for width in options.widths]
+    bundles = bundles_at(fixd, source, folder, options)
     if not any(bundles):
         return bundles
     places = places_of(source.function)
@@ -260,17 +258,9 @@ def source_row(fixd, source, options, folder):
 
 # ---- the table
 
-def shown(values):
-    return " ".join("-" if value is None else f"{value:.3f}" for value in values)
-
-
 def source_line(source, row):
     fields = [f"`{source.name}`", source.kind(), shown(at and at.error for at in row), shown(at and at.range for at in row)]
     return "| " + " | ".join(fields) + " |"
-
-
-def summed(values, end):
-    return f"{statistics.median(values):.3f}, {end(values):.3f}" if values else "-"
 
 
 def table(found, options):
@@ -286,28 +276,17 @@ def table(found, options):
 
 
 def main():
-    parser = argparse.ArgumentParser(description=__doc__.splitlines()[0])
-    parser.add_argument("program", nargs="?", default=os.path.join(HERE, "../build/fixd"))
+    parser = parser_of(__doc__)
     parser.add_argument("--rows", type=int, default=100_000)
-    parser.add_argument("--widths", type=lambda text: [int(w) for w in text.split(",")], default=[16, 24, 32])
-    parser.add_argument("--only", type=lambda text: text.split(","))
-    parser.add_argument("--bundles", help="a folder with bundles, and for those that are made")
-    parser.add_argument("--limit", type=float, default=600, help="the seconds after which a search counts as not found")
-    parser.add_argument("--write", action="store_true", help="put the table into docs/states.md")
     options = parser.parse_args()
     fixd, found = Fixd(os.path.abspath(options.program)), []
-    with tempfile.TemporaryDirectory(prefix="fixd-states-") as own:
-        folder = options.bundles or own
-        os.makedirs(folder, exist_ok=True)
+    with bundle_folder(options) as folder:
         for source in corpus(options.only):
             row = source_row(fixd, source, options, folder)
             if any(row):
                 found.append((source, row))
                 print(source_line(source, row), file=sys.stderr, flush=True)
-    text = table(found, options)
-    print(text, end="")
-    if options.write:
-        put(PAGE, "seen", text)
+    hand_out(options, "seen", table(found, options))
 
 
 if __name__ == "__main__":

@@ -42,7 +42,7 @@ fn scale_of(rows: &[Row]) -> i32 {
 }
 
 /// The rows with their bounds for reaches.
-fn pool_of(alloc: Global, rows: &[Row], states: usize) -> Result<Pool, Memory> {
+pub fn pool_of(alloc: Global, rows: &[Row], states: usize) -> Result<Pool, Memory> {
     let scale = scale_of(rows);
     let mut pool = Pool::new(alloc, states, scale);
     for row in rows {
@@ -128,17 +128,16 @@ fn bound_of(
     with_states(second, c, rows, shares, states)
 }
 
-/// Takes a combination apart by rows that stand, if its numbers have few enough bits.
+/// Takes a combination apart by rows that stand, if its numbers have few enough bits. The rows are those that were scaled.
 pub fn take_apart(
     alloc: Global,
     c: &Combination<'_>,
     rows: &[Row],
-    states: usize,
+    scaled: &ScaledRows<'_>,
 ) -> Result<Option<Apart>, Memory> {
-    let pool = pool_of(alloc, rows, states)?;
-    let scaled = ScaledRows::of(alloc, &pool)?;
+    let states = scaled.states();
     let row = state_part(alloc, c, states)?;
-    let found = exchange(alloc, &scaled, &row)?;
+    let found = exchange(alloc, scaled, &row)?;
     match bound_of(c, rows, &found.shares, states) {
         Some(bound) => Ok(Some(Apart {
             shares: Items::from_vec(found.shares),

@@ -5,7 +5,7 @@
 
 use fx_cert::Share;
 use fx_num::{Memory, floor_shift, left_fits};
-use fx_reach::{PLACES, Pool, bits, product, quotient, share_of};
+use fx_reach::{PLACES, Pool, bits, product, quotient, share_of, unit_cost, unit_row};
 use std::alloc::Global;
 
 /// How many binary places entries have.
@@ -18,6 +18,8 @@ const ONE: i128 = 1 << EXCHANGE_PLACES;
 #[derive(Debug, Drop)]
 pub struct ScaledRows<'a> {
     pool: &'a Pool,
+    /// What the unit rows cost.
+    costs: Vec<i128>,
     rows: Vec<Option<Vec<i128>>>,
 }
 
@@ -52,14 +54,16 @@ fn scaled_entry(entry: i128, state_cost: i128, cost: i128) -> Option<i128> {
     Some(entry)
 }
 
-/// Row `i` scaled.
-fn scaled_row(alloc: Global, pool: &Pool, i: usize) -> Result<Option<Vec<i128>>, Memory> {
-    let row = pool.row(i);
-    let cost = pool.cost(i);
+/// A row of this cost in the scaled coordinates, where the unit rows have these costs.
+fn scaled_row(
+    alloc: Global,
+    row: &[i128],
+    costs: &[i128],
+    cost: i128,
+) -> Result<Option<Vec<i128>>, Memory> {
     let mut scaled = Vec::new(alloc);
-    for j in 0..pool.states {
-        let entry = row.get(j).copied().unwrap_or(0);
-        match scaled_entry(entry, pool.cost(j), cost) {
+    for (entry, state_cost) in row.iter().zip(costs) {
+        match scaled_entry(*entry, *state_cost, cost) {
             Some(entry) => scaled.push(entry)?,
             None => return Ok(None),
         }
@@ -67,24 +71,29 @@ fn scaled_row(alloc: Global, pool: &Pool, i: usize) -> Result<Option<Vec<i128>>,
     Ok(Some(scaled))
 }
 
+/// What the unit rows of a pool cost.
+fn unit_costs(alloc: Global, pool: &Pool) -> Result<Vec<i128>, Memory> {
+    let mut costs = Vec::new(alloc);
+    for j in 0..pool.states {
+        costs.push(pool.cost(j))?;
+    }
+    Ok(costs)
+}
+
 impl<'a> ScaledRows<'a> {
     /// The rows of a pool behind its unit rows.
     pub fn of(alloc: Global, pool: &'a Pool) -> Result<ScaledRows<'a>, Memory> {
+        let costs = unit_costs(alloc, pool)?;
         let mut rows = Vec::new(alloc);
         for i in pool.states..pool.len() {
-            rows.push(scaled_row(alloc, pool, i)?)?;
+            rows.push(scaled_row(alloc, pool.row(i), &costs, pool.cost(i))?)?;
         }
-        Ok(ScaledRows { pool, rows })
+        Ok(ScaledRows { pool, costs, rows })
     }
 
-    /// What the unit rows cost for a row.
-    fn unit_cost(&self, row: &[i128]) -> Option<i128> {
-        let mut total: i128 = 0;
-        for j in 0..self.pool.states {
-            let entry = row.get(j).copied()?.checked_abs()?;
-            total = total.checked_add(entry.checked_mul(self.pool.cost(j))?)?;
-        }
-        Some(floor_shift(total, PLACES))
+    /// How many states the rows are of.
+    pub fn states(&self) -> usize {
+        self.pool.states
     }
 }
 
@@ -97,15 +106,6 @@ fn dot(a: &[i128], b: &[i128]) -> Option<i128> {
         }
     }
     Some(floor_shift(total, EXCHANGE_PLACES))
-}
-
-/// A unit vector with one entry.
-fn unit(alloc: Global, states: usize, i: usize, entry: i128) -> Result<Vec<i128>, Memory> {
-    let mut row = vec![in alloc; 0_i128; states]?;
-    if let Some(slot) = row.get_mut(i) {
-        *slot = entry;
-    }
-    Ok(row)
 }
 
 /// A row to come into the basis, with its sign and how much it gains.
@@ -144,9 +144,8 @@ impl Basis {
         for j in 0..states {
             let sign = if row[j] >= 0 { 1 } else { -1 };
             basis.rows.push((j, sign))?;
-            basis
-                .inverse
-                .push(unit(alloc, states, j, if sign < 0 { -ONE } else { ONE })?)?;
+            let entry = if sign < 0 { -ONE } else { ONE };
+            basis.inverse.push(unit_row(alloc, states, j, entry)?)?;
             basis.times.push(row[j].saturating_abs())?;
         }
         Ok(basis)
@@ -335,29 +334,11 @@ fn reduce_row(own: &mut Vec<i128>, row: &[i128], c: i128) -> Option<()> {
     Some(())
 }
 
-/// A row over its cost, in the scaled coordinates.
-fn goal_row(
-    alloc: Global,
-    pool: &Pool,
-    row: &[i128],
-    cost: i128,
-) -> Result<Option<Vec<i128>>, Memory> {
-    let mut goal = Vec::new(alloc);
-    for j in 0..pool.states {
-        let entry = row.get(j).copied().unwrap_or(0);
-        match scaled_entry(entry, pool.cost(j), cost) {
-            Some(entry) => goal.push(entry)?,
-            None => return Ok(None),
-        }
-    }
-    Ok(Some(goal))
-}
-
 /// The entering row itself.
 fn entering_row(alloc: Global, scaled: &ScaledRows<'_>, i: usize) -> Result<Vec<i128>, Memory> {
     let states = scaled.pool.states;
     if i < states {
-        return unit(alloc, states, i, ONE);
+        return unit_row(alloc, states, i, ONE);
     }
     match scaled.rows.get(i.saturating_sub(states)) {
         Some(Some(row)) => Ok(Vec::from_slice(alloc, row)?),
@@ -438,10 +419,10 @@ pub fn exchange(alloc: Global, scaled: &ScaledRows<'_>, row: &[i128]) -> Result<
         cost: 0,
         shares: Vec::new(alloc),
     };
-    let Some(cost) = scaled.unit_cost(row) else {
+    let Some(cost) = unit_cost(row, &scaled.costs) else {
         return Ok(none);
     };
-    let Some(goal) = goal_row(alloc, scaled.pool, row, cost)? else {
+    let Some(goal) = scaled_row(alloc, row, &scaled.costs, cost)? else {
         return Ok(none);
     };
     let mut basis = Basis::units(alloc, &goal)?;

@@ -10,5 +10,5 @@
 mod apart;
 mod basis;
 
-pub use apart::{Apart, Combination, take_apart};
+pub use apart::{Apart, Combination, pool_of, take_apart};
 pub use basis::{Exchanged, ScaledRows, exchange};

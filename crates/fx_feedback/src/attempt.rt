@@ -6,47 +6,44 @@ ghost use Rattle.fx_feedback.specs.Answers.{IsOffered};
 
 use crate::boxes::intervals;
 use crate::narrow::{narrow_outputs, narrow_ranges, put_shares};
-use crate::point::{caps_of_negated, first_next, greatest_points, lowered_caps};
-use crate::settle::{Errors, Values, settle_errors, settle_values};
+use crate::point::{caps_of_negated, decider, greatest_points, lowered_caps};
+use crate::settle::{Settled, settle};
+use crate::sides::{OfErrors, OfValues};
 use crate::task::Task;
 use crate::verdict::judged;
 use fx_cert::{Share, StartBox};
 use fx_checker::Certified;
 use fx_expr::{Function, Items};
-use fx_flat::{Node, Nodes, flatten};
+use fx_flat::{Nodes, flatten};
 use fx_num::Memory;
-use fx_planning::{Grids, Kept, plan_lines, write_with_states};
+use fx_planning::{Kept, Plan, plan_lines, write_with_states};
+use fx_ranges::{Grids, Ranges, Span};
 use std::alloc::Global;
 
 /// So often points are chosen again, at most.
 const TURNS: u32 = 12;
 
+/// Points, and a plan at them with error boxes that stand.
+#[derive(Debug, Drop)]
+struct Errors {
+    points: Vec<i32>,
+    settled: Settled<Plan>,
+}
+
 /// The points up to these caps, with products no finer than what they go into.
 fn points_within(
     alloc: Global,
     task: Task<'_>,
-    values: &Values,
+    ranges: &Ranges,
     caps: &[i32],
 ) -> Result<Option<Vec<i32>>, Memory> {
     let nodes = task.nodes.list.as_slice();
-    let caps = caps_of_negated(alloc, nodes, &values.ranges, task.width, caps)?;
-    let Some(points) = greatest_points(alloc, task, &values.ranges, &caps)? else {
+    let caps = caps_of_negated(alloc, nodes, ranges, task.width, caps)?;
+    let Some(points) = greatest_points(alloc, task, ranges, &caps)? else {
         return Ok(None);
     };
     let caps = lowered_caps(alloc, nodes, &points, &caps)?;
-    greatest_points(alloc, task, &values.ranges, &caps)
-}
-
-/// The node whose point decides that of node `n`: of the copy of a next state its state, of a negation its operand.
-fn decider(nodes: &Nodes, n: usize) -> usize {
-    let first = first_next(nodes);
-    if n >= first {
-        return (nodes.inputs as usize).saturating_add(n.saturating_sub(first));
-    }
-    match nodes.list.as_slice().get(n) {
-        Some(Node::Neg { a }) => *a as usize,
-        _ => n,
-    }
+    greatest_points(alloc, task, ranges, &caps)
 }
 
 /// Puts the caps of what decides too small words below their points.
@@ -60,29 +57,33 @@ fn lower(nodes: &Nodes, caps: &mut [i32], points: &[i32], small: &[u32]) {
 }
 
 /// Errors at points at which no word is too small.
-fn backed_off(alloc: Global, task: Task<'_>, values: &Values) -> Result<Option<Errors>, Memory> {
+fn backed_off(alloc: Global, task: Task<'_>, ranges: &Ranges) -> Result<Option<Errors>, Memory> {
     let mut caps = vec![in alloc; 62_i32; task.nodes.list.len()]?;
     let mut before = None;
     for _turn in 0..TURNS {
-        let Some(points) = points_within(alloc, task, values, &caps)? else {
+        let Some(points) = points_within(alloc, task, ranges, &caps)? else {
             return Ok(None);
         };
-        let Some(errors) = settle_errors(alloc, task, &values.ranges, &points, before)? else {
+        let kind = OfErrors {
+            ranges,
+            points: &points,
+        };
+        let Some(settled) = settle(alloc, task, &kind, before)? else {
             return Ok(None);
         };
-        if errors.plan.small().is_empty() {
-            return Ok(Some(errors));
+        if settled.found.small().is_empty() {
+            return Ok(Some(Errors { points, settled }));
         }
-        lower(task.nodes, &mut caps, &points, errors.plan.small());
-        before = Some(errors.proposal);
+        lower(task.nodes, &mut caps, &points, settled.found.small());
+        before = Some(settled.proposal);
     }
     Ok(None)
 }
 
-/// The boxes in which the states start.
-fn start_boxes(alloc: Global, values: &Values, errors: &Errors) -> Result<Vec<StartBox>, Memory> {
-    let ranges = intervals(alloc, &values.starts)?;
-    let words = intervals(alloc, &errors.starts)?;
+/// The boxes in which the states start, by value and by error.
+fn start_boxes(alloc: Global, values: &[Span], errors: &[Span]) -> Result<Vec<StartBox>, Memory> {
+    let ranges = intervals(alloc, values)?;
+    let words = intervals(alloc, errors)?;
     let mut boxes = Vec::new(alloc);
     for (range, error) in ranges.iter().zip(&words) {
         boxes.push(StartBox {
@@ -97,33 +98,29 @@ fn start_boxes(alloc: Global, values: &Values, errors: &Errors) -> Result<Vec<St
 fn checked(
     alloc: Global,
     task: Task<'_>,
-    values: Values,
+    values: Settled<Ranges>,
     shares: Vec<Option<Items<Share>>>,
     errors: Errors,
 ) -> Result<Option<Certified>, Memory>
     ensures { IfOk result (IsOffered task.entry.width task.entry.function.now) }
 {
-    let starts = start_boxes(alloc, &values, &errors)?;
-    let mut lines = plan_lines(alloc, task.nodes, &values.ranges, &errors.plan)?;
+    let Errors { points, settled } = errors;
+    let starts = start_boxes(alloc, &values.starts, &settled.starts)?;
+    let mut lines = plan_lines(alloc, task.nodes, &values.found, &settled.found)?;
     put_shares(&mut lines, shares);
-    narrow_outputs(
-        alloc,
-        task.nodes,
-        &mut lines,
-        errors.proposal.rows(),
-        &errors.points,
-    )?;
+    let rows = settled.proposal.rows();
+    narrow_outputs(alloc, task.nodes, &mut lines, rows, &points)?;
     let kept = Kept {
         starts,
         rows: values.proposal.into_rows(),
-        error_rows: errors.proposal.into_rows(),
+        error_rows: settled.proposal.into_rows(),
     };
     let written = write_with_states(
         alloc,
         task.function,
         &[],
         task.nodes,
-        &errors.plan,
+        &settled.found,
         lines,
         kept,
     )?;
@@ -135,11 +132,11 @@ fn checked(
 fn attempted(alloc: Global, task: Task<'_>) -> Result<Option<Certified>, Memory>
     ensures { IfOk result (IsOffered task.entry.width task.entry.function.now) }
 {
-    let Some(mut values) = settle_values(alloc, task)? else {
+    let Some(mut values) = settle(alloc, task, &OfValues, None)? else {
         return Ok(None);
     };
-    let shares = narrow_ranges(alloc, task, &mut values)?;
-    match backed_off(alloc, task, &values)? {
+    let shares = narrow_ranges(alloc, task, &mut values.found, values.proposal.rows())?;
+    match backed_off(alloc, task, &values.found)? {
         Some(errors) => checked(alloc, task, values, shares, errors),
         None => Ok(None),
     }

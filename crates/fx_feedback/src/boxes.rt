@@ -3,7 +3,9 @@
 use fx_cert::Row;
 use fx_interval::Interval;
 use fx_num::{Memory, floor_shift, left_fits};
-use fx_planning::{Span, interval};
+use fx_planning::interval;
+use fx_ranges::Span;
+use fx_reach::bits;
 use std::alloc::Global;
 
 /// An interval over one exponent.
@@ -16,19 +18,14 @@ pub fn span_of(x: Interval) -> Option<Span> {
     })
 }
 
-/// The same number over more places.
-fn raised(m: i128, places: u32) -> Option<i128> {
-    left_fits(m, places)
-}
-
 /// What holds both.
 fn hull(a: Span, b: Span) -> Option<Span> {
     let e = a.e.max(b.e);
     let x = e.checked_sub(a.e)?;
     let y = e.checked_sub(b.e)?;
     Some(Span {
-        lo: raised(a.lo, x)?.min(raised(b.lo, y)?),
-        hi: raised(a.hi, x)?.max(raised(b.hi, y)?),
+        lo: left_fits(a.lo, x)?.min(left_fits(b.lo, y)?),
+        hi: left_fits(a.hi, x)?.max(left_fits(b.hi, y)?),
         e,
     })
 }
@@ -37,7 +34,7 @@ fn hull(a: Span, b: Span) -> Option<Span> {
 fn holds(outer: Span, inner: Span) -> Option<bool> {
     let both = hull(outer, inner)?;
     let places = both.e.checked_sub(outer.e)?;
-    Some(raised(outer.lo, places)? == both.lo && raised(outer.hi, places)? == both.hi)
+    Some(left_fits(outer.lo, places)? == both.lo && left_fits(outer.hi, places)? == both.hi)
 }
 
 /// A box wider by `2^-places` of its width on both sides.
@@ -57,8 +54,11 @@ fn next_box(old: Span, bound: Interval, places: u32) -> Option<Span> {
         return Some(old);
     }
     let wider = widened(hull(old, bound)?, places)?;
-    let bits = 128_u32.saturating_sub(wider.size().leading_zeros());
-    let e = wider.e.saturating_add(44).saturating_sub(bits).min(90);
+    let e = wider
+        .e
+        .saturating_add(44)
+        .saturating_sub(bits(wider.size()))
+        .min(90);
     Some(wider.outward(e))
 }
 

@@ -14,6 +14,7 @@ mod boxes;
 mod narrow;
 mod point;
 mod settle;
+mod sides;
 mod task;
 mod verdict;
 

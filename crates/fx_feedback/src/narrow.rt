@@ -4,27 +4,27 @@
 //! an exchange finds which of them to take. Ranges are narrowed before there are points, in the order of the nodes.
 
 use crate::boxes::span_of;
-use crate::settle::Values;
 use crate::task::Task;
 use fx_cert::{Form, NodeLine, Row, Share};
-use fx_exchange::{Apart, Combination, take_apart};
+use fx_exchange::{Apart, Combination, ScaledRows, pool_of, take_apart};
 use fx_expr::Items;
 use fx_flat::Nodes;
 use fx_interval::{Interval, outward};
 use fx_num::{Dyadic, Memory, dle};
-use fx_planning::{Ranges, Span, range_lines};
+use fx_planning::range_lines;
+use fx_ranges::{Ranges, Span};
 use fx_reach::lowest;
 use std::alloc::Global;
 
 /// How many places behind its point an error has.
 const ERROR_PLACES: i32 = 16;
 
-/// Where the inputs lie, and rows of the states.
+/// Where the inputs lie, and rows of the states, which are scaled once for all nodes.
 #[derive(Clone, Copy, Debug)]
 struct Standing<'a> {
     spans: &'a [Interval],
     rows: &'a [Row],
-    states: usize,
+    scaled: &'a ScaledRows<'a>,
 }
 
 impl<'a> Standing<'a> {
@@ -40,7 +40,7 @@ impl<'a> Standing<'a> {
             spans: self.spans,
             rest,
         };
-        take_apart(alloc, &combination, self.rows, self.states)
+        take_apart(alloc, &combination, self.rows, self.scaled)
     }
 }
 
@@ -118,10 +118,11 @@ pub fn narrow_outputs(
 ) -> Result<(), Memory> {
     let spans = input_errors(alloc, lines, nodes.inputs)?;
     let states = nodes.states as usize;
+    let pool = pool_of(alloc, rows, states)?;
     let standing = Standing {
         spans: &spans,
         rows,
-        states,
+        scaled: &ScaledRows::of(alloc, &pool)?,
     };
     let end = nodes.list.len().saturating_sub(states);
     let start = end.saturating_sub(nodes.outputs as usize);
@@ -192,50 +193,48 @@ fn range_by_rows(
 fn narrow_node(
     alloc: Global,
     task: Task<'_>,
-    values: &mut Values,
+    ranges: &mut Ranges,
     n: usize,
     line: &NodeLine,
-    spans: &[Interval],
+    standing: Standing<'_>,
 ) -> Result<Option<Items<Share>>, Memory> {
     let Some(node) = task.nodes.list.as_slice().get(n) else {
         return Ok(None);
     };
-    let standing = Standing {
-        spans,
-        rows: values.proposal.rows(),
-        states: task.nodes.states as usize,
-    };
     match range_by_rows(alloc, task, line, standing)? {
-        Some((span, shares)) => if values.ranges.narrow(n, node, Some(span)) {
+        Some((span, shares)) => if ranges.narrow(n, node, Some(span)) {
             Ok(Some(shares))
         } else {
             Ok(None)
         },
         None => {
-            values.ranges.narrow(n, node, None);
+            ranges.narrow(n, node, None);
             Ok(None)
         }
     }
 }
 
-/// Narrows all ranges, and gives the shares that show them, node by node.
+/// Narrows all ranges by these rows, and gives the shares that show them, node by node.
 pub fn narrow_ranges(
     alloc: Global,
     task: Task<'_>,
-    values: &mut Values,
+    ranges: &mut Ranges,
+    rows: &[Row],
 ) -> Result<Vec<Option<Items<Share>>>, Memory> {
     let inputs = task.nodes.inputs as usize;
-    let lines = range_lines(alloc, task.nodes, &values.ranges)?;
+    let states = task.nodes.states as usize;
+    let lines = range_lines(alloc, task.nodes, ranges)?;
     let spans = input_ranges(alloc, &lines, inputs)?;
-    narrow_states(
-        &mut values.ranges,
-        values.proposal.rows(),
-        inputs,
-        task.nodes.states as usize,
-    );
+    let pool = pool_of(alloc, rows, states)?;
+    let standing = Standing {
+        spans: &spans,
+        rows,
+        scaled: &ScaledRows::of(alloc, &pool)?,
+    };
+    narrow_states(ranges, rows, inputs, states);
     let mut shares = Vec::new(alloc);
     for (n, line) in lines.iter().enumerate() {
-        shares.push(narrow_node(alloc, task, values, n, line, &spans)?)?;
+        shares.push(narrow_node(alloc, task, ranges, n, line, standing)?)?;
     }
     Ok(shares)
 }

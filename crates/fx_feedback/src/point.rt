@@ -3,7 +3,7 @@
 use crate::task::Task;
 use fx_flat::{Node, Nodes};
 use fx_num::Memory;
-use fx_planning::{Ranges, has_code, operands};
+use fx_ranges::{Ranges, has_code, operands};
 use std::alloc::Global;
 
 /// The least point.
@@ -26,16 +26,16 @@ pub fn first_next(nodes: &Nodes) -> usize {
     nodes.list.len().saturating_sub(nodes.states as usize)
 }
 
-/// The only point that a negation, or the copy of a next state, can have.
-fn only_point(nodes: &Nodes, n: usize, points: &[i32]) -> Option<i32> {
+/// The node whose point is the only one that node `n` can have: of the copy of a next state its state, of a negation its
+/// operand, of others itself.
+pub fn decider(nodes: &Nodes, n: usize) -> usize {
     let first = first_next(nodes);
     if n >= first {
-        let state = (nodes.inputs as usize).saturating_add(n.saturating_sub(first));
-        return points.get(state).copied();
+        return (nodes.inputs as usize).saturating_add(n.saturating_sub(first));
     }
     match nodes.list.as_slice().get(n) {
-        Some(Node::Neg { a }) => points.get(*a as usize).copied(),
-        _ => None,
+        Some(Node::Neg { a }) => *a as usize,
+        _ => n,
     }
 }
 
@@ -55,9 +55,11 @@ fn greatest(task: Task<'_>, n: usize, points: &[i32], cap: i32) -> Option<i32> {
 /// The point of node `n`.
 fn point_of(task: Task<'_>, ranges: &Ranges, n: usize, points: &[i32], cap: i32) -> Option<i32> {
     let cap = cap_of(task.nodes, ranges, n, task.width, cap);
-    let Some(only) = only_point(task.nodes, n, points) else {
+    let decider = decider(task.nodes, n);
+    if decider == n {
         return greatest(task, n, points, cap);
-    };
+    }
+    let only = points.get(decider).copied()?;
     let node = task.nodes.list.as_slice().get(n)?;
     if only <= ranges.cap(n, task.width)?
         && has_code(task.function, node, only, points, task.width)

@@ -2,7 +2,7 @@
 
 use fx_expr::Function;
 use fx_flat::Nodes;
-use fx_planning::Grids;
+use fx_ranges::Grids;
 
 /// What an attempt goes on.
 #[derive(Clone, Copy, Debug)]

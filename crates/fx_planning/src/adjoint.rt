@@ -1,10 +1,8 @@
 //! How an output moves with each node: an interval of its derivative, by one loop from the outputs back.
 
-use crate::range::Ranges;
-use crate::real::Real;
-use crate::span::Span;
 use fx_flat::Node;
 use fx_num::Memory;
+use fx_ranges::{Ranges, Real, Span};
 use std::alloc::Global;
 
 /// The numbers from one to another.

@@ -4,13 +4,11 @@
 //! take that off again. A literal that is used twice stays: what was worked out with it would be wrong.
 
 use crate::error::{Errors, plain_error};
-use crate::form::operands;
-use crate::literal::word_error;
-use crate::setting::{Setting, word_at};
-use crate::span::Span;
+use crate::setting::Setting;
 use fx_flat::Node;
 use fx_num::{floor_shift, left_fits};
 use fx_program::Code;
+use fx_ranges::{Span, operands, word_at, word_error};
 
 /// The literal among an operation's operands that may be moved, and the other operand.
 fn movable(setting: &Setting<'_>, n: usize) -> Option<(usize, usize)> {
@@ -79,7 +77,7 @@ fn moved(
     let before = errors.span(c)?;
     errors.put(
         c,
-        word_error(setting.literal(c)?, word, f, setting.ranges.grids)?,
+        word_error(setting.literal(c)?, word, f, setting.ranges.grids())?,
     )?;
     let found = plain_error(setting, errors, &code, setting.points.get(n).copied()?)?;
     if found.is_smaller(error)? {

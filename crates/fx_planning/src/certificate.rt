@@ -4,15 +4,13 @@
 //! goes to lowest terms.
 
 use crate::error::Errors;
-use crate::form::{Form, operands};
 use crate::plan::Plan;
-use crate::range::Ranges;
-use crate::span::{Scaled, Span};
 use fx_cert::{Certificate, Form as FormLine, NodeLine, Row, Share, StartBox};
 use fx_expr::Items;
 use fx_flat::{Node, Nodes};
 use fx_interval::Interval;
 use fx_num::{Dyadic, Memory, floor_shift};
+use fx_ranges::{Form, Ranges, Scaled, Span, operands};
 use fx_rewrite::Step;
 use std::alloc::Global;
 
@@ -125,13 +123,13 @@ fn line(
     let rest = errors.rest(n).unwrap_or(Span::ZERO);
     let is_shown = errors.shown.get(n).copied().unwrap_or(false);
     // a variable's form is itself, and isn't written
-    let form = if is_wanted && n >= ranges.rows.width() {
+    let form = if is_wanted && n >= ranges.variables() {
         ranges.form(n)
     } else {
         None
     };
     let form = match form {
-        Some(form) => Some(form_line(alloc, ranges.rows.row(n), &form, rest, is_shown)?),
+        Some(form) => Some(form_line(alloc, ranges.row(n), &form, rest, is_shown)?),
         None => None,
     };
     Ok(NodeLine { range, error, form })
@@ -166,6 +164,17 @@ pub fn range_lines(alloc: Global, nodes: &Nodes, ranges: &Ranges) -> Result<Vec<
     lines(alloc, list, ranges, &errors, first_result(nodes))
 }
 
+/// The lines of ranges and a plan, with no forms but those that show something.
+pub fn shown_lines(
+    alloc: Global,
+    nodes: &Nodes,
+    ranges: &Ranges,
+    plan: &Plan,
+) -> Result<Vec<NodeLine>, Memory> {
+    let list = nodes.list.as_slice();
+    lines(alloc, list, ranges, &plan.errors, list.len())
+}
+
 /// The lines of ranges and a plan, with the forms of all results.
 pub fn plan_lines(
     alloc: Global,
@@ -196,28 +205,6 @@ fn copied_steps(alloc: Global, steps: &[Step]) -> Result<Vec<Step>, Memory> {
     Ok(copies)
 }
 
-/// The certificate of a plan behind these steps.
-pub fn certificate_of(
-    alloc: Global,
-    inputs: u32,
-    nodes: &[Node],
-    ranges: &Ranges,
-    plan: &Plan,
-    steps: &[Step],
-) -> Result<Certificate, Memory> {
-    let lines = lines(alloc, nodes, ranges, &plan.errors, nodes.len())?;
-    let steps = copied_steps(alloc, steps)?;
-    Ok(Certificate {
-        inputs,
-        states: 0,
-        steps: Items::from_vec(steps),
-        starts: Items::from_vec(Vec::new(alloc)),
-        rows: Items::from_vec(Vec::new(alloc)),
-        error_rows: Items::from_vec(Vec::new(alloc)),
-        lines: Items::from_vec(lines),
-    })
-}
-
 /// Where a function with states starts, and the rows that one step keeps.
 #[derive(Debug, Drop)]
 pub struct Kept {
@@ -229,8 +216,19 @@ pub struct Kept {
     pub error_rows: Items<Row>,
 }
 
-/// The certificate of these lines for a function with states.
-pub fn state_certificate(
+impl Kept {
+    /// Nothing, of a function without states.
+    pub fn nothing(alloc: Global) -> Kept {
+        Kept {
+            starts: Vec::new(alloc),
+            rows: Items::from_vec(Vec::new(alloc)),
+            error_rows: Items::from_vec(Vec::new(alloc)),
+        }
+    }
+}
+
+/// The certificate of these lines behind these steps.
+pub fn certificate_of(
     alloc: Global,
     nodes: &Nodes,
     lines: Vec<NodeLine>,

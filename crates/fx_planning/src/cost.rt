@@ -3,10 +3,9 @@
 //! First comes by how much a bound is above what it has to keep, then the bounds' mean. What fails costs more than any
 //! plan, and the less the further on in the list of nodes it fails.
 
-use crate::real::Real;
-use crate::span::Span;
 use fx_expr::Function;
 use fx_fraction::{Decimal, to_fraction};
+use fx_ranges::{Real, Span};
 
 /// What bounds are measured by: those of another plan.
 #[derive(Clone, Copy, Debug)]

@@ -4,14 +4,14 @@
 //! a node has a form, its error has one too, over the inputs' errors, and the narrower of both stands.
 
 use crate::centre::centred;
-use crate::form::{Form, mix_of, operands, weighted};
-use crate::literal::{fits_word, reading_error, unit_on, word_error};
-use crate::range::{Failed, quotient};
 use crate::setting::Setting;
-use crate::span::{Scaled, Span};
 use fx_fraction::Fraction;
 use fx_num::{Memory, left_fits};
 use fx_program::Code;
+use fx_ranges::{
+    Failed, Form, Scaled, Span, mix_of, operands, quotient, reading_error, unit_on, weighted,
+    word_error,
+};
 use std::alloc::Global;
 
 /// What the second pass says of all nodes.
@@ -177,7 +177,7 @@ pub fn plain_error(
     code: &Code,
     point: i32,
 ) -> Option<Span> {
-    let e = setting.ranges.grids.error_places_at(point);
+    let e = setting.ranges.grids().error_places_at(point);
     Some(unrounded_error(setting, errors, code, point)?.outward(e))
 }
 
@@ -195,9 +195,9 @@ fn cut_share(
     let mix = mix_of(node, form, ranges.grid(a), ranges.grid(b))?;
     let places = mix.e.checked_sub(form.e)?;
     let mut sum = rest;
-    for k in 0..ranges.rows.width() {
-        let exact = mix.of(ranges.rows.at(a, k)?, ranges.rows.at(b, k)?)?;
-        let m = exact.checked_sub(left_fits(ranges.rows.at(n, k)?, places)?)?;
+    for k in 0..ranges.variables() {
+        let exact = mix.of(ranges.coefficient(a, k)?, ranges.coefficient(b, k)?)?;
+        let m = exact.checked_sub(left_fits(ranges.coefficient(n, k)?, places)?)?;
         if m != 0 {
             sum = sum.plus(errors.span(k)?.scaled(Scaled { m, e: mix.e })?)?;
         }
@@ -240,10 +240,10 @@ fn formed_error(
     };
     let e = setting
         .ranges
-        .grids
+        .grids()
         .error_places_at(setting.points.get(n).copied()?);
     let rest = error_rest(setting, errors, n, code, &form)?.outward(e);
-    let row = setting.ranges.rows.row(n);
+    let row = setting.ranges.row(n);
     let by_form = weighted(row, form.e, rest, &errors.spans)?.outward(e);
     let is_shown = by_form.is_narrower(plain)?;
     Some(NodeError {
@@ -261,7 +261,7 @@ fn quotient_error(
     (a, b): (usize, usize),
 ) -> Option<Span> {
     let point = setting.points.get(n).copied()?;
-    let e = setting.ranges.grids.error_places_at(point);
+    let e = setting.ranges.grids().error_places_at(point);
     let divisor = setting.ranges.span(b)?;
     let seen = divisor.plus(errors.span(b)?)?;
     if !divisor.is_clear() || !seen.is_clear() || (divisor.lo > 0) != (seen.lo > 0) {
@@ -287,7 +287,7 @@ fn literal_error(
     let Code::Const { w, f } = codes.get(n)? else {
         return None;
     };
-    let span = word_error(c, i128::from(*w), *f, setting.ranges.grids)?;
+    let span = word_error(c, i128::from(*w), *f, setting.ranges.grids())?;
     Some(NodeError::plain(span))
 }
 
@@ -296,7 +296,7 @@ fn input_error(setting: &Setting<'_>, n: usize, k: usize) -> Option<NodeError> {
     let function = setting.function;
     let input = function.inputs.as_slice().get(k)?;
     let point = setting.points.get(n).copied()?;
-    let e = setting.ranges.grids.error_places_at(point);
+    let e = setting.ranges.grids().error_places_at(point);
     Some(NodeError {
         span: reading_error(input.err, point, e)?,
         rest: Span::ZERO,
@@ -354,9 +354,8 @@ fn node_error(
 
 /// Whether the word of a node is too small for what the machine may hold there.
 fn is_small(setting: &Setting<'_>, n: usize, error: Span) -> Option<bool> {
-    let held = setting.ranges.span(n)?.plus(error)?;
     let point = setting.points.get(n).copied()?;
-    Some(!fits_word(held, point, setting.width))
+    Some(!setting.ranges.fits(n, error, point, setting.width)?)
 }
 
 /// The errors of all nodes, or the first node that has none.

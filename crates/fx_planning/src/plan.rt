@@ -2,14 +2,13 @@
 
 use crate::cost::{Cost, Goal, cost_of};
 use crate::error::{Errors, find_errors};
-use crate::range::{Failed, Ranges};
-use crate::setting::{Setting, codes_of, count_uses};
-use crate::span::Span;
+use crate::setting::{Setting, count_uses};
 use crate::tune::{try_word, tune};
 use fx_expr::Function;
 use fx_flat::Nodes;
 use fx_num::Memory;
 use fx_program::Code;
+use fx_ranges::{Failed, Ranges, Span, codes_of};
 use std::alloc::Global;
 
 /// The codes of all nodes, their errors, and what the plan costs.
@@ -55,24 +54,38 @@ pub fn outputs_of<'a>(setting: &Setting<'_>, errors: &'a Errors) -> &'a [Span] {
     errors.spans.get(from..to).unwrap_or(&[])
 }
 
-/// The plan of these codes, whose literals' words are moved where that is wanted, and then tuned.
+/// The plan of these codes, whose literals' words are moved where that is wanted.
+fn planned(
+    alloc: Global,
+    setting: &Setting<'_>,
+    codes: Vec<Code>,
+    is_centred: bool,
+) -> Result<Result<Plan, Failed>, Memory> {
+    let mut codes = codes;
+    let errors = match find_errors(alloc, setting, &mut codes, is_centred)? {
+        Ok(errors) => errors,
+        Err(failed) => return Ok(Err(failed)),
+    };
+    let cost = cost_of(setting.function, setting.goal, outputs_of(setting, &errors));
+    Ok(Ok(Plan {
+        width: setting.width,
+        codes,
+        errors,
+        cost,
+    }))
+}
+
+/// The same, and then tuned.
 fn finished(
     alloc: Global,
     setting: &Setting<'_>,
     codes: &[Code],
     is_centred: bool,
 ) -> Result<Result<Plan, Failed>, Memory> {
-    let mut codes = Vec::from_slice(alloc, codes)?;
-    let errors = match find_errors(alloc, setting, &mut codes, is_centred)? {
-        Ok(errors) => errors,
+    let codes = Vec::from_slice(alloc, codes)?;
+    let mut plan = match planned(alloc, setting, codes, is_centred)? {
+        Ok(plan) => plan,
         Err(failed) => return Ok(Err(failed)),
-    };
-    let cost = cost_of(setting.function, setting.goal, outputs_of(setting, &errors));
-    let mut plan = Plan {
-        width: setting.width,
-        codes,
-        errors,
-        cost,
     };
     if plan.errors.small.is_empty() {
         tune(alloc, setting, &mut plan)?;
@@ -170,7 +183,7 @@ pub fn find_plan_in(
     boxes: &[Span],
 ) -> Result<Result<Plan, Failed>, Memory> {
     let list = nodes.list.as_slice();
-    let mut codes = match codes_of(alloc, function, list, points, width)? {
+    let codes = match codes_of(alloc, function, list, points, width)? {
         Ok(codes) => codes,
         Err(failed) => return Ok(Err(failed)),
     };
@@ -187,15 +200,6 @@ pub fn find_plan_in(
             is_held: false,
         },
     };
-    let errors = match find_errors(alloc, &setting, &mut codes, false)? {
-        Ok(errors) => errors,
-        Err(failed) => return Ok(Err(failed)),
-    };
-    let cost = cost_of(function, setting.goal, outputs_of(&setting, &errors));
-    Ok(Ok(Plan {
-        width,
-        codes,
-        errors,
-        cost,
-    }))
+    let plan = planned(alloc, &setting, codes, false)?;
+    Ok(plan)
 }

@@ -7,11 +7,10 @@ use crate::adjoint::{Slope, slopes_of};
 use crate::cost::cost_of;
 use crate::error::find_errors;
 use crate::plan::{Plan, outputs_of};
-use crate::real::Real;
-use crate::setting::{Setting, word_at};
-use crate::span::Span;
+use crate::setting::Setting;
 use fx_num::Memory;
 use fx_program::Code;
+use fx_ranges::{Real, Span, word_at};
 use std::alloc::Global;
 
 /// The most units that a word is moved by.

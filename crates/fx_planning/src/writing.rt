@@ -7,15 +7,15 @@ ghost use Rattle.std.specs.Prelude.{◌≡◌, IfOk, IfSome};
 ghost use Rattle.fx_inequalities.specs.LawfulCertificate.{IsLawfulCertificate};
 ghost use Rattle.fx_cert.specs.CertificateView as view;
 
-use crate::certificate::{Kept, certificate_of, state_certificate};
+use crate::certificate::{Kept, certificate_of, shown_lines};
 use crate::plan::Plan;
 use crate::program_text::{Head, program_text};
-use crate::range::Ranges;
 use fx_cert::{Certificate, NodeLine, print_certificate, read_certificate};
 use fx_expr::Function;
 use fx_flat::Nodes;
 use fx_num::Memory;
 use fx_program::{Program, TextFault, TextKind, read_program};
+use fx_ranges::Ranges;
 use fx_rewrite::Step;
 use std::alloc::Global;
 
@@ -91,15 +91,9 @@ pub fn write(
     ensures name { IfOk result (λ found. IfSome found (λ x. x.0.name ≡ function.now.name)) }
     ensures lawful { IfOk result (λ found. IfSome found (λ x. IsLawfulCertificate (view.certificate_of x.1))) }
 {
-    let Some(program) = program_of(alloc, function, plan)? else {
-        return Ok(None);
-    };
-    let list = nodes.list.as_slice();
-    let written = certificate_of(alloc, program.inputs, list, ranges, plan, steps)?;
-    match lawful(alloc, &written)? {
-        Some(certificate) => Ok(Some((program, certificate))),
-        None => Ok(None),
-    }
+    let lines = shown_lines(alloc, nodes, ranges, plan)?;
+    let kept = Kept::nothing(alloc);
+    write_with_states(alloc, function, steps, nodes, plan, lines, kept)
 }
 
 /// The program of a plan and the certificate of these lines for the source's function with states, whose nodes behind
@@ -120,7 +114,7 @@ pub fn write_with_states(
     let Some(program) = program_of(alloc, function, plan)? else {
         return Ok(None);
     };
-    let written = state_certificate(alloc, nodes, lines, kept, steps)?;
+    let written = certificate_of(alloc, nodes, lines, kept, steps)?;
     match lawful(alloc, &written)? {
         Some(certificate) => Ok(Some((program, certificate))),
         None => Ok(None),

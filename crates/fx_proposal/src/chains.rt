@@ -2,17 +2,16 @@
 
 use fx_conditions::coef_of;
 use fx_num::Memory;
-use fx_reach::{Ahead, Chain, Linear, PLACES, Transition, floor_at, look_ahead, unit_cost};
+use fx_reach::{
+    Ahead, Chain, Linear, PLACES, Transition, floor_at, look_ahead, unit_cost, unit_row,
+};
 use std::alloc::Global;
 
 /// The chains that begin with the unit rows. None where one isn't bounded.
 pub fn unit_chains(alloc: Global, linear: &Linear) -> Result<Option<Vec<Chain>>, Memory> {
     let mut chains = Vec::new(alloc);
     for k in 0..linear.states {
-        let mut row = vec![in alloc; 0_i128; linear.states]?;
-        if let Some(entry) = row.get_mut(k) {
-            *entry = 1 << PLACES;
-        }
+        let row = unit_row(alloc, linear.states, k, 1 << PLACES)?;
         match look_ahead(alloc, linear, &row)? {
             Some(ahead) => chains.push(Chain {
                 ahead,

@@ -199,10 +199,12 @@ pub fn best_try(
                 one,
                 starts,
             )? {
-                if is_enough(&solved, one) {
-                    return Ok(Some(better(best, solved)));
+                let is_enough = is_enough(&solved, one);
+                let solved = better(best, solved);
+                if is_enough {
+                    return Ok(Some(solved));
                 }
-                best = Some(better(best, solved));
+                best = Some(solved);
             }
         }
     }

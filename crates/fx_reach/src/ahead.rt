@@ -101,9 +101,7 @@ impl Ahead {
     fn turn(&mut self, end: usize, halves: Halves) -> Option<()> {
         let lo = total(&self.lo, end, halves)?;
         let hi = total(&self.hi, end, halves)?;
-        for sum in &mut self.lo {
-            *sum = lo.checked_sub(*sum)?;
-        }
+        turn_ends(&mut self.lo, lo)?;
         turn_ends(&mut self.hi, hi)
     }
 }
@@ -117,7 +115,7 @@ fn total_size(row: &[i128]) -> u128 {
     total
 }
 
-/// The same of the other ends.
+/// The same of the ends on one side.
 fn turn_ends(sums: &mut Vec<i128>, total: i128) -> Option<()> {
     for sum in sums.iter_mut() {
         *sum = total.checked_sub(*sum)?;

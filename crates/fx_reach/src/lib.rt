@@ -25,5 +25,5 @@ pub use sum::{plus_scaled, times};
 pub use transition::Transition;
 pub use whole::{
     PLACES, bits, ceil_at, floor_at, lowest, magnitude, moved_down, moved_up, product, quotient,
-    share_of,
+    share_of, unit_row,
 };

@@ -1,7 +1,7 @@
 //! The linear part of a step, and what drives it: the inputs and the rests of the next states.
 
 use crate::transition::Transition;
-use crate::whole::{PLACES, ceil_at, floor_at, magnitude};
+use crate::whole::{PLACES, ceil_at, floor_at, greater, magnitude, unit_row};
 use fx_conditions::{Side, coef_of, side_of, side_rest_of, zero_alone, zero_dyadic};
 use fx_interval::Interval;
 use fx_num::{Dyadic, Memory, ceil_shift, floor_shift};
@@ -9,6 +9,9 @@ use std::alloc::Global;
 
 /// How many bits the greatest size has while sizes are guessed.
 const SIZE_BITS: i32 = 44;
+
+/// Half of a unit of a row's entries, in their products.
+const HALF: i128 = 1 << (PLACES - 1);
 
 /// Something that is added to the next states, each so many times.
 #[derive(Debug, Drop)]
@@ -31,22 +34,11 @@ pub struct Linear {
     pub rests: Vec<Interval>,
     /// Where the inputs lie.
     pub spans: Vec<Interval>,
-    /// The coefficients over the states alone, with 48 binary places.
-    matrix: Vec<i128>,
+    /// How much of each state comes to each next state, with 48 binary places.
+    columns: Vec<Vec<i128>>,
     drives: Vec<Drive>,
     /// Sizes are whole with so many binary places.
     pub scale: i32,
-}
-
-/// The greater magnitude.
-fn greater(a: Option<i32>, b: Option<i32>) -> Option<i32> {
-    match a {
-        Some(x) => match b {
-            Some(y) => Some(x.max(y)),
-            None => a,
-        },
-        None => b,
-    }
 }
 
 /// Puts the coefficients of next state `k` behind the others.
@@ -88,21 +80,18 @@ fn all_spans(alloc: Global, t: &Transition, side: &Side) -> Result<Vec<Interval>
     Ok(spans)
 }
 
-/// With so many binary places that the greatest of these has the wanted bits.
-fn scale_of(spans: &[Interval], rests: &[Interval]) -> i32 {
-    let mut top = None;
-    for span in spans {
-        top = greater(top, magnitude(*span));
+/// The greatest magnitude of these, and of what came first.
+fn greatest(first: Option<i32>, intervals: &[Interval]) -> Option<i32> {
+    let mut top = first;
+    for interval in intervals {
+        top = greater(top, magnitude(*interval));
     }
-    greater_of_rests(top, rests)
+    top
 }
 
-fn greater_of_rests(first: Option<i32>, rests: &[Interval]) -> i32 {
-    let mut top = first;
-    for rest in rests {
-        top = greater(top, magnitude(*rest));
-    }
-    match top {
+/// With so many binary places that the greatest of these has the wanted bits.
+fn scale_of(spans: &[Interval], rests: &[Interval]) -> i32 {
+    match greatest(greatest(None, spans), rests) {
         Some(top) => SIZE_BITS.saturating_sub(top).clamp(-200, 200),
         None => 0,
     }
@@ -121,20 +110,22 @@ impl Linear {
 
     /// Coefficient of state `j` in next state `k`, with 48 binary places.
     pub fn entry(&self, k: usize, j: usize) -> i128 {
-        let place = k.saturating_mul(self.states).saturating_add(j);
-        self.matrix.get(place).copied().unwrap_or(0)
+        match self.columns.get(j) {
+            Some(column) => column.get(k).copied().unwrap_or(0),
+            None => 0,
+        }
     }
 
-    /// How much of variable `j` comes to each next state.
-    fn drive_coefs(&self, alloc: Global, j: usize) -> Result<Option<Vec<i128>>, Memory> {
-        let mut coefs = Vec::new(alloc);
+    /// How much of variable `j` comes to each next state, with 48 binary places.
+    fn column(&self, alloc: Global, j: usize) -> Result<Option<Vec<i128>>, Memory> {
+        let mut column = Vec::new(alloc);
         for k in 0..self.states {
             match floor_at(self.coef(k, j), PLACES as i32) {
-                Some(coef) => coefs.push(coef)?,
+                Some(coef) => column.push(coef)?,
                 None => return Ok(None),
             }
         }
-        Ok(Some(coefs))
+        Ok(Some(column))
     }
 
     /// Adds what drives by these coefficients, if it isn't zero.
@@ -154,7 +145,7 @@ impl Linear {
     /// Adds all inputs.
     fn add_inputs(&mut self, alloc: Global) -> Result<Option<()>, Memory> {
         for j in 0..self.inputs {
-            let Some(coefs) = self.drive_coefs(alloc, j)? else {
+            let Some(coefs) = self.column(alloc, j)? else {
                 return Ok(None);
             };
             let span = self.spans.get(j).copied().unwrap_or(zero_alone());
@@ -168,10 +159,7 @@ impl Linear {
     /// Adds all rests.
     fn add_rests(&mut self, alloc: Global) -> Result<Option<()>, Memory> {
         for k in 0..self.states {
-            let mut coefs = vec![in alloc; 0_i128; self.states]?;
-            if let Some(coef) = coefs.get_mut(k) {
-                *coef = 1 << PLACES;
-            }
+            let coefs = unit_row(alloc, self.states, k, 1 << PLACES)?;
             let rest = self.rests.get(k).copied().unwrap_or(zero_alone());
             if self.add_drive(coefs, rest)?.is_none() {
                 return Ok(None);
@@ -180,14 +168,11 @@ impl Linear {
         Ok(Some(()))
     }
 
-    /// Works the coefficients over the states out.
-    fn add_matrix(&mut self) -> Result<Option<()>, Memory> {
-        let count = self.states.saturating_mul(self.states);
-        for place in 0..count {
-            let k = place.checked_div(self.states).unwrap_or(0);
-            let j = place.checked_rem(self.states).unwrap_or(0);
-            match floor_at(self.coef(k, self.inputs.saturating_add(j)), PLACES as i32) {
-                Some(coef) => self.matrix.push(coef)?,
+    /// Adds the columns of all states.
+    fn add_columns(&mut self, alloc: Global) -> Result<Option<()>, Memory> {
+        for j in 0..self.states {
+            match self.column(alloc, self.inputs.saturating_add(j))? {
+                Some(column) => self.columns.push(column)?,
                 None => return Ok(None),
             }
         }
@@ -205,11 +190,11 @@ impl Linear {
             coefs: all_coefs(alloc, t)?,
             rests,
             spans,
-            matrix: Vec::new(alloc),
+            columns: Vec::new(alloc),
             drives: Vec::new(alloc),
             scale,
         };
-        if linear.add_matrix()?.is_none() || linear.add_inputs(alloc)?.is_none() {
+        if linear.add_columns(alloc)?.is_none() || linear.add_inputs(alloc)?.is_none() {
             return Ok(None);
         }
         if linear.add_rests(alloc)?.is_none() {
@@ -220,17 +205,8 @@ impl Linear {
 
     /// Entry `j` of a row's image: what the row is of the next states, as a row of the states.
     fn image_entry(&self, row: &[i128], j: usize) -> Option<i128> {
-        let mut total: i128 = 1 << (PLACES - 1);
-        for k in 0..self.states {
-            let r = *row.get(k)?;
-            if r != 0 {
-                let a = *self
-                    .matrix
-                    .get(k.saturating_mul(self.states).saturating_add(j))?;
-                total = total.checked_add(r.checked_mul(a)?)?;
-            }
-        }
-        Some(floor_shift(total, PLACES))
+        let total = products(row, self.columns.get(j)?)?;
+        Some(floor_shift(total.checked_add(HALF)?, PLACES))
     }
 
     /// Puts a row's image in its place behind the others.
@@ -256,7 +232,7 @@ impl Linear {
         let mut lo: i128 = 0;
         let mut hi: i128 = 0;
         for drive in &self.drives {
-            let g = weight(row, &drive.coefs)?;
+            let g = floor_shift(products(row, &drive.coefs)?, PLACES);
             let a = g.checked_mul(drive.lo)?;
             let b = g.checked_mul(drive.hi)?;
             lo = lo.checked_add(a.min(b))?;
@@ -266,13 +242,13 @@ impl Linear {
     }
 }
 
-/// The product of a row and a drive's coefficients.
-fn weight(row: &[i128], coefs: &[i128]) -> Option<i128> {
+/// The sum of the products of a row and coefficients.
+fn products(row: &[i128], coefs: &[i128]) -> Option<i128> {
     let mut total: i128 = 0;
     for (r, c) in row.iter().zip(coefs) {
-        if *c != 0 {
+        if *r != 0 && *c != 0 {
             total = total.checked_add(r.checked_mul(*c)?)?;
         }
     }
-    Some(floor_shift(total, PLACES))
+    Some(total)
 }

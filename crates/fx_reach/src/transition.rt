@@ -1,6 +1,9 @@
 //! One step of the states, as rows see it.
 
+ghost use Rattle.std.specs.Prelude.{◌≡◌, ◌≤◌, ◌-◌, length};
+
 use fx_cert::NodeLine;
+use fx_flat::Nodes;
 
 /// How many variables there are, where the next states stand, and the lines of all nodes.
 #[derive(Debug, Drop)]
@@ -17,4 +20,25 @@ pub struct Transition<'a> {
     pub points: &'a [i32],
     /// Where each node's value and error lie, and its form.
     pub lines: Vec<NodeLine>,
+}
+
+impl<'a> Transition<'a> {
+    /// The step of these nodes, with their points and lines.
+    pub fn over(nodes: &Nodes, points: &'a [i32], lines: Vec<NodeLine>) -> Transition<'a>
+        ensures inputs { result.inputs ≡ nodes.now.inputs }
+        ensures states { result.states ≡ nodes.now.states }
+        ensures next { length nodes.now.list ≤ 4000 → result.next ≡ length nodes.now.list - nodes.now.states }
+        ensures points { result.points.now ≡ points.now }
+        ensures lines { result.lines ≡ lines }
+    {
+        let next = nodes.list.len().saturating_sub(nodes.states as usize);
+        Transition {
+            inputs: nodes.inputs,
+            states: nodes.states,
+            outputs: nodes.outputs,
+            next: u32::try_from(next).unwrap_or(0),
+            points,
+            lines,
+        }
+    }
 }

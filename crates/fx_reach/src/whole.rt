@@ -3,7 +3,8 @@
 //! Nothing rests on what is worked out here. What leaves 128 bits is None, and drops what asked for it.
 
 use fx_interval::Interval;
-use fx_num::{Dyadic, ceil_shift, floor_shift, left_fits};
+use fx_num::{Dyadic, Memory, ceil_shift, floor_shift, left_fits};
+use std::alloc::Global;
 
 /// How many binary places a coefficient has while rows are worked out.
 pub const PLACES: u32 = 48;
@@ -22,26 +23,20 @@ pub fn lowest(m: i128, e: u32) -> Dyadic {
     )
 }
 
+/// By how many places `d` has more than `e`, or less. What is too far for 128 bits is as far as any other.
+fn places_over(d: Dyadic, e: i32) -> i32 {
+    let places = i64::from(d.e).saturating_sub(i64::from(e));
+    places.clamp(-1000, 1000) as i32
+}
+
 /// The floor of `d * 2^e`.
 pub fn floor_at(d: Dyadic, e: i32) -> Option<i128> {
-    let places = i64::from(e).saturating_sub(i64::from(d.e));
-    let distance = u32::try_from(places.unsigned_abs()).ok()?;
-    if places >= 0 {
-        left_fits(d.m, distance)
-    } else {
-        Some(floor_shift(d.m, distance))
-    }
+    moved_down(d.m, places_over(d, e))
 }
 
 /// The ceiling of `d * 2^e`.
 pub fn ceil_at(d: Dyadic, e: i32) -> Option<i128> {
-    let places = i64::from(e).saturating_sub(i64::from(d.e));
-    let distance = u32::try_from(places.unsigned_abs()).ok()?;
-    if places >= 0 {
-        left_fits(d.m, distance)
-    } else {
-        Some(ceil_shift(d.m, distance))
-    }
+    moved_up(d.m, places_over(d, e))
 }
 
 /// The floor of `m / 2^s`, or `m * 2^-s`.
@@ -74,17 +69,20 @@ pub fn quotient(a: i128, b: i128) -> Option<i128> {
     if b > 0 { Some(a.div_euclid(b)) } else { None }
 }
 
+/// The greater magnitude, where zero's is the least.
+pub fn greater(a: Option<i32>, b: Option<i32>) -> Option<i32> {
+    match a {
+        Some(x) => match b {
+            Some(y) => Some(x.max(y)),
+            None => a,
+        },
+        None => b,
+    }
+}
+
 /// One more than the exponent of the greatest power of two that isn't above the greater end's size; None for zero alone.
 pub fn magnitude(x: Interval) -> Option<i32> {
-    let lo = magnitude_of(x.lo);
-    let hi = magnitude_of(x.hi);
-    match lo {
-        Some(lo) => match hi {
-            Some(hi) => Some(lo.max(hi)),
-            None => Some(lo),
-        },
-        None => hi,
-    }
+    greater(magnitude_of(x.lo), magnitude_of(x.hi))
 }
 
 /// The same of one number.
@@ -94,6 +92,15 @@ fn magnitude_of(d: Dyadic) -> Option<i32> {
     }
     let length = i64::from(bits(d.m.unsigned_abs()));
     i32::try_from(length.saturating_sub(i64::from(d.e))).ok()
+}
+
+/// A row of zeros but for one entry.
+pub fn unit_row(alloc: Global, states: usize, i: usize, entry: i128) -> Result<Vec<i128>, Memory> {
+    let mut row = vec![in alloc; 0_i128; states]?;
+    if let Some(slot) = row.get_mut(i) {
+        *slot = entry;
+    }
+    Ok(row)
 }
 
 /// How many bits of a numerator and its denominator are used.

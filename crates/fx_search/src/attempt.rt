@@ -8,8 +8,9 @@ use crate::task::Task;
 use fx_expr::Function;
 use fx_flat::{Node, Nodes, flatten};
 use fx_num::Memory;
-use fx_planning::{Cost, Failed, Grids, Plan, Ranges, Scaled, find_plan, find_ranges, input_error};
+use fx_planning::{Cost, Plan, find_plan};
 use fx_points::{Magnitude, NodeFacts, PointFault, choose_points};
+use fx_ranges::{Failed, Grids, Ranges, Scaled, find_ranges, input_error};
 use std::alloc::Global;
 
 /// So often points are chosen again, at most.

@@ -12,7 +12,8 @@ use fx_checker::Certified;
 use fx_feedback::judged;
 use fx_moves::Draft;
 use fx_num::{Dyadic, Memory, dle};
-use fx_planning::{Grids, write};
+use fx_planning::write;
+use fx_ranges::Grids;
 use fx_rewrite::Step;
 use std::alloc::Global;
 

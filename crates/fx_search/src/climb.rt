@@ -4,7 +4,8 @@ use crate::attempt::attempted;
 use crate::task::Task;
 use fx_moves::{Draft, clean_all, draw, factor_all, mutate};
 use fx_num::Memory;
-use fx_planning::{Cost, Grids, Real};
+use fx_planning::Cost;
+use fx_ranges::{Grids, Real};
 use rand_core::Rng;
 use std::alloc::Global;
 

@@ -1,8 +1,8 @@
 //! The search for a small certified bound: many forms of a function are tried, and the best is certified.
 //!
-//! A draft (`fx_moves`) is the function after some rewriting steps; an attempt gives it ranges and errors by `fx_planning`
-//! and points by `fx_points`, and its cost is one number to be lowered. All that is decided is drawn from one seeded
-//! generator by `draw`, and no number has a floating point, so that a seed gives one answer on every machine.
+//! A draft (`fx_moves`) is the function after some rewriting steps; an attempt gives it ranges by `fx_ranges`, points by
+//! `fx_points` and errors by `fx_planning`, and its cost is one number to be lowered. All that is decided is drawn from one
+//! seeded generator by `draw`, and no number has a floating point, so that a seed gives one answer on every machine.
 //!
 //! - The first try is the function as it stands, and the next ones begin at it too, with common factors taken out.
 //! - Then it climbs (`climb`), by random moves from the current draft. A draft that costs up to a tenth more may be taken up

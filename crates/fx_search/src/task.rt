@@ -2,7 +2,8 @@
 
 use fx_expr::Function;
 use fx_num::{Dyadic, Memory};
-use fx_planning::{Goal, Real};
+use fx_planning::Goal;
+use fx_ranges::Real;
 use std::alloc::Global;
 
 /// The function, the width of its words, and what its bounds are measured by.

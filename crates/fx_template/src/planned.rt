@@ -115,13 +115,6 @@ pub fn step_by_plan<'a>(
     ensures { IfOk result (λ t. transition_in t ≡ transition_of nodes.now (planned plan.now)) }
 {
     let lines = planned_lines(alloc, plan)?;
-    let count = nodes.list.len() as u32;
-    Ok(Transition {
-        inputs: nodes.inputs,
-        states: nodes.states,
-        outputs: nodes.outputs,
-        next: count.saturating_sub(nodes.states),
-        points: plan.points.as_slice(),
-        lines,
-    })
+    let points = plan.points.as_slice();
+    Ok(Transition::over(nodes, points, lines))
 }

@@ -1,8 +1,8 @@
 //! Where states start: their values, and what their words err.
 
+use crate::code::start_word;
 use crate::grid::Grids;
 use crate::literal::{range_between, word_error};
-use crate::setting::start_word;
 use crate::span::Span;
 use fx_expr::Function;
 use fx_fraction::to_fraction;

@@ -31,10 +31,10 @@ impl Failed {
 /// What the first pass says of all nodes.
 #[derive(Debug, Drop)]
 pub struct Ranges {
-    pub(crate) grids: Grids,
-    pub(crate) spans: Vec<Span>,
-    pub(crate) forms: Vec<Option<Form>>,
-    pub(crate) rows: Rows,
+    grids: Grids,
+    spans: Vec<Span>,
+    forms: Vec<Option<Form>>,
+    rows: Rows,
 }
 
 impl Ranges {
@@ -61,13 +61,33 @@ impl Ranges {
         Ok(())
     }
 
+    /// The grids of ranges and errors.
+    pub fn grids(&self) -> Grids {
+        self.grids
+    }
+
+    /// How many coefficients a form has: one for each input and state.
+    pub fn variables(&self) -> usize {
+        self.rows.width()
+    }
+
+    /// The coefficients of a node's form, on its grid.
+    pub fn row(&self, n: usize) -> &[i128] {
+        self.rows.row(n)
+    }
+
+    /// One of them.
+    pub fn coefficient(&self, n: usize, k: usize) -> Option<i128> {
+        self.rows.at(n, k)
+    }
+
     /// The range of a node.
-    pub(crate) fn span(&self, n: usize) -> Option<Span> {
+    pub fn span(&self, n: usize) -> Option<Span> {
         self.spans.get(n).copied()
     }
 
     /// The form of a node, if it has one.
-    pub(crate) fn form(&self, n: usize) -> Option<Form> {
+    pub fn form(&self, n: usize) -> Option<Form> {
         self.forms.get(n).copied()?
     }
 
@@ -80,7 +100,7 @@ impl Ranges {
     }
 
     /// The grid of a node's coefficients.
-    pub(crate) fn grid(&self, n: usize) -> u32 {
+    pub fn grid(&self, n: usize) -> u32 {
         match self.form(n) {
             Some(form) => form.e,
             None => 0,
@@ -100,6 +120,11 @@ impl Ranges {
             return Some(point);
         }
         Some(point.saturating_sub(1).max(-64))
+    }
+
+    /// Whether a word at a point holds whatever of the node's range has such an error.
+    pub fn fits(&self, n: usize, error: Span, point: i32, width: u32) -> Option<bool> {
+        Some(fits_word(self.span(n)?.plus(error)?, point, width))
     }
 
     /// The greater end of the node's range without its sign.

@@ -125,25 +125,6 @@ fn word_difference(c: Fraction, w: i128, point: i32) -> Option<(i128, i128)> {
     Some((value.checked_mul(c.q)?.checked_sub(c.p)?, c.q))
 }
 
-/// The least point at which a literal is a whole number of units, if there is one.
-pub fn exact_point(c: Fraction) -> Option<i32> {
-    let bottom = c.q.unsigned_abs();
-    if !bottom.is_power_of_two() {
-        return None;
-    }
-    if bottom > 1 || c.p == 0 {
-        return i32::try_from(bits(bottom).saturating_sub(1)).ok();
-    }
-    i32::try_from(c.p.trailing_zeros()).ok()?.checked_neg()
-}
-
-/// The size of a decimal, rounded up to 60 binary places.
-pub fn decimal_size(d: Decimal) -> Option<Scaled> {
-    let c = to_fraction(d);
-    let m = ceil_at(c.p, c.q, PLACE_LIMIT as i32)?;
-    Some(Scaled { m, e: PLACE_LIMIT })
-}
-
 /// Whether the numbers of a range, so many places behind the point, are words at a point.
 pub fn fits_word(range: Span, point: i32, width: u32) -> bool {
     let Some(end) = left_fits(1, width.saturating_sub(1)) else {
@@ -162,5 +143,7 @@ pub fn fits_word(range: Span, point: i32, width: u32) -> bool {
 
 /// The size of an input's error, rounded up to 60 binary places.
 pub fn input_error(input: &Input) -> Option<Scaled> {
-    decimal_size(input.err)
+    let err = to_fraction(input.err);
+    let m = ceil_at(err.p, err.q, PLACE_LIMIT as i32)?;
+    Some(Scaled { m, e: PLACE_LIMIT })
 }

@@ -1,0 +1,91 @@
+//! Both kinds of boxes: of values, in which ranges are found, and of errors, in which a plan is.
+
+use crate::settle::Settling;
+use crate::task::Task;
+use fx_cert::NodeLine;
+use fx_conditions::Side;
+use fx_num::Memory;
+use fx_planning::{Plan, find_plan_in, plan_lines, range_lines};
+use fx_ranges::{Ranges, Span, find_ranges_in, start_error, start_range};
+use std::alloc::Global;
+
+/// Ranges, in boxes of values.
+#[derive(Clone, Copy, Debug)]
+pub struct OfValues;
+
+/// A plan at these points, in boxes of errors.
+#[derive(Clone, Copy, Debug)]
+pub struct OfErrors<'a> {
+    pub ranges: &'a Ranges,
+    pub points: &'a [i32],
+}
+
+impl Settling for OfValues {
+    type Found = Ranges;
+
+    fn side(&self) -> Side {
+        Side::Value
+    }
+
+    fn points(&self) -> &[i32] {
+        &[]
+    }
+
+    fn start(&self, task: Task<'_>, k: usize) -> Option<Span> {
+        start_range(task.function, k, task.grids)
+    }
+
+    fn found_in(
+        &self,
+        alloc: Global,
+        task: Task<'_>,
+        boxes: &[Span],
+    ) -> Result<Option<(Ranges, Vec<NodeLine>)>, Memory> {
+        let Ok(ranges) = find_ranges_in(alloc, task.function, task.nodes, task.grids, boxes)? else {
+            return Ok(None);
+        };
+        let lines = range_lines(alloc, task.nodes, &ranges)?;
+        Ok(Some((ranges, lines)))
+    }
+}
+
+impl Settling for OfErrors<'_> {
+    type Found = Plan;
+
+    fn side(&self) -> Side {
+        Side::Error
+    }
+
+    fn points(&self) -> &[i32] {
+        self.points
+    }
+
+    /// What the word errs that a state starts with.
+    fn start(&self, task: Task<'_>, k: usize) -> Option<Span> {
+        let node = task.function.inputs.len().saturating_add(k);
+        let point = self.points.get(node).copied().unwrap_or(0);
+        start_error(task.function, k, point, task.width, task.grids)
+    }
+
+    fn found_in(
+        &self,
+        alloc: Global,
+        task: Task<'_>,
+        boxes: &[Span],
+    ) -> Result<Option<(Plan, Vec<NodeLine>)>, Memory> {
+        let found = find_plan_in(
+            alloc,
+            task.function,
+            task.nodes,
+            self.ranges,
+            self.points,
+            task.width,
+            boxes,
+        )?;
+        let Ok(plan) = found else {
+            return Ok(None);
+        };
+        let lines = plan_lines(alloc, task.nodes, self.ranges, &plan)?;
+        Ok(Some((plan, lines)))
+    }
+}
