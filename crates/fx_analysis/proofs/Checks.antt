@@ -2,6 +2,7 @@
 use Rattle.std.proofs.Common.{◌≡◌, ℕ, zero, suc, ◌^◌, Bool, true, false, ◌&&◌, if◌then◌else◌, IsTrue, Option, Some, None, SomeIff, Result, Ok, Err, List, ℤ, pos, negsuc, ◌*ℤ◌, refl, sym, ap, subst, ◌∙◌}
 use Rattle.std.specs.List.{list_all}
 use Rattle.std.specs.Option.{is_some}
+use Rattle.std.proofs.lemmas.Bool.{false_from_ne_true}
 use Rattle.fx_rational.specs.Rational.{Rational, bottom, lowest}
 use Rattle.fx_rational.specs.Dyadic.{Dyadic, dyadic, fits_128}
 use Rattle.fx_rational.specs.Interval.{Interval}
@@ -16,10 +17,6 @@ use Rattle.fx_analysis.specs.Places.{if_fitting}
 use Rattle.fx_analysis.proofs.Settled.{narrowest_long}
 
 -- ---- a comparison
-untrue : (b : Bool) → (b ≡ true → ⊥) → b ≡ false
-untrue true h = absurd (h refl)
-untrue false h = refl
-
 pub over_some : (o : Option Bool) (x : Dyadic) (c : Rational) (f : Formula) (r : Rational) (v : Bool) → SomeIff o (IsTrue (fits_128 (x.m *ℤ pos (bottom c)))) v → Forms (Some x) f → c ≡ lowest r → is_some o ≡ fits_over f r
 over_some o x c f r v h k e =
     let same : fits_128 (x.m *ℤ pos (bottom c)) ≡ fits_128 ((formed f).m *ℤ pos (bottom (lowest r))) = (λ i. fits_128 ((k.1 i).m *ℤ pos (bottom (e i)))) in
@@ -27,10 +24,10 @@ over_some o x c f r v h k e =
   where
     by : (o : Option Bool) → SomeIff o (IsTrue (fits_128 (x.m *ℤ pos (bottom c)))) v → is_some o ≡ fits_128 (x.m *ℤ pos (bottom c))
     by (Some b) g = sym g.0
-    by None g = sym (untrue (fits_128 (x.m *ℤ pos (bottom c))) g)
+    by None g = sym (false_from_ne_true (fits_128 (x.m *ℤ pos (bottom c))) g)
 
 pub over_none : (f : Formula) (r : Rational) → Forms None f → false ≡ fits_over f r
-over_none f r h = sym (ap (λ (t : Bool). t && fits_128 ((formed f).m *ℤ pos (bottom (lowest r)))) (untrue (formula_fits f) h))
+over_none f r h = sym (ap (λ (t : Bool). t && fits_128 ((formed f).m *ℤ pos (bottom (lowest r)))) (false_from_ne_true (formula_fits f) h))
 
 -- ---- the answer
 pub if_fitting_none : (e : ℕ) (b : Bounds) (claims : Interval → List Claim) → IsIfSmall None (narrow e b) → Path (Result Interval Why) (Err Beyond) (narrowest e b claims)

@@ -4,6 +4,8 @@ use Rattle.std.specs.Prelude.{unsigned_abs}
 use Rattle.std.specs.List.{list_all}
 use Rattle.std.specs.Int.{w128}
 use Rattle.std.proofs.lemmas.Int.{ints}
+use Rattle.std.proofs.lemmas.Bool.{and_parts}
+use Rattle.std.proofs.Math.Nat.{mul-pos}
 use Rattle.fx_algebra.proofs.Integers.{neg_ℤ-*ℤ}
 use Rattle.fx_rational.specs.Rational.{Rational, bottom, over, plus, minus, negative, floor_div, Equal, AtMost, is_positive, is_negative, above_zero, below_zero}
 use Rattle.fx_rational.specs.Dyadic.{Dyadic, dyadic_value, zero_dyadic, dyadic_difference, least, greatest, is_dyadic_at_most}
@@ -11,12 +13,12 @@ use Rattle.fx_rational.specs.Interval.{Interval}
 use Rattle.fx_rational.proofs.Laws.{equal_refl, equal_sym, equal_trans, le_refl, le_trans, le_of_equal, minus_same, plus_same, Nonneg, nonneg_from}
 use Rattle.fx_rational.proofs.Lowest.{suc_pred}
 use Rattle.fx_rational.proofs.Tests.{at_most_true, at_most_false}
+use Rattle.fx_rational.proofs.Dyadics.{power_bottom}
 use Rattle.fx_model.specs.LawfulProgram.{IsPoint}
 use Rattle.fx_inequalities.specs.Formula.{Formula, Span, span, formula_value, formed, zero_span, span_difference, unit_at}
 use Rattle.fx_inequalities.specs.Claim.{Claim, Clear, fits, holds}
 use Rattle.fx_inequalities.specs.OperationSpans.{without_unit}
 use Rattle.fx_inequalities.specs.NodeConditions.{quotient_claims, positive_quotient_claims}
-use Rattle.fx_text.proofs.Choices.{both_true}
 use Rattle.fx_judging.specs.Judging.{judged, FormsSpan}
 use Rattle.fx_judging.specs.declared.judgement.Judgement.{Judgement}
 use Rattle.fx_judging.specs.declared.judgement.Judgement.TheVariants as judgement
@@ -32,7 +34,7 @@ use Rattle.fx_analysis.specs.Dividing.{lesser_divisor, greater_divisor, around_q
 use Rattle.fx_analysis.proofs.Ends.{turned}
 use Rattle.fx_analysis.proofs.ErrorLaw.{grid_few}
 use Rattle.fx_analysis.proofs.Narrows.{grid_down_is, grid_up_is}
-use Rattle.fx_analysis.proofs.Ratios.{power_bottom, some_product, forms_value, above_value, ratio_same}
+use Rattle.fx_analysis.proofs.Ratios.{forms_value, above_value, ratio_same}
 use Rattle.fx_analysis.proofs.Settled.{narrowest_beyond}
 use Rattle.fx_analysis.proofs.Signs.{zero_less, below_above}
 use Rattle.fx_analysis.proofs.Spelling.{down_same, up_same}
@@ -46,7 +48,7 @@ ratio_top a b = ap (λ (k : ℕ). a.m *ℤ pos k) (power_bottom b.e)
 ratio_bottom : (a b : Dyadic) → 0 < unsigned_abs b.m → bottom (ratio (dyadic_value a) (dyadic_value b)) ≡ unsigned_abs b.m * 2 ^ a.e
 unfolding ratio dyadic_value over
 ratio_bottom a b h =
-    suc_pred (suc (pred (2 ^ a.e)) * unsigned_abs b.m) (some_product (suc (pred (2 ^ a.e))) (unsigned_abs b.m) (omega arith) h)
+    suc_pred (suc (pred (2 ^ a.e)) * unsigned_abs b.m) (mul-pos {m = suc (pred (2 ^ a.e))} {n = unsigned_abs b.m} (omega arith) h)
     ∙ ap (λ (k : ℕ). k * unsigned_abs b.m) (power_bottom a.e) ∙ (let e : 2 ^ a.e * unsigned_abs b.m ≡ unsigned_abs b.m * 2 ^ a.e = omega arith in e)
 
 pub below_end : (a b : Dyadic) (f : ℤ) → 0 < unsigned_abs b.m →
@@ -280,7 +282,7 @@ below_formed d g e = own_below d ∙ negative_formed d g e
 pub turned_above : (b z : Interval) (t : Span) → FormsSpan (Some b) t → FormsSpan (Some z) (span_difference zero_span t) → (below_zero b.lo.m && below_zero b.hi.m) ≡ true → (above_zero z.lo.m && above_zero z.hi.m) ≡ true
 unfolding formed
 turned_above b z t fb fz h =
-    let below = both_true (below_zero b.lo.m) (below_zero b.hi.m) h in
+    let below = and_parts (below_zero b.lo.m) (below_zero b.hi.m) h in
     let lo = ap (λ (i : Interval). i.lo) fz.1 ∙ ap (λ (i : Interval). dyadic_difference zero_dyadic i.hi) (sym fb.1) ∙ zero_less b.hi in
     let hi = ap (λ (i : Interval). i.hi) fz.1 ∙ ap (λ (i : Interval). dyadic_difference zero_dyadic i.lo) (sym fb.1) ∙ zero_less b.lo in
     let p = ap (λ (d : Dyadic). above_zero d.m) lo ∙ below_above b.hi.m b.hi.e below.1 in

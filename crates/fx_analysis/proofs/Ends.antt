@@ -2,12 +2,12 @@
 use Rattle.std.proofs.Common.{◌≡◌, ℕ, zero, suc, ◌+◌, ◌*◌, ◌/◌, ◌%◌, ◌^◌, ◌<◌, ltb, ◌==◌, Bool, true, false, ◌&&◌, if◌then◌else◌, Option, ℤ, pos, ◌+ℤ◌, ◌-ℤ◌, ◌*ℤ◌, neg_ℤ, ◌≤ℤ◌, ◌<ℤ◌, ◌⊎◌, ⊎_elim, [], ◌∷◌, refl, sym, ap, subst, ◌∙◌, arith}
 use Rattle.std.proofs.lemmas.Int.{ints}
 use Rattle.std.proofs.lemmas.Nat.{div-add-mod', mod_below}
-use Rattle.fx_algebra.proofs.Integers.{neg_ℤ-*ℤ}
+use Rattle.fx_algebra.proofs.Integers.{neg_ℤ-*ℤ, +ℤ-*ℤ}
 use Rattle.fx_algebra.proofs.Quote.{by_quotes, quotes}
 use Rattle.fx_rational.specs.Rational.{floor_div, ceil_div}
 use Rattle.fx_rational.specs.Dyadic.{Dyadic}
 use Rattle.fx_rational.specs.Interval.{Interval}
-use Rattle.fx_rational.proofs.Floors.{floor_is, le_floor}
+use Rattle.fx_rational.proofs.Floors.{floor_is, le_floor, one_more_times}
 use Rattle.fx_rational.proofs.Lowest.{size-neg_ℤ}
 use Rattle.fx_analysis.specs.Narrow.{is_even, is_small, lowest_dyadic}
 use Rattle.fx_analysis.specs.Narrowed.{IsIfSmall}
@@ -17,22 +17,16 @@ use Rattle.fx_analysis.proofs.Narrows.{half_of}
 apart : (a b : ℤ) → (a ≤ℤ b) ⊎ ((b +ℤ pos 1) ≤ℤ a)
 apart a b = grind (arith, ints)
 
-more_times : (q d : ℤ) → (q +ℤ pos 1) *ℤ d ≡ q *ℤ d +ℤ d
-more_times q d = by_quotes {ρ = q ∷ d ∷ []} (search quotes depth 20) (search quotes depth 20) refl
-
 pub floor_only : (v q : ℤ) (d r : ℕ) → v ≡ q *ℤ pos d +ℤ pos r → r < d → floor_div v d ≡ q
 floor_only v q d r e l =
     let above : pos 0 <ℤ pos d = omega (arith, ints, l) in
     let up : q ≤ℤ floor_div v d = (le_floor q v d above).1 (omega (arith, ints, e)) in
     ⊎_elim (λ (le : floor_div v d ≤ℤ q). omega (arith, ints, le, up))
-    (λ (more : (q +ℤ pos 1) ≤ℤ floor_div v d). absurd (let k = (le_floor (q +ℤ pos 1) v d above).0 more in let m = more_times q (pos d) in omega (arith, ints, k, m, e, l)))
+    (λ (more : (q +ℤ pos 1) ≤ℤ floor_div v d). absurd (let k = (le_floor (q +ℤ pos 1) v d above).0 more in let m = one_more_times q (pos d) in omega (arith, ints, k, m, e, l)))
     (apart (floor_div v d) q)
 
 spread : (w d p f R : ℤ) → (w *ℤ d) *ℤ p +ℤ (f *ℤ d +ℤ R) ≡ (w *ℤ p +ℤ f) *ℤ d +ℤ R
 spread w d p f R = by_quotes {ρ = w ∷ d ∷ p ∷ f ∷ R ∷ []} (search quotes depth 20) (search quotes depth 20) refl
-
-sum_times : (a b p : ℤ) → (a +ℤ b) *ℤ p ≡ a *ℤ p +ℤ b *ℤ p
-sum_times a b p = by_quotes {ρ = a ∷ b ∷ p ∷ []} (search quotes depth 20) (search quotes depth 20) refl
 
 -- the whole part and the binary places
 pub whole_places : (n w : ℤ) (d r p : ℕ) → n ≡ w *ℤ pos d +ℤ pos r → 0 < d → floor_div (n *ℤ pos p) d ≡ w *ℤ pos p +ℤ pos (r * p / d)
@@ -41,7 +35,7 @@ whole_places n w d r p e some =
     let back : f * d + R ≡ r * p = div-add-mod' (r * p) d in
     let parts : pos r *ℤ pos p ≡ pos f *ℤ pos d +ℤ pos R = ap pos (sym back) in
     floor_only (n *ℤ pos p) (w *ℤ pos p +ℤ pos f) d R
-    (ap (λ (z : ℤ). z *ℤ pos p) e ∙ sum_times (w *ℤ pos d) (pos r) (pos p) ∙ ap (λ (z : ℤ). (w *ℤ pos d) *ℤ pos p +ℤ z) parts ∙ spread w (pos d) (pos p) (pos f) (pos R))
+    (ap (λ (z : ℤ). z *ℤ pos p) e ∙ +ℤ-*ℤ (w *ℤ pos d) (pos r) (pos p) ∙ ap (λ (z : ℤ). (w *ℤ pos d) *ℤ pos p +ℤ z) parts ∙ spread w (pos d) (pos p) (pos f) (pos R))
     (mod_below (r * p) d some)
 
 pub rest_less : (n : ℤ) (d r : ℕ) → 0 < d → pos r ≡ n -ℤ floor_div n d *ℤ pos d → r < d

@@ -8,7 +8,7 @@ use Rattle.fx_rational.specs.Rational.{Rational, plus, minus, negative, AtMost, 
 use Rattle.fx_rational.specs.Interval.{Interval}
 use Rattle.fx_rational.proofs.Ring.{by_quotes, quotes}
 use Rattle.fx_rational.proofs.Laws.{gap, ordered}
-use Rattle.fx_rational.proofs.Tests.{at_most_true}
+use Rattle.fx_rational.proofs.Tests.{at_most_true, at_most_holds}
 use Rattle.fx_model.specs.Tree.{at}
 use Rattle.fx_model.specs.Function.{Function}
 use Rattle.fx_model.specs.LawfulProgram.{IsPoint}
@@ -26,7 +26,7 @@ use Rattle.fx_analysis.specs.GreedyPoints.{shift_of, product_shift}
 use Rattle.fx_analysis.specs.PlainErrors.{placed_code, formless_line, formless_lines, error_sketch, error_grid, unit_value, widened, single, error_bounds, error_divides, plain_error}
 use Rattle.fx_analysis.specs.Ordered.{IsInPlace}
 use Rattle.fx_analysis.specs.Laws.{IsNarrowestOf, HasErrors, ErrorsLaw, no_node}
-use Rattle.fx_analysis.proofs.Quotients.{Around, at_most_holds, both, around_inside, quotient_around}
+use Rattle.fx_analysis.proofs.Quotients.{Around, both, around_inside, quotient_around}
 use Rattle.fx_analysis.proofs.Narrowest.{narrowest_is}
 use Rattle.fx_analysis.proofs.RangeLaw.{narrowest_same}
 use Rattle.fx_analysis.proofs.Folded.{part_at, part_before, part_below, made_at, all_length}

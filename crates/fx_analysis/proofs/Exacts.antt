@@ -1,11 +1,12 @@
 -- The ends of literals' and inputs' errors as quotients of whole numbers.
-use Rattle.std.proofs.Common.{◌≡◌, ℕ, suc, pred, ◌*◌, ◌^◌, ◌<◌, ℤ, pos, negsuc, ◌-ℤ◌, ◌*ℤ◌, neg_ℤ, [], ◌∷◌, refl, sym, ap, subst, ◌∙◌, arith, pow_pos}
+use Rattle.std.proofs.Common.{◌≡◌, ℕ, suc, ◌*◌, ◌^◌, ◌<◌, ℤ, pos, negsuc, ◌-ℤ◌, ◌*ℤ◌, neg_ℤ, [], ◌∷◌, refl, sym, ap, subst, ◌∙◌, arith, pow_pos}
+use Rattle.std.proofs.Math.Nat.{mul-pos}
 use Rattle.fx_algebra.proofs.Quote as int
 use Rattle.fx_rational.specs.Rational.{Rational, bottom, whole, over, minus, negative, times, scaled, floor, floor_div, ceil_div, Equal}
 use Rattle.fx_rational.proofs.Ring.{by_quotes, quotes}
 use Rattle.fx_rational.proofs.Laws.{equal_refl, equal_sym, equal_trans, times_same, minus_same, negative_same}
 use Rattle.fx_rational.proofs.Quotient.{whole_above, over_times, times_cancel}
-use Rattle.fx_rational.proofs.Powers.{power, unit, unit_power, unit_left, whole_difference, whole_product}
+use Rattle.fx_rational.proofs.Powers.{power, unit, unit_power, unit_left, whole_difference, whole_product, bottom_times}
 use Rattle.fx_rational.proofs.Lowest.{suc_pred}
 use Rattle.fx_inequalities.specs.Formula.{formula_value, word_at}
 use Rattle.fx_bounds.proofs.Words.{word_at_is, unit_at_is}
@@ -25,18 +26,6 @@ over_up n d e h = ap (λ (k : ℕ). lowest_dyadic (ceil_div (n *ℤ pos (2 ^ e))
 -- ---- a quotient
 by_product : (x : Rational) (n : ℤ) (d : ℕ) → 0 < d → Equal (times x (whole (pos d))) (whole n) → Equal (over n d) x
 by_product x n d h e = times_cancel (whole_above d h) (equal_trans (over_times n d h) (equal_sym e))
-
-bottom_times : (g : Rational) → Equal (times g (whole (pos (bottom g)))) (whole g.top)
-unfolding times over
-bottom_times g = record {
-  equal =
-      let e : suc (pred (suc g.less * 1)) ≡ suc g.less = omega arith in
-      let k : (g.top *ℤ pos (suc g.less)) *ℤ pos 1 ≡ g.top *ℤ pos (suc g.less) = int.by_quotes {ρ = g.top ∷ pos (suc g.less) ∷ []} (search int.quotes depth 20) (search int.quotes depth 20) refl in
-      k ∙ ap (λ d. g.top *ℤ pos d) (sym e);
-}
-
-some_product : (a b : ℕ) → 0 < a → 0 < b → 0 < a * b
-some_product a b h k = grind arith
 
 -- ---- literals: the word's value less the literal
 high_product : (c : Rational) (W : ℤ) (k : ℕ) → Equal (times (minus (formula_value (word_at W (pos k))) c) (whole (pos (bottom c * 2 ^ k)))) (whole (W *ℤ pos (bottom c) -ℤ c.top *ℤ pos (2 ^ k)))
@@ -65,10 +54,10 @@ turn_high W q p = int.by_quotes {ρ = W ∷ q ∷ p ∷ []} (search int.quotes d
 pub literal_word : (c : Rational) (f : ℤ) → floor (scaled c f) ≡ floor_div (scaled_top c f) (scaled_bottom c f)
 unfolding floor scaled over
 literal_word c (pos k) = refl
-literal_word c (negsuc k) = ap (floor_div c.top) (suc_pred (bottom c * 2 ^ suc k) (some_product (bottom c) (2 ^ suc k) (omega arith) (pow_pos (suc k))))
+literal_word c (negsuc k) = ap (floor_div c.top) (suc_pred (bottom c * 2 ^ suc k) (mul-pos {m = bottom c} {n = 2 ^ suc k} (omega arith) (pow_pos (suc k))))
 
 pub unit_some : (c : Rational) (f : ℤ) → 0 < unit_bottom c f
-unit_some c (pos k) = some_product (bottom c) (2 ^ k) (omega arith) (pow_pos k)
+unit_some c (pos k) = mul-pos {m = bottom c} {n = 2 ^ k} (omega arith) (pow_pos k)
 unit_some c (negsuc k) = omega arith
 
 pub literal_value : (c : Rational) (W f : ℤ) (r : ℕ) → pos r ≡ scaled_top c f -ℤ W *ℤ pos (scaled_bottom c f) → Equal (over (neg_ℤ (pos r)) (unit_bottom c f)) (minus (formula_value (word_at W f)) c)

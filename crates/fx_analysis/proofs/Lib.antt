@@ -16,7 +16,6 @@ pub mod Ratios
 pub mod Signs
 pub mod NodeRanges
 pub mod Turns
-pub mod Widths
 pub mod PointTurns
 pub mod Halves
 pub mod Ends

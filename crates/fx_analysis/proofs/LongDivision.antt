@@ -4,12 +4,13 @@ use Rattle.std.specs.Prelude.{unsigned_abs}
 use Rattle.std.proofs.Math.Pow.{pow_mono}
 use Rattle.std.proofs.lemmas.Int.{ints}
 use Rattle.std.proofs.lemmas.Nat.{mul-le, pow_pos, div_below}
+use Rattle.std.proofs.Math.Nat.{mul-lt-mul_of_pos_right}
 use Rattle.fx_algebra.proofs.Integers.{*ℤ_assoc}
 use Rattle.fx_algebra.proofs.Quote.{by_quotes, quotes}
 use Rattle.fx_rational.specs.Rational.{floor_div}
-use Rattle.fx_rational.proofs.Floors.{floor_is}
+use Rattle.fx_rational.proofs.Floors.{floor_is, one_more_times}
 use Rattle.fx_model.specs.LawfulProgram.{IsPoint}
-use Rattle.fx_fraction.proofs.Halvings.{split_power, less_times}
+use Rattle.fx_fraction.proofs.Halvings.{split_power}
 use Rattle.fx_analysis.specs.Narrow.{is_even, is_small, lowest_dyadic}
 use Rattle.fx_analysis.specs.PlainErrors.{error_grid}
 use Rattle.fx_analysis.specs.Wide.{units_below}
@@ -35,7 +36,7 @@ left_is v d some = by (v -ℤ floor_div v d *ℤ pos d) refl
 pub cancelled : (v : ℤ) (d k : ℕ) → 0 < d → 0 < k → floor_div (v *ℤ pos k) (d * k) ≡ floor_div v d
 cancelled v d k some more =
     let h = left_is v d some in let r = left_of v d in
-    floor_only (v *ℤ pos k) (floor_div v d) (d * k) (r * k) (ap (λ (z : ℤ). z *ℤ pos k) h.0 ∙ spread (floor_div v d) (pos d) (pos k) (pos r)) (less_times r d k h.1 more)
+    floor_only (v *ℤ pos k) (floor_div v d) (d * k) (r * k) (ap (λ (z : ℤ). z *ℤ pos k) h.0 ∙ spread (floor_div v d) (pos d) (pos k) (pos r)) (mul-lt-mul_of_pos_right {m = r} {n = d} {k = k} h.1 more)
 
 -- a floor of a floor
 nest : (q d k s r : ℤ) → (q *ℤ k +ℤ s) *ℤ d +ℤ r ≡ q *ℤ (d *ℤ k) +ℤ (s *ℤ d +ℤ r)
@@ -147,7 +148,7 @@ far_raised v w f d r t point far h less =
     let g = 2 ^ error_grid f in let p = 2 ^ t * g in let n = r * p / d in let some : 0 < d = omega (arith, less) in
     let product : 0 < p = let a = pow_pos t in let b = pow_pos (error_grid f) in grind (arith, a, b) in
     let is : floor_div ((v *ℤ pos (2 ^ t)) *ℤ pos g) d ≡ w *ℤ pos p +ℤ pos n = ap (λ (z : ℤ). floor_div z d) (*ℤ_assoc v (pos (2 ^ t)) (pos g)) ∙ whole_places v w d r p h some in
-    let few : n < p = div_below (r * p) d p some (let l = less_times r d p less product in omega (arith, l)) in
+    let few : n < p = div_below (r * p) d p some (let l = mul-lt-mul_of_pos_right {m = r} {n = d} {k = p} less product in omega (arith, l)) in
     let more : g ≤ p = let a = pow_pos t in let m = mul-le 1 g (2 ^ t) g a (omega arith) in omega (arith, m) in
     subst (λ (z : ℤ). is_small (lowest_dyadic (z -ℤ pos (units_below f)) (error_grid f)) ≡ false) (sym is)
     (long_lowest ((w *ℤ pos p +ℤ pos n) -ℤ pos (units_below f)) (error_grid f) (far_sum w p n (units_below f) g (far_is w far) few more (units_few f point)))
@@ -172,11 +173,8 @@ power_step v t some = *ℤ_assoc v (pos 2) (pos (2 ^ (t - 1))) ∙ ap (λ (k : �
 two_times : (w d r : ℤ) → (w *ℤ d +ℤ r) *ℤ pos 2 ≡ (w +ℤ w) *ℤ d +ℤ (r +ℤ r)
 two_times w d r = by_quotes {ρ = w ∷ d ∷ r ∷ []} (search quotes depth 20) (search quotes depth 20) refl
 
-one_more : (w d : ℤ) → (w +ℤ pos 1) *ℤ d ≡ w *ℤ d +ℤ d
-one_more w d = by_quotes {ρ = w ∷ d ∷ []} (search quotes depth 20) (search quotes depth 20) refl
-
 pub twice_less : (v w : ℤ) (d r : ℕ) → v ≡ w *ℤ pos d +ℤ pos r → v *ℤ pos 2 ≡ (w +ℤ w) *ℤ pos d +ℤ pos (r + r)
 twice_less v w d r h = ap (λ (z : ℤ). z *ℤ pos 2) h ∙ two_times w (pos d) (pos r)
 
 pub twice_more : (v w : ℤ) (d r : ℕ) → v ≡ w *ℤ pos d +ℤ pos r → d ≤ r + r → v *ℤ pos 2 ≡ ((w +ℤ w) +ℤ pos 1) *ℤ pos d +ℤ pos ((r + r) - d)
-twice_more v w d r h le = let e = twice_less v w d r h in let m = one_more (w +ℤ w) (pos d) in omega (arith, ints, e, m, le)
+twice_more v w d r h le = let e = twice_less v w d r h in let m = one_more_times (w +ℤ w) (pos d) in omega (arith, ints, e, m, le)

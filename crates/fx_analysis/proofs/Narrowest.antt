@@ -1,8 +1,6 @@
 -- What the narrowest interval of claims meets, where bounds say when the claims hold.
-use Rattle.std.proofs.Common.{◌≡◌, ℕ, ◌^◌, ◌<◌, ◌≤◌, Bool, true, false, ◌&&◌, if◌then◌else◌, List, Result, Ok, Err, ◌↔◌, refl, subst, arith}
-use Rattle.std.specs.Prelude.{unsigned_abs}
+use Rattle.std.proofs.Common.{◌≡◌, ℕ, ◌≤◌, Bool, true, false, ◌&&◌, if◌then◌else◌, List, Result, Ok, Err, ◌↔◌, refl, subst, arith}
 use Rattle.std.specs.List.{list_all}
-use Rattle.fx_rational.specs.Dyadic.{Dyadic}
 use Rattle.fx_rational.specs.Interval.{Interval}
 use Rattle.fx_inequalities.specs.Formula.{formula_value, span}
 use Rattle.fx_inequalities.specs.Claim.{Claim, fits, holds}
@@ -13,9 +11,7 @@ use Rattle.fx_analysis.specs.declared.fault.Why.TheVariants.{Beyond}
 use Rattle.fx_analysis.specs.Laws.{Covers, IsNarrowestOf}
 use Rattle.fx_analysis.proofs.Narrows.{narrow_is}
 use Rattle.fx_analysis.proofs.Quotients.{Around}
-
-short : (d : Dyadic) → is_small d ≡ true → unsigned_abs d.m < 2 ^ 62
-short d e = grind (arith, e)
+use Rattle.fx_analysis.proofs.Shorts.{short_small}
 
 around_covers : (g : Interval) (b : Bounds) → Around (span g) b ↔ Covers g b
 unfolding formula_value
@@ -33,8 +29,8 @@ narrowest_is e b claims g few meets made = by (is_small (narrow e b).lo && is_sm
       fit = both_right (is_small (narrow e b).lo && is_small (narrow e b).hi) _ t;
       hold = (meets (narrow e b)).0 ((around_covers (narrow e b) b).1 n.covers);
       written = (
-        record { small = short (narrow e b).lo (both_left (is_small (narrow e b).lo) (is_small (narrow e b).hi) (both_left _ _ t)); places = omega (arith, few, gl); one_spelling = n.lo_lowest },
-        record { small = short (narrow e b).hi (both_right (is_small (narrow e b).lo) (is_small (narrow e b).hi) (both_left _ _ t)); places = omega (arith, few, gh); one_spelling = n.hi_lowest },
+        record { small = short_small (narrow e b).lo (both_left (is_small (narrow e b).lo) (is_small (narrow e b).hi) (both_left _ _ t)); places = omega (arith, few, gl); one_spelling = n.lo_lowest },
+        record { small = short_small (narrow e b).hi (both_right (is_small (narrow e b).lo) (is_small (narrow e b).hi) (both_left _ _ t)); places = omega (arith, few, gh); one_spelling = n.hi_lowest },
       );
       grid = n.grid;
       inside = λ j on h. n.inside j on ((around_covers j b).0 ((meets j).1 h));

@@ -1,15 +1,15 @@
 -- The narrowest interval on a grid.
-use Rattle.std.proofs.Common.{◌≡◌, ℕ, zero, suc, pred, ◌-◌, ◌%◌, ◌^◌, ◌<◌, ◌≤◌, Bool, true, false, if◌then◌else◌, ℤ, pos, negsuc, ◌*ℤ◌, ◌≤ℤ◌, ◌↔◌, refl, sym, ap, subst, ◌∙◌, arith, pow_pos}
+use Rattle.std.proofs.Common.{◌≡◌, ℕ, zero, suc, ◌-◌, ◌%◌, ◌^◌, ◌<◌, ◌≤◌, Bool, true, false, if◌then◌else◌, ℤ, pos, negsuc, ◌*ℤ◌, ◌≤ℤ◌, ◌↔◌, refl, sym, ap, subst, ◌∙◌, arith}
 use Rattle.std.specs.Prelude.{unsigned_abs}
 use Rattle.std.proofs.lemmas.Int.{ints}
 use Rattle.std.proofs.lemmas.Nat.{div-add-mod', mod_below}
-use Rattle.fx_algebra.proofs.Integers.{nonneg_of_above, suc_above}
-use Rattle.fx_algebra.proofs.Order.{mul_le_right, pow_above}
+use Rattle.fx_algebra.proofs.Integers.{suc_above}
 use Rattle.fx_rational.specs.Rational.{Rational, bottom, over, scaled, floor_div, ceil_div, Equal, AtMost}
 use Rattle.fx_rational.specs.Dyadic.{Dyadic, dyadic_value, aligned}
 use Rattle.fx_rational.proofs.Laws.{equal_refl, equal_sym, equal_trans, le_trans, le_of_equal}
 use Rattle.fx_rational.proofs.Floors.{floor_is, ceiling_is, le_floor, ceiling_le}
-use Rattle.fx_rational.proofs.Dyadics.{as_written, order, aligned_is}
+use Rattle.fx_rational.proofs.Dyadics.{as_written, aligned_is, power_bottom}
+use Rattle.fx_rational.proofs.Roundings.{le_at_one_exponent}
 use Rattle.fx_analysis.specs.Narrow.{is_even, lowest_dyadic, grid_down, grid_up}
 use Rattle.fx_analysis.specs.Laws.{NarrowLaw}
 
@@ -46,9 +46,6 @@ lowest_dyadic_is m (suc e) = by (is_even m) refl (lowest_dyadic_is (floor_div m 
     by false h half = record { value = equal_refl _; places = omega arith; lowest = λ _. odd_of m h }
 
 -- ---- m / 2^e beside a rational
-power_bottom : (e : ℕ) → suc (pred (2 ^ e)) ≡ 2 ^ e
-power_bottom e = let p = pow_pos e in omega arith
-
 pub at_most_written : (m : ℤ) (e : ℕ) (x : Rational) → AtMost (dyadic_value (as_written m e)) x ↔ ((m *ℤ pos (bottom x)) ≤ℤ (x.top *ℤ pos (2 ^ e)))
 unfolding dyadic_value over
 at_most_written m e x =
@@ -60,10 +57,6 @@ unfolding dyadic_value over
 written_at_most m e x =
     let P : ℕ → Type 0 = λ k. (x.top *ℤ pos k) ≤ℤ (m *ℤ pos (bottom x)) in
     (λ h. subst P (power_bottom e) h.at_most, λ h. record { at_most = subst P (sym (power_bottom e)) h })
-
--- at one exponent the mantissas decide
-le_at_one_exponent : (v w : ℤ) (e : ℕ) → v ≤ℤ w → AtMost (dyadic_value (as_written v e)) (dyadic_value (as_written w e))
-le_at_one_exponent v w e h = (order (as_written v e) (as_written w e)).1 (mul_le_right h (nonneg_of_above (pow_above e)))
 
 -- ---- down and up
 pub record IsDown (e : ℕ) (x : Rational) (r : Dyadic) : Type 0 where

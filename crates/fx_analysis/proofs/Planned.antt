@@ -10,6 +10,7 @@ use Rattle.fx_model.specs.LawfulProgram.{IsPoint, IsLawfulCode, IsLawfulProgram,
 use Rattle.fx_model.specs.Names.{IsName}
 use Rattle.fx_model.specs.Nodes as model
 use Rattle.fx_model.specs.Nodes.{nodes_of, Input, State, Const, Neg, Add, Sub, Mul, Div, Copy}
+use Rattle.fx_model.proofs.Widths.{width_of}
 use Rattle.fx_expr.specs.LawfulFunction.{IsLawfulFunction}
 use Rattle.fx_inequalities.specs.Certificate.{Certificate, zero_interval}
 use Rattle.fx_inequalities.specs.LawfulCertificate.{IsLawfulCertificate}
@@ -34,7 +35,6 @@ use Rattle.fx_analysis.proofs.NodeLaw.{nodes_are}
 use Rattle.fx_analysis.proofs.PointLaw.{points_are}
 use Rattle.fx_analysis.proofs.AttemptLaw.{attempt_is}
 use Rattle.fx_analysis.proofs.ProgramLaw.{attempt_program, points_long, good_node, code_lawful}
-use Rattle.fx_analysis.proofs.Widths.{width_of}
 
 pub whole_list : (fn : Function) (nodes : Nodes) → IsLawfulFunction fn → nodes_in nodes.list ≡ nodes_of fn → nodes.inputs ≡ length fn.inputs → nodes.states ≡ length fn.states → IsWholeList nodes
 whole_list fn nodes lawful same inputs states =

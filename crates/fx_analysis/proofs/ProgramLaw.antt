@@ -10,6 +10,8 @@ use Rattle.fx_model.specs.Function.{Function}
 use Rattle.fx_model.specs.Machine.{points_of}
 use Rattle.fx_model.specs.LawfulProgram.{IsPoint, IsShift, IsLawfulCode, IsPlaced, AreLawful, IsCopy, widths, IsLawfulProgram}
 use Rattle.fx_model.specs.Nodes.{Node, Input, State, Const, Neg, Add, Sub, Mul, Div, Copy, nodes_of}
+use Rattle.fx_model.proofs.Roots.{IsCopyNode}
+use Rattle.fx_model.proofs.Widths.{width_of}
 use Rattle.fx_expr.specs.LawfulFunction.{IsLawfulFunction}
 use Rattle.fx_inequalities.specs.Formula.{span}
 use Rattle.fx_inequalities.specs.Certificate.{zero_interval}
@@ -22,8 +24,7 @@ use Rattle.fx_analysis.specs.Ordered.{IsInPlace}
 use Rattle.fx_analysis.specs.Laws.{Covers, no_node}
 use Rattle.fx_analysis.specs.AttemptLaws.{AttemptProgramLaw}
 use Rattle.fx_analysis.proofs.Folded.{all_length, made_at, part_at}
-use Rattle.fx_analysis.proofs.Ordered.{IsCopyNode, node_list}
-use Rattle.fx_analysis.proofs.Widths.{width_of}
+use Rattle.fx_analysis.proofs.Ordered.{node_list}
 use Rattle.fx_analysis.proofs.RangeLaw.{range_is, fractions_around}
 use Rattle.fx_analysis.proofs.PointLaw.{points_are}
 use Rattle.fx_analysis.proofs.CodeLaw.{codes_are}

@@ -9,15 +9,12 @@ use Rattle.fx_inequalities.specs.Claim.{Below, holds, inside}
 use Rattle.fx_inequalities.specs.NodeConditions.{positive_quotient_claims, quotient_claims}
 use Rattle.fx_rational.specs.Dyadic.{dyadic_value}
 use Rattle.fx_rational.proofs.Laws.{le_trans, le_of_equal, equal_sym, times_le}
-use Rattle.fx_rational.proofs.Tests.{at_most_test, at_most_true, at_most_false}
+use Rattle.fx_rational.proofs.Tests.{at_most_true, at_most_false, at_most_holds}
 use Rattle.fx_rational.proofs.Quotient.{Above, above_more, above_nonneg, le_of_times, quotient_back}
 use Rattle.fx_bounds.proofs.Claims.{positive_above, negative_above, both_left, both_right}
 use Rattle.fx_analysis.specs.Narrow.{ratio, lesser_value, greater_value, positive_bounds, quotient_bounds, is_apart, span_bounds, Bounds}
 
 -- ---- tests
-pub at_most_holds : {x y : Rational} → AtMost x y → is_at_most x y ≡ true
-at_most_holds {x} {y} h = (at_most_test x y).1 h
-
 pub both : {a b : Bool} → a ≡ true → b ≡ true → (a && b) ≡ true
 both p q = rw (p, q) refl
 

@@ -4,10 +4,11 @@ use Rattle.std.specs.Prelude.{unsigned_abs}
 use Rattle.std.specs.List.{list_all}
 use Rattle.std.proofs.lemmas.Int.{ints}
 use Rattle.std.proofs.lemmas.Nat.{mul-le}
+use Rattle.std.proofs.Math.Nat.{mul-pos}
 use Rattle.fx_rational.specs.Rational.{Rational, bottom, over, scaled, floor_div, ceil_div, lowest, Equal, above_zero}
 use Rattle.fx_rational.specs.Dyadic.{Dyadic, dyadic_value, fits_128, least, greatest, product_fits}
 use Rattle.fx_rational.specs.Interval.{Interval}
-use Rattle.fx_rational.proofs.Dyadics.{raised}
+use Rattle.fx_rational.proofs.Dyadics.{raised, power_bottom}
 use Rattle.fx_rational.proofs.Lowest.{lowest_is, size-neg_ℤ, suc_pred}
 use Rattle.fx_rational.proofs.Laws.{equal_refl, equal_sym, equal_trans, times_same, le_of_equal}
 use Rattle.fx_rational.proofs.Quotient.{Above, above_more, times_cancel}
@@ -21,8 +22,9 @@ use Rattle.fx_judging.specs.Judging.{FormsSpan}
 use Rattle.fx_analysis.specs.Narrowed.{IsIfSmall, answer_of}
 use Rattle.fx_analysis.proofs.Quotients.{ratio_back}
 use Rattle.fx_analysis.proofs.Spelling.{down_same, up_same, down_lesser, up_greater}
-use Rattle.fx_analysis.proofs.Settled.{short_small, end_fits, kept_answer}
+use Rattle.fx_analysis.proofs.Settled.{end_fits, kept_answer}
 use Rattle.fx_analysis.proofs.Lefts.{abs_times, small_fits}
+use Rattle.fx_analysis.proofs.Shorts.{short_small}
 
 -- ---- fractions
 product_small : (m : ℤ) (q : ℕ) → unsigned_abs m < 2 ^ 62 → q < 2 ^ 62 → fits_128 (m *ℤ pos q) ≡ true
@@ -47,18 +49,12 @@ fraction_answer o e lo hi x y p q nl nh k =
     (λ s t. fractions_fit x y (narrow e (record { lo = x; hi = y })) (subst (λ (r : Rational). bottom r < 2 ^ 62) p nl) (subst (λ (r : Rational). bottom r < 2 ^ 62) q nh) s t)
 
 -- ---- ratios
-pub power_bottom : (e : ℕ) → suc (pred (2 ^ e)) ≡ 2 ^ e
-power_bottom e = let p = pow_pos e in omega arith
-
-pub some_product : (a b : ℕ) → 0 < a → 0 < b → 0 < a * b
-some_product a b h k = grind arith
-
 ratio_top : (a b : Dyadic) → (a.m *ℤ pos (suc (pred (2 ^ b.e)))) *ℤ pos (2 ^ 24) ≡ a.m *ℤ pos (2 ^ (24 + b.e))
 ratio_top a b = ap (λ (k : ℕ). (a.m *ℤ pos k) *ℤ pos (2 ^ 24)) (power_bottom b.e) ∙ sym (raised a.m 24 b.e)
 
 ratio_bottom : (a b : Dyadic) → 0 < unsigned_abs b.m → suc (pred (suc (pred (2 ^ a.e)) * unsigned_abs b.m)) ≡ unsigned_abs (b.m *ℤ pos (2 ^ a.e))
 ratio_bottom a b h =
-    suc_pred (suc (pred (2 ^ a.e)) * unsigned_abs b.m) (some_product (suc (pred (2 ^ a.e))) (unsigned_abs b.m) (omega arith) h)
+    suc_pred (suc (pred (2 ^ a.e)) * unsigned_abs b.m) (mul-pos {m = suc (pred (2 ^ a.e))} {n = unsigned_abs b.m} (omega arith) h)
     ∙ ap (λ (k : ℕ). k * unsigned_abs b.m) (power_bottom a.e) ∙ (let e : 2 ^ a.e * unsigned_abs b.m ≡ unsigned_abs b.m * 2 ^ a.e = omega arith in e) ∙ sym (abs_times b.m (2 ^ a.e))
 
 pub ratio_down_is : (a b : Dyadic) → 0 < unsigned_abs b.m → lowest_dyadic (floor_div (a.m *ℤ pos (2 ^ (24 + b.e))) (unsigned_abs (b.m *ℤ pos (2 ^ a.e)))) 24 ≡ grid_down 24 (ratio (dyadic_value a) (dyadic_value b))
@@ -76,7 +72,7 @@ positive_some (negsuc n) h = absurd cc
 
 pub bottom_some : (b : Dyadic) (e : ℕ) → above_zero b.m ≡ true → (0 < unsigned_abs b.m) × (0 < unsigned_abs (b.m *ℤ pos (2 ^ e)))
 bottom_some b e h =
-    let p = positive_some b.m h in let q = some_product (unsigned_abs b.m) (2 ^ e) p (pow_pos e) in let a = abs_times b.m (2 ^ e) in (p, omega (arith, q, a))
+    let p = positive_some b.m h in let q = mul-pos {m = unsigned_abs b.m} {n = 2 ^ e} p (pow_pos e) in let a = abs_times b.m (2 ^ e) in (p, omega (arith, q, a))
 
 -- of equal numbers
 pub ratio_same : (p q u v : Rational) → Above q → Equal p u → Equal q v → Equal (ratio p q) (ratio u v)

@@ -10,6 +10,7 @@ use Rattle.fx_rational.proofs.Laws.{equal_sym, equal_trans, le_trans, le_of_equa
 use Rattle.fx_rational.proofs.Quotient.{above_nonneg}
 use Rattle.fx_rational.proofs.Powers.{unit, unit_above, unit_left, unit_power, unit_sum, whole_le}
 use Rattle.fx_rational.proofs.Tests.{at_most_true, at_most_test}
+use Rattle.fx_rational.proofs.Intervals.{times_turned}
 use Rattle.fx_model.specs.Nodes.{Node}
 use Rattle.fx_bounds.proofs.Claims.{both_left, both_right}
 use Rattle.fx_bounds.proofs.Words.{word_at_is}
@@ -19,9 +20,6 @@ use Rattle.fx_analysis.proofs.LiteralWords.{dyadic_number}
 use Rattle.fx_analysis.proofs.PointLaw.{first_next}
 
 -- ---- units
-swapped : (x y : Rational) → Equal (times x y) (times y x)
-swapped x y = by_quotes {ρ = x ∷ y ∷ []} (search quotes depth 20) (search quotes depth 20) refl
-
 once : (x : Rational) → Equal x (times (whole (pos 1)) x)
 once x = by_quotes {ρ = x ∷ []} (search quotes depth 20) (search quotes depth 20) refl
 
@@ -29,7 +27,7 @@ one_power : (n : ℕ) → 1 ≤ 2 ^ suc n
 one_power n = pow_pos (suc n)
 
 at_least_one : (j : ℤ) → j ≤ℤ pos 0 → AtMost (whole (pos 1)) (unit j)
-at_least_one (pos zero) h = le_of_equal (equal_trans (equal_sym (unit_power 0)) (equal_trans (swapped (unit (pos 0)) (whole (pos 1))) (equal_sym (once (unit (pos 0))))))
+at_least_one (pos zero) h = le_of_equal (equal_trans (equal_sym (unit_power 0)) (equal_trans (times_turned (unit (pos 0)) (whole (pos 1))) (equal_sym (once (unit (pos 0))))))
 at_least_one (pos (suc n)) h = absurd (omega (arith, ints, h))
 at_least_one (negsuc n) h = let p = one_power n in le_trans (whole_le (omega (arith, ints, p))) (le_of_equal (unit_left n))
 
@@ -46,14 +44,14 @@ word_value_is w f = subst (λ (y : Rational). Equal y (times (whole w) (unit f))
 higher : (n : ℕ) (f h : ℤ) → h ≤ℤ f → AtMost (dyadic_value (word_dyadic (pos n) f)) (dyadic_value (word_dyadic (pos n) h))
 higher n f h l =
     let w = whole (pos n) in
-    le_trans (le_of_equal (equal_trans (word_value_is (pos n) f) (swapped w (unit f))))
-    (le_trans (times_le (coarser_unit f h l) (nonneg_from (omega (arith, ints)))) (le_of_equal (equal_trans (swapped (unit h) w) (equal_sym (word_value_is (pos n) h)))))
+    le_trans (le_of_equal (equal_trans (word_value_is (pos n) f) (times_turned w (unit f))))
+    (le_trans (times_le (coarser_unit f h l) (nonneg_from (omega (arith, ints)))) (le_of_equal (equal_trans (times_turned (unit h) w) (equal_sym (word_value_is (pos n) h)))))
 
 lower : (n : ℕ) (f h : ℤ) → h ≤ℤ f → AtMost (dyadic_value (word_dyadic (neg_ℤ (pos n)) h)) (dyadic_value (word_dyadic (neg_ℤ (pos n)) f))
 lower n f h l =
     let w = whole (neg_ℤ (pos n)) in
-    le_trans (le_of_equal (equal_trans (word_value_is (neg_ℤ (pos n)) h) (swapped w (unit h))))
-    (le_trans (times_le_down (coarser_unit f h l) (whole_le (omega (arith, ints)))) (le_of_equal (equal_trans (swapped (unit f) w) (equal_sym (word_value_is (neg_ℤ (pos n)) f)))))
+    le_trans (le_of_equal (equal_trans (word_value_is (neg_ℤ (pos n)) h) (times_turned w (unit h))))
+    (le_trans (times_le_down (coarser_unit f h l) (whole_le (omega (arith, ints)))) (le_of_equal (equal_trans (times_turned (unit f) w) (equal_sym (word_value_is (neg_ℤ (pos n)) f)))))
 
 -- at a coarser point they reach as far at least
 pub reached_below : (n : ℕ) (g : Interval) (f h : ℤ) → h ≤ℤ f → is_reached n g f ≡ true → is_reached n g h ≡ true

@@ -1,6 +1,5 @@
 -- The narrowest interval round a span that fits, and its claims.
-use Rattle.std.proofs.Common.{◌≡◌, ℕ, ◌^◌, ◌<◌, Bool, true, false, ◌&&◌, if◌then◌else◌, Option, Some, None, Result, Ok, Err, List, refl, sym, ap, subst, ◌∙◌, arith}
-use Rattle.std.specs.Prelude.{unsigned_abs}
+use Rattle.std.proofs.Common.{◌≡◌, ℕ, Bool, true, false, ◌&&◌, if◌then◌else◌, Option, Some, None, Result, Ok, Err, List, refl, sym, ap, subst, ◌∙◌, arith}
 use Rattle.std.specs.List.{list_all}
 use Rattle.fx_rational.specs.Dyadic.{Dyadic, dyadic_value, fits_128}
 use Rattle.fx_rational.specs.Interval.{Interval}
@@ -15,9 +14,7 @@ use Rattle.fx_analysis.specs.declared.fault.Why.{Why}
 use Rattle.fx_analysis.specs.declared.fault.Why.TheVariants.{Beyond}
 use Rattle.fx_analysis.proofs.Lefts.{small_fits}
 use Rattle.fx_analysis.proofs.Spelling.{down_same, up_same}
-
-pub short_small : (d : Dyadic) → is_small d ≡ true → unsigned_abs d.m < 2 ^ 62
-short_small d e = grind (arith, e)
+use Rattle.fx_analysis.proofs.Shorts.{short_small}
 
 pub end_fits : (d : Dyadic) → is_small d ≡ true → fits_128 d.m ≡ true
 end_fits d e = let l = short_small d e in small_fits d.m (omega (arith, l))

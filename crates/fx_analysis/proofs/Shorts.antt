@@ -16,8 +16,8 @@ use Rattle.fx_analysis.specs.Short.{has_short_ends, is_near, has_few_places, has
 use Rattle.fx_analysis.proofs.Lefts.{left_small, sized_fits}
 
 -- ---- what the tests say
-pub short_of : (d : Dyadic) → is_small d ≡ true → unsigned_abs d.m < 2 ^ 62
-short_of d h = grind (arith, h)
+pub short_small : (d : Dyadic) → is_small d ≡ true → unsigned_abs d.m < 2 ^ 62
+short_small d h = grind (arith, h)
 
 pub short_lo : (x : Interval) → has_short_ends x ≡ true → is_small x.lo ≡ true
 short_lo x h = both_left (is_small x.lo) (is_small x.hi) h
@@ -80,7 +80,7 @@ short_sums : (a b : Dyadic) → is_small a ≡ true → is_small b ≡ true → 
 unfolding sum_fits
 short_sums a b h k near =
     let e = max a.e b.e in
-    let m = left_small a.m (e - a.e) (short_of a h) (near_left a b near) in let n = left_small b.m (e - b.e) (short_of b k) (near_right a b near) in
+    let m = left_small a.m (e - a.e) (short_small a h) (near_left a b near) in let n = left_small b.m (e - b.e) (short_small b k) (near_right a b near) in
     rw (sized_fits (aligned a e) (omega (arith, m)), sized_fits (aligned b e) (omega (arith, n)), sum_in (aligned a e) (aligned b e) m n) refl
 
 -- ---- products
@@ -92,7 +92,7 @@ product_few a b h k = let p = product_size a b h k in omega (arith, p)
 
 short_products : (a b : Dyadic) → is_small a ≡ true → is_small b ≡ true → product_fits a b ≡ true
 unfolding product_fits
-short_products a b h k = sized_fits (a.m *ℤ b.m) (product_few a.m b.m (short_of a h) (short_of b k))
+short_products a b h k = sized_fits (a.m *ℤ b.m) (product_few a.m b.m (short_small a h) (short_small b k))
 
 -- ---- what they come to
 sums_fit : (x y : Interval) → has_short_sum x y ≡ true → interval_sum_fits x y ≡ true

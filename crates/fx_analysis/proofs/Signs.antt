@@ -14,8 +14,9 @@ use Rattle.fx_judging.specs.Judging.{FormsSpan}
 use Rattle.fx_analysis.specs.Narrowed.{IsPlainEnd, IsPlainInterval, plain_quotient}
 use Rattle.fx_analysis.specs.declared.fault.Why.{Why}
 use Rattle.fx_analysis.specs.declared.fault.Why.TheVariants.{Zero}
-use Rattle.fx_analysis.proofs.Settled.{short_small, end_fits}
+use Rattle.fx_analysis.proofs.Settled.{end_fits}
 use Rattle.fx_analysis.proofs.Lefts.{small_fits}
+use Rattle.fx_analysis.proofs.Shorts.{short_small}
 
 -- ---- by the signs of the divisor's ends
 module _ (a b : Interval) where

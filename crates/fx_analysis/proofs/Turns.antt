@@ -1,7 +1,6 @@
 -- A walk over the nodes of a function: what each turn keeps.
-use Rattle.std.proofs.Common.{◌≡◌, ℕ, zero, suc, ◌+◌, ◌<◌, ◌≤◌, List, [], ◌∷◌, ◌++◌, length, drop, map, get_or, Result, Ok, Err, refl, sym, ap, ap₂, subst, ◌∙◌, arith, length-append}
+use Rattle.std.proofs.Common.{◌≡◌, ℕ, zero, suc, ◌+◌, ◌<◌, ◌≤◌, List, [], ◌∷◌, ◌++◌, length, drop, get_or, Result, Ok, Err, refl, sym, ap, ap₂, subst, ◌∙◌, arith, length-append}
 use Rattle.std.proofs.Math.Seq.{drop-cons}
-use Rattle.std.proofs.lemmas.List.{length-map, get_or-map}
 use Rattle.fx_model.specs.Nodes.{Node}
 use Rattle.fx_analysis.specs.declared.fault.Why.{Why}
 use Rattle.fx_analysis.specs.Fold.{Absent, and_on, parts_after}
@@ -15,11 +14,6 @@ ordered_at i s k nodes d h lt = subst (λ (m : ℕ). IsInPlace i s m (get_or nod
     go k m [] h lt = absurd (omega (arith, lt))
     go zero m (x ∷ xs) h lt = subst (λ (n : ℕ). IsInPlace i s n x) (omega arith) h.0
     go (suc k) m (x ∷ xs) h lt = subst (λ (n : ℕ). IsInPlace i s n (get_or xs k d)) (omega arith) (go k (m + 1) xs h.1 (omega (arith, lt)))
-
--- an element of a list, seen through a view
-pub seen_at : {X : Type 0} (f : X → Node) (xs : List X) (nodes : List Node) (k : ℕ) (x : X) → map f xs ≡ nodes → k < length xs → x ≡ get_or xs k x → (k < length nodes) × (get_or nodes k (f x) ≡ f x)
-seen_at f xs nodes k x e lt is =
-    (rw (← e) (rw (length-map xs f) lt), ap (λ (ns : List Node). get_or ns k (f x)) (sym e) ∙ get_or-map f xs k x (f x) lt ∙ sym (ap f is))
 
 -- k nodes have the parts xs, and the rest of the fold is all of it
 pub record IsWalked {A : Type 0} (f : List A → Node → Result A Why) (nodes : List Node) (k : ℕ) (xs : List A) : Type 0 where

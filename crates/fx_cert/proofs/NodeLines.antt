@@ -7,6 +7,7 @@ use Rattle.std.proofs.lemmas.Bool.Decides.{nat_tests}
 use Rattle.std.proofs.lemmas.List.{append-nil}
 use Rattle.std.proofs.lemmas.List.Elements.{recursion_from_All}
 use Rattle.std.proofs.lemmas.Slice.Eq.{bytes_eq-Decides}
+use Rattle.std.proofs.lemmas.Bool.{and_parts}
 use Rattle.fx_rational.specs.Dyadic.{IsWritten}
 use Rattle.fx_rational.specs.Interval.{IsWrittenInterval}
 use Rattle.fx_model.specs.LineText.{dyadic_text, interval_fields}
@@ -16,7 +17,7 @@ use Rattle.fx_inequalities.specs.LawfulCertificate.{AreShares, IsFormIfAny, IsWr
 use Rattle.fx_text.specs.declared.fault.TextKind.TheVariants.{BadLine}
 use Rattle.fx_text.specs.Cutting.{Line}
 use Rattle.fx_text.specs.Spelling.{AreFields, IsField}
-use Rattle.fx_text.proofs.Choices.{on_ok, chosen, both_true}
+use Rattle.fx_text.proofs.Choices.{on_ok, chosen}
 use Rattle.fx_text.proofs.FieldLaws.{front, ended_is, field_is, word_takes, word_again}
 use Rattle.fx_text.proofs.LineLaws.{IsLineOf}
 use Rattle.fx_text.proofs.DyadicLaws.{IsField-dyadic_text, dyadic_takes, dyadic_again, interval_takes, interval_again, dyadics_spelling}
@@ -223,7 +224,7 @@ node_law v rows error_rows n small small_errors = record { takes = takes; again 
           | inr g ↦
               elim (chosen (nat_le v n && bytes_eq kind.0 (codes "form")) _ (Err BadLine) (Ok l) g.1) [
                 | inl h ↦
-                    let tests = both_true (nat_le v n) (bytes_eq kind.0 (codes "form")) h.0 in
+                    let tests = and_parts (nat_le v n) (bytes_eq kind.0 (codes "form")) h.0 in
                     let le : v ≤ n = grind (arith, nat_tests, tests.0) in
                     let t = formed_takes v rows error_rows n kind.1 l small small_errors le h.1 in
                     (whole ∙ ap (λ w. w ∷ kind.1) ((bytes_eq-Decides kind.0 (codes "form")).0 tests.1) ∙ t.0, t.1)

@@ -7,12 +7,13 @@ use Rattle.std.proofs.lemmas.Bool.Decides.{nat_tests}
 use Rattle.std.proofs.lemmas.List.{length-map}
 use Rattle.std.proofs.lemmas.List.Elements.{All-from_recursion, recursion_from_All, All-nil}
 use Rattle.std.proofs.lemmas.Slice.Eq.{bytes_eq-Decides}
+use Rattle.std.proofs.lemmas.Bool.{and_parts}
 use Rattle.fx_model.specs.Limits.{height_limit}
 use Rattle.fx_inequalities.specs.CertificateText.{path_field}
 use Rattle.fx_text.specs.declared.fault.TextKind.TheVariants.{BadLine, OutOfRange}
 use Rattle.fx_text.specs.Cutting.{Line}
 use Rattle.fx_text.specs.Spelling.{IsField, IsOneSpelling, Lacks}
-use Rattle.fx_text.proofs.Choices.{on_ok, passed, chosen, both_true}
+use Rattle.fx_text.proofs.Choices.{on_ok, passed, chosen}
 use Rattle.fx_text.proofs.FieldLaws.{field_is}
 use Rattle.fx_cert.specs.FieldReading.{are_turns, known_turns, known_path, path_at}
 
@@ -34,7 +35,7 @@ is_turn c e = (grind (arith, tests), grind (arith, tests))
 turns_take : (text : List ℕ) → are_turns text ≡ true → (digits (turns_of text) ≡ text) × AllByRecursion (λ d. d < 2) (turns_of text)
 turns_take [] e = (refl, tt)
 turns_take (c ∷ cs) e =
-    let t = both_true (c == 48 || c == 49) (are_turns cs) e in let k = is_turn c t.0 in let rest = turns_take cs t.1 in
+    let t = and_parts (c == 48 || c == 49) (are_turns cs) e in let k = is_turn c t.0 in let rest = turns_take cs t.1 in
     let same : 48 + (c - 48) ≡ c = omega (arith, k.0) in
     (ap (λ x. x ∷ digits (turns_of cs)) same ∙ ap (λ xs. c ∷ xs) rest.0, (omega (arith, k.1), rest.1))
 

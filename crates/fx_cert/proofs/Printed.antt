@@ -36,10 +36,6 @@ spaced_pairs (s ∷ shares) =
 pub line_is : (word : List ℕ) (fields : Line) → line_text (word ∷ fields) ≡ (word ++ spaced fields) ++ 10 ∷ []
 line_is word fields = line_text-cons word fields
 
--- parts written one behind the other
-pub two : (o0 o1 o2 a b : List ℕ) → o1 ≡ o0 ++ a → o2 ≡ o1 ++ b → o2 ≡ o0 ++ (a ++ b)
-two o0 o1 o2 a b p q = q ∙ ap (λ o. o ++ b) p ∙ append_assoc o0 a b
-
 -- a path, whose turns are written as digits
 pub digits_of : (path : List ℕ) → map (λ d. 48 + min d 1) path ≡ map (λ k. 48 + k) (map (λ d. min d 1) path)
 digits_of [] = refl
@@ -56,13 +52,6 @@ two_parts word a b = line_is word (a ++ b) ∙ ap (λ t. (word ++ t) ++ 10 ∷ [
 
 pub three_parts : (word : List ℕ) (a b c : Line) → line_text (word ∷ ((a ++ b) ++ c)) ≡ (((word ++ spaced a) ++ spaced b) ++ spaced c) ++ 10 ∷ []
 three_parts word a b c = two_parts word (a ++ b) c ∙ ap (λ t. ((word ++ t) ++ spaced c) ++ 10 ∷ []) (spaced_append a b) ∙ ap (λ t. (t ++ spaced c) ++ 10 ∷ []) (sym (append_assoc word (spaced a) (spaced b)))
-
--- what is appended in four and in five parts
-pub four : (o0 o1 o2 o3 o4 a b c d : List ℕ) → o1 ≡ o0 ++ a → o2 ≡ o1 ++ b → o3 ≡ o2 ++ c → o4 ≡ o3 ++ d → o4 ≡ o0 ++ (((a ++ b) ++ c) ++ d)
-four o0 o1 o2 o3 o4 a b c d p q r s = two o0 o3 o4 ((a ++ b) ++ c) d (two o0 o2 o3 (a ++ b) c (two o0 o1 o2 a b p q) r) s
-
-pub five : (o0 o1 o2 o3 o4 o5 a b c d e : List ℕ) → o1 ≡ o0 ++ a → o2 ≡ o1 ++ b → o3 ≡ o2 ++ c → o4 ≡ o3 ++ d → o5 ≡ o4 ++ e → o5 ≡ o0 ++ ((((a ++ b) ++ c) ++ d) ++ e)
-five o0 o1 o2 o3 o4 o5 a b c d e p q r s t = two o0 o4 o5 (((a ++ b) ++ c) ++ d) e (four o0 o1 o2 o3 o4 a b c d p q r s) t
 
 -- the fields of a form
 pub form_spaced : (x y : List ℕ) (a b c d e : Line) → spaced (x ∷ y ∷ ((((a ++ b) ++ c) ++ d) ++ e)) ≡ ((32 ∷ x) ++ (32 ∷ y)) ++ ((((spaced a ++ spaced b) ++ spaced c) ++ spaced d) ++ spaced e)

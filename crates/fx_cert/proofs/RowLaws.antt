@@ -25,7 +25,7 @@ zeros_length : (n : ℕ) → length (zeros n) ≡ n
 zeros_length zero = refl
 zeros_length (suc n) = ap suc (zeros_length n)
 
-unit_length : (k i : ℕ) → i < k → length (unit_vector k i) ≡ k
+pub unit_length : (k i : ℕ) → i < k → length (unit_vector k i) ≡ k
 unit_length k i lt = length-append (zeros i) (record { m = _; e = 0 } ∷ zeros (k - (i + 1))) ∙ omega (arith, zeros_length i, zeros_length (k - (i + 1)))
 
 zero_written : IsWritten zero_dyadic

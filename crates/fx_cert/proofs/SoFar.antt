@@ -6,16 +6,13 @@ use Rattle.fx_text.specs.declared.fault.TextFault.{TextFault}
 use Rattle.fx_text.specs.Cutting.{Line}
 use Rattle.fx_text.specs.Many.{many, with_front, numbered_line, lines_by}
 use Rattle.fx_text.proofs.ManyLaws.{many_goes_on, many_ends, many_is_done}
+use Rattle.fx_program.proofs.Reading.{with_front_nothing}
 
 -- behind so many values k lines are read, and the text is left
 pub record SoFar {A X : Type 0} (view : X → A) (read : ℕ → Line → Result A TextKind) (first count : ℕ) (total : Result (List A × List ℕ) TextFault) (before : ℕ) (found : List X) (k : ℕ) (rest : List ℕ) : Type 0 where
   pub so_far : with_front (map view found) (many (numbered_line read first) (λ i _. i + 1) (count - k) k rest) ≡ total
   pub few : length found ≡ before + k
   pub within : k ≤ count
-
-whole : {A Y E : Type 0} (reading : Result (List A × List Y) E) → with_front [] reading ≡ reading
-whole (Ok x) = refl
-whole (Err e) = refl
 
 pub begins_behind : {A X : Type 0} (view : X → A) (read : ℕ → Line → Result A TextKind) (first count : ℕ) (rows : List X) (text : List ℕ) → SoFar view read first count (with_front (map view rows) (lines_by read first count text)) (length rows) rows 0 text
 unfolding lines_by
@@ -24,7 +21,7 @@ begins_behind view read first count rows text = record { so_far = (let e : count
 pub begins : {A X : Type 0} (view : X → A) (read : ℕ → Line → Result A TextKind) (first count : ℕ) (text : List ℕ) → SoFar view read first count (lines_by read first count text) 0 [] 0 text
 unfolding lines_by
 begins view read first count text = record {
-  so_far = whole (many (numbered_line read first) (λ i _. i + 1) (count - 0) 0 text) ∙ (let e : count - 0 ≡ count = omega arith in rw e refl);
+  so_far = with_front_nothing (many (numbered_line read first) (λ i _. i + 1) (count - 0) 0 text) ∙ (let e : count - 0 ≡ count = omega arith in rw e refl);
   few = refl;
   within = omega arith;
 }

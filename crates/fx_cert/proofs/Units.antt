@@ -4,7 +4,7 @@ use Rattle.fx_rational.specs.Dyadic.{Dyadic, zero_dyadic}
 use Rattle.fx_inequalities.specs.LawfulCertificate.{zeros}
 
 -- one zero more behind
-zeros_more : (n : ℕ) → zeros n ++ zero_dyadic ∷ [] ≡ zeros (suc n)
+pub zeros_more : (n : ℕ) → zeros n ++ zero_dyadic ∷ [] ≡ zeros (suc n)
 zeros_more zero = refl
 zeros_more (suc n) = ap (λ (ds : List Dyadic). zero_dyadic ∷ ds) (zeros_more n)
 

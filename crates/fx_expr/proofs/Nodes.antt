@@ -1,7 +1,6 @@
 -- How many nodes a function has once a tree is exchanged.
-use Rattle.std.proofs.Common.{◌≡◌, ℕ, zero, suc, ◌+◌, ◌-◌, ◌≤◌, min, List, [], ◌∷◌, Option, Some, None, refl, sym, subst, ◌∙◌, arith, length}
+use Rattle.std.proofs.Common.{◌≡◌, ℕ, zero, suc, ◌+◌, ◌-◌, ◌≤◌, min, List, [], ◌∷◌, Some, sym, subst, ◌∙◌, arith, length}
 use Rattle.std.specs.Prelude.{slice_get}
-use Rattle.std.specs.Option.{option_and_then}
 use Rattle.fx_model.specs.Tree as model
 use Rattle.fx_model.specs.Tree.{Tree, Negation, Sum, Difference, Product, Quotient}
 use Rattle.fx_model.specs.Function as function
@@ -10,15 +9,12 @@ use Rattle.fx_model.specs.Nodes.{nodes_of}
 use Rattle.fx_model.specs.Counts.{tree_nodes, temp_nodes, result_nodes, node_count}
 use Rattle.fx_model.specs.Paths.{child, subtree, child_changed, put, tree_in, tree_at, found, temps_changed, results_changed, results_after, with_tree}
 use Rattle.fx_model.proofs.Counted.{node_count_is}
+use Rattle.fx_model.proofs.Options.{some_then}
 use Rattle.fx_expr.specs.LawfulFunction.{IsLawfulFunction}
 use Rattle.fx_expr.specs.FunctionOf.{function_of, IsFunction}
 use Rattle.fx_expr.specs.declared.function.Function.TheInside.{Inside}
 use Rattle.fx_expr.specs.SizeOf.{size_counted, size_of}
 use Rattle.fx_expr.proofs.Sizes.{nodes_counted}
-
-pub some_then : {A B : Type 0} (f : A → Option B) (p : Option A) (b : B) → option_and_then f p ≡ Some b → (a : A) × (p ≡ Some a) × (f a ≡ Some b)
-some_then f None b e = absurd cc
-some_then f (Some a) b e = (a, refl, e)
 
 child_nodes : (d : ℕ) (e a : Tree) (f : Tree → Tree) (m n : ℕ) → child d e ≡ Some a → tree_nodes (f a) + m ≡ tree_nodes a + n → tree_nodes (child_changed d f e) + m ≡ tree_nodes e + n
 child_nodes zero (Negation c) a f m n i h = let e : c ≡ a = cc in let k : tree_nodes (f c) + m ≡ tree_nodes c + n = rw e h in omega arith

@@ -2,9 +2,11 @@
 use Rattle.std.proofs.Common.{◌≡◌, ℕ, zero, suc, ◌+◌, ◌-◌, ◌<◌, ◌≤◌, List, [], ◌∷◌, Option, Some, None, IsSome, refl, sym, ap, subst, ◌∙◌, arith, length, map}
 use Rattle.std.specs.Option.{option_and_then}
 use Rattle.std.specs.Prelude.{slice_get, slice_index_or, slice_set}
+use Rattle.std.proofs.lemmas.Option.{same_Some}
 use Rattle.fx_model.specs.Tree.{Tree}
 use Rattle.fx_model.specs.Function as function
 use Rattle.fx_model.specs.Paths.{subtree, tree_in, temps_changed, results_changed, results_after}
+use Rattle.fx_model.proofs.Options.{some_first}
 use Rattle.fx_expr.specs.TreeOf.{tree}
 use Rattle.fx_expr.specs.Parts.{temp_of}
 use Rattle.fx_expr.specs.declared.expr.Expr.{Expr}
@@ -37,9 +39,6 @@ result_at ts es k x h l e = past_temps ts (map tree es) k (k - length ts) (omega
 pub nothing_at : (ts : List Temp) (es : List Expr) (k : ℕ) → length ts ≤ k → length es ≤ k - length ts → tree_in (map temp_of ts) (map tree es) k ≡ None
 nothing_at ts es k h l = past_temps ts (map tree es) k (k - length ts) (omega arith) ∙ list_past es (k - length ts) l
 
-some_is : {A : Type 0} {x y : A} → Some x ≡ Some y → x ≡ y
-some_is e = cc
-
 -- a temp with an exchanged subtree, set into the list
 temps_set : (ts : List Temp) (k : ℕ) (x : Temp) (y : Expr) (g : Tree → Tree) → k < length ts → x ≡ slice_index_or ts k x → tree y ≡ g (tree x.expr) → map temp_of (slice_set ts k (record { name = x.name; expr = y })) ≡ temps_changed (map temp_of ts) k g
 temps_set [] k x y g h e t = absurd (omega arith)
@@ -54,7 +53,7 @@ temps_exchanged inside now k x y g same h e t = ap (λ (ts : List Temp). map tem
 
 temp_found : (ts : List Temp) (k : ℕ) (x : Temp) (t : function.Temp) → k < length ts → x ≡ slice_index_or ts k x → slice_get (map temp_of ts) k ≡ Some t → t ≡ temp_of x
 temp_found [] k x t h e g = absurd (omega arith)
-temp_found (a ∷ ts) zero x t h e g = sym (some_is g) ∙ ap temp_of (sym e)
+temp_found (a ∷ ts) zero x t h e g = sym (same_Some _ _ g) ∙ ap temp_of (sym e)
 temp_found (a ∷ ts) (suc k) x t h e g = temp_found ts k x t (omega arith) e g
 
 pub temp_is : (inside now : List Temp) (k : ℕ) (x : Temp) (t : function.Temp) → inside ≡ now → k < length now → x ≡ slice_index_or inside k x → slice_get (map temp_of now) k ≡ Some t → t ≡ temp_of x
@@ -70,7 +69,7 @@ pub results_exchanged : (inside now : List Expr) (j : ℕ) (x y : Expr) (g : Tre
 results_exchanged inside now j x y g same h e t = ap (λ (es : List Expr). map tree (slice_set es j y)) same ∙ list_set now j x y g h (e ∙ ap (λ (es : List Expr). slice_index_or es j x) same) t
 
 pub result_is : (inside now : List Expr) (j : ℕ) (x : Expr) (t : Tree) → inside ≡ now → j < length now → x ≡ slice_index_or inside j x → slice_get (map tree now) j ≡ Some t → t ≡ tree x
-result_is inside now j x t same h e g = some_is (sym g ∙ list_at now j x h) ∙ ap tree (ap (λ (es : List Expr). slice_index_or es j x) (sym same) ∙ sym e)
+result_is inside now j x t same h e g = same_Some _ _ (sym g ∙ list_at now j x h) ∙ ap tree (ap (λ (es : List Expr). slice_index_or es j x) (sym same) ∙ sym e)
 
 -- ---- an exchange at a place
 pub temp_there : (ts : List Temp) (es : List Tree) (k : ℕ) → k < length ts → (t : function.Temp) × (slice_get (map temp_of ts) k ≡ Some t) × (tree_in (map temp_of ts) es k ≡ Some t.tree)
@@ -93,15 +92,11 @@ results_past [] es k j g e = let p : k ≡ j = omega arith in ap (λ n. results_
 results_past (t ∷ ts) es zero j g e = absurd (omega arith)
 results_past (t ∷ ts) es (suc k) j g e = results_past ts es k j g (omega arith)
 
-then_some : {A B : Type 0} (f : A → Option B) (p : Option A) → IsSome (option_and_then f p) → IsSome p
-then_some f None h = h
-then_some f (Some a) h = refl
-
 pub result_there : (path : List ℕ) (ts : List Temp) (es : List Expr) (k j : ℕ) → k ≡ length ts + j → IsSome (option_and_then (subtree path) (tree_in (map temp_of ts) (map tree es) k)) →
     (j < length es) × (slice_get (map tree es) j ≡ tree_in (map temp_of ts) (map tree es) k)
 result_there path ts es k j e h =
     let p = past_temps ts (map tree es) k j e in
-    (in_list es j (subst (λ (o : Option Tree). IsSome o) p (then_some (subtree path) (tree_in (map temp_of ts) (map tree es) k) h)), sym p)
+    (in_list es j (subst (λ (o : Option Tree). IsSome o) p (some_first (subtree path) (tree_in (map temp_of ts) (map tree es) k) h)), sym p)
   where
     in_list : (es : List Expr) (j : ℕ) → IsSome (slice_get (map tree es) j) → j < length es
     in_list [] j h = absurd cc

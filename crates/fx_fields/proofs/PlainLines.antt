@@ -2,7 +2,7 @@
 use Rattle.std.proofs.Common.{◌≡◌, not, ℕ, List, [], ◌∷◌, ◌++◌, Option, Some, None, Bool, true, false, refl, ap, ◌∙◌, sym, append_assoc, append-nil, cond, drop}
 use Rattle.std.specs.Prelude.{◌==◌, ◌||◌, ◌&&◌, if◌then◌else◌, option_map}
 use Rattle.std.specs.List.{list_any, onto_first}
-use Rattle.std.proofs.lemmas.Bool.{or_parts}
+use Rattle.std.proofs.lemmas.Bool.{or_parts, not-false}
 use Rattle.csv.specs.Machine.{Read, next_record, step, is_end, ends_at_end, fields_after, field_after, in_field, ends_with, after_end}
 use Rattle.csv.specs.Reading.{default_config, strip_bom, is_bom}
 use Rattle.csv.specs.declared.parser.Terminator.TheVariants as term
@@ -204,10 +204,6 @@ strip_has p (a ∷ b ∷ c ∷ rest) e = either (is_bom a b c) e where
   either : (t : Bool) → list_any p (if t then rest else a ∷ b ∷ c ∷ rest) ≡ true → list_any p (a ∷ b ∷ c ∷ rest) ≡ true
   either true h = before (p a) _ (before (p b) _ (before (p c) _ h))
   either false h = h
-
-not-false : (b : Bool) → not b ≡ false → b ≡ true
-not-false true e = refl
-not-false false e = absurd (cc)
 
 pub special_line : (line text : List ℕ) → text ≡ strip_bom line → not (list_any is_quote text || list_any is_feed text) ≡ false → list_any is_special line ≡ true
 special_line line text e special =

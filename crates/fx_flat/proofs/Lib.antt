@@ -1,3 +1,3 @@
-mod Growth
+pub mod Growth
 mod Pushing
 mod Turns

@@ -1,18 +1,15 @@
 -- Digits read one by one.
-use Rattle.std.proofs.Common.{◌≡◌, ℕ, zero, suc, ◌+◌, ◌*◌, ◌-◌, ◌<◌, ◌≤◌, Bool, true, false, cond, eqb, List, [], ◌∷◌, ◌++◌, length, get_or, take, drop, Some, None, length-drop, refl, arith, rules, tests}
+use Rattle.std.proofs.Common.{◌≡◌, ℕ, zero, suc, ◌+◌, ◌*◌, ◌-◌, ◌<◌, ◌≤◌, Bool, true, false, cond, eqb, List, [], ◌∷◌, ◌++◌, length, get_or, take, drop, Some, None, length-drop, refl, arith}
 use Rattle.std.specs.Char.{digit_value, is_ascii_digit}
 use Rattle.std.specs.Str.Parse.{digits_value_after}
-use Rattle.std.specs.Int.{IsInRange}
 use Rattle.std.proofs.lemmas.Str.{digit_value_digit}
 use Rattle.std.proofs.lemmas.List.Sums.{prefix_len-le-length}
 use Rattle.std.proofs.lemmas.List.Folds.{length-prefix_len}
+use Rattle.fx_model.proofs.Digits.{digit_range}
 use Rattle.fx_fraction.specs.Numeral.{digit_count, first_digits, part_of, part_digits}
 
-in_range : (c : ℕ) → is_ascii_digit c ≡ true → IsInRange 48 57 c
-in_range c e = search (rules, tests)
-
 pub digit_is : (c : ℕ) → is_ascii_digit c ≡ true → (digit_value c ≡ c - 48) × (c - 48 < 10)
-digit_is c e = let r = in_range c e in let d = digit_value_digit c r in (omega (arith, d), omega (arith, r))
+digit_is c e = let r = digit_range c e in let d = digit_value_digit c r in (omega (arith, d), omega (arith, r))
 
 -- one more digit
 pub after_more : (n : ℕ) (f : List ℕ) (i : ℕ) → i < length f → digits_value_after 10 n (take (i + 1) f) ≡ digits_value_after 10 n (take i f) * 10 + digit_value (get_or f i 0)

@@ -19,9 +19,6 @@ double_power i = let e = pow-add 2 i 1 in omega (arith, e)
 pub split_power : (s e : ℕ) → s ≤ e → 2 ^ (e - s) * 2 ^ s ≡ 2 ^ e
 split_power s e h = let k : (e - s) + s ≡ e = omega (arith, h) in sym (pow-add 2 (e - s) s) ∙ ap (λ (n : ℕ). 2 ^ n) k
 
-pub less_times : (r d k : ℕ) → r < d → 0 < k → r * k < d * k
-less_times r d k h some = let m = mul-le (suc r) k d k h (omega arith) in omega (arith, m, some)
-
 twice : (n q s : ℕ) → n % 2 ≡ 0 → n / 2 ≡ q * 2 ^ s → n ≡ q * 2 ^ suc s
 twice n q s even half =
     let d = div-add-mod' n 2 in let one : suc s ≡ s + 1 = omega arith in let p : 2 ^ suc s ≡ 2 ^ s + 2 ^ s = ap (λ (k : ℕ). 2 ^ k) one ∙ double_power s in

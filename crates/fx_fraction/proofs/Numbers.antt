@@ -4,20 +4,17 @@ use Rattle.std.specs.Prelude.{nat_lt}
 use Rattle.std.specs.Char.{is_ascii_digit}
 use Rattle.std.specs.Str.{all_ascii_digits}
 use Rattle.std.specs.Str.Parse.{AllDigits, digits_value}
-use Rattle.std.specs.Int.{IsInRange}
 use Rattle.std.proofs.lemmas.Str.Parse.{IsNumeralModel, numerals_by_value, tells_all_ascii_digits, digit_at}
 use Rattle.std.proofs.lemmas.Int.Digits.{digits_value_more, digits_more}
 use Rattle.std.proofs.lemmas.Bool.{cases_Bool}
 use Rattle.std.proofs.lemmas.List.{take_all}
+use Rattle.fx_model.proofs.Digits.{is_digit}
 use Rattle.fx_fraction.specs.Kept.{saturated}
 use Rattle.fx_fraction.specs.ReadParts.{number_kept}
 use Rattle.fx_fraction.proofs.Digits.{digit_is}
 
 own : IsNumeralModel (λ ds. all_ascii_digits ds ≡ true) (digits_value 10)
 own = numerals_by_value _ tells_all_ascii_digits
-
-is_digit : (c : ℕ) → IsInRange 48 57 c → is_ascii_digit c ≡ true
-is_digit c r = search (rules, tests)
 
 -- a byte that is no digit
 pub stops : (f : List ℕ) (i : ℕ) → i < length f → is_ascii_digit (get_or f i 0) ≡ false → number_kept f ≡ None

@@ -6,21 +6,17 @@ use Rattle.std.specs.Str.{all_ascii_digits}
 use Rattle.std.specs.Int.{IsInRange}
 use Rattle.std.proofs.lemmas.List.{take_at, drop_at}
 use Rattle.std.proofs.lemmas.List.Folds.{length-prefix_len}
-use Rattle.std.proofs.lemmas.Bool.{eqb-true}
+use Rattle.std.proofs.lemmas.Bool.{eqb-true, and_parts}
+use Rattle.fx_model.proofs.Digits.{digit_range}
 use Rattle.fx_fraction.specs.Numeral.{Sign, unwritten, plus, minus, Power, Numeral, sign_text, part_text, power_text, numeral_text, part_digits, is_number, is_e, is_power, IsNumeral, sign_of, behind_sign, digit_count, first_digits, behind_digits, part_of, behind_part, power_of, unsigned_of, numeral_of}
 
 -- ---- tests
 
-both : (a b : Bool) → (a && b) ≡ true → (a ≡ true) × (b ≡ true)
-both true true e = (refl, refl)
-both true false e = absurd cc
-both false b e = absurd cc
-
 is_digits : (ds : List ℕ) → is_number ds ≡ true → all_ascii_digits ds ≡ true
-is_digits ds e = (both (all_ascii_digits ds) (nat_lt 0 (length ds)) e).0
+is_digits ds e = (and_parts (all_ascii_digits ds) (nat_lt 0 (length ds)) e).0
 
 is_some : (ds : List ℕ) → is_number ds ≡ true → 0 < length ds
-is_some ds e = let t = (both (all_ascii_digits ds) (nat_lt 0 (length ds)) e).1 in search (rules, tests)
+is_some ds e = let t = (and_parts (all_ascii_digits ds) (nat_lt 0 (length ds)) e).1 in search (rules, tests)
 
 digits_append : (xs ys : List ℕ) → all_ascii_digits (xs ++ ys) ≡ (all_ascii_digits xs && all_ascii_digits ys)
 digits_append [] ys = refl
@@ -31,9 +27,6 @@ digits_append (x ∷ xs) ys = by (is_ascii_digit x) (digits_append xs ys)
     by false e = refl
 
 -- ---- bytes that are no digit
-
-digit_range : (c : ℕ) → is_ascii_digit c ≡ true → IsInRange 48 57 c
-digit_range c e = search (rules, tests)
 
 other_than : (c k : ℕ) → c ≢ k → eqb c k ≡ false
 other_than c k h = search (rules, tests)
@@ -58,7 +51,7 @@ no_digit c h = by (is_ascii_digit c) refl
 count_append : (ds rest : List ℕ) → all_ascii_digits ds ≡ true → digit_count rest ≡ 0 → digit_count (ds ++ rest) ≡ length ds
 count_append [] rest h e = e
 count_append (d ∷ ds) rest h e =
-    let b = both (is_ascii_digit d) (all_ascii_digits ds) h in
+    let b = and_parts (is_ascii_digit d) (all_ascii_digits ds) h in
     rw b.0 (omega (arith, count_append ds rest b.1 e))
 
 first_append : (ds rest : List ℕ) → all_ascii_digits ds ≡ true → digit_count rest ≡ 0 → first_digits (ds ++ rest) ≡ ds
@@ -114,13 +107,13 @@ sign_joined text = by (eqb (get_or text 0 0) 43) refl (eqb (get_or text 0 0) 45)
 no_digit_in_power : (p : Option Power) → is_power p ≡ true → digit_count (power_text p) ≡ 0
 no_digit_in_power None h = refl
 no_digit_in_power (Some p) h =
-    let r = e_is p.letter (both (is_e p.letter) (is_number p.digits) h).0 in
+    let r = e_is p.letter (and_parts (is_e p.letter) (is_number p.digits) h).0 in
     let e = no_digit p.letter (λ d. absurd (omega (arith, d.0, d.1, r.0))) in rw e refl
 
 no_point_in_power : (p : Option Power) → is_power p ≡ true → eqb (get_or (power_text p) 0 0) 46 ≡ false
 no_point_in_power None h = refl
 no_point_in_power (Some p) h =
-    let r = e_is p.letter (both (is_e p.letter) (is_number p.digits) h).0 in
+    let r = e_is p.letter (and_parts (is_e p.letter) (is_number p.digits) h).0 in
     other_than p.letter 46 (λ d. absurd (omega (arith, d, r.0)))
 
 no_digit_after : (part : Option (List ℕ)) (power : Option Power) → is_power power ≡ true → digit_count (part_text part ++ power_text power) ≡ 0
@@ -158,13 +151,13 @@ part_are_digits text = by (eqb (get_or text 0 0) 46)
 digits_unsigned : (ds : List ℕ) → all_ascii_digits ds ≡ true → IsUnsigned ds
 digits_unsigned [] h = (refl, refl)
 digits_unsigned (d ∷ ds) h =
-    let r = digit_range d (both (is_ascii_digit d) (all_ascii_digits ds) h).0 in
+    let r = digit_range d (and_parts (is_ascii_digit d) (all_ascii_digits ds) h).0 in
     (other_than d 43 (λ e. absurd (omega (arith, e, r.0))), other_than d 45 (λ e. absurd (omega (arith, e, r.0))))
 
 power_back : (p : Option Power) → is_power p ≡ true → power_of (power_text p) ≡ Some p
 power_back None h = refl
 power_back (Some p) h =
-    let b = both (is_e p.letter) (is_number p.digits) h in
+    let b = and_parts (is_e p.letter) (is_number p.digits) h in
     let u = digits_unsigned p.digits (is_digits p.digits b.1) in
     rw (b.0, behind_back p.sign p.digits u, sign_back p.sign p.digits u, b.1) refl
 
@@ -197,14 +190,14 @@ abbrev body_of : Numeral → List ℕ
 body_of n = n.whole ++ (part_text n.part ++ power_text n.power)
 
 whole_digits : (n : Numeral) → IsNumeral n → all_ascii_digits n.whole ≡ true
-whole_digits n h = (both _ _ (sym (digits_append n.whole (part_digits n.part)) ∙ is_digits (n.whole ++ part_digits n.part) h.digits)).0
+whole_digits n h = (and_parts _ _ (sym (digits_append n.whole (part_digits n.part)) ∙ is_digits (n.whole ++ part_digits n.part) h.digits)).0
 
 digits_of_part : (n : Numeral) → IsNumeral n → all_ascii_digits (part_digits n.part) ≡ true
-digits_of_part n h = (both (all_ascii_digits n.whole) _ (sym (digits_append n.whole (part_digits n.part)) ∙ is_digits (n.whole ++ part_digits n.part) h.digits)).1
+digits_of_part n h = (and_parts (all_ascii_digits n.whole) _ (sym (digits_append n.whole (part_digits n.part)) ∙ is_digits (n.whole ++ part_digits n.part) h.digits)).1
 
 body_unsigned : (whole : List ℕ) (part : Option (List ℕ)) (power : Option Power) → all_ascii_digits whole ≡ true → 0 < length (whole ++ part_digits part) → IsUnsigned (whole ++ (part_text part ++ power_text power))
 body_unsigned (d ∷ ds) part power h some =
-    let r = digit_range d (both (is_ascii_digit d) (all_ascii_digits ds) h).0 in
+    let r = digit_range d (and_parts (is_ascii_digit d) (all_ascii_digits ds) h).0 in
     (other_than d 43 (λ e. absurd (omega (arith, e, r.0))), other_than d 45 (λ e. absurd (omega (arith, e, r.0))))
 body_unsigned [] (Some ds) power h some = (refl, refl)
 body_unsigned [] None power h some = absurd (omega arith)

@@ -1,12 +1,13 @@
 -- Comparisons of decimals, in units of 10^-18.
-use Rattle.std.proofs.Common.{◌≡◌, ℕ, suc, pred, ◌+◌, ◌-◌, ◌*◌, ◌^◌, ◌<◌, ◌≤◌, ℤ, pos, negsuc, ◌+ℤ◌, ◌-ℤ◌, ◌*ℤ◌, neg_ℤ, ◌≤ℤ◌, ◌<ℤ◌, Bool, true, false, [], ◌∷◌, FitsSigned, to_z, of_z, refl, sym, ap, subst, ◌∙◌, arith}
+use Rattle.std.proofs.Common.{◌≡◌, ℕ, suc, pred, ◌+◌, ◌-◌, ◌*◌, ◌^◌, ◌<◌, ◌≤◌, ℤ, pos, negsuc, ◌+ℤ◌, ◌-ℤ◌, ◌*ℤ◌, neg_ℤ, ◌≤ℤ◌, ◌<ℤ◌, true, [], ◌∷◌, FitsSigned, to_z, of_z, refl, sym, ap, subst, ◌∙◌, arith}
 use Rattle.std.specs.Prelude.{◌&&◌, unsigned_abs, int_le}
 use Rattle.std.specs.Int.{w32, w64, w128}
 use Rattle.std.proofs.Math.Nat.{pow-le-pow_right}
 use Rattle.std.proofs.lemmas.Nat.{mul-lt, mul-le, pow-add}
 use Rattle.std.proofs.lemmas.Int.{ints, unsigned_abs-mul, to_z-of_z}
+use Rattle.std.specs.Cmp.{both_ways}
 use lib.IntN.{*ℤ_comm}
-use Rattle.fx_algebra.proofs.Integers.{le_by_certificate, neg_ℤ-*ℤ, mul_above, mul_nonneg, nonneg_of_above, difference_nonneg}
+use Rattle.fx_algebra.proofs.Integers.{le_by_certificate, neg_ℤ-*ℤ, mul_above, mul_nonneg, nonneg_of_above, difference_nonneg, suc_above}
 use Rattle.fx_algebra.proofs.Quote.{by_quotes, quotes}
 use Rattle.fx_rational.specs.Rational.{over, plus, minus, negative, is_at_most}
 use Rattle.fx_rational.specs.Decimal.{Decimal, decimal_value, is_within}
@@ -69,13 +70,6 @@ sum_above_back a b c x y z L E G T p q r hx hy hz ht h =
     le_by_certificate ht (mul_nonneg (nonneg_of_above (mul_above (mul_above hx hy) hz)) (difference_nonneg h))
     (*ℤ_comm T (left_side a b x y z -ℤ c *ℤ (x *ℤ y)) ∙ scaled_down a b c x y z L E G T p q r)
 
--- two tests of one fact
-pub same_test : (p q : Bool) → (p ≡ true → q ≡ true) → (q ≡ true → p ≡ true) → p ≡ q
-same_test true true f g = refl
-same_test true false f g = absurd (let e = f refl in cc)
-same_test false true f g = absurd (let e = g refl in cc)
-same_test false false f g = refl
-
 pub le_true : (a b : ℤ) → a ≤ℤ b → int_le a b ≡ true
 le_true a b h = grind (arith, ints)
 
@@ -96,9 +90,6 @@ fits_between (negsuc n) low high = record { sfits = omega (arith, ints) }
 den_unit : (p : ℕ) (d : Decimal) → d.b ≤ p → pos (10 ^ (p - d.b)) *ℤ pos (suc (pred (10 ^ d.b))) ≡ pos (10 ^ p)
 den_unit p d h = ap (λ (n : ℕ). pos (10 ^ (p - d.b)) *ℤ pos n) (suc_pred (10 ^ d.b) (ten_pos d.b)) ∙ whole_unit p d.b h
 
-some_above : (n : ℕ) → pos 0 <ℤ pos (suc n)
-some_above n = omega (arith, ints)
-
 ten_above : (p : ℕ) → pos 0 <ℤ pos (10 ^ p)
 ten_above p = omega (arith, ints, ten_pos p)
 
@@ -118,12 +109,12 @@ above_is p g lo err x y z ex ey ez hg hl he =
     let nn : neg_ℤ err.a *ℤ pos (10 ^ (p - err.b)) ≡ neg_ℤ (err.a *ℤ pos (10 ^ (p - err.b))) = neg_ℤ-*ℤ err.a (pos (10 ^ (p - err.b))) in
     let e : a *ℤ L +ℤ b *ℤ E ≡ x -ℤ y = ap (λ t. a *ℤ L +ℤ t) nn ∙ sym (rw (ex, ey) refl) in
     let d : c *ℤ pos (suc (pred (suc m * suc n))) ≡ c *ℤ (X *ℤ Y) = ap (λ t. c *ℤ t) (den_sum m n) in
-    same_test _ _
+    both_ways _ _
     (λ t. le_true _ _ (subst (λ w. left_side a b X Y Z ≤ℤ w) (sym d)
-    (sum_below_back a b c X Y Z L E G (pos (10 ^ p)) (den_unit p lo hl) (den_unit p err he) (den_unit p g hg) (some_above m) (some_above n) (some_above (pred (10 ^ g.b))) (ten_above p)
+    (sum_below_back a b c X Y Z L E G (pos (10 ^ p)) (den_unit p lo hl) (den_unit p err he) (den_unit p g hg) (suc_above m) (suc_above n) (suc_above (pred (10 ^ g.b))) (ten_above p)
     (le_along (sym e) ez (true_le (x -ℤ y) z t)))))
     (λ t. le_true (x -ℤ y) z (le_along e (sym ez)
-    (sum_below a b c X Y Z L E G (pos (10 ^ p)) (den_unit p lo hl) (den_unit p err he) (den_unit p g hg) (some_above m) (some_above n) (some_above (pred (10 ^ g.b))) (ten_above p)
+    (sum_below a b c X Y Z L E G (pos (10 ^ p)) (den_unit p lo hl) (den_unit p err he) (den_unit p g hg) (suc_above m) (suc_above n) (suc_above (pred (10 ^ g.b))) (ten_above p)
     (subst (λ w. left_side a b X Y Z ≤ℤ w) d (true_le _ _ t)))))
 
 -- the same test, of a sum in units
@@ -137,12 +128,12 @@ below_is p g hi err x y z ex ey ez hg hl he =
     let L = pos (10 ^ (p - hi.b)) in let E = pos (10 ^ (p - err.b)) in let G = pos (10 ^ (p - g.b)) in
     let e : a *ℤ L +ℤ b *ℤ E ≡ x +ℤ y = sym (rw (ex, ey) refl) in
     let d : c *ℤ pos (suc (pred (suc m * suc n))) ≡ c *ℤ (X *ℤ Y) = ap (λ t. c *ℤ t) (den_sum m n) in
-    same_test _ _
+    both_ways _ _
     (λ t. le_true _ _ (subst (λ w. w ≤ℤ left_side a b X Y Z) (sym d)
-    (sum_above_back a b c X Y Z L E G (pos (10 ^ p)) (den_unit p hi hl) (den_unit p err he) (den_unit p g hg) (some_above m) (some_above n) (some_above (pred (10 ^ g.b))) (ten_above p)
+    (sum_above_back a b c X Y Z L E G (pos (10 ^ p)) (den_unit p hi hl) (den_unit p err he) (den_unit p g hg) (suc_above m) (suc_above n) (suc_above (pred (10 ^ g.b))) (ten_above p)
     (le_along ez (sym e) (true_le z (x +ℤ y) t)))))
     (λ t. le_true z (x +ℤ y) (le_along (sym ez) e
-    (sum_above a b c X Y Z L E G (pos (10 ^ p)) (den_unit p hi hl) (den_unit p err he) (den_unit p g hg) (some_above m) (some_above n) (some_above (pred (10 ^ g.b))) (ten_above p)
+    (sum_above a b c X Y Z L E G (pos (10 ^ p)) (den_unit p hi hl) (den_unit p err he) (den_unit p g hg) (suc_above m) (suc_above n) (suc_above (pred (10 ^ g.b))) (ten_above p)
     (subst (λ w. w ≤ℤ left_side a b X Y Z) d (true_le _ _ t)))))
 
 -- a decimal in units of its own last place

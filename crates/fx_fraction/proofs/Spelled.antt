@@ -1,14 +1,14 @@
 -- The digits behind a point are those of one number: of an odd number over 2^n they are n, and the number times 5^n.
 use Rattle.std.proofs.Common.{◌≡◌, ◌≢◌, ℕ, zero, suc, ◌+◌, ◌*◌, ◌/◌, ◌%◌, ◌^◌, ◌<◌, ◌≤◌, List, [], ◌∷◌, take, drop, ◌++◌, length, refl, sym, ap, ap₂, subst, ◌∙◌, arith, append_assoc}
 use Rattle.std.specs.Prelude.{decimal}
-use Rattle.std.proofs.Math.Nat.{pow-suc, one-le-pow}
+use Rattle.std.proofs.Math.Nat.{pow-suc, one-le-pow, mul-lt-mul_of_pos_right}
 use Rattle.std.proofs.Math.Pow.{mod-mod-pow}
 use Rattle.std.proofs.lemmas.Fmt.{decimal_step, decimal_digit}
 use Rattle.std.proofs.Math.Seq.{take-append_seam, drop-append_seam}
 use Rattle.std.proofs.lemmas.List.{append-nil, drop-drop, take-append-drop, length-take-le, length-append, length-map}
 use Rattle.std.proofs.lemmas.Nat.{div-add-mod', div-mul-add, mod-mul-add, mod_below, mul-le, pow_pos, pow-add}
 use Rattle.fx_model.specs.WordText.{digits_after, pointed}
-use Rattle.fx_fraction.proofs.Halvings.{less_times}
+use Rattle.fx_model.proofs.Spellings.{below_ten}
 use Rattle.fx_fraction.proofs.Quanta.{ten_small}
 use Rattle.fx_fraction.proofs.Tails.{glyphs, after_zero, after_more, point_some}
 
@@ -41,14 +41,14 @@ pub digit_is : (n ends m : ℕ) → 5 * (m * 2 ^ ends) / 2 ^ (n + ends) ≡ 5 * 
 digit_is n ends m =
     let d = 5 * m / 2 ^ n in let r = 5 * m % 2 ^ n in
     let h : 5 * m ≡ d * 2 ^ n + r = let e = div-add-mod' (5 * m) (2 ^ n) in omega (arith, e) in
-    let small = less_times r (2 ^ n) (2 ^ ends) (mod_below (5 * m) (2 ^ n) (pow_pos n)) (pow_pos ends) in
+    let small = mul-lt-mul_of_pos_right {m = r} {n = 2 ^ n} {k = 2 ^ ends} (mod_below (5 * m) (2 ^ n) (pow_pos n)) (pow_pos ends) in
     ap₂ (λ (a b : ℕ). a / b) (scaled m d r (2 ^ n) (2 ^ ends) h) (pow-add 2 n ends) ∙ div-mul-add d (2 ^ n * 2 ^ ends) (r * 2 ^ ends) small
 
 pub rest_is : (n ends m : ℕ) → 5 * (m * 2 ^ ends) % 2 ^ (n + ends) ≡ (5 * m % 2 ^ n) * 2 ^ ends
 rest_is n ends m =
     let d = 5 * m / 2 ^ n in let r = 5 * m % 2 ^ n in
     let h : 5 * m ≡ d * 2 ^ n + r = let e = div-add-mod' (5 * m) (2 ^ n) in omega (arith, e) in
-    let small = less_times r (2 ^ n) (2 ^ ends) (mod_below (5 * m) (2 ^ n) (pow_pos n)) (pow_pos ends) in
+    let small = mul-lt-mul_of_pos_right {m = r} {n = 2 ^ n} {k = 2 ^ ends} (mod_below (5 * m) (2 ^ n) (pow_pos n)) (pow_pos ends) in
     ap₂ (λ (a b : ℕ). a % b) (scaled m d r (2 ^ n) (2 ^ ends) h) (pow-add 2 n ends) ∙ mod-mul-add d (2 ^ n * 2 ^ ends) (r * 2 ^ ends) small
 
 odd_rest : (n m : ℕ) → m % 2 ≡ 1 → 0 < n → (5 * m % 2 ^ n) % 2 ≡ 1
@@ -56,12 +56,6 @@ odd_rest zero m odd some = absurd (omega arith)
 odd_rest (suc j) m odd some =
     let one : suc j ≡ j + 1 = omega arith in
     ap (λ (k : ℕ). 5 * m % 2 ^ k % 2) one ∙ mod-mod-pow (5 * m) j 1 ∙ (let e : 5 * m % 2 ≡ 1 = omega (arith, odd) in e)
-
-few : (n m : ℕ) → m < 2 ^ suc n → 5 * m / 2 ^ n < 10
-few n m h = let p = pow-suc 2 n in let e = div-add-mod' (5 * m) (2 ^ n) in by (5 * m / 2 ^ n) (omega (arith, e)) (omega (arith, p, h))
-  where
-    by : (d : ℕ) → d * 2 ^ n ≤ 5 * m → 5 * m < 10 * 2 ^ n → d < 10
-    by d low high = grind (arith, low, high)
 
 some_rest : (m ends : ℕ) → m % 2 ≡ 1 → m * 2 ^ ends ≢ 0
 some_rest m ends odd e = let p = pow_pos ends in let k = mul-le 1 1 m (2 ^ ends) (omega (arith, odd)) p in omega (arith, e, k)
@@ -78,7 +72,7 @@ spelled a (suc n) ends m some below odd small =
     let d = 5 * m / 2 ^ n in let r = 5 * m % 2 ^ n in
     let h : 5 * m ≡ d * 2 ^ n + r = let e = div-add-mod' (5 * m) (2 ^ n) in omega (arith, e) in
     let e = one_more a m n d r h in
-    let ten = few n m below in
+    let ten = below_ten n m below in
     let front : (a * 10 + d) / 10 ≡ a = omega (arith, ten) in
     let last : (a * 10 + d) % 10 ≡ d = omega (arith, ten) in
     let lower : a * 10 + d ≤ (a * 10 + d) * 10 ^ n + r * 5 ^ n = let t = tens n in let p = pow_pos n in let q = mul-le (a * 10 + d) 1 (a * 10 + d) (10 ^ n) (omega arith) (power_some n) in omega (arith, q) in
@@ -147,4 +141,4 @@ number n ends rest power low below odd is =
 
 pub pointed_digits : (n ends rest : ℕ) → rest < 2 ^ n → rest % 2 ≡ 1 → 46 ∷ glyphs (digits_after (n + ends) (rest * 2 ^ ends)) ≡ pointed (digits_after (n + ends) (rest * 2 ^ ends))
 pointed_digits n ends rest below odd =
-    point_some (n + ends) (rest * 2 ^ ends) (some_rest rest ends odd) (subst (λ (k : ℕ). rest * 2 ^ ends < k) (sym (pow-add 2 n ends)) (less_times rest (2 ^ n) (2 ^ ends) below (pow_pos ends)))
+    point_some (n + ends) (rest * 2 ^ ends) (some_rest rest ends odd) (subst (λ (k : ℕ). rest * 2 ^ ends < k) (sym (pow-add 2 n ends)) (mul-lt-mul_of_pos_right {m = rest} {n = 2 ^ n} {k = 2 ^ ends} below (pow_pos ends)))

@@ -2,7 +2,7 @@
 use Rattle.std.proofs.Common.{◌≡◌, ℕ, zero, suc, pred, ◌*◌, ◌/◌, ◌^◌, ◌<◌, ◌≤◌, ℤ, pos, negsuc, ◌*ℤ◌, neg_ℤ, ◌<ℤ◌, ◌-ℤ◌, Bool, true, false, Option, Some, FitsSigned, to_z, of_z, lit<, refl, sym, ap, subst, ◌∙◌, arith}
 use Rattle.std.specs.Prelude.{unsigned_abs, int_lt, int_div, IsSomeAnd}
 use Rattle.std.specs.Int.{IsGcd, w128}
-use Rattle.std.proofs.Math.Nat.{div-mul-le_self}
+use Rattle.std.proofs.Math.Nat.{div-le_self}
 use Rattle.std.proofs.lemmas.Nat.{mul-lt}
 use Rattle.std.proofs.lemmas.Int.{ints, fits_signed_mul, unsigned_abs-mul, to_z-of_z}
 use Rattle.std.proofs.lemmas.Nat.Gcd.{same_from_IsGcd}
@@ -123,14 +123,11 @@ some_and o r P e h = subst (λ x. IsSomeAnd x P) (sym e) h
 
 -- ---- decimals
 
-div_le : (n g : ℕ) → n / g ≤ n
-div_le n g = omega (arith, div-mul-le_self n g)
-
 -- lower terms keep the limits
 pub lowest_fits : (r : Rational) → unsigned_abs r.top < 2 ^ 62 → bottom r < 2 ^ 62 → FitsFraction (lowest r)
 lowest_fits r h k = record {
-  top = rw (lowest_top r) (omega (arith, div_le (unsigned_abs r.top) (gcd (unsigned_abs r.top) (bottom r))));
-  bottom = rw (lowest_bottom r) (omega (arith, div_le (bottom r) (gcd (unsigned_abs r.top) (bottom r))));
+  top = rw (lowest_top r) (omega (arith, div-le_self (unsigned_abs r.top) (gcd (unsigned_abs r.top) (bottom r))));
+  bottom = rw (lowest_bottom r) (omega (arith, div-le_self (bottom r) (gcd (unsigned_abs r.top) (bottom r))));
 }
 
 pub decimal_fits : (d : Decimal) → unsigned_abs d.a < 2 ^ 62 → d.b ≤ 18 → FitsFraction (lowest (over d.a (10 ^ d.b)))

@@ -3,11 +3,11 @@ use Rattle.std.proofs.Common.{◌≡◌, ◌≢◌, ◌⊎◌, ℕ, zero, suc, p
 use Rattle.std.specs.Prelude.{nat_lt, nat_le, ◌&&◌, unsigned_abs}
 use Rattle.std.proofs.Math.Nat.{pow-suc, mul-mod_left}
 use Rattle.std.proofs.lemmas.Int.{unsigned_abs-mul}
-use Rattle.fx_algebra.proofs.Integers.{neg_ℤ-*ℤ}
 use Rattle.fx_rational.specs.Rational.{Rational, over, Equal}
 use Rattle.fx_rational.specs.Decimal.{Decimal, IsDecimal, decimal_value}
 use Rattle.fx_rational.proofs.Lowest.{suc_pred}
 use Rattle.fx_rational.proofs.Laws.{equal_sym, equal_trans}
+use Rattle.fx_model.proofs.Spellings.{signed-mul}
 use Rattle.fx_fraction.specs.declared.fault.NumberFault.{NumberFault}
 use Rattle.fx_fraction.specs.declared.fault.NumberFault.TheVariants.{Malformed, TooLong}
 use Rattle.fx_fraction.specs.Numeral.{Numeral, IsNumeral, numeral_text, numeral_of, is_minus, signed, mantissa, places}
@@ -18,10 +18,6 @@ use Rattle.fx_fraction.proofs.Numerals.{numeral_back, numeral_joined}
 use Rattle.fx_fraction.proofs.Quanta.{ten_pos}
 use Rattle.fx_fraction.proofs.Terms.{signed_size}
 
-signed-mul : (b : Bool) (m n : ℕ) → signed b m *ℤ pos n ≡ signed b (m * n)
-signed-mul true m n = neg_ℤ-*ℤ (pos m) (pos n)
-signed-mul false m n = refl
-
 -- a pair x.0 / 10^x.1 with the fewest places
 abbrev IsFewest : ℕ → ℕ → Type 0
 IsFewest a b = (b ≡ 0) ⊎ (a % 10 ≢ 0)
@@ -30,7 +26,7 @@ IsFewest a b = (b ≡ 0) ⊎ (a % 10 ≢ 0)
 abbrev pair_value : Bool → ℕ × ℕ → Rational
 pair_value s x = over (signed s x.0) (10 ^ x.1)
 
-tens : (n : ℕ) → suc (pred (10 ^ n)) ≡ 10 ^ n
+pub tens : (n : ℕ) → suc (pred (10 ^ n)) ≡ 10 ^ n
 tens n = suc_pred (10 ^ n) (ten_pos n)
 
 -- fewest_places keeps the value

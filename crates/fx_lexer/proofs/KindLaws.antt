@@ -18,7 +18,7 @@ use Rattle.fx_lexer.proofs.Items.{sign_at, letter_word}
 use Rattle.fx_lexer.proofs.Fronts.{IsFront, front_is, at_blank, at_word, at_number, at_line, at_comment, at_sign}
 
 -- the first that pass all pass
-all_first : (p : ℕ → Bool) (xs : List ℕ) → list_all p (take (prefix_len p xs) xs) ≡ true
+pub all_first : (p : ℕ → Bool) (xs : List ℕ) → list_all p (take (prefix_len p xs) xs) ≡ true
 all_first p [] = refl
 all_first p (x ∷ xs) = by (p x) refl (all_first p xs)
   where

@@ -12,6 +12,7 @@ use Rattle.fx_rational.specs.Decimal.{Decimal, decimal_value, quantised}
 use Rattle.fx_model.specs.Tree.{at}
 use Rattle.fx_model.specs.Machine as machine
 use Rattle.fx_model.specs.Machine.{Code, Made, made, kept, is_word, IsWord, shifted, floor_divided, words_after}
+use Rattle.fx_model.proofs.Options.{some_first}
 use Rattle.fx_word.specs.Words.{IsSomeWord}
 use Rattle.fx_machine.specs.Codes.{word_of}
 
@@ -111,10 +112,6 @@ pub next_code : {X Y : Type 0} (f : X → Y) (xs : List X) (k : ℕ) (d : X) →
 next_code f [] k d lt = absurd (omega arith)
 next_code f (x ∷ xs) zero d lt = refl
 next_code f (x ∷ xs) (suc k) d lt = let e : suc k + 1 ≡ suc (k + 1) = omega arith in rw e (next_code f xs k d (omega arith))
-
-some_first : {X Y : Type 0} (f : X → Option Y) (o : Option X) → IsSome (option_and_then f o) → IsSome o
-some_first f None h = absurd cc
-some_first f (Some x) h = refl
 
 pub first_runs : (n : ℕ) (c : Code) (cs : List Code) (g : List Rational) (z ws : List ℤ) → IsSome (words_after n (c ∷ cs) g z ws) → IsSome (word_of n c g z ws)
 unfolding word_of

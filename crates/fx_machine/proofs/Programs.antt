@@ -6,14 +6,9 @@ use Rattle.std.proofs.Math.Seq.{take-append_seam}
 use Rattle.fx_model.specs.Tree.{at}
 use Rattle.fx_model.specs.Machine.{Code, Program, Input, State, Const, Neg, Add, Sub, Mul, Div, Copy, first_copy, point_of, points_after}
 use Rattle.fx_model.specs.LawfulProgram.{IsPoint, AreLawful, IsLawfulProgram}
+use Rattle.fx_program.proofs.Lists.{points_kept}
 use Rattle.fx_machine.specs.Codes.{HasInputPoint, IsCodeAt, AreCodes}
 use Rattle.fx_machine.specs.Steps.{step_taken}
-use Rattle.fx_machine.proofs.Starts.{all_left}
-
--- the points before stay
-points_kept : (cs : List Code) (ps : List ℤ) → All IsPoint (points_after cs ps) → All IsPoint ps
-points_kept [] ps h = h
-points_kept (c ∷ cs) ps h = all_left IsPoint ps (point_of c ps ∷ []) (points_kept cs (ps ++ point_of c ps ∷ []) h)
 
 input_point : (c : Code) (ps : List ℤ) → IsPoint (point_of c ps) → HasInputPoint c
 input_point (Input k f) ps h = h

@@ -8,3 +8,8 @@ mod Worked
 pub mod Spellings
 pub mod Counted
 pub mod Words
+pub mod Roots
+pub mod Lists
+pub mod Widths
+pub mod Options
+pub mod Digits

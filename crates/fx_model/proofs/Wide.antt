@@ -1,7 +1,7 @@
 -- Words and double words.
 use Rattle.std.proofs.Common.{◌≡◌, ℕ, suc, ◌+◌, ◌-◌, ◌*◌, ◌^◌, ◌/◌, ◌<◌, ◌≤◌, refl, ap, ◌∙◌, pos, negsuc, ℤ, ◌+ℤ◌, ◌-ℤ◌, ◌*ℤ◌, neg_ℤ, ◌≤ℤ◌, ◌<ℤ◌, int_le, int_lt, ◌&&◌, [], ◌∷◌, true, arith, pow_pos, pow-add, lit<}
 use Rattle.std.proofs.lemmas.Int.{ints}
-use Rattle.std.proofs.Math.Nat.{pow-le-pow_right}
+use Rattle.std.proofs.Math.Nat.{pow-le-pow_right, le-mul_of_pos_right}
 use Rattle.std.proofs.lemmas.Nat.{div-add-mod'}
 use Rattle.fx_algebra.proofs.Integers.{add_nonneg, mul_nonneg}
 use Rattle.fx_algebra.proofs.Order.{mul_le_right}
@@ -31,9 +31,6 @@ held_more l h = let p = h.low in let q = h.high in record { low = omega (arith, 
 double : (n : ℕ) → 8 ≤ n → 2 ^ (2 * n - 1) ≡ 2 ^ (n - 1) * 2 ^ n
 double n h = let e : 2 * n - 1 ≡ (n - 1) + n = omega arith in rw e (pow-add 2 (n - 1) n)
 
-below_product : (m p : ℕ) → 0 < p → m ≤ m * p
-below_product m p h = grind arith
-
 times_held : (m k p : ℕ) (w : ℤ) → 0 < p → m * p ≤ k → Held m w → Held k (w *ℤ pos p)
 times_held m k p w some le h =
     let p_nonneg : pos 0 ≤ℤ pos p = omega (arith, ints) in
@@ -52,7 +49,7 @@ left_wide n s w big fits l =
     is_word_from (2 * n) _ (times_held (2 ^ (n - 1)) (2 ^ (2 * n - 1)) (2 ^ s) w (pow_pos s) k (held n w fits))
 
 div_below : (a d : ℕ) → 0 < d → a / d ≤ a
-div_below a d h = let e = div-add-mod' a d in let k = below_product (a / d) d h in omega arith
+div_below a d h = let e = div-add-mod' a d in let k = le-mul_of_pos_right {m = d} (a / d) h in omega arith
 
 floor_held : (m : ℕ) (w : ℤ) (d : ℕ) → 0 < d → Held m w → Held m (floor_div w d)
 floor_held m (pos a) d h k = let l = div_below a d h in let p = k.low in let q = k.high in record { low = omega (arith, ints); high = omega (arith, ints) }
@@ -61,7 +58,7 @@ floor_held m (negsuc a) d h k = let l = div_below a d h in let p = k.low in let 
 pub shifted_wide : (n : ℕ) (w s : ℤ) → 8 ≤ n → is_word n w ≡ true → neg_ℤ (pos n) ≤ℤ s → is_word (2 * n) (shifted w s) ≡ true
 shifted_wide n w (pos s) big fits left =
     let e = double n big in let some : 0 < 2 ^ n = pow_pos n in
-    let k : 2 ^ (n - 1) ≤ 2 ^ (2 * n - 1) = rw e (below_product (2 ^ (n - 1)) (2 ^ n) some) in
+    let k : 2 ^ (n - 1) ≤ 2 ^ (2 * n - 1) = rw e (le-mul_of_pos_right {m = 2 ^ n} (2 ^ (n - 1)) some) in
     is_word_from (2 * n) _ (held_more k (floor_held (2 ^ (n - 1)) w (2 ^ s) (pow_pos s) (held n w fits)))
 shifted_wide n w (negsuc s) big fits left = left_wide n (suc s) w big fits (omega (arith, ints))
 

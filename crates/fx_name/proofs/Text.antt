@@ -6,18 +6,13 @@ use Rattle.std.specs.Str.{IsUtf8}
 use Rattle.std.proofs.lemmas.Str.{IsUtf8-from_ascii}
 use Rattle.std.proofs.lemmas.Str.Ascii.{IsAscii-from_all}
 use Rattle.std.proofs.lemmas.List.Elements.{All-from_recursion}
+use Rattle.std.proofs.lemmas.Bool.{and_parts}
 use Rattle.fx_model.specs.Names.{is_letter, is_word_byte, is_name, IsName, is_reserved}
-
--- both of two tests
-both_true : (a b : Bool) → (a && b) ≡ true → (a ≡ true) × (b ≡ true)
-both_true true true e = (refl, refl)
-both_true true false e = absurd cc
-both_true false b e = absurd cc
 
 -- letters and digits are ASCII
 ascii : (cs : List ℕ) → list_all is_word_byte cs ≡ true → AllByRecursion (λ b. b < 128) cs
 ascii [] h = tt
-ascii (c ∷ cs) h = let t = both_true (is_word_byte c) (list_all is_word_byte cs) h in (small c t.0, ascii cs t.1)
+ascii (c ∷ cs) h = let t = and_parts (is_word_byte c) (list_all is_word_byte cs) h in (small c t.0, ascii cs t.1)
   where
     small : (x : ℕ) → is_word_byte x ≡ true → x < 128
     small x h = grind (arith, tests)
@@ -26,8 +21,8 @@ ascii (c ∷ cs) h = let t = both_true (is_word_byte c) (list_all is_word_byte c
 pub name_utf8 : (name : List ℕ) → IsName name → IsUtf8 name
 name_utf8 [] h = absurd cc
 name_utf8 (c ∷ cs) h =
-    let t = both_true (is_letter c && list_all is_word_byte cs) (not (is_reserved (c ∷ cs))) h in
-    let u = both_true (is_letter c) (list_all is_word_byte cs) t.0 in
+    let t = and_parts (is_letter c && list_all is_word_byte cs) (not (is_reserved (c ∷ cs))) h in
+    let u = and_parts (is_letter c) (list_all is_word_byte cs) t.0 in
     IsUtf8-from_ascii (c ∷ cs) (IsAscii-from_all (c ∷ cs) (All-from_recursion (λ b. b < 128) (c ∷ cs) (small u.0, ascii cs u.1)))
   where
     small : is_letter c ≡ true → c < 128

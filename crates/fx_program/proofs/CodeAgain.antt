@@ -1,5 +1,5 @@
 -- The line of a code that may stand there is read as that code.
-use Rattle.std.proofs.Common.{◌≡◌, ℕ, suc, ◌+◌, ◌-◌, ◌*◌, ◌^◌, ◌<◌, ◌≤◌, Bool, true, false, cond, nat_lt, List, [], ◌∷◌, length, Ok, ℤ, pos, negsuc, ◌+ℤ◌, ◌-ℤ◌, refl, subst, arith, tests, rules, codes}
+use Rattle.std.proofs.Common.{◌≡◌, ℕ, ◌+◌, ◌-◌, ◌*◌, ◌^◌, ◌<◌, ◌≤◌, Bool, true, false, cond, nat_lt, List, [], ◌∷◌, length, Ok, ℤ, pos, ◌+ℤ◌, ◌-ℤ◌, refl, subst, arith, tests, rules, codes}
 use Rattle.std.specs.Fmt.{decimal, signed_decimal}
 use Rattle.std.proofs.Math.Nat.{pow-le-pow_right}
 use Rattle.std.proofs.lemmas.Int.{ints}
@@ -9,10 +9,10 @@ use Rattle.fx_model.specs.LawfulProgram.{IsPoint, IsShift, IsLawfulCode}
 use Rattle.fx_model.specs.ProgramText.{code_fields}
 use Rattle.fx_model.proofs.Wide.{held}
 use Rattle.fx_text.specs.Cutting.{Line}
-use Rattle.fx_text.specs.Laws.{IsNarrow}
 use Rattle.fx_text.specs.Spelling.{AreFields, IsField}
 use Rattle.fx_text.proofs.FieldLaws.{word_again, place_again}
 use Rattle.fx_text.proofs.LineLaws.{IsField-decimal, IsLineOf}
+use Rattle.fx_text.proofs.DyadicLaws.{IsField-signed_decimal}
 use Rattle.fx_word.specs.Words.{IsWidth}
 use Rattle.fx_program.specs.CodeReading.{Sizes, input_at, state_at, const_at, neg_at, sum_at, add_at, sub_at, mul_at, div_at, copy_at, operation_at, last_at, code_at}
 use Rattle.fx_program.proofs.CodeLaws.{point_known, written_again, constant_again, shift_again, due_again, operands_again}
@@ -108,24 +108,20 @@ code_again n s ps (Div x y z) b h = behind n s ps (code_fields (Div x y z)) (Div
 code_again n s ps (Copy a z) b h = behind n s ps (code_fields (Copy a z)) (Copy a z) h.placed (copy_among n ps a z b.width (small b) h.lawful h.point) (λ more. copy_last n ps a z b.width (small b) h.lawful h.point)
 
 -- ---- what stands on the line are fields
-pub IsField-signed : (z : ℤ) → IsNarrow z → IsField (signed_decimal z)
-IsField-signed (pos n) h = IsField-decimal n (omega (arith, ints, h.1))
-IsField-signed (negsuc n) h = let f = IsField-decimal (suc n) (omega (arith, ints, h.0)) in record { spaces = (refl, f.spaces); line_feeds = (refl, f.line_feeds) }
-
 place : {n : ℕ} {s : Sizes} {ps : List ℤ} (a : ℕ) → Before n s ps → a < length ps → IsField (decimal a)
 place a b lt = let few = small b in IsField-decimal a (omega arith)
 
 point : (f : ℤ) → IsPoint f → IsField (signed_decimal f)
-point f h = let l = h.low in let u = h.high in IsField-signed f (omega (arith, ints), omega (arith, ints))
+point f h = let l = h.low in let u = h.high in IsField-signed_decimal f (omega (arith, ints), omega (arith, ints))
 
 shift : (n : ℕ) (s : ℤ) → IsWidth n → IsShift n s → IsField (signed_decimal s)
-shift n s w h = let m = w.most in let l = h.low in let u = h.high in IsField-signed s (omega (arith, ints), omega (arith, ints))
+shift n s w h = let m = w.most in let l = h.low in let u = h.high in IsField-signed_decimal s (omega (arith, ints), omega (arith, ints))
 
 constant : (n : ℕ) (z : ℤ) → IsWidth n → IsWord n z → IsField (signed_decimal z)
 constant n z w h =
     let k = held n z h in let l = k.low in let u = k.high in
     let p : 2 ^ (n - 1) ≤ 2 ^ 63 = (let le : n - 1 ≤ 63 = omega (arith, w.most) in pow-le-pow_right {n = 2} (omega arith) le) in
-    IsField-signed z (omega (arith, ints), omega (arith, ints))
+    IsField-signed_decimal z (omega (arith, ints), omega (arith, ints))
 
 clean : (n : ℕ) (s : Sizes) (ps : List ℤ) (c : Code) → Before n s ps → IsNext n s ps c → AreFields (code_fields c)
 clean n s ps (Input j f) b h = let e = h.placed.0 in let few = small b in (word_in, (IsField-decimal j (omega arith), (point f h.point, tt)))

@@ -5,6 +5,7 @@ use Rattle.std.specs.Fmt.{decimal, signed_decimal}
 use Rattle.std.proofs.Math.Nat.{pow-le-pow_right}
 use Rattle.std.proofs.lemmas.Int.{ints}
 use Rattle.std.proofs.lemmas.List.Elements.{All-get_or}
+use Rattle.std.proofs.lemmas.Bool.{and_parts}
 use Rattle.fx_model.specs.Machine.{Code, Const, Neg, Add, Sub, Mul, Div, Copy, IsWord, point_of}
 use Rattle.fx_model.specs.Tree.{at}
 use Rattle.fx_model.specs.LawfulProgram.{IsPoint, IsShift, IsLawfulCode, IsPlaced, IsCopy}
@@ -14,7 +15,7 @@ use Rattle.fx_text.specs.declared.fault.TextKind.TheVariants.{OutOfRange}
 use Rattle.fx_text.specs.Cutting.{Line}
 use Rattle.fx_text.specs.Reading.{number_at}
 use Rattle.fx_text.specs.Laws.{AreNarrow}
-use Rattle.fx_text.proofs.Choices.{on_ok, passed, both_true}
+use Rattle.fx_text.proofs.Choices.{on_ok, passed}
 use Rattle.fx_text.proofs.FieldLaws.{front, ended_is, number_takes, number_again, place_takes, place_again}
 use Rattle.fx_word.specs.Words.{IsWidth}
 use Rattle.fx_program.specs.CodeReading.{known_point, point_at, constant_at, shift_at, operands_at, const_at, neg_at, sum_at, add_at, sub_at, mul_at, div_at, copy_at}
@@ -39,7 +40,7 @@ point_takes : (f : ℤ) (x : ℤ) → known_point f ≡ Ok x → (f ≡ x) × Is
 unfolding known_point
 point_takes f x e =
     let t = passed (int_le (negsuc 63) f && int_le f (pos 62)) OutOfRange f x e in
-    let b = both_true (int_le (negsuc 63) f) (int_le f (pos 62)) t.0 in
+    let b = and_parts (int_le (negsuc 63) f) (int_le f (pos 62)) t.0 in
     (t.1, record { low = grind (arith, ints, b.0); high = grind (arith, ints, b.1) })
 
 pub point_known : (f : ℤ) → IsPoint f → known_point f ≡ Ok f

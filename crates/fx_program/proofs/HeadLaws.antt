@@ -3,12 +3,13 @@ use Rattle.std.proofs.Common.{◌≡◌, ◌==◌, ℕ, ◌+◌, ◌<◌, ◌≤
 use Rattle.std.specs.Prelude.{◌&&◌, not}
 use Rattle.std.specs.Fmt.{decimal}
 use Rattle.std.specs.List.{list_all}
+use Rattle.std.proofs.lemmas.Bool.{and_parts}
 use Rattle.fx_model.specs.Names.{is_letter, is_word_byte, is_name, IsName, is_reserved}
 use Rattle.fx_model.specs.Limits.{input_limit, state_limit, output_limit, node_limit}
 use Rattle.fx_text.specs.declared.fault.TextKind.TheVariants.{BadLine, OutOfRange}
 use Rattle.fx_text.specs.Cutting.{Line}
 use Rattle.fx_text.specs.Spelling.{IsField, Lacks}
-use Rattle.fx_text.proofs.Choices.{on_ok, passed, both_true}
+use Rattle.fx_text.proofs.Choices.{on_ok, passed}
 use Rattle.fx_text.proofs.FieldLaws.{front, field_is, ended_is, word_takes, word_again, place_takes, place_again, count_takes, count_again}
 use Rattle.fx_text.proofs.LineLaws.{IsField-decimal, IsLineOf}
 use Rattle.fx_program.specs.CodeReading.{Sizes}
@@ -96,7 +97,7 @@ width_law = record { takes = width_takes; again = width_again; clean = λ w h. l
 letters_lack : (c : ℕ) (cs : List ℕ) → c < 48 → list_all is_word_byte cs ≡ true → Lacks c cs
 letters_lack c [] lt h = tt
 letters_lack c (x ∷ cs) lt h =
-    let t = both_true (is_word_byte x) (list_all is_word_byte cs) h in
+    let t = and_parts (is_word_byte x) (list_all is_word_byte cs) h in
     (other x t.0, letters_lack c cs lt t.1)
   where
     other : (x : ℕ) → (is_word_byte x) ≡ true → (x == c) ≡ false
@@ -106,8 +107,8 @@ name_field : (name : List ℕ) → IsName name → IsField name
 name_field [] h = absurd cc
 name_field (x ∷ cs) h =
     let all = list_all is_word_byte cs in
-    let t = both_true (is_letter x && all) (not (is_reserved (x ∷ cs))) h in
-    let u = both_true (is_letter x) all t.0 in
+    let t = and_parts (is_letter x && all) (not (is_reserved (x ∷ cs))) h in
+    let u = and_parts (is_letter x) all t.0 in
     record { spaces = (first 32 u.0 (omega arith), letters_lack 32 cs (omega arith) u.1); line_feeds = (first 10 u.0 (omega arith), letters_lack 10 cs (omega arith) u.1) }
   where
     first : (c : ℕ) → is_letter x ≡ true → c < 48 → (x == c) ≡ false

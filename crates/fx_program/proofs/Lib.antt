@@ -1,3 +1,4 @@
+pub mod Appended
 pub mod Sums
 pub mod CodeLaws
 pub mod CodeTakes

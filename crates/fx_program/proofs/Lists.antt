@@ -26,7 +26,7 @@ points_push [] c ps = refl
 points_push (d ∷ cs) c ps = points_push cs c (with_point ps d)
 
 -- the points before stay
-points_kept : (cs : List Code) (ps : List ℤ) → All IsPoint (points_after cs ps) → All IsPoint ps
+pub points_kept : (cs : List Code) (ps : List ℤ) → All IsPoint (points_after cs ps) → All IsPoint ps
 points_kept [] ps h = h
 points_kept (c ∷ cs) ps h = (All-pop IsPoint (with_point ps c) ps (Some (point_of c ps)) refl (points_kept cs (with_point ps c) h)).0
 

@@ -4,6 +4,7 @@ use Rattle.std.specs.Prelude.{All, Contains, slice_index_or, ◌==◌}
 use Rattle.std.specs.List.{flat_map}
 use Rattle.std.proofs.lemmas.List.{append-nil}
 use Rattle.std.proofs.lemmas.List.Elements.{All-push, All-nil, All-get_or, All-from_recursion}
+use Rattle.std.proofs.lemmas.Bool.{or_cases}
 use Rattle.fx_model.specs.Machine.{Code, Program, first_copy, point_of}
 use Rattle.fx_model.specs.LawfulProgram.{IsPoint, widths}
 use Rattle.fx_model.specs.Names.{IsName}
@@ -12,7 +13,7 @@ use Rattle.fx_text.specs.Lines.{line_by, text_ended_at}
 use Rattle.fx_text.specs.Many.{AreEach}
 use Rattle.fx_model.specs.LineText.{line_text}
 use Rattle.fx_text.specs.Spelling.{IsOneSpelling}
-use Rattle.fx_text.proofs.Choices.{on_ok, some_true}
+use Rattle.fx_text.proofs.Choices.{on_ok}
 use Rattle.fx_text.proofs.LineLaws.{line_spelling, text_ended-is}
 use Rattle.fx_text.proofs.ManyLaws.{HasOneSpelling, many_spelling}
 use Rattle.fx_word.specs.Words.{IsWidth}
@@ -71,28 +72,28 @@ wide n h = let k = width_small n h in record { least = k.0; most = k.1 }
 -- a width is the one at its place in the list
 contains : (n : ℕ) → IsWidthNumber n → Contains widths n
 contains n h =
-    elim (some_true (n == 8) _ h) [
+    elim (or_cases (n == 8) _ h) [
       | inl e ↦ at 0 8 (omega arith) refl (is 8 e)
       | inr h ↦
-          elim (some_true (n == 16) _ h) [
+          elim (or_cases (n == 16) _ h) [
             | inl e ↦ at 1 16 (omega arith) refl (is 16 e)
             | inr h ↦
-                elim (some_true (n == 24) _ h) [
+                elim (or_cases (n == 24) _ h) [
                   | inl e ↦ at 2 24 (omega arith) refl (is 24 e)
                   | inr h ↦
-                      elim (some_true (n == 32) _ h) [
+                      elim (or_cases (n == 32) _ h) [
                         | inl e ↦ at 3 32 (omega arith) refl (is 32 e)
                         | inr h ↦
-                            elim (some_true (n == 40) _ h) [
+                            elim (or_cases (n == 40) _ h) [
                               | inl e ↦ at 4 40 (omega arith) refl (is 40 e)
                               | inr h ↦
-                                  elim (some_true (n == 48) _ h) [
+                                  elim (or_cases (n == 48) _ h) [
                                     | inl e ↦ at 5 48 (omega arith) refl (is 48 e)
                                     | inr h ↦
-                                        elim (some_true (n == 56) _ h) [
+                                        elim (or_cases (n == 56) _ h) [
                                           | inl e ↦ at 6 56 (omega arith) refl (is 56 e)
                                           | inr h ↦
-                                              elim (some_true (n == 64) _ h) [ inl e ↦ at 7 64 (omega arith) refl (is 64 e) | inr h ↦ absurd cc ]
+                                              elim (or_cases (n == 64) _ h) [ inl e ↦ at 7 64 (omega arith) refl (is 64 e) | inr h ↦ absurd cc ]
                                         ]
                                   ]
                             ]

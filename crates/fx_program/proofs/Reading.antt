@@ -20,14 +20,14 @@ pub record SoFar (first w : ℕ) (s : Sizes) (text : List ℕ) (cs : List Code) 
   pub points : All IsPoint ps
   pub are : ps ≡ points_of cs
 
-whole : {A X E : Type 0} (reading : Result (List A × List X) E) → with_front [] reading ≡ reading
-whole (Ok x) = refl
-whole (Err e) = refl
+pub with_front_nothing : {A X E : Type 0} (reading : Result (List A × List X) E) → with_front [] reading ≡ reading
+with_front_nothing (Ok x) = refl
+with_front_nothing (Err e) = refl
 
 pub begins : (first w : ℕ) (s : Sizes) (text : List ℕ) → SoFar first w s text [] [] 0 text
 unfolding codes_at
 begins first w s text = record {
-  so_far = whole (many (code_line first w s) with_point (s.count - 0) [] text) ∙ (let e : s.count - 0 ≡ s.count = omega arith in rw e refl);
+  so_far = with_front_nothing (many (code_line first w s) with_point (s.count - 0) [] text) ∙ (let e : s.count - 0 ≡ s.count = omega arith in rw e refl);
   few = refl;
   points = All-nil IsPoint;
   are = refl;

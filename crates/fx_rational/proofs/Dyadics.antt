@@ -25,7 +25,7 @@ same_tests a b c d h = by (int_le a b) (int_le c d) refl refl
     by false false p q = refl
 
 -- ---- values
-power_bottom : (e : ℕ) → suc (pred (2 ^ e)) ≡ 2 ^ e
+pub power_bottom : (e : ℕ) → suc (pred (2 ^ e)) ≡ 2 ^ e
 power_bottom e = let p = pow_pos e in omega arith
 
 -- the order by cross multiplication

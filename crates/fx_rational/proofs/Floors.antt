@@ -22,15 +22,15 @@ ceiling_is v d h =
     let f = floor_is (neg_ℤ v) d h in let n = neg_ℤ-*ℤ (floor_div (neg_ℤ v) d) (pos d) in let p = f.not_above in let q = f.greatest in
     record { not_below = omega (arith, ints); least = omega (arith, ints) }
 
-one_more : (w d : ℤ) → (w +ℤ pos 1) *ℤ d ≡ w *ℤ d +ℤ d
-one_more w d = by_quotes {ρ = w ∷ d ∷ []} (search quotes depth 20) (search quotes depth 20) refl
+pub one_more_times : (w d : ℤ) → (w +ℤ pos 1) *ℤ d ≡ w *ℤ d +ℤ d
+one_more_times w d = by_quotes {ρ = w ∷ d ∷ []} (search quotes depth 20) (search quotes depth 20) refl
 
 -- v is at most the floor of w / d exactly where d times v is at most w
 pub le_floor : (v w : ℤ) (d : ℕ) → pos 0 <ℤ pos d → (v ≤ℤ floor_div w d) ↔ ((v *ℤ pos d) ≤ℤ w)
 le_floor v w d above =
     let f = floor_is w d (omega (arith, ints)) in (
       λ h. let p = mul_le_right h (nonneg_of_above above) in let q = f.not_above in omega (arith, ints),
-      λ h. let e = one_more (floor_div w d) (pos d) in let l = f.greatest in
+      λ h. let e = one_more_times (floor_div w d) (pos d) in let l = f.greatest in
           let p : (v *ℤ pos d) <ℤ ((floor_div w d +ℤ pos 1) *ℤ pos d) = omega (arith, ints) in
           let q = lt_of_mul (nonneg_of_above above) p in omega (arith, ints),
     )
@@ -40,7 +40,7 @@ pub ceiling_le : (v w : ℤ) (d : ℕ) → pos 0 <ℤ pos d → (ceil_div v d �
 ceiling_le v w d above =
     let c = ceiling_is v d (omega (arith, ints)) in (
       λ h. let p = mul_le_right h (nonneg_of_above above) in let q = c.not_below in omega (arith, ints),
-      λ h. let e = one_more w (pos d) in let l = c.least in
+      λ h. let e = one_more_times w (pos d) in let l = c.least in
           let p : (ceil_div v d *ℤ pos d) <ℤ ((w +ℤ pos 1) *ℤ pos d) = omega (arith, ints) in
           let q = lt_of_mul (nonneg_of_above above) p in omega (arith, ints),
     )

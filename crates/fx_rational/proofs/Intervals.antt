@@ -20,7 +20,7 @@ high_at y {a} {b} {x} {l} low high p q = ⊎_elim
     (λ s. ordered (nonneg_plus (nonneg_times (gap low) (gap s)) (gap p)) (by_quotes {ρ = a ∷ x ∷ y ∷ l ∷ []} (search quotes depth 20) (search quotes depth 20) refl))
     (le_total (whole (pos 0)) y)
 
-times_turned : (x y : Rational) → Equal (times x y) (times y x)
+pub times_turned : (x y : Rational) → Equal (times x y) (times y x)
 times_turned x y = by_quotes {ρ = x ∷ y ∷ []} (search quotes depth 20) (search quotes depth 20) refl
 
 pub turn_left : (x y : Rational) {l : Rational} → AtMost (times x y) l → AtMost (times y x) l

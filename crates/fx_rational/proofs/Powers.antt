@@ -1,5 +1,6 @@
 -- Whole numbers as rationals, 2^n and 2^-f, and a rational times 2^f.
 use Rattle.std.proofs.Common.{◌≡◌, ℕ, zero, suc, pred, ◌+◌, ◌*◌, ◌^◌, ◌<◌, refl, sym, ap, ◌∙◌, pos, negsuc, ℤ, ◌+ℤ◌, ◌-ℤ◌, ◌*ℤ◌, neg_ℤ, ◌≤ℤ◌, [], ◌∷◌, arith, pow_pos, pow-add}
+use Rattle.std.proofs.Math.Nat.{mul-pos}
 use Rattle.std.proofs.lemmas.Int.{ints}
 use Rattle.fx_algebra.proofs.Quote as int
 use Rattle.fx_rational.specs.Rational.{Rational, bottom, whole, over, plus, negative, minus, times, scaled, Equal, AtMost}
@@ -102,11 +103,8 @@ scaled_up : (t : ℤ) (l n : ℕ) → Equal (record { top = t *ℤ pos (2 ^ n); 
 unfolding times over
 scaled_up t l n = record { equal = let e : suc (pred (suc l * 1)) ≡ suc l = omega arith in ap (λ d. (t *ℤ pos (2 ^ n)) *ℤ pos d) e }
 
-many : (a b : ℕ) → 0 < a → 0 < b → 0 < a * b
-many a b h k = grind arith
-
 -- a fraction times its bottom is its top
-bottom_times : (g : Rational) → Equal (times g (whole (pos (bottom g)))) (whole g.top)
+pub bottom_times : (g : Rational) → Equal (times g (whole (pos (bottom g)))) (whole g.top)
 unfolding times over
 bottom_times g = record {
   equal =
@@ -126,7 +124,7 @@ scaled_back g (negsuc n) =
     (equal_trans (times_same (times_same (equal_refl x) (equal_sym (unit_left n))) (equal_refl (whole (pos (bottom g)))))
     (equal_trans (by_quotes {ρ = x ∷ power (suc n) ∷ whole (pos (bottom g)) ∷ []} {b = times x (times (whole (pos (bottom g))) (power (suc n)))} (search quotes depth 20) (search quotes depth 20) refl)
     (equal_trans (times_same (equal_refl x) (equal_sym (whole_product (pos (bottom g)) (pos (2 ^ suc n)))))
-    (equal_trans (over_times g.top (bottom g * 2 ^ suc n) (many (bottom g) (2 ^ suc n) (omega arith) (pow_pos (suc n)))) (equal_sym (bottom_times g))))))
+    (equal_trans (over_times g.top (bottom g * 2 ^ suc n) (mul-pos {m = bottom g} {n = 2 ^ suc n} (omega arith) (pow_pos (suc n)))) (equal_sym (bottom_times g))))))
 
 pub scaled_is : (x : Rational) (n : ℕ) → Equal (scaled x (pos n)) (times x (power n))
 unfolding scaled

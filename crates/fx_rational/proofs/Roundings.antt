@@ -11,7 +11,7 @@ use Rattle.fx_rational.proofs.Floors.{le_floor, ceiling_le}
 use Rattle.fx_rational.proofs.Dyadics.{as_written, order, dyadic_is, dyadic_exponent, aligned_is, below_finer, below_coarser}
 
 -- at one exponent the mantissas decide
-le_at_one_exponent : (v w : ℤ) (e : ℕ) → v ≤ℤ w → AtMost (dyadic_value (as_written v e)) (dyadic_value (as_written w e))
+pub le_at_one_exponent : (v w : ℤ) (e : ℕ) → v ≤ℤ w → AtMost (dyadic_value (as_written v e)) (dyadic_value (as_written w e))
 le_at_one_exponent v w e h = (order (as_written v e) (as_written w e)).1 (mul_le_right h (nonneg_of_above (pow_above e)))
 
 down : (d : Dyadic) (e : ℕ) → e ≤ d.e → IsRoundedDown d e (dyadic (floor_div d.m (2 ^ (d.e - e))) e)

@@ -22,3 +22,7 @@ at_most_test p q = (at_most_true p q, λ h. holds (int_le (p.top *ℤ pos (botto
     holds : (b : Bool) → T b → b ≡ true
     holds true h = refl
     holds false h = absurd h
+
+-- what is at most another passes the test
+pub at_most_holds : {x y : Rational} → AtMost x y → is_at_most x y ≡ true
+at_most_holds {x} {y} h = (at_most_test x y).1 h

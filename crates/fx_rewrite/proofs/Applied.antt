@@ -1,9 +1,11 @@
 -- A subtree moved out, turned and moved in is the step.
 use Rattle.std.proofs.Common.{◌≡◌, ℕ, ◌+◌, ◌≤◌, List, Option, Some, IsSome, IfSome, refl, sym, ap, subst, ◌∙◌, arith, length}
+use Rattle.std.proofs.lemmas.Option.{same_Some}
 use Rattle.fx_model.specs.Tree.{Tree, Input}
 use Rattle.fx_model.specs.Function.{Function}
 use Rattle.fx_model.specs.Nodes.{nodes_of}
 use Rattle.fx_model.specs.Paths.{height, subtree, put, tree_at, found, with_tree}
+use Rattle.fx_model.proofs.Options.{some_then}
 use Rattle.fx_inequalities.specs.Rewriting.{Rewriting}
 use Rattle.fx_expr.specs.LawfulFunction.{IsLawfulFunction}
 use Rattle.fx_expr.specs.SizeOf.{size_of}
@@ -11,7 +13,6 @@ use Rattle.fx_rules.specs.Turned.{Becomes, turned}
 use Rattle.fx_rules.proofs.Turns.{turned_judges}
 use Rattle.fx_rules.proofs.Whole.{rewrite_is}
 use Rattle.fx_rules.proofs.Sound.{rewrites_sound}
-use Rattle.fx_rules.proofs.Under.{some_then}
 use Rattle.fx_rewrite.specs.Refusals.{IsAdmitted}
 use Rattle.fx_rewrite.specs.Turns.{Turns}
 use Rattle.fx_rewrite.specs.declared.measure.Sizes.{Sizes}
@@ -47,12 +48,9 @@ leaf_there f g s old leaf path e there same =
 pub out_there : (f g : Function) (s : Rewriting) (old leaf : Tree) (path : List ℕ) → path ≡ s.path → found f s.place s.path ≡ Some old → g ≡ with_tree f s.place path leaf → IsSome (found g s.place path)
 out_there f g s old leaf path e there same = subst (λ (o : Option Tree). IsSome o) (sym (leaf_there f g s old leaf path e there same)) refl
 
-some_same : {A : Type 0} {x y : A} → Some x ≡ Some y → x ≡ y
-some_same e = cc
-
 -- the tree that came out is the one that was found
 pub out_is : (f : Function) (s : Rewriting) (old out : Tree) (path : List ℕ) → path ≡ s.path → found f s.place s.path ≡ Some old → found f s.place path ≡ Some out → out ≡ old
-out_is f s old out path e there h = some_same (sym h ∙ ap (λ (p : List ℕ). found f s.place p) e ∙ there)
+out_is f s old out path e there h = same_Some _ _ (sym h ∙ ap (λ (p : List ℕ). found f s.place p) e ∙ there)
 
 -- and what goes in is what the rule makes of it
 pub in_is : (f g : Function) (s : Rewriting) (old leaf out turn : Tree) (z : Sizes) (path : List ℕ) → path ≡ s.path → (there : found f s.place s.path ≡ Some old) → (a : IsAdmitted f s old z) → g ≡ with_tree f s.place path leaf → found f s.place path ≡ Some out → Turns (turned s.rule) out turn →
@@ -70,4 +68,4 @@ in_lawful f s old z is there a =
 
 -- a leaf that stands in has no nodes
 pub leaf_out : (f g : Function) (s : Rewriting) (old leaf : Tree) (path : List ℕ) → path ≡ s.path → leaf ≡ Input 0 → found f s.place s.path ≡ Some old → g ≡ with_tree f s.place path leaf → (t : Tree) → found g s.place path ≡ Some t → 0 ≡ (size_of t).nodes
-leaf_out f g s old leaf path e l there same t h = ap (λ (t : Tree). (size_of t).nodes) (sym (some_same (sym h ∙ leaf_there f g s old leaf path e there same) ∙ l))
+leaf_out f g s old leaf path e l there same t h = ap (λ (t : Tree). (size_of t).nodes) (sym (same_Some _ _ (sym h ∙ leaf_there f g s old leaf path e there same) ∙ l))

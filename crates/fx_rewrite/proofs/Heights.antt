@@ -2,7 +2,7 @@
 use Rattle.std.proofs.Common.{◌≡◌, ℕ, zero, suc, ◌+◌, ◌<◌, ◌≤◌, List, [], ◌∷◌, Some, ap, arith, length}
 use Rattle.fx_model.specs.Tree.{Tree, Literal, Input, State, Temp, Negation, Sum, Difference, Product, Quotient}
 use Rattle.fx_model.specs.Paths.{height, child, subtree, child_changed, put}
-use Rattle.fx_rules.proofs.Under.{some_then}
+use Rattle.fx_model.proofs.Options.{some_then}
 
 pub height_above : (e : Tree) → 0 < height e
 height_above (Literal c) = omega arith

@@ -9,9 +9,9 @@ use Rattle.fx_model.specs.Function.{Function}
 use Rattle.fx_model.specs.Nodes.{nodes_of}
 use Rattle.fx_model.specs.Paths.{height, subtree, put, tree_in, tree_at, found, temps_changed, results_changed, results_after, with_tree}
 use Rattle.fx_model.proofs.Counted.{node_count_is}
+use Rattle.fx_model.proofs.Options.{some_then}
 use Rattle.fx_expr.specs.LawfulFunction.{IsLow, IsLawfulFunction}
 use Rattle.fx_expr.proofs.Nodes.{nodes_after}
-use Rattle.fx_rules.proofs.Under.{some_then}
 use Rattle.fx_rules.proofs.Refers.{KeepsBelow, put_refers, changed_valid, same_temps}
 use Rattle.fx_rewrite.proofs.Heights.{low_after}
 

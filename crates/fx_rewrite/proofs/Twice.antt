@@ -6,7 +6,7 @@ use Rattle.fx_model.specs.Tree.{Tree, Negation, Sum, Difference, Product, Quotie
 use Rattle.fx_model.specs.Function as function
 use Rattle.fx_model.specs.Function.{Function}
 use Rattle.fx_model.specs.Paths.{child, subtree, child_changed, put, tree_in, tree_at, found, temps_changed, results_changed, results_after, changed, with_tree}
-use Rattle.fx_rules.proofs.Under.{some_then}
+use Rattle.fx_model.proofs.Options.{some_then}
 
 child_twice : (d : ℕ) (f g h : Tree → Tree) (e : Tree) → ((t : Tree) → f (g t) ≡ h t) → child_changed d f (child_changed d g e) ≡ child_changed d h e
 child_twice zero f g h (Negation a) p = ap Negation (p a)

@@ -6,12 +6,12 @@ use Rattle.fx_model.specs.Function.{Function}
 use Rattle.fx_model.specs.Nodes.{nodes_of}
 use Rattle.fx_model.specs.Paths.{height, subtree, put, tree_at, found, with_tree}
 use Rattle.fx_model.proofs.Counted.{node_count_is}
+use Rattle.fx_model.proofs.Options.{some_then}
 use Rattle.fx_expr.specs.LawfulFunction.{IsLawfulFunction}
 use Rattle.fx_expr.specs.SizeOf.{size_of}
 use Rattle.fx_expr.proofs.Sizes.{nodes_counted, height_counted}
 use Rattle.fx_expr.proofs.Nodes.{nodes_after, part_nodes}
 use Rattle.fx_rules.specs.Steps.{is_low, is_within_limits}
-use Rattle.fx_rules.proofs.Under.{some_then}
 use Rattle.fx_rewrite.proofs.Heights.{low_after, high_after}
 use Rattle.fx_rewrite.proofs.Twice.{tree_there}
 use Rattle.fx_rewrite.proofs.Lawful.{low_in}

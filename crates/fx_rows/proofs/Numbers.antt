@@ -1,6 +1,6 @@
 -- What stands in a text that a number is spelled by: digits, signs, a point and the letter of a power, and nothing else.
 use Rattle.std.proofs.Common.{◌≡◌, ℕ, ◌-◌, ◌<◌, ◌≤◌, Bool, true, false, eqb, List, [], ◌∷◌, ◌++◌, length, get_or, Option, Some, None, Ok, refl, sym, ap, subst, ◌∙◌, arith, rules, tests}
-use Rattle.std.specs.Prelude.{◌&&◌, ◌||◌, ◌==◌, nat_lt, Result}
+use Rattle.std.specs.Prelude.{◌||◌, ◌==◌, nat_lt, Result}
 use Rattle.std.specs.List.{All, list_any}
 use Rattle.std.specs.Char.{is_ascii_digit}
 use Rattle.std.specs.Str.{all_ascii_digits}
@@ -8,7 +8,7 @@ use Rattle.std.proofs.lemmas.List.Elements.{All-nil, All-cons, All-append}
 use Rattle.std.proofs.lemmas.List.Folds.{list_any_none}
 use Rattle.std.proofs.lemmas.List.Splits.{slice_split_none}
 use Rattle.std.proofs.lemmas.List.{get_or_past}
-use Rattle.std.proofs.lemmas.Bool.{eqb-true, ltb-true, ltb-false}
+use Rattle.std.proofs.lemmas.Bool.{eqb-true, ltb-true, ltb-false, and_parts}
 use Rattle.csv.specs.Records.{field_at}
 use Rattle.fx_rational.specs.Decimal.{Decimal, is_within}
 use Rattle.fx_fraction.specs.Numeral.{Sign, unwritten, plus, minus, Power, Numeral, sign_text, part_text, power_text, numeral_text, part_digits, is_number, is_e, is_power, IsNumeral, numeral_of}
@@ -17,6 +17,7 @@ use Rattle.fx_fraction.proofs.Numerals.{numeral_joined}
 use Rattle.fx_fields.specs.Line.{is_return, is_special, has_mark, line_fields, pieces, plain_fields}
 use Rattle.fx_expr.specs.Parts.{input_of}
 use Rattle.fx_expr.specs.declared.parts.Input as declared
+use Rattle.fx_model.proofs.Digits.{digit_range}
 use Rattle.fx_rows.specs.Blanks.{is_row_blank, without_blanks}
 use Rattle.fx_rows.specs.Values.{field_value, after_value, values_from, row_of_fields}
 use Rattle.fx_rows.specs.declared.fault.RowKind.{RowKind}
@@ -31,11 +32,6 @@ pub record Spares (bad : ℕ → Bool) : Type 0 where
   pub point : bad 46 ≡ false
   pub letter : (c : ℕ) → is_e c ≡ true → bad c ≡ false
 
-both : (a b : Bool) → (a && b) ≡ true → (a ≡ true) × (b ≡ true)
-both true true e = (refl, refl)
-both true false e = absurd cc
-both false b e = absurd cc
-
 module _ (bad : ℕ → Bool) (h : Spares bad) where
   abbrev Spared : List ℕ → Type 0
   Spared xs = All (λ x. bad x ≡ false) xs
@@ -43,7 +39,7 @@ module _ (bad : ℕ → Bool) (h : Spares bad) where
   digits_spared : (ds : List ℕ) → all_ascii_digits ds ≡ true → Spared ds
   digits_spared [] e = All-nil (λ x. bad x ≡ false)
   digits_spared (d ∷ ds) e =
-      let b = both (is_ascii_digit d) (all_ascii_digits ds) e in
+      let b = and_parts (is_ascii_digit d) (all_ascii_digits ds) e in
       All-cons (λ x. bad x ≡ false) d ds (h.digit d b.0) (digits_spared ds b.1)
 
   one_spared : (x : ℕ) (xs : List ℕ) → bad x ≡ false → Spared xs → Spared (x ∷ xs)
@@ -55,7 +51,7 @@ module _ (bad : ℕ → Bool) (h : Spares bad) where
   digits_front : (xs ys : List ℕ) → all_ascii_digits (xs ++ ys) ≡ true → (all_ascii_digits xs ≡ true) × (all_ascii_digits ys ≡ true)
   digits_front [] ys e = (refl, e)
   digits_front (x ∷ xs) ys e =
-      let b = both (is_ascii_digit x) (all_ascii_digits (xs ++ ys)) e in
+      let b = and_parts (is_ascii_digit x) (all_ascii_digits (xs ++ ys)) e in
       let r = digits_front xs ys b.1 in
       (rw (b.0, r.0) refl, r.1)
 
@@ -71,13 +67,13 @@ module _ (bad : ℕ → Bool) (h : Spares bad) where
   power_spared : (p : Option Power) → is_power p ≡ true → Spared (power_text p)
   power_spared None e = All-nil (λ x. bad x ≡ false)
   power_spared (Some p) e =
-      let b = both (is_e p.letter) (is_number p.digits) e in
+      let b = and_parts (is_e p.letter) (is_number p.digits) e in
       one_spared p.letter (sign_text p.sign ++ p.digits) (h.letter p.letter b.0)
-      (in_two (sign_text p.sign) p.digits (sign_spared p.sign) (digits_spared p.digits (both (all_ascii_digits p.digits) (nat_lt 0 (length p.digits)) b.1).0))
+      (in_two (sign_text p.sign) p.digits (sign_spared p.sign) (digits_spared p.digits (and_parts (all_ascii_digits p.digits) (nat_lt 0 (length p.digits)) b.1).0))
 
   numeral_spared : (n : Numeral) → IsNumeral n → Spared (numeral_text n)
   numeral_spared n k =
-      let d = digits_front n.whole (part_digits n.part) (both (all_ascii_digits (n.whole ++ part_digits n.part)) (nat_lt 0 (length (n.whole ++ part_digits n.part))) k.digits).0 in
+      let d = digits_front n.whole (part_digits n.part) (and_parts (all_ascii_digits (n.whole ++ part_digits n.part)) (nat_lt 0 (length (n.whole ++ part_digits n.part))) k.digits).0 in
       in_two (sign_text n.sign) (n.whole ++ (part_text n.part ++ power_text n.power)) (sign_spared n.sign)
       (in_two n.whole (part_text n.part ++ power_text n.power) (digits_spared n.whole d.0)
       (in_two (part_text n.part) (power_text n.power) (part_spared n.part d.1) (power_spared n.power k.power)))
@@ -97,9 +93,6 @@ higher k c lt = search (rules, tests)
 
 lower : (k c : ℕ) → c < k → eqb c k ≡ false
 lower k c lt = search (rules, tests)
-
-digit_range : (c : ℕ) → is_ascii_digit c ≡ true → (48 ≤ c) × (c ≤ 57)
-digit_range c e = search (rules, tests)
 
 letter_range : (c : ℕ) → is_e c ≡ true → (69 ≤ c) × (c ≤ 101)
 letter_range c e = by (eqb c 101) refl (eqb c 69) refl e

@@ -1,5 +1,6 @@
 -- What a rule makes of a tree by cases is what its row of the table says.
 use Rattle.std.proofs.Common.{◌≡◌, pos, Bool, true, false, Option, Some, None, refl, sym, ap, ◌∙◌}
+use Rattle.std.proofs.lemmas.Option.{same_Some}
 use Rattle.fx_rational.specs.Rational.{Rational, whole, plus, minus, times, negative, quotient, lowest}
 use Rattle.fx_model.specs.Tree.{Tree, Literal, Negation, Sum, Difference, Product, Quotient, always}
 use Rattle.fx_rules.specs.Rules as table
@@ -18,9 +19,6 @@ literals a l k v = record { a = a; b = a; c = a; l = l; k = k; made = v }
 product_fits : (a x : Tree) (b : Bool) → in_product a (where_fits b x) ≡ where_fits b (Product a x)
 product_fits a x true = refl
 product_fits a x false = refl
-
-some_is : {A : Type 0} {x y : A} → Some x ≡ Some y → x ≡ y
-some_is e = cc
 
 abbrev no_tree : Tree
 no_tree = Literal (whole (pos 0))
@@ -348,7 +346,7 @@ pub agrees_26 : Agrees row_26 turned_26
 agrees_26 = record {
   back = back_26;
   there = λ s f.
-      let q : plus s.l s.k ≡ f.0 = some_is f.1 in
+      let q : plus s.l s.k ≡ f.0 = same_Some _ _ f.1 in
       let v : lowest (plus s.l s.k) ≡ s.made = ap lowest q ∙ sym f.2 in
       ap (λ (v : Rational). where_fits (fits_literal v) (Literal v)) v;
 }
@@ -369,7 +367,7 @@ pub agrees_27 : Agrees row_27 turned_27
 agrees_27 = record {
   back = back_27;
   there = λ s f.
-      let q : minus s.l s.k ≡ f.0 = some_is f.1 in
+      let q : minus s.l s.k ≡ f.0 = same_Some _ _ f.1 in
       let v : lowest (minus s.l s.k) ≡ s.made = ap lowest q ∙ sym f.2 in
       ap (λ (v : Rational). where_fits (fits_literal v) (Literal v)) v;
 }
@@ -390,7 +388,7 @@ pub agrees_28 : Agrees row_28 turned_28
 agrees_28 = record {
   back = back_28;
   there = λ s f.
-      let q : times s.l s.k ≡ f.0 = some_is f.1 in
+      let q : times s.l s.k ≡ f.0 = same_Some _ _ f.1 in
       let v : lowest (times s.l s.k) ≡ s.made = ap lowest q ∙ sym f.2 in
       ap (λ (v : Rational). where_fits (fits_literal v) (Literal v)) v;
 }
@@ -434,7 +432,7 @@ pub agrees_30 : Agrees row_30 turned_30
 agrees_30 = record {
   back = back_30;
   there = λ s f.
-      let q : negative s.l ≡ f.0 = some_is f.1 in
+      let q : negative s.l ≡ f.0 = same_Some _ _ f.1 in
       let v : lowest (negative s.l) ≡ s.made = ap lowest q ∙ sym f.2 in
       ap (λ (v : Rational). where_fits (fits_literal v) (Literal v)) v;
 }

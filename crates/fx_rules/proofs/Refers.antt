@@ -7,7 +7,7 @@ use Rattle.fx_model.specs.Function as function
 use Rattle.fx_model.specs.Function.{Function}
 use Rattle.fx_model.specs.Valid.{RefersBelow, AllReferBelow, ReferBack, IsValid}
 use Rattle.fx_model.specs.Paths.{child, subtree, child_changed, put, tree_in, tree_at, temps_changed, results_changed, results_after, changed}
-use Rattle.fx_rules.proofs.Under.{some_then}
+use Rattle.fx_model.proofs.Options.{some_then}
 
 -- below so many inputs, new refers to no more than old
 abbrev pub KeepsBelow : ℕ → Tree → Tree → Type 0

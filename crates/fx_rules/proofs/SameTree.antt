@@ -1,15 +1,10 @@
 -- The test for equal trees.
-use Rattle.std.proofs.Common.{◌≡◌, ℤ, pos, negsuc, Bool, true, false, ◌&&◌, refl, sym, ap, rules}
+use Rattle.std.proofs.Common.{◌≡◌, ℤ, pos, negsuc, Bool, true, false, refl, sym, ap, rules}
 use Rattle.std.specs.Prelude.{◌==◌, IsTrue, ◌↔◌}
-use Rattle.std.proofs.lemmas.Bool.{eqb-true, eq-eqb}
+use Rattle.std.proofs.lemmas.Bool.{eqb-true, eq-eqb, and_parts}
 use Rattle.fx_rational.specs.Rational.{Rational}
 use Rattle.fx_model.specs.Tree.{Tree, Literal, Input, State, Temp, Negation, Sum, Difference, Product, Quotient}
 use Rattle.fx_rules.specs.Turned.{same_whole, same_tree}
-
-both : (x y : Bool) → (x && y) ≡ true → (x ≡ true) × (y ≡ true)
-both true true h = (refl, refl)
-both true false h = absurd cc
-both false y h = absurd cc
 
 whole_refl : (n : ℤ) → same_whole n n ≡ true
 whole_refl (pos n) = eq-eqb n n refl
@@ -36,15 +31,15 @@ lit_same : (c d : Rational) → c.top ≡ d.top → c.less ≡ d.less → Litera
 lit_same c d p q = λ i. Literal (record { top = p i; less = q i })
 
 pub same_tree_true : (a b : Tree) → same_tree a b ≡ true → a ≡ b
-same_tree_true (Literal c) (Literal d) h = let p = both (same_whole c.top d.top) (c.less == d.less) h in lit_same c d (whole_true c.top d.top p.0) (eqb-true c.less d.less p.1)
+same_tree_true (Literal c) (Literal d) h = let p = and_parts (same_whole c.top d.top) (c.less == d.less) h in lit_same c d (whole_true c.top d.top p.0) (eqb-true c.less d.less p.1)
 same_tree_true (Input k) (Input n) h = ap Input (eqb-true k n h)
 same_tree_true (State k) (State n) h = ap State (eqb-true k n h)
 same_tree_true (Temp k) (Temp n) h = ap Temp (eqb-true k n h)
 same_tree_true (Negation a) (Negation x) h = ap Negation (same_tree_true a x h)
-same_tree_true (Sum a b) (Sum x y) h = let p = both (same_tree a x) (same_tree b y) h in λ i. Sum (same_tree_true a x p.0 i) (same_tree_true b y p.1 i)
-same_tree_true (Difference a b) (Difference x y) h = let p = both (same_tree a x) (same_tree b y) h in λ i. Difference (same_tree_true a x p.0 i) (same_tree_true b y p.1 i)
-same_tree_true (Product a b) (Product x y) h = let p = both (same_tree a x) (same_tree b y) h in λ i. Product (same_tree_true a x p.0 i) (same_tree_true b y p.1 i)
-same_tree_true (Quotient a b) (Quotient x y) h = let p = both (same_tree a x) (same_tree b y) h in λ i. Quotient (same_tree_true a x p.0 i) (same_tree_true b y p.1 i)
+same_tree_true (Sum a b) (Sum x y) h = let p = and_parts (same_tree a x) (same_tree b y) h in λ i. Sum (same_tree_true a x p.0 i) (same_tree_true b y p.1 i)
+same_tree_true (Difference a b) (Difference x y) h = let p = and_parts (same_tree a x) (same_tree b y) h in λ i. Difference (same_tree_true a x p.0 i) (same_tree_true b y p.1 i)
+same_tree_true (Product a b) (Product x y) h = let p = and_parts (same_tree a x) (same_tree b y) h in λ i. Product (same_tree_true a x p.0 i) (same_tree_true b y p.1 i)
+same_tree_true (Quotient a b) (Quotient x y) h = let p = and_parts (same_tree a x) (same_tree b y) h in λ i. Quotient (same_tree_true a x p.0 i) (same_tree_true b y p.1 i)
 same_tree_true _ _ h = absurd cc
 
 false_apart : (r : Bool) (a b : Tree) → (a ≡ b → IsTrue r) → r ≡ false → same_tree a b ≡ false

@@ -11,6 +11,7 @@ use Rattle.fx_rational.specs.Laws.{SameOption}
 use Rattle.fx_rational.proofs.Quotient.{quotient_same}
 use Rattle.fx_model.specs.Sameness.{SameNumbers, SameStep, HasMeaningOf}
 use Rattle.fx_model.specs.Paths.{child, subtree, child_changed, put, tree_in, tree_at, temps_changed, results_changed, results_after, changed}
+use Rattle.fx_model.proofs.Options.{some_then}
 use Rattle.fx_rules.proofs.EachRule.{same_refl, same_trans}
 use Rattle.fx_rules.proofs.Sound.{SameTrees}
 
@@ -57,10 +58,6 @@ child_same (suc zero) (Difference b c) a f i h t x y = let e : c ≡ a = cc in s
 child_same (suc zero) (Product b c) a f i h t x y = let e : c ≡ a = cc in mul_same (value_of b t x y) (value_of c t x y) (value_of b t x y) (value_of (f c) t x y) (same_refl (value_of b t x y)) (rw e (h t x y))
 child_same (suc zero) (Quotient b c) a f i h t x y = let e : c ≡ a = cc in div_same (value_of b t x y) (value_of c t x y) (value_of b t x y) (value_of (f c) t x y) (same_refl (value_of b t x y)) (rw e (h t x y))
 child_same _ e a f i h t x y = absurd cc
-
-pub some_then : {A B : Type 0} (f : A → Option B) (p : Option A) (b : B) → option_and_then f p ≡ Some b → (a : A) × (p ≡ Some a) × (f a ≡ Some b)
-some_then f None b e = absurd cc
-some_then f (Some a) b e = (a, refl, e)
 
 pub put_same : (path : List ℕ) (e old new : Tree) → subtree path e ≡ Some old → SameTrees old new → SameTrees e (put path new e)
 put_same [] e old new i h = let same : e ≡ old = cc in rw same h

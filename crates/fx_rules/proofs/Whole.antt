@@ -2,6 +2,7 @@
 use Rattle.std.proofs.Common.{◌≡◌, ◌≤◌, ℕ, Bool, true, false, Option, Some, None, refl, sym, ap, subst, ◌∙◌, rules, tests}
 use Rattle.std.specs.Prelude.{◌↔◌, ◌&&◌, nat_le, length, IfSome, if◌then◌else◌, cond}
 use Rattle.std.specs.Option.{option_and_then}
+use Rattle.std.proofs.lemmas.Bool.{and_parts}
 use Rattle.fx_model.specs.Limits.{node_limit, height_limit}
 use Rattle.fx_model.specs.Tree.{Tree}
 use Rattle.fx_model.specs.Function.{Function}
@@ -9,13 +10,14 @@ use Rattle.fx_model.specs.Nodes.{nodes_of}
 use Rattle.fx_model.specs.Valid.{IsValid}
 use Rattle.fx_model.specs.Sameness.{HasMeaningOf}
 use Rattle.fx_model.specs.Paths.{height, found, tree_at, subtree, put, with_tree}
+use Rattle.fx_model.proofs.Options.{some_then}
 use Rattle.fx_inequalities.specs.Rewriting.{Rewriting}
 use Rattle.fx_rules.specs.Rules.{RewritesTree, folding_fits}
 use Rattle.fx_rules.specs.Turned.{Turned, NoMatch, TooLong, Becomes, where_fits, turned}
 use Rattle.fx_rules.specs.Steps.{IsRewritten, is_low, kept_within, after, rewrite, RewriteLaw}
 use Rattle.fx_rules.proofs.Turns.{turned_there, turned_judges}
 use Rattle.fx_rules.proofs.Sound.{rewrites_sound}
-use Rattle.fx_rules.proofs.Under.{some_then, put_same, changed_same}
+use Rattle.fx_rules.proofs.Under.{put_same, changed_same}
 use Rattle.fx_rules.proofs.Refers.{put_refers, changed_valid}
 
 low_is : (o : Option Tree) → is_low o ≡ true → IfSome o (λ e. height e ≤ height_limit)
@@ -25,11 +27,6 @@ low_is (Some t) e = search (rules, tests)
 is_low_from : (o : Option Tree) → IfSome o (λ e. height e ≤ height_limit) → is_low o ≡ true
 is_low_from None h = refl
 is_low_from (Some t) h = search (rules, tests)
-
-both : (a b : Bool) → (a && b) ≡ true → (a ≡ true) × (b ≡ true)
-both true true e = (refl, refl)
-both true false e = absurd cc
-both false b e = absurd cc
 
 record Kept (h : Function) (place : ℕ) (g : Function) : Type 0 where
   same : g ≡ h
@@ -42,7 +39,7 @@ kept_is h place g e = by (nat_le (length (nodes_of h)) node_limit && is_low (tre
     by : (b : Bool) → (nat_le (length (nodes_of h)) node_limit && is_low (tree_at h place)) ≡ b → cond b (Some h) None ≡ Some g → Kept h place g
     by false is e = absurd cc
     by true is e =
-        let p = both (nat_le (length (nodes_of h)) node_limit) (is_low (tree_at h place)) is in
+        let p = and_parts (nat_le (length (nodes_of h)) node_limit) (is_low (tree_at h place)) is in
         record { same = cc; nodes = (let q = p.0 in search (rules, tests)); height = low_is (tree_at h place) p.1 }
 
 kept_from : (h : Function) (place : ℕ) → length (nodes_of h) ≤ node_limit → IfSome (tree_at h place) (λ e. height e ≤ height_limit) → kept_within h place ≡ Some h

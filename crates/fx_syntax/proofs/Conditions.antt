@@ -1,6 +1,7 @@
 -- Single conditions, and the ranges that they give, read and spelled.
 use Rattle.std.proofs.Common.{◌≡◌, ◌⊎◌, inl, inr, ℕ, ◌<◌, Bool, true, false, cond, List, [], ◌∷◌, map, length, drop, Option, Some, None, Ok, Err, refl, sym, ap, subst, ◌∙◌, arith}
 use Rattle.std.specs.Prelude.{◌&&◌, ◌||◌, not}
+use Rattle.std.proofs.lemmas.Bool.{and_parts, not-false}
 use Rattle.fx_rational.specs.Decimal.{Decimal, decimal_value}
 use Rattle.fx_rational.specs.Rational.{is_at_most}
 use Rattle.fx_rational.proofs.Tests.{at_most_true, at_most_test}
@@ -18,7 +19,7 @@ use Rattle.fx_grammar.specs.Ranges.{Subject, Subjects, names_of, is_said, side_o
 use Rattle.fx_syntax.specs.Leaves.{IsNext, IsNumber, IsSigned, plain, negative}
 use Rattle.fx_syntax.specs.Conditions as syntax
 use Rattle.fx_syntax.specs.Conditions.{IsSaid, IsRelation, below, at_most, above, at_least, IsNameFirst, IsNumberFirst, IsErrorOf, IsInputOf, AreInputsOf, none, one_more}
-use Rattle.fx_syntax.proofs.Outcomes.{OnOk, answered, done, failed, and_then, choose, weaken, steps, on_true, on_false, both_true}
+use Rattle.fx_syntax.proofs.Outcomes.{OnOk, answered, done, failed, and_then, choose, weaken, steps, on_true, on_false}
 use Rattle.fx_syntax.proofs.Marks.{mark, same_head, next_is, is_next, not_next, next_head_is, behind_is, next_shorter, want_spells, want_reads, number_spells, number_reads, signed_spells, signed_reads, signed_shorter}
 use Rattle.fx_syntax.proofs.Repeats.{when_false}
 
@@ -262,16 +263,12 @@ given_is : (o : Option Decimal) → is_said o ≡ true → (d : Decimal) × (o �
 given_is None e = absurd cc
 given_is (Some d) e = (d, refl)
 
-not_true : (b : Bool) → not b ≡ false → b ≡ true
-not_true true e = refl
-not_true false e = absurd cc
-
 input_is : (s : Subject) → is_lacking s ≡ false → is_empty_range s ≡ false → IsInputOf s (declared_input s)
 input_is s lacking empty =
-    let given = both_true (is_said s.lo) (is_said s.hi) (not_true _ lacking) in
+    let given = and_parts (is_said s.lo) (is_said s.hi) (not-false _ lacking) in
     let lo = given_is s.lo given.0 in
     let hi = given_is s.hi given.1 in
-    let le : is_at_most (decimal_value (or_zero s.lo)) (decimal_value (or_zero s.hi)) ≡ true = not_true _ empty in
+    let le : is_at_most (decimal_value (or_zero s.lo)) (decimal_value (or_zero s.hi)) ≡ true = not-false _ empty in
     record {
       lo = lo.0;
       hi = hi.0;

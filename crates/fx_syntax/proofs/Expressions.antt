@@ -1,6 +1,7 @@
 -- Expressions, read and spelled.
 use Rattle.std.proofs.Common.{◌≡◌, ◌⊎◌, inl, inr, ℕ, zero, suc, Bool, true, false, [], ◌∷◌, length, drop, Option, Some, None, Ok, refl, sym, ap, subst, ◌∙◌, arith}
 use Rattle.std.specs.Prelude.{◌&&◌, not}
+use Rattle.std.proofs.lemmas.Bool.{and_parts, or_cases, not-true}
 use Rattle.fx_model.specs.Tree.{Tree, Negation, Sum, Difference, Product, Quotient}
 use Rattle.fx_lexer.specs.declared.fault.SourceFault.{SourceFault}
 use Rattle.fx_lexer.specs.Tokens.{Lexeme}
@@ -11,7 +12,7 @@ use Rattle.fx_grammar.specs.Steps.{Tokens, next_head, is_fresh, decimal, negativ
 use Rattle.fx_grammar.specs.Operands.{Operand, leaf, negation, combined_operand}
 use Rattle.fx_grammar.specs.Expressions.{Known, Reader, is_call, found_name, named, closed, opened, atom_by, atom_of, behind_minus, factor_of, one_more, goes_on_product, goes_on_sum, term_of, sum_from, expr_at, inner_at}
 use Rattle.fx_syntax.specs.Expressions.{Scope, all_names, literal_tree, IsExpr, one_term, IsTerm, one_factor, IsFactor, one_atom, negative, negation as negated_atom, IsAtom, number, name, parens}
-use Rattle.fx_syntax.proofs.Outcomes.{OnOk, done, failed, and_then, choose, weaken, both_true, some_true}
+use Rattle.fx_syntax.proofs.Outcomes.{OnOk, done, failed, and_then, choose, weaken}
 use Rattle.fx_syntax.proofs.Marks.{mark, same_head, next_is, want_spells}
 use Rattle.fx_syntax.proofs.Repeats.{Seen, Any, keeps_any, when_choose, repeat_spells, repeat_ends}
 use Rattle.fx_syntax.proofs.Chains.{IsMoreSum, plus, less, IsMoreProduct, times, over', sums_fold, products_fold, more_sum_shorter}
@@ -22,10 +23,6 @@ pub expr_is : (known : Known) (outside : Bool) (room : ℕ) → expr_at known ou
 unfolding expr_at inner_at
 expr_is known outside zero = refl
 expr_is known outside (suc room) = refl
-
-not_true : (b : Bool) → not b ≡ true → b ≡ false
-not_true true e = absurd cc
-not_true false e = refl
 
 -- ---- what is read is in the grammar
 
@@ -83,7 +80,7 @@ module _ (scope : Scope) (end room : ℕ) (inner : Option Reader) (inside : Inne
   -- ---- chains
 
   more_product : (x : Tree) → Any x → (ts : Tokens) → goes_on_product (operand_of x) ts ≡ true → OnOk (Seen operand_of (IsMoreProduct scope room x ts)) (one_more (factor_of (known_of end scope) inner) (operand_of x) ts)
-  more_product x any ts on = and_then (factor_spells (drop 1 ts)) (λ y seen. by y seen (some_true (next_head ts ==ₕ heads.Star) (next_head ts ==ₕ heads.Slash) on))
+  more_product x any ts on = and_then (factor_spells (drop 1 ts)) (λ y seen. by y seen (or_cases (next_head ts ==ₕ heads.Star) (next_head ts ==ₕ heads.Slash) on))
     where
       by : (y : Operand × Tokens) → Seen operand_of (IsFactor scope room (drop 1 ts)) y → ((next_head ts ==ₕ heads.Star) ≡ true) ⊎ ((next_head ts ==ₕ heads.Slash) ≡ true)
           → OnOk {E = SourceFault} (Seen operand_of (IsMoreProduct scope room x ts)) (Ok (combined_operand (next_head ts) (operand_of x) y.0, y.1))
@@ -114,7 +111,7 @@ module _ (scope : Scope) (end room : ℕ) (inner : Option Reader) (inside : Inne
 
   -- the sign of a sum that goes on
   more_sum : (outside : Bool) (x : Tree) → Any x → (ts : Tokens) → goes_on_sum outside (operand_of x) ts ≡ true → OnOk (Seen operand_of (IsMoreSum scope outside room x ts)) (one_more (term_of (known_of end scope) inner) (operand_of x) ts)
-  more_sum outside x any ts on = and_then (term_spells (drop 1 ts)) (λ y seen. by y seen (some_true (next_head ts ==ₕ heads.Plus) ((next_head ts ==ₕ heads.Minus) && not (outside && is_fresh ts)) on))
+  more_sum outside x any ts on = and_then (term_spells (drop 1 ts)) (λ y seen. by y seen (or_cases (next_head ts ==ₕ heads.Plus) ((next_head ts ==ₕ heads.Minus) && not (outside && is_fresh ts)) on))
     where
       by : (y : Operand × Tokens) → Seen operand_of (IsTerm scope room (drop 1 ts)) y → ((next_head ts ==ₕ heads.Plus) ≡ true) ⊎ (((next_head ts ==ₕ heads.Minus) && not (outside && is_fresh ts)) ≡ true)
           → OnOk {E = SourceFault} (Seen operand_of (IsMoreSum scope outside room x ts)) (Ok (combined_operand (next_head ts) (operand_of x) y.0, y.1))
@@ -127,13 +124,13 @@ module _ (scope : Scope) (end room : ℕ) (inner : Option Reader) (inside : Inne
             is = plus (mark t.1) seen.is;
           })
       by y seen (inr e) =
-          let both = both_true _ _ e in
+          let both = and_parts _ _ e in
           let h = same_head _ _ both.0 in
           let t = next_is ts heads.Minus h refl in
           done (record {
             value = Difference x seen.value;
             same = ap (λ g. combined_operand g (operand_of x) y.0) h ∙ ap (combined_operand heads.Minus (operand_of x)) seen.same ∙ joined_is heads.Minus x seen.value (Difference x seen.value) (record { tree = refl; height = refl; size = refl });
-            is = less (mark t.1) (not_true _ both.1) seen.is;
+            is = less (mark t.1) (not-true _ both.1) seen.is;
           })
 
   sum_spells : (outside : Bool) (ts : Tokens) → OnOk (Seen operand_of (IsExpr scope outside room ts)) (sum_from (known_of end scope) outside inner ts)

@@ -1,22 +1,11 @@
 -- How many nodes a function has.
-use Rattle.std.proofs.Common.{◌≡◌, ℕ, zero, suc, ◌+◌, List, [], ◌∷◌, ◌++◌, length, refl, ap, arith, length-append}
+use Rattle.std.proofs.Common.{◌≡◌, ℕ, ◌+◌, List, [], ◌∷◌, ◌++◌, length, arith, length-append}
 use Rattle.fx_model.specs.Tree.{Tree}
 use Rattle.fx_model.specs.Function.{Function, Temp}
 use Rattle.fx_model.specs.Nodes.{Node, flat, inputs_from, states_from, copies_of, nodes_after, nodes_of}
+use Rattle.fx_model.proofs.Counted.{copies_length, inputs_length, states_length}
 use Rattle.fx_syntax.proofs.Operands.{flat_size}
 use Rattle.fx_syntax.proofs.Bodies.{sizes, tree_sizes}
-
-inputs_length : (k n : ℕ) → length (inputs_from k n) ≡ n
-inputs_length k zero = refl
-inputs_length k (suc n) = ap suc (inputs_length (k + 1) n)
-
-states_length : (k n : ℕ) → length (states_from k n) ≡ n
-states_length k zero = refl
-states_length k (suc n) = ap suc (states_length (k + 1) n)
-
-copies_length : (roots : List ℕ) → length (copies_of roots) ≡ length roots
-copies_length [] = refl
-copies_length (r ∷ roots) = ap suc (copies_length roots)
 
 after_length : (i : ℕ) (ts : List Temp) (es : List Tree) (temps roots : List ℕ) (ns : List Node) → length (nodes_after i ts es temps roots ns) ≡ length ns + sizes ts + tree_sizes es + length roots + length es
 after_length i [] [] temps roots ns = let a = length-append ns (copies_of roots) in let b = copies_length roots in omega arith

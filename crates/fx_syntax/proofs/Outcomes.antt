@@ -1,7 +1,5 @@
 -- What holds of the answer of a chain of steps, where it has one; and which answer a chain has.
 use Rattle.std.proofs.Common.{◌≡◌, Bool, true, false, cond, Result, Ok, Err, refl, sym, subst}
-use Rattle.std.specs.Prelude.{◌&&◌, ◌||◌}
-use Rattle.std.proofs.Common.{◌⊎◌, inl, inr}
 use Rattle.fx_grammar.specs.Steps.{◌>>=◌}
 
 -- P holds of the answer, if there is one
@@ -49,11 +47,3 @@ on_false {b = true} x e p = absurd cc
 on_false {b = false} x e p = p
 
 -- ---- tests
-
-pub both_true : (a b : Bool) → (a && b) ≡ true → (a ≡ true) × (b ≡ true)
-both_true true b e = (refl, e)
-both_true false b e = absurd cc
-
-pub some_true : (a b : Bool) → (a || b) ≡ true → (a ≡ true) ⊎ (b ≡ true)
-some_true true b e = inl refl
-some_true false b e = inr e

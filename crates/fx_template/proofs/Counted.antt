@@ -1,18 +1,16 @@
 -- Rows that were tested: counted, short, and what the plain ones are.
-use Rattle.std.proofs.Common.{◌≡◌, ℕ, ◌+◌, ◌<◌, ◌≤◌, List, [], ◌∷◌, length, Option, Some, None, inl, inr, refl, sym, ap, subst, ◌∙◌, arith}
-use Rattle.std.specs.Prelude.{All}
+use Rattle.std.proofs.Common.{◌≡◌, ℕ, ◌+◌, ◌<◌, ◌≤◌, List, length, Option, Some, None, inl, inr, refl, sym, ap, subst, ◌∙◌, arith}
 use Rattle.std.specs.Option.{option_map}
 use Rattle.std.proofs.lemmas.Bool.{cases_lt}
 use Rattle.std.proofs.lemmas.List.{get_or_default, get_or_past}
-use Rattle.fx_rational.specs.Dyadic.{Dyadic, IsWritten, zero_dyadic}
+use Rattle.fx_rational.specs.Dyadic.{zero_dyadic}
 use Rattle.fx_rational.specs.Interval.{IsWrittenInterval}
 use Rattle.fx_model.specs.Tree.{at}
-use Rattle.fx_inequalities.specs.Formula.{Num}
-use Rattle.fx_inequalities.specs.Certificate.{Row, Share, no_row}
-use Rattle.fx_inequalities.specs.LawfulCertificate.{AreShares, unit_vector}
-use Rattle.fx_judging.specs.Places.{IsShort}
-use Rattle.fx_conditions.specs.Limits.{AreShortRows, AreShortShares, IsShortRow}
+use Rattle.fx_inequalities.specs.Certificate.{Row, no_row}
+use Rattle.fx_inequalities.specs.LawfulCertificate.{unit_vector}
+use Rattle.fx_conditions.specs.Limits.{AreShortRows, IsShortRow}
 use Rattle.fx_conditions.specs.declared.side.Side.TheVariants.{Value, Error}
+use Rattle.fx_conditions.proofs.Lawful.{short_coefs, short_ends, short_shares}
 use Rattle.fx_template.specs.Listed.{first_untrue, or_else}
 use Rattle.fx_template.specs.Transitions.{IsModestTransition, Transition}
 use Rattle.fx_template.specs.PlainRounds.{Bounds, bounds_at_first, first_fallen, plain_rounds, stands, unit_rows}
@@ -20,7 +18,7 @@ use Rattle.fx_template.specs.Rows.{AreCountedRows, AreKept, AreWrittenBounds, Is
 use Rattle.fx_template.specs.Answers.{Found, HasWrittenBounds, HasWrittenStates, IsTemplate}
 use Rattle.fx_template.proofs.UnitRows.{no_row_short, unit_rows_counted, unit_rows_kept, unit_rows_written}
 use Rattle.fx_template.proofs.UnitVectors.{units_from}
-use Rattle.fx_template.proofs.Rounds.{first_written, rounds_written, written_short}
+use Rattle.fx_template.proofs.Rounds.{first_written, rounds_written}
 
 -- ---- counted
 pub counted_all : (k : ℕ) (rows : List Row) → k ≤ length rows → length rows ≤ 512 → ((i : ℕ) → i < length rows → IsCountedRow k (length rows) (at no_row rows i)) →
@@ -33,18 +31,8 @@ counted_all k rows enough few each units = record {
 }
 
 -- ---- short
-short_coef : (xs : List Dyadic) → All IsWritten xs → (j : ℕ) → IsShort 96 (Num (at zero_dyadic xs j))
-short_coef xs h j = elim (cases_lt j (length xs)) [
-  | inl less ↦ (let few = (h j zero_dyadic less).places in record { few = omega (arith, few) })
-  | inr more ↦ (let past = ap (λ (d : Dyadic). d.e) (get_or_past xs j zero_dyadic more) in record { few = omega (arith, past) })
-]
-
-short_shares : (count least : ℕ) (shares : List Share) → AreShares count least shares → AreShortShares shares
-short_shares count least [] h = tt
-short_shares count least (s ∷ shares) h = let few = h.2.places in (record { few = omega (arith, few) }, short_shares count (s.row + 1) shares h.3)
-
 short_row : (k count : ℕ) (r : Row) → IsCountedRow k count r → IsWrittenInterval r.bound → IsShortRow r
-short_row k count r h w = record { coefs = short_coef r.coefs h.written; bound = written_short r.bound w; shares = short_shares count 0 r.shares h.shares }
+short_row k count r h w = record { coefs = short_coefs r.coefs h.written; bound = short_ends r.bound w; shares = short_shares count 0 r.shares h.shares }
 
 pub rows_short : (k : ℕ) (rows : List Row) → AreCountedRows k rows → AreWrittenBounds rows → AreShortRows rows
 rows_short k rows h w i = elim (cases_lt i (length rows)) [

@@ -3,6 +3,7 @@ use Rattle.std.proofs.Common.{◌≡◌, ℕ, zero, suc, ◌+◌, ◌<◌, ◌�
 use Rattle.std.proofs.lemmas.Bool.{cases_lt}
 use Rattle.std.proofs.lemmas.List.{get_or_append_left, get_or_push, get_or_past, length_push}
 use Rattle.std.proofs.lemmas.List.FromFn.{get_or-map-range_with_len, length-map-range_with_len, map-range_with_len_more}
+use Rattle.std.proofs.lemmas.Option.{same_Some}
 use Rattle.fx_model.specs.Tree.{at}
 use Rattle.fx_template.specs.Listed.{and_one, each_below, first_untrue, or_else, tabulate}
 
@@ -48,9 +49,6 @@ pub record AreEach {A E : Type 0} (f : ℕ → Result A E) (n : ℕ) (xs : List 
   pub count : length xs ≡ n
   pub each : (d : A) (i : ℕ) → i < n → f i ≡ Ok (at d xs i)
 
-some_is : {A : Type 0} {x y : A} → Some x ≡ Some y → x ≡ y
-some_is e = cc
-
 one_more_each : {A E : Type 0} (f : ℕ → Result A E) (n : ℕ) (ys : List A) (y : A) → AreEach f n ys → f n ≡ Ok y → AreEach f (suc n) (ys ++ y ∷ [])
 one_more_each {A} {E} f n ys y h is = record {
   count = let l = length_push ys y in let c = h.count in omega (arith, l, c);
@@ -61,11 +59,11 @@ one_more_each {A} {E} f n ys y h is = record {
 }
 
 pub each_is : {A E : Type 0} (f : ℕ → Result A E) (n : ℕ) (xs : List A) → each_below n f ≡ Some xs → AreEach f n xs
-each_is {A} {E} f zero xs e = subst (AreEach f 0) (some_is e) (record { count = refl; each = λ d i lt. absurd (omega (arith, lt)) })
+each_is {A} {E} f zero xs e = subst (AreEach f 0) (same_Some _ _ e) (record { count = refl; each = λ d i lt. absurd (omega (arith, lt)) })
 each_is {A} {E} f (suc n) xs e = by (λ ys p. each_is f n ys p) (each_below n f) refl (f n) refl e
   where
     by : ((ys : List A) → each_below n f ≡ Some ys → AreEach f n ys) → (o : Option (List A)) → each_below n f ≡ o → (x : Result A E) → f n ≡ x → and_one o x ≡ Some xs → AreEach f (suc n) xs
-    by before (Some ys) p (Ok y) q e = subst (AreEach f (suc n)) (some_is e) (one_more_each f n ys y (before ys p) q)
+    by before (Some ys) p (Ok y) q e = subst (AreEach f (suc n)) (same_Some _ _ e) (one_more_each f n ys y (before ys p) q)
     by before (Some ys) p (Err r) q e = absurd cc
     by before None p (Ok y) q e = absurd cc
     by before None p (Err r) q e = absurd cc

@@ -1,10 +1,8 @@
 -- Rounds: what each bound is, and that bounds stay short and can be spelled.
-use Rattle.std.proofs.Common.{◌≡◌, ℕ, zero, suc, ◌+◌, ◌-◌, ◌<◌, ◌≤◌, ℤ, pos, negsuc, List, Option, Some, None, Ok, inl, inr, refl, sym, ap, subst, ◌∙◌, arith}
+use Rattle.std.proofs.Common.{◌≡◌, ℕ, zero, suc, ◌+◌, ◌-◌, ◌<◌, ◌≤◌, pos, List, Option, Some, None, Ok, inl, inr, refl, sym, ap, subst, ◌∙◌, arith}
 use Rattle.std.proofs.lemmas.Bool.{cases_lt}
 use Rattle.std.proofs.lemmas.List.{get_or_past}
-use Rattle.std.proofs.lemmas.Int.{ints}
-use Rattle.fx_model.specs.LawfulProgram.{IsPoint}
-use Rattle.fx_analysis.specs.PlainErrors.{error_grid}
+use Rattle.std.proofs.lemmas.Option.{same_Some}
 use Rattle.fx_rational.specs.Interval.{Interval, IsWrittenInterval}
 use Rattle.fx_model.specs.Tree.{at}
 use Rattle.fx_inequalities.specs.Formula.{span}
@@ -13,20 +11,18 @@ use Rattle.fx_inequalities.specs.Certificate.{zero_interval}
 use Rattle.fx_judging.specs.Places.{IsShortSpan}
 use Rattle.fx_conditions.specs.declared.side.Side.{Side}
 use Rattle.fx_conditions.specs.declared.side.Side.TheVariants.{Value, Error}
+use Rattle.fx_conditions.proofs.Lawful.{short_ends}
 use Rattle.fx_analysis.specs.Narrow.{span_bounds}
 use Rattle.fx_analysis.specs.Laws.{IsNarrowestOf}
 use Rattle.fx_analysis.proofs.Narrowest.{narrowest_is}
 use Rattle.fx_analysis.proofs.Quotients.{around_inside}
+use Rattle.fx_analysis.proofs.ErrorLaw.{grid_few}
 use Rattle.fx_template.specs.Transitions.{IsModestTransition, Transition}
 use Rattle.fx_template.specs.PlainRounds.{Bounds, and_on, both_bounds, bounds_after, bounds_at_first, first_bounds, plain_rounds, raised_bound, raised_bounds, raised_span, row_grid, state_bound}
 use Rattle.fx_template.specs.Answers.{HasWrittenStates}
 use Rattle.fx_template.specs.RoundView.{AreShortBoth, AreShortBounds}
 use Rattle.fx_template.proofs.Lists.{each_is, tabulate_all, tabulate_at}
 use Rattle.fx_template.proofs.UnitRows.{zero_short}
-
-grid_few : (f : ℤ) → IsPoint f → error_grid f ≤ 96
-grid_few (pos n) h = let b = h.high in omega (arith, ints, b)
-grid_few (negsuc n) h = omega arith
 
 few_places : (side : Side) (t : Transition) (i : ℕ) → IsModestTransition t → row_grid side t i ≤ 96
 few_places Value t i m = omega arith
@@ -43,19 +39,13 @@ raised_is side t bounds i g m made =
 pub raised_written : (side : Side) (t : Transition) (bounds new : List Interval) → IsModestTransition t → raised_bounds side t bounds ≡ Some new → (i : ℕ) → i < t.states → IsWrittenInterval (at zero_interval new i)
 raised_written side t bounds new m e i lt = (raised_is side t bounds i (at zero_interval new i) m ((each_is (raised_bound side t bounds) t.states new e).each zero_interval i lt)).written
 
-pub written_short : (g : Interval) → IsWrittenInterval g → IsShortSpan 96 (span g)
-written_short g h = let a = h.0.places in let b = h.1.places in record { lo = record { few = omega (arith, a) }; hi = record { few = omega (arith, b) } }
-
 pub raised_short : (side : Side) (t : Transition) (bounds new : List Interval) → IsModestTransition t → raised_bounds side t bounds ≡ Some new → AreShortBounds new
 raised_short side t bounds new m e i = elim (cases_lt i t.states) [
-  | inl less ↦ written_short (at zero_interval new i) (raised_written side t bounds new m e i less)
+  | inl less ↦ short_ends (at zero_interval new i) (raised_written side t bounds new m e i less)
   | inr more ↦ (let count = (each_is (raised_bound side t bounds) t.states new e).count in subst (λ (x : Interval). IsShortSpan 96 (span x)) (sym (get_or_past new i zero_interval (omega (arith, count, more)))) zero_short)
 ]
 
 -- ---- of both kinds of rows
-some_is : {A : Type 0} {x y : A} → Some x ≡ Some y → x ≡ y
-some_is e = cc
-
 -- bounds of each state can be spelled
 abbrev pub AreWrittenBoth : Transition → Bounds → Type 0
 AreWrittenBoth t b = (i : ℕ) → i < t.states → IsWrittenInterval (at zero_interval b.rows i) × IsWrittenInterval (at zero_interval b.error_rows i)
@@ -68,7 +58,7 @@ pub round_is : (t : Transition) (b c : Bounds) → bounds_after t b ≡ Some c �
 round_is t b c e = by (raised_bounds Value t b.rows) refl (raised_bounds Error t b.error_rows) refl e
   where
     by : (x : Option (List Interval)) → raised_bounds Value t b.rows ≡ x → (y : Option (List Interval)) → raised_bounds Error t b.error_rows ≡ y → both_bounds x y ≡ Some c → IsRound t b c
-    by (Some xs) p (Some ys) q e = record { rows = p ∙ ap (λ (o : Bounds). Some o.rows) (some_is e); error_rows = q ∙ ap (λ (o : Bounds). Some o.error_rows) (some_is e) }
+    by (Some xs) p (Some ys) q e = record { rows = p ∙ ap (λ (o : Bounds). Some o.rows) (same_Some _ _ e); error_rows = q ∙ ap (λ (o : Bounds). Some o.error_rows) (same_Some _ _ e) }
     by (Some xs) p None q e = absurd cc
     by None p (Some ys) q e = absurd cc
     by None p None q e = absurd cc

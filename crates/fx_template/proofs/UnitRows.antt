@@ -14,13 +14,14 @@ use Rattle.fx_conditions.specs.Limits.{AreShortRows, IsShortRow}
 use Rattle.fx_conditions.specs.declared.side.Side.{Side}
 use Rattle.fx_sharing.specs.KeptRows.{kept_row}
 use Rattle.fx_analysis.specs.Narrow.{is_small}
+use Rattle.fx_cert.proofs.RowLaws.{unit_length}
 use Rattle.fx_template.specs.Listed.{first_untrue}
 use Rattle.fx_template.specs.Transitions.{Transition}
 use Rattle.fx_template.specs.PlainRounds.{are_met, stands, unit_row, unit_rows}
 use Rattle.fx_template.specs.Rows.{AreCountedRows, AreKept, AreWrittenBounds, IsCountedRow}
 use Rattle.fx_template.specs.RoundView.{AreShortBounds}
 use Rattle.fx_template.proofs.Lists.{all_true, tabulate_all, tabulate_at, tabulate_length}
-use Rattle.fx_template.proofs.UnitVectors.{entry_at, entry_whole, entry_written, unit_length, units_from}
+use Rattle.fx_template.proofs.UnitVectors.{entry_at, entry_whole, entry_written, units_from}
 
 pub zero_short : IsShortSpan 96 (span zero_interval)
 zero_short = record { lo = record { few = omega arith }; hi = record { few = omega arith } }

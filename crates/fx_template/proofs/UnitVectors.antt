@@ -6,16 +6,13 @@ use Rattle.fx_rational.specs.Dyadic.{Dyadic, IsWritten, zero_dyadic}
 use Rattle.fx_model.specs.Tree.{at}
 use Rattle.fx_inequalities.specs.LawfulCertificate.{AreUnitRows, unit_vector, zeros}
 use Rattle.fx_inequalities.specs.Certificate.{Row, no_row}
+use Rattle.fx_cert.proofs.Units.{zeros_more}
 use Rattle.fx_template.specs.Listed.{tabulate}
 use Rattle.fx_template.specs.Units.{unit_entry}
 use Rattle.fx_template.proofs.Lists.{tabulate_at, tabulate_length}
 
 one : Dyadic
 one = record { m = pos 1; e = 0 }
-
-zero_more : (j : ℕ) → zeros j ++ zero_dyadic ∷ [] ≡ zeros (suc j)
-zero_more zero = refl
-zero_more (suc j) = ap (λ xs. zero_dyadic ∷ xs) (zero_more j)
 
 other : (i j : ℕ) → j < i → unit_entry i j ≡ zero_dyadic
 other i j lt = by (i == j) refl
@@ -43,14 +40,14 @@ more f n = let next : n + 1 ≡ suc n = omega arith in subst (λ (m : ℕ). tabu
 
 before : (i n : ℕ) → n ≤ i → tabulate n (unit_entry i) ≡ zeros n
 before i zero le = refl
-before i (suc n) le = more (unit_entry i) n ∙ (λ k. before i n (omega (arith, le)) k ++ other i n (omega (arith, le)) k ∷ []) ∙ zero_more n
+before i (suc n) le = more (unit_entry i) n ∙ (λ k. before i n (omega (arith, le)) k ++ other i n (omega (arith, le)) k ∷ []) ∙ zeros_more n
 
 behind : (i d : ℕ) → tabulate (suc i + d) (unit_entry i) ≡ zeros i ++ record { m = pos 1; e = 0 } ∷ zeros d
 behind i zero = let same : suc i ≡ suc i + 0 = omega arith in
     subst (λ (m : ℕ). tabulate m (unit_entry i) ≡ zeros i ++ record { m = pos 1; e = 0 } ∷ []) same (more (unit_entry i) i ∙ (λ k. before i i (omega arith) k ++ here i k ∷ []))
 behind i (suc d) = let same : suc (suc i + d) ≡ suc i + suc d = omega arith in
     subst (λ (m : ℕ). tabulate m (unit_entry i) ≡ zeros i ++ record { m = pos 1; e = 0 } ∷ zeros (suc d)) same
-    (more (unit_entry i) (suc i + d) ∙ (λ k. behind i d k ++ later i (suc i + d) (omega arith) k ∷ []) ∙ append_assoc (zeros i) (record { m = pos 1; e = 0 } ∷ zeros d) (zero_dyadic ∷ []) ∙ ap (λ xs. zeros i ++ record { m = pos 1; e = 0 } ∷ xs) (zero_more d))
+    (more (unit_entry i) (suc i + d) ∙ (λ k. behind i d k ++ later i (suc i + d) (omega arith) k ∷ []) ∙ append_assoc (zeros i) (record { m = pos 1; e = 0 } ∷ zeros d) (zero_dyadic ∷ []) ∙ ap (λ xs. zeros i ++ record { m = pos 1; e = 0 } ∷ xs) (zeros_more d))
 
 -- a unit vector has its entries
 pub unit_is : (k i : ℕ) → i < k → tabulate k (unit_entry i) ≡ unit_vector k i
@@ -78,9 +75,6 @@ entry_written i j = by (i == j)
     by : (t : Bool) → IsWritten (if t then record { m = pos 1; e = 0 } else zero_dyadic)
     by true = record { small = omega arith; places = omega arith; one_spelling = λ lt. absurd (omega (arith, lt)) }
     by false = record { small = omega arith; places = omega arith; one_spelling = λ lt. absurd (omega (arith, lt)) }
-
-pub unit_length : (k i : ℕ) → i < k → length (unit_vector k i) ≡ k
-unit_length k i lt = ap length (sym (unit_is k i lt)) ∙ tabulate_length (unit_entry i) k
 
 -- ---- unit rows by their numbers
 pub units_from : (k m : ℕ) (rows : List Row) → ((i : ℕ) → i < length rows → i + m < k → (at no_row rows i).coefs ≡ unit_vector k (i + m)) → AreUnitRows k m rows

@@ -1,6 +1,5 @@
 -- Taking a chain of steps apart of which each may fail.
 use Rattle.std.proofs.Common.{◌≡◌, Bool, true, false, cond, Result, Ok, Err, ◌⊎◌, inl, inr, refl}
-use Rattle.std.specs.Prelude.{◌&&◌, ◌||◌}
 use Rattle.fx_text.specs.Reading.{◌>>=◌}
 
 -- the first step of a chain that succeeds, and the steps behind it
@@ -17,11 +16,3 @@ passed false d x y e = absurd cc
 pub chosen : {A : Type 0} (b : Bool) (x y z : A) → cond b x y ≡ z → ((b ≡ true) × (x ≡ z)) ⊎ ((b ≡ false) × (y ≡ z))
 chosen true x y z e = inl (refl, e)
 chosen false x y z e = inr (refl, e)
-
-pub both_true : (a b : Bool) → (a && b) ≡ true → (a ≡ true) × (b ≡ true)
-both_true true b e = (refl, e)
-both_true false b e = absurd cc
-
-pub some_true : (a b : Bool) → (a || b) ≡ true → (a ≡ true) ⊎ (b ≡ true)
-some_true true b e = inl refl
-some_true false b e = inr e

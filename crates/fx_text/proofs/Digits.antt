@@ -1,27 +1,20 @@
 -- Digits and their value.
-use Rattle.std.proofs.Common.{◌≡◌, ℕ, ◌+◌, ◌*◌, ◌-◌, ◌^◌, ◌<◌, ◌≤◌, true, false, List, length, get_or, take, min, Some, None, refl, subst, ◌∙◌, inl, inr, arith, rules, tests}
+use Rattle.std.proofs.Common.{◌≡◌, ℕ, ◌+◌, ◌*◌, ◌-◌, ◌^◌, ◌<◌, ◌≤◌, true, false, List, length, get_or, take, min, Some, None, refl, subst, ◌∙◌, inl, inr, arith}
 use Rattle.std.specs.Prelude.{option_map}
 use Rattle.std.specs.Char.{digit_value, is_ascii_digit}
 use Rattle.std.specs.Str.{all_ascii_digits}
 use Rattle.std.specs.Str.Parse.{AllDigits, digits_value}
-use Rattle.std.specs.Int.{IsInRange}
 use Rattle.std.proofs.lemmas.Str.{digit_value_digit}
 use Rattle.std.proofs.lemmas.Str.Parse.{IsNumeralModel, numerals_by_value, tells_all_ascii_digits, digit_at}
 use Rattle.std.proofs.lemmas.Int.Digits.{digits_value_more, digits_more}
 use Rattle.std.proofs.lemmas.Bool.{cases_Bool}
 use Rattle.std.proofs.lemmas.List.{take_all}
+use Rattle.fx_model.proofs.Digits.{digit_range, is_digit}
 use Rattle.fx_text.specs.Numbers.{digits_of, clamped}
 
 -- a text of digits, by std's test and value
 pub own : IsNumeralModel (λ ds. all_ascii_digits ds ≡ true) (digits_value 10)
 own = numerals_by_value _ tells_all_ascii_digits
-
--- the test of a digit, both ways
-in_range : (c : ℕ) → is_ascii_digit c ≡ true → IsInRange 48 57 c
-in_range c e = search (rules, tests)
-
-is_digit : (c : ℕ) → IsInRange 48 57 c → is_ascii_digit c ≡ true
-is_digit c r = search (rules, tests)
 
 -- a byte that is no digit: the text is no number
 pub digits_stop : (f : List ℕ) (i : ℕ) → i < length f → is_ascii_digit (get_or f i 0) ≡ false → digits_of f ≡ None
@@ -43,7 +36,7 @@ one_more n v d e = omega arith
 pub digits_go_on : (f : List ℕ) (i v : ℕ) → i < length f → is_ascii_digit (get_or f i 0) ≡ true → AllDigits 10 (take i f) → v ≡ clamped (digits_value 10 (take i f))
     → AllDigits 10 (take (i + 1) f) × (min (min (v * 10) top + (get_or f i 0 - 48)) top ≡ clamped (digits_value 10 (take (i + 1) f)))
 digits_go_on f i v lt is_one before e =
-    let r = in_range (get_or f i 0) is_one in
+    let r = digit_range (get_or f i 0) is_one in
     let d = digit_value_digit (get_or f i 0) r in
     let n : digit_value (get_or f i 0) ≡ get_or f i 0 - 48 = omega arith in
     (digits_more 10 f i lt before (omega arith), one_more (digits_value 10 (take i f)) v (get_or f i 0 - 48) e ∙ rw (digits_value_more 10 f i lt, n) refl)

@@ -8,6 +8,7 @@ use Rattle.std.proofs.lemmas.List.Concat.{flat_map_single}
 use Rattle.std.proofs.lemmas.List.Elements.{All-from_recursion, recursion_from_All}
 use Rattle.std.proofs.lemmas.Bool.Decides.{nat_tests}
 use Rattle.std.proofs.lemmas.Int.{ints}
+use Rattle.std.proofs.lemmas.Bool.{and_parts}
 use Rattle.fx_rational.specs.Dyadic.{Dyadic, IsWritten, mantissa_end, exponent_limit}
 use Rattle.fx_rational.specs.Interval.{Interval, IsWrittenInterval}
 use Rattle.fx_text.specs.declared.fault.TextKind.TheVariants.{OutOfRange}
@@ -18,7 +19,7 @@ use Rattle.fx_text.specs.Many.{AreEach, dyadics_at}
 use Rattle.fx_model.specs.LineText.{dyadic_text, interval_fields}
 use Rattle.fx_text.specs.Spelling.{IsField, IsOneSpelling, Lacks}
 use Rattle.fx_text.specs.Laws.{IsNarrow}
-use Rattle.fx_text.proofs.Choices.{on_ok, passed, chosen, both_true}
+use Rattle.fx_text.proofs.Choices.{on_ok, passed, chosen}
 use Rattle.fx_text.proofs.NumberLaws.{whole_takes, whole_again, integer_takes, integer_again}
 use Rattle.fx_text.proofs.Mantissas.{dyadic_of-odd}
 use Rattle.fx_text.proofs.FieldLaws.{field_is, known_is, front}
@@ -80,7 +81,7 @@ dyadic_takes line x e =
     on_ok _ _ x e (λ f hf e.
     on_ok _ _ x e (λ d hd e.
     let t = passed (nat_lt (unsigned_abs d.m) mantissa_end && nat_le d.e exponent_limit) OutOfRange (d, f.1) x e in
-    let tests = both_true (nat_lt (unsigned_abs d.m) mantissa_end) (nat_le d.e exponent_limit) t.0 in
+    let tests = and_parts (nat_lt (unsigned_abs d.m) mantissa_end) (nat_le d.e exponent_limit) t.0 in
     let small : unsigned_abs d.m < mantissa_end = grind (arith, nat_tests, tests.0) in
     let places : d.e ≤ exponent_limit = grind (arith, nat_tests, tests.1) in
     let is = known_is (dyadic_of f.0) d hd in

@@ -5,13 +5,14 @@ use Rattle.std.specs.Fmt.{decimal, signed_decimal}
 use Rattle.std.specs.Str.{bytes_eq}
 use Rattle.std.proofs.lemmas.Int.{ints}
 use Rattle.std.proofs.lemmas.Slice.Eq.{bytes_eq-Decides}
+use Rattle.std.proofs.lemmas.Bool.{and_parts}
 use Rattle.fx_text.specs.declared.fault.TextKind.{TextKind}
 use Rattle.fx_text.specs.declared.fault.TextKind.TheVariants.{BadLine, OutOfRange, TooMany}
 use Rattle.fx_text.specs.Cutting.{Line}
 use Rattle.fx_text.specs.Numbers.{integer_of}
 use Rattle.fx_text.specs.Reading.{IsWithin, field_at, known, keyword_at, number_at, place_at, count_at, ended_at}
 use Rattle.fx_text.specs.Laws.{AreNarrow}
-use Rattle.fx_text.proofs.Choices.{on_ok, passed, chosen, both_true}
+use Rattle.fx_text.proofs.Choices.{on_ok, passed, chosen}
 use Rattle.fx_text.proofs.NumberLaws.{integer_takes, integer_again}
 
 -- a result that is no fault
@@ -37,7 +38,7 @@ ended_is (f ∷ fs) rest e = absurd cc
 
 -- the test of a range, both ways
 within_from : (low high z : ℤ) → (int_le low z && int_le z high) ≡ true → IsWithin low high z
-within_from low high z e = let h = both_true (int_le low z) (int_le z high) e in (grind (arith, ints, h.0), grind (arith, ints, h.1))
+within_from low high z e = let h = and_parts (int_le low z) (int_le z high) e in (grind (arith, ints, h.0), grind (arith, ints, h.1))
 
 within_test : (low high z : ℤ) → IsWithin low high z → (int_le low z && int_le z high) ≡ true
 within_test low high z h = let a : int_le low z ≡ true = grind (arith, ints, h.0) in let b : int_le z high ≡ true = grind (arith, ints, h.1) in rw (a, b) refl

@@ -4,7 +4,7 @@ use Rattle.std.specs.Prelude.{option_map, unsigned_abs, ◌||◌}
 use Rattle.std.specs.Char.{digit_value}
 use Rattle.std.specs.Str.{all_ascii_digits}
 use Rattle.std.specs.Str.Parse.{digits_value}
-use Rattle.std.proofs.lemmas.Bool.{eqb-true}
+use Rattle.std.proofs.lemmas.Bool.{eqb-true, or_cases}
 use Rattle.std.proofs.lemmas.Bool.Decides.{nat_tests}
 use Rattle.std.proofs.lemmas.Int.Digits.{digits_value_more}
 use Rattle.std.proofs.lemmas.List.{take_all}
@@ -14,7 +14,7 @@ use Rattle.std.proofs.lemmas.Str.Parse.{digit_at}
 use Rattle.fx_rational.specs.Dyadic.{Dyadic, IsDyadic, IsWritten, mantissa_end, exponent_limit}
 use Rattle.fx_text.specs.Cutting.{cut_at}
 use Rattle.fx_text.specs.Numbers.{has_good_front, digits_of, whole_of, integer_of, lowest_spelled, dyadic_in, dyadic_of, clamped, kept_signed, kept_dyadic}
-use Rattle.fx_text.proofs.Choices.{chosen, some_true}
+use Rattle.fx_text.proofs.Choices.{chosen}
 use Rattle.fx_text.proofs.Digits.{own}
 use Rattle.fx_text.proofs.NumberLaws.{good_front, cons_drop, negative_is, positive_is}
 
@@ -106,7 +106,7 @@ spelled_odd (Some m) (Some e) d h lt =
     elim (chosen (eqb e 0 || eqb (unsigned_abs m % 2) 1) (Some (record { m = m; e = e })) None (Some d) h) [
       | inl k ↦
           let same : record { m = m; e = e } ≡ d = cc in
-          subst (λ (y : Dyadic). 0 < y.e → unsigned_abs y.m % 2 ≡ 1) same (by (some_true (eqb e 0) (eqb (unsigned_abs m % 2) 1) k.0)) lt
+          subst (λ (y : Dyadic). 0 < y.e → unsigned_abs y.m % 2 ≡ 1) same (by (or_cases (eqb e 0) (eqb (unsigned_abs m % 2) 1) k.0)) lt
       | inr k ↦ absurd cc
     ]
   where

@@ -5,10 +5,11 @@ use Rattle.std.proofs.Math.Seq.{get_or-append_seam}
 use Rattle.fx_model.specs.Tree.{at}
 use Rattle.fx_model.specs.Function as function
 use Rattle.fx_model.specs.Nodes.{Node, Input, State, Const, Neg, Add, Sub, Mul, Div, Copy}
+use Rattle.fx_model.proofs.Widths.{IsWordWidth}
 use Rattle.fx_inequalities.specs.NodeConditions.{no_input}
 use Rattle.fx_weight.specs.Weights.{Weight, no_weight, node_weight, weights_after, is_modest, first_immodest, sum_weight, product_weight}
 use Rattle.fx_weight.specs.Laws.{IsBalanced}
-use Rattle.fx_weight.proofs.Exponents.{IsWordWidth, sum_balanced, product_balanced}
+use Rattle.fx_weight.proofs.Exponents.{sum_balanced, product_balanced}
 use Rattle.fx_weight.proofs.Inputs.{input_facts}
 use Rattle.fx_weight.proofs.Literals.{const_balanced}
 use Rattle.fx_weight.specs.Ordered.{IsOrdered}
@@ -115,8 +116,8 @@ pub next_balanced : (n : ℕ) (inputs : List function.Input) (ws : List Weight) 
 next_balanced n inputs ws k node x width h m before =
     subst (IsBalanced n) (sym h.is) (node_balanced n inputs ws k node width before h.ordered (subst (λ (y : Weight). is_modest node y ≡ true) h.is m))
 
-last : (b k : ℕ) → b < k + 1 → (b < k) ⊎ (b ≡ k)
-last b k l = grind (arith, l)
+pub before_or_last : (b k : ℕ) → b < k + 1 → (b < k) ⊎ (b ≡ k)
+before_or_last b k l = grind (arith, l)
 
 -- all of them, from those before k
 pub all_balanced : (n : ℕ) (inputs : List function.Input) (ws : List Weight) (k : ℕ) (nodes : List Node) (xs : List Weight) → IsWordWidth n → ArePairs (IsWeighed n inputs ws) k nodes xs → ArePairs (λ k node x. is_modest node x ≡ true) k nodes xs →
@@ -127,6 +128,6 @@ all_balanced n inputs ws k (node ∷ nodes) (x ∷ xs) width h m before a lt =
     all_balanced n inputs ws (k + 1) nodes xs width h.1 m.1 (λ b l. one_more own h.0.at before b l) a (omega (arith, lt))
   where
     one_more : IsBalanced n x → at no_weight ws k ≡ x → ((a : ℕ) → a < k → IsBalanced n (at no_weight ws a)) → (b : ℕ) → b < k + 1 → IsBalanced n (at no_weight ws b)
-    one_more own is before b l = ⊎_elim (λ (less : b < k). before b less) (λ (same : b ≡ k). subst (λ (j : ℕ). IsBalanced n (at no_weight ws j)) (sym same) (subst (IsBalanced n) (sym is) own)) (last b k l)
+    one_more own is before b l = ⊎_elim (λ (less : b < k). before b less) (λ (same : b ≡ k). subst (λ (j : ℕ). IsBalanced n (at no_weight ws j)) (sym same) (subst (IsBalanced n) (sym is) own)) (before_or_last b k l)
 all_balanced n inputs ws k [] (x ∷ xs) width h m before a lt = absurd h
 all_balanced n inputs ws k (node ∷ nodes) [] width h m before a lt = absurd h

@@ -1,23 +1,16 @@
 -- Comparisons of small formulas with narrow fractions.
-use Rattle.std.proofs.Common.{◌≡◌, ℕ, zero, suc, pred, ◌*◌, ◌^◌, ◌/◌, ◌<◌, ◌≤◌, true, [], ◌∷◌, pos, ◌*ℤ◌, refl, arith}
+use Rattle.std.proofs.Common.{◌≡◌, ℕ, suc, pred, ◌*◌, ◌^◌, ◌/◌, ◌≤◌, true, [], ◌∷◌, pos, ◌*ℤ◌, refl, arith}
 use Rattle.std.specs.Prelude.{unsigned_abs}
-use Rattle.std.proofs.lemmas.Int.{ints}
-use Rattle.std.proofs.lemmas.Nat.{div-add-mod'}
+use Rattle.std.proofs.Math.Nat.{div-le_self}
 use Rattle.fx_algebra.specs.Gcd.{gcd}
 use Rattle.fx_rational.specs.Rational.{Rational, bottom, over, lowest, AtMost}
 use Rattle.fx_rational.specs.Dyadic.{fits_128}
+use Rattle.fx_rational.proofs.Tests.{at_most_holds}
 use Rattle.fx_inequalities.specs.Formula.{Formula, formula_value, formed}
 use Rattle.fx_inequalities.specs.Claim.{BelowFraction, AboveFraction, fits_over}
 use Rattle.fx_weight.specs.Laws.{IsNarrowNumber}
-use Rattle.fx_weight.proofs.Sizes.{IsUpTo, within_more, product_up_to, within_fits, IsSmall, mantissa_within}
-use Rattle.fx_weight.proofs.PowerSizes.{AreMet, at_most_holds}
-
-div_le : (a d : ℕ) → a / d ≤ a
-div_le a zero = grind arith
-div_le a (suc d) = let e = div-add-mod' a (suc d) in let l = grown (a / suc d) (suc d) (omega arith) in omega (arith, e, l)
-  where
-    grown : (a p : ℕ) → 0 < p → a ≤ a * p
-    grown a p h = grind arith
+use Rattle.fx_weight.proofs.Sizes.{within_more, product_up_to, within_fits, IsSmall, mantissa_within, within_pos}
+use Rattle.fx_weight.proofs.PowerSizes.{AreMet}
 
 at_least_one : (a b : ℕ) → a ≤ suc b → suc (pred a) ≤ suc b
 at_least_one a b h = omega arith
@@ -25,10 +18,7 @@ at_least_one a b h = omega arith
 -- lowest terms aren't wider
 pub lowest_is_narrower : (q : Rational) → bottom (lowest q) ≤ bottom q
 unfolding lowest over
-lowest_is_narrower q = at_least_one (bottom q / gcd (unsigned_abs q.top) (bottom q)) q.less (div_le (bottom q) (gcd (unsigned_abs q.top) (bottom q)))
-
-pub within_pos : (m : ℕ) → IsUpTo m (pos m)
-within_pos m = record { low = omega (arith, ints); high = omega (arith, ints) }
+lowest_is_narrower q = at_least_one (bottom q / gcd (unsigned_abs q.top) (bottom q)) q.less (div-le_self (bottom q) (gcd (unsigned_abs q.top) (bottom q)))
 
 -- 2^62 times a denominator fits
 pub over_fits : {e m : ℕ} {f : Formula} (c : Rational) → m ≤ 2 ^ 62 → IsSmall e m f → IsNarrowNumber c → fits_over f c ≡ true

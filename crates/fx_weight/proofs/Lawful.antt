@@ -11,6 +11,8 @@ use Rattle.fx_model.specs.Function.{Function}
 use Rattle.fx_model.specs.Machine.{points_of}
 use Rattle.fx_model.specs.LawfulProgram.{IsPoint, IsShift, IsLawfulCode, IsPlaced, AreLawful, IsCopy, widths, HasLawfulCounts, IsLawfulProgram}
 use Rattle.fx_model.specs.Nodes.{Node, Input, State, Const, Neg, Add, Sub, Mul, Div, Copy, nodes_of}
+use Rattle.fx_model.proofs.Roots.{IsCopyNode}
+use Rattle.fx_model.proofs.Widths.{IsWordWidth}
 use Rattle.fx_inequalities.specs.Certificate.{NodeLine, no_line}
 use Rattle.fx_inequalities.specs.LawfulCertificate.{AreWrittenRows, IsWrittenRow, AreWrittenLines, IsWrittenStep, IsWrittenBox, IsLawfulCertificate}
 use Rattle.fx_inequalities.specs.Accepted.{output_code}
@@ -18,10 +20,8 @@ use Rattle.fx_weight.specs.Weights.{Weight, no_weight, range_point, power_dyadic
 use Rattle.fx_weight.specs.PlainPlan.{plain_code, plain_codes, plain_line, power_interval, plain_program, plain_certificate}
 use Rattle.fx_weight.specs.Laws.{IsBalanced, IsPlainFunction, IsPlan, PlainLaw}
 use Rattle.fx_weight.proofs.PowerSizes.{minus_power, power_more}
-use Rattle.fx_weight.proofs.Exponents.{IsWordWidth}
 use Rattle.fx_weight.proofs.Literals.{const_is_word}
 use Rattle.fx_weight.specs.Ordered.{IsOrdered}
-use Rattle.fx_weight.proofs.Ordered.{IsCopyNode}
 use Rattle.fx_weight.proofs.Folded.{ArePairs, few}
 use Rattle.fx_weight.proofs.Points.{point}
 use Rattle.fx_weight.proofs.Whole.{IsGoodNode, width, no_states, list, good, same_length, balanced_at, codes, codes_long, points, no_plain_fault}

@@ -1,13 +1,15 @@
 -- No condition of a node has a fault.
-use Rattle.std.proofs.Common.{◌≡◌, ℕ, ◌+◌, ◌-◌, ◌^◌, ◌<◌, ◌≤◌, ltb, ◌==◌, Bool, true, false, ◌&&◌, if◌then◌else◌, List, [], ◌∷◌, length, map, Option, None, ℤ, pos, ◌-ℤ◌, refl, sym, ap, subst, ◌∙◌, arith}
+use Rattle.std.proofs.Common.{◌≡◌, ℕ, ◌+◌, ◌-◌, ◌^◌, ◌<◌, ◌≤◌, ltb, Bool, true, false, ◌&&◌, if◌then◌else◌, List, [], ◌∷◌, length, map, Option, None, ℤ, pos, ◌-ℤ◌, refl, sym, ap, subst, ◌∙◌, arith}
 use Rattle.std.specs.Prelude.{All}
 use Rattle.std.proofs.Common.{int_eq}
 use Rattle.std.proofs.lemmas.Int.{ints}
 use Rattle.std.proofs.lemmas.List.{get_or-map}
+use Rattle.std.proofs.lemmas.Bool.{eq-eqb}
 use Rattle.fx_model.specs.Tree.{at}
 use Rattle.fx_model.specs.Function.{Function}
 use Rattle.fx_model.specs.Machine.{Code}
 use Rattle.fx_model.specs.Nodes.{Node, Input, State, Const, Neg, Add, Sub, Mul, Div, Copy}
+use Rattle.fx_model.proofs.Widths.{IsWordWidth}
 use Rattle.fx_inequalities.specs.Formula.{Span, span, zero_span, span_sum, span_difference, span_product, loss_at}
 use Rattle.fx_inequalities.specs.Claim.{Claim, inside}
 use Rattle.fx_inequalities.specs.Certificate.{Certificate, NodeLine, Form, no_line}
@@ -20,7 +22,7 @@ use Rattle.fx_weight.specs.PlainPlan.{shift_to, plain_code, plain_line, power_in
 use Rattle.fx_weight.specs.Laws.{IsNarrowNode, IsBalanced}
 use Rattle.fx_weight.proofs.Sizes.{span_sums}
 use Rattle.fx_weight.proofs.PowerSizes.{AreMet, IsAt, small_interval, zero_interval_small, power_small, inside_power}
-use Rattle.fx_weight.proofs.Exponents.{IsWordWidth, range_at_zero}
+use Rattle.fx_weight.proofs.Exponents.{range_at_zero}
 use Rattle.fx_weight.proofs.Operations.{range_of, error_of, error_at_61, turned_inside, sum_range_met, difference_range_met, sum_error_met, difference_error_met, product_range_met, product_error_met}
 use Rattle.fx_weight.proofs.Words.{word_met}
 use Rattle.fx_weight.proofs.Inputs.{IsKnownInput, input_facts, input_range, input_error_claims}
@@ -183,22 +185,19 @@ node_faults n fn ws cert ps k node x lines points width narrow balanced h m w =
     (faultless condition.WordTooSmall OfNode k true (word_claims n (point n x) (range_of x) (error_of x)) refl (word_met n x width own))
 
 -- ---- Shape and Shift
-same_number : (k : ℕ) → (k == k) ≡ true
-same_number k = grind arith
-
 same_whole : (p q : ℤ) → p ≡ q → int_eq p q ≡ true
 same_whole p q e = grind (arith, ints, e)
 
 shaped : (n : ℕ) (ws : List Weight) (node : Node) (x : Weight) → same_shape node (plain_code n ws node x) ≡ true
-shaped n ws (Input j) x = same_number j
-shaped n ws (State j) x = same_number j
+shaped n ws (Input j) x = eq-eqb j j refl
+shaped n ws (State j) x = eq-eqb j j refl
 shaped n ws (Const c) x = refl
-shaped n ws (Neg a) x = same_number a
-shaped n ws (Add a b) x = let p = same_number a in let q = same_number b in rw (p, q) refl
-shaped n ws (Sub a b) x = let p = same_number a in let q = same_number b in rw (p, q) refl
-shaped n ws (Mul a b) x = let p = same_number a in let q = same_number b in rw (p, q) refl
-shaped n ws (Div a b) x = let p = same_number a in let q = same_number b in rw (p, q) refl
-shaped n ws (Copy a) x = same_number a
+shaped n ws (Neg a) x = eq-eqb a a refl
+shaped n ws (Add a b) x = let p = eq-eqb a a refl in let q = eq-eqb b b refl in rw (p, q) refl
+shaped n ws (Sub a b) x = let p = eq-eqb a a refl in let q = eq-eqb b b refl in rw (p, q) refl
+shaped n ws (Mul a b) x = let p = eq-eqb a a refl in let q = eq-eqb b b refl in rw (p, q) refl
+shaped n ws (Div a b) x = let p = eq-eqb a a refl in let q = eq-eqb b b refl in rw (p, q) refl
+shaped n ws (Copy a) x = eq-eqb a a refl
 
 both : (n : ℕ) (ws : List Weight) (ps : List ℤ) (x : Weight) (a b : ℕ) → at (pos 0) ps a ≡ point n (at no_weight ws a) → at (pos 0) ps b ≡ point n (at no_weight ws b) →
     (at (pos 0) ps a -ℤ shift_to ws x a) ≡ (at (pos 0) ps b -ℤ shift_to ws x b)

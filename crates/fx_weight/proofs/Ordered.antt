@@ -2,14 +2,15 @@
 use Rattle.std.proofs.Common.{◌≡◌, ℕ, zero, suc, ◌+◌, ◌<◌, ◌≤◌, List, [], ◌∷◌, ◌++◌, length, refl, sym, subst, ◌∙◌, arith, length-append}
 use Rattle.std.specs.Prelude.{All}
 use Rattle.std.proofs.lemmas.List.{length_push}
-use Rattle.std.proofs.lemmas.List.Elements.{All-nil, All-cons, All-push}
+use Rattle.std.proofs.lemmas.List.Elements.{All-nil}
 use Rattle.fx_model.specs.Tree as tree
 use Rattle.fx_model.specs.Tree.{Tree, at}
 use Rattle.fx_model.specs.Function.{Function, Temp}
-use Rattle.fx_model.specs.Nodes.{Node, Neg, Add, Sub, Mul, Div, Copy, Flat, flat, inputs_from, states_from, copies_of, nodes_after, nodes_of}
+use Rattle.fx_model.specs.Nodes.{Node, Neg, Add, Sub, Mul, Div, Flat, flat, inputs_from, states_from, copies_of, nodes_after, nodes_of}
 use Rattle.fx_weight.specs.Ordered.{IsOrdered}
-use Rattle.fx_model.proofs.Exact.{nodes_length, states_length}
 use Rattle.fx_model.specs.Valid.{RefersBelow, AllReferBelow, ReferBack, IsValid}
+use Rattle.fx_model.proofs.Counted.{copies_length, inputs_length, states_length}
+use Rattle.fx_model.proofs.Roots.{AreBelow, IsCopyNode, below_more, copies_are, root_more}
 
 -- node k and those after it
 abbrev pub AreOrdered : ℕ → ℕ → List Node → Type 0
@@ -27,13 +28,6 @@ inputs_ordered i k (suc m) h = ((refl, omega (arith, h)), inputs_ordered i (k + 
 states_ordered : (i k j m : ℕ) → AreOrdered i k (states_from j m)
 states_ordered i k j zero = tt
 states_ordered i k j (suc m) = (tt, states_ordered i (k + 1) (j + 1) m)
-
--- each root is below n
-abbrev pub AreBelow : ℕ → List ℕ → Type 0
-AreBelow n roots = All (λ r. r < n) roots
-
-below_more : (n m : ℕ) (roots : List ℕ) → n ≤ m → AreBelow n roots → AreBelow m roots
-below_more n m roots l h k d lt = let b = h k d lt in omega (arith, b, l)
 
 -- ---- a tree's nodes
 pub record IsFlat (i n : ℕ) (x : Flat) : Type 0 where
@@ -89,19 +83,6 @@ copies_ordered i n [] l h = tt
 copies_ordered i n (a ∷ roots) l h =
     ((l, h 0 0 (omega arith)), copies_ordered i (n + 1) roots (omega (arith, l)) (λ k d lt. let b = h (suc k) d (omega (arith, lt)) in omega (arith, b)))
 
-copies_length : (roots : List ℕ) → length (copies_of roots) ≡ length roots
-copies_length [] = refl
-copies_length (a ∷ roots) = let h = copies_length roots in omega (arith, h)
-
--- a copy
-abbrev pub IsCopyNode : Node → Type 0
-IsCopyNode (Copy a) = Unit {0}
-IsCopyNode node = ⊥
-
-copies_are : (roots : List ℕ) → All IsCopyNode (copies_of roots)
-copies_are [] = All-nil IsCopyNode
-copies_are (a ∷ roots) = All-cons IsCopyNode (Copy a) (copies_of roots) tt (copies_are roots)
-
 -- ---- all nodes
 -- what stands before the copies, and what is copied
 pub record IsNodeList (i m : ℕ) (nodes : List Node) : Type 0 where
@@ -112,9 +93,6 @@ pub record IsNodeList (i m : ℕ) (nodes : List Node) : Type 0 where
   pub are_copies : All IsCopyNode copies
   pub enough : i ≤ length before
   pub ordered : AreOrdered i 0 nodes
-
-temp_more : (n : ℕ) (list : List Node) (temps : List ℕ) (root : ℕ) → AreBelow n temps → root < n + length list → AreBelow (n + length list) (temps ++ root ∷ [])
-temp_more n list temps root h r = All-push (λ (t : ℕ). t < n + length list) temps root (below_more n (n + length list) temps (omega arith) h) r
 
 after_ordered : (i s : ℕ) (ts : List Temp) (es : List Tree) (temps roots : List ℕ) (ns : List Node) → i + s ≤ length ns → AreOrdered i 0 ns → AreBelow (length ns) temps → AreBelow (length ns) roots →
     ReferBack i s (length temps) ts → AllReferBelow i s (length temps + length ts) es → IsNodeList i (length roots + length es) (nodes_after i ts es temps roots ns)
@@ -134,7 +112,7 @@ after_ordered i s [] (e ∷ es) temps roots ns l o t r back refer =
     let more = after_ordered i s [] es temps (roots ++ x.root ∷ []) (ns ++ x.list) (omega (arith, l, long))
     (ordered_append i 0 ns x.list o (subst (λ (m : ℕ). AreOrdered i m x.list) (omega arith) f.list))
     (below_more (length ns) (length (ns ++ x.list)) temps (omega (arith, long)) t)
-    (subst (λ (m : ℕ). AreBelow m (roots ++ x.root ∷ [])) (sym long) (temp_more (length ns) x.list roots x.root r f.root))
+    (subst (λ (m : ℕ). AreBelow m (roots ++ x.root ∷ [])) (sym long) (root_more (length ns) x.list roots x.root r f.root))
     back refer.1 in
     let pushed = length_push roots x.root in
     subst (λ (m : ℕ). IsNodeList i m (nodes_after i [] es temps (roots ++ x.root ∷ []) (ns ++ x.list))) (omega (arith, pushed)) more
@@ -145,14 +123,14 @@ after_ordered i s (t ∷ ts) es temps roots ns l o below r back refer =
     let pushed = length_push temps x.root in
     after_ordered i s ts es (temps ++ x.root ∷ []) roots (ns ++ x.list) (omega (arith, l, long))
     (ordered_append i 0 ns x.list o (subst (λ (m : ℕ). AreOrdered i m x.list) (omega arith) f.list))
-    (subst (λ (m : ℕ). AreBelow m (temps ++ x.root ∷ [])) (sym long) (temp_more (length ns) x.list temps x.root below f.root))
+    (subst (λ (m : ℕ). AreBelow m (temps ++ x.root ∷ [])) (sym long) (root_more (length ns) x.list temps x.root below f.root))
     (below_more (length ns) (length (ns ++ x.list)) roots (omega (arith, long)) r)
     (subst (λ (m : ℕ). ReferBack i s m ts) (sym pushed) back.1)
     (subst (λ (m : ℕ). AllReferBelow i s m es) (omega (arith, pushed)) refer)
 
 module _ (fn : Function) (valid : IsValid fn) where
   start_long : length (inputs_from 0 (length fn.inputs) ++ states_from 0 (length fn.states)) ≡ length fn.inputs + length fn.states
-  start_long = let a = nodes_length 0 (length fn.inputs) in let b = states_length 0 (length fn.states) in length-append (inputs_from 0 (length fn.inputs)) (states_from 0 (length fn.states)) ∙ omega (arith, a, b)
+  start_long = let a = inputs_length 0 (length fn.inputs) in let b = states_length 0 (length fn.states) in length-append (inputs_from 0 (length fn.inputs)) (states_from 0 (length fn.states)) ∙ omega (arith, a, b)
 
   start_ordered : AreOrdered (length fn.inputs) 0 (inputs_from 0 (length fn.inputs) ++ states_from 0 (length fn.states))
   start_ordered = ordered_append (length fn.inputs) 0 (inputs_from 0 (length fn.inputs)) (states_from 0 (length fn.states)) (inputs_ordered (length fn.inputs) 0 (length fn.inputs) (omega arith)) (states_ordered (length fn.inputs) (0 + length (inputs_from 0 (length fn.inputs))) 0 (length fn.states))

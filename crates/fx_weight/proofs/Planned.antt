@@ -7,6 +7,8 @@ use Rattle.fx_model.specs.LawfulProgram.{IsLawfulProgram, widths}
 use Rattle.fx_model.specs.Names.{IsName}
 use Rattle.fx_model.specs.Nodes as model
 use Rattle.fx_model.specs.Nodes.{nodes_of}
+use Rattle.fx_model.proofs.Lists.{seen_at}
+use Rattle.fx_model.proofs.Widths.{IsWordWidth, width_of}
 use Rattle.fx_inequalities.specs.Certificate.{Certificate}
 use Rattle.fx_expr.specs.LawfulFunction.{IsLawfulFunction}
 use Rattle.fx_flat.specs.NodeOf.{node_of, nodes_in}
@@ -24,22 +26,19 @@ use Rattle.fx_weight.specs.Laws.{IsNarrowInput, IsNarrowNode, IsPlan}
 use Rattle.fx_weight.specs.CodeParts.{HasOperands, FitLiterals, FitsLiteral}
 use Rattle.fx_weight.specs.WeightOf.{weight_of, weights_in}
 use Rattle.fx_weight.specs.declared.weight.Weight.{Weight}
-use Rattle.fx_weight.proofs.Exponents.{IsWordWidth}
 use Rattle.fx_weight.proofs.Ordered.{node_list}
 use Rattle.fx_weight.proofs.Stateless.{as_many, literals_fit, operands_below, codes_more, stateless}
-use Rattle.fx_weight.proofs.Turns.{node_seen}
-use Rattle.fx_weight.proofs.Whole.{width_of}
 use Rattle.fx_weight.proofs.Lawful.{plan_is}
 
 -- ---- one more code
 pub operands_here : (n : ℕ) (nodes : List Node) (i : ℕ) (x : Node) → All (HasOperands n) (nodes_in nodes) → i < length nodes → x ≡ get_or nodes i x → HasOperands n (node_of x)
 operands_here n nodes i x h lt is =
-    let s = node_seen node_of nodes (nodes_in nodes) i x refl lt is in
+    let s = seen_at node_of nodes (nodes_in nodes) i x refl lt is in
     subst (HasOperands n) s.1 (h i (node_of x) s.0)
 
 pub literal_here : (n : ℕ) (nodes : List Node) (ws : List Weight) (i : ℕ) (x : Node) (d : Weight) → FitLiterals n (nodes_in nodes) (weights_in ws) → i < length nodes → i < length ws → x ≡ get_or nodes i x → FitsLiteral n (node_of x) (weight_of (get_or ws i d))
 literal_here n nodes ws i x d h lt within is =
-    let s = node_seen node_of nodes (nodes_in nodes) i x refl lt is in
+    let s = seen_at node_of nodes (nodes_in nodes) i x refl lt is in
     subst (λ (y : weights.Weight). FitsLiteral n (node_of x) y) (get_or-map weight_of ws i d no_weight within)
     (subst (λ (y : model.Node). FitsLiteral n y (get_or (weights_in ws) i no_weight)) s.1 (h i (node_of x) s.0))
 
@@ -47,7 +46,7 @@ pub code_more : (n : ℕ) (nodes : List Node) (ws : List Weight) (all codes : Li
     map code_of codes ≡ plain_codes n (weights_in ws) (take i (nodes_in nodes)) (take i (weights_in ws)) → code_of y ≡ plan.plain_code n (weights_in ws) (node_of x) (weight_of (get_or ws i d)) →
     map code_of all ≡ plain_codes n (weights_in ws) (take (i + 1) (nodes_in nodes)) (take (i + 1) (weights_in ws))
 code_more n nodes ws all codes i x d y lt within is pushed before own =
-    let s = node_seen node_of nodes (nodes_in nodes) i x refl lt is in
+    let s = seen_at node_of nodes (nodes_in nodes) i x refl lt is in
     let w = get_or-map weight_of ws i d no_weight within in
     ap (map code_of) pushed ∙ map_push code_of codes y
     ∙ (λ j. before j ++ own j ∷ [])

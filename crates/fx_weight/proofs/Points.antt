@@ -7,9 +7,9 @@ use Rattle.fx_model.specs.Tree.{at}
 use Rattle.fx_model.specs.Function as function
 use Rattle.fx_model.specs.Machine.{point_of, points_after}
 use Rattle.fx_model.specs.Nodes.{Node, Input, State, Const, Neg, Add, Sub, Mul, Div, Copy}
+use Rattle.fx_model.proofs.Widths.{IsWordWidth}
 use Rattle.fx_weight.specs.Weights.{Weight, no_weight, range_point, node_weight, is_modest}
 use Rattle.fx_weight.specs.PlainPlan.{shift_to, plain_code, plain_codes}
-use Rattle.fx_weight.proofs.Exponents.{IsWordWidth}
 use Rattle.fx_weight.specs.Ordered.{IsOrdered}
 use Rattle.fx_weight.proofs.Folded.{ArePairs, IsWeighed}
 

@@ -9,33 +9,24 @@ use Rattle.fx_rational.specs.Rational.{over}
 use Rattle.fx_rational.specs.Decimal.{Decimal, decimal_value}
 use Rattle.fx_fraction.proofs.Quanta.{ten_pos, ten_small}
 use Rattle.fx_weight.specs.Laws.{IsNarrowNumber}
-use Rattle.fx_model.specs.Tree.{Tree, at}
+use Rattle.fx_model.specs.Tree.{at}
 use Rattle.fx_model.specs.Function as function
-use Rattle.fx_model.specs.Function.{Function, Temp}
-use Rattle.fx_model.specs.Nodes.{Node, Input, State, Const, Neg, Add, Sub, Mul, Div, Copy, flat, inputs_from, states_from, copies_of, nodes_after, nodes_of}
+use Rattle.fx_model.specs.Function.{Function}
+use Rattle.fx_model.specs.Nodes.{Node, Input, State, Const, Neg, Add, Sub, Mul, Div, Copy, inputs_from, states_from, nodes_of}
 use Rattle.fx_model.specs.Valid.{IsValid}
+use Rattle.fx_model.proofs.Counted.{inputs_length}
+use Rattle.fx_model.proofs.Exact.{nodes_go}
+use Rattle.fx_model.proofs.Widths.{IsWordWidth}
 use Rattle.fx_weight.specs.Weights.{Weight, no_weight, range_point, weights_of, node_weight, is_modest, const_weight, IsModest}
 use Rattle.fx_weight.specs.PlainPlan.{plain_code, plain_codes}
 use Rattle.fx_weight.specs.CodeParts.{FitsLiteral, FitLiterals, HasOperands}
 use Rattle.fx_weight.specs.Ordered.{IsOrdered}
 use Rattle.fx_weight.proofs.Sizes.{IsUpTo}
 use Rattle.fx_weight.proofs.PowerSizes.{power_more}
-use Rattle.fx_weight.proofs.Exponents.{IsWordWidth}
 use Rattle.fx_weight.proofs.Literals.{const_word}
 use Rattle.fx_weight.proofs.Ordered.{AreOrdered, node_list}
-use Rattle.fx_model.proofs.Exact.{nodes_length}
 use Rattle.fx_weight.proofs.Folded.{ArePairs, pairs_length, IsWeighed, folded, modest_pairs, few}
 use Rattle.fx_weight.proofs.Turns.{ordered_at}
-
--- the first nodes stay
-nodes_front : (i : ℕ) (ts : List Temp) (es : List Tree) (temps roots : List ℕ) (ns : List Node) → (rest : List Node) × (nodes_after i ts es temps roots ns ≡ ns ++ rest)
-nodes_front i [] [] temps roots ns = (copies_of roots, refl)
-nodes_front i [] (e ∷ es) temps roots ns =
-    let x = flat i temps (length ns) e in let f = nodes_front i [] es temps (roots ++ x.root ∷ []) (ns ++ x.list) in
-    (x.list ++ f.0, f.1 ∙ append_assoc ns x.list f.0)
-nodes_front i (t ∷ ts) es temps roots ns =
-    let x = flat i temps (length ns) t.tree in let f = nodes_front i ts es (temps ++ x.root ∷ []) roots (ns ++ x.list) in
-    (x.list ++ f.0, f.1 ∙ append_assoc ns x.list f.0)
 
 -- one fact of a pair
 pub pair_at : (P : ℕ → Node → Weight → Type 0) (m : ℕ) (nodes : List Node) (xs : List Weight) (k : ℕ) (d : Node) (e : Weight) → ArePairs P m nodes xs → k < length nodes → P (k + m) (get_or nodes k d) (get_or xs k e)
@@ -88,10 +79,10 @@ module _ (n : ℕ) (fn : Function) (width : IsWordWidth n) (valid : IsValid fn) 
   no_state_node : (m : ℕ) → length fn.states ≡ suc m → ⊥
   no_state_node m e =
       let i = length fn.inputs in
-      let f = nodes_front i fn.temps fn.results [] [] (inputs_from 0 i ++ states_from 0 (length fn.states)) in
-      let behind = states_from (0 + 1) m ++ f.0 in
-      let split : nodes_of fn ≡ inputs_from 0 i ++ State 0 ∷ behind = f.1 ∙ ap (λ (k : ℕ). (inputs_from 0 i ++ states_from 0 k) ++ f.0) e ∙ append_assoc (inputs_from 0 i) (State 0 ∷ states_from (0 + 1) m) f.0 in
-      let long = nodes_length 0 i in
+      let f = nodes_go i fn.temps fn.results [] [] (inputs_from 0 i ++ states_from 0 (length fn.states)) in
+      let behind = states_from (0 + 1) m ++ f.more in
+      let split : nodes_of fn ≡ inputs_from 0 i ++ State 0 ∷ behind = f.is ∙ ap (λ (k : ℕ). (inputs_from 0 i ++ states_from 0 k) ++ f.more) e ∙ append_assoc (inputs_from 0 i) (State 0 ∷ states_from (0 + 1) m) f.more in
+      let long = inputs_length 0 i in
       let here : get_or (nodes_of fn) i (State 0) ≡ State 0 = ap (λ (ns : List Node). get_or ns i (State 0)) split ∙ ap (λ (k : ℕ). get_or (inputs_from 0 i ++ State 0 ∷ behind) k (State 0)) (sym long) ∙ get_or-append_seam (inputs_from 0 i) (State 0) behind (State 0) in
       let lt : i < length (nodes_of fn) = let l = ap length split in let a = length-append (inputs_from 0 i) (State 0 ∷ behind) in omega (arith, l, a, long) in
       let m = pair_at (λ k node x. is_modest node x ≡ true) 0 (nodes_of fn) (weights_of n fn) i (State 0) no_weight modest_all lt in

@@ -6,6 +6,7 @@ use Rattle.std.proofs.lemmas.Int.{ints}
 use Rattle.std.proofs.lemmas.List.{take_more}
 use Rattle.std.proofs.lemmas.List.Elements.{All-push}
 use Rattle.std.proofs.Math.Seq.{drop-cons}
+use Rattle.std.specs.Cmp.{both_ways}
 use Rattle.fx_rational.specs.Rational.{Rational, bottom, lowest, is_at_most}
 use Rattle.fx_rational.specs.Dyadic.{Dyadic, dyadic_value, fits_128}
 use Rattle.fx_rational.proofs.Laws.{equal_sym, le_trans, le_of_equal}
@@ -20,10 +21,9 @@ use Rattle.fx_weight.specs.Weights.{Weight, no_weight, power_dyadic, weights_of,
 use Rattle.fx_weight.specs.PlainPlan.{plain_program}
 use Rattle.fx_weight.specs.PlainClass.{Outside, Demand, allows, first_tight, output_power, node_or, outside_of}
 use Rattle.fx_weight.specs.Laws.{IsNarrowNumber, IsNarrowDemand, IsPlainFunction, IsBalanced}
-use Rattle.fx_weight.proofs.Sizes.{IsUpTo, within_more, product_up_to, within_fits}
+use Rattle.fx_weight.proofs.Sizes.{IsUpTo, within_more, product_up_to, within_fits, within_pos}
 use Rattle.fx_weight.proofs.PowerSizes.{power_more}
-use Rattle.fx_weight.proofs.Fractions.{lowest_is_narrower, within_pos}
-use Rattle.fx_weight.proofs.PowerTests.{same_bits}
+use Rattle.fx_weight.proofs.Fractions.{lowest_is_narrower}
 use Rattle.fx_weight.proofs.Whole.{width, no_states, same_length, codes_long, weights_balanced}
 use Rattle.fx_weight.proofs.Lawful.{split_long}
 
@@ -31,7 +31,7 @@ use Rattle.fx_weight.proofs.Lawful.{split_long}
 -- lowest terms change no comparison
 pub same_beside_lowest : (x q : Rational) → is_at_most x (lowest q) ≡ is_at_most x q
 same_beside_lowest x q =
-    same_bits (is_at_most x (lowest q)) (is_at_most x q)
+    both_ways (is_at_most x (lowest q)) (is_at_most x q)
     (λ e. (at_most_test x q).1 (le_trans ((at_most_test x (lowest q)).0 e) (le_of_equal (lowest_is.same q))))
     (λ e. (at_most_test x (lowest q)).1 (le_trans ((at_most_test x q).0 e) (le_of_equal (equal_sym (lowest_is.same q)))))
 

@@ -8,10 +8,10 @@ use Rattle.fx_rational.specs.Rational.{whole, AtMost}
 use Rattle.fx_model.specs.Function as function
 use Rattle.fx_model.specs.Rows.{AreInputs}
 use Rattle.fx_model.specs.Nodes.{Node}
+use Rattle.fx_model.proofs.Widths.{IsWordWidth}
 use Rattle.fx_weight.specs.Weights.{Weight, no_weight, node_weight, weights_after, is_modest, first_immodest}
 use Rattle.fx_weight.specs.Laws.{IsBalanced}
 use Rattle.fx_weight.specs.Ordered.{IsOrdered}
-use Rattle.fx_weight.proofs.Exponents.{IsWordWidth}
 use Rattle.fx_weight.proofs.Ordered.{AreOrdered}
 use Rattle.fx_weight.proofs.Folded.{node_balanced}
 
@@ -91,11 +91,6 @@ turn_on n inputs nodes all k ws node y width lt is h ordered made =
     let c = h.count in
     let balanced = node_balanced n inputs ws k node width (λ a l. h.balanced a no_weight (omega (arith, l, c))) o made.1 in
     subst (λ (z : Weight). IsWalked n inputs nodes all (k + 1) (ws ++ z ∷ [])) (sym made.0) (walk_on n inputs nodes all k ws node lt is h made.1 balanced)
-
--- an element of a list, seen through a view
-pub node_seen : {X : Type 0} (f : X → Node) (xs : List X) (nodes : List Node) (k : ℕ) (x : X) → map f xs ≡ nodes → k < length xs → x ≡ get_or xs k x → (k < length nodes) × (get_or nodes k (f x) ≡ f x)
-node_seen f xs nodes k x e lt is =
-    (rw (← e) (rw (length-map xs f) lt), ap (λ (ns : List Node). get_or ns k (f x)) (sym e) ∙ get_or-map f xs k x (f x) lt ∙ sym (ap f is))
 
 pub few_at : {X : Type 0} (n : ℕ) (f : X → Weight) (xs : List X) → All (IsBalanced n) (map f xs) → (k : ℕ) (d : X) → k < length xs → (f (get_or xs k d)).w ≤ 40
 few_at n f xs h k d lt = let b = h k (f d) (rw (length-map xs f) lt) in subst (λ (x : Weight). x.w ≤ 40) (get_or-map f xs k d (f d) lt) b.few

@@ -1,15 +1,16 @@
 -- All conditions of the plain plan but those on demands, and what its weights meet.
-use Rattle.std.proofs.Common.{◌≡◌, ℕ, ◌+◌, ◌-◌, ◌<◌, ◌≤◌, ◌==◌, true, List, [], ◌∷◌, ◌++◌, length, map, min, Option, Some, None, refl, sym, ap, subst, ◌∙◌, arith}
+use Rattle.std.proofs.Common.{◌≡◌, ℕ, ◌+◌, ◌-◌, ◌<◌, ◌==◌, true, List, [], ◌∷◌, ◌++◌, length, map, min, Option, Some, None, refl, sym, ap, subst, ◌∙◌, arith}
 use Rattle.std.specs.Prelude.{All, Contains}
 use Rattle.std.specs.Str.{bytes_eq}
 use Rattle.std.proofs.lemmas.Slice.Eq.{bytes_eq-Decides}
 use Rattle.std.proofs.lemmas.List.{length-map}
-use Rattle.std.proofs.lemmas.List.Elements.{All-nil, All-cons, All-contains, All-head, All-tail, All-from_get_or}
+use Rattle.std.proofs.lemmas.List.Elements.{All-head, All-tail, All-from_get_or}
 use Rattle.fx_model.specs.Tree.{at}
 use Rattle.fx_model.specs.Function.{Function}
 use Rattle.fx_model.specs.Machine.{Code, Program, points_of}
 use Rattle.fx_model.specs.LawfulProgram.{widths}
 use Rattle.fx_model.specs.Nodes.{Node, nodes_of}
+use Rattle.fx_model.proofs.Widths.{IsWordWidth, width_of}
 use Rattle.fx_inequalities.specs.Condition as condition
 use Rattle.fx_inequalities.specs.Condition.{Condition, OfProgram, OfNode, OfStart, fault_of, first_fault_of, each_index}
 use Rattle.fx_inequalities.specs.Accepted.{counts_agree, each_node, all_shape_conditions, conditions_of, start_claims}
@@ -18,23 +19,12 @@ use Rattle.fx_inequalities.specs.NodeConditions.{shape_conditions, node_conditio
 use Rattle.fx_weight.specs.Weights.{Weight, no_weight, weights_of, is_modest, IsModest}
 use Rattle.fx_weight.specs.PlainPlan.{plain_code, plain_codes, plain_line, plain_program, plain_certificate}
 use Rattle.fx_weight.specs.Laws.{IsNarrowNode, IsPlainFunction, IsBalanced, WeightsLaw, plain_conditions}
-use Rattle.fx_weight.proofs.Exponents.{IsWordWidth}
 use Rattle.fx_weight.proofs.Ordered.{IsNodeList, node_list}
 use Rattle.fx_weight.proofs.Folded.{ArePairs, pairs_length, pairs_give, IsWeighed, folded, modest_pairs, all_balanced}
 use Rattle.fx_weight.proofs.Points.{point, codes_length, points_are}
 use Rattle.fx_weight.proofs.Inputs.{IsKnownInput, known_inputs}
 use Rattle.fx_weight.proofs.Stateless.{stateless}
 use Rattle.fx_weight.proofs.NodeFaults.{faultless, none_met, node_faults, shape_faults}
-
--- ---- widths
-pub width_of : (n : ℕ) → Contains widths n → IsWordWidth n
-width_of n h = All-contains IsWordWidth widths n all h
-  where
-    w : (m : ℕ) → 8 ≤ m → m ≤ 64 → IsWordWidth m
-    w m p q = record { least = p; most = q }
-
-    all : All IsWordWidth widths
-    all = All-cons IsWordWidth 8 (16 ∷ 24 ∷ 32 ∷ 40 ∷ 48 ∷ 56 ∷ 64 ∷ []) (w 8 (omega arith) (omega arith)) (All-cons IsWordWidth 16 (24 ∷ 32 ∷ 40 ∷ 48 ∷ 56 ∷ 64 ∷ []) (w 16 (omega arith) (omega arith)) (All-cons IsWordWidth 24 (32 ∷ 40 ∷ 48 ∷ 56 ∷ 64 ∷ []) (w 24 (omega arith) (omega arith)) (All-cons IsWordWidth 32 (40 ∷ 48 ∷ 56 ∷ 64 ∷ []) (w 32 (omega arith) (omega arith)) (All-cons IsWordWidth 40 (48 ∷ 56 ∷ 64 ∷ []) (w 40 (omega arith) (omega arith)) (All-cons IsWordWidth 48 (56 ∷ 64 ∷ []) (w 48 (omega arith) (omega arith)) (All-cons IsWordWidth 56 (64 ∷ []) (w 56 (omega arith) (omega arith)) (All-cons IsWordWidth 64 ([]) (w 64 (omega arith) (omega arith)) (All-nil IsWordWidth))))))))
 
 -- ---- lists of conditions
 pub none_append : (xs ys : List Condition) → first_fault_of xs ≡ None → first_fault_of ys ≡ None → first_fault_of (xs ++ ys) ≡ None

@@ -4,11 +4,12 @@ use Rattle.std.specs.Prelude.{if◌then◌else◌}
 use Rattle.std.specs.Option.{option_map_or}
 use Rattle.std.specs.Str.{bytes_eq}
 use Rattle.std.proofs.lemmas.List.{append-nil}
+use Rattle.std.proofs.lemmas.Bool.{not-true}
 use Rattle.clap.specs.Lexer.{long_of}
 use Rattle.clap.specs.Walk.{plain_word, short_or_plain, word_met, long_or_other, value, Rule, idle, walked}
 use Rattle.clap.specs.Faults.{flag_word_fault, bundle_fault, turn_fault, word_fault}
 use Rattle.fx_words.specs.Grammar.{Bytes, Entry, file_entry, has_entry, is_among, is_dashed, ends_options, stand_once, entries_in, with_entry, after_word, after_option, option_value, option_parts}
-use Rattle.fx_words.proofs.Booleans.{and-assoc, and-false, and-true, guarded, not-true, or-false, or-true}
+use Rattle.fx_words.proofs.Booleans.{and-assoc, and-false, and-true, guarded, or-false, or-true}
 use Rattle.fx_words.proofs.Pending.{IsKnown, IsKnownNow, Now, can_settle, end-test, entry_now, faults_from, file_id, has_required, held_rows, is_nil, leaf_shape, settled_now, tail-more, waiting_now, walk_at, with_value, without_value}
 use Rattle.fx_words.proofs.OneWord.{AllHaveFirstFlag, HasFirstFlag, IsLeaf, IsOption, apart-turn, apart-walked, ends-turn, ends-walked, fault, file-turn, file-walked, joined-turn, joined-walked, met, parts-same, plain-met, short-turn, stray-turn, unknown-turn, value-turn, value-walked}
 

@@ -4,24 +4,23 @@ use Rattle.std.specs.Prelude.{◌==◌, if◌then◌else◌, nat_le, cond, drop}
 use Rattle.std.specs.List.{list_all}
 use Rattle.std.specs.Char.{is_ascii_digit, digit_value}
 use Rattle.std.specs.Str.Parse.{AllDigits, IsNumeral, digits_value, without_leading_plus}
+use Rattle.std.proofs.lemmas.Bool.{and_parts}
+use Rattle.fx_model.proofs.Digits.{digit_range}
 use Rattle.fx_words.specs.Numbers.{is_numeral, number_up_to}
-use Rattle.fx_words.proofs.Booleans.{and-false, both-true}
-
-digit-range : (c : ℕ) → is_ascii_digit c ≡ true → (48 ≤ c) × (c ≤ 57)
-digit-range c e = search rules
+use Rattle.fx_words.proofs.Booleans.{and-false}
 
 digit-fits : (c : ℕ) → is_ascii_digit c ≡ true → digit_value c < 10
-digit-fits c e = let r = digit-range c e in grind arith
+digit-fits c e = let r = digit_range c e in grind arith
 
 all-are-digits : (t : List ℕ) → list_all is_ascii_digit t ≡ true → AllDigits 10 t
 all-are-digits [] e = tt
-all-are-digits (c ∷ cs) e = let p = both-true (is_ascii_digit c) (list_all is_ascii_digit cs) e in (digit-fits c p.0, all-are-digits cs p.1)
+all-are-digits (c ∷ cs) e = let p = and_parts (is_ascii_digit c) (list_all is_ascii_digit cs) e in (digit-fits c p.0, all-are-digits cs p.1)
 
 no-plus : (t : List ℕ) → list_all is_ascii_digit t ≡ true → without_leading_plus t ≡ t
 no-plus [] e = refl
 no-plus (c ∷ cs) e =
-    let p = both-true (is_ascii_digit c) (list_all is_ascii_digit cs) e in
-    let r = digit-range c p.0 in
+    let p = and_parts (is_ascii_digit c) (list_all is_ascii_digit cs) e in
+    let r = digit_range c p.0 in
     let no : (c == 43) ≡ false = search rules in
     ap (λ (b : Bool). drop (cond b 1 0) (c ∷ cs)) no
 
@@ -30,10 +29,10 @@ pub above-each-limit : (limit : ℕ) (t : List ℕ) → limit < 2 ^ 64 → is_nu
     → (IsNumeral 10 (without_leading_plus t) × (digits_value 10 (without_leading_plus t) < 2 ^ 64) → ⊥) → None ≡ number_up_to limit t
 above-each-limit limit t small numeral n = by_limit (nat_le (digits_value 10 t) limit) refl where
   first : (nat_le 1 (length t) ≡ true) × ((nat_le (length t) 20 && list_all is_ascii_digit t) ≡ true)
-  first = both-true (nat_le 1 (length t)) (nat_le (length t) 20 && list_all is_ascii_digit t) numeral
+  first = and_parts (nat_le 1 (length t)) (nat_le (length t) 20 && list_all is_ascii_digit t) numeral
 
   digits : list_all is_ascii_digit t ≡ true
-  digits = (both-true (nat_le (length t) 20) (list_all is_ascii_digit t) first.1).1
+  digits = (and_parts (nat_le (length t) 20) (list_all is_ascii_digit t) first.1).1
 
   some : 0 < length t
   some = let e = first.0 in search rules

@@ -4,11 +4,12 @@ use Rattle.std.specs.Prelude.{option_and_then, slice_get, if◌then◌else◌, f
 use Rattle.std.specs.Option.{option_map_or}
 use Rattle.std.specs.Str.{bytes_eq}
 use Rattle.std.proofs.lemmas.List.{append-nil}
+use Rattle.std.proofs.lemmas.Bool.{and_parts, not-true}
 use Rattle.clap.specs.Lexer.{long_of}
 use Rattle.clap.specs.Walk.{with_default, Held, Row, Rule, idle, value, walked, word_met, settled, rows_after, first_of, long_or_other, short_or_plain, plain_word}
 use Rattle.clap.specs.Faults.{word_fault, flag_word_fault, bundle_fault}
 use Rattle.fx_words.specs.Grammar.{Bytes, Entry, file_entry, has_entry, is_among, is_dashed, ends_options, stand_once, entries_in, with_entry, after_word, after_option, option_value, option_parts, value_named}
-use Rattle.fx_words.proofs.Booleans.{both-true, not-true, or-true}
+use Rattle.fx_words.proofs.Booleans.{or-true}
 use Rattle.fx_words.proofs.Pending.{IsKnown, IsKnownNow, Now, can_settle, entry_now, file_id, held_rows, leaf_shape, row_for, same-rows, settle-gives, settled_now, waiting_now, walk_at, with_value, without_value}
 use Rattle.fx_words.proofs.OneWord.{IsLeaf, IsOption, apart-walked, ends-walked, fault, file-walked, joined-walked, met, parts-same, plain-met, value-walked}
 use Rattle.fx_words.proofs.AllWords.{entries_left, file-known, has-append, is_waiting, position_of, still}
@@ -21,12 +22,12 @@ entry-there p (Some qs) ps e = (qs, refl, cc)
 fresh-now : (seen : List Entry) (now : Now) (ps : List Entry) → is_waiting now ≡ false → stand_once seen (entry_now now ++ ps) ≡ true → (can_settle seen now ≡ true) × (stand_once (seen ++ entry_now now) ps ≡ true)
 unfolding stand_once
 fresh-now seen settled_now ps calm f = (refl, ap (λ l. stand_once l ps) (append-nil seen) ∙ f)
-fresh-now seen (with_value id v) ps calm f = both-true (not (has_entry id seen)) (stand_once (seen ++ (id, v) ∷ []) ps) f
+fresh-now seen (with_value id v) ps calm f = and_parts (not (has_entry id seen)) (stand_once (seen ++ (id, v) ∷ []) ps) f
 fresh-now seen (without_value id) ps calm f = absurd (cc)
 
 fresh-first : (seen : List Entry) (p : Entry) (ps : List Entry) → stand_once seen (p ∷ ps) ≡ true → (not (has_entry p.0 seen) ≡ true) × (stand_once (seen ++ p ∷ []) ps ≡ true)
 unfolding stand_once
-fresh-first seen p ps f = both-true (not (has_entry p.0 seen)) (stand_once (seen ++ p ∷ []) ps) f
+fresh-first seen p ps f = and_parts (not (has_entry p.0 seen)) (stand_once (seen ++ p ∷ []) ps) f
 
 module _ (name : Bytes) (names : List Bytes) (R : List Rule) (L : IsLeaf names R) where
   abbrev Ends : List Bytes → List Entry → Now → Bool → Bool → List Entry → Type 0

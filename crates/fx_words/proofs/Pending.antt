@@ -5,6 +5,7 @@ use Rattle.std.specs.List.{list_any, list_all}
 use Rattle.std.specs.Option.{option_map_or}
 use Rattle.std.specs.Str.{bytes_eq}
 use Rattle.std.proofs.lemmas.List.{append-nil}
+use Rattle.std.proofs.lemmas.Bool.{and_parts, not-true}
 use Rattle.clap.specs.Values.{reading_of}
 use Rattle.clap.specs.Walk.{Held, Row, Rule, Waiting, idle, option, Walk, arg_by_id, has_row, more_values, used_by_id, default_rows, reading_by, is_empty, settled, walked, with_default, with_values, without}
 use Rattle.clap.specs.Simple.{Shape, new_rule, new_shape}
@@ -17,7 +18,7 @@ use Rattle.clap.specs.declared.builder.value_parser.ValueParser.TheVariants as v
 use Rattle.clap.specs.declared.error.kind.ErrorKind.TheVariants as kind
 use Rattle.clap.specs.declared.parser.matches.ValueSource.TheVariants.{CommandLine}
 use Rattle.fx_words.specs.Grammar.{Bytes, Entry, has_entry}
-use Rattle.fx_words.proofs.Booleans.{both-true, guarded, not-true}
+use Rattle.fx_words.proofs.Booleans.{guarded}
 
 -- ---- tests
 
@@ -182,17 +183,17 @@ HasNoDefaults R = list_all (λ a. is_empty a.defaults) R ≡ true
 pub same-rows : (R : List Rule) (rows : List Row) → HasNoDefaults R → fold with_default rows R ≡ rows
 same-rows [] rows h = refl
 same-rows (a ∷ R) rows h =
-    let parts = both-true (is_empty a.defaults) (list_all (λ a. is_empty a.defaults) R) h in
+    let parts = and_parts (is_empty a.defaults) (list_all (λ a. is_empty a.defaults) R) h in
     ap (λ l. fold with_default l R) (stays (has_row a.id rows) ∙ refl) ∙ same-rows R rows parts.1 where
       stays : (b : Bool) → (if b then rows else default_rows a.id (reading_by a) a.defaults rows) ≡ rows
       stays true = refl
-      stays false = ap (λ d. default_rows a.id (reading_by a) d rows) (empty-list a.defaults (both-true (is_empty a.defaults) (list_all (λ a. is_empty a.defaults) R) h).0)
+      stays false = ap (λ d. default_rows a.id (reading_by a) d rows) (empty-list a.defaults (and_parts (is_empty a.defaults) (list_all (λ a. is_empty a.defaults) R) h).0)
 
 pub no-default-fault : (R : List Rule) (rows : List Row) → HasNoDefaults R → defaults_fault rows R ≡ []
 unfolding defaults_fault
 no-default-fault [] rows h = refl
 no-default-fault (a ∷ R) rows h =
-    let parts = both-true (is_empty a.defaults) (list_all (λ a. is_empty a.defaults) R) h in
+    let parts = and_parts (is_empty a.defaults) (list_all (λ a. is_empty a.defaults) R) h in
     let same = same-rows (a ∷ []) rows (ap (λ b. b && true) parts.0) in
     ap₂ or_else (none (has_row a.id rows) (is_empty a.defaults) parts.0) (ap (λ l. defaults_fault l R) same ∙ no-default-fault R rows parts.1) where
       none : (b e : Bool) → e ≡ true → (if b || e then [] else given_default_fault a a.defaults) ≡ []

@@ -1,6 +1,7 @@
 -- What `clap` finds is the command that the words are, and where it refuses them they are none.
 use Rattle.std.proofs.Common.{◌≡◌, ◌≢◌, Bool, true, false, ◌&&◌, inl, inr, List, [], ◌∷◌, Option, Some, None, refl, ap, ◌∙◌, sym}
 use Rattle.std.specs.Prelude.{if◌then◌else◌, option_and_then, ◌⊎◌}
+use Rattle.std.proofs.lemmas.Bool.{and_parts}
 use Rattle.clap.specs.Walk.{first_of, rows_after}
 use Rattle.clap.specs.Simple.{subcommand_of}
 use Rattle.clap.specs.Kinds.{Kinds}
@@ -11,7 +12,6 @@ use Rattle.fx_words.specs.CommandView.{IfUsage, command_found}
 use Rattle.fx_words.specs.declared.command.WordFault.{WordFault}
 use Rattle.fx_words.specs.declared.command.WordFault.TheVariants.{Usage, Memory}
 use Rattle.fx_words.specs.Grammar.{Bytes, Entry, entries_in, have_values, once, stand_once, value_named}
-use Rattle.fx_words.proofs.Booleans.{both-true}
 use Rattle.fx_words.proofs.Pending.{has_required, is_nil, settled_now}
 use Rattle.fx_words.proofs.OneWord.{AllHaveFirstFlag}
 use Rattle.fx_words.proofs.AllWords.{leaf-takes, passes}
@@ -49,7 +49,7 @@ module _ (name : Bytes) (C : IsCommand name) (rest : List Bytes) where
       → lawful_command name names (λ id. first_of id (rows_after (options_rules C.options) [] rest)) ≡ made_of r
   made-where-it-passes None e h = absurd (cc)
   made-where-it-passes (Some ps) e h =
-      let parts = both-true (stand_once [] ps) (has_required (options_rules C.options) ps) h in
+      let parts = and_parts (stand_once [] ps) (has_required (options_rules C.options) ps) h in
       ap (λ rows. lawful_command name names (λ id. first_of id rows)) (leaf-rows name names (options_rules C.options) (options-are-taken C.options C.apart) rest ps e parts.0)
       ∙ ap (lawful_command name names) (λ i id. first-value id ps i)
       ∙ ap (λ (b : Bool). option_and_then (λ entries. lawful_command name names (value_named entries)) (if b then Some ps else None)) (sym parts.0)

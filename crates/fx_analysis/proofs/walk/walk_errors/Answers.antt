@@ -4,6 +4,7 @@ use Rattle.std.proofs.lemmas.List.Elements.{All-push}
 use Rattle.fx_rational.specs.Interval.{Interval}
 use Rattle.fx_model.specs.LawfulProgram.{IsPoint}
 use Rattle.fx_model.specs.Nodes.{nodes_of}
+use Rattle.fx_model.proofs.Lists.{seen_at}
 use Rattle.fx_flat.specs.NodeOf.{node_of}
 use Rattle.fx_analysis.specs.declared.fault.Why.{Why}
 use Rattle.fx_analysis.specs.Ordered.{IsInPlace}
@@ -11,7 +12,7 @@ use Rattle.fx_analysis.specs.Listed.{HasFewPlaces}
 use Rattle.fx_analysis.specs.PlainErrors.{plain_error}
 use Rattle.fx_analysis.proofs.Ordered.{node_list}
 use Rattle.fx_analysis.proofs.NodeErrors.{error_low}
-use Rattle.fx_analysis.proofs.Turns.{IsWalked, ordered_at, seen_at, walk_on, walk_stops}
+use Rattle.fx_analysis.proofs.Turns.{IsWalked, ordered_at, walk_on, walk_stops}
 use Rattle.fx_analysis.proofs.walk.walk_errors.Goals as goal
 
 pub node_error-requires-clause-ordered : goal.node_error-requires-clause-ordered

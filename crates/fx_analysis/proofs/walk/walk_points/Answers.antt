@@ -5,12 +5,13 @@ use Rattle.std.proofs.lemmas.Int.{to_z-of_z}
 use Rattle.std.proofs.lemmas.List.{length-map}
 use Rattle.std.proofs.lemmas.List.Elements.{All-push}
 use Rattle.fx_model.specs.LawfulProgram.{IsPoint}
+use Rattle.fx_model.proofs.Lists.{seen_at}
 use Rattle.fx_flat.specs.NodeOf.{node_of, nodes_in}
 use Rattle.fx_analysis.specs.declared.fault.Why.TheVariants.{Word}
 use Rattle.fx_analysis.specs.Ordered.{IsInPlace}
 use Rattle.fx_analysis.specs.GreedyPoints.{greedy_point}
 use Rattle.fx_analysis.proofs.PointTurns.{next_point, made_point, ranges_at}
-use Rattle.fx_analysis.proofs.Turns.{IsWalked, ordered_at, seen_at, walk_on, walk_stops}
+use Rattle.fx_analysis.proofs.Turns.{IsWalked, ordered_at, walk_on, walk_stops}
 use Rattle.fx_analysis.proofs.walk.walk_points.Goals as goal
 
 pub node_point-requires-clause-ordered : goal.node_point-requires-clause-ordered

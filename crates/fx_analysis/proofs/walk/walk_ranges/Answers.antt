@@ -3,6 +3,7 @@ use Rattle.std.specs.Prelude.{All}
 use Rattle.std.proofs.lemmas.List.Elements.{All-push}
 use Rattle.fx_rational.specs.Interval.{Interval}
 use Rattle.fx_model.specs.Nodes.{nodes_of}
+use Rattle.fx_model.proofs.Lists.{seen_at}
 use Rattle.fx_flat.specs.NodeOf.{node_of}
 use Rattle.fx_analysis.specs.declared.fault.Why.{Why}
 use Rattle.fx_analysis.specs.Ordered.{IsInPlace}
@@ -10,7 +11,7 @@ use Rattle.fx_analysis.specs.PlainRanges.{plain_range}
 use Rattle.fx_analysis.specs.Narrowed.{IsPlainInterval}
 use Rattle.fx_analysis.proofs.Ordered.{node_list}
 use Rattle.fx_analysis.proofs.NodeRanges.{range_plain}
-use Rattle.fx_analysis.proofs.Turns.{IsWalked, ordered_at, seen_at, walk_on, walk_stops}
+use Rattle.fx_analysis.proofs.Turns.{IsWalked, ordered_at, walk_on, walk_stops}
 use Rattle.fx_analysis.proofs.walk.walk_ranges.Goals as goal
 
 pub node_range-requires-clause-ordered : goal.node_range-requires-clause-ordered

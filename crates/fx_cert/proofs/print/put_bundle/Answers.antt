@@ -3,9 +3,9 @@ use Rattle.std.specs.Fmt.{decimal}
 use Rattle.fx_model.specs.LineText.{line_text}
 use Rattle.fx_model.specs.ProgramText.{program_text}
 use Rattle.fx_inequalities.specs.CertificateText.{certificate_text}
+use Rattle.fx_program.proofs.Appended.{five}
 use Rattle.fx_cert.specs.CertificateView.{certificate_of}
 use Rattle.fx_cert.specs.Printing.{as_printed, source_front}
-use Rattle.fx_cert.proofs.Printed.{five}
 use Rattle.fx_cert.proofs.print.put_bundle.Goals as goal
 
 regroup : (a b s n c p d t e : List ℕ) → (((((((a ++ b) ++ s) ++ (n ++ c)) ++ p) ++ d) ++ t) ++ e) ≡ ((((((((a ++ b) ++ s) ++ n) ++ c) ++ p) ++ d) ++ t) ++ e)

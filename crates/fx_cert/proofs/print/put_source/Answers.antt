@@ -1,7 +1,7 @@
 use Rattle.std.proofs.Common.{◌∷◌, [], ◌++◌, length, codes}
 use Rattle.std.specs.Fmt.{decimal}
 use Rattle.fx_model.specs.LineText.{line_text}
-use Rattle.fx_cert.proofs.Printed.{four}
+use Rattle.fx_program.proofs.Appended.{four}
 use Rattle.fx_cert.proofs.print.put_source.Goals as goal
 
 pub returns : goal.returns

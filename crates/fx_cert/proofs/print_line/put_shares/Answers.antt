@@ -2,9 +2,10 @@ use Rattle.std.proofs.Common.{◌≡◌, ◌++◌, ◌∷◌, ◌∙◌, length,
 use Rattle.std.specs.Fmt.{decimal}
 use Rattle.std.specs.List.{flat_map}
 use Rattle.std.proofs.lemmas.List.{length-map}
+use Rattle.fx_program.proofs.Appended.{two}
 use Rattle.fx_cert.specs.CertificateView.{share_of, shares_of}
 use Rattle.fx_cert.specs.Printing.{spaced}
-use Rattle.fx_cert.proofs.Printed.{spaced_cons, spaced_pairs, two}
+use Rattle.fx_cert.proofs.Printed.{spaced_cons, spaced_pairs}
 use Rattle.fx_cert.proofs.ShareLaws.{pairs}
 use Rattle.fx_cert.proofs.print_line.put_shares.Goals as goal
 

@@ -1,4 +1,4 @@
-use Rattle.std.proofs.Common.{◌≡◌, ◌++◌, ◌∷◌, [], ◌∙◌, ℕ, List, sym, ap, length, map, append_assoc, codes}
+use Rattle.std.proofs.Common.{◌≡◌, ◌++◌, ◌∷◌, [], ◌∙◌, ℕ, List, sym, ap, length, map, codes}
 use Rattle.std.specs.Fmt.{decimal}
 use Rattle.std.proofs.lemmas.List.{length-map}
 use Rattle.fx_model.specs.Machine as machine
@@ -6,10 +6,7 @@ use Rattle.fx_model.specs.LineText.{line_text}
 use Rattle.fx_program.specs.CodeView.{code_of}
 use Rattle.fx_model.specs.ProgramText.{head_text}
 use Rattle.fx_program.proofs.print.put_head.Goals as goal
-
--- four parts written one behind the other
-written : (o0 o1 o2 o3 o4 w x y z : List ℕ) → o1 ≡ o0 ++ w → o2 ≡ o1 ++ x → o3 ≡ o2 ++ y → o4 ≡ o3 ++ z → o4 ≡ o0 ++ (((w ++ x) ++ y) ++ z)
-written o0 o1 o2 o3 o4 w x y z a b c d = d ∙ ap (λ o. o ++ z) (c ∙ ap (λ o. o ++ y) (b ∙ ap (λ o. o ++ x) a)) ∙ simp append_assoc
+use Rattle.fx_program.proofs.Appended.{four}
 
 pub returns : goal.returns
 returns c =
@@ -18,7 +15,7 @@ returns c =
     let name : c.as_bytes.result.now ≡ p.name = c.as_bytes.ensures.value ∙ c.as_str.ensures.text in
     let n : c.put_name.new.out.items ≡ c.put_one.new.out.items ++ line_text (codes "name" ∷ c.as_bytes.result.now ∷ []) = c.in_ok-put_name.ensures in
     let d : c.put_four.new.out.items ≡ c.put_name.new.out.items ++ line_text (codes "sizes" ∷ decimal p.inputs ∷ decimal p.states ∷ decimal p.outputs ∷ decimal c.len-count.result ∷ []) = c.in_ok-put_four.ensures in
-    written c.args.out.now.items c.begin_line.new.out.items c.put_one.new.out.items c.put_name.new.out.items c.put_four.new.out.items
+    four c.args.out.now.items c.begin_line.new.out.items c.put_one.new.out.items c.put_name.new.out.items c.put_four.new.out.items
     (line_text (codes "fixd" ∷ codes "program" ∷ codes "1" ∷ [])) (line_text (codes "width" ∷ decimal p.width ∷ [])) (line_text (codes "name" ∷ p.name ∷ []))
     (line_text (codes "sizes" ∷ decimal p.inputs ∷ decimal p.states ∷ decimal p.outputs ∷ decimal (length (map code_of p.codes.items)) ∷ []))
     c.in_ok-begin_line.ensures c.in_ok-put_one.ensures

@@ -7,12 +7,10 @@ use Rattle.fx_model.specs.Tree.{at}
 use Rattle.fx_inequalities.specs.NodeConditions.{no_input}
 use Rattle.fx_weight.specs.Laws.{IsNarrowInput}
 use Rattle.fx_weight.proofs.narrow.narrow_inputs.Goals as goal
-
-last : (j k : ℕ) → j < k + 1 → (j < k) ⊎ (j ≡ k)
-last j k l = grind (arith, l)
+use Rattle.fx_weight.proofs.Folded.{before_or_last}
 
 one_more : (is : List function.Input) (k : ℕ) → ((j : ℕ) → j < k → IsNarrowInput (at no_input is j)) → IsNarrowInput (at no_input is k) → (j : ℕ) → j < k + 1 → IsNarrowInput (at no_input is j)
-one_more is k before own j lt = ⊎_elim (λ (less : j < k). before j less) (λ (same : j ≡ k). subst (λ (m : ℕ). IsNarrowInput (at no_input is m)) (sym same) own) (last j k lt)
+one_more is k before own j lt = ⊎_elim (λ (less : j < k). before j less) (λ (same : j ≡ k). subst (λ (m : ℕ). IsNarrowInput (at no_input is m)) (sym same) own) (before_or_last j k lt)
 
 pub loop-k-preserved : goal.loop-k-preserved
 loop-k-preserved c =
