@@ -1,5 +1,5 @@
 -- Shares of rows, one more at the end a turn, and coefficients in an array.
-use Rattle.std.proofs.Common.{◌≡◌, inl, inr, ℕ, zero, suc, ◌+◌, ◌<◌, List, [], ◌∷◌, ◌++◌, length, take, set, get_or, Option, None, refl, ap, sym, ◌∙◌, subst, arith}
+use Rattle.std.proofs.Common.{◌≡◌, inl, inr, ℕ, zero, suc, ◌+◌, ◌<◌, ◌≤◌, List, [], ◌∷◌, ◌++◌, length, take, set, get_or, Option, None, refl, ap, sym, ◌∙◌, subst, arith}
 use Rattle.std.proofs.Math.Seq.{take-suc}
 use Rattle.std.proofs.lemmas.Bool.{cases_lt}
 use Rattle.std.proofs.lemmas.List.{map-append, get_or-set_same, get_or-set_other}
@@ -13,7 +13,7 @@ use Rattle.fx_judging.specs.Places.{IsShort}
 use Rattle.fx_judging.proofs.Shorts.{short_difference, short_product, short_sum}
 use Rattle.fx_cert.specs.declared.certificate.Share as written
 use Rattle.fx_cert.specs.CertificateView.{share_of, shares_of}
-use Rattle.fx_sharing.specs.Coefficients.{AreFormed}
+use Rattle.fx_sharing.specs.Coefficients.{AreFormed, AreLeft}
 use Rattle.fx_conditions.specs.Limits.{AreShortRows, AreShortShares}
 use Rattle.fx_conditions.proofs.Shorts.{row_coef_short}
 
@@ -71,3 +71,17 @@ set_formed xs n c x h lt f s = record { each = each; short = short }
 
 pub all_formed : (xs : List (Option Dyadic)) (n m : ℕ) (c : ℕ → Formula) → n ≡ m → AreFormed xs n c → AreFormed xs m c
 all_formed xs n m c e h = subst (λ (k : ℕ). AreFormed xs k c) e h
+
+-- ---- what is left of the coefficients behind the first i, from which a share is taken one after the other
+pub set_left : (xs : List (Option Dyadic)) (i n k : ℕ) (c d : ℕ → Formula) (x : Option Dyadic) → i + k < length xs → AreLeft xs i k d → ((j : ℕ) → k ≤ j → j < n → Forms (at None xs (i + j)) (c j)) → Forms x (d k) →
+    AreLeft (set xs (i + k) x) i (k + 1) d × ((j : ℕ) → k + 1 ≤ j → j < n → Forms (at None (set xs (i + k) x) (i + j)) (c j))
+set_left xs i n k c d x room taken rest f = (now, later)
+  where
+    now : (j : ℕ) → j < k + 1 → Forms (at None (set xs (i + k) x) (i + j)) (d j)
+    now j lt = elim (cases_lt j k) [
+      | inl less ↦ subst (λ o. Forms o (d j)) (sym (get_or-set_other xs (i + k) (i + j) x None (omega arith))) (taken j less)
+      | inr more ↦ (let same : k ≡ j = omega arith in subst (λ (m : ℕ). Forms (at None (set xs (i + k) x) (i + m)) (d m)) same (subst (λ o. Forms o (d k)) (sym (get_or-set_same xs (i + k) x None room)) f))
+    ]
+
+    later : (j : ℕ) → k + 1 ≤ j → j < n → Forms (at None (set xs (i + k) x) (i + j)) (c j)
+    later j le lt = subst (λ o. Forms o (c j)) (sym (get_or-set_other xs (i + k) (i + j) x None (omega arith))) (rest j (omega arith) lt)

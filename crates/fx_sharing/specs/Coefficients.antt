@@ -1,5 +1,5 @@
 -- The coefficients of a combination of the variables, as formulas come to them.
-use Rattle.std.specs.Prelude.{ℕ, ◌<◌, List, Option, None}
+use Rattle.std.specs.Prelude.{ℕ, ◌+◌, ◌<◌, List, Option, None}
 use Rattle.fx_rational.specs.Dyadic.{Dyadic}
 use Rattle.fx_model.specs.Tree.{at}
 use Rattle.fx_inequalities.specs.Formula.{Formula}
@@ -10,3 +10,7 @@ use Rattle.fx_judging.specs.Places.{IsShort}
 pub record AreFormed (xs : List (Option Dyadic)) (n : ℕ) (c : ℕ → Formula) : Type 0 where
   pub each : (j : ℕ) → j < n → Forms (at None xs j) (c j)
   pub short : (j : ℕ) → j < n → IsShort 192 (c j)
+
+-- behind the first i, the numbers are what these k formulas come to
+abbrev pub AreLeft : List (Option Dyadic) → ℕ → ℕ → (ℕ → Formula) → Type 0
+AreLeft xs i k c = (j : ℕ) → j < k → Forms (at None xs (i + j)) (c j)

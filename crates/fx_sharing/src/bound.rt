@@ -1,17 +1,18 @@
 //! Where a combination of the variables lies, by rows and shares of rows.
 
-ghost use Rattle.std.specs.Prelude.{◌≡◌, ◌+◌, ◌<◌, ◌≤◌, ◌^◌, ℕ, None};
+ghost use Rattle.std.specs.Prelude.{◌≡◌, ◌+◌, ◌<◌, ◌≤◌, ◌^◌, ℕ, None, Some, IfSome};
 ghost use Rattle.fx_model.specs.Tree.{at};
 ghost use Rattle.fx_rational.specs.Dyadic.{zero_dyadic};
-ghost use Rattle.fx_inequalities.specs.Formula.{Formula, Num, Product, Span, point, span_product};
+ghost use Rattle.fx_inequalities.specs.Formula.{Difference, Formula, Num, Product, Span, point, span_product};
 ghost use Rattle.fx_inequalities.specs.Affine.{bound_by_rows, left_over, rows_of, shared_sum, weighted_sum};
 ghost use Rattle.fx_judging.specs.Judging.{Forms, FormsSpan};
-ghost use Rattle.fx_judging.specs.Places.{IsShort};
+ghost use Rattle.fx_judging.specs.Places.{IsShort, IsShortSpan};
 ghost use Rattle.fx_cert.specs.CertificateView.{form_view as form_view, lines_view, rows_in, shares_of};
-ghost use Rattle.fx_sharing.specs.Coefficients.{AreFormed};
+ghost use Rattle.fx_sharing.specs.Coefficients.{AreFormed, AreLeft};
 ghost use Rattle.fx_conditions.specs.Sides.{side_at};
 ghost use Rattle.fx_conditions.specs.Limits.{AreShortLines, AreShortRows, AreShortShares, IsShortForm};
 
+use crate::quick::{less_product, times_ends};
 use fx_cert::{Form, NodeLine, Row, Share};
 use fx_conditions::{Side, bound_of, coef_at, row_coef_of, scaled, scaled_number, side_of};
 use fx_interval::Interval;
@@ -75,22 +76,35 @@ fn with_inputs(
     total
 }
 
+/// A number times a row's bound, where both are short.
+fn quick_bound(times: Dyadic, bound: &Option<Interval>) -> Option<Interval>
+    ensures { (s : Span) → FormsSpan bound.now s → IfSome result (λ i. FormsSpan (Some i) (span_product (point (Num times)) s)) }
+{
+    let Some(ends) = bound else {
+        return None;
+    };
+    times.keeps();
+    times_ends(times, *ends)
+}
+
+/// A written number times a row's bound, in 64 bits where that serves.
+fn bound_times(times: Dyadic, bound: Option<Interval>) -> Option<Interval>
+    requires { IsShort 96 (Num times) }
+    ensures { (s : Span) → IsShortSpan 512 s → FormsSpan bound s → FormsSpan result (span_product (point (Num times)) s) }
+{
+    match quick_bound(times, &bound) {
+        Some(quick) => Some(quick),
+        None => scaled(times, bound),
+    }
+}
+
 /// The bound of a share's row, so many times.
 fn share_bound(rows: &[Row], states: u32, share: Share) -> Option<Interval>
     requires rows { AreShortRows (rows_in rows.now) }
     requires times { IsShort 96 (Num share.times) }
     ensures { FormsSpan result (span_product (point (Num share.times)) ((rows_of states (rows_in rows.now)).bound share.row)) }
 {
-    scaled(share.times, bound_of(rows, states, share.row))
-}
-
-/// Coefficient `k` of a share's row, so many times.
-fn share_coef(rows: &[Row], states: u32, share: Share, k: u32) -> Option<Dyadic>
-    requires rows { AreShortRows (rows_in rows.now) }
-    requires times { IsShort 96 (Num share.times) }
-    ensures { Forms result (Product (Num share.times) ((rows_of states (rows_in rows.now)).coef share.row k)) }
-{
-    scaled_number(share.times, row_coef_of(rows, states, share.row, k))
+    bound_times(share.times, bound_of(rows, states, share.row))
 }
 
 /// With the shares of rows.
@@ -111,70 +125,133 @@ fn with_shares(
     total
 }
 
-/// What the shares leave of a coefficient of state `k`.
-fn left_of(
-    coef: Option<Dyadic>,
+/// Coefficient `k` of a share's row, so many times.
+fn share_coef(rows: &[Row], states: u32, share: &Share, k: u32) -> Option<Dyadic>
+    requires rows { AreShortRows (rows_in rows.now) }
+    requires times { IsShort 96 (Num share.now.times) }
+    ensures { Forms result (Product (Num share.now.times) ((rows_of states (rows_in rows.now)).coef share.now.row k)) }
+{
+    scaled_number(share.times, row_coef_of(rows, states, share.row, k))
+}
+
+/// What a share leaves of coefficient `j`, where that and the row's coefficient `k` are short.
+fn quick_left(
+    coefs: &[Option<Dyadic>],
+    j: u32,
     rows: &[Row],
     states: u32,
-    shares: &[Share],
+    share: &Share,
+    k: u32,
+) -> Option<Dyadic>
+    ensures { (f : Formula) → Forms (at None coefs.now j) f → IfSome result (λ d. Forms (Some d) (Difference f (Product (Num share.now.times) ((rows_of states (rows_in rows.now)).coef share.now.row k)))) }
+{
+    share.times.keeps();
+    let left = coefficient(coefs, j)?;
+    let coef = row_coef_of(rows, states, share.row, k)?;
+    less_product(left, share.times, coef)
+}
+
+/// What a share leaves of coefficient `j`.
+fn left_of(
+    coefs: &[Option<Dyadic>],
+    j: u32,
+    rows: &[Row],
+    states: u32,
+    share: &Share,
     k: u32,
 ) -> Option<Dyadic>
     requires rows { AreShortRows (rows_in rows.now) }
-    requires shares { AreShortShares (shares_of shares.now) }
-    ensures { (c : Formula) → Forms coef c → Forms result (left_over c (rows_of states (rows_in rows.now)) (shares_of shares.now) k) }
+    requires times { IsShort 96 (Num share.now.times) }
+    ensures { (f : Formula) → Forms (at None coefs.now j) f → Forms result (Difference f (Product (Num share.now.times) ((rows_of states (rows_in rows.now)).coef share.now.row k))) }
 {
-    let mut left = coef;
-    for share in shares {
-        left = difference(left, share_coef(rows, states, *share, k));
-    }
-    left
+    difference(coefficient(coefs, j), share_coef(rows, states, share, k))
 }
 
-/// What the shares leave of state `k`, times the bound of its own row.
-fn state_product(
-    coefs: &[Option<Dyadic>],
+/// What a share leaves of the coefficients of the states, which stand behind the inputs'.
+fn take_share(
+    coefs: &mut [Option<Dyadic>; 96],
+    inputs: u32,
+    rows: &[Row],
+    states: u32,
+    share: &Share,
+)
+    requires rows { AreShortRows (rows_in rows.now) }
+    requires times { IsShort 96 (Num share.now.times) }
+    requires few { inputs + states ≤ 96 }
+    ensures { (c : ℕ → Formula) → AreLeft coefs.old inputs states c → AreLeft coefs.new inputs states (λ k. Difference (c k) (Product (Num share.now.times) ((rows_of states (rows_in rows.now)).coef share.now.row k))) }
+{
+    for k in 0..states {
+        let j = inputs + k;
+        // assigned in each arm, so that what is short isn't copied
+        match quick_left(&*coefs, j, rows, states, share, k) {
+            Some(quick) => coefs[j as usize] = Some(quick),
+            None => coefs[j as usize] = left_of(&*coefs, j, rows, states, share, k),
+        }
+    }
+}
+
+/// What the shares leave of them.
+fn take_shares(
+    coefs: &mut [Option<Dyadic>; 96],
     inputs: u32,
     rows: &[Row],
     states: u32,
     shares: &[Share],
+)
+    requires rows { AreShortRows (rows_in rows.now) }
+    requires shares { AreShortShares (shares_of shares.now) }
+    requires few { inputs + states ≤ 96 }
+    ensures { (c : ℕ → Formula) → AreLeft coefs.old inputs states c → AreLeft coefs.new inputs states (λ k. left_over (c k) (rows_of states (rows_in rows.now)) (shares_of shares.now) k) }
+{
+    for share in shares {
+        take_share(coefs, inputs, rows, states, share);
+    }
+}
+
+/// What is left of state `k`, times the bound of its own row.
+fn state_product(
+    lefts: &[Option<Dyadic>],
+    inputs: u32,
+    rows: &[Row],
+    states: u32,
     k: u32,
 ) -> Option<Interval>
     requires rows { AreShortRows (rows_in rows.now) }
-    requires shares { AreShortShares (shares_of shares.now) }
     requires few { inputs + k < 2 ^ 32 }
-    ensures { let rs = rows_of states (rows_in rows.now) in (n : ℕ) (c : ℕ → Formula) → inputs + k < n → AreFormed coefs.now n c →
-        FormsSpan result (span_product (point (left_over (c (inputs + k)) rs (shares_of shares.now) k)) (rs.bound k)) }
+    ensures { (c : ℕ → Formula) → k < states → AreLeft lefts.now inputs states c → IsShort 192 (c k) →
+        FormsSpan result (span_product (point (c k)) ((rows_of states (rows_in rows.now)).bound k)) }
 {
-    let left = left_of(coefficient(coefs, inputs + k), rows, states, shares, k);
-    times(point(left), bound_of(rows, states, k))
+    times(
+        point(coefficient(lefts, inputs + k)),
+        bound_of(rows, states, k),
+    )
 }
 
-/// With the states by their own rows.
+/// With what is left of the states, by their own rows.
 fn with_states(
     start: Option<Interval>,
-    coefs: &[Option<Dyadic>],
+    lefts: &[Option<Dyadic>],
     inputs: u32,
     rows: &[Row],
     states: u32,
-    shares: &[Share],
 ) -> Option<Interval>
     requires rows { AreShortRows (rows_in rows.now) }
-    requires shares { AreShortShares (shares_of shares.now) }
-    requires few { inputs + states < 2 ^ 32 }
-    ensures { let rs = rows_of states (rows_in rows.now) in (n : ℕ) (c : ℕ → Formula) (z : Span) → inputs + states ≤ n → AreFormed coefs.now n c → FormsSpan start z →
-        FormsSpan result (weighted_sum z states (λ j. left_over (c (inputs + j)) rs (shares_of shares.now) j) rs.bound) }
+    requires few { inputs + states ≤ 96 }
+    ensures { (c : ℕ → Formula) (z : Span) → AreLeft lefts.now inputs states c → ((k : ℕ) → k < states → IsShort 192 (c k)) → FormsSpan start z →
+        FormsSpan result (weighted_sum z states c (rows_of states (rows_in rows.now)).bound) }
 {
     let mut total = start;
     for k in 0..states {
-        total = plus(total, state_product(coefs, inputs, rows, states, shares, k));
+        total = plus(total, state_product(lefts, inputs, rows, states, k));
     }
     total
 }
 
-/// Where what begins with `start` lies, and goes on with these coefficients times the variables.
+/// Where what begins with `start` lies, and goes on with these coefficients times the variables. The shares are taken from
+/// the states' coefficients in their place.
 pub fn bound_by_rows(
     start: Option<Interval>,
-    coefs: &[Option<Dyadic>],
+    coefs: &mut [Option<Dyadic>; 96],
     side: &Side,
     lines: &[NodeLine],
     inputs: u32,
@@ -185,11 +262,12 @@ pub fn bound_by_rows(
     requires lines { AreShortLines (lines_view lines.now) }
     requires rows { AreShortRows (rows_in rows.now) }
     requires shares { AreShortShares (shares_of shares.now) }
-    requires few { inputs + states < 2 ^ 32 }
-    ensures { (c : ℕ → Formula) (z : Span) → AreFormed coefs.now (inputs + states) c → FormsSpan start z →
+    requires few { inputs + states ≤ 96 }
+    ensures { (c : ℕ → Formula) (z : Span) → AreFormed coefs.old (inputs + states) c → FormsSpan start z →
         FormsSpan result (bound_by_rows inputs states c z (side_at side.now (lines_view lines.now)) (rows_of states (rows_in rows.now)) (shares_of shares.now)) }
 {
-    let first = with_inputs(start, coefs, side, lines, inputs);
+    let first = with_inputs(start, &*coefs, side, lines, inputs);
     let second = with_shares(first, rows, states, shares);
-    with_states(second, coefs, inputs, rows, states, shares)
+    take_shares(coefs, inputs, rows, states, shares);
+    with_states(second, &*coefs, inputs, rows, states)
 }

@@ -9,6 +9,7 @@
 
 mod bound;
 mod node;
+mod quick;
 mod row;
 mod share;
 mod start;

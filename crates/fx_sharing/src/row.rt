@@ -163,11 +163,11 @@ pub fn row_bound_of(
     ensures { FormsSpan result (next_row inputs states next (lines_view lines.now) (rows_in rows.now) side.now i) }
 {
     let variables = inputs + states;
-    let coefs = row_coefs(rows, states, lines, variables, next, i);
+    let mut coefs = row_coefs(rows, states, lines, variables, next, i);
     let rest = row_rest(rows, states, side, lines, variables, next, i);
     bound_by_rows(
         rest,
-        &coefs,
+        &mut coefs,
         side,
         lines,
         inputs,

@@ -58,10 +58,10 @@ fn form_bound(
     ensures { (l : certificates.NodeLine) → FormsSpan result (bound_by_rows inputs states (λ j. Num (at zero_dyadic form.now.coefs j)) (side_rest side.now (of_line l (Some (form_view form.now))))
         (side_at side.now (lines_view lines.now)) (rows_of states (rows_in rows.now)) (shares_of shares.now)) }
 {
-    let coefs = form_coefs(form, inputs + states);
+    let mut coefs = form_coefs(form, inputs + states);
     bound_by_rows(
         own_rest(side, form),
-        &coefs,
+        &mut coefs,
         side,
         lines,
         inputs,

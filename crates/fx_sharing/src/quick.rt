@@ -1,0 +1,115 @@
+//! Products of short mantissas, taken away or bounded, in 64 bits.
+//!
+//! A great certificate takes a multiple of a row's coefficient away some hundred million times, and nearly always both
+//! mantissas are short. Then one product of 64 bits gives what the operations on dyadics give. What isn't short has no answer
+//! here, and goes their way.
+
+ghost use Rattle.std.specs.Prelude.{◌≡◌, ◌≤◌, ◌^◌, ◌*ℤ◌, ◌-ℤ◌, pos, IfSome, IsTrue};
+ghost use Rattle.std.specs.Option.{SomeIff};
+ghost use Rattle.fx_rational.specs.Dyadic.{difference_fits, dyadic_difference, dyadic_product, fits_128, greatest, least, product_fits};
+ghost use Rattle.fx_rational.specs.Interval.{interval_product, interval_product_fits};
+
+use fx_interval::Interval;
+use fx_num::{Dyadic, dle, mul_fits};
+
+/// A mantissa in 64 bits.
+fn short(d: Dyadic) -> Option<i64>
+    ensures { IfSome result (λ m. m ≡ d.m) }
+{
+    i64::try_from(d.m).ok()
+}
+
+/// `2^places`.
+fn two_to(places: u32) -> u64
+    requires { places ≤ 62 }
+    ensures value { result ≡ 2 ^ places }
+    ensures few { result ≤ 2 ^ 62 }
+{
+    1 << places
+}
+
+/// A short mantissa times `2^places`.
+fn raised(m: i64, places: u32) -> Option<i64>
+    ensures { IfSome result (λ x. x ≡ m *ℤ pos (2 ^ places)) }
+{
+    if 62 < places {
+        return None;
+    }
+    m.checked_mul(two_to(places) as i64)
+}
+
+/// The product of short mantissas, which always fits.
+fn product(a: i64, b: i64) -> Option<i128>
+    ensures is { IfSome result (λ m. m ≡ a *ℤ b) }
+    ensures fits { IfSome result (λ m. IsTrue (fits_128 (a *ℤ b))) }
+{
+    mul_fits(i128::from(a), i128::from(b))
+}
+
+/// The mantissa of `left` less another.
+fn rest(left: Dyadic, taken: i128) -> Option<i128>
+    ensures { SomeIff result (IsTrue (fits_128 (left.m -ℤ taken))) (left.m -ℤ taken) }
+{
+    left.m.checked_sub(taken)
+}
+
+/// `a * b`, of short mantissas and few places.
+#[tactic(auto, unfolding(fx_rational::specs::Dyadic::product_fits, fx_rational::specs::Dyadic::dyadic_product))]
+fn short_product(a: Dyadic, b: Dyadic) -> Option<Dyadic>
+    ensures fits { IfSome result (λ d. IsTrue (product_fits a b)) }
+    ensures is { IfSome result (λ d. d ≡ dyadic_product a b) }
+{
+    if 512 < a.e || 512 < b.e {
+        return None;
+    }
+    let m = product(short(a)?, short(b)?)?;
+    Some(Dyadic::new(m, a.e + b.e))
+}
+
+/// `left - a * b`, where both factors are short and the product has no more binary places than `left`.
+pub fn less_product(left: Dyadic, a: Dyadic, b: Dyadic) -> Option<Dyadic>
+    ensures product { IfSome result (λ d. IsTrue (product_fits a b)) }
+    ensures difference { IfSome result (λ d. IsTrue (difference_fits left (dyadic_product a b))) }
+    ensures is { IfSome result (λ d. d ≡ dyadic_difference left (dyadic_product a b)) }
+{
+    let places = a.e + b.e;
+    if left.e < places {
+        return None;
+    }
+    let x = short(a)?;
+    let y = short(b)?;
+    let _fits = product(x, y)?;
+    let taken = product(x, raised(y, left.e - places)?)?;
+    left.keeps();
+    let m = rest(left, taken)?;
+    Some(Dyadic::new(m, left.e))
+}
+
+/// The lesser one, or `a` where they are equal.
+#[tactic(auto, unfolding(fx_rational::specs::Dyadic::least))]
+fn lesser(a: Dyadic, b: Dyadic) -> Dyadic
+    ensures { result ≡ least a b }
+{
+    if dle(a, b) { a } else { b }
+}
+
+/// The greater one, or `a` where they are equal.
+#[tactic(auto, unfolding(fx_rational::specs::Dyadic::greatest))]
+fn greater(a: Dyadic, b: Dyadic) -> Dyadic
+    ensures { result ≡ greatest a b }
+{
+    if dle(b, a) { a } else { b }
+}
+
+/// An interval times `a`, where its ends and `a` are short.
+pub fn times_ends(a: Dyadic, ends: Interval) -> Option<Interval>
+    ensures fits { IfSome result (λ i. IsTrue (interval_product_fits (record { lo = a; hi = a }) ends)) }
+    ensures is { IfSome result (λ i. i ≡ interval_product (record { lo = a; hi = a }) ends) }
+{
+    let low = short_product(a, ends.lo)?;
+    let high = short_product(a, ends.hi)?;
+    Some(Interval {
+        lo: lesser(low, high),
+        hi: greater(low, high),
+    })
+}
