@@ -11,7 +11,10 @@ ghost use Rattle.fx_grammar.specs.Steps.{has_name, free_at, listed, real_at};
 ghost use Rattle.fx_grammar.specs.Fronts.{param_at, declared_state, states_at, one_real, type_at, more_than};
 ghost use Rattle.fx_grammar.specs.Functions.{new_name};
 
-use fx_cursor::{INPUT_LIMIT, Items, Names, Numeral, OUTPUT_LIMIT, Parsed, STATE_LIMIT, behind, free, listed, peek, place_at, real, signed, want, with_name};
+use fx_cursor::{
+    INPUT_LIMIT, Items, Names, Numeral, OUTPUT_LIMIT, Parsed, STATE_LIMIT, behind, free, listed,
+    peek, place_at, real, signed, want, with_name,
+};
 use fx_grammar::Head;
 use fx_lexer::{SourceFault, SourceKind, Token};
 use fx_requirements::{Named, no_subjects, with_subject};
