@@ -17,8 +17,8 @@ ghost use Rattle.fx_grammar.specs.Operands.{tree_or};
 ghost use Rattle.fx_grammar.specs.Bodies.{too_high, whole_at, typed_at, with_temp, val_at, vals_at, count_of, known_of, single_high, single_at, element_at, tuple_at, result_at};
 
 use fx_cursor::{
-    HEIGHT_LIMIT, Items, NODE_LIMIT, Names, Parsed, TEMP_LIMIT, behind, free, listed,
-    past_semicolon, peek, place_at, real, repeated, want, with_name, wrong,
+    Items, NODE_LIMIT, Names, Parsed, TEMP_LIMIT, behind, free, listed, past_semicolon, peek,
+    place_at, real, repeated, want, with_name, wrong,
 };
 use fx_expr::Expr;
 use fx_expressions::{Context, Operand, expression, is_high, tree_or};
