@@ -1,4 +1,4 @@
-//! What every rule of the grammar reads with: the next token, the names so far, the numbers of the text.
+//! What every rule of the grammar reads with: the next token, the names so far, numbers, and the loop over items.
 //!
 //! A step takes tokens from the front and gives its value with the tokens behind it, exactly as `fx_grammar` says, or the
 //! first fault. So a cursor is a slice, and nothing is read twice.

@@ -2,7 +2,7 @@
 //!
 //! The nodes are counted as they come, up to one past the limit, so that no tree is walked again. The trap: the fault of a
 //! tree that is too high is found at the token behind its expression, and loses there to some others.
-ghost use Rattle.std.specs.Prelude.{◌≡◌, ◌≤◌, ◌<◌, ◌+◌, ◌^◌, length, map, min, option_map, IfOk, [], ◌∷◌, ◌++◌, Ok, IsOk, None};
+ghost use Rattle.std.specs.Prelude.{◌≡◌, ◌≤◌, ◌<◌, ◌+◌, ◌^◌, length, map, min, option_map, IfOk, [], ◌∷◌, ◌++◌, Ok, None};
 ghost use Rattle.fx_lexer.specs.Faults.{GivesParsed};
 ghost use Rattle.fx_cursor.specs.Views.{lexemes};
 ghost use Rattle.fx_expressions.specs.Views.{operand_of};
@@ -12,14 +12,13 @@ ghost use Rattle.fx_grammar.specs.Steps.{name_place};
 ghost use Rattle.fx_expr.specs.TreeOf.{tree};
 ghost use Rattle.fx_grammar.specs.Operands.{is_high};
 ghost use Rattle.fx_grammar.specs.Expressions.{expr_at};
-ghost use Rattle.fx_grammar.specs.Steps.{past_semicolon, free_at, separated, listed};
+ghost use Rattle.fx_grammar.specs.Steps.{past_semicolon, free_at};
 ghost use Rattle.fx_grammar.specs.Operands.{tree_or};
 ghost use Rattle.fx_grammar.specs.Bodies.{too_high, whole_at, typed_at, with_temp, val_at, vals_at, count_of, known_of, single_high, single_at, element_at, tuple_at, result_at};
-ghost use Rattle.fx_grammar.specs.declared.head.Head.TheVariants.{Comma};
 
 use fx_cursor::{
-    HEIGHT_LIMIT, NODE_LIMIT, Names, Parsed, TEMP_LIMIT, behind, free, next_is, past_semicolon,
-    peek, place_at, real, want, with_name, wrong,
+    Items, NODE_LIMIT, Names, Parsed, TEMP_LIMIT, behind, free, listed, past_semicolon, peek,
+    place_at, real, repeated, want, with_name, wrong,
 };
 use fx_expr::Expr;
 use fx_expressions::{Context, Operand, expression, is_high, tree_or};
@@ -180,13 +179,34 @@ fn val<'t, 'a>(
     Ok((body, past_semicolon(rest)))
 }
 
-/// Behind the semicolon that may come next. A loop's variables come from a `?`, since the borrow
-/// checker covers no loop over a parameter of this kind yet.
-fn begun<'t, 'a>(body: Body<'a>, tokens: &'t [Token<'a>]) -> Parsed<'t, 'a, Body<'a>>
-    ensures value { IfOk result (λ x. (x.0 ≡ body.entry) × (lexemes x.1.now ≡ past_semicolon (lexemes tokens.now)) × (length x.1.now ≤ length tokens.now)) }
-    ensures ok { IsOk result }
-{
-    Ok((body, past_semicolon(tokens)))
+/// The rule of one `val`, behind the word.
+#[derive(Drop)]
+struct ValRule {
+    alloc: Global,
+    end: u32,
+    inputs: u32,
+    states: u32,
+}
+
+impl<'a> Items<'a> for ValRule {
+    ghost use Rattle.std.specs.Prelude.{◌≡◌};
+    ghost use Rattle.fx_grammar.specs.Bodies as bodies;
+    ghost use Rattle.fx_grammar.specs.Bodies.{val_at};
+    ghost use Rattle.fx_parser.specs.Views.{body_value, HasBodyRoom};
+
+    type Kept = Body<'a>;
+
+    ghost Value = { bodies.Body };
+
+    ghost value_of = { λ body. body_value body };
+
+    ghost can_go_on = { λ rule body. HasBodyRoom body × (body.inputs ≡ rule.inputs) × (body.states ≡ rule.states) };
+
+    ghost item_at = { λ rule. val_at rule.end };
+
+    fn item<'t>(&self, body: Body<'a>, tokens: &'t [Token<'a>]) -> Parsed<'t, 'a, Body<'a>> {
+        val(self.alloc, self.end, body, tokens)
+    }
 }
 
 /// All vals, behind the semicolon that may come before them.
@@ -203,13 +223,13 @@ pub fn vals<'t, 'a>(
     ensures room { IfOk result (λ x. HasBodyRoom x.0) }
     ensures kept { IfOk result (λ x. (x.0.inputs ≡ body.entry.inputs) × (x.0.states ≡ body.entry.states)) }
 {
-    let (mut now, mut rest) = begun(body, tokens)?;
-    'items: while next_is(Head::Val, rest) {
-        let (more, after) = val(alloc, end, now, behind(rest))?;
-        now = more;
-        rest = after;
-    }
-    Ok((now, rest))
+    let rule = ValRule {
+        alloc,
+        end,
+        inputs: body.inputs,
+        states: body.states,
+    };
+    repeated(&rule, Head::Val, body, past_semicolon(tokens))
 }
 
 /// The fault of one result that is too high: it loses to too many nodes, where the function ends
@@ -309,33 +329,40 @@ fn element<'t, 'a>(
     Ok((results, rest))
 }
 
-#[tactic(auto, unfolding(fx_grammar::specs::Steps::separated))]
-fn elements<'t, 'a>(
+/// The rule of one result of a tuple that began at `first`.
+#[derive(Drop)]
+struct ElementRule<'b> {
     alloc: Global,
     end: u32,
     first: u32,
     reals: usize,
-    body: &Body<'_>,
-    tokens: &'t [Token<'a>],
-) -> Parsed<'t, 'a, Results>
-    requires { length body.now.names < 2 ^ 32 }
-    ensures value { GivesParsed (λ x. (results_value x.0, lexemes x.1.now)) result (separated Comma (element_at end first reals (body_value body.now)) (record { trees = []; nodes = body.now.nodes }) (lexemes tokens.now)) }
-    ensures shorter { IfOk result (λ x. length x.1.now < length tokens.now) }
-{
-    let none = Results {
-        trees: Vec::new(alloc),
-        nodes: body.nodes,
-    };
-    let (mut results, mut rest) = element(alloc, end, first, reals, body, none, tokens)?;
-    'items: while next_is(Head::Comma, rest) {
-        let (more, after) = element(alloc, end, first, reals, body, results, behind(rest))?;
-        results = more;
-        rest = after;
-    }
-    Ok((results, rest))
+    body: &'b Body<'b>,
 }
 
-#[tactic(auto, unfolding(fx_grammar::specs::Bodies::tuple_at, fx_grammar::specs::Steps::listed))]
+impl<'a, 'b> Items<'a> for ElementRule<'b> {
+    ghost use Rattle.std.specs.Prelude.{◌<◌, ◌^◌, length};
+    ghost use Rattle.fx_grammar.specs.Bodies as bodies;
+    ghost use Rattle.fx_grammar.specs.Bodies.{element_at};
+    ghost use Rattle.fx_parser.specs.Views.{body_value, results_value};
+
+    type Kept = Results;
+
+    ghost Value = { bodies.Results };
+
+    ghost value_of = { λ results. results_value results };
+
+    ghost can_go_on = { λ rule results. length rule.body.now.names < 2 ^ 32 };
+
+    ghost item_at = { λ rule. element_at rule.end rule.first rule.reals (body_value rule.body.now) };
+
+    fn item<'t>(&self, results: Results, tokens: &'t [Token<'a>]) -> Parsed<'t, 'a, Results> {
+        element(
+            self.alloc, self.end, self.first, self.reals, self.body, results, tokens,
+        )
+    }
+}
+
+#[tactic(auto, unfolding(fx_grammar::specs::Bodies::tuple_at))]
 fn tuple<'t, 'a>(
     alloc: Global,
     end: u32,
@@ -348,8 +375,18 @@ fn tuple<'t, 'a>(
     ensures shorter { IfOk result (λ x. length x.1.now < length tokens.now) }
 {
     let (open, rest) = want(end, Head::Open, tokens)?;
-    let (results, rest) = elements(alloc, end, open.at, reals, body, rest)?;
-    let (_, rest) = want(end, Head::Close, rest)?;
+    let rule = ElementRule {
+        alloc,
+        end,
+        first: open.at,
+        reals,
+        body,
+    };
+    let none = Results {
+        trees: Vec::new(alloc),
+        nodes: body.nodes,
+    };
+    let (results, rest) = listed(&rule, end, none, rest)?;
     if results.trees.len() != reals {
         return Err(SourceFault::at(open.at, SourceKind::WrongArity));
     }

@@ -7,14 +7,13 @@ ghost use Rattle.fx_cursor.specs.Views.{lexemes};
 ghost use Rattle.fx_requirements.specs.Views.{subjects_of, IsNamed};
 ghost use Rattle.fx_parser.specs.Views.{declared_of, state_value};
 ghost use Rattle.fx_grammar.specs.Ranges.{names_of};
-ghost use Rattle.fx_grammar.specs.Steps.{has_name, free_at, separated, listed, real_at};
+ghost use Rattle.fx_grammar.specs.Steps.{has_name, free_at, listed, real_at};
 ghost use Rattle.fx_grammar.specs.Fronts.{param_at, declared_state, states_at, one_real, type_at, more_than};
 ghost use Rattle.fx_grammar.specs.Functions.{new_name};
-ghost use Rattle.fx_grammar.specs.declared.head.Head.TheVariants.{Comma};
 
 use fx_cursor::{
-    INPUT_LIMIT, Names, Numeral, OUTPUT_LIMIT, Parsed, STATE_LIMIT, behind, free, next_is, peek,
-    place_at, real, signed, want, with_name, wrong,
+    INPUT_LIMIT, Items, Names, Numeral, OUTPUT_LIMIT, Parsed, STATE_LIMIT, behind, free, listed,
+    peek, place_at, real, signed, want, with_name,
 };
 use fx_grammar::Head;
 use fx_lexer::{SourceFault, SourceKind, Token};
@@ -53,37 +52,41 @@ fn param<'t, 'a>(end: u32, named: Named<'a>, tokens: &'t [Token<'a>]) -> Parsed<
     Ok((named, rest))
 }
 
+/// The rule of one parameter.
+#[derive(Drop)]
+struct ParameterRule {
+    end: u32,
+}
+
+impl<'a> Items<'a> for ParameterRule {
+    ghost use Rattle.std.specs.Prelude.{◌≤◌, length};
+    ghost use Rattle.fx_grammar.specs.Ranges.{Subjects};
+    ghost use Rattle.fx_grammar.specs.Fronts.{param_at};
+    ghost use Rattle.fx_requirements.specs.Views.{subjects_of, IsNamed};
+
+    type Kept = Named<'a>;
+
+    ghost Value = { Subjects };
+
+    ghost value_of = { λ named. subjects_of named.subjects };
+
+    ghost can_go_on = { λ rule named. (length named.subjects.items ≤ 64) × IsNamed named };
+
+    ghost item_at = { λ rule. param_at rule.end };
+
+    fn item<'t>(&self, named: Named<'a>, tokens: &'t [Token<'a>]) -> Parsed<'t, 'a, Named<'a>> {
+        param(self.end, named, tokens)
+    }
+}
+
 /// All parameters, and the parenthesis that closes them.
-#[tactic(auto, unfolding(fx_grammar::specs::Steps::listed))]
 pub fn params<'t, 'a>(alloc: Global, end: u32, tokens: &'t [Token<'a>]) -> Parsed<'t, 'a, Named<'a>>
     ensures value { GivesParsed (λ x. (subjects_of x.0.subjects, lexemes x.1.now)) result (listed (param_at end) end [] (lexemes tokens.now)) }
     ensures shorter { IfOk result (λ x. length x.1.now < length tokens.now) }
     ensures few { IfOk result (λ x. length x.0.subjects.items ≤ 64) }
     ensures same { IfOk result (λ x. IsNamed x.0) }
 {
-    let (named, rest) = open_params(alloc, end, tokens)?;
-    let (_, rest) = want(end, Head::Close, rest)?;
-    Ok((named, rest))
-}
-
-#[tactic(auto, unfolding(fx_grammar::specs::Steps::separated))]
-fn open_params<'t, 'a>(
-    alloc: Global,
-    end: u32,
-    tokens: &'t [Token<'a>],
-) -> Parsed<'t, 'a, Named<'a>>
-    ensures value { GivesParsed (λ x. (subjects_of x.0.subjects, lexemes x.1.now)) result (separated Comma (param_at end) [] (lexemes tokens.now)) }
-    ensures shorter { IfOk result (λ x. length x.1.now < length tokens.now) }
-    ensures few { IfOk result (λ x. length x.0.subjects.items ≤ 64) }
-    ensures same { IfOk result (λ x. IsNamed x.0) }
-{
-    let (mut named, mut rest) = param(end, no_subjects(alloc), tokens)?;
-    'items: while next_is(Head::Comma, rest) {
-        let (more, after) = param(end, named, behind(rest))?;
-        named = more;
-        rest = after;
-    }
-    Ok((named, rest))
+    listed(&ParameterRule { end }, end, no_subjects(alloc), tokens)
 }
 
 /// A state behind those that were read.
@@ -135,40 +138,31 @@ fn one_real<'t, 'a>(
     Ok((reals + 1, rest))
 }
 
-#[tactic(auto, unfolding(fx_grammar::specs::Steps::separated))]
-fn open_reals<'t, 'a>(
+/// The rule of one `Real` of a type that begins at `first`.
+#[derive(Drop)]
+struct RealRule {
     end: u32,
     first: u32,
     states: usize,
-    tokens: &'t [Token<'a>],
-) -> Parsed<'t, 'a, usize>
-    requires states { states ≤ 32 }
-    ensures value { GivesParsed (λ x. (x.0, lexemes x.1.now)) result (separated Comma (one_real end first states) 0 (lexemes tokens.now)) }
-    ensures shorter { IfOk result (λ x. length x.1.now < length tokens.now) }
-{
-    let (mut reals, mut rest) = one_real(end, first, states, 0, tokens)?;
-    'items: while peek(rest) == Head::Comma {
-        let (more, after) = one_real(end, first, states, reals, behind(rest))?;
-        reals = more;
-        rest = after;
-    }
-    Ok((reals, rest))
 }
 
-#[tactic(auto, unfolding(fx_grammar::specs::Steps::listed))]
-fn reals<'t, 'a>(
-    end: u32,
-    first: u32,
-    states: usize,
-    tokens: &'t [Token<'a>],
-) -> Parsed<'t, 'a, usize>
-    requires states { states ≤ 32 }
-    ensures value { GivesParsed (λ x. (x.0, lexemes x.1.now)) result (listed (one_real end first states) end 0 (lexemes tokens.now)) }
-    ensures shorter { IfOk result (λ x. length x.1.now < length tokens.now) }
-{
-    let (reals, rest) = open_reals(end, first, states, tokens)?;
-    let (_, rest) = want(end, Head::Close, rest)?;
-    Ok((reals, rest))
+impl<'a> Items<'a> for RealRule {
+    ghost use Rattle.std.specs.Prelude.{ℕ, ◌≤◌};
+    ghost use Rattle.fx_grammar.specs.Fronts.{one_real};
+
+    type Kept = usize;
+
+    ghost Value = { ℕ };
+
+    ghost value_of = { λ reals. reals };
+
+    ghost can_go_on = { λ rule reals. (rule.states ≤ 32) × (reals ≤ 96) };
+
+    ghost item_at = { λ rule. one_real rule.end rule.first rule.states };
+
+    fn item<'t>(&self, reals: usize, tokens: &'t [Token<'a>]) -> Parsed<'t, 'a, usize> {
+        one_real(self.end, self.first, self.states, reals, tokens)
+    }
 }
 
 /// The type: how many `Real` it has.
@@ -181,7 +175,8 @@ pub fn type_at<'t, 'a>(end: u32, states: usize, tokens: &'t [Token<'a>]) -> Pars
 {
     let first = place_at(end, tokens);
     if peek(tokens) == Head::Open {
-        let (count, rest) = reals(end, first, states, behind(tokens))?;
+        let rule = RealRule { end, first, states };
+        let (count, rest) = listed(&rule, end, 0, behind(tokens))?;
         return more_than(first, states, count, rest);
     }
     let (count, rest) = one_real(end, first, states, 0, tokens)?;
@@ -204,29 +199,39 @@ fn more_than<'t, 'a>(
     Ok((count, rest))
 }
 
-#[tactic(auto, unfolding(fx_grammar::specs::Steps::separated))]
-fn open_states<'t, 'a>(
+/// The rule of one state.
+#[derive(Drop)]
+struct StateRule {
     end: u32,
-    declared: Declared<'a>,
-    tokens: &'t [Token<'a>],
-) -> Parsed<'t, 'a, Declared<'a>>
-    requires states { length declared.states.items ≤ 32 }
-    requires names { length declared.names ≤ 64 + length declared.states.items }
-    ensures value { GivesParsed (λ x. (declared_of x.0, lexemes x.1.now)) result (separated Comma (declared_state end) (declared_of declared.entry) (lexemes tokens.now)) }
-    ensures shorter { IfOk result (λ x. length x.1.now < length tokens.now) }
-    ensures few { IfOk result (λ x. (length x.0.states.items ≤ 32) × (length x.0.names ≤ 64 + length x.0.states.items)) }
-{
-    let (mut now, mut rest) = one_state(end, declared, tokens)?;
-    'items: while next_is(Head::Comma, rest) {
-        let (more, after) = one_state(end, now, behind(rest))?;
-        now = more;
-        rest = after;
+}
+
+impl<'a> Items<'a> for StateRule {
+    ghost use Rattle.std.specs.Prelude.{◌≤◌, ◌+◌, length};
+    ghost use Rattle.fx_grammar.specs.Fronts as fronts;
+    ghost use Rattle.fx_grammar.specs.Fronts.{declared_state};
+    ghost use Rattle.fx_parser.specs.Views.{declared_of};
+
+    type Kept = Declared<'a>;
+
+    ghost Value = { fronts.Declared };
+
+    ghost value_of = { λ declared. declared_of declared };
+
+    ghost can_go_on = { λ rule declared. (length declared.states.items ≤ 32) × (length declared.names ≤ 64 + length declared.states.items) };
+
+    ghost item_at = { λ rule. declared_state rule.end };
+
+    fn item<'t>(
+        &self,
+        declared: Declared<'a>,
+        tokens: &'t [Token<'a>],
+    ) -> Parsed<'t, 'a, Declared<'a>> {
+        one_state(self.end, declared, tokens)
     }
-    Ok((now, rest))
 }
 
 /// The states that there may be, behind the names of the inputs.
-#[tactic(auto, unfolding(fx_grammar::specs::Fronts::states_at, fx_grammar::specs::Steps::listed))]
+#[tactic(auto, unfolding(fx_grammar::specs::Fronts::states_at))]
 pub fn states<'t, 'a>(
     alloc: Global,
     end: u32,
@@ -245,7 +250,5 @@ pub fn states<'t, 'a>(
     if peek(tokens) != Head::Open {
         return Ok((declared, tokens));
     }
-    let (declared, rest) = open_states(end, declared, behind(tokens))?;
-    let (_, rest) = want(end, Head::Close, rest)?;
-    Ok((declared, rest))
+    listed(&StateRule { end }, end, declared, behind(tokens))
 }

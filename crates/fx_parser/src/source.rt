@@ -6,43 +6,81 @@ ghost use Rattle.fx_parser.specs.Views.{drafts_of, AreNamed};
 ghost use Rattle.fx_grammar.specs.Sources.{dot_at, import_at, imports_at, one_def, defs_at, ended, object_at, source_of};
 
 use crate::function::{Draft, read_body, read_front};
-use fx_cursor::{Names, Parsed, behind, next_is, no_names, peek, place_at, want, with_name, wrong};
+use fx_cursor::{
+    Items, Names, Parsed, behind, next_is, no_names, peek, place_at, repeated, separated, want,
+    with_name, wrong,
+};
 use fx_grammar::Head;
 use fx_lexer::{SourceFault, Token};
 use std::alloc::Global;
 
 type Rest<'t, 'a> = Result<&'t [Token<'a>], SourceFault>;
 
+/// One name of an import.
 #[tactic(auto, unfolding(fx_grammar::specs::Sources::dot_at))]
-fn dot<'t, 'a>(end: u32, tokens: &'t [Token<'a>]) -> Rest<'t, 'a>
-    ensures value { GivesParsed (λ r. (tt, lexemes r.now)) result (dot_at end tt (lexemes tokens.now)) }
-    ensures shorter { IfOk result (λ r. length r.now < length tokens.now) }
+fn dot<'t, 'a>(end: u32, tokens: &'t [Token<'a>]) -> Parsed<'t, 'a, ()>
+    ensures value { GivesParsed (λ x. (tt, lexemes x.1.now)) result (dot_at end tt (lexemes tokens.now)) }
+    ensures shorter { IfOk result (λ x. length x.1.now < length tokens.now) }
 {
     let (_, rest) = want(end, Head::Name, tokens)?;
-    Ok(rest)
+    Ok(((), rest))
+}
+
+/// The rule of one name of an import.
+#[derive(Drop)]
+struct DotRule {
+    end: u32,
+}
+
+impl<'a> Items<'a> for DotRule {
+    ghost use Rattle.fx_grammar.specs.Sources.{dot_at};
+
+    type Kept = ();
+
+    ghost Value = { Unit {0} };
+
+    ghost value_of = { λ none. tt };
+
+    ghost can_go_on = { λ rule none. Unit {0} };
+
+    ghost item_at = { λ rule. dot_at rule.end };
+
+    fn item<'t>(&self, _none: (), tokens: &'t [Token<'a>]) -> Parsed<'t, 'a, ()> {
+        dot(self.end, tokens)
+    }
 }
 
 /// One import, behind its word.
-#[tactic(auto, unfolding(fx_grammar::specs::Sources::import_at, fx_grammar::specs::Steps::separated))]
-fn import<'t, 'a>(end: u32, tokens: &'t [Token<'a>]) -> Rest<'t, 'a>
-    ensures value { GivesParsed (λ r. (tt, lexemes r.now)) result (import_at end tt (lexemes tokens.now)) }
-    ensures shorter { IfOk result (λ r. length r.now < length tokens.now) }
+#[tactic(auto, unfolding(fx_grammar::specs::Sources::import_at))]
+fn import<'t, 'a>(end: u32, tokens: &'t [Token<'a>]) -> Parsed<'t, 'a, ()>
+    ensures value { GivesParsed (λ x. (tt, lexemes x.1.now)) result (import_at end tt (lexemes tokens.now)) }
+    ensures shorter { IfOk result (λ x. length x.1.now < length tokens.now) }
 {
-    let mut rest = dot(end, tokens)?;
-    'items: while peek(rest) == Head::Dot {
-        let after = dot(end, behind(rest))?;
-        rest = after;
-    }
-    Ok(rest)
+    separated(&DotRule { end }, Head::Dot, (), tokens)
 }
 
-/// The same tokens. A loop's variables come from a `?`, since the borrow checker covers no loop
-/// over a parameter of this kind yet.
-fn begun<'t, 'a>(tokens: &'t [Token<'a>]) -> Rest<'t, 'a>
-    ensures value { IfOk result (λ r. r.now ≡ tokens.now) }
-    ensures ok { IsOk result }
-{
-    Ok(tokens)
+/// The rule of one import.
+#[derive(Drop)]
+struct ImportRule {
+    end: u32,
+}
+
+impl<'a> Items<'a> for ImportRule {
+    ghost use Rattle.fx_grammar.specs.Sources.{import_at};
+
+    type Kept = ();
+
+    ghost Value = { Unit {0} };
+
+    ghost value_of = { λ none. tt };
+
+    ghost can_go_on = { λ rule none. Unit {0} };
+
+    ghost item_at = { λ rule. import_at rule.end };
+
+    fn item<'t>(&self, _none: (), tokens: &'t [Token<'a>]) -> Parsed<'t, 'a, ()> {
+        import(self.end, tokens)
+    }
 }
 
 /// All imports.
@@ -51,11 +89,7 @@ fn imports<'t, 'a>(end: u32, tokens: &'t [Token<'a>]) -> Rest<'t, 'a>
     ensures value { GivesParsed (λ r. (tt, lexemes r.now)) result (imports_at end (lexemes tokens.now)) }
     ensures shorter { IfOk result (λ r. length r.now ≤ length tokens.now) }
 {
-    let mut rest = begun(tokens)?;
-    'items: while peek(rest) == Head::Import {
-        let after = import(end, behind(rest))?;
-        rest = after;
-    }
+    let (_, rest) = repeated(&ImportRule { end }, Head::Import, (), tokens)?;
     Ok(rest)
 }
 

@@ -5,13 +5,13 @@ ghost use Rattle.fx_lexer.specs.Faults.{GivesParsed};
 ghost use Rattle.fx_cursor.specs.Views.{lexemes};
 ghost use Rattle.fx_requirements.specs.Views.{subject_of, subjects_of, demand_value, IsNamed};
 ghost use Rattle.fx_lexer.specs.Tokens.{lexeme_of};
-ghost use Rattle.fx_grammar.specs.Steps.{separated, listed};
 ghost use Rattle.fx_grammar.specs.Ensuring.{demand_at, no_demand, past_minus, output_at, first_place, of_arity, outputs_at, ensuring_at, maybe_ensuring_at};
-ghost use Rattle.fx_grammar.specs.declared.head.Head.TheVariants.{Comma, And};
 
 use crate::condition::{error_at, is_relation, is_signed};
 use crate::subject::{Named, Subject, no_subjects, subject_at, with_subject};
-use fx_cursor::{Numeral, Parsed, behind, next_is, peek, place, place_at, want, wrong};
+use fx_cursor::{
+    Items, Numeral, Parsed, behind, listed, peek, place, place_at, separated, want, wrong,
+};
 use fx_grammar::Head;
 use fx_lexer::{SourceFault, SourceKind, Token};
 use std::alloc::Global;
@@ -79,22 +79,30 @@ fn output<'t, 'a>(end: u32, named: Named<'a>, tokens: &'t [Token<'a>]) -> Parsed
     Ok((named, rest))
 }
 
-#[tactic(auto, unfolding(fx_grammar::specs::Steps::separated))]
-fn open_outputs<'t, 'a>(
-    alloc: Global,
+/// The rule of one output's name.
+#[derive(Drop)]
+struct OutputRule {
     end: u32,
-    tokens: &'t [Token<'a>],
-) -> Parsed<'t, 'a, Named<'a>>
-    ensures value { GivesParsed (λ x. (subjects_of x.0.subjects, lexemes x.1.now)) result (separated Comma (output_at end) [] (lexemes tokens.now)) }
-    ensures shorter { IfOk result (λ x. length x.1.now < length tokens.now) }
-{
-    let (mut named, mut rest) = output(end, no_subjects(alloc), tokens)?;
-    'items: while next_is(Head::Comma, rest) {
-        let (more, after) = output(end, named, behind(rest))?;
-        named = more;
-        rest = after;
+}
+
+impl<'a> Items<'a> for OutputRule {
+    ghost use Rattle.fx_grammar.specs.Ranges.{Subjects};
+    ghost use Rattle.fx_grammar.specs.Ensuring.{output_at};
+    ghost use Rattle.fx_requirements.specs.Views.{subjects_of, IsNamed};
+
+    type Kept = Named<'a>;
+
+    ghost Value = { Subjects };
+
+    ghost value_of = { λ named. subjects_of named.subjects };
+
+    ghost can_go_on = { λ rule named. IsNamed named };
+
+    ghost item_at = { λ rule. output_at rule.end };
+
+    fn item<'t>(&self, named: Named<'a>, tokens: &'t [Token<'a>]) -> Parsed<'t, 'a, Named<'a>> {
+        output(self.end, named, tokens)
     }
-    Ok((named, rest))
 }
 
 /// Where the name of the first one stands.
@@ -124,7 +132,7 @@ fn counted<'t, 'a>(
 }
 
 /// The names of the outputs.
-#[tactic(auto, unfolding(fx_grammar::specs::Ensuring::outputs_at, fx_grammar::specs::Steps::listed))]
+#[tactic(auto, unfolding(fx_grammar::specs::Ensuring::outputs_at))]
 fn outputs_at<'t, 'a>(
     alloc: Global,
     end: u32,
@@ -135,30 +143,42 @@ fn outputs_at<'t, 'a>(
     ensures shorter { IfOk result (λ x. length x.1.now < length tokens.now) }
 {
     if peek(tokens) == Head::Open {
-        let (named, rest) = open_outputs(alloc, end, behind(tokens))?;
-        let (_, rest) = want(end, Head::Close, rest)?;
+        let rule = OutputRule { end };
+        let (named, rest) = listed(&rule, end, no_subjects(alloc), behind(tokens))?;
         return counted(outputs, named, rest);
     }
     let (named, rest) = output(end, no_subjects(alloc), tokens)?;
     counted(outputs, named, rest)
 }
 
-#[tactic(auto, unfolding(fx_grammar::specs::Steps::separated))]
-fn demands<'t, 'a>(
+/// The rule of one demand.
+#[derive(Drop)]
+struct DemandRule {
     end: u32,
-    subjects: Vec<Subject<'a>>,
-    tokens: &'t [Token<'a>],
-) -> Parsed<'t, 'a, Vec<Subject<'a>>>
-    ensures value { GivesParsed (λ x. (subjects_of x.0, lexemes x.1.now)) result (separated And (demand_at end) (subjects_of subjects.entry) (lexemes tokens.now)) }
-    ensures shorter { IfOk result (λ x. length x.1.now < length tokens.now) }
-{
-    let (mut now, mut rest) = demand(end, subjects, tokens)?;
-    'items: while peek(rest) == Head::And {
-        let (more, after) = demand(end, now, behind(rest))?;
-        now = more;
-        rest = after;
+}
+
+impl<'a> Items<'a> for DemandRule {
+    ghost use Rattle.fx_grammar.specs.Ranges.{Subjects};
+    ghost use Rattle.fx_grammar.specs.Ensuring.{demand_at};
+    ghost use Rattle.fx_requirements.specs.Views.{subjects_of};
+
+    type Kept = Vec<Subject<'a>>;
+
+    ghost Value = { Subjects };
+
+    ghost value_of = { λ subjects. subjects_of subjects };
+
+    ghost can_go_on = { λ rule subjects. Unit {0} };
+
+    ghost item_at = { λ rule. demand_at rule.end };
+
+    fn item<'t>(
+        &self,
+        subjects: Vec<Subject<'a>>,
+        tokens: &'t [Token<'a>],
+    ) -> Parsed<'t, 'a, Vec<Subject<'a>>> {
+        demand(self.end, subjects, tokens)
     }
-    Ok((now, rest))
 }
 
 fn errors_in<'a>(
@@ -198,7 +218,7 @@ fn ensuring_at<'t, 'a>(
     let (_, rest) = want(end, Head::Open, tokens)?;
     let (names, rest) = outputs_at(alloc, end, outputs, rest)?;
     let (_, rest) = want(end, Head::Arrow, rest)?;
-    let (subjects, rest) = demands(end, names, rest)?;
+    let (subjects, rest) = separated(&DemandRule { end }, Head::And, names, rest)?;
     let (_, rest) = want(end, Head::Close, rest)?;
     let errors = errors_in(alloc, &subjects)?;
     Ok((errors, rest))
