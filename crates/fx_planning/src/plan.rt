@@ -173,14 +173,14 @@ pub fn move_word(
 
 /// The plan of a function at these points with the nearest words, and a box in which the error of each state lies; or the
 /// first node that has none.
-pub fn find_plan_in(
+pub fn find_plan_in<'a>(
     alloc: Global,
-    function: &Function,
-    nodes: &Nodes,
-    ranges: &Ranges,
-    points: &[i32],
+    function: &'a Function,
+    nodes: &'a Nodes,
+    ranges: &'a Ranges,
+    points: &'a [i32],
     width: u32,
-    boxes: &[Span],
+    boxes: &'a [Span],
 ) -> Result<Result<Plan, Failed>, Memory> {
     let list = nodes.list.as_slice();
     let codes = match codes_of(alloc, function, list, points, width)? {
@@ -200,6 +200,5 @@ pub fn find_plan_in(
             is_held: false,
         },
     };
-    let plan = planned(alloc, &setting, codes, false)?;
-    Ok(plan)
+    planned(alloc, &setting, codes, false)
 }
