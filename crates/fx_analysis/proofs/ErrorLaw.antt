@@ -1,8 +1,7 @@
 -- Plain errors meet the error's inequality.
-use Rattle.std.proofs.Common.{◌≡◌, ℕ, zero, suc, ◌<◌, ◌≤◌, Bool, true, false, if◌then◌else◌, List, [], ◌∷◌, length, Ok, Err, ℤ, pos, negsuc, ◌↔◌, refl, sym, ap, ap₂, subst, ◌∙◌, arith}
+use Rattle.std.proofs.Common.{◌≡◌, ℕ, zero, suc, ◌<◌, ◌≤◌, Bool, true, false, if◌then◌else◌, List, [], ◌∷◌, length, Ok, Err, ℤ, pos, ◌↔◌, refl, sym, ap, ap₂, subst, ◌∙◌, arith}
 use Rattle.std.specs.Prelude.{unsigned_abs}
 use Rattle.std.specs.List.{list_all}
-use Rattle.std.proofs.lemmas.Int.{ints}
 use Rattle.std.proofs.lemmas.List.{get_or-map}
 use Rattle.fx_rational.specs.Rational.{Rational, plus, minus, negative, AtMost, scaled, floor}
 use Rattle.fx_rational.specs.Interval.{Interval}
@@ -19,15 +18,17 @@ use Rattle.fx_inequalities.specs.Certificate.{Certificate, NodeLine, Row, zero_i
 use Rattle.fx_inequalities.specs.Affine.{range_at, error_at}
 use Rattle.fx_inequalities.specs.NodeConditions.{no_input, plain_error_claims, quotient_claims, divisor_claims}
 use Rattle.fx_bounds.proofs.Claims.{both_left, both_right}
-use Rattle.fx_analysis.specs.Narrow.{Bounds, quotient_bounds, is_apart, narrowest}
-use Rattle.fx_analysis.specs.declared.fault.Why.TheVariants.{Zero, Beyond}
+use Rattle.fx_grid.specs.Narrow.{Bounds, quotient_bounds, is_apart, narrowest}
+use Rattle.fx_grid.specs.declared.fault.Why.TheVariants.{Zero, Beyond}
 use Rattle.fx_analysis.specs.PlainRanges.{box_row}
 use Rattle.fx_analysis.specs.GreedyPoints.{shift_of, product_shift}
-use Rattle.fx_analysis.specs.PlainErrors.{placed_code, formless_line, formless_lines, error_sketch, error_grid, unit_value, widened, single, error_bounds, error_divides, plain_error}
+use Rattle.fx_analysis.specs.PlainErrors.{placed_code, formless_line, formless_lines, error_sketch, error_bounds, error_divides, plain_error}
+use Rattle.fx_grid.specs.ErrorGrid.{error_grid, unit_value, widened, single}
 use Rattle.fx_analysis.specs.Ordered.{IsInPlace}
-use Rattle.fx_analysis.specs.Laws.{IsNarrowestOf, HasErrors, ErrorsLaw, no_node}
-use Rattle.fx_analysis.proofs.Quotients.{Around, both, around_inside, quotient_around}
-use Rattle.fx_analysis.proofs.Narrowest.{narrowest_is}
+use Rattle.fx_grid.specs.Laws.{IsNarrowestOf}
+use Rattle.fx_analysis.specs.Laws.{HasErrors, ErrorsLaw, no_node}
+use Rattle.fx_grid.proofs.Quotients.{Around, both, around_inside, quotient_around}
+use Rattle.fx_grid.proofs.Narrowest.{narrowest_is}
 use Rattle.fx_analysis.proofs.RangeLaw.{narrowest_same}
 use Rattle.fx_analysis.proofs.Folded.{part_at, part_before, part_below, made_at, all_length}
 use Rattle.fx_analysis.proofs.Ordered.{node_list}
@@ -116,10 +117,6 @@ divisor_held cert (Add a b) d = refl
 divisor_held cert (Sub a b) d = refl
 divisor_held cert (Mul a b) d = refl
 divisor_held cert (Copy a) d = refl
-
-pub grid_few : (f : ℤ) → IsPoint f → error_grid f ≤ 96
-grid_few (pos f) h = let p = h.high in omega (arith, ints, p)
-grid_few (negsuc f) h = omega arith
 
 pub error_is : (fn : Function) (ps : List ℤ) (gs boxes hs : List Interval) (node : Node) (h : Interval) → IsPoint (at (pos 0) ps (length hs)) → plain_error fn ps gs boxes hs node ≡ Ok h →
     IsErrorOf fn (error_sketch boxes gs hs) ps node (at (pos 0) ps (length hs)) (span (at zero_interval gs (length hs))) h

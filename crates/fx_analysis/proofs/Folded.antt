@@ -4,7 +4,7 @@ use Rattle.std.proofs.lemmas.List.{get_or_append_left, length_push, append-nil}
 use Rattle.std.proofs.Math.Seq.{get_or-append_seam}
 use Rattle.fx_model.specs.Tree.{at}
 use Rattle.fx_model.specs.Nodes.{Node}
-use Rattle.fx_analysis.specs.declared.fault.Why.{Why}
+use Rattle.fx_grid.specs.declared.fault.Why.{Why}
 use Rattle.fx_analysis.specs.Fold.{Absent, and_on, parts_after}
 use Rattle.fx_analysis.specs.Ordered.{IsInPlace, AreInPlace}
 

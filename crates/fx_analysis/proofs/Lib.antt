@@ -1,30 +1,13 @@
 mod Worked
-pub mod Narrows
-pub mod Quotients
 pub mod Ordered
 pub mod Folded
-pub mod Narrowest
 pub mod RangeLaw
 pub mod PointLaw
 pub mod ErrorLaw
-pub mod Spelling
-pub mod Casts
-pub mod Settled
-pub mod Lefts
 pub mod Units
-pub mod Ratios
-pub mod Signs
 pub mod NodeRanges
 pub mod Turns
 pub mod PointTurns
-pub mod Halves
-pub mod Ends
-pub mod LongDivision
-pub mod UnitEnds
-pub mod Dividing
-pub mod Exacts
-pub mod Checks
-pub mod ExactEnds
 pub mod NodeErrors
 pub mod NodeLaw
 pub mod AttemptLaw
@@ -36,6 +19,4 @@ pub mod Attempted
 pub mod Planned
 pub mod WrittenSteps
 pub mod Afterwards
-pub mod Trimmed
 pub mod Reached
-pub mod Shorts

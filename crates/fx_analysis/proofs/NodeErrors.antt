@@ -9,20 +9,21 @@ use Rattle.fx_model.specs.Function.{Function}
 use Rattle.fx_model.specs.Nodes.{Node, Input, State, Const, Neg, Add, Sub, Mul, Div, Copy}
 use Rattle.fx_inequalities.specs.Formula.{Span, span, formula_value, zero_span, span_sum, span_difference, span_product, loss_at, word_at, unit_at, Num, Sum, Difference}
 use Rattle.fx_inequalities.specs.OperationSpans.{machine_range, quotient_error}
-use Rattle.fx_analysis.specs.Dividing.{cleared_quotient}
+use Rattle.fx_grid.specs.Dividing.{cleared_quotient}
 use Rattle.fx_inequalities.specs.Claim.{BelowFraction, AboveFraction, inside}
 use Rattle.fx_inequalities.specs.Certificate.{NodeLine, Row, zero_interval, no_row}
 use Rattle.fx_inequalities.specs.Affine.{range_at, error_at}
 use Rattle.fx_inequalities.specs.NodeConditions.{no_input}
-use Rattle.fx_analysis.specs.declared.fault.Why.{Why}
-use Rattle.fx_analysis.specs.Narrow.{span_bounds, narrowest}
+use Rattle.fx_grid.specs.declared.fault.Why.{Why}
+use Rattle.fx_grid.specs.Narrow.{span_bounds, narrowest}
 use Rattle.fx_analysis.specs.PlainRanges.{box_row}
 use Rattle.fx_analysis.specs.GreedyPoints.{shift_of, product_shift}
-use Rattle.fx_analysis.specs.PlainErrors.{error_sketch, error_grid, unit_value, single, plain_error}
-use Rattle.fx_analysis.proofs.ErrorLaw.{lines_at, error_is, grid_few}
+use Rattle.fx_analysis.specs.PlainErrors.{error_sketch, plain_error}
+use Rattle.fx_grid.specs.ErrorGrid.{error_grid, unit_value, single}
+use Rattle.fx_analysis.proofs.ErrorLaw.{lines_at, error_is}
+use Rattle.fx_grid.proofs.Exacts.{grid_few}
 use Rattle.fx_model.specs.LawfulProgram.{IsPoint}
-use Rattle.fx_judging.specs.Places.{IsShortSpan}
-use Rattle.fx_analysis.specs.Listed.{HasFewPlaces}
+use Rattle.fx_grid.specs.Narrowed.{HasFewPlaces}
 
 abbrev pub Answer : Type 0
 Answer = Result Interval Why
@@ -88,9 +89,6 @@ module _ (fn : Function) (ps : List ℤ) (gs boxes hs : List Interval) (f : ℤ)
       (λ h. BelowFraction (Sum (Num h.lo) (unit_at f)) (negative r) ∷ AboveFraction r (Num h.hi) ∷ []) ≡ plain_error fn ps gs boxes hs (Input k)
   input_is k r e = (λ i. narrowest (error_grid (own i)) (record { lo = minus (negative (e i)) (unit_value (own i)); hi = e i })
       (λ h. BelowFraction (Sum (Num h.lo) (unit_at (own i))) (negative (e i)) ∷ AboveFraction (e i) (Num h.hi) ∷ []))
-
-pub few_short : (i : Interval) → HasFewPlaces i → IsShortSpan 512 (span i)
-few_short i h = let a = h.lo in let b = h.hi in record { lo = record { few = a }; hi = record { few = b } }
 
 -- what is answered has few binary places
 pub error_low : (fn : Function) (ps : List ℤ) (gs boxes hs : List Interval) (node : Node) (h : Interval) → IsPoint (at (pos 0) ps (length hs)) → plain_error fn ps gs boxes hs node ≡ Ok h → HasFewPlaces h

@@ -10,8 +10,8 @@ use Rattle.fx_model.specs.Nodes.{Node, Input, State, Const, Neg, Add, Sub, Mul, 
 use Rattle.fx_model.specs.Valid.{IsValid}
 use Rattle.fx_inequalities.specs.Certificate.{zero_interval}
 use Rattle.fx_bounds.proofs.Claims.{both_left, both_right}
-use Rattle.fx_analysis.specs.declared.fault.Why.{Why}
-use Rattle.fx_analysis.specs.declared.fault.Why.TheVariants.{Word}
+use Rattle.fx_grid.specs.declared.fault.Why.{Why}
+use Rattle.fx_grid.specs.declared.fault.Why.TheVariants.{Word}
 use Rattle.fx_analysis.specs.GreedyPoints.{is_reached, is_from_to, has_shifts, is_point, first_point, only_point, best_point, greedy_point, greedy_points}
 use Rattle.fx_analysis.specs.Ordered.{IsInPlace}
 use Rattle.fx_analysis.specs.Laws.{HasGreedyPoint, PointsLaw, no_node}

@@ -6,7 +6,7 @@ use Rattle.fx_model.specs.Tree.{at}
 use Rattle.fx_model.specs.LawfulProgram.{IsPoint}
 use Rattle.fx_model.specs.Nodes.{Node}
 use Rattle.fx_inequalities.specs.Certificate.{zero_interval}
-use Rattle.fx_analysis.specs.Narrowed.{point_answer}
+use Rattle.fx_analysis.specs.PointView.{point_answer}
 use Rattle.fx_analysis.specs.GreedyPoints.{is_point, only_point, best_point, greedy_point}
 use Rattle.fx_analysis.specs.Ordered.{IsInPlace}
 use Rattle.fx_analysis.proofs.PointLaw.{greedy_is, only_early}

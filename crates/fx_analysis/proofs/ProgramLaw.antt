@@ -21,7 +21,8 @@ use Rattle.fx_analysis.specs.GreedyPoints.{is_from_to, shift_of, product_shift, 
 use Rattle.fx_analysis.specs.PlainErrors.{placed_code}
 use Rattle.fx_analysis.specs.PlainAttempt.{placed_codes, attempt_of}
 use Rattle.fx_analysis.specs.Ordered.{IsInPlace}
-use Rattle.fx_analysis.specs.Laws.{Covers, no_node}
+use Rattle.fx_grid.specs.Laws.{Covers}
+use Rattle.fx_analysis.specs.Laws.{no_node}
 use Rattle.fx_analysis.specs.AttemptLaws.{AttemptProgramLaw}
 use Rattle.fx_analysis.proofs.Folded.{all_length, made_at, part_at}
 use Rattle.fx_analysis.proofs.Ordered.{node_list}

@@ -14,13 +14,14 @@ use Rattle.fx_inequalities.specs.Affine.{range_at}
 use Rattle.fx_inequalities.specs.NodeConditions.{no_input, plain_range_claims, quotient_claims}
 use Rattle.fx_rational.proofs.Tests.{at_most_true, at_most_holds}
 use Rattle.fx_bounds.proofs.Claims.{both_left, both_right}
-use Rattle.fx_analysis.specs.Narrow.{narrowest}
-use Rattle.fx_analysis.specs.declared.fault.Why.TheVariants.{Zero}
+use Rattle.fx_grid.specs.Narrow.{narrowest}
+use Rattle.fx_grid.specs.declared.fault.Why.TheVariants.{Zero}
 use Rattle.fx_analysis.specs.PlainRanges.{box_row, range_line, range_sketch, range_bounds, range_divides, plain_range}
 use Rattle.fx_analysis.specs.Ordered.{IsInPlace}
-use Rattle.fx_analysis.specs.Laws.{IsNarrowestOf, HasRanges, RangesLaw, no_node}
-use Rattle.fx_analysis.proofs.Quotients.{Around, both, around_inside, quotient_around}
-use Rattle.fx_analysis.proofs.Narrowest.{narrowest_is}
+use Rattle.fx_grid.specs.Laws.{IsNarrowestOf}
+use Rattle.fx_analysis.specs.Laws.{HasRanges, RangesLaw, no_node}
+use Rattle.fx_grid.proofs.Quotients.{Around, both, around_inside, quotient_around}
+use Rattle.fx_grid.proofs.Narrowest.{narrowest_is}
 use Rattle.fx_analysis.proofs.Folded.{part_at, part_before, part_below, made_at}
 use Rattle.fx_analysis.proofs.Ordered.{node_list}
 

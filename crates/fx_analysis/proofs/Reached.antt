@@ -14,7 +14,7 @@ use Rattle.fx_rational.proofs.Intervals.{times_turned}
 use Rattle.fx_model.specs.Nodes.{Node}
 use Rattle.fx_bounds.proofs.Claims.{both_left, both_right}
 use Rattle.fx_bounds.proofs.Words.{word_at_is}
-use Rattle.fx_analysis.specs.declared.fault.Why.{Why}
+use Rattle.fx_grid.specs.declared.fault.Why.{Why}
 use Rattle.fx_analysis.specs.GreedyPoints.{is_reached, has_shifts, is_point, first_point}
 use Rattle.fx_analysis.proofs.LiteralWords.{dyadic_number}
 use Rattle.fx_analysis.proofs.PointLaw.{first_next}

@@ -2,7 +2,7 @@
 use Rattle.std.proofs.Common.{◌≡◌, ℕ, zero, suc, ◌+◌, ◌<◌, ◌≤◌, List, [], ◌∷◌, ◌++◌, length, drop, get_or, Result, Ok, Err, refl, sym, ap, ap₂, subst, ◌∙◌, arith, length-append}
 use Rattle.std.proofs.Math.Seq.{drop-cons}
 use Rattle.fx_model.specs.Nodes.{Node}
-use Rattle.fx_analysis.specs.declared.fault.Why.{Why}
+use Rattle.fx_grid.specs.declared.fault.Why.{Why}
 use Rattle.fx_analysis.specs.Fold.{Absent, and_on, parts_after}
 use Rattle.fx_analysis.specs.Ordered.{IsInPlace, AreInPlace}
 

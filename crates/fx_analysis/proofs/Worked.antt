@@ -8,8 +8,8 @@ use Rattle.fx_model.proofs.Samples.{averager, exact_input}
 use Rattle.fx_inequalities.specs.Formula.{formula_value, formed, formula_fits}
 use Rattle.fx_model.specs.Tree as tree
 use Rattle.fx_model.specs.Function.{Function}
-use Rattle.fx_analysis.specs.Narrow.{lowest_dyadic, grid_down, grid_up, ratio}
-use Rattle.fx_analysis.specs.declared.fault.Why.TheVariants.{Word, Zero, Beyond}
+use Rattle.fx_grid.specs.Narrow.{lowest_dyadic, grid_down, grid_up, ratio}
+use Rattle.fx_grid.specs.declared.fault.Why.TheVariants.{Word, Zero, Beyond}
 use Rattle.fx_analysis.specs.PlainRanges.{plain_ranges}
 use Rattle.fx_analysis.specs.GreedyPoints.{first_point, greedy_points}
 use Rattle.fx_analysis.specs.PlainErrors.{plain_errors}

@@ -1,9 +1,7 @@
 -- What plain ranges, points and errors meet.
-use Rattle.std.specs.Prelude.{◌≡◌, ℕ, ◌-◌, ◌%◌, ◌<◌, ◌≤◌, unsigned_abs, ℤ, pos, List, [], length, IfSome, Ok, None, true, false, ◌<ℤ◌, ◌≤ℤ◌}
+use Rattle.std.specs.Prelude.{◌≡◌, ℕ, ◌-◌, ◌<◌, ◌≤◌, ℤ, pos, List, [], length, IfSome, Ok, None, true, false, ◌<ℤ◌, ◌≤ℤ◌}
 use Rattle.std.specs.List.{list_all}
-use Rattle.fx_rational.specs.Rational.{AtMost}
-use Rattle.fx_rational.specs.Dyadic.{dyadic_value}
-use Rattle.fx_rational.specs.Interval.{Interval, IsWrittenInterval}
+use Rattle.fx_rational.specs.Interval.{Interval}
 use Rattle.fx_model.specs.Tree.{at}
 use Rattle.fx_model.specs.Function.{Function}
 use Rattle.fx_model.specs.LawfulProgram.{IsPoint}
@@ -11,7 +9,7 @@ use Rattle.fx_model.specs.Nodes.{Node, Input, nodes_of}
 use Rattle.fx_model.specs.Machine.{points_of}
 use Rattle.fx_model.specs.Valid.{IsValid}
 use Rattle.fx_inequalities.specs.Formula.{span}
-use Rattle.fx_inequalities.specs.Claim.{Claim, fits, holds}
+use Rattle.fx_inequalities.specs.Claim.{fits, holds}
 use Rattle.fx_inequalities.specs.Certificate.{Certificate, zero_interval, no_line, no_row}
 use Rattle.fx_inequalities.specs.NodeConditions.{plain_range_claims, plain_error_claims, divisor_claims}
 use Rattle.fx_inequalities.specs.LawfulCertificate.{IsLawfulCertificate}
@@ -20,40 +18,11 @@ use Rattle.fx_analysis.specs.PlainAttempt.{placed_codes, attempt_of}
 use Rattle.fx_flat.specs.NodeOf.{nodes_in}
 use Rattle.fx_flat.specs.declared.node.Nodes.{Nodes}
 use Rattle.fx_analysis.specs.Listed.{IsWholeList}
-use Rattle.fx_analysis.specs.Narrow.{Bounds, narrow}
 use Rattle.fx_analysis.specs.PlainRanges.{plain_ranges}
 use Rattle.fx_analysis.specs.GreedyPoints.{is_reached, has_shifts, is_point, only_point, greedy_points}
-use Rattle.fx_analysis.specs.PlainErrors.{error_grid, placed_code, plain_errors}
-
--- ---- the narrowest interval
--- an interval holds the bounds
-pub record Covers (g : Interval) (b : Bounds) : Type 0 where
-  pub low : AtMost (dyadic_value g.lo) b.lo
-  pub high : AtMost b.hi (dyadic_value g.hi)
-
--- on grid e
-pub record IsOnGrid (e : ℕ) (g : Interval) : Type 0 where
-  pub lo : g.lo.e ≤ e
-  pub hi : g.hi.e ≤ e
-
--- it lies in lowest terms on grid e, and inside each other one that covers the bounds
-pub record IsNarrowest (e : ℕ) (b : Bounds) (g : Interval) : Type 0 where
-  pub covers : Covers g b
-  pub grid : IsOnGrid e g
-  pub lo_lowest : 0 < g.lo.e → unsigned_abs g.lo.m % 2 ≡ 1
-  pub hi_lowest : 0 < g.hi.e → unsigned_abs g.hi.m % 2 ≡ 1
-  pub inside : (j : Interval) → IsOnGrid e j → Covers j b → AtMost (dyadic_value j.lo) (dyadic_value g.lo) × AtMost (dyadic_value g.hi) (dyadic_value j.hi)
-
-abbrev pub NarrowLaw : Type 0
-NarrowLaw = (e : ℕ) (b : Bounds) → IsNarrowest e b (narrow e b)
-
--- the narrowest on grid e that meets claims of it: they fit and hold, it can be written, and it lies inside each other one of which they hold
-pub record IsNarrowestOf (e : ℕ) (claims : Interval → List Claim) (g : Interval) : Type 0 where
-  pub fit : list_all fits (claims g) ≡ true
-  pub hold : list_all holds (claims g) ≡ true
-  pub written : IsWrittenInterval g
-  pub grid : IsOnGrid e g
-  pub inside : (j : Interval) → IsOnGrid e j → list_all holds (claims j) ≡ true → AtMost (dyadic_value j.lo) (dyadic_value g.lo) × AtMost (dyadic_value g.hi) (dyadic_value j.hi)
+use Rattle.fx_grid.specs.ErrorGrid.{error_grid}
+use Rattle.fx_grid.specs.Laws.{IsNarrowestOf}
+use Rattle.fx_analysis.specs.PlainErrors.{placed_code, plain_errors}
 
 -- ---- ranges
 abbrev pub no_node : Node

@@ -1,4 +1,3 @@
-pub mod Narrow
 pub mod Fold
 pub mod PlainRanges
 pub mod GreedyPoints
@@ -6,15 +5,10 @@ pub mod PlainErrors
 pub mod PlainAttempt
 pub mod Laws
 pub mod Ordered
-pub mod Narrowed
+pub mod PointView
 pub mod Blame
 pub mod Listed
-pub mod Wide
-pub mod Dividing
-pub mod Exact
-pub mod Places
 pub mod AttemptLaws
 pub mod AttemptView
 pub mod AttemptParts
 pub mod Attempts
-pub mod Short

@@ -1,6 +1,5 @@
--- What the calls ask of lists: nodes in their places, and ranges with few binary places.
+-- What the calls ask of lists: nodes in their places.
 use Rattle.std.specs.Prelude.{◌+◌, ◌≤◌, length}
-use Rattle.fx_rational.specs.Interval.{Interval}
 use Rattle.fx_flat.specs.NodeOf.{nodes_in}
 use Rattle.fx_flat.specs.declared.node.Nodes.{Nodes}
 use Rattle.fx_analysis.specs.Ordered.{AreInPlace}
@@ -10,8 +9,3 @@ pub record IsWholeList (nodes : Nodes) : Type 0 where
   pub ordered : AreInPlace nodes.inputs nodes.states 0 (nodes_in nodes.list)
   pub room : nodes.inputs + nodes.states + nodes.states ≤ length nodes.list
   pub few : length nodes.list ≤ 4000
-
--- few enough binary places for a product
-pub record HasFewPlaces (i : Interval) : Type 0 where
-  pub lo : i.lo.e ≤ 512
-  pub hi : i.hi.e ≤ 512

@@ -1,23 +1,24 @@
 -- Plain errors: of each node the narrowest interval that the error's inequality allows, with eight binary places more than its point.
-use Rattle.std.specs.Prelude.{ℕ, ◌+◌, ◌-◌, unsigned_abs, ℤ, pos, negsuc, Bool, true, ◌&&◌, if◌then◌else◌, List, [], ◌∷◌, map, length, Result, Err, None}
+use Rattle.std.specs.Prelude.{◌+◌, ◌-◌, unsigned_abs, ℤ, pos, Bool, true, ◌&&◌, if◌then◌else◌, List, [], ◌∷◌, map, length, Result, Err, None}
 use Rattle.std.specs.List.{list_all}
-use Rattle.fx_rational.specs.Rational.{Rational, plus, minus, negative, scaled, floor}
+use Rattle.fx_rational.specs.Rational.{minus, negative, scaled, floor}
 use Rattle.fx_rational.specs.Interval.{Interval}
 use Rattle.fx_model.specs.Tree.{at}
 use Rattle.fx_model.specs.Function.{Function}
 use Rattle.fx_model.specs.Machine as machine
 use Rattle.fx_model.specs.Machine.{Code}
 use Rattle.fx_model.specs.Nodes.{Node, Input, State, Const, Neg, Add, Sub, Mul, Div, Copy, nodes_of}
-use Rattle.fx_inequalities.specs.Formula.{Span, formula_value, span, zero_span, unit_at, word_at}
+use Rattle.fx_inequalities.specs.Formula.{Span, formula_value, span, zero_span, word_at}
 use Rattle.fx_inequalities.specs.Claim.{holds, fits}
 use Rattle.fx_inequalities.specs.OperationSpans.{negation_error, sum_error, difference_error, product_error, copy_error, quotient_error, machine_range}
 use Rattle.fx_inequalities.specs.Certificate.{Certificate, NodeLine, zero_interval, no_row}
 use Rattle.fx_inequalities.specs.Affine.{range_at, error_at}
 use Rattle.fx_inequalities.specs.NodeConditions.{no_input, plain_error_claims, divisor_claims}
 use Rattle.fx_inequalities.specs.Accepted.{no_state}
-use Rattle.fx_analysis.specs.Narrow.{Bounds, span_bounds, quotient_bounds, is_apart, narrowest}
-use Rattle.fx_analysis.specs.declared.fault.Why.{Why}
-use Rattle.fx_analysis.specs.declared.fault.Why.TheVariants.{Zero, Beyond}
+use Rattle.fx_grid.specs.Narrow.{Bounds, span_bounds, quotient_bounds, is_apart, narrowest}
+use Rattle.fx_grid.specs.declared.fault.Why.{Why}
+use Rattle.fx_grid.specs.declared.fault.Why.TheVariants.{Zero, Beyond}
+use Rattle.fx_grid.specs.ErrorGrid.{error_grid, unit_value, widened, single}
 use Rattle.fx_analysis.specs.Fold.{Absent, parts_after}
 use Rattle.fx_analysis.specs.PlainRanges.{box_row}
 use Rattle.fx_analysis.specs.GreedyPoints.{shift_of, product_shift, quotient_shift}
@@ -48,23 +49,6 @@ abbrev pub error_sketch : List Interval → List Interval → List Interval → 
 error_sketch boxes gs hs = record { inputs = 0; states = 0; steps = []; starts = []; rows = []; error_rows = map box_row boxes; lines = formless_lines gs hs }
 
 -- ---- the errors
--- eight binary places more than those of the point
-abbrev pub error_grid : ℤ → ℕ
-error_grid (pos f) = f + 8
-error_grid (negsuc f) = 7 - f
-
--- 2^-f
-abbrev pub unit_value : ℤ → Rational
-unit_value f = formula_value (unit_at f)
-
--- what the machine's quotient loses comes on top on both sides
-abbrev pub widened : ℤ → Bounds → Bounds
-widened f b = record { lo = minus b.lo (unit_value f); hi = plus b.hi (unit_value f) }
-
--- one number alone
-abbrev pub single : Rational → Bounds
-single x = record { lo = x; hi = x }
-
 -- what the error of a node has to hold; c is its code, f its point and g its range
 abbrev pub error_bounds : Function → Certificate → Node → Code → ℤ → Span → Bounds
 error_bounds fn cert (Input k) c f g = let i = at no_input fn.inputs k in record { lo = minus (negative i.err) (unit_value f); hi = i.err }

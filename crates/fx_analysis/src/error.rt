@@ -12,22 +12,21 @@ ghost use Rattle.fx_inequalities.specs.Certificate.{zero_interval};
 ghost use Rattle.fx_inequalities.specs.NodeConditions.{no_input};
 ghost use Rattle.fx_expr.specs.Parts.{input_of};
 ghost use Rattle.fx_flat.specs.NodeOf.{node_of};
-ghost use Rattle.fx_analysis.specs.Narrow.{span_bounds, narrowest};
+ghost use Rattle.fx_grid.specs.Narrow.{span_bounds, narrowest};
 ghost use Rattle.fx_judging.specs.Judging.{FormsSpan};
-ghost use Rattle.fx_analysis.specs.Listed.{HasFewPlaces};
+ghost use Rattle.fx_grid.specs.Narrowed.{HasFewPlaces};
 ghost use Rattle.fx_analysis.specs.GreedyPoints.{shift_of, product_shift};
 ghost use Rattle.fx_analysis.specs.Ordered.{IsInPlace};
-ghost use Rattle.fx_analysis.specs.PlainErrors.{error_grid, plain_error};
+ghost use Rattle.fx_grid.specs.ErrorGrid.{error_grid};
+ghost use Rattle.fx_analysis.specs.PlainErrors.{plain_error};
 
-use crate::divide::quotient_error;
-use crate::exact::{grid, input_error, literal_error};
-use crate::fault::Why;
 use crate::point::{product_shift, shift};
 use crate::range::{input_at, interval_at};
-use crate::settle::settle;
-use crate::short::{plus, times};
 use fx_expr::Function;
 use fx_flat::Node;
+use fx_grid::{
+    Why, error_grid, input_error, literal_error, narrowest_round, plus, quotient_error, times,
+};
 use fx_interval::Interval;
 use fx_judging::{interval, loss, minus, zero};
 
@@ -36,8 +35,8 @@ fn negation(x: Interval, f: i32) -> Result<Interval, Why>
     requires { IsPoint f }
     ensures { result ≡ narrowest (error_grid f) (span_bounds (span_difference zero_span (span x))) (λ h. inside (span_difference zero_span (span x)) (span h)) }
 {
-    let e = grid(f);
-    settle(minus(zero(), interval(x)), e)
+    let e = error_grid(f);
+    narrowest_round(minus(zero(), interval(x)), e)
 }
 
 /// The error of a sum, whose operands are shifted by `sa` and `sb`.
@@ -47,8 +46,8 @@ fn sum(x: Interval, y: Interval, sa: i32, sb: i32, f: i32) -> Result<Interval, W
 {
     let la = loss(f, sa);
     let lb = loss(f, sb);
-    let e = grid(f);
-    settle(plus(plus(plus(interval(x), interval(y)), la), lb), e)
+    let e = error_grid(f);
+    narrowest_round(plus(plus(plus(interval(x), interval(y)), la), lb), e)
 }
 
 /// The error of a difference.
@@ -58,8 +57,8 @@ fn difference(x: Interval, y: Interval, sa: i32, sb: i32, f: i32) -> Result<Inte
 {
     let la = loss(f, sa);
     let lb = loss(f, sb);
-    let e = grid(f);
-    settle(minus(plus(minus(interval(x), interval(y)), la), lb), e)
+    let e = error_grid(f);
+    narrowest_round(minus(plus(minus(interval(x), interval(y)), la), lb), e)
 }
 
 /// The error of a copy.
@@ -68,8 +67,8 @@ fn copy(x: Interval, s: i32, f: i32) -> Result<Interval, Why>
     ensures { result ≡ narrowest (error_grid f) (span_bounds (span_sum (span x) (loss_at f s))) (λ h. inside (span_sum (span x) (loss_at f s)) (span h)) }
 {
     let l = loss(f, s);
-    let e = grid(f);
-    settle(plus(interval(x), l), e)
+    let e = error_grid(f);
+    narrowest_round(plus(interval(x), l), e)
 }
 
 /// What a product loses.
@@ -107,8 +106,8 @@ fn product(
     let x = times(interval(ga), interval(hb));
     let y = times(interval(gb), interval(ha));
     let z = times(interval(ha), interval(hb));
-    let e = grid(f);
-    settle(plus(plus(plus(x, y), z), k), e)
+    let e = error_grid(f);
+    narrowest_round(plus(plus(plus(x, y), z), k), e)
 }
 
 /// Interval `k` of a list, whose ends have few binary places.
@@ -237,8 +236,8 @@ fn state_error(ps: &[i32], boxes: &[Interval], k: u32, f: i32) -> Result<Interva
     ensures { (fn : functions.Function) (gs hs : List model.Interval) → length hs ≤ length gs → f ≡ at (pos 0) ps.now (length hs) → result ≡ plain_error fn ps.now gs boxes.now hs (nodes.State k) }
 {
     let x = interval_at(boxes, k);
-    let e = grid(f);
-    settle(interval(x), e)
+    let e = error_grid(f);
+    narrowest_round(interval(x), e)
 }
 
 /// The error of a node of range `g` at the point `f`, after those of the errors `hs`.

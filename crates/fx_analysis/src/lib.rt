@@ -9,39 +9,23 @@
 mod after;
 mod attempt;
 mod code;
-mod divide;
 mod error;
-mod exact;
 mod fault;
 mod formless;
-mod grid;
-mod number;
-mod parts;
 mod point;
-mod quotient;
 mod range;
-mod settle;
-mod short;
 mod walk;
-mod wide;
 
-ghost use Rattle.fx_analysis.specs.Laws.{NarrowLaw, RangesLaw, PointsLaw, ErrorsLaw, WholeListLaw, AttemptLaw, CodesLaw};
+ghost use Rattle.fx_analysis.specs.Laws.{RangesLaw, PointsLaw, ErrorsLaw, WholeListLaw, AttemptLaw, CodesLaw};
 ghost use Rattle.fx_analysis.specs.AttemptLaws.{AttemptProgramLaw};
 ghost use Rattle.fx_analysis.specs.Attempts.{WrittenStepLaw, NoStepsLaw};
 
 pub use after::attempt_after;
 pub use attempt::plain_attempt;
-pub use exact::grid as error_grid;
-pub use fault::{PlanFault, Why};
+pub use fault::PlanFault;
 pub use formless::roundoff;
-pub use grid::is_small;
-pub use settle::settle as narrowest_round;
+pub use fx_grid::{Why, error_grid, is_small, narrow_law, narrowest_round};
 pub use walk::{points, ranges};
-
-/// The narrowest interval on a grid.
-pub fn narrow_law()
-    ensures { NarrowLaw }
-{}
 
 /// Plain ranges meet the range's inequality, and no narrower ones do.
 pub fn ranges_law()

@@ -7,7 +7,7 @@ ghost use Rattle.fx_model.specs.LawfulProgram.{IsPoint};
 ghost use Rattle.fx_flat.specs.NodeOf.{node_of};
 ghost use Rattle.fx_analysis.specs.GreedyPoints.{is_reached, is_from_to, shift_of, product_shift, quotient_shift, has_shifts, is_point, first_point, only_point, best_point};
 ghost use Rattle.fx_analysis.specs.Ordered.{IsInPlace};
-ghost use Rattle.fx_analysis.specs.Narrowed.{point_answer};
+ghost use Rattle.fx_analysis.specs.PointView.{point_answer};
 
 use fx_flat::Node;
 use fx_interval::Interval;

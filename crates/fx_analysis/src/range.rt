@@ -12,18 +12,15 @@ ghost use Rattle.fx_inequalities.specs.Certificate.{zero_interval};
 ghost use Rattle.fx_expr.specs.Parts.{input_of};
 ghost use Rattle.fx_inequalities.specs.NodeConditions.{no_input};
 ghost use Rattle.fx_flat.specs.NodeOf.{node_of};
-ghost use Rattle.fx_analysis.specs.Narrow.{span_bounds, narrowest};
-ghost use Rattle.fx_analysis.specs.Narrowed.{IsPlainInterval};
+ghost use Rattle.fx_grid.specs.Narrow.{span_bounds, narrowest};
+ghost use Rattle.fx_grid.specs.Narrowed.{IsPlainInterval};
 ghost use Rattle.fx_analysis.specs.Ordered.{IsInPlace};
 ghost use Rattle.fx_analysis.specs.PlainRanges as plain;
 
-use crate::fault::Why;
-use crate::quotient::{between, quotient};
-use crate::settle::settle;
-use crate::short::{plus, times};
 use fx_expr::{Function, Input};
 use fx_flat::Node;
 use fx_fraction::{Fraction, to_fraction};
+use fx_grid::{Why, between, narrowest_round, plus, range_quotient, times};
 use fx_interval::Interval;
 use fx_judging::{interval, minus, reduced, zero};
 
@@ -68,7 +65,7 @@ fn state_range(boxes: &[Interval], k: u32) -> Result<Interval, Why>
     ensures { (fn : functions.Function) (gs : List model.Interval) → result ≡ plain.plain_range fn boxes.now gs (nodes.State k) }
 {
     let x = interval_at(boxes, k);
-    settle(interval(x), 24)
+    narrowest_round(interval(x), 24)
 }
 
 /// The range of a literal.
@@ -85,7 +82,7 @@ fn negation_range(gs: &[Interval], a: u32) -> Result<Interval, Why>
     ensures { (fn : functions.Function) (boxes : List model.Interval) → result ≡ plain.plain_range fn boxes gs.now (nodes.Neg a) }
 {
     let x = interval_at(gs, a);
-    settle(minus(zero(), interval(x)), 24)
+    narrowest_round(minus(zero(), interval(x)), 24)
 }
 
 /// The range of a sum.
@@ -96,7 +93,7 @@ fn sum_range(gs: &[Interval], a: u32, b: u32) -> Result<Interval, Why>
 {
     let x = interval_at(gs, a);
     let y = interval_at(gs, b);
-    settle(plus(interval(x), interval(y)), 24)
+    narrowest_round(plus(interval(x), interval(y)), 24)
 }
 
 /// The range of a difference.
@@ -107,7 +104,7 @@ fn difference_range(gs: &[Interval], a: u32, b: u32) -> Result<Interval, Why>
 {
     let x = interval_at(gs, a);
     let y = interval_at(gs, b);
-    settle(minus(interval(x), interval(y)), 24)
+    narrowest_round(minus(interval(x), interval(y)), 24)
 }
 
 /// The range of a product.
@@ -119,7 +116,7 @@ fn product_range(gs: &[Interval], a: u32, b: u32) -> Result<Interval, Why>
 {
     let x = plain_at(gs, a);
     let y = plain_at(gs, b);
-    settle(times(interval(x), interval(y)), 24)
+    narrowest_round(times(interval(x), interval(y)), 24)
 }
 
 /// The range of a quotient.
@@ -131,7 +128,7 @@ fn quotient_range(gs: &[Interval], a: u32, b: u32) -> Result<Interval, Why>
 {
     let x = plain_at(gs, a);
     let y = plain_at(gs, b);
-    quotient(x, y)
+    range_quotient(x, y)
 }
 
 /// The range of a copy.
@@ -140,7 +137,7 @@ fn copy_range(gs: &[Interval], a: u32) -> Result<Interval, Why>
     ensures { (fn : functions.Function) (boxes : List model.Interval) → result ≡ plain.plain_range fn boxes gs.now (nodes.Copy a) }
 {
     let x = interval_at(gs, a);
-    settle(interval(x), 24)
+    narrowest_round(interval(x), 24)
 }
 
 /// The range of a node after those of the ranges `gs`.

@@ -5,19 +5,20 @@ ghost use Rattle.fx_model.specs.Nodes.{nodes_of};
 ghost use Rattle.fx_model.specs.LawfulProgram.{widths, IsPoint};
 ghost use Rattle.fx_analysis.specs.GreedyPoints.{points_over};
 ghost use Rattle.fx_analysis.specs.Ordered.{AreInPlace};
-ghost use Rattle.fx_analysis.specs.Listed.{IsWholeList, HasFewPlaces};
+ghost use Rattle.fx_analysis.specs.Listed.{IsWholeList};
+ghost use Rattle.fx_grid.specs.Narrowed.{HasFewPlaces, IsPlainInterval};
 ghost use Rattle.fx_flat.specs.NodeOf.{nodes_in};
 ghost use Rattle.fx_analysis.specs.PlainRanges.{plain_ranges};
 ghost use Rattle.fx_analysis.specs.PlainErrors.{plain_errors};
-ghost use Rattle.fx_analysis.specs.Narrowed.{IsPlainInterval};
 ghost use Rattle.fx_analysis.specs.Blame.{NamesAbsent};
 
 use crate::error::node_error;
-use crate::fault::{PlanFault, Why};
+use crate::fault::PlanFault;
 use crate::point::node_point;
 use crate::range::node_range;
 use fx_expr::Function;
 use fx_flat::{Node, Nodes};
+use fx_grid::Why;
 use fx_interval::Interval;
 use std::alloc::Global;
 

@@ -12,11 +12,11 @@ use Rattle.fx_judging.specs.Places.{IsShortSpan}
 use Rattle.fx_conditions.specs.declared.side.Side.{Side}
 use Rattle.fx_conditions.specs.declared.side.Side.TheVariants.{Value, Error}
 use Rattle.fx_conditions.proofs.Lawful.{short_ends}
-use Rattle.fx_analysis.specs.Narrow.{span_bounds}
-use Rattle.fx_analysis.specs.Laws.{IsNarrowestOf}
-use Rattle.fx_analysis.proofs.Narrowest.{narrowest_is}
-use Rattle.fx_analysis.proofs.Quotients.{around_inside}
-use Rattle.fx_analysis.proofs.ErrorLaw.{grid_few}
+use Rattle.fx_grid.specs.Narrow.{span_bounds}
+use Rattle.fx_grid.specs.Laws.{IsNarrowestOf}
+use Rattle.fx_grid.proofs.Narrowest.{narrowest_is}
+use Rattle.fx_grid.proofs.Quotients.{around_inside}
+use Rattle.fx_grid.proofs.Exacts.{grid_few}
 use Rattle.fx_template.specs.Transitions.{IsModestTransition, Transition}
 use Rattle.fx_template.specs.PlainRounds.{Bounds, and_on, both_bounds, bounds_after, bounds_at_first, first_bounds, plain_rounds, raised_bound, raised_bounds, raised_span, row_grid, state_bound}
 use Rattle.fx_template.specs.Answers.{HasWrittenStates}

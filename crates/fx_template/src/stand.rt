@@ -2,7 +2,7 @@
 
 ghost use Rattle.std.specs.Prelude.{◌≡◌, ◌+◌, ◌<◌, ◌&&◌, List};
 ghost use Rattle.fx_inequalities.specs.Claim.{Claim};
-ghost use Rattle.fx_analysis.specs.Narrow.{is_small};
+ghost use Rattle.fx_grid.specs.Narrow.{is_small};
 ghost use Rattle.fx_judging.specs.Judging.{judged};
 ghost use Rattle.fx_cert.specs.CertificateView.{rows_in};
 ghost use Rattle.fx_conditions.specs.Limits.{AreShortRows};

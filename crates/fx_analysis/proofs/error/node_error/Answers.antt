@@ -8,8 +8,9 @@ use Rattle.fx_inequalities.specs.Formula.{Num, Sum, Difference, formula_value, w
 use Rattle.fx_inequalities.specs.Claim.{BelowFraction, AboveFraction}
 use Rattle.fx_flat.specs.NodeOf.{node_of}
 use Rattle.fx_flat.specs.declared.node.Node.{Node}
-use Rattle.fx_analysis.specs.Narrow.{narrowest}
-use Rattle.fx_analysis.specs.PlainErrors.{error_grid, unit_value, single, plain_error}
+use Rattle.fx_grid.specs.Narrow.{narrowest}
+use Rattle.fx_grid.specs.ErrorGrid.{error_grid, unit_value, single}
+use Rattle.fx_analysis.specs.PlainErrors.{plain_error}
 use Rattle.fx_inequalities.specs.NodeConditions.{no_input}
 use Rattle.fx_analysis.proofs.NodeErrors.{literal_is, input_is}
 use Rattle.fx_analysis.proofs.error.node_error.Goals as goal

@@ -3,9 +3,9 @@ use Rattle.std.specs.Int.{w32}
 use Rattle.std.proofs.lemmas.Int.{to_z-of_z}
 use Rattle.fx_inequalities.specs.Formula.{span, span_sum, span_product}
 use Rattle.fx_inequalities.specs.Claim.{inside}
-use Rattle.fx_analysis.specs.Narrow.{span_bounds, narrowest}
-use Rattle.fx_analysis.specs.PlainErrors.{error_grid}
-use Rattle.fx_analysis.proofs.NodeErrors.{few_short}
+use Rattle.fx_grid.specs.Narrow.{span_bounds, narrowest}
+use Rattle.fx_grid.specs.ErrorGrid.{error_grid}
+use Rattle.fx_grid.proofs.Shorts.{few_short}
 use Rattle.fx_analysis.proofs.error.product.Goals as goal
 
 pub returns : goal.returns

@@ -4,7 +4,7 @@ use Rattle.std.specs.Int.{w32}
 use Rattle.std.proofs.lemmas.Int.{to_z-of_z}
 use Rattle.fx_inequalities.specs.Formula.{span, loss_at}
 use Rattle.fx_analysis.specs.GreedyPoints.{product_shift}
-use Rattle.fx_analysis.specs.PlainErrors.{error_grid}
+use Rattle.fx_grid.specs.ErrorGrid.{error_grid}
 use Rattle.fx_analysis.proofs.NodeErrors.{around, product_of, product_is}
 use Rattle.fx_analysis.proofs.error.product_error.Goals as goal
 

@@ -6,9 +6,9 @@ use Rattle.fx_model.specs.LawfulProgram.{IsPoint}
 use Rattle.fx_model.specs.Nodes.{nodes_of}
 use Rattle.fx_model.proofs.Lists.{seen_at}
 use Rattle.fx_flat.specs.NodeOf.{node_of}
-use Rattle.fx_analysis.specs.declared.fault.Why.{Why}
+use Rattle.fx_grid.specs.declared.fault.Why.{Why}
 use Rattle.fx_analysis.specs.Ordered.{IsInPlace}
-use Rattle.fx_analysis.specs.Listed.{HasFewPlaces}
+use Rattle.fx_grid.specs.Narrowed.{HasFewPlaces}
 use Rattle.fx_analysis.specs.PlainErrors.{plain_error}
 use Rattle.fx_analysis.proofs.Ordered.{node_list}
 use Rattle.fx_analysis.proofs.NodeErrors.{error_low}

@@ -7,7 +7,7 @@ use Rattle.std.proofs.lemmas.List.Elements.{All-push}
 use Rattle.fx_model.specs.LawfulProgram.{IsPoint}
 use Rattle.fx_model.proofs.Lists.{seen_at}
 use Rattle.fx_flat.specs.NodeOf.{node_of, nodes_in}
-use Rattle.fx_analysis.specs.declared.fault.Why.TheVariants.{Word}
+use Rattle.fx_grid.specs.declared.fault.Why.TheVariants.{Word}
 use Rattle.fx_analysis.specs.Ordered.{IsInPlace}
 use Rattle.fx_analysis.specs.GreedyPoints.{greedy_point}
 use Rattle.fx_analysis.proofs.PointTurns.{next_point, made_point, ranges_at}

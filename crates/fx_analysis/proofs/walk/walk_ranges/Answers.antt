@@ -5,10 +5,10 @@ use Rattle.fx_rational.specs.Interval.{Interval}
 use Rattle.fx_model.specs.Nodes.{nodes_of}
 use Rattle.fx_model.proofs.Lists.{seen_at}
 use Rattle.fx_flat.specs.NodeOf.{node_of}
-use Rattle.fx_analysis.specs.declared.fault.Why.{Why}
+use Rattle.fx_grid.specs.declared.fault.Why.{Why}
 use Rattle.fx_analysis.specs.Ordered.{IsInPlace}
 use Rattle.fx_analysis.specs.PlainRanges.{plain_range}
-use Rattle.fx_analysis.specs.Narrowed.{IsPlainInterval}
+use Rattle.fx_grid.specs.Narrowed.{IsPlainInterval}
 use Rattle.fx_analysis.proofs.Ordered.{node_list}
 use Rattle.fx_analysis.proofs.NodeRanges.{range_plain}
 use Rattle.fx_analysis.proofs.Turns.{IsWalked, ordered_at, walk_on, walk_stops}

@@ -7,8 +7,8 @@ use Rattle.fx_inequalities.specs.Certificate.{zero_interval}
 use Rattle.fx_judging.specs.Judging.{FormsSpan}
 use Rattle.fx_cert.specs.CertificateView.{lines_view, rows_in}
 use Rattle.fx_sharing.specs.KeptRows.{next_row}
-use Rattle.fx_analysis.specs.Narrow.{narrowest, span_bounds}
-use Rattle.fx_analysis.specs.declared.fault.Why.{Why}
+use Rattle.fx_grid.specs.Narrow.{narrowest, span_bounds}
+use Rattle.fx_grid.specs.declared.fault.Why.{Why}
 use Rattle.fx_template.specs.Transitions.{transition_in}
 use Rattle.fx_template.specs.PlainRounds.{raised_span, unit_rows}
 use Rattle.fx_template.proofs.round.raised_bound.Goals as goal
