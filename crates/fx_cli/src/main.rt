@@ -49,4 +49,6 @@ fn main(rt: HostRuntime) -> ExitCode {
 }
 
 #[cfg(test)]
+mod failing;
+#[cfg(test)]
 mod tests;

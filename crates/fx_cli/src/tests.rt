@@ -9,7 +9,7 @@ use std::process::Abort;
 use std::test::Fail;
 
 /// `x + 0.5` for x from 0 to 1, in 16 bits.
-const HALF: usize = 0;
+pub(crate) const HALF: usize = 0;
 
 /// A filter with one state, in 16 bits.
 const AVERAGER: usize = 1;
@@ -37,7 +37,7 @@ static BUNDLES: [&str; 6] = [
 ];
 
 /// A part of a text, and what stands in its place.
-type Edit = (&'static str, &'static str);
+pub(crate) type Edit = (&'static str, &'static str);
 
 /// A bundle, its edits, a command and the input; then the status, the output and the line on the notes.
 type Call = (
@@ -99,7 +99,12 @@ static CALLS: [Call; 44] = [
 ];
 
 /// The bundle at this place, with each edit made where its part stands first.
-fn bundle(alloc: Global, rt: &impl Abort, place: usize, edits: &[Edit]) -> Result<String, Fail> {
+pub(crate) fn bundle(
+    alloc: Global,
+    rt: &impl Abort,
+    place: usize,
+    edits: &[Edit],
+) -> Result<String, Fail> {
     let text = BUNDLES.get(place).expect(rt, "a bundle");
     let mut edited = String::from_str(alloc, text)?;
     for (part, other) in edits {

@@ -1,7 +1,6 @@
 -- What is taken away at one exponent is taken away.
 use Rattle.std.proofs.Common.{◌≡◌, ℕ, zero, suc, ◌+◌, ◌-◌, ◌^◌, ◌≤◌, max, ℤ, pos, negsuc, ◌*ℤ◌, ◌-ℤ◌, Bool, true, false, ◌&&◌, IsTrue, refl, sym, ap, ap₂, subst, ◌∙◌, arith, if◌then◌else◌}
 use Rattle.std.proofs.lemmas.Int.{ints}
-use Rattle.fx_algebra.proofs.Integers.{*ℤ_assoc}
 use Rattle.fx_rational.specs.Dyadic.{Dyadic, aligned, dyadic, dyadic_product, dyadic_difference, difference_fits, product_fits, fits_128, is_dyadic_at_most, least, greatest}
 use Rattle.fx_rational.specs.Interval.{Interval, interval_product, interval_product_fits}
 
@@ -30,34 +29,32 @@ record Taken (l a b : Dyadic) (t : ℤ) : Type 0 where
   left : aligned l (max l.e (dyadic_product a b).e) ≡ l.m
   taken : aligned (dyadic_product a b) (max l.e (dyadic_product a b).e) ≡ t
 
-taken_is : (l a b : Dyadic) (x y z t : ℤ) → a.e + b.e ≤ l.e → x ≡ a.m → y ≡ b.m → z ≡ y *ℤ pos (2 ^ (l.e - (a.e + b.e))) → t ≡ x *ℤ z → Taken l a b t
+taken_is : (l a b : Dyadic) (q t : ℤ) → a.e + b.e ≤ l.e → q ≡ a.m *ℤ b.m → t ≡ q *ℤ pos (2 ^ (l.e - (a.e + b.e))) → Taken l a b t
 unfolding dyadic_product
-taken_is l a b x y z t h p q r s =
+taken_is l a b q t h p r =
     let d = l.e - (a.e + b.e) in
     let al = product_aligned (a.m *ℤ b.m) (a.e + b.e) d l.e (omega arith) in
-    let raised : (a.m *ℤ b.m) *ℤ pos (2 ^ d) ≡ t = *ℤ_assoc a.m b.m (pos (2 ^ d)) ∙ sym (s ∙ ap₂ (λ (u v : ℤ). u *ℤ v) p (r ∙ ap (λ (u : ℤ). u *ℤ pos (2 ^ d)) q)) in
+    let raised : (a.m *ℤ b.m) *ℤ pos (2 ^ d) ≡ t = sym (r ∙ ap (λ (u : ℤ). u *ℤ pos (2 ^ d)) p) in
     record {
       greater = al.greater;
       left = ap (λ (e : ℕ). l.m *ℤ pos (2 ^ (e - l.e))) al.greater ∙ not_raised l.m l.e;
       taken = ap (λ (e : ℕ). aligned (dyadic_product a b) e) al.greater ∙ al.same ∙ raised;
     }
 
-pub whole_fits : (a b : Dyadic) (x y : ℤ) → x ≡ a.m → y ≡ b.m → IsTrue (fits_128 (x *ℤ y)) → IsTrue (product_fits a b)
+pub whole_fits : (a b : Dyadic) (q : ℤ) → q ≡ a.m *ℤ b.m → IsTrue (fits_128 q) → IsTrue (product_fits a b)
 unfolding product_fits
-whole_fits a b x y p q h = subst (λ (m : ℤ). IsTrue (fits_128 m)) (ap₂ (λ (u v : ℤ). u *ℤ v) p q) h
+whole_fits a b q p h = subst (λ (m : ℤ). IsTrue (fits_128 m)) p h
 
-pub less_fits : (l a b : Dyadic) (x y z t : ℤ) → a.e + b.e ≤ l.e → x ≡ a.m → y ≡ b.m → z ≡ y *ℤ pos (2 ^ (l.e - (a.e + b.e))) → t ≡ x *ℤ z →
-    IsTrue (fits_128 l.m) → IsTrue (fits_128 (x *ℤ z)) → IsTrue (fits_128 (l.m -ℤ t)) → IsTrue (difference_fits l (dyadic_product a b))
+pub less_fits : (l a b : Dyadic) (q t : ℤ) → a.e + b.e ≤ l.e → q ≡ a.m *ℤ b.m → t ≡ q *ℤ pos (2 ^ (l.e - (a.e + b.e))) → IsTrue (fits_128 l.m) → IsTrue (fits_128 t) → IsTrue (fits_128 (l.m -ℤ t)) → IsTrue (difference_fits l (dyadic_product a b))
 unfolding difference_fits
-less_fits l a b x y z t h p q r s f g k =
-    let is = taken_is l a b x y z t h p q r s in
-    ap₂ (λ (u v : ℤ). fits_128 u && fits_128 v && fits_128 (u -ℤ v)) is.left is.taken
-    ∙ all_fit (fits_128 l.m) (fits_128 t) (fits_128 (l.m -ℤ t)) f (subst (λ (u : ℤ). IsTrue (fits_128 u)) (sym s) g) k
+less_fits l a b q t h p r f g k =
+    let is = taken_is l a b q t h p r in
+    ap₂ (λ (u v : ℤ). fits_128 u && fits_128 v && fits_128 (u -ℤ v)) is.left is.taken ∙ all_fit (fits_128 l.m) (fits_128 t) (fits_128 (l.m -ℤ t)) f g k
 
-pub less_is : (l a b d : Dyadic) (x y z t m : ℤ) → a.e + b.e ≤ l.e → x ≡ a.m → y ≡ b.m → z ≡ y *ℤ pos (2 ^ (l.e - (a.e + b.e))) → t ≡ x *ℤ z → m ≡ l.m -ℤ t → d ≡ dyadic m l.e → d ≡ dyadic_difference l (dyadic_product a b)
+pub less_is : (l a b d : Dyadic) (q t m : ℤ) → a.e + b.e ≤ l.e → q ≡ a.m *ℤ b.m → t ≡ q *ℤ pos (2 ^ (l.e - (a.e + b.e))) → m ≡ l.m -ℤ t → d ≡ dyadic m l.e → d ≡ dyadic_difference l (dyadic_product a b)
 unfolding dyadic_difference
-less_is l a b d x y z t m h p q r s k e =
-    let is = taken_is l a b x y z t h p q r s in
+less_is l a b d q t m h p r k e =
+    let is = taken_is l a b q t h p r in
     e ∙ ap (λ (u : ℤ). dyadic u l.e) k ∙ sym (λ i. dyadic (is.left i -ℤ is.taken i) (is.greater i))
 
 -- ---- an interval times a number

@@ -1,41 +1,22 @@
 //! Products of short mantissas, taken away or bounded, in 64 bits.
 //!
-//! A great certificate takes a multiple of a row's coefficient away some hundred million times, and nearly always both
-//! mantissas are short. Then one product of 64 bits gives what the operations on dyadics give. What isn't short has no answer
-//! here, and goes their way.
+//! A great certificate takes a multiple of a row's coefficient away some hundred million times, and mantissas that are read from
+//! a text are short. Then one product of 64 bits gives what the operations on dyadics give. What isn't short, or has more
+//! places than what it is taken from, has no answer here, and goes their way.
 
-ghost use Rattle.std.specs.Prelude.{◌≡◌, ◌≤◌, ◌^◌, ◌*ℤ◌, ◌-ℤ◌, pos, IfSome, IsTrue};
+ghost use Rattle.std.specs.Prelude.{◌≡◌, ◌*ℤ◌, ◌-ℤ◌, IfSome, IsTrue};
 ghost use Rattle.std.specs.Option.{SomeIff};
 ghost use Rattle.fx_rational.specs.Dyadic.{difference_fits, dyadic_difference, dyadic_product, fits_128, greatest, least, product_fits};
 ghost use Rattle.fx_rational.specs.Interval.{interval_product, interval_product_fits};
 
 use fx_interval::Interval;
-use fx_num::{Dyadic, dle, mul_fits};
+use fx_num::{Dyadic, dle, left_fits, mul_fits};
 
 /// A mantissa in 64 bits.
 fn short(d: Dyadic) -> Option<i64>
     ensures { IfSome result (λ m. m ≡ d.m) }
 {
     i64::try_from(d.m).ok()
-}
-
-/// `2^places`.
-fn two_to(places: u32) -> u64
-    requires { places ≤ 62 }
-    ensures value { result ≡ 2 ^ places }
-    ensures few { result ≤ 2 ^ 62 }
-{
-    1 << places
-}
-
-/// A short mantissa times `2^places`.
-fn raised(m: i64, places: u32) -> Option<i64>
-    ensures { IfSome result (λ x. x ≡ m *ℤ pos (2 ^ places)) }
-{
-    if 62 < places {
-        return None;
-    }
-    m.checked_mul(two_to(places) as i64)
 }
 
 /// The product of short mantissas, which always fits.
@@ -76,10 +57,8 @@ pub fn less_product(left: Dyadic, a: Dyadic, b: Dyadic) -> Option<Dyadic>
     if left.e < places {
         return None;
     }
-    let x = short(a)?;
-    let y = short(b)?;
-    let _fits = product(x, y)?;
-    let taken = product(x, raised(y, left.e - places)?)?;
+    let whole = product(short(a)?, short(b)?)?;
+    let taken = left_fits(whole, left.e - places)?;
     left.keeps();
     let m = rest(left, taken)?;
     Some(Dyadic::new(m, left.e))

@@ -11,23 +11,22 @@ few c =
 
 pub returns-clause-product : goal.returns-clause-product
 returns-clause-product c =
-    let f : IsTrue (fits_128 (c.in_ok-x.x *ℤ c.in_ok-y.y)) = search rules in
-    whole_fits c.args.a c.args.b c.in_ok-x.x c.in_ok-y.y c.in_ok-x.ensures c.in_ok-y.ensures f
+    let q : c.in_ok-whole.whole ≡ c.args.a.m *ℤ c.args.b.m = search rules in
+    let f : IsTrue (fits_128 c.in_ok-whole.whole) = search rules in
+    whole_fits c.args.a c.args.b c.in_ok-whole.whole q f
 
 pub returns-clause-difference : goal.returns-clause-difference
 returns-clause-difference c =
-    let z : c.in_ok-raised.field-0 ≡ c.in_ok-y.y *ℤ pos (2 ^ (c.args.left.e - (c.args.a.e + c.args.b.e))) = search rules in
-    let t : c.in_ok-taken.taken ≡ c.in_ok-x.x *ℤ c.in_ok-raised.field-0 = search rules in
-    let f : IsTrue (fits_128 (c.in_ok-x.x *ℤ c.in_ok-raised.field-0)) = search rules in
+    let q : c.in_ok-whole.whole ≡ c.args.a.m *ℤ c.args.b.m = search rules in
+    let t : c.in_ok-taken.taken ≡ c.in_ok-whole.whole *ℤ pos (2 ^ (c.args.left.e - (c.args.a.e + c.args.b.e))) = search rules in
+    let f : IsTrue (fits_128 c.in_ok-taken.taken) = search rules in
     let m : IsTrue (fits_128 (c.args.left.m -ℤ c.in_ok-taken.taken)) = search rules in
-    less_fits c.args.left c.args.a c.args.b c.in_ok-x.x c.in_ok-y.y c.in_ok-raised.field-0 c.in_ok-taken.taken (few c) c.in_ok-x.ensures c.in_ok-y.ensures z t
-    c.keeps.ensures f m
+    less_fits c.args.left c.args.a c.args.b c.in_ok-whole.whole c.in_ok-taken.taken (few c) q t c.keeps.ensures f m
 
 pub returns-clause-is : goal.returns-clause-is
 returns-clause-is c =
-    let z : c.in_ok-raised.field-0 ≡ c.in_ok-y.y *ℤ pos (2 ^ (c.args.left.e - (c.args.a.e + c.args.b.e))) = search rules in
-    let t : c.in_ok-taken.taken ≡ c.in_ok-x.x *ℤ c.in_ok-raised.field-0 = search rules in
+    let q : c.in_ok-whole.whole ≡ c.args.a.m *ℤ c.args.b.m = search rules in
+    let t : c.in_ok-taken.taken ≡ c.in_ok-whole.whole *ℤ pos (2 ^ (c.args.left.e - (c.args.a.e + c.args.b.e))) = search rules in
     let m : c.in_ok-m.m ≡ c.args.left.m -ℤ c.in_ok-taken.taken = search rules in
     let d : c.new.result ≡ dyadic c.in_ok-m.m c.args.left.e = search rules in
-    less_is c.args.left c.args.a c.args.b c.new.result c.in_ok-x.x c.in_ok-y.y c.in_ok-raised.field-0 c.in_ok-taken.taken c.in_ok-m.m (few c) c.in_ok-x.ensures c.in_ok-y.ensures z t
-    m d
+    less_is c.args.left c.args.a c.args.b c.new.result c.in_ok-whole.whole c.in_ok-taken.taken c.in_ok-m.m (few c) q t m d
