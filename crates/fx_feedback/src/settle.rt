@@ -53,8 +53,9 @@ fn starts_of<S: Settling>(
     task: Task<'_>,
     kind: &S,
 ) -> Result<Option<Vec<Span>>, Memory> {
+    let function = task.function;
     let mut starts = Vec::new(alloc);
-    for k in 0..task.function.states.len() {
+    for k in 0..function.states.len() {
         match kind.start(task, k) {
             Some(span) => starts.push(span)?,
             None => return Ok(None),

@@ -62,9 +62,10 @@ impl Settling for OfErrors<'_> {
 
     /// What the word errs that a state starts with.
     fn start(&self, task: Task<'_>, k: usize) -> Option<Span> {
-        let node = task.function.inputs.len().saturating_add(k);
+        let function = task.function;
+        let node = function.inputs.len().saturating_add(k);
         let point = self.points.get(node).copied().unwrap_or(0);
-        start_error(task.function, k, point, task.width, task.grids)
+        start_error(function, k, point, task.width, task.grids)
     }
 
     fn found_in(
