@@ -28,6 +28,7 @@ use Rattle.fx_analysis.specs.Ordered.{IsInPlace}
 use Rattle.fx_grid.specs.Laws.{IsNarrowestOf}
 use Rattle.fx_analysis.specs.Laws.{HasErrors, ErrorsLaw, no_node}
 use Rattle.fx_grid.proofs.Quotients.{Around, both, around_inside, quotient_around}
+use Rattle.fx_grid.proofs.Exacts.{grid_few}
 use Rattle.fx_grid.proofs.Narrowest.{narrowest_is}
 use Rattle.fx_analysis.proofs.RangeLaw.{narrowest_same}
 use Rattle.fx_analysis.proofs.Folded.{part_at, part_before, part_below, made_at, all_length}
