@@ -2,7 +2,7 @@
 //!
 //! That a status has its cause is proved; here it is tried which call is the cause. A run ends with 6 or 7 exactly where the
 //! failing call was made, and else as it does where nothing fails.
-ghost use Rattle.std.specs.Prelude.{◌≤◌, ℕ, List, None};
+ghost use Rattle.std.specs.Prelude.{◌≤◌, ℕ, List, None, length};
 ghost use Rattle.fx_base.specs.Causes.{Rose};
 
 use crate::tests::{HALF, bundle};
@@ -49,7 +49,9 @@ fn counted(faults: &mut u64) -> Failed
 }
 
 /// Puts a piece of what is left into the front of a buffer.
-fn give(left: &[u8], buf: &mut [u8]) -> usize {
+fn give(left: &[u8], buf: &mut [u8]) -> usize
+    ensures { result ≤ length buf.new }
+{
     let count = left.len().min(buf.len()).min(PIECE);
     buf[..count].copy_from_slice(&left[..count]);
     count

@@ -2,13 +2,16 @@
 //!
 //! What a line prints goes into the block, and the block goes out before a read that might wait and where another line
 //! might not fit. So no line wants memory for what it prints.
-ghost use Rattle.std.specs.Prelude.{◌≡◌, ◌+◌, ◌≤◌, ◌↔◌, [], ◌++◌, length, IsTrue, IfOk, OnOk, OnErr};
+ghost use Rattle.std.specs.Prelude.{◌≡◌, ◌+◌, ◌≤◌, ◌↔◌, [], ◌++◌, length, take, IsTrue, IfOk, OnOk, OnErr};
 ghost use Rattle.std.specs.Io.KnownBytes.{Appends};
+ghost use Rattle.fx_model.specs.LawfulProgram.{IsPoint};
+ghost use Rattle.fx_model.specs.WordText.{decimal_text};
 ghost use Rattle.fx_base.specs.Causes.{HasCause};
 ghost use Rattle.fx_base.specs.Calls.{AppendsFront};
 ghost use Rattle.fx_filter.specs.Rooms.{HasRoom};
 
 use fx_base::{Failed, Memory, Sink, put_all};
+use fx_fraction::decimal_text;
 use std::alloc::Global;
 use std::marker::Model;
 
@@ -17,6 +20,32 @@ const BLOCK: usize = 65_536;
 
 // What a line may print: 64 fields of 128 bytes, and a byte behind each.
 const LINE: usize = 8_256;
+
+/// Writes the decimal text of a word into the front, and gives its length.
+fn put_text(free: &mut [u8], word: i64, point: i32) -> usize
+    requires point { IsPoint point }
+    requires room { 128 ≤ length free.old }
+    ensures text { take result free.new ≡ decimal_text word point }
+    ensures length { result ≡ length (decimal_text word point) }
+    ensures few { result ≤ 128 }
+    ensures same { length free.new ≡ length free.old }
+{
+    match free.first_chunk_mut::<128>() {
+        Some(room) => decimal_text(i128::from(word), point, room),
+        None => 0,
+    }
+}
+
+/// Writes it behind so many bytes, and gives the place behind it.
+fn put_text_at(block: &mut [u8], used: usize, word: i64, point: i32) -> usize
+    requires point { IsPoint point }
+    requires room { used + 128 ≤ length block.old }
+    ensures written { take result block.new ≡ take used block.old ++ decimal_text word point }
+    ensures end { (used ≤ result) × (result ≤ used + 128) }
+    ensures same { length block.new ≡ length block.old }
+{
+    used + put_text(&mut block[used..], word, point)
+}
 
 /// What is printed and not written yet.
 #[derive(Drop)]
@@ -54,6 +83,16 @@ impl Page {
         let end = self.used + bytes.len();
         self.block[self.used..end].copy_from_slice(bytes);
         self.used = end;
+    }
+
+    /// Appends the decimal text of `word / 2^point`, which is written where it stays.
+    pub fn put_decimal(&mut self, word: i64, point: i32)
+        requires point { IsPoint point }
+        requires room { length self.old + 128 ≤ 65536 }
+        ensures written { self.new ≡ self.old ++ decimal_text word point }
+        ensures short { length self.new ≤ length self.old + 128 }
+    {
+        self.used = put_text_at(&mut self.block, self.used, word, point);
     }
 
     /// Whether there is room for what a line may print.

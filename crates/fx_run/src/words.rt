@@ -9,7 +9,6 @@ ghost use Rattle.fx_filter.specs.Rooms.{HasRoom, page_room};
 ghost use Rattle.fx_run.specs.Lines.{mark};
 
 use fx_filter::Page;
-use fx_fraction::decimal_text;
 use fx_machine::Registers;
 use fx_program::Program;
 use itoa::Buffer;
@@ -45,9 +44,7 @@ fn put_word(page: &mut Page, word: i64, point: i32, is_last: bool)
     ensures written { page.new ≡ page.old ++ decimal_text word point ++ mark is_last ∷ [] }
     ensures short { length page.new ≤ length page.old + 129 }
 {
-    let mut text = [0; 128];
-    let length = decimal_text(i128::from(word), point, &mut text);
-    page.put(&text[..length]);
+    page.put_decimal(word, point);
     put_mark(page, is_last);
 }
 
