@@ -1,7 +1,7 @@
 #!/usr/bin/env python3
-"""Measures `build/fixd` on long rows and long bundles beside the C programs of peers.py: more.py [--instructions] [PART ..]
+"""Measures `build/fixd` on long rows and long bundles beside the C programs of make.py and peers.py: more.py [--instructions] [PART ..]
 
-A part is `filter`, `columns`, `check` or `read`; without one, all are measured. Each figure is the least of five runs, in seconds of
+A part is `codes`, `filter`, `columns`, `check` or `read`; without one, all are measured. Each figure is the least of five runs, in seconds of
 the processor (of user and system), which other work on the machine disturbs less than seconds of the clock; with --instructions
 valgrind counts what is executed. Outputs and answers are compared with the C program's. Outside the gate: figures depend on
 the machine.
@@ -19,7 +19,7 @@ HERE = os.path.dirname(os.path.abspath(__file__))
 FIXD = os.path.join(HERE, "..", "build", "fixd")
 AVERAGE = os.path.join(HERE, "..", "examples", "average", "average.bundle")
 COUNTED = "--instructions" in sys.argv
-PARTS = [word for word in sys.argv[1:] if word[0] != "-"] or ["filter", "columns", "check", "read"]
+PARTS = [word for word in sys.argv[1:] if word[0] != "-"] or ["codes", "filter", "columns", "check", "read"]
 
 
 def seconds(command, rows, out, times=5):
@@ -90,6 +90,22 @@ def stream(name, ours, theirs, rows, count, folder):
     print(f"{name}, {count} rows from a pipe: fixd {a:.3f} s, {count / a:.0f} rows/s; C {b:.3f} s, {count / b:.0f} rows/s")
 
 
+def compiled(folder, *names):
+    for name in names:
+        subprocess.run(["gcc", "-O2", "-o", f"{folder}/{name}", f"{folder}/{name}.c"], check=True)
+
+
+def measure_codes(folder):
+    """Chains of differences and mixed programs, beside a C program for the one program and one that goes over a list of codes."""
+    count = 300000
+    for kind in ("chain", "mixed"):
+        for codes in ("10", "100", "1000"):
+            subprocess.run([sys.executable, os.path.join(HERE, "make.py"), codes, str(count), folder, kind], check=True)
+            compiled(folder, "chain", "codes")
+            for peer, what in (("chain", "compiled"), ("codes", "over codes")):
+                stream(f"{kind} of {codes} codes, C {what}", [FIXD, "run", f"{folder}/chain.bundle"], [f"{folder}/{peer}"], f"{folder}/chain.csv", count, folder)
+
+
 def number(draw):
     return draw.choice(["", "-"]) + f"0.{draw.randrange(10 ** 6):06d}"
 
@@ -142,8 +158,9 @@ def bundle(kind, peer, folder, answer):
 def main():
     with tempfile.TemporaryDirectory() as folder:
         subprocess.run([sys.executable, os.path.join(HERE, "peers.py"), folder], check=True)
-        for name in ("filter", "columns", "read", "check"):
-            subprocess.run(["gcc", "-O2", "-o", f"{folder}/{name}", f"{folder}/{name}.c"], check=True)
+        compiled(folder, "filter", "columns", "read", "check")
+        if "codes" in PARTS:
+            measure_codes(folder)
         if "filter" in PARTS:
             measure_filter(folder)
         if "columns" in PARTS:

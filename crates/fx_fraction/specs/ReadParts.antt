@@ -18,6 +18,10 @@ number_kept ds = if is_number ds then Some (saturated (digits_value 10 ds)) else
 abbrev pub exponent_kept : List ℕ → Option ℤ
 exponent_kept text = option_map kept_exponent (power_of text)
 
+-- a number that stays below 10^19 with so many digits more
+abbrev pub IsBelowTens : ℕ → ℕ → Type 0
+IsBelowTens n more = (n + 1) * 10 ^ more ≤ 10 ^ 19
+
 -- a part behind a point, or none: what its digits come to behind a start, how many they are, and where they end
 pub record IsShortPart (start : ℕ) (text : List ℕ) (r : ℕ × ℕ × ℕ) : Type 0 where
   pub value : r.0 ≡ digits_value_after 10 start (part_digits (part_of text))

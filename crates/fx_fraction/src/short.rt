@@ -3,12 +3,12 @@
 //! They are added up in one word, and the zeros come off at the end, where `Significant` counts them as they come. What
 //! is longer is read as before. Nearly always there is no power of ten either, and then the decimal is there at once.
 
-ghost use Rattle.std.specs.Prelude.{◌≡◌, ◌+◌, ◌<◌, ◌≤◌, ◌^◌, length, drop, IfSome, Ok};
+ghost use Rattle.std.specs.Prelude.{◌≡◌, ◌+◌, ◌-◌, ◌<◌, ◌≤◌, ◌^◌, length, drop, IfSome, Ok};
 ghost use Rattle.std.specs.Str.Parse.{digits_value_after};
 ghost use Rattle.fx_fraction.specs.Numeral.{digit_count, first_digits, part_of, part_digits, behind_part};
 ghost use Rattle.fx_fraction.specs.DecimalOf.{trimmed, within_limits, decimal_of};
 ghost use Rattle.fx_fraction.specs.Kept.{Keeps, FitsFront, zeros_of};
-ghost use Rattle.fx_fraction.specs.ReadParts.{IsMantissa, IsShortPart};
+ghost use Rattle.fx_fraction.specs.ReadParts.{IsBelowTens, IsMantissa, IsShortPart};
 
 use crate::decimal::{Decimal, signed};
 use crate::read::{Mantissa, behind_sign, is_negative};
@@ -16,6 +16,12 @@ use crate::significant::Significant;
 
 // Below this a number and one digit more stay below 2^62.
 const LIMIT: u64 = 461_168_601_842_738_790;
+
+// As many digits come to less than 2^64, so that none needs a test of its own.
+const FEW: usize = 19;
+
+// What is read of a short text is below this.
+const KEPT: u64 = 1 << 62;
 
 /// The digits that stand first, behind those that came to `start`: what they come to, and how many they are. None where
 /// that might be 2^62 or more.
@@ -107,14 +113,51 @@ fn lowered(is_negative: bool, size: u64, places: u8) -> Decimal
     }
 }
 
+/// The digits that stand first in a text of few bytes, behind those that came to `start`: what they come to, and how many
+/// they are.
+fn few_digits(start: u64, text: &[u8]) -> (u64, usize)
+    requires { IsBelowTens start (length text.now) }
+    ensures count { result.1 ≡ digit_count text.now }
+    ensures within { result.1 ≤ length text.now }
+    ensures value { result.0 ≡ digits_value_after 10 start (first_digits text.now) }
+    ensures few { IsBelowTens result.0 (length text.now - result.1) }
+{
+    let mut now = start;
+    for (i, byte) in text.iter().enumerate() {
+        if !byte.is_ascii_digit() {
+            return (now, i);
+        }
+        now = now * 10 + u64::from(*byte - b'0');
+    }
+    (now, text.len())
+}
+
+/// The same of the digits behind a point, where a point stands first: what they come to, how many they are, and where
+/// they end.
+fn few_part(start: u64, text: &[u8]) -> (u64, usize, usize)
+    requires { IsBelowTens start (length text.now) }
+    ensures { result.0 < 2 ^ 62 → IsShortPart start text.now result }
+{
+    match text {
+        [b'.', part @ ..] => {
+            let (size, places) = few_digits(start, part);
+            (size, places, places + 1)
+        }
+        _ => (start, 0, 0),
+    }
+}
+
 /// The decimal that a text spells, where it is short and has no power of ten.
 pub fn read_plain(text: &[u8]) -> Option<Decimal>
     ensures { IfSome result (λ d. decimal_of text.now ≡ Ok d) }
 {
     let body = behind_sign(text);
-    let (whole, count) = short_digits(0, body)?;
-    let (size, places, end) = short_part(whole, &body[count..])?;
-    if count + end < body.len() || count + places == 0 || places > 18 {
+    if body.len() > FEW {
+        return None;
+    }
+    let (whole, count) = few_digits(0, body);
+    let (size, places, end) = few_part(whole, &body[count..]);
+    if size >= KEPT || count + end < body.len() || count + places == 0 || places > 18 {
         return None;
     }
     Some(lowered(is_negative(text), size, places as u8))
