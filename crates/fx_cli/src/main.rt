@@ -51,4 +51,6 @@ fn main(rt: HostRuntime) -> ExitCode {
 #[cfg(test)]
 mod failing;
 #[cfg(test)]
+mod searches;
+#[cfg(test)]
 mod tests;
