@@ -74,7 +74,7 @@ fn scaled_row(
 /// What the unit rows of a pool cost.
 fn unit_costs(alloc: Global, pool: &Pool) -> Result<Vec<i128>, Memory> {
     let mut costs = Vec::new(alloc);
-    for j in 0..pool.states {
+    for j in 0..pool.rows.states {
         costs.push(pool.cost(j))?;
     }
     Ok(costs)
@@ -85,15 +85,15 @@ impl<'a> ScaledRows<'a> {
     pub fn of(alloc: Global, pool: &'a Pool) -> Result<ScaledRows<'a>, Memory> {
         let costs = unit_costs(alloc, pool)?;
         let mut rows = Vec::new(alloc);
-        for i in pool.states..pool.len() {
-            rows.push(scaled_row(alloc, pool.row(i), &costs, pool.cost(i))?)?;
+        for i in pool.rows.states..pool.rows.len() {
+            rows.push(scaled_row(alloc, pool.rows.row(i), &costs, pool.cost(i))?)?;
         }
         Ok(ScaledRows { pool, costs, rows })
     }
 
     /// How many states the rows are of.
     pub fn states(&self) -> usize {
-        self.pool.states
+        self.pool.rows.states
     }
 }
 
@@ -310,7 +310,7 @@ fn best_row(first: Entering, scaled: &ScaledRows<'_>, worth: &[i128]) -> Enterin
     for i in 0..scaled.rows.len() {
         if let Some(row) = &scaled.rows[i] {
             if let Some(gain) = dot(worth, row) {
-                best = best.or(i.saturating_add(scaled.pool.states), gain);
+                best = best.or(i.saturating_add(scaled.pool.rows.states), gain);
             }
         }
     }
@@ -336,7 +336,7 @@ fn reduce_row(own: &mut Vec<i128>, row: &[i128], c: i128) -> Option<()> {
 
 /// The entering row itself.
 fn entering_row(alloc: Global, scaled: &ScaledRows<'_>, i: usize) -> Result<Vec<i128>, Memory> {
-    let states = scaled.pool.states;
+    let states = scaled.pool.rows.states;
     if i < states {
         return unit_row(alloc, states, i, ONE);
     }
@@ -368,7 +368,7 @@ fn exchange_once(
 
 /// How often row `i` is taken, as a share.
 fn share_at(pool: &Pool, (i, sign): (usize, i128), time: i128, cost: i128) -> Option<Share> {
-    if i < pool.states || time == 0 {
+    if i < pool.rows.states || time == 0 {
         return None;
     }
     let n = time.checked_mul(sign)?.checked_mul(cost)?;
@@ -426,7 +426,7 @@ pub fn exchange(alloc: Global, scaled: &ScaledRows<'_>, row: &[i128]) -> Result<
         return Ok(none);
     };
     let mut basis = Basis::units(alloc, &goal)?;
-    let turns = scaled.pool.states.saturating_mul(8).saturating_add(16);
+    let turns = scaled.pool.rows.states.saturating_mul(8).saturating_add(16);
     for _turn in 0..turns {
         if !exchange_once(alloc, scaled, &mut basis)? {
             break;

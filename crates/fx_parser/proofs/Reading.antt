@@ -8,11 +8,8 @@ use Rattle.fx_grammar.specs.declared.head.Head.{Head}
 use Rattle.fx_grammar.specs.declared.head.Head.TheVariants as heads
 use Rattle.fx_grammar.specs.Heads.{head_of, ◌==ₕ◌}
 use Rattle.fx_grammar.specs.Steps.{◌>>=◌, when, Tokens, Parsed, want, wrong, real_at, past_semicolon, next_head, repeat, separated, listed, stands_next, behind}
+use Rattle.fx_grammar.proofs.Outcomes.{on_ok}
 use Rattle.fx_parser.specs.LawfulTokens.{IsSound, AreSound}
-
-pub on_ok : {A B E P : Type 0} (r : Result A E) (f : A → Result B E) (y : B) → (r >>= f) ≡ Ok y → ((x : A) → r ≡ Ok x → f x ≡ Ok y → P) → P
-on_ok (Ok x) f y e k = k x refl e
-on_ok (Err d) f y e k = absurd cc
 
 pub on_if : {A E P : Type 0} (b : Bool) (r s : Result A E) (y : A) → cond b r s ≡ Ok y → (b ≡ true → r ≡ Ok y → P) → (b ≡ false → s ≡ Ok y → P) → P
 on_if true r s y e f g = f refl e

@@ -26,8 +26,10 @@ use Rattle.fx_grammar.specs.Functions.{require_word_at, new_name, Front, front_a
 use Rattle.fx_grammar.specs.Sources.{dot_at, import_at, imports_at, function_names, one_def, defs_at, ended, object_at, source_of, functions_of}
 use Rattle.fx_parser.specs.LawfulTokens.{IsSize, AreSound}
 use Rattle.fx_parser.specs.LawfulNames.{IsLawfulAndNamed}
-use Rattle.fx_parser.proofs.Reading.{only, on_ok, on_if, refused, same_ok, sound_drop, sound_semicolon, want_ok, real_ok, repeat_ok, separated_ok, listed_ok}
-use Rattle.fx_parser.proofs.NodeCounts.{nodes_in, nodes_in_temps, nodes_in_trees, all_nodes}
+use Rattle.fx_grammar.proofs.Outcomes.{on_ok}
+use Rattle.fx_parser.proofs.Reading.{only, on_if, refused, same_ok, sound_drop, sound_semicolon, want_ok, real_ok, repeat_ok, separated_ok, listed_ok}
+use Rattle.fx_model.specs.Counts.{tree_nodes, temp_nodes}
+use Rattle.fx_parser.proofs.NodeCounts.{all_tree_nodes, all_nodes}
 use Rattle.fx_parser.proofs.SoundTokens.{tokens_sound}
 use Rattle.fx_parser.proofs.SoundTrees.{IsTree, IsOperand, expr_ok}
 use Rattle.fx_parser.proofs.SoundSubjects.{subject_at_ok, IsSubject, AreSubjects, is_name, new_ok, signed_ok, error_ok, require_ok}
@@ -109,7 +111,7 @@ type_ok end states ts x s e = on_if (next_head ts ==ₕ heads.Open) _ _ x e
 
 -- a tree that isn't too high
 abbrev IsGood : ℕ → ℕ → ℕ → Tree → ℕ → Type 0
-IsGood i k m t n = RefersBelow i k m t × IsLow t × (n ≡ counted_nodes (nodes_in t))
+IsGood i k m t n = RefersBelow i k m t × IsLow t × (n ≡ counted_nodes (tree_nodes t))
 
 good_tree : (i k m : ℕ) (t : Option Tree) (h n : ℕ) → IsTree i k m t h n → eqb h 201 ≡ false → IsGood i k m (tree_or t) n
 good_tree i k m None h n p e = let apart : (h ≡ 201) → ⊥ = search (rules, tests) in absurd (apart p)
@@ -121,7 +123,7 @@ record IsBody (b : Body) : Type 0 where
   back : ReferBack b.inputs b.states 0 b.temps
   low : All (λ t. IsLow t.tree) b.temps
   named : All (λ t. IsName t.name) b.temps
-  nodes : b.nodes ≡ counted_nodes (nodes_in_temps b.temps)
+  nodes : b.nodes ≡ counted_nodes (temp_nodes b.temps)
 
 read_ok : (end : ℕ) (b : Body) (outside : Bool) (ts : Tokens) (x : Operand × Tokens) → IsBody b → AreSound ts → expr_at (known_of end b) outside 200 ts ≡ Ok x
     → IsOperand b.inputs b.states (length b.temps) x.0 × AreSound x.1
@@ -139,11 +141,11 @@ back_more : (i k m : ℕ) (ts : List model.Temp) (t : model.Temp) → ReferBack 
 back_more i k m [] t p q = (subst (λ n. RefersBelow i k n t.tree) (omega arith) q, tt {0})
 back_more i k m (u ∷ ts) t p q = (p.0, back_more i k (m + 1) ts t p.1 (subst (λ n. RefersBelow i k n t.tree) (omega arith) q))
 
-temps_more : (ts : List model.Temp) (t : model.Temp) → nodes_in_temps (ts ++ t ∷ []) ≡ nodes_in_temps ts + nodes_in t.tree
+temps_more : (ts : List model.Temp) (t : model.Temp) → temp_nodes (ts ++ t ∷ []) ≡ temp_nodes ts + tree_nodes t.tree
 temps_more [] t = omega arith
 temps_more (u ∷ ts) t = omega (arith, temps_more ts t)
 
-trees_more : (ts : List Tree) (t : Tree) → nodes_in_trees (ts ++ t ∷ []) ≡ nodes_in_trees ts + nodes_in t
+trees_more : (ts : List Tree) (t : Tree) → all_tree_nodes (ts ++ t ∷ []) ≡ all_tree_nodes ts + tree_nodes t
 trees_more [] t = omega arith
 trees_more (u ∷ ts) t = omega (arith, trees_more ts t)
 
@@ -191,7 +193,7 @@ vals_ok end b ts x p s e = repeat_ok (λ c. IsBody c × Same b c) (stands_next h
 record AreResults (b : Body) (r : Results) : Type 0 where
   below : AllReferBelow b.inputs b.states (length b.temps) r.trees
   low : All IsLow r.trees
-  nodes : r.nodes ≡ counted_nodes (nodes_in_temps b.temps + nodes_in_trees r.trees)
+  nodes : r.nodes ≡ counted_nodes (temp_nodes b.temps + all_tree_nodes r.trees)
 
 single_ok : (end word : ℕ) (b : Body) (ts : Tokens) (x : Results × Tokens) → IsBody b → AreSound ts → single_at end word b ts ≡ Ok x → ((length x.0.trees ≡ 1) × AreResults b x.0) × AreSound x.1
 unfolding single_at

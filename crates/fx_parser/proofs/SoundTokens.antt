@@ -21,6 +21,7 @@ use Rattle.fx_lexer.specs.Layout.{IsLaidOut, over as nothing, gap, token}
 use Rattle.fx_lexer.specs.Numbers.{number_len}
 use Rattle.fx_lexer.specs.Tokens.{gap as item_gap, token_item, first_item, closed_item, found_sign, tokens_of}
 use Rattle.fx_lexer.proofs.Fronts.{IsFront, at_blank, at_word, at_number, at_line, at_comment, at_sign, front_is}
+use Rattle.fx_lexer.proofs.KindLaws.{all_first}
 use Rattle.fx_lexer.proofs.Layouts.{layout}
 use Rattle.fx_grammar.specs.Steps.{Tokens, decimal, value_or}
 use Rattle.fx_parser.specs.LawfulTokens.{IsSize, IsSoundText, IsSound, AreSound}
@@ -64,16 +65,6 @@ no_sign (suc n) (c ∷ cs) d =
 
 -- ---- names
 
-all_prefix : (p : ℕ → Bool) (xs : List ℕ) → list_all p (take (prefix_len p xs) xs) ≡ true
-all_prefix p [] = refl
-all_prefix p (x ∷ xs) = by (p x) refl (all_prefix p xs) where
-  by : (b : Bool) → p x ≡ b → list_all p (take (prefix_len p xs) xs) ≡ true → list_all p (take (prefix_len p (x ∷ xs)) (x ∷ xs)) ≡ true
-  by true e more =
-      let one : 1 + prefix_len p xs ≡ suc (prefix_len p xs) = omega arith in
-      let q : take (prefix_len p (x ∷ xs)) (x ∷ xs) ≡ x ∷ take (prefix_len p xs) xs = rw (e, one) refl in
-      rw (q, e) more
-  by false e more = rw e refl
-
 -- the word at the front is reserved or a name
 word_sound : (text : List ℕ) → is_letter (get_or text 0 0) ≡ true → IsSoundText (cond (is_reserved (take (prefix_len is_word_byte text) text)) Word Name) (take (prefix_len is_word_byte text) text)
 word_sound [] w = absurd cc
@@ -85,7 +76,7 @@ word_sound (c ∷ cs) w =
   where
     by : (b : Bool) → is_reserved (c ∷ take (prefix_len is_word_byte cs) cs) ≡ b → IsSoundText (cond b Word Name) (c ∷ take (prefix_len is_word_byte cs) cs)
     by true e = tt {0}
-    by false e = let rest : list_all is_word_byte (take (prefix_len is_word_byte cs) cs) ≡ true = all_prefix is_word_byte cs in rw (w, rest, e) refl
+    by false e = let rest : list_all is_word_byte (take (prefix_len is_word_byte cs) cs) ≡ true = all_first is_word_byte cs in rw (w, rest, e) refl
 
 -- ---- tokens
 

@@ -15,13 +15,14 @@ use Rattle.fx_grammar.specs.Steps.{Tokens, name_place, next_head, decimal, negat
 use Rattle.fx_grammar.specs.Operands.{Operand, leaf, low_tree, negation, negation_of, combined_operand, both, operation, counted_nodes}
 use Rattle.fx_grammar.specs.Expressions.{Known, Reader, literal, meant, is_call, found_name, named, closed, opened, atom_by, atom_of, behind_minus, factor_of, one_more, goes_on_product, goes_on_sum, term_of, sum_from, expr_at}
 use Rattle.fx_parser.specs.LawfulTokens.{IsSound, AreSound}
-use Rattle.fx_parser.proofs.Reading.{fine, on_ok, on_when, refused, same_ok, sound_drop, want_ok, repeat_ok}
-use Rattle.fx_parser.proofs.NodeCounts.{nodes_in}
+use Rattle.fx_grammar.proofs.Outcomes.{on_ok}
+use Rattle.fx_parser.proofs.Reading.{fine, on_when, refused, same_ok, sound_drop, want_ok, repeat_ok}
+use Rattle.fx_model.specs.Counts.{tree_nodes}
 
 -- what is known of a tree with this height and these nodes, where so many inputs, states and temps are there
 abbrev pub IsTree : ℕ → ℕ → ℕ → Option Tree → ℕ → ℕ → Type 0
 IsTree i k m None h n = h ≡ 201
-IsTree i k m (Some t) h n = RefersBelow i k m t × (h ≡ height t) × (h ≤ 200) × (n ≡ counted_nodes (nodes_in t))
+IsTree i k m (Some t) h n = RefersBelow i k m t × (h ≡ height t) × (h ≤ 200) × (n ≡ counted_nodes (tree_nodes t))
 
 abbrev pub IsOperand : ℕ → ℕ → ℕ → Operand → Type 0
 IsOperand i k m x = IsTree i k m x.tree x.height x.nodes
@@ -88,7 +89,7 @@ module _ (i k m : ℕ) where
     by true q =
         let le : min 201 (1 + max a b) ≤ 200 = search (rules, tests) in
         let h : min 201 (1 + max a b) ≡ suc (max (height x) (height y)) = omega (arith, le, e.1, f.1) in
-        let c : counted_nodes (1 + n + l) ≡ counted_nodes (1 + nodes_in x + nodes_in y) = omega (arith, e.3, f.3) in
+        let c : counted_nodes (1 + n + l) ≡ counted_nodes (tree_nodes x + tree_nodes y + 1) = omega (arith, e.3, f.3) in
         by_sign (λ t. IsTree i k m (Some t) (min 201 (1 + max a b)) (counted_nodes (1 + n + l))) x y
         ((e.0, f.0), h, le, c) ((e.0, f.0), h, le, c) ((e.0, f.0), h, le, c) ((e.0, f.0), h, le, c) sign
     by false q = let lt : 200 < min 201 (1 + max a b) = search (rules, tests) in omega (arith, lt)

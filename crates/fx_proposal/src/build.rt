@@ -109,7 +109,7 @@ impl<'a> Building<'a> {
 
     /// The room of a chain.
     fn room(&self, ahead: &Ahead) -> i128 {
-        room(ahead.width(0), self.costs.shift)
+        room(ahead.rows.width(0), self.costs.shift)
     }
 
     /// Adds the unit rows.
@@ -118,7 +118,7 @@ impl<'a> Building<'a> {
             if let Some(k) = chain.state {
                 let own = self.room(&chain.ahead);
                 self.pool
-                    .push_unit(self.alloc, k, chain.ahead.reach(0), own)?;
+                    .push_unit(self.alloc, k, chain.ahead.rows.reach(0), own)?;
             }
         }
         Ok(())
@@ -126,9 +126,9 @@ impl<'a> Building<'a> {
 
     /// Adds the row of a chain at a time, and gives its number.
     fn put_row(&mut self, ahead: &Ahead, time: usize, own: i128) -> Result<usize, Memory> {
-        let reach = ahead.reach(time);
+        let reach = ahead.rows.reach(time);
         self.pool
-            .push_row(self.alloc, ahead.row(time), ahead.width(0), reach, own)
+            .push_row(self.alloc, ahead.rows.row(time), ahead.rows.width(0), reach, own)
     }
 
     /// Adds the rows of a chain at these times, and gives the number of the last. Each is shown by the next, or waits for an
@@ -242,7 +242,7 @@ impl<'a> Building<'a> {
         let mut shares = Vec::new(self.alloc);
         for end in &self.ends {
             let row = match chains.get(end.chain) {
-                Some(chain) => chain.ahead.row(end.time),
+                Some(chain) => chain.ahead.rows.row(end.time),
                 None => &[],
             };
             shares.push(exchange(self.alloc, &scaled, row)?.shares)?;

@@ -43,7 +43,7 @@ fn state_part(alloc: Global, t: &Transition, node: u32) -> Result<Option<Vec<i12
 /// Whether a row begins a chain, or is the image of what begins one.
 fn is_known(chains: &[Chain], row: &[i128]) -> bool {
     for chain in chains {
-        if chain.ahead.row(0) == row || chain.ahead.row(1) == row {
+        if chain.ahead.rows.row(0) == row || chain.ahead.rows.row(1) == row {
             return true;
         }
     }
@@ -53,7 +53,7 @@ fn is_known(chains: &[Chain], row: &[i128]) -> bool {
 /// Whether a row costs clearly more on the unit rows than it reaches.
 fn is_worth(ahead: &Ahead, row: &[i128], widths: &[i128]) -> bool {
     match unit_cost(row, widths) {
-        Some(cost) => cost.saturating_mul(64) > ahead.width(0).saturating_mul(65),
+        Some(cost) => cost.saturating_mul(64) > ahead.rows.width(0).saturating_mul(65),
         None => false,
     }
 }
@@ -62,7 +62,7 @@ fn is_worth(ahead: &Ahead, row: &[i128], widths: &[i128]) -> bool {
 fn widths_of(alloc: Global, chains: &[Chain]) -> Result<Vec<i128>, Memory> {
     let mut widths = Vec::new(alloc);
     for chain in chains {
-        widths.push(chain.ahead.width(0))?;
+        widths.push(chain.ahead.rows.width(0))?;
     }
     Ok(widths)
 }

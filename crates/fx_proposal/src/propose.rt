@@ -39,8 +39,8 @@ impl Proposal {
         let k = place.checked_div(linear.states).unwrap_or(0);
         let j = place.checked_rem(linear.states).unwrap_or(0);
         let difference = linear.entry(k, j).abs_diff(self.linear.entry(k, j));
-        let most = left_fits(self.pool.width(k), COMMON_BITS).unwrap_or(i128::MAX);
-        difference.saturating_mul(self.pool.width(j).unsigned_abs()) <= most.unsigned_abs()
+        let most = left_fits(self.pool.rows.width(k), COMMON_BITS).unwrap_or(i128::MAX);
+        difference.saturating_mul(self.pool.rows.width(j).unsigned_abs()) <= most.unsigned_abs()
     }
 
     /// Whether the linear part agrees with another step's.
@@ -50,7 +50,7 @@ impl Proposal {
                 return false;
             }
         }
-        linear.states == self.pool.states
+        linear.states == self.pool.rows.states
     }
 
     /// Takes the bounds that the same rows with the same shares have for another step. Whether some are found.
@@ -77,7 +77,7 @@ impl Proposal {
 /// The coefficients of a row.
 fn row_coefs(alloc: Global, pool: &Pool, i: usize) -> Result<Items<Dyadic>, Memory> {
     let mut coefs = Vec::new(alloc);
-    for j in 0..pool.states {
+    for j in 0..pool.rows.states {
         coefs.push(pool.coef(i, j))?;
     }
     Ok(Items::from_vec(coefs))

@@ -24,8 +24,8 @@ pub struct System {
 /// How many places the bounds have, row by row.
 fn bound_places(alloc: Global, pool: &Pool) -> Result<Vec<i32>, Memory> {
     let mut places = Vec::new(alloc);
-    for i in 0..pool.len() {
-        let length = i64::from(bits(pool.width(i).max(1).unsigned_abs()));
+    for i in 0..pool.rows.len() {
+        let length = i64::from(bits(pool.rows.width(i).max(1).unsigned_abs()));
         let e = BOUND_BITS
             .saturating_sub(length)
             .saturating_add(i64::from(pool.scale));
@@ -44,7 +44,7 @@ impl System {
     ) -> Result<Option<System>, Memory> {
         let places = bound_places(alloc, pool)?;
         let mut lefts = Vec::new(alloc);
-        for i in 0..pool.len() {
+        for i in 0..pool.rows.len() {
             match left_of(alloc, linear, pool, i, &places, starts)? {
                 Some(left) => lefts.push(left)?,
                 None => return Ok(None),
@@ -53,7 +53,7 @@ impl System {
         Ok(Some(System {
             lefts,
             places,
-            states: pool.states,
+            states: pool.rows.states,
         }))
     }
 
@@ -61,7 +61,7 @@ impl System {
     fn guess(&self, pool: &Pool, i: usize) -> Option<Ends> {
         let down = pool.scale.checked_sub(*self.places.get(i)?)?;
         let half = pool.room(i).checked_add(1)? >> 1;
-        let (lo, hi) = pool.reach(i);
+        let (lo, hi) = pool.rows.reach(i);
         let own = Ends {
             lo: moved_down(lo.checked_sub(half)?, down)?.checked_sub(1)?,
             hi: moved_up(hi.checked_add(half)?, down)?.checked_add(1)?,

@@ -91,7 +91,7 @@ fn unit_quality(pool: &Pool, chains: &[Chain]) -> i128 {
     let mut worst = 0;
     for (i, chain) in chains.iter().enumerate() {
         if chain.state.is_some() {
-            worst = ratio(pool.width(i), chain.ahead.width(0)).max(worst);
+            worst = ratio(pool.rows.width(i), chain.ahead.rows.width(0)).max(worst);
         }
     }
     worst
@@ -100,14 +100,14 @@ fn unit_quality(pool: &Pool, chains: &[Chain]) -> i128 {
 /// How good the bounds of all are, of outputs by an exchange.
 fn quality(alloc: Global, pool: &Pool, chains: &[Chain]) -> Result<i128, Memory> {
     let mut worst = unit_quality(pool, chains);
-    if chains.len() == pool.states {
+    if chains.len() == pool.rows.states {
         return Ok(worst);
     }
     let scaled = ScaledRows::of(alloc, pool)?;
     for chain in chains {
         if chain.state.is_none() {
-            let found = exchange(alloc, &scaled, chain.ahead.row(0))?;
-            worst = ratio(found.cost, chain.ahead.width(0)).max(worst);
+            let found = exchange(alloc, &scaled, chain.ahead.rows.row(0))?;
+            worst = ratio(found.cost, chain.ahead.rows.width(0)).max(worst);
         }
     }
     Ok(worst)

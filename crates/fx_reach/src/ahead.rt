@@ -5,6 +5,7 @@
 //! of a chain costs is known too.
 
 use crate::linear::Linear;
+use crate::rows::Rows;
 use fx_num::Memory;
 use std::alloc::Global;
 
@@ -17,10 +18,8 @@ const DOUBLINGS: u32 = 8;
 /// A row and its images, with the reach of each.
 #[derive(Debug, Drop)]
 pub struct Ahead {
-    states: usize,
-    rows: Vec<i128>,
-    lo: Vec<i128>,
-    hi: Vec<i128>,
+    /// The row and its images.
+    pub rows: Rows,
 }
 
 /// The drives of the two halves of what was looked at.
@@ -31,51 +30,25 @@ struct Halves {
 }
 
 impl Ahead {
-    /// How many rows there are.
-    pub fn len(&self) -> usize {
-        self.lo.len()
-    }
-
-    /// Row `i`, with 48 binary places.
-    pub fn row(&self, i: usize) -> &[i128] {
-        let from = i.saturating_mul(self.states);
-        let to = from.saturating_add(self.states);
-        self.rows.as_slice().get(from..to).unwrap_or(&[])
-    }
-
-    /// From where to where row `i` reaches.
-    pub fn reach(&self, i: usize) -> (i128, i128) {
-        let lo = self.lo.get(i).copied().unwrap_or(0);
-        let hi = self.hi.get(i).copied().unwrap_or(0);
-        (lo, hi)
-    }
-
-    /// How wide that is.
-    pub fn width(&self, i: usize) -> i128 {
-        let (lo, hi) = self.reach(i);
-        hi.saturating_sub(lo)
-    }
-
     /// One step more.
     fn push_step(&mut self, linear: &Linear, t: usize) -> Result<Option<()>, Memory> {
-        let Some((lo, hi)) = linear.drive(self.row(t)) else {
+        let Some((lo, hi)) = linear.drive(self.rows.row(t)) else {
             return Ok(None);
         };
-        let (before_lo, before_hi) = self.reach(t);
+        let (before_lo, before_hi) = self.rows.reach(t);
         let Some(lo) = before_lo.checked_add(lo) else {
             return Ok(None);
         };
         let Some(hi) = before_hi.checked_add(hi) else {
             return Ok(None);
         };
-        self.lo.push(lo)?;
-        self.hi.push(hi)?;
-        linear.push_image(&mut self.rows, t.saturating_mul(self.states))
+        self.rows.push_reach((lo, hi))?;
+        linear.push_image(&mut self.rows.entries, t.saturating_mul(self.rows.states))
     }
 
     /// Steps up to this one.
     fn push_steps(&mut self, linear: &Linear, end: usize) -> Result<Option<()>, Memory> {
-        let from = self.lo.len().saturating_sub(1);
+        let from = self.rows.len().saturating_sub(1);
         for t in from..end {
             if self.push_step(linear, t)?.is_none() {
                 return Ok(None);
@@ -87,22 +60,22 @@ impl Ahead {
     /// How much the drives so far come to, and those of the first half.
     fn halves(&self, end: usize) -> Halves {
         Halves {
-            first: self.width(end / 2),
-            both: self.width(end),
+            first: self.rows.width(end / 2),
+            both: self.rows.width(end),
         }
     }
 
     /// Whether the row is clearly less than the first: what drives it may come late, through many states.
     fn has_faded(&self, end: usize) -> bool {
-        total_size(self.row(end)) <= total_size(self.row(0)) >> 2
+        total_size(self.rows.row(end)) <= total_size(self.rows.row(0)) >> 2
     }
 
     /// Turns the sums of the drives before each row into the sums of those behind it.
     fn turn(&mut self, end: usize, halves: Halves) -> Option<()> {
-        let lo = total(&self.lo, end, halves)?;
-        let hi = total(&self.hi, end, halves)?;
-        turn_ends(&mut self.lo, lo)?;
-        turn_ends(&mut self.hi, hi)
+        let lo = total(&self.rows.lo, end, halves)?;
+        let hi = total(&self.rows.hi, end, halves)?;
+        turn_ends(&mut self.rows.lo, lo)?;
+        turn_ends(&mut self.rows.hi, hi)
     }
 }
 
@@ -153,10 +126,12 @@ impl Halves {
 /// Looks ahead from a row, until its drives end. None where they don't.
 pub fn look_ahead(alloc: Global, linear: &Linear, row: &[i128]) -> Result<Option<Ahead>, Memory> {
     let mut ahead = Ahead {
-        states: linear.states,
-        rows: Vec::from_slice(alloc, row)?,
-        lo: vec![in alloc; 0_i128; 1]?,
-        hi: vec![in alloc; 0_i128; 1]?,
+        rows: Rows {
+            states: linear.states,
+            entries: Vec::from_slice(alloc, row)?,
+            lo: vec![in alloc; 0_i128; 1]?,
+            hi: vec![in alloc; 0_i128; 1]?,
+        },
     };
     let mut end = FIRST;
     for turn in 0..DOUBLINGS.saturating_add(1) {

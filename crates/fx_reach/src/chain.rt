@@ -32,7 +32,7 @@ impl Costs {
         let mut costs = Vec::new(alloc);
         for chain in chains {
             if chain.state.is_some() {
-                let width = chain.ahead.width(0);
+                let width = chain.ahead.rows.width(0);
                 widths.push(width)?;
                 costs.push(width.saturating_add(room(width, shift)))?;
             }
@@ -85,8 +85,8 @@ fn left_cost(image: &[i128], row: &[i128], times: i128, costs: &[i128]) -> Optio
 
 /// How often the image of row `i` takes that row, where the chain can be closed on it within the limit.
 fn on_itself(ahead: &Ahead, i: usize, costs: &Costs, limit: i128) -> Option<Dyadic> {
-    let row = ahead.row(i);
-    let image = ahead.row(i.saturating_add(1));
+    let row = ahead.rows.row(i);
+    let image = ahead.rows.row(i.saturating_add(1));
     let j = costs.heaviest(image);
     let r = *image.get(j)?;
     let q = *row.get(j)?;
@@ -97,7 +97,7 @@ fn on_itself(ahead: &Ahead, i: usize, costs: &Costs, limit: i128) -> Option<Dyad
     let whole = floor_at(times, PLACES as i32)?;
     let own = ahead
         .width(i)
-        .checked_add(room(ahead.width(0), costs.shift))?;
+        .checked_add(room(ahead.rows.width(0), costs.shift))?;
     let cost = product(whole, own, PLACES)?.checked_add(left_cost(
         image,
         row,
@@ -110,13 +110,13 @@ fn on_itself(ahead: &Ahead, i: usize, costs: &Costs, limit: i128) -> Option<Dyad
 /// How often the image of row `i` takes that row, where the chain can be closed behind it: not at all where the unit rows
 /// suffice.
 pub fn find_closing(ahead: &Ahead, i: usize, costs: &Costs) -> Option<Dyadic> {
-    let first = ahead.width(0);
+    let first = ahead.rows.width(0);
     let next = i.saturating_add(1);
     let limit = ahead
         .width(next)
         .checked_add(room(first, costs.shift))?
         .checked_add(first >> 30)?;
-    if unit_cost(ahead.row(next), &costs.costs)? <= limit {
+    if unit_cost(ahead.rows.row(next), &costs.costs)? <= limit {
         return Some(Dyadic { m: 0, e: 0 });
     }
     on_itself(ahead, i, costs, limit)
@@ -124,7 +124,7 @@ pub fn find_closing(ahead: &Ahead, i: usize, costs: &Costs) -> Option<Dyadic> {
 
 /// How many rows a chain wants to have: up to the first behind which it can be closed, else all that were looked at.
 pub fn wanted_length(ahead: &Ahead, costs: &Costs) -> usize {
-    let end = ahead.len().saturating_sub(1);
+    let end = ahead.rows.len().saturating_sub(1);
     for i in 0..end {
         if find_closing(ahead, i, costs).is_some() {
             return i.saturating_add(1);

@@ -13,6 +13,7 @@ mod ahead;
 mod chain;
 mod linear;
 mod pool;
+mod rows;
 mod sum;
 mod transition;
 mod whole;
@@ -21,6 +22,7 @@ pub use ahead::{Ahead, look_ahead};
 pub use chain::{Chain, Costs, find_closing, room, times_of, unit_cost, wanted_length};
 pub use linear::Linear;
 pub use pool::Pool;
+pub use rows::Rows;
 pub use sum::{plus_scaled, times};
 pub use transition::Transition;
 pub use whole::{

@@ -1,5 +1,6 @@
 //! Rows that are proposed, with shares, and how far each is guessed to reach.
 
+use crate::rows::Rows;
 use crate::whole::{PLACES, bits, floor_at, lowest};
 use fx_cert::Share;
 use fx_conditions::zero_dyadic;
@@ -12,16 +13,12 @@ const COEFFICIENT_BITS: i64 = 30;
 /// All rows of one kind, the unit rows first.
 #[derive(Debug, Drop)]
 pub struct Pool {
-    /// How many states there are.
-    pub states: usize,
+    /// The rows with 48 binary places, and how far each is guessed to reach.
+    pub rows: Rows,
     /// Reaches are whole with so many binary places.
     pub scale: i32,
     /// Coefficients, row after row.
     coefs: Vec<Dyadic>,
-    /// The same with 48 binary places.
-    wholes: Vec<i128>,
-    lo: Vec<i128>,
-    hi: Vec<i128>,
     rooms: Vec<i128>,
     shares: Vec<Vec<Share>>,
 }
@@ -30,49 +27,21 @@ impl Pool {
     /// None yet.
     pub fn new(alloc: Global, states: usize, scale: i32) -> Pool {
         Pool {
-            states,
+            rows: Rows::new(alloc, states),
             scale,
             coefs: Vec::new(alloc),
-            wholes: Vec::new(alloc),
-            lo: Vec::new(alloc),
-            hi: Vec::new(alloc),
             rooms: Vec::new(alloc),
             shares: Vec::new(alloc),
         }
     }
 
-    /// How many there are.
-    pub fn len(&self) -> usize {
-        self.lo.len()
-    }
-
     /// Coefficient `j` of row `i`.
     pub fn coef(&self, i: usize, j: usize) -> Dyadic {
-        let place = i.saturating_mul(self.states).saturating_add(j);
+        let place = i.saturating_mul(self.rows.states).saturating_add(j);
         match self.coefs.get(place) {
             Some(coef) => *coef,
             None => zero_dyadic(),
         }
-    }
-
-    /// Row `i` with 48 binary places.
-    pub fn row(&self, i: usize) -> &[i128] {
-        let from = i.saturating_mul(self.states);
-        let to = from.saturating_add(self.states);
-        self.wholes.as_slice().get(from..to).unwrap_or(&[])
-    }
-
-    /// From where to where row `i` is guessed to reach.
-    pub fn reach(&self, i: usize) -> (i128, i128) {
-        let lo = self.lo.get(i).copied().unwrap_or(0);
-        let hi = self.hi.get(i).copied().unwrap_or(0);
-        (lo, hi)
-    }
-
-    /// How wide that is.
-    pub fn width(&self, i: usize) -> i128 {
-        let (lo, hi) = self.reach(i);
-        hi.saturating_sub(lo)
     }
 
     /// How much wider its bound may get.
@@ -82,15 +51,15 @@ impl Pool {
 
     /// What row `i` costs: how wide its bound gets.
     pub fn cost(&self, i: usize) -> i128 {
-        self.width(i).saturating_add(self.room(i))
+        self.rows.width(i).saturating_add(self.room(i))
     }
 
     /// Gives row `i` what its bound came to in the place of a guess.
     pub fn put_reach(&mut self, i: usize, (lo, hi): (i128, i128)) {
-        if let Some(slot) = self.lo.get_mut(i) {
+        if let Some(slot) = self.rows.lo.get_mut(i) {
             *slot = lo;
         }
-        if let Some(slot) = self.hi.get_mut(i) {
+        if let Some(slot) = self.rows.hi.get_mut(i) {
             *slot = hi;
         }
         if let Some(slot) = self.rooms.get_mut(i) {
@@ -124,7 +93,8 @@ impl Pool {
     /// Puts a coefficient behind the others.
     fn push_coef(&mut self, coef: Dyadic) -> Result<(), Memory> {
         self.coefs.push(coef)?;
-        self.wholes
+        self.rows
+            .entries
             .push(floor_at(coef, PLACES as i32).unwrap_or(0))?;
         Ok(())
     }
@@ -133,12 +103,11 @@ impl Pool {
     fn push_reach(
         &mut self,
         alloc: Global,
-        (lo, hi): (i128, i128),
+        reach: (i128, i128),
         room: i128,
     ) -> Result<usize, Memory> {
-        let i = self.lo.len();
-        self.lo.push(lo)?;
-        self.hi.push(hi)?;
+        let i = self.rows.len();
+        self.rows.push_reach(reach)?;
         self.rooms.push(room)?;
         self.shares.push(Vec::new(alloc))?;
         Ok(i)
@@ -152,7 +121,7 @@ impl Pool {
         reach: (i128, i128),
         room: i128,
     ) -> Result<usize, Memory> {
-        for j in 0..self.states {
+        for j in 0..self.rows.states {
             let m = if i == j { 1 } else { 0 };
             self.push_coef(Dyadic { m, e: 0 })?;
         }
@@ -166,7 +135,7 @@ impl Pool {
         coefs: &[Dyadic],
         reach: (i128, i128),
     ) -> Result<usize, Memory> {
-        for j in 0..self.states {
+        for j in 0..self.rows.states {
             self.push_coef(coefs.get(j).copied().unwrap_or(zero_dyadic()))?;
         }
         self.push_reach(alloc, reach, 0)
@@ -181,9 +150,9 @@ impl Pool {
         reach: (i128, i128),
         room: i128,
     ) -> Result<usize, Memory> {
-        for j in 0..self.states {
+        for j in 0..self.rows.states {
             let entry = row.get(j).copied().unwrap_or(0);
-            let places = coef_places(self.width(j), widest);
+            let places = coef_places(self.rows.width(j), widest);
             self.push_coef(rounded(entry, places))?;
         }
         self.push_reach(alloc, reach, room)

@@ -30,7 +30,7 @@ pub fn or_zero(x: Option<Numeral<'_>>) -> Decimal
     }
 }
 
-#[tactic(auto, using(crate::proofs::Ends::ten_few))]
+#[tactic(auto, using(fx_fraction::proofs::Quanta::ten_small))]
 fn power(places: u8) -> u64
     requires { places ≤ 18 }
     ensures value { result ≡ 10 ^ places }

@@ -60,24 +60,6 @@ fn certified_on(
     }
 }
 
-/// The same on the coarser grids, the coarsest last.
-fn certified_coarsely(
-    alloc: Global,
-    task: Task<'_>,
-    draft: &Draft,
-    plans: u32,
-) -> Result<Option<Certified>, Memory>
-    ensures { IfOk result (IsOffered task.entry.width task.entry.source.now) }
-{
-    match certified_on(alloc, task, draft, plans, Grids::COARSE)? {
-        Some(found) => Ok(Some(found)),
-        None => {
-            let found = certified_on(alloc, task, draft, plans, Grids::COARSEST)?;
-            Ok(found)
-        }
-    }
-}
-
 /// The certified program of a draft, on the finest grids on which there is one.
 pub fn certified(
     alloc: Global,
@@ -87,13 +69,13 @@ pub fn certified(
 ) -> Result<Option<Certified>, Memory>
     ensures { IfOk result (IsOffered task.entry.width task.entry.source.now) }
 {
-    match certified_on(alloc, task, draft, plans, Grids::FINE)? {
-        Some(found) => Ok(Some(found)),
-        None => {
-            let found = certified_coarsely(alloc, task, draft, plans)?;
-            Ok(found)
+    for grids in [Grids::FINE, Grids::COARSE, Grids::COARSEST] {
+        let found = certified_on(alloc, task, draft, plans, grids)?;
+        if found.is_some() {
+            return Ok(found);
         }
     }
+    Ok(None)
 }
 
 /// Whether no bound is above the one that stands.

@@ -13,7 +13,8 @@ use Rattle.fx_grammar.specs.Steps.{◌>>=◌, Tokens, repeat}
 use Rattle.fx_grammar.specs.Ranges.{Subjects, condition_at, Conditions, are_open, wanted_at, read_at, conditions_step, conditions_at, require_at, with_side, subject_or}
 use Rattle.fx_syntax.specs.Leaves.{IsNext}
 use Rattle.fx_syntax.specs.Conditions.{IsConditions, last, both, IsCondition, nested, number_first, name_first, error_of, IsSaid, AreInputsOf, none, one_more, IsRequire}
-use Rattle.fx_syntax.proofs.Outcomes.{OnOk, done, failed, and_then, choose, steps, on_ok, on_true, on_false}
+use Rattle.fx_grammar.proofs.Outcomes.{on_ok}
+use Rattle.fx_syntax.proofs.Outcomes.{OnOk, done, failed, and_then, choose, steps, on_true, on_false}
 use Rattle.fx_syntax.proofs.Marks.{mark, same_head, next_shorter, want_spells, want_reads}
 use Rattle.fx_syntax.proofs.Repeats.{when_true}
 use Rattle.fx_syntax.proofs.Conditions.{IsSimple, condition_spells, simple_step, simple_is, IsPlainStep, number_first_step, name_first_step, error_of_step, number_first_reads, name_first_reads, error_of_reads, ranges_spell, ranges_read}

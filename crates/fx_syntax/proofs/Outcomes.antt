@@ -26,10 +26,6 @@ with_both p q = record { at = λ x e. (p.at x e, q.at x e) }
 pub answered : {A E : Type 0} (r : Result A E) → OnOk (λ x. r ≡ Ok x) r
 answered r = record { at = λ x e. e }
 
-pub on_ok : {A B E P : Type 0} (r : Result A E) (f : A → Result B E) (y : B) → (r >>= f) ≡ Ok y → ((x : A) → r ≡ Ok x → f x ≡ Ok y → P) → P
-on_ok (Ok x) f y e k = k x refl e
-on_ok (Err d) f y e k = absurd cc
-
 pub weaken : {A E : Type 0} {P Q : A → Type 0} {r : Result A E} → ((x : A) → P x → Q x) → OnOk P r → OnOk Q r
 weaken k p = record { at = λ x e. k x (p.at x e) }
 
