@@ -27,7 +27,7 @@ pub use decimal::Decimal;
 pub use fault::NumberFault;
 pub use fraction::Fraction;
 pub use quantised::quantise;
-pub use range::within;
+pub use range::Range;
 pub use read::read_decimal;
 pub use text::decimal_text;
 

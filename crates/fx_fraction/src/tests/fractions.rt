@@ -361,7 +361,7 @@ fn ranges(rt: HostRuntime) {
         let high = decimal(&rt, hi);
         let error = decimal(&rt, err);
         assert_eq!(rt;
-            within(given, low, high, error),
+            Range::new(low, high, error).contains(given),
             expected,
             "{g} in {lo} to {hi} with {err}"
         );

@@ -1,4 +1,4 @@
-use Rattle.std.proofs.Common.{◌≡◌, ℕ, ◌<◌, ◌^◌, ◌-◌, take, drop, length, refl, ap, subst, ◌∙◌, arith, rules}
+use Rattle.std.proofs.Common.{ℕ, ◌<◌, ◌^◌, ◌-◌, take, drop, length, refl, ap, subst, ◌∙◌, arith, rules}
 use Rattle.std.specs.Str.Parse.{digits_value_after}
 use Rattle.fx_fraction.specs.Numeral.{part_digits, part_of}
 use Rattle.fx_fraction.specs.Kept.{Keeps}

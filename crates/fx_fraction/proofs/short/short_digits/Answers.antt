@@ -1,4 +1,4 @@
-use Rattle.std.proofs.Common.{◌≡◌, ℕ, ◌+◌, ◌*◌, ◌-◌, ◌<◌, length, take, get_or, ap, sym, ◌∙◌, arith, below_more}
+use Rattle.std.proofs.Common.{◌≡◌, ℕ, ◌+◌, ◌*◌, ◌-◌, length, take, get_or, ap, sym, ◌∙◌, arith, below_more}
 use Rattle.std.specs.Str.Parse.{digits_value_after}
 use Rattle.fx_fraction.specs.Numeral.{digit_count}
 use Rattle.fx_fraction.proofs.Digits.{digit_is, after_more, digit_count_is}
