@@ -14,6 +14,7 @@ ghost use Rattle.fx_model.specs.Function as model;
 ghost use Rattle.fx_model.specs.Rows.{IsInRange};
 ghost use Rattle.fx_fields.specs.Line.{is_special};
 ghost use Rattle.fx_rows.specs.Header.{columns_of};
+ghost use Rattle.fx_rows.specs.Ranges.{Serves};
 ghost use Rattle.fx_rows.specs.ReadRows.{read_rows};
 ghost use Rattle.fx_rows.specs.Faults.{row_fault_of};
 ghost use Rattle.fx_rows.specs.declared.fault.RowKind.TheVariants as kind;
@@ -101,7 +102,7 @@ fn take_header<M: RowStep>(
 ) -> Result<Option<Columns>, Stop>
     requires can { M.can_run step.now }
     requires room { HasRoom page.old }
-    ensures many { IfOk result (λ o. IfSome o (λ c. length (columns_of c) ≡ length (M.meaning step.now).inputs)) }
+    ensures serves { IfOk result (λ o. IfSome o (λ c. Serves c (M.meaning step.now))) }
     ensures taken { IfOk result (λ o. (text : List ℕ) × (page.new ≡ page.old ++ text)
         × ((rest : List (List ℕ)) → lines_outcome (M.meaning step.now) (M.head step.now) (M.printed step.now) None (line.now ∷ rest)
         ≡ behind_lines 1 text 0 (lines_outcome (M.meaning step.now) (M.head step.now) (M.printed step.now) (option_map columns_of o) rest))) }
@@ -127,7 +128,7 @@ fn take_row<M: RowStep>(
     row: &mut Vec<Decimal>,
     page: &mut Page,
 ) -> Result<bool, Stop>
-    requires many { length (columns_of columns.now) ≡ length (M.meaning step.old).inputs }
+    requires serves { Serves columns.now (M.meaning step.old) }
     requires can { M.can_run step.old }
     requires room { HasRoom page.old }
     requires row_room { length (M.meaning step.old).inputs ≤ vec_capacity row.old }
@@ -155,10 +156,11 @@ impl<M: RowStep + Drop> Printer for RowPrinter<M> {
     ghost use Rattle.std.specs.Prelude.{length, option_map, IfSome, ◌≤◌};
     ghost use Rattle.std.specs.Vec.{vec_capacity};
     ghost use Rattle.fx_rows.specs.Header.{columns_of};
+    ghost use Rattle.fx_rows.specs.Ranges.{Serves};
     ghost use Rattle.fx_filter.specs.Printed.{lines_outcome};
     ghost use Rattle.fx_filter.specs.RowLaws.{nothing_printed, long_stops};
 
-    ghost can_take = { λ s. M.can_run s.step × IfSome s.columns (λ c. length (columns_of c) ≡ length (M.meaning s.step).inputs)
+    ghost can_take = { λ s. M.can_run s.step × IfSome s.columns (λ c. Serves c (M.meaning s.step))
         × (length (M.meaning s.step).inputs ≤ vec_capacity s.row) };
 
     ghost outcome = { λ s ls. lines_outcome (M.meaning s.step) (M.head s.step) (M.printed s.step) (option_map columns_of s.columns) ls };

@@ -127,8 +127,13 @@ impl<'a> Building<'a> {
     /// Adds the row of a chain at a time, and gives its number.
     fn put_row(&mut self, ahead: &Ahead, time: usize, own: i128) -> Result<usize, Memory> {
         let reach = ahead.rows.reach(time);
-        self.pool
-            .push_row(self.alloc, ahead.rows.row(time), ahead.rows.width(0), reach, own)
+        self.pool.push_row(
+            self.alloc,
+            ahead.rows.row(time),
+            ahead.rows.width(0),
+            reach,
+            own,
+        )
     }
 
     /// Adds the rows of a chain at these times, and gives the number of the last. Each is shown by the next, or waits for an

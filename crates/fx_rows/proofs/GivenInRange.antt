@@ -1,6 +1,6 @@
 -- The rows of any lines are in range.
-use Rattle.std.proofs.Common.{◌≡◌, ℕ, Bool, true, false, List, [], ◌∷◌, Option, Some, None, length, map, refl, ap, sym, ◌∙◌}
-use Rattle.std.specs.Prelude.{All, Result, Ok, Err, IfSome, nat_lt, if◌then◌else◌}
+use Rattle.std.proofs.Common.{◌≡◌, ℕ, Bool, true, false, List, [], ◌∷◌, Option, Some, None, length, map, refl, ap}
+use Rattle.std.specs.Prelude.{Result, Ok, Err, IfSome, nat_lt, if◌then◌else◌}
 use Rattle.std.specs.List.{list_any}
 use Rattle.std.proofs.lemmas.List.Elements.{All-nil, All-cons}
 use Rattle.fx_rational.specs.Decimal.{Decimal, decimal_value}
@@ -11,8 +11,8 @@ use Rattle.fx_fields.specs.Line.{line_fields, is_return}
 use Rattle.fx_rows.specs.Blanks.{without_blanks}
 use Rattle.fx_rows.specs.Faults.{RowFlaw, at_input}
 use Rattle.fx_rows.specs.Header.{columns_from, header_of, header_of_fields, column_names, with_columns}
-use Rattle.fx_rows.specs.Values.{Values, row_of, row_of_fields, stopped, values_from}
-use Rattle.fx_rows.specs.ReadRows.{AreInRange, Given, Read, after_header, after_row, after_values, behind_line, lines_read, rows_from}
+use Rattle.fx_rows.specs.Values.{Values, row_of, row_of_fields, stopped}
+use Rattle.fx_rows.specs.ReadRows.{AreInRange, Given, Read, after_header, after_row, after_values, lines_read, rows_from}
 use Rattle.fx_rows.specs.declared.fault.RowKind.TheVariants.{LineTooLong, StrayReturn}
 use Rattle.fx_rows.proofs.InRange.{values_in_range}
 use Rattle.fx_rows.proofs.Named.{as-many-inputs}

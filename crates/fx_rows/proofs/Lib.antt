@@ -1,6 +1,7 @@
 pub mod Seen
 pub mod Named
 pub mod Read
+pub mod Ranges
 pub mod Trims
 pub mod Taken
 pub mod InRange

@@ -10,13 +10,13 @@ use Rattle.std.proofs.lemmas.List.Splits.{slice_split_none}
 use Rattle.std.proofs.lemmas.List.{get_or_past}
 use Rattle.std.proofs.lemmas.Bool.{eqb-true, ltb-true, ltb-false, and_parts}
 use Rattle.csv.specs.Records.{field_at}
-use Rattle.fx_rational.specs.Decimal.{Decimal, is_within}
+use Rattle.fx_rational.specs.Decimal.{Decimal, decimal_value}
 use Rattle.fx_fraction.specs.Numeral.{Sign, unwritten, plus, minus, Power, Numeral, sign_text, part_text, power_text, numeral_text, part_digits, is_number, is_e, is_power, IsNumeral, numeral_of}
 use Rattle.fx_fraction.specs.DecimalOf.{decimal_of, decimal_from}
 use Rattle.fx_fraction.proofs.Numerals.{numeral_joined}
 use Rattle.fx_fields.specs.Line.{is_return, is_special, has_mark, line_fields, pieces, plain_fields}
-use Rattle.fx_expr.specs.Parts.{input_of}
-use Rattle.fx_expr.specs.declared.parts.Input as declared
+use Rattle.fx_model.specs.Function.{Input}
+use Rattle.fx_model.specs.Rows.{is_given}
 use Rattle.fx_model.proofs.Digits.{digit_range}
 use Rattle.fx_rows.specs.Blanks.{is_row_blank, without_blanks}
 use Rattle.fx_rows.specs.Values.{field_value, after_value, values_from, row_of_fields}
@@ -160,10 +160,10 @@ module _ (line : List ℕ) (d : Decimal) (read : Ok d ≡ decimal_of line) where
       by (x ∷ xs) r = refl
 
   -- it is the row of its one input
-  pub one_value : (x : declared.Input) → is_within d x.lo x.hi x.err ≡ true → line_fields line ≡ plain_fields line
-      → row_of_fields (input_of x ∷ []) (0 ∷ []) (line_fields line) ≡ Some (record { values = d ∷ []; fault = None })
+  pub one_value : (x : Input) → is_given x (decimal_value d) ≡ true → line_fields line ≡ plain_fields line
+      → row_of_fields (x ∷ []) (0 ∷ []) (line_fields line) ≡ Some (record { values = d ∷ []; fault = None })
   unfolding values_from field_at
   one_value x t e =
-      let v : Ok d ≡ field_value (input_of x) (Some line) = in_range x d (decimal_of (without_blanks line)) (read ∙ ap decimal_of (sym without_none)) t in
-      ap (row_of_fields (input_of x ∷ []) (0 ∷ [])) (one_field e)
+      let v : Ok d ≡ field_value x (Some line) = in_range x d (decimal_of (without_blanks line)) (read ∙ ap decimal_of (sym without_none)) t in
+      ap (row_of_fields (x ∷ []) (0 ∷ [])) (one_field e)
       ∙ ap (λ (r : Result Decimal RowKind). Some (after_value 0 r (record { values = []; fault = None }))) (sym v)

@@ -7,6 +7,7 @@ ghost use Rattle.fx_model.specs.Limits.{input_limit, line_limit};
 ghost use Rattle.fx_expr.specs.Parts.{input_of};
 ghost use Rattle.fx_rows.specs.Blanks.{without_blanks};
 ghost use Rattle.fx_rows.specs.Header.{columns_of, columns_from, header_of, IsHeaderFault};
+ghost use Rattle.fx_rows.specs.Ranges.{AreRangesOf, Serves};
 ghost use Rattle.fx_rows.specs.Places.{places_of, kept_of};
 
 use crate::blanks::trimmed;
@@ -14,14 +15,18 @@ use crate::fault::{MEMORY, RowFault, RowKind, line_fault};
 use csv::ByteRecord;
 use fx_expr::{Function, Input, Items};
 use fx_fields::record_of;
+use fx_fraction::Range;
 use fx_num::Memory;
 use indexmap::IndexMap;
 use std::alloc::Global;
 
-/// The number of the column of each input.
+/// The columns of the inputs.
 #[derive(Debug, Drop)]
 pub struct Columns {
-    pub places: Items<u32>,
+    // The number of the column of each input.
+    pub(crate) places: Items<u32>,
+    // Which values each input may be given.
+    pub(crate) ranges: Items<Range>,
 }
 
 // What is kept of a name at a further place of it.
@@ -55,12 +60,12 @@ fn seen_columns<'r>(
     Ok(seen)
 }
 
-// The columns of the inputs among the fields of a record.
-fn columns_in(alloc: Global, row: &ByteRecord, inputs: &[Input]) -> Result<Columns, RowFault>
+// The numbers of the columns of the inputs among the fields of a record.
+fn places_in(alloc: Global, row: &ByteRecord, inputs: &[Input]) -> Result<Items<u32>, RowFault>
     requires few_inputs { length inputs.now ≤ input_limit }
     requires few_fields { length (fields_of row.now) ≤ line_limit + 1 }
     ensures { MatchResult result
-        (λ cs. columns_from 0 (map (λ i. i.name) (map input_of inputs.now)) (map without_blanks (fields_of row.now)) ≡ Ok cs.places)
+        (λ ps. columns_from 0 (map (λ i. i.name) (map input_of inputs.now)) (map without_blanks (fields_of row.now)) ≡ Ok ps)
         (λ e. IsHeaderFault e (columns_from 0 (map (λ i. i.name) (map input_of inputs.now)) (map without_blanks (fields_of row.now)))) }
 {
     let seen = match seen_columns(alloc, row) {
@@ -89,9 +94,34 @@ fn columns_in(alloc: Global, row: &ByteRecord, inputs: &[Input]) -> Result<Colum
             }
         }
     }
-    Ok(Columns {
-        places: Items::from_vec(places),
-    })
+    Ok(Items::from_vec(places))
+}
+
+// The ranges of the inputs.
+fn ranges_of(alloc: Global, inputs: &[Input]) -> Result<Items<Range>, Memory>
+    ensures { IfOk result (λ rs. AreRangesOf (map input_of inputs.now) rs) }
+{
+    let mut ranges = Vec::new(alloc);
+    for input in inputs {
+        ranges.push(Range::new(input.lo, input.hi, input.err))?;
+    }
+    Ok(Items::from_vec(ranges))
+}
+
+// The columns of the inputs among the fields of a record.
+fn columns_in(alloc: Global, row: &ByteRecord, inputs: &[Input]) -> Result<Columns, RowFault>
+    requires few_inputs { length inputs.now ≤ input_limit }
+    requires few_fields { length (fields_of row.now) ≤ line_limit + 1 }
+    ensures columns { MatchResult result
+        (λ cs. columns_from 0 (map (λ i. i.name) (map input_of inputs.now)) (map without_blanks (fields_of row.now)) ≡ Ok (columns_of cs))
+        (λ e. IsHeaderFault e (columns_from 0 (map (λ i. i.name) (map input_of inputs.now)) (map without_blanks (fields_of row.now)))) }
+    ensures ranges { IfOk result (λ cs. AreRangesOf (map input_of inputs.now) cs.ranges) }
+{
+    let places = places_in(alloc, row, inputs)?;
+    match ranges_of(alloc, inputs) {
+        Ok(ranges) => Ok(Columns { places, ranges }),
+        Err(Memory) => Err(MEMORY),
+    }
 }
 
 /// The columns that a header line gives to the inputs of a function. None at a blank line.
@@ -103,7 +133,7 @@ pub fn read_header(
     ensures columns { MatchResult result
         (λ o. header_of function.now line.now ≡ Ok (option_map columns_of o))
         (λ e. IsHeaderFault e (header_of function.now line.now)) }
-    ensures many { IfOk result (λ o. IfSome o (λ c. length (columns_of c) ≡ length function.now.inputs)) }
+    ensures serves { IfOk result (λ o. IfSome o (λ c. Serves c function.now)) }
 {
     if let Some(kind) = line_fault(line) {
         return Err(RowFault { kind, input: 0 });

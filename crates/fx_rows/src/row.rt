@@ -1,30 +1,31 @@
 //! The values of a row.
-ghost use Rattle.std.specs.Prelude.{◌≡◌, ◌≢◌, ◌<◌, ◌≤◌, true, false, Ok, [], map, length, option_map, IfOk, IfErr, IsTrue};
+ghost use Rattle.std.specs.Prelude.{◌≡◌, ◌≢◌, ◌<◌, ◌≤◌, List, true, false, Ok, [], map, length, option_map, IfOk, IfErr, IsTrue};
 ghost use Rattle.std.specs.List.{list_any};
 ghost use Rattle.std.specs.Vec.{vec_capacity};
 ghost use Rattle.fx_rows.specs.declared.fault.RowKind.TheVariants as kind;
 ghost use Rattle.fx_rational.specs.Decimal.{decimal_value};
+ghost use Rattle.fx_model.specs.Function.{Input};
 ghost use Rattle.fx_model.specs.Rows.{IsInRange};
 ghost use Rattle.fx_model.specs.Limits.{input_limit, line_limit};
-ghost use Rattle.fx_expr.specs.Parts.{input_of};
 ghost use Rattle.fx_fields.specs.Line.{line_fields, is_return, is_special, pieces};
 ghost use Rattle.fx_fields.specs.Seen.{seen};
 ghost use Rattle.fx_rows.specs.Header.{columns_of};
+ghost use Rattle.fx_rows.specs.Ranges.{AreRangesOf, IsRangeOf, Serves};
 ghost use Rattle.fx_rows.specs.Results.{IsRead, IsRowRead};
 ghost use Rattle.fx_rows.specs.Values.{field_value, values_from, row_of, row_of_fields};
 
 use crate::blanks::trimmed;
 use crate::columns::Columns;
 use crate::fault::{LINE_LIMIT, MEMORY, RowFault, RowKind, line_fault};
-use fx_expr::{Function, Input};
+use fx_expr::Function;
 use fx_fields::{Fields, Pieces, piece_from, plain_text, record_of, unmarked_line_law};
-use fx_fraction::{Decimal, read_decimal, within};
+use fx_fraction::{Decimal, Range, read_decimal};
 use fx_num::Memory;
 use std::alloc::Global;
 
-// The value of a field for an input.
-fn read_value(input: &Input, field: Option<&[u8]>) -> Result<Decimal, RowKind>
-    ensures value { result ≡ field_value (input_of input.now) (option_map (λ f. f.now) field.entry) }
+// The value of a field for an input of this range.
+fn read_value(range: &Range, field: Option<&[u8]>) -> Result<Decimal, RowKind>
+    ensures value { (i : Input) → IsRangeOf i range.now → result ≡ field_value i (option_map (λ f. f.now) field.entry) }
     ensures known { IfErr result (λ k. k ≢ kind.Memory) }
 {
     let Some(field) = field else {
@@ -33,7 +34,7 @@ fn read_value(input: &Input, field: Option<&[u8]>) -> Result<Decimal, RowKind>
     let Ok(given) = read_decimal(trimmed(field)) else {
         return Err(RowKind::BadNumber);
     };
-    if within(given, input.lo, input.hi, input.err) {
+    if range.contains(given) {
         Ok(given)
     } else {
         Err(RowKind::OutOfRange)
@@ -45,24 +46,24 @@ fn read_value(input: &Input, field: Option<&[u8]>) -> Result<Decimal, RowKind>
 fn read_along(
     text: &[u8],
     places: &[u32],
-    inputs: &[Input],
+    ranges: &[Range],
     row: &mut Vec<Decimal>,
 ) -> Result<(), RowFault>
-    requires many { length places.now ≡ length inputs.now }
-    requires few { length inputs.now ≤ input_limit }
+    requires many { length places.now ≡ length ranges.now }
+    requires few { length ranges.now ≤ input_limit }
     requires empty { row.old.items ≡ [] }
-    ensures read { IsRead result row.new.items (values_from 0 (map input_of inputs.now) places.now (pieces text.now)) }
-    ensures room { IfErr result (λ e. e.kind ≡ kind.Memory → vec_capacity row.old < length inputs.now) }
+    ensures read { (is : List Input) → AreRangesOf is ranges.now → IsRead result row.new.items (values_from 0 is places.now (pieces text.now)) }
+    ensures room { IfErr result (λ e. e.kind ≡ kind.Memory → vec_capacity row.old < length ranges.now) }
     ensures kept { vec_capacity row.old ≤ vec_capacity row.new }
 {
     let mut rest = Some(text);
     let mut column = 0usize;
-    for (i, input) in inputs.iter().enumerate() {
+    for (i, range) in ranges.iter().enumerate() {
         let place = places[i] as usize;
         let (field, others) = piece_from(text, rest, column, place);
         rest = others;
         column = place + 1;
-        match read_value(input, field) {
+        match read_value(range, field) {
             Ok(value) => {
                 if row.push(value).is_err() {
                     row.clear();
@@ -84,19 +85,19 @@ fn read_along(
 fn read_values(
     fields: &Fields,
     places: &[u32],
-    inputs: &[Input],
+    ranges: &[Range],
     row: &mut Vec<Decimal>,
 ) -> Result<(), RowFault>
-    requires many { length places.now ≡ length inputs.now }
-    requires few { length inputs.now ≤ input_limit }
+    requires many { length places.now ≡ length ranges.now }
+    requires few { length ranges.now ≤ input_limit }
     requires empty { row.old.items ≡ [] }
-    ensures read { IsRead result row.new.items (values_from 0 (map input_of inputs.now) places.now (seen fields.now)) }
-    ensures room { IfErr result (λ e. e.kind ≡ kind.Memory → vec_capacity row.old < length inputs.now) }
+    ensures read { (is : List Input) → AreRangesOf is ranges.now → IsRead result row.new.items (values_from 0 is places.now (seen fields.now)) }
+    ensures room { IfErr result (λ e. e.kind ≡ kind.Memory → vec_capacity row.old < length ranges.now) }
     ensures kept { vec_capacity row.old ≤ vec_capacity row.new }
 {
-    for (i, input) in inputs.iter().enumerate() {
+    for (i, range) in ranges.iter().enumerate() {
         let place = places[i] as usize;
-        match read_value(input, fields.get(place)) {
+        match read_value(range, fields.get(place)) {
             Ok(value) => {
                 if row.push(value).is_err() {
                     row.clear();
@@ -130,20 +131,20 @@ fn are_rising(places: &[u32]) -> bool {
 fn read_pieces(
     text: &[u8],
     places: &[u32],
-    inputs: &[Input],
+    ranges: &[Range],
     row: &mut Vec<Decimal>,
 ) -> Result<(), RowFault>
-    requires many { length places.now ≡ length inputs.now }
-    requires few { length inputs.now ≤ input_limit }
+    requires many { length places.now ≡ length ranges.now }
+    requires few { length ranges.now ≤ input_limit }
     requires empty { row.old.items ≡ [] }
-    ensures read { IsRead result row.new.items (values_from 0 (map input_of inputs.now) places.now (pieces text.now)) }
-    ensures room { IfErr result (λ e. e.kind ≡ kind.Memory → vec_capacity row.old < length inputs.now) }
+    ensures read { (is : List Input) → AreRangesOf is ranges.now → IsRead result row.new.items (values_from 0 is places.now (pieces text.now)) }
+    ensures room { IfErr result (λ e. e.kind ≡ kind.Memory → vec_capacity row.old < length ranges.now) }
     ensures kept { vec_capacity row.old ≤ vec_capacity row.new }
 {
     if are_rising(places) {
-        read_along(text, places, inputs, row)
+        read_along(text, places, ranges, row)
     } else {
-        read_table(text, places, inputs, row)
+        read_table(text, places, ranges, row)
     }
 }
 
@@ -152,18 +153,18 @@ fn read_pieces(
 fn read_table(
     text: &[u8],
     places: &[u32],
-    inputs: &[Input],
+    ranges: &[Range],
     row: &mut Vec<Decimal>,
 ) -> Result<(), RowFault>
-    requires many { length places.now ≡ length inputs.now }
-    requires few { length inputs.now ≤ input_limit }
+    requires many { length places.now ≡ length ranges.now }
+    requires few { length ranges.now ≤ input_limit }
     requires empty { row.old.items ≡ [] }
-    ensures read { IsRead result row.new.items (values_from 0 (map input_of inputs.now) places.now (pieces text.now)) }
-    ensures room { IfErr result (λ e. e.kind ≡ kind.Memory → vec_capacity row.old < length inputs.now) }
+    ensures read { (is : List Input) → AreRangesOf is ranges.now → IsRead result row.new.items (values_from 0 is places.now (pieces text.now)) }
+    ensures room { IfErr result (λ e. e.kind ≡ kind.Memory → vec_capacity row.old < length ranges.now) }
     ensures kept { vec_capacity row.old ≤ vec_capacity row.new }
 {
     let fields = Fields::Plain(Pieces::of(text));
-    read_values(&fields, places, inputs, row)
+    read_values(&fields, places, ranges, row)
 }
 
 // The same of any line, by `csv`. False at a blank line.
@@ -172,17 +173,17 @@ fn read_record(
     alloc: Global,
     line: &[u8],
     places: &[u32],
-    inputs: &[Input],
+    ranges: &[Range],
     row: &mut Vec<Decimal>,
 ) -> Result<bool, RowFault>
-    requires many { length places.now ≡ length inputs.now }
-    requires few { length inputs.now ≤ input_limit }
+    requires many { length places.now ≡ length ranges.now }
+    requires few { length ranges.now ≤ input_limit }
     requires empty { row.old.items ≡ [] }
-    ensures read { IsRowRead result row.new.items (row_of_fields (map input_of inputs.now) places.now (line_fields line.now)) }
+    ensures read { (is : List Input) → AreRangesOf is ranges.now → IsRowRead result row.new.items (row_of_fields is places.now (line_fields line.now)) }
     ensures kept { vec_capacity row.old ≤ vec_capacity row.new }
 {
     match record_of(alloc, line) {
-        Ok(Some(record)) => match read_values(&Fields::Record(record), places, inputs, row) {
+        Ok(Some(record)) => match read_values(&Fields::Record(record), places, ranges, row) {
             Ok(()) => Ok(true),
             Err(fault) => Err(fault),
         },
@@ -196,24 +197,24 @@ fn read_line(
     alloc: Global,
     line: &[u8],
     places: &[u32],
-    inputs: &[Input],
+    ranges: &[Range],
     row: &mut Vec<Decimal>,
 ) -> Result<bool, RowFault>
-    requires many { length places.now ≡ length inputs.now }
-    requires few { length inputs.now ≤ input_limit }
+    requires many { length places.now ≡ length ranges.now }
+    requires few { length ranges.now ≤ input_limit }
     requires empty { row.old.items ≡ [] }
     requires no_return { list_any is_return line.now ≡ false }
-    ensures read { IsRowRead result row.new.items (row_of_fields (map input_of inputs.now) places.now (line_fields line.now)) }
-    ensures room { list_any is_special line.now ≡ false → IfErr result (λ e. e.kind ≡ kind.Memory → vec_capacity row.old < length inputs.now) }
+    ensures read { (is : List Input) → AreRangesOf is ranges.now → IsRowRead result row.new.items (row_of_fields is places.now (line_fields line.now)) }
+    ensures room { list_any is_special line.now ≡ false → IfErr result (λ e. e.kind ≡ kind.Memory → vec_capacity row.old < length ranges.now) }
     ensures kept { vec_capacity row.old ≤ vec_capacity row.new }
 {
     let Some(text) = plain_text(line) else {
-        return read_record(alloc, line, places, inputs, row);
+        return read_record(alloc, line, places, ranges, row);
     };
     if text.is_empty() {
         return Ok(false);
     }
-    match read_pieces(text, places, inputs, row) {
+    match read_pieces(text, places, ranges, row) {
         Ok(()) => Ok(true),
         Err(fault) => Err(fault),
     }
@@ -221,23 +222,22 @@ fn read_line(
 
 // Reads a line that is one number, for one input at the first column, as nearly every line is where there is one input.
 // No other test of the line is due then. False leaves the row empty.
-fn read_one(line: &[u8], places: &[u32], inputs: &[Input], row: &mut Vec<Decimal>) -> bool
-    requires many { length places.now ≡ length inputs.now }
+fn read_one(line: &[u8], places: &[u32], ranges: &[Range], row: &mut Vec<Decimal>) -> bool
+    requires many { length places.now ≡ length ranges.now }
     requires empty { row.old.items ≡ [] }
     ensures short { IsTrue result → length line.now ≤ line_limit }
     ensures no_return { IsTrue result → list_any is_return line.now ≡ false }
-    ensures read { IsTrue result → IsRowRead (Ok true) row.new.items (row_of_fields (map input_of inputs.now) places.now (line_fields line.now)) }
+    ensures read { IsTrue result → (is : List Input) → AreRangesOf is ranges.now → IsRowRead (Ok true) row.new.items (row_of_fields is places.now (line_fields line.now)) }
     ensures left { result ≡ false → row.new.items ≡ [] }
     ensures kept { vec_capacity row.old ≤ vec_capacity row.new }
 {
-    if inputs.len() != 1 || places[0] != 0 || line.len() > LINE_LIMIT {
+    if ranges.len() != 1 || places[0] != 0 || line.len() > LINE_LIMIT {
         return false;
     }
-    let input = &inputs[0];
     let Ok(given) = read_decimal(line) else {
         return false;
     };
-    if !within(given, input.lo, input.hi, input.err) {
+    if !ranges[0].contains(given) {
         return false;
     }
     unmarked_line_law(line);
@@ -253,7 +253,7 @@ pub fn read_row(
     function: &Function,
     row: &mut Vec<Decimal>,
 ) -> Result<bool, RowFault>
-    requires { length (columns_of columns.now) ≡ length function.now.inputs }
+    requires { Serves columns.now function.now }
     ensures read { IsRowRead result row.new.items (row_of function.now (columns_of columns.now) line.now) }
     ensures room { list_any is_special line.now ≡ false → IfErr result (λ e. e.kind ≡ kind.Memory → vec_capacity row.old < length function.now.inputs) }
     ensures kept { vec_capacity row.old ≤ vec_capacity row.new }
@@ -261,12 +261,12 @@ pub fn read_row(
 {
     row.clear();
     function.keeps();
-    let (places, inputs) = (columns.places.as_slice(), function.inputs.as_slice());
-    if read_one(line, places, inputs, row) {
+    let (places, ranges) = (columns.places.as_slice(), columns.ranges.as_slice());
+    if read_one(line, places, ranges, row) {
         return Ok(true);
     }
     if let Some(kind) = line_fault(line) {
         return Err(RowFault { kind, input: 0 });
     }
-    read_line(alloc, line, places, inputs, row)
+    read_line(alloc, line, places, ranges, row)
 }

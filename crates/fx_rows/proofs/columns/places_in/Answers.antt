@@ -7,7 +7,7 @@ use Rattle.fx_rows.specs.Blanks.{without_blanks}
 use Rattle.fx_rows.specs.Header.{columns_from}
 use Rattle.fx_rows.specs.Places.{kept_of, places_of}
 use Rattle.fx_rows.proofs.Named.{is_missing, is_twice, is_one, all_done, joined, name-at}
-use Rattle.fx_rows.proofs.columns.columns_in.Goals as goal
+use Rattle.fx_rows.proofs.columns.places_in.Goals as goal
 
 pub returns-in-None : goal.returns-in-None
 returns-in-None c =
