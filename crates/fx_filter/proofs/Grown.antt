@@ -1,7 +1,6 @@
 -- What is written only grows.
 use Rattle.std.proofs.Common.{ℕ, Bool, List, [], ◌++◌, take, Option, Result, Ok, Err, sym, subst, inl, inr}
 use Rattle.std.specs.Prelude.{OnOk, OnErr}
-use Rattle.std.specs.Io.KnownBytes.{Appends}
 use Rattle.std.proofs.KnownBytes.{Appends-nil, Appends-trans}
 use Rattle.fx_base.specs.Calls.{AppendsFront}
 use Rattle.fx_filter.specs.Promise.{Grows}
