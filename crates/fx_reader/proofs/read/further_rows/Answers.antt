@@ -1,0 +1,25 @@
+use Rattle.std.proofs.Common.{◌≡◌, ◌++◌, ◌∷◌, [], ◌-◌}
+use Rattle.std.proofs.lemmas.Result.{err_from_is_err_and}
+use Rattle.fx_cert.specs.CertificateView.{row_view}
+use Rattle.fx_reader.specs.LineReading.{row_at}
+use Rattle.fx_reader.proofs.SoFar.{begins_behind, goes_on, ends, is_done, all_read}
+use Rattle.fx_reader.proofs.read.further_rows.Goals as goal
+
+pub loop-i-init : goal.loop-i-init
+loop-i-init c = begins_behind row_view (λ _. row_at c.args.states c.args.end) c.args.first (c.args.end - c.args.states) c.args.rows.items c.args.text.now
+
+pub returns-in_err-next-clause-value : goal.returns-in_err-next-clause-value
+returns-in_err-next-clause-value c =
+    let p = err_from_is_err_and c.from_residual.result c.from_residual.ensures.1 in
+    rw (p.1, p.2) (ends c.in_err-next.field-0.0 c.loop-i.invariant c.loop-i-test.true c.in_err-next.ensures)
+
+pub loop-i-preserved : goal.loop-i-preserved
+loop-i-preserved c =
+    let items : c.push.new.self.items ≡ c.loop-i.found.items ++ c.in_ok-next.next ∷ [] = c.in_ok-push.ensures.items in
+    rw items (goes_on c.in_ok-next.next c.in_ok-next.after.now c.loop-i.invariant c.loop-i-test.true c.in_ok-next.ensures)
+
+pub returns-clause-value : goal.returns-clause-value
+returns-clause-value c = is_done c.loop-i.invariant c.loop-i-test.false
+
+pub returns-clause-count : goal.returns-clause-count
+returns-clause-count c = all_read c.loop-i.invariant c.loop-i-test.false
