@@ -5,7 +5,7 @@ use Rattle.std.specs.Fmt.{decimal}
 use Rattle.std.specs.Str.{bytes_eq}
 use Rattle.std.specs.List.{join_with_byte}
 use Rattle.std.proofs.Math.Seq.{take-append_seam}
-use Rattle.std.proofs.lemmas.List.{append-nil, take-append-drop, take_more, length-take-le}
+use Rattle.std.proofs.lemmas.List.{take-append-drop, take_more, length-take-le}
 use Rattle.std.proofs.lemmas.Bool.{eqb-true}
 use Rattle.std.proofs.lemmas.Slice.Eq.{bytes_eq-Decides}
 use Rattle.fx_model.specs.Limits.{source_limit}
@@ -24,7 +24,8 @@ use Rattle.fx_text.specs.Lines.{fields_at, text_ended_at}
 use Rattle.fx_text.specs.Spelling.{AreFields, IsField, IsOneSpelling, Lacks}
 use Rattle.fx_text.proofs.Choices.{on_ok, passed}
 use Rattle.fx_text.proofs.FieldLaws.{front, ended_is, word_takes, word_again, count_takes, count_again}
-use Rattle.fx_text.proofs.LineLaws.{cut_at-takes, cut_at-again, fields_at-takes, text_ended-is, on_line-is, join-lacks, fields_of-join, IsField-decimal}
+use Rattle.fx_text.proofs.LineLaws.{cut_at-takes, cut_at-again, fields_at-takes, on_line-is, join-lacks, fields_of-join, IsField-decimal}
+use Rattle.fx_text.proofs.TextLaws.{all_takes, all_again}
 use Rattle.fx_program.specs.ProgramView.{IsSpelled}
 use Rattle.fx_program.proofs.ProgramLaws.{program_law}
 use Rattle.fx_cert.specs.BundleView.{Parts, IsLawfulBundle, text_of}
@@ -236,18 +237,11 @@ bundle_law = record { takes = takes; again = again }
 
 pub text_takes : (text : List ℕ) (b : Parts) → bundle_in text ≡ Ok b → (text ≡ text_of b) × IsLawfulBundle b
 unfolding bundle_in
-text_takes text b e =
-    on_ok {A = Parts × List ℕ} _ _ b e (λ x hx e.
-    on_ok {A = List ℕ} _ _ b e (λ d hd e.
-    let t = takes text x hx in
-    let made : x.0 ≡ b = cc in
-    subst (λ b. (text ≡ text_of b) × IsLawfulBundle b) made
-    (t.0 ∙ ap (λ r. text_of x.0 ++ r) (text_ended-is (1 + bundle_lines x.0) x.1 d hd) ∙ append-nil (text_of x.0), t.1)))
+text_takes text b e = all_takes (λ (b : Parts). 1 + bundle_lines b) bundle_law text b e
 
 pub text_again : (b : Parts) → IsLawfulBundle b → bundle_in (text_of b) ≡ Ok b
-unfolding bundle_in text_ended_at
-text_again b h =
-    let e : bundle_at (text_of b) ≡ Ok (b, []) = ap bundle_at (sym (append-nil (text_of b))) ∙ again b [] h in rw e refl
+unfolding bundle_in
+text_again b h = all_again (λ (b : Parts). 1 + bundle_lines b) bundle_law b h
 
 -- a bundle by its parts, and then the text's end
 pub by_parts : (text head : List ℕ) (source behind : List ℕ) (p : Program) (c : Certificate) (rest : List ℕ) (line first : ℕ) → section_at (codes "fixd bundle 1") 1 text ≡ Ok head → counted_source_at 2 head ≡ Ok (source, behind)

@@ -2,7 +2,6 @@
 use Rattle.std.proofs.Common.{◌≡◌, ℕ, ◌+◌, ◌≤◌, List, [], ◌∷◌, ◌++◌, length, Ok, refl, sym, ap, subst, ◌∙◌, append_assoc, arith}
 use Rattle.std.specs.Prelude.{All}
 use Rattle.std.specs.List.{flat_map}
-use Rattle.std.proofs.lemmas.List.{append-nil}
 use Rattle.std.proofs.lemmas.List.Elements.{All-from_recursion, recursion_from_All}
 use Rattle.fx_model.specs.Limits.{step_limit, row_limit}
 use Rattle.fx_model.specs.LineText.{line_text}
@@ -11,11 +10,12 @@ use Rattle.fx_inequalities.specs.Certificate.{Certificate, NodeLine, Row, StartB
 use Rattle.fx_inequalities.specs.CertificateText.{step_fields, start_fields, node_fields, rows_text, certificate_text}
 use Rattle.fx_inequalities.specs.LawfulCertificate.{AreWrittenLines, AreWrittenRows, IsLawfulCertificate, IsWrittenBox, IsWrittenStep}
 use Rattle.fx_text.specs.Many.{AreEach, lines_by}
-use Rattle.fx_text.specs.Lines.{line_by, text_ended_at}
+use Rattle.fx_text.specs.Lines.{line_by}
 use Rattle.fx_text.specs.Spelling.{IsOneSpelling}
 use Rattle.fx_text.proofs.Choices.{on_ok}
 use Rattle.fx_text.proofs.DyadicLaws.{All-from_each, each-from_All}
-use Rattle.fx_text.proofs.LineLaws.{line_spelling, text_ended-is}
+use Rattle.fx_text.proofs.LineLaws.{line_spelling}
+use Rattle.fx_text.proofs.TextLaws.{all_takes, all_again}
 use Rattle.fx_text.proofs.LinesLaws.{following, lines_spelling}
 use Rattle.fx_reader.specs.CountsView.{AreCertificateSizes, AreRowCounts}
 use Rattle.fx_reader.specs.LineReading.{CertificateSizes, RowCounts, certificate_headline_at, certificate_sizes_at, step_count_at, step_at, start_at, row_counts_at, node_at}
@@ -206,15 +206,8 @@ certificate_law n = record { takes = takes n; again = again n }
 -- ---- whole texts
 pub text_takes : (text : List ℕ) (c : Certificate) → certificate_in text ≡ Ok c → (text ≡ certificate_text c) × IsLawfulCertificate c
 unfolding certificate_in
-text_takes text c e =
-    on_ok _ _ c e (λ x hx e.
-    on_ok _ _ c e (λ d hd e.
-    let t = (certificate_law 1).takes text x hx in
-    let made : x.0 ≡ c = cc in
-    subst (λ c. (text ≡ certificate_text c) × IsLawfulCertificate c) made
-    (t.0 ∙ ap (λ r. certificate_text x.0 ++ r) (text_ended-is (1 + certificate_lines x.0) x.1 d hd) ∙ append-nil (certificate_text x.0), t.1)))
+text_takes text c e = all_takes (λ (c : Certificate). 1 + certificate_lines c) (certificate_law 1) text c e
 
 pub text_again : (c : Certificate) → IsLawfulCertificate c → certificate_in (certificate_text c) ≡ Ok c
-unfolding certificate_in text_ended_at
-text_again c h =
-    let e : certificate_at 1 (certificate_text c) ≡ Ok (c, []) = ap (certificate_at 1) (sym (append-nil (certificate_text c))) ∙ (certificate_law 1).again c [] h in rw e refl
+unfolding certificate_in
+text_again c h = all_again (λ (c : Certificate). 1 + certificate_lines c) (certificate_law 1) c h

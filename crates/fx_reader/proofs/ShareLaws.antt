@@ -7,7 +7,6 @@ use Rattle.std.specs.List.{AllByRecursion, flat_map}
 use Rattle.std.proofs.lemmas.Int.{ints}
 use Rattle.std.proofs.lemmas.List.Concat.{flat_map-cons}
 use Rattle.std.proofs.lemmas.Slice.Eq.{bytes_eq-Decides}
-use Rattle.fx_model.specs.LineText.{dyadic_text}
 use Rattle.fx_inequalities.specs.Certificate.{Share}
 use Rattle.fx_inequalities.specs.CertificateText.{share_fields, by_fields}
 use Rattle.fx_inequalities.specs.LawfulCertificate.{AreShares, AreSharesIfAny}

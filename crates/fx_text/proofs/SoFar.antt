@@ -5,8 +5,7 @@ use Rattle.fx_text.specs.declared.fault.TextKind.{TextKind}
 use Rattle.fx_text.specs.declared.fault.TextFault.{TextFault}
 use Rattle.fx_text.specs.Cutting.{Line}
 use Rattle.fx_text.specs.Many.{many, with_front, numbered_line, lines_by}
-use Rattle.fx_text.proofs.ManyLaws.{many_goes_on, many_ends, many_is_done}
-use Rattle.fx_program.proofs.Reading.{with_front_nothing}
+use Rattle.fx_text.proofs.ManyLaws.{with_front_nothing, many_goes_on, many_ends, many_is_done}
 
 -- behind so many values k lines are read, and the text is left
 pub record SoFar {A X : Type 0} (view : X → A) (read : ℕ → Line → Result A TextKind) (first count : ℕ) (total : Result (List A × List ℕ) TextFault) (before : ℕ) (found : List X) (k : ℕ) (rest : List ℕ) : Type 0 where
