@@ -21,9 +21,10 @@ BODY = """\
 #![tactic(auto)]
 
 use fx_analysis::plain_attempt;
-use fx_cert::{print_bundle, read_bundle};
+use fx_cert::print_bundle;
 use fx_expr::Function;
 use fx_parser::parse;
+use fx_reader::read_bundle;
 use fx_rewrite::{SingleSteps, Step, apply};
 use std::alloc::Global;
 use std::process::ExitCode;

@@ -20,47 +20,8 @@ use crate::print_line::{put_box, put_node, put_row, put_start, put_step};
 use fx_num::Memory;
 use fx_program::{Program, put_program};
 use fx_rewrite::Step;
-use fx_text::{begin_line, end_line, put_number};
-use itoa::Integer;
+use fx_text::{begin_line, put_one, put_three, put_two};
 use std::alloc::{AllocError, Global};
-
-fn put_one<A: Integer>(out: &mut Vec<u8>, word: &[u8], a: A) -> Result<(), AllocError>
-    ensures { OnOk result (out.new.items ≡ out.old.items ++ line_text (word.now ∷ A.text a ∷ [])) }
-{
-    begin_line(out, word)?;
-    put_number(out, a)?;
-    end_line(out)
-}
-
-fn put_two<A: Integer, B: Integer>(
-    out: &mut Vec<u8>,
-    word: &[u8],
-    a: A,
-    b: B,
-) -> Result<(), AllocError>
-    ensures { OnOk result (out.new.items ≡ out.old.items ++ line_text (word.now ∷ A.text a ∷ B.text b ∷ [])) }
-{
-    begin_line(out, word)?;
-    put_number(out, a)?;
-    put_number(out, b)?;
-    end_line(out)
-}
-
-fn put_three<A: Integer, B: Integer, C: Integer>(
-    out: &mut Vec<u8>,
-    word: &[u8],
-    a: A,
-    b: B,
-    c: C,
-) -> Result<(), AllocError>
-    ensures { OnOk result (out.new.items ≡ out.old.items ++ line_text (word.now ∷ A.text a ∷ B.text b ∷ C.text c ∷ [])) }
-{
-    begin_line(out, word)?;
-    put_number(out, a)?;
-    put_number(out, b)?;
-    put_number(out, c)?;
-    end_line(out)
-}
 
 fn put_steps(out: &mut Vec<u8>, steps: &[Step]) -> Result<(), AllocError>
     ensures { OnOk result (out.new.items ≡ out.old.items ++ flat_map (λ s. line_text (step_fields (printed_step (step_view s)))) steps.now) }

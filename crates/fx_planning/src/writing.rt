@@ -10,12 +10,13 @@ ghost use Rattle.fx_cert.specs.CertificateView as view;
 use crate::certificate::{Kept, certificate_of, shown_lines};
 use crate::plan::Plan;
 use crate::program_text::{Head, program_text};
-use fx_cert::{Certificate, NodeLine, print_certificate, read_certificate};
+use fx_cert::{Certificate, NodeLine, print_certificate};
 use fx_expr::Function;
 use fx_flat::Nodes;
 use fx_num::Memory;
 use fx_program::{Program, TextFault, TextKind, read_program};
 use fx_ranges::Ranges;
+use fx_reader::read_certificate;
 use fx_rewrite::Step;
 use std::alloc::Global;
 

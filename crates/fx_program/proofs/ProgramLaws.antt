@@ -1,20 +1,20 @@
 -- A program has one text, and a text at most one program.
-use Rattle.std.proofs.Common.{◌≡◌, ℕ, ◌+◌, ◌-◌, ◌<◌, true, List, [], ◌∷◌, ◌++◌, length, Ok, ℤ, inl, inr, refl, sym, ap, subst, ◌∙◌, append_assoc, arith, tests, length-append}
+use Rattle.std.proofs.Common.{◌≡◌, ℕ, ◌+◌, ◌<◌, true, List, [], ◌∷◌, ◌++◌, length, Ok, ℤ, inl, inr, refl, sym, ap, subst, ◌∙◌, append_assoc, arith, tests, length-append}
 use Rattle.std.specs.Prelude.{All, Contains, slice_index_or, ◌==◌}
 use Rattle.std.specs.List.{flat_map}
-use Rattle.std.proofs.lemmas.List.{append-nil}
 use Rattle.std.proofs.lemmas.List.Elements.{All-push, All-nil, All-get_or, All-from_recursion}
 use Rattle.std.proofs.lemmas.Bool.{or_cases}
 use Rattle.fx_model.specs.Machine.{Code, Program, first_copy, point_of}
 use Rattle.fx_model.specs.LawfulProgram.{IsPoint, widths}
 use Rattle.fx_model.specs.Names.{IsName}
 use Rattle.fx_model.specs.ProgramText.{code_fields, program_text}
-use Rattle.fx_text.specs.Lines.{line_by, text_ended_at}
+use Rattle.fx_text.specs.Lines.{line_by}
 use Rattle.fx_text.specs.Many.{AreEach}
 use Rattle.fx_model.specs.LineText.{line_text}
 use Rattle.fx_text.specs.Spelling.{IsOneSpelling}
 use Rattle.fx_text.proofs.Choices.{on_ok}
-use Rattle.fx_text.proofs.LineLaws.{line_spelling, text_ended-is}
+use Rattle.fx_text.proofs.TextLaws.{all_takes, all_again}
+use Rattle.fx_text.proofs.LineLaws.{line_spelling}
 use Rattle.fx_text.proofs.ManyLaws.{HasOneSpelling, many_spelling}
 use Rattle.fx_word.specs.Words.{IsWidth}
 use Rattle.fx_program.specs.CodeReading.{Sizes, code_at}
@@ -192,15 +192,8 @@ program_law n = record {
 -- ---- whole texts
 pub text_takes : (text : List ℕ) (p : Program) → program_in text ≡ Ok p → (text ≡ program_text p) × IsSpelled p
 unfolding program_in
-text_takes text p e =
-    on_ok _ _ p e (λ x hx e.
-    on_ok _ _ p e (λ d hd e.
-    let t = (program_law 1).takes text x hx in
-    let made : x.0 ≡ p = cc in
-    subst (λ p. (text ≡ program_text p) × IsSpelled p) made
-    (t.0 ∙ ap (λ r. program_text x.0 ++ r) (text_ended-is (5 + length x.0.codes) x.1 d hd) ∙ append-nil (program_text x.0), t.1)))
+text_takes text p e = all_takes (λ (p : Program). 5 + length p.codes) (program_law 1) text p e
 
 pub text_again : (p : Program) → IsSpelled p → program_in (program_text p) ≡ Ok p
-unfolding program_in text_ended_at
-text_again p h =
-    let e : program_at 1 (program_text p) ≡ Ok (p, []) = ap (program_at 1) (sym (append-nil (program_text p))) ∙ (program_law 1).again p [] h in rw e refl
+unfolding program_in
+text_again p h = all_again (λ (p : Program). 5 + length p.codes) (program_law 1) p h

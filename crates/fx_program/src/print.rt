@@ -1,6 +1,6 @@
 //! Writing the one text of a program.
 //!
-//! A line's printer is named by how many numbers stand behind the line's word, so that a code is one call.
+//! A line of numbers has a printer by how many they are, so that a code is one call.
 
 ghost use Rattle.std.specs.Prelude.{◌≡◌, ◌++◌, ◌∷◌, [], codes, OnOk, IfOk};
 ghost use Rattle.std.specs.List.{flat_map};
@@ -11,65 +11,8 @@ ghost use Rattle.fx_program.specs.CodeView.{code_of};
 use crate::code::Code;
 use crate::program::Program;
 use fx_num::Memory;
-use fx_text::{begin_line, end_line, put_number, put_word};
-use itoa::Integer;
+use fx_text::{begin_line, end_line, put_four, put_one, put_three, put_two, put_word};
 use std::alloc::{AllocError, Global};
-
-fn put_one<A: Integer>(out: &mut Vec<u8>, word: &[u8], a: A) -> Result<(), AllocError>
-    ensures { OnOk result (out.new.items ≡ out.old.items ++ line_text (word.now ∷ A.text a ∷ [])) }
-{
-    begin_line(out, word)?;
-    put_number(out, a)?;
-    end_line(out)
-}
-
-fn put_two<A: Integer, B: Integer>(
-    out: &mut Vec<u8>,
-    word: &[u8],
-    a: A,
-    b: B,
-) -> Result<(), AllocError>
-    ensures { OnOk result (out.new.items ≡ out.old.items ++ line_text (word.now ∷ A.text a ∷ B.text b ∷ [])) }
-{
-    begin_line(out, word)?;
-    put_number(out, a)?;
-    put_number(out, b)?;
-    end_line(out)
-}
-
-fn put_three<A: Integer, B: Integer, C: Integer>(
-    out: &mut Vec<u8>,
-    word: &[u8],
-    a: A,
-    b: B,
-    c: C,
-) -> Result<(), AllocError>
-    ensures { OnOk result (out.new.items ≡ out.old.items ++ line_text (word.now ∷ A.text a ∷ B.text b ∷ C.text c ∷ [])) }
-{
-    begin_line(out, word)?;
-    put_number(out, a)?;
-    put_number(out, b)?;
-    put_number(out, c)?;
-    end_line(out)
-}
-
-fn put_four<A: Integer, B: Integer, C: Integer, D: Integer>(
-    out: &mut Vec<u8>,
-    word: &[u8],
-    a: A,
-    b: B,
-    c: C,
-    d: D,
-) -> Result<(), AllocError>
-    ensures { OnOk result (out.new.items ≡ out.old.items ++ line_text (word.now ∷ A.text a ∷ B.text b ∷ C.text c ∷ D.text d ∷ [])) }
-{
-    begin_line(out, word)?;
-    put_number(out, a)?;
-    put_number(out, b)?;
-    put_number(out, c)?;
-    put_number(out, d)?;
-    end_line(out)
-}
 
 /// The line of a code.
 fn put_code(out: &mut Vec<u8>, code: Code) -> Result<(), AllocError>

@@ -8,3 +8,5 @@ pub mod ManyLaws
 pub mod LineLaws
 pub mod LinesLaws
 pub mod DyadicLaws
+pub mod TextLaws
+pub mod SoFar

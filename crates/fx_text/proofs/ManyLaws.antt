@@ -12,6 +12,11 @@ regroup : {A X E : Type 0} (front : List A) (a : A) (reading : Result (List A ×
 regroup {A} front a (Ok x) = ap (λ (all : List A). Ok (all, x.1)) (simp append_assoc)
 regroup front a (Err e) = refl
 
+-- nothing stands before
+pub with_front_nothing : {A X E : Type 0} (reading : Result (List A × List X) E) → with_front [] reading ≡ reading
+with_front_nothing (Ok x) = refl
+with_front_nothing (Err e) = refl
+
 -- a loop that has read k of them goes on by one
 pub many_goes_on : {I A X E : Type 0} (read : I → List X → Result (A × List X) E) (next : I → A → I) (front : List A) (count k : ℕ) (i : I) (xs : List X) (a : A) (after : List X) (total : Result (List A × List X) E)
     → k < count → read i xs ≡ Ok (a, after) → with_front front (many read next (count - k) i xs) ≡ total → with_front (front ++ a ∷ []) (many read next (count - (k + 1)) (next i a) after) ≡ total

@@ -11,6 +11,7 @@ mod fault;
 mod field;
 mod law;
 mod line;
+mod lines;
 mod numeral;
 mod print;
 
@@ -22,9 +23,11 @@ pub use law::{
     number_law, place_law, whole_law, word_law,
 };
 pub use line::{fields_at, text_ended};
+pub use lines::{LineReader, read_lines, read_more_lines};
 pub use numeral::{integer, whole};
 pub use print::{
-    begin_line, end_line, put_dyadic, put_dyadics, put_interval, put_number, put_word,
+    begin_line, end_line, put_dyadic, put_dyadics, put_four, put_interval, put_number, put_one,
+    put_three, put_two, put_word,
 };
 
 #[cfg(test)]

@@ -1,4 +1,4 @@
-//! Writing a line field by field.
+//! Writing a line field by field, and lines of a word and some numbers whole.
 //!
 //! A line begins with a word, each further field stands behind a space, and a line feed ends it. Each call appends what
 //! its clause says, so that a line's printer appends the line's text. What a failed call has appended isn't told: its
@@ -6,7 +6,7 @@
 
 ghost use Rattle.std.specs.Prelude.{◌≡◌, ◌++◌, ◌∷◌, [], OnOk};
 ghost use Rattle.std.specs.List.{flat_map};
-ghost use Rattle.fx_model.specs.LineText.{dyadic_text};
+ghost use Rattle.fx_model.specs.LineText.{dyadic_text, line_text};
 
 use fx_num::Dyadic;
 use itoa::{Buffer, Integer};
@@ -69,4 +69,64 @@ pub fn end_line(out: &mut Vec<u8>) -> Result<(), AllocError>
 {
     out.push(b'\n')?;
     Ok(())
+}
+
+/// A line of a word and one number.
+pub fn put_one<A: Integer>(out: &mut Vec<u8>, word: &[u8], a: A) -> Result<(), AllocError>
+    ensures { OnOk result (out.new.items ≡ out.old.items ++ line_text (word.now ∷ A.text a ∷ [])) }
+{
+    begin_line(out, word)?;
+    put_number(out, a)?;
+    end_line(out)
+}
+
+/// A line of a word and two numbers.
+pub fn put_two<A: Integer, B: Integer>(
+    out: &mut Vec<u8>,
+    word: &[u8],
+    a: A,
+    b: B,
+) -> Result<(), AllocError>
+    ensures { OnOk result (out.new.items ≡ out.old.items ++ line_text (word.now ∷ A.text a ∷ B.text b ∷ [])) }
+{
+    begin_line(out, word)?;
+    put_number(out, a)?;
+    put_number(out, b)?;
+    end_line(out)
+}
+
+/// A line of a word and three numbers.
+pub fn put_three<A: Integer, B: Integer, C: Integer>(
+    out: &mut Vec<u8>,
+    word: &[u8],
+    a: A,
+    b: B,
+    c: C,
+) -> Result<(), AllocError>
+    ensures { OnOk result (out.new.items ≡ out.old.items ++ line_text (word.now ∷ A.text a ∷ B.text b ∷ C.text c ∷ [])) }
+{
+    begin_line(out, word)?;
+    put_number(out, a)?;
+    put_number(out, b)?;
+    put_number(out, c)?;
+    end_line(out)
+}
+
+/// A line of a word and four numbers.
+pub fn put_four<A: Integer, B: Integer, C: Integer, D: Integer>(
+    out: &mut Vec<u8>,
+    word: &[u8],
+    a: A,
+    b: B,
+    c: C,
+    d: D,
+) -> Result<(), AllocError>
+    ensures { OnOk result (out.new.items ≡ out.old.items ++ line_text (word.now ∷ A.text a ∷ B.text b ∷ C.text c ∷ D.text d ∷ [])) }
+{
+    begin_line(out, word)?;
+    put_number(out, a)?;
+    put_number(out, b)?;
+    put_number(out, c)?;
+    put_number(out, d)?;
+    end_line(out)
 }

@@ -1,8 +1,9 @@
 //! Worked bundles and edits of them: what each comes to is what a checker in another language says of it.
 
-use fx_cert::{Bundle, read_bundle};
+use fx_cert::Bundle;
 use fx_checker::{Certified, CheckFault, check};
 use fx_parser::parse;
+use fx_reader::read_bundle;
 use std::alloc::Global;
 use std::process::Abort;
 use std::test::Fail;

@@ -2,9 +2,10 @@
 //! texts in another language.
 
 use TextKind::{BadLine, BadNumber, Extra, OutOfRange, Section, TooMany};
-use fx_cert::{
-    bundle_law, bundle_text_law, certificate_law, certificate_text_law, print_bundle,
-    print_certificate, read_bundle, read_certificate,
+use fx_cert::{print_bundle, print_certificate};
+use fx_reader::{
+    bundle_law, bundle_text_law, certificate_law, certificate_text_law, read_bundle,
+    read_certificate,
 };
 use fx_text::TextKind;
 use std::alloc::Global;

@@ -1,7 +1,7 @@
 //! Worked texts, with the answers that they get: sources, certificates and bundles.
 //!
-//! Tests alone, of `fx_parser`, `fx_cert` and `fx_checker`. They stand here since a crate's tests are proved with all of it,
-//! and these three take longest.
+//! Tests alone, of `fx_parser`, `fx_cert`, `fx_reader` and `fx_checker`. They stand here since a crate's tests are proved with
+//! all of it, and these take longest.
 #![tactic(auto)]
 
 #[cfg(test)]

@@ -1,6 +1,0 @@
-use Rattle.std.proofs.Common.{arith}
-use Rattle.fx_cert.proofs.Shares.{few}
-use Rattle.fx_cert.proofs.share.shares.Goals as goal
-
-pub returns : goal.returns
-returns c = rw (few c.args.end c.args.fields.now (omega (arith, c.requires))) c.few_shares.ensures
