@@ -8,12 +8,12 @@ ghost use Rattle.fx_inequalities.specs.LawfulCertificate.{IsLawfulCertificate};
 ghost use Rattle.fx_cert.specs.CertificateView as view;
 
 use crate::certificate::{Kept, certificate_of, shown_lines};
-use crate::plan::Plan;
 use crate::program_text::{Head, program_text};
 use fx_cert::{Certificate, NodeLine, print_certificate, read_certificate};
 use fx_expr::Function;
 use fx_flat::Nodes;
 use fx_num::Memory;
+use fx_planning::Plan;
 use fx_program::{Program, TextFault, TextKind, read_program};
 use fx_ranges::Ranges;
 use fx_rewrite::Step;
@@ -64,7 +64,7 @@ fn program_of(alloc: Global, function: &Function, plan: &Plan) -> Result<Option<
         states: function.states.len(),
         outputs: function.demands.len(),
     };
-    let text = program_text(alloc, head, &plan.codes)?;
+    let text = program_text(alloc, head, plan.codes())?;
     let Some(program) = program_in(alloc, &text)? else {
         return Ok(None);
     };

@@ -3,15 +3,15 @@
 //! A form is written where it shows a range or an error, or where a form that is written is made of it. What is written
 //! goes to lowest terms.
 
-use crate::error::Errors;
-use crate::plan::Plan;
 use fx_cert::{Certificate, Form as FormLine, NodeLine, Row, Share, StartBox};
 use fx_expr::Items;
 use fx_flat::{Node, Nodes};
 use fx_interval::Interval;
 use fx_num::{Dyadic, Memory, floor_shift};
-use fx_ranges::{Form, Ranges, Scaled, Span, operands};
+use fx_planning::{Errors, Plan};
+use fx_ranges::{Form, Ranges, operands};
 use fx_rewrite::Step;
+use fx_span::{Scaled, Span};
 use std::alloc::Global;
 
 /// A number in lowest terms.
@@ -78,7 +78,7 @@ fn shows(ranges: &Ranges, errors: &Errors, n: usize) -> bool {
         Some(form) => form.shows_range,
         None => false,
     };
-    shows_range || errors.shown.get(n).copied().unwrap_or(false)
+    shows_range || errors.is_shown(n)
 }
 
 fn want(wanted: &mut [bool], a: usize) {
@@ -121,7 +121,7 @@ fn line(
     let range = interval(ranges.span(n).unwrap_or(Span::ZERO));
     let error = interval(errors.span(n).unwrap_or(Span::ZERO));
     let rest = errors.rest(n).unwrap_or(Span::ZERO);
-    let is_shown = errors.shown.get(n).copied().unwrap_or(false);
+    let is_shown = errors.is_shown(n);
     // a variable's form is itself, and isn't written
     let form = if is_wanted && n >= ranges.variables() {
         ranges.form(n)
@@ -172,7 +172,7 @@ pub fn shown_lines(
     plan: &Plan,
 ) -> Result<Vec<NodeLine>, Memory> {
     let list = nodes.list.as_slice();
-    lines(alloc, list, ranges, &plan.errors, list.len())
+    lines(alloc, list, ranges, plan.errors(), list.len())
 }
 
 /// The lines of ranges and a plan, with the forms of all results.
@@ -186,7 +186,7 @@ pub fn plan_lines(
         alloc,
         nodes.list.as_slice(),
         ranges,
-        &plan.errors,
+        plan.errors(),
         first_result(nodes),
     )
 }
