@@ -20,4 +20,4 @@ mod turn;
 pub use change::apply;
 pub use cursor::SingleSteps;
 pub use fault::StepFault;
-pub use step::Step;
+pub use step::{Step, copied_steps};
