@@ -8,7 +8,6 @@ mod change;
 mod cursor;
 mod fault;
 mod first;
-mod fold;
 mod judge;
 mod measure;
 mod rule;
