@@ -45,7 +45,7 @@ fn count_use(uses: &mut Vec<u32>, a: usize) {
 }
 
 impl<'a> Setting<'a> {
-    /// The same without counts of uses and boxes, and measured by no other plan.
+    /// One without counts of uses and boxes, measured by no other plan.
     pub fn new(
         function: &'a Function,
         nodes: &'a Nodes,

@@ -2,8 +2,8 @@
 //!
 //! A certificate's intervals have a dyadic for each end. Here both ends share an exponent (`Span`, and `Scaled` for one
 //! number), since a search adds and compares more than it writes. `Grids` says with how many places a range or an error is
-//! kept. `Real` and `RealSpan` only rank choices. Fractions and decimals come onto grids with the words of literals (`nearest`), the errors
-//! of those words (`word_error`), and what a width holds (`fits_word`).
+//! kept. `Real` and `RealSpan` only rank choices. Fractions and decimals come onto grids (`range_between`), with the words of
+//! literals (`nearest`), what those err (`word_error`), and what a width holds (`fits_word`).
 //!
 //! Nothing is promised but that each call returns. No number has a floating point. Mantissas have 128 bits, and one that
 //! leaves them gives None, which ends an attempt and never the search.
