@@ -16,8 +16,10 @@ use fx_checker::Certified;
 use fx_expr::{Function, Items};
 use fx_flat::{Nodes, flatten};
 use fx_num::Memory;
-use fx_planning::{Kept, Plan, plan_lines, write_with_states};
-use fx_ranges::{Grids, Ranges, Span};
+use fx_planning::Plan;
+use fx_ranges::Ranges;
+use fx_span::{Grids, Span};
+use fx_writing::{Kept, plan_lines, write_with_states};
 use std::alloc::Global;
 
 /// So often points are chosen again, at most.

@@ -3,9 +3,9 @@
 use fx_cert::Row;
 use fx_interval::Interval;
 use fx_num::{Memory, floor_shift, left_fits};
-use fx_planning::interval;
-use fx_ranges::Span;
 use fx_reach::bits;
+use fx_span::Span;
+use fx_writing::interval;
 use std::alloc::Global;
 
 /// An interval over one exponent.

@@ -11,9 +11,10 @@ use fx_expr::Items;
 use fx_flat::Nodes;
 use fx_interval::{Interval, outward};
 use fx_num::{Dyadic, Memory, dle};
-use fx_planning::range_lines;
-use fx_ranges::{Ranges, Span};
+use fx_ranges::Ranges;
 use fx_reach::lowest;
+use fx_span::Span;
+use fx_writing::range_lines;
 use std::alloc::Global;
 
 /// How many places behind its point an error has.

@@ -9,8 +9,8 @@ use fx_cert::NodeLine;
 use fx_conditions::Side;
 use fx_num::Memory;
 use fx_proposal::{Proposal, propose_rows};
-use fx_ranges::Span;
 use fx_reach::Transition;
+use fx_span::Span;
 use std::alloc::Global;
 
 /// So often boxes are widened, at most.

@@ -5,8 +5,10 @@ use crate::task::Task;
 use fx_cert::NodeLine;
 use fx_conditions::Side;
 use fx_num::Memory;
-use fx_planning::{Plan, find_plan_in, plan_lines, range_lines};
-use fx_ranges::{Ranges, Span, find_ranges_in, start_error, start_range};
+use fx_planning::{Plan, find_plan_in};
+use fx_ranges::{Ranges, find_ranges_in, start_error, start_range};
+use fx_span::Span;
+use fx_writing::{plan_lines, range_lines};
 use std::alloc::Global;
 
 /// Ranges, in boxes of values.

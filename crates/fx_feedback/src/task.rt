@@ -2,7 +2,7 @@
 
 use fx_expr::Function;
 use fx_flat::Nodes;
-use fx_ranges::Grids;
+use fx_span::Grids;
 
 /// What an attempt goes on.
 #[derive(Clone, Copy, Debug)]

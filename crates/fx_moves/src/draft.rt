@@ -8,7 +8,7 @@ ghost use Rattle.std.specs.Prelude.{◌<◌, length, IfSome};
 use crate::rule::inverse;
 use fx_expr::{Expr, Function, Items, same};
 use fx_num::Memory;
-use fx_rewrite::{Step, StepFault, apply};
+use fx_rewrite::{Step, StepFault, apply, copied_steps};
 use std::alloc::Global;
 
 /// The most steps of a draft.
@@ -46,20 +46,6 @@ fn are_related(a: &[u8], b: &[u8]) -> bool {
     a.starts_with(b) || b.starts_with(a)
 }
 
-/// Equal steps.
-fn copied(alloc: Global, steps: &[Step]) -> Result<Vec<Step>, Memory> {
-    let mut copies = Vec::new(alloc);
-    for step in steps {
-        let path = Vec::from_slice(alloc, step.path.as_slice())?;
-        copies.push(Step {
-            place: step.place,
-            path: Items::from_vec(path),
-            rule: step.rule,
-        })?;
-    }
-    Ok(copies)
-}
-
 impl Draft {
     /// The source as it stands.
     pub fn new(alloc: Global, source: &Function) -> Result<Draft, Memory> {
@@ -73,7 +59,7 @@ impl Draft {
     pub fn copy(&self, alloc: Global) -> Result<Draft, Memory> {
         Ok(Draft {
             function: self.function.copy(alloc)?,
-            steps: copied(alloc, &self.steps)?,
+            steps: copied_steps(alloc, &self.steps)?,
         })
     }
 

@@ -2,93 +2,30 @@
 
 use fx_flat::Node;
 use fx_num::Memory;
-use fx_ranges::{Ranges, Real, Span};
+use fx_ranges::Ranges;
+use fx_span::RealSpan;
 use std::alloc::Global;
 
-/// The numbers from one to another.
-#[derive(Clone, Copy, Debug)]
-pub struct Slope {
-    pub lo: Real,
-    pub hi: Real,
-}
-
-impl Slope {
-    /// Zero, which is the slope of what doesn't reach the output.
-    const ZERO: Slope = Slope {
-        lo: Real::ZERO,
-        hi: Real::ZERO,
-    };
-
-    /// One.
-    const ONE: Slope = Slope {
-        lo: Real::ONE,
-        hi: Real::ONE,
-    };
-
-    /// About a range.
-    fn of(range: Span) -> Slope {
-        Slope {
-            lo: Real::of(range.lo, range.e),
-            hi: Real::of(range.hi, range.e),
-        }
-    }
-
-    /// The sum.
-    fn plus(self, other: Slope) -> Slope {
-        Slope {
-            lo: self.lo.plus(other.lo),
-            hi: self.hi.plus(other.hi),
-        }
-    }
-
-    /// The numbers with the other sign.
-    fn negative(self) -> Slope {
-        Slope {
-            lo: self.hi.negative(),
-            hi: self.lo.negative(),
-        }
-    }
-
-    /// The product.
-    fn times(self, other: Slope) -> Slope {
-        let ll = self.lo.times(other.lo);
-        let lh = self.lo.times(other.hi);
-        let hl = self.hi.times(other.lo);
-        let hh = self.hi.times(other.hi);
-        Slope {
-            lo: ll.min(lh).min(hl.min(hh)),
-            hi: ll.max(lh).max(hl.max(hh)),
-        }
-    }
-
-    /// One by it, where it is away from zero.
-    fn inverse(self) -> Slope {
-        Slope {
-            lo: Real::ONE.over(self.hi),
-            hi: Real::ONE.over(self.lo),
-        }
-    }
-
-    /// Whether it is zero alone.
-    fn is_zero(self) -> bool {
-        self.lo.is_zero() && self.hi.is_zero()
-    }
-}
-
 /// Adds to the slope of a node.
-fn add(slopes: &mut [Slope], a: u32, slope: Slope) {
+fn add(slopes: &mut [RealSpan], a: u32, slope: RealSpan) {
     if let Some(sum) = slopes.get_mut(a as usize) {
         *sum = sum.plus(slope);
     }
 }
 
 /// The range of an operand.
-fn slope_of(ranges: &Ranges, a: usize) -> Option<Slope> {
-    Some(Slope::of(ranges.span(a)?))
+fn slope_of(ranges: &Ranges, a: usize) -> Option<RealSpan> {
+    Some(RealSpan::of(ranges.span(a)?))
 }
 
 /// Hands what an operation is worth on to its operands.
-fn hand_on(slopes: &mut [Slope], ranges: &Ranges, n: usize, node: &Node, own: Slope) -> Option<()> {
+fn hand_on(
+    slopes: &mut [RealSpan],
+    ranges: &Ranges,
+    n: usize,
+    node: &Node,
+    own: RealSpan,
+) -> Option<()> {
     match node {
         Node::Neg { a } => add(slopes, *a, own.negative()),
         Node::Copy { a } => add(slopes, *a, own),
@@ -120,13 +57,17 @@ pub fn slopes_of(
     nodes: &[Node],
     ranges: &Ranges,
     output: usize,
-) -> Result<Vec<Slope>, Memory> {
+) -> Result<Vec<RealSpan>, Memory> {
     let mut slopes = Vec::new(alloc);
     for n in 0..nodes.len() {
-        slopes.push(if n == output { Slope::ONE } else { Slope::ZERO })?;
+        slopes.push(if n == output {
+            RealSpan::ONE
+        } else {
+            RealSpan::ZERO
+        })?;
     }
     for n in (0..nodes.len()).rev() {
-        let own = slopes.get(n).copied().unwrap_or(Slope::ZERO);
+        let own = slopes.get(n).copied().unwrap_or(RealSpan::ZERO);
         if !own.is_zero() {
             // without a range there is nothing to hand on, and a slope only ranks
             let _ = hand_on(&mut slopes, ranges, n, &nodes[n], own);

@@ -8,7 +8,8 @@ use crate::setting::Setting;
 use fx_flat::Node;
 use fx_num::{floor_shift, left_fits};
 use fx_program::Code;
-use fx_ranges::{Span, operands, word_at, word_error};
+use fx_ranges::operands;
+use fx_span::{Span, word_at, word_error};
 
 /// The literal among an operation's operands that may be moved, and the other operand.
 fn movable(setting: &Setting<'_>, n: usize) -> Option<(usize, usize)> {
@@ -42,7 +43,7 @@ fn units_off(error: Span, point: i32) -> Option<i128> {
 
 /// By how much literal `c` is moved in a sum or a difference.
 fn sum_move(setting: &Setting<'_>, n: usize, c: usize, error: Span) -> Option<i128> {
-    let units = units_off(error, setting.points.get(c).copied()?)?;
+    let units = units_off(error, setting.point(c)?)?;
     match setting.nodes.get(n)? {
         Node::Sub { b, .. } => if *b as usize == c {
             units.checked_neg()
@@ -79,7 +80,7 @@ fn moved(
         c,
         word_error(setting.literal(c)?, word, f, setting.ranges.grids())?,
     )?;
-    let found = plain_error(setting, errors, &code, setting.points.get(n).copied()?)?;
+    let found = plain_error(setting, errors, &code, setting.point(n)?)?;
     if found.is_smaller(error)? {
         let slot = codes.get_mut(c)?;
         *slot = Code::Const { w, f };
@@ -109,11 +110,7 @@ pub fn centred(
             let first = moved(setting, codes, errors, n, c, -1, error)?;
             moved(setting, codes, errors, n, c, 1, first)
         }
-        Node::Add { .. } => {
-            let units = sum_move(setting, n, c, error)?;
-            moved(setting, codes, errors, n, c, units, error)
-        }
-        Node::Sub { .. } => {
+        Node::Add { .. } | Node::Sub { .. } => {
             let units = sum_move(setting, n, c, error)?;
             moved(setting, codes, errors, n, c, units, error)
         }

@@ -5,7 +5,7 @@
 
 use fx_expr::Function;
 use fx_fraction::{Decimal, to_fraction};
-use fx_ranges::{Real, Span};
+use fx_span::{Real, Span};
 
 /// What bounds are measured by: those of another plan.
 #[derive(Clone, Copy, Debug)]

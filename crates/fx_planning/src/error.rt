@@ -8,10 +8,8 @@ use crate::setting::Setting;
 use fx_fraction::Fraction;
 use fx_num::{Memory, left_fits};
 use fx_program::Code;
-use fx_ranges::{
-    Failed, Form, Scaled, Span, mix_of, operands, quotient, reading_error, unit_on, weighted,
-    word_error,
-};
+use fx_ranges::{Failed, Form, mix_of, operands, weighted};
+use fx_span::{Scaled, Span, reading_error, unit_on, word_error};
 use std::alloc::Global;
 
 /// What the second pass says of all nodes.
@@ -41,6 +39,15 @@ impl NodeError {
         NodeError {
             span,
             rest: span,
+            is_shown: false,
+        }
+    }
+
+    /// The error of a variable, whose form is itself.
+    fn of_variable(span: Span) -> NodeError {
+        NodeError {
+            span,
+            rest: Span::ZERO,
             is_shown: false,
         }
     }
@@ -81,6 +88,11 @@ impl Errors {
     /// The rest of a node's form.
     pub fn rest(&self, n: usize) -> Option<Span> {
         self.rests.get(n).copied()
+    }
+
+    /// Whether a node's form shows its error.
+    pub fn is_shown(&self, n: usize) -> bool {
+        self.shown.get(n).copied().unwrap_or(false)
     }
 
     /// Takes another word's error as that of a literal.
@@ -177,7 +189,7 @@ pub fn plain_error(
     code: &Code,
     point: i32,
 ) -> Option<Span> {
-    let e = setting.ranges.grids().error_places_at(point);
+    let e = setting.error_grid(point);
     Some(unrounded_error(setting, errors, code, point)?.outward(e))
 }
 
@@ -213,7 +225,7 @@ fn error_rest(
     code: &Code,
     form: &Form,
 ) -> Option<Span> {
-    let point = setting.points.get(n).copied()?;
+    let point = setting.point(n)?;
     let rest = if let Code::Mul { a, b, s } = code {
         let loss = floor_loss(i32::try_from(*s).ok()?, point)?;
         product_error(setting, errors, (*a as usize, *b as usize), form, loss)?
@@ -238,10 +250,7 @@ fn formed_error(
     let Some(form) = setting.ranges.form(n) else {
         return Some(NodeError::plain(plain));
     };
-    let e = setting
-        .ranges
-        .grids()
-        .error_places_at(setting.points.get(n).copied()?);
+    let e = setting.error_grid(setting.point(n)?);
     let rest = error_rest(setting, errors, n, code, &form)?.outward(e);
     let row = setting.ranges.row(n);
     let by_form = weighted(row, form.e, rest, &errors.spans)?.outward(e);
@@ -260,15 +269,15 @@ fn quotient_error(
     n: usize,
     (a, b): (usize, usize),
 ) -> Option<Span> {
-    let point = setting.points.get(n).copied()?;
-    let e = setting.ranges.grids().error_places_at(point);
+    let point = setting.point(n)?;
+    let e = setting.error_grid(point);
     let divisor = setting.ranges.span(b)?;
     let seen = divisor.plus(errors.span(b)?)?;
     if !divisor.is_clear() || !seen.is_clear() || (divisor.lo > 0) != (seen.lo > 0) {
         return None;
     }
     let off = setting.ranges.span(n)?.times(errors.span(b)?)?;
-    let x = quotient(errors.span(a)?.minus(off)?, seen, e)?;
+    let x = errors.span(a)?.minus(off)?.over(seen, e)?;
     let unit = unit_on(point, e)?;
     Some(Span {
         lo: x.lo.checked_sub(unit)?,
@@ -295,22 +304,14 @@ fn literal_error(
 fn input_error(setting: &Setting<'_>, n: usize, k: usize) -> Option<NodeError> {
     let function = setting.function;
     let input = function.inputs.as_slice().get(k)?;
-    let point = setting.points.get(n).copied()?;
-    let e = setting.ranges.grids().error_places_at(point);
-    Some(NodeError {
-        span: reading_error(input.err, point, e)?,
-        rest: Span::ZERO,
-        is_shown: false,
-    })
+    let point = setting.point(n)?;
+    let e = setting.error_grid(point);
+    Some(NodeError::of_variable(reading_error(input.err, point, e)?))
 }
 
 /// The error of a state, which is its box.
 fn state_error(setting: &Setting<'_>, k: usize) -> Option<NodeError> {
-    Some(NodeError {
-        span: setting.boxes.get(k).copied()?,
-        rest: Span::ZERO,
-        is_shown: false,
-    })
+    Some(NodeError::of_variable(setting.boxes.get(k).copied()?))
 }
 
 /// The error of an operation, with a literal's word moved before it where that is wanted and helps.
@@ -326,7 +327,7 @@ fn operation_error(
         let span = quotient_error(setting, errors, n, (*a as usize, *b as usize))?;
         return Some(NodeError::plain(span));
     }
-    let point = setting.points.get(n).copied()?;
+    let point = setting.point(n)?;
     let plain = plain_error(setting, errors, &code, point)?;
     let plain = if is_centred {
         centred(setting, codes, errors, n, plain)?
@@ -354,7 +355,7 @@ fn node_error(
 
 /// Whether the word of a node is too small for what the machine may hold there.
 fn is_small(setting: &Setting<'_>, n: usize, error: Span) -> Option<bool> {
-    let point = setting.points.get(n).copied()?;
+    let point = setting.point(n)?;
     Some(!setting.ranges.fits(n, error, point, setting.width)?)
 }
 

@@ -1,7 +1,8 @@
-//! Plans of a function at given points: words and errors, what they cost, and the program and certificate that they come to.
+//! Plans of a function at given points: words and errors, and what they cost.
 //!
 //! A search for small certified bounds tries many forms of a function. Each try is a few passes over its node list: first
-//! the ranges (`fx_ranges`), then a point for each node, which is another crate's, then what stands here.
+//! the ranges (`fx_ranges`), then a point for each node, which is another crate's, then what stands here. What is written
+//! of a plan is the business of `fx_writing`.
 //!
 //! - `find_plan` makes the codes at the points and their errors, by the checker's own formulas rounded outward once a node.
 //!   Floors err to one side only, so the words of literals are worth choosing: once each is the nearest, once it is moved
@@ -9,12 +10,10 @@
 //!   promises most. The cheaper plan stands.
 //! - Where words are too small for a range with its error, the plan names their nodes (`Plan::small`), and the caller takes
 //!   coarser points. `Cost` orders plans, and what fails by how far it came.
-//! - `write` makes a program and a certificate of a plan. Their texts are written and read back, so both are lawful
-//!   because a reader gave them.
 //!
 //! Nothing rests on what is found: what is handed over is judged by the checker, whose proof doesn't look in here. So little
-//! is promised: that each call returns, takes linear time in nodes by inputs, and that what `write` gives is lawful and of
-//! the width and the name that were asked for. A mantissa that leaves 128 bits ends the attempt, never the search.
+//! is promised: that each call returns, and takes linear time in nodes by inputs. A mantissa that leaves 128 bits ends the
+//! attempt, never the search.
 //!
 //! The traps: the error of a form is over its *cut* coefficients, so what was cut off counts in the errors too
 //! (`cut_share`). And a literal that two nodes use isn't moved, since the first was worked out already.
@@ -22,16 +21,12 @@
 
 mod adjoint;
 mod centre;
-mod certificate;
 mod cost;
 mod error;
 mod plan;
-mod program_text;
 mod setting;
 mod tune;
-mod writing;
 
-pub use certificate::{Kept, interval, plan_lines, range_lines};
 pub use cost::{Cost, Goal};
+pub use error::Errors;
 pub use plan::{Plan, find_plan, find_plan_in, move_word};
-pub use writing::{write, write_with_states};

@@ -8,7 +8,8 @@ use fx_expr::Function;
 use fx_flat::Nodes;
 use fx_num::Memory;
 use fx_program::Code;
-use fx_ranges::{Failed, Ranges, Span, codes_of};
+use fx_ranges::{Failed, Ranges};
+use fx_span::Span;
 use std::alloc::Global;
 
 /// The codes of all nodes, their errors, and what the plan costs.
@@ -35,6 +36,11 @@ impl Plan {
     /// Its codes.
     pub fn codes(&self) -> &[Code] {
         &self.codes
+    }
+
+    /// The errors of its nodes.
+    pub fn errors(&self) -> &Errors {
+        &self.errors
     }
 
     /// Whether it is better than another: first by how many words are too small.
@@ -125,48 +131,35 @@ pub fn find_plan(
     width: u32,
     goal: Goal<'_>,
 ) -> Result<Result<Plan, Failed>, Memory> {
-    let list = nodes.list.as_slice();
-    let uses = count_uses(alloc, list)?;
-    let codes = match codes_of(alloc, function, list, points, width)? {
-        Ok(codes) => codes,
-        Err(failed) => return Ok(Err(failed)),
-    };
+    let uses = count_uses(alloc, nodes.list.as_slice())?;
     let setting = Setting {
-        function,
-        nodes: list,
-        ranges,
-        points,
         uses: &uses,
-        boxes: &[],
-        width,
         goal,
+        ..Setting::new(function, nodes, ranges, points, width)
     };
-    better_plan(alloc, &setting, &codes)
+    match setting.codes(alloc)? {
+        Ok(codes) => better_plan(alloc, &setting, &codes),
+        Err(failed) => Ok(Err(failed)),
+    }
 }
 
 /// Moves the word of a literal of a sound plan by so many units, and keeps that where the cost falls.
 ///
 /// The points and what the bounds are measured by are those that the plan was made with.
-pub fn move_word(
+pub fn move_word<'a>(
     alloc: Global,
-    function: &Function,
-    nodes: &Nodes,
-    ranges: &Ranges,
-    points: &[i32],
-    goal: Goal<'_>,
+    function: &'a Function,
+    nodes: &'a Nodes,
+    ranges: &'a Ranges,
+    points: &'a [i32],
+    goal: Goal<'a>,
     plan: &mut Plan,
     node: u32,
     units: i64,
 ) -> Result<bool, Memory> {
     let setting = Setting {
-        function,
-        nodes: nodes.list.as_slice(),
-        ranges,
-        points,
-        uses: &[],
-        boxes: &[],
-        width: plan.width,
         goal,
+        ..Setting::new(function, nodes, ranges, points, plan.width)
     };
     try_word(alloc, &setting, plan, node as usize, units)
 }
@@ -182,23 +175,12 @@ pub fn find_plan_in<'a>(
     width: u32,
     boxes: &'a [Span],
 ) -> Result<Result<Plan, Failed>, Memory> {
-    let list = nodes.list.as_slice();
-    let codes = match codes_of(alloc, function, list, points, width)? {
-        Ok(codes) => codes,
-        Err(failed) => return Ok(Err(failed)),
-    };
     let setting = Setting {
-        function,
-        nodes: list,
-        ranges,
-        points,
-        uses: &[],
         boxes,
-        width,
-        goal: Goal {
-            references: &[],
-            is_held: false,
-        },
+        ..Setting::new(function, nodes, ranges, points, width)
     };
-    planned(alloc, &setting, codes, false)
+    match setting.codes(alloc)? {
+        Ok(codes) => planned(alloc, &setting, codes, false),
+        Err(failed) => Ok(Err(failed)),
+    }
 }

@@ -2,10 +2,12 @@
 
 use crate::cost::Goal;
 use fx_expr::Function;
-use fx_flat::Node;
+use fx_flat::{Node, Nodes};
 use fx_fraction::Fraction;
 use fx_num::Memory;
-use fx_ranges::{Ranges, Span, operands};
+use fx_program::Code;
+use fx_ranges::{Failed, Ranges, codes_of, operands};
+use fx_span::Span;
 use std::alloc::Global;
 
 /// A function's nodes and their ranges, at a width, and what its bounds are measured by.
@@ -42,7 +44,47 @@ fn count_use(uses: &mut Vec<u32>, a: usize) {
     }
 }
 
+impl<'a> Setting<'a> {
+    /// One without counts of uses and boxes, measured by no other plan.
+    pub fn new(
+        function: &'a Function,
+        nodes: &'a Nodes,
+        ranges: &'a Ranges,
+        points: &'a [i32],
+        width: u32,
+    ) -> Setting<'a> {
+        Setting {
+            function,
+            nodes: nodes.list.as_slice(),
+            ranges,
+            points,
+            uses: &[],
+            boxes: &[],
+            width,
+            goal: Goal {
+                references: &[],
+                is_held: false,
+            },
+        }
+    }
+}
+
 impl Setting<'_> {
+    /// The codes at the points, with the nearest words, or the first node that has none.
+    pub fn codes(&self, alloc: Global) -> Result<Result<Vec<Code>, Failed>, Memory> {
+        codes_of(alloc, self.function, self.nodes, self.points, self.width)
+    }
+
+    /// The point of a node.
+    pub fn point(&self, n: usize) -> Option<i32> {
+        self.points.get(n).copied()
+    }
+
+    /// The grid of an error at a point.
+    pub fn error_grid(&self, point: i32) -> u32 {
+        self.ranges.grids().error_places_at(point)
+    }
+
     /// The literal that a node is, if it is one.
     pub fn literal(&self, n: usize) -> Option<Fraction> {
         match self.nodes.get(n)? {

@@ -3,14 +3,14 @@
 //! Which literal, and by how many units, is estimated by the output's slopes. The estimate is tried by the second pass,
 //! and kept where the cost falls.
 
-use crate::adjoint::{Slope, slopes_of};
+use crate::adjoint::slopes_of;
 use crate::cost::cost_of;
 use crate::error::find_errors;
 use crate::plan::{Plan, outputs_of};
 use crate::setting::Setting;
 use fx_num::Memory;
 use fx_program::Code;
-use fx_ranges::{Real, Span, word_at};
+use fx_span::{Real, RealSpan, word_at};
 use std::alloc::Global;
 
 /// The most units that a word is moved by.
@@ -27,34 +27,18 @@ struct Move {
     bound: Real,
 }
 
-/// The ends of an output's error.
-#[derive(Clone, Copy, Debug)]
-struct Ends {
-    lo: Real,
-    hi: Real,
+/// The bound that an error's ends give.
+fn bound(ends: RealSpan) -> Real {
+    ends.lo.negative().max(ends.hi)
 }
 
-impl Ends {
-    fn of(error: Span) -> Ends {
-        Ends {
-            lo: Real::of(error.lo, error.e),
-            hi: Real::of(error.hi, error.e),
-        }
-    }
-
-    /// The bound that they give.
-    fn bound(self) -> Real {
-        self.lo.negative().max(self.hi)
-    }
-
-    /// About the bound where a literal with this slope by unit is moved by so many units.
-    fn bound_after(self, slope: Slope, units: i64) -> Real {
-        let by = Real::of(i128::from(units), 0);
-        let x = slope.lo.times(by);
-        let y = slope.hi.times(by);
-        let below = self.lo.plus(x.min(y)).negative();
-        below.max(self.hi.plus(x.max(y)))
-    }
+/// About the bound where a literal with this slope by unit is moved by so many units.
+fn bound_after(ends: RealSpan, slope: RealSpan, units: i64) -> Real {
+    let by = Real::of(i128::from(units), 0);
+    let x = slope.lo.times(by);
+    let y = slope.hi.times(by);
+    let below = ends.lo.plus(x.min(y)).negative();
+    below.max(ends.hi.plus(x.max(y)))
 }
 
 /// The lesser of two moves, and the first of equals.
@@ -73,13 +57,13 @@ fn lesser(best: Option<Move>, other: Move) -> Option<Move> {
 fn better(
     best: Option<Move>,
     node: usize,
-    slope: Slope,
+    slope: RealSpan,
     f: i32,
-    ends: Ends,
+    ends: RealSpan,
     limit: Real,
 ) -> Option<Move> {
     let unit = Real::power(f.saturating_neg());
-    let slope = Slope {
+    let slope = RealSpan {
         lo: slope.lo.times(unit),
         hi: slope.hi.times(unit),
     };
@@ -92,7 +76,7 @@ fn better(
     };
     let mut found = best;
     for t in units..units.saturating_add(2) {
-        let bound = ends.bound_after(slope, t);
+        let bound = bound_after(ends, slope, t);
         if t != 0 && t.unsigned_abs() <= MOVE_LIMIT.unsigned_abs() && bound.is_below(limit) {
             found = lesser(
                 found,
@@ -108,8 +92,8 @@ fn better(
 }
 
 /// The move that seems best for an output.
-fn best_move(codes: &[Code], slopes: &[Slope], ends: Ends) -> Option<Move> {
-    let now = ends.bound();
+fn best_move(codes: &[Code], slopes: &[RealSpan], ends: RealSpan) -> Option<Move> {
+    let now = bound(ends);
     let limit = now.minus(now.times(Real::power(-13)));
     let mut best = None;
     for (n, (code, slope)) in codes.iter().zip(slopes).enumerate() {
@@ -176,7 +160,7 @@ fn tune_output(
         return Ok(false);
     };
     let slopes = slopes_of(alloc, setting.nodes, setting.ranges, output)?;
-    let Some(best) = best_move(&plan.codes, &slopes, Ends::of(error)) else {
+    let Some(best) = best_move(&plan.codes, &slopes, RealSpan::of(error)) else {
         return Ok(false);
     };
     try_word(alloc, setting, plan, best.node, best.units)?;

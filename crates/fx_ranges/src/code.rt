@@ -1,12 +1,12 @@
 //! The codes of nodes at given points.
 
-use crate::literal::{is_word, nearest};
 use crate::range::Failed;
 use fx_expr::Function;
 use fx_flat::Node;
 use fx_fraction::to_fraction;
 use fx_num::Memory;
 use fx_program::Code;
+use fx_span::{nearest, word_at};
 use std::alloc::Global;
 
 /// The point of a node.
@@ -96,15 +96,6 @@ fn code_of(function: &Function, node: &Node, f: i32, points: &[i32], width: u32)
 /// Whether a node has a code at a point, after those of its operands.
 pub fn has_code(function: &Function, node: &Node, f: i32, points: &[i32], width: u32) -> bool {
     f >= -64 && f <= 62 && code_of(function, node, f, points, width).is_some()
-}
-
-/// A number as a word.
-pub fn word_at(w: i128, width: u32) -> Option<i64> {
-    if is_word(w, width) {
-        i64::try_from(w).ok()
-    } else {
-        None
-    }
 }
 
 /// The code of a node, where its point is one.

@@ -3,11 +3,10 @@
 //! A form keeps what plain intervals lose, that the same input stands in both operands. Its coefficients are cut to 40
 //! bits; what is cut off goes to the rest, and where nothing was, the errors have no such share either.
 
-use crate::grid::{Grids, PLACE_LIMIT};
 use crate::rows::Rows;
-use crate::span::{Scaled, Span, bits, product};
 use fx_flat::Node;
 use fx_num::{floor_shift, left_fits};
+use fx_span::{Grids, PLACE_LIMIT, Scaled, Span, bits, product};
 
 /// How many bits a coefficient has at most.
 const COEFFICIENT_BITS: u32 = 40;

@@ -7,29 +7,20 @@
 //!
 //! Whoever chooses the points is given plain numbers: up to which point a range fits a word (`Ranges::cap`), sizes, and
 //! whether a node has a code at a point (`has_code`). What the errors are then is worked out by `fx_planning`, of the same
-//! numbers: exact intervals (`Span`), and rounded numbers that only rank choices (`Real`).
+//! numbers (`fx_span`).
 //!
-//! Nothing is promised but that each call returns, and nothing rests on what is found. No number has a floating point.
-//! Mantissas have 128 bits; one that leaves them ends the attempt, never the search, and `Grids` has coarser grids to take
-//! then.
+//! Nothing is promised but that each call returns, and nothing rests on what is found. A mantissa that leaves 128 bits ends
+//! the attempt, never the search, and `Grids` has coarser grids to take then.
 //! The trap: a point that a code can't have, as where a shift leaves its limits, is found before any error is.
 #![tactic(auto)]
 
 mod code;
 mod form;
-mod grid;
-mod literal;
 mod range;
-mod real;
 mod rows;
-mod span;
 mod start;
 
-pub use code::{codes_of, has_code, word_at};
+pub use code::{codes_of, has_code};
 pub use form::{Form, Mix, mix_of, operands, weighted};
-pub use grid::Grids;
-pub use literal::{input_error, reading_error, unit_on, word_error};
-pub use range::{Failed, Ranges, find_ranges, find_ranges_in, quotient};
-pub use real::Real;
-pub use span::{Scaled, Span};
+pub use range::{Failed, Ranges, find_ranges, find_ranges_in};
 pub use start::{start_error, start_range};

@@ -4,13 +4,11 @@
 //! first node whose range reaches `2^62` as a mantissa, whose divisor may be zero, or whose numbers leave 128 bits.
 
 use crate::form::{Form, centre, mix_of, operands, weighted, write_row};
-use crate::grid::Grids;
-use crate::literal::{fits_word, range_between, range_of};
 use crate::rows::Rows;
-use crate::span::{Scaled, Span, bits};
 use fx_expr::Function;
 use fx_flat::{Node, Nodes};
-use fx_num::{Memory, left_fits};
+use fx_num::Memory;
+use fx_span::{Grids, Scaled, Span, bits, fits_word, range_between, range_of};
 use std::alloc::Global;
 
 /// There is no plan: this node is the first for which the pass has nothing to say.
@@ -142,42 +140,6 @@ impl Ranges {
     }
 }
 
-/// The floor and the ceiling of a quotient of mantissas by `2^shift`, outward over both ends of the divisor.
-fn outward_quotient(a: Span, b: Span, shift: i64) -> Option<(i128, i128)> {
-    let up = u32::try_from(shift.max(0)).ok()?;
-    let down = u32::try_from(shift.saturating_neg().max(0)).ok()?;
-    let lo = left_fits(a.lo, up)?;
-    let hi = left_fits(a.hi, up)?;
-    let near = left_fits(b.lo, down)?;
-    let far = left_fits(b.hi, down)?;
-    Some((
-        least_floor(lo, near, far)?,
-        least_floor(hi.checked_neg()?, near, far)?.checked_neg()?,
-    ))
-}
-
-/// The lesser floor of a number by two divisors above zero.
-fn least_floor(x: i128, near: i128, far: i128) -> Option<i128> {
-    if near <= 0 || far <= 0 {
-        return None;
-    }
-    Some(x.div_euclid(near).min(x.div_euclid(far)))
-}
-
-/// The quotient of two intervals on the grid `e`, outward, where the divisor's numbers have one sign.
-pub fn quotient(a: Span, b: Span, e: u32) -> Option<Span> {
-    let (a, b) = if b.hi < 0 {
-        (a.negative()?, b.negative()?)
-    } else {
-        (a, b)
-    };
-    let shift = i64::from(e)
-        .saturating_add(i64::from(b.e))
-        .saturating_sub(i64::from(a.e));
-    let (lo, hi) = outward_quotient(a, b, shift)?;
-    Some(Span { lo, hi, e })
-}
-
 /// The range of a quotient.
 fn quotient_range(a: Span, b: Span, grids: Grids) -> Option<Span> {
     if !b.is_clear() {
@@ -188,7 +150,7 @@ fn quotient_range(a: Span, b: Span, grids: Grids) -> Option<Span> {
         .saturating_sub(i64::from(bits(a.size())))
         .saturating_add(i64::from(a.e))
         .saturating_sub(i64::from(b.e));
-    quotient(a, b, u32::try_from(places.clamp(0, 60)).ok()?)
+    a.over(b, u32::try_from(places.clamp(0, 60)).ok()?)
 }
 
 /// The plain range of an operation.
@@ -256,6 +218,12 @@ fn write_form(ranges: &mut Ranges, n: usize, node: &Node, a: usize, b: usize) ->
     )
 }
 
+/// The range that a form with a written row shows.
+fn shown_range(ranges: &Ranges, n: usize, form: &Form) -> Option<Span> {
+    let sum = weighted(ranges.rows.row(n), form.e, form.rest, &ranges.spans)?;
+    Some(ranges.grids.rounded(sum))
+}
+
 /// The form of an operation whose row is written, and the range that it shows.
 fn written_form(
     ranges: &mut Ranges,
@@ -265,8 +233,8 @@ fn written_form(
     b: usize,
 ) -> Option<(Form, Span)> {
     let form = write_form(ranges, n, node, a, b)?;
-    let sum = weighted(ranges.rows.row(n), form.e, form.rest, &ranges.spans)?;
-    Some((form, ranges.grids.rounded(sum)))
+    let range = shown_range(ranges, n, &form)?;
+    Some((form, range))
 }
 
 /// The range of an operation, with its form where an operand has one.
@@ -382,8 +350,7 @@ fn narrowest(
     let mut best = plain_range(ranges, node)?;
     let mut by_form = false;
     if let Some(form) = ranges.form(n) {
-        let sum = weighted(ranges.rows.row(n), form.e, form.rest, &ranges.spans)?;
-        let range = ranges.grids.rounded(sum);
+        let range = shown_range(ranges, n, &form)?;
         if range.is_narrower(best)? {
             best = range;
             by_form = true;

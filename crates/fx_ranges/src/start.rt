@@ -1,11 +1,9 @@
 //! Where states start: their values, and what their words err.
 
 use crate::code::start_word;
-use crate::grid::Grids;
-use crate::literal::{range_between, word_error};
-use crate::span::Span;
 use fx_expr::Function;
 use fx_fraction::to_fraction;
+use fx_span::{Grids, Span, range_between, word_error};
 
 /// Where the start value of state `k` lies, outward on a grid.
 pub fn start_range(function: &Function, k: usize, grids: Grids) -> Option<Span> {

@@ -14,8 +14,8 @@ use Rattle.fx_rules.proofs.Turns.{turned_judges}
 use Rattle.fx_rules.proofs.Whole.{rewrite_is}
 use Rattle.fx_rules.proofs.Sound.{rewrites_sound}
 use Rattle.fx_rewrite.specs.Refusals.{IsAdmitted}
-use Rattle.fx_rewrite.specs.Turns.{Turns}
-use Rattle.fx_rewrite.specs.declared.measure.Sizes.{Sizes}
+use Rattle.fx_fold.specs.Turns.{Turns}
+use Rattle.fx_fold.specs.declared.measure.Sizes.{Sizes}
 use Rattle.fx_rewrite.proofs.Heights.{height_above, high_after}
 use Rattle.fx_rewrite.proofs.Twice.{with_twice, with_there, tree_there}
 use Rattle.fx_rewrite.proofs.Lawful.{lawful_with, lawful_leaf}

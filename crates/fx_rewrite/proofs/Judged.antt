@@ -11,11 +11,11 @@ use Rattle.fx_rules.specs.Turned as rules
 use Rattle.fx_rules.specs.Turned.{Turned, turned}
 use Rattle.fx_rules.specs.Steps.{is_within_limits, after, rewrite}
 use Rattle.fx_rules.proofs.Turns.{turned_judges}
-use Rattle.fx_rewrite.specs.MeasureOf.{measure_of}
+use Rattle.fx_fold.specs.MeasureOf.{measure_of}
 use Rattle.fx_rewrite.specs.Refusals.{IsRefusedThere, IsAdmitted}
-use Rattle.fx_rewrite.specs.declared.measure.Sizes.{Sizes}
-use Rattle.fx_rewrite.specs.declared.measure.Measure.{Measure}
-use Rattle.fx_rewrite.specs.declared.measure.Measure.TheVariants.{NoMatch, TooLong, Gives}
+use Rattle.fx_fold.specs.declared.measure.Sizes.{Sizes}
+use Rattle.fx_fold.specs.declared.measure.Measure.{Measure}
+use Rattle.fx_fold.specs.declared.measure.Measure.TheVariants.{NoMatch, TooLong, Gives}
 use Rattle.fx_rewrite.specs.declared.fault.StepFault.TheVariants as faults
 
 -- rewriting where a tree is found and the rule has an outcome

@@ -1,4 +1,3 @@
-mod Folds
 mod NoRule
 mod Heights
 mod Twice

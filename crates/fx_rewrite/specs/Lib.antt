@@ -1,7 +1,4 @@
 pub mod StepView
-pub mod MeasureOf
-pub mod Turns
-pub mod FoldedOf
 pub mod Ready
 pub mod Refusals
 pub mod SpareOf

@@ -6,7 +6,7 @@ use Rattle.fx_model.specs.Paths.{found}
 use Rattle.fx_inequalities.specs.Rewriting.{Rewriting}
 use Rattle.fx_rewrite.specs.Refusals.{IsAdmitted}
 use Rattle.fx_rewrite.specs.SpareOf.{IsSpareReady}
-use Rattle.fx_rewrite.specs.declared.measure.Sizes.{Sizes}
+use Rattle.fx_fold.specs.declared.measure.Sizes.{Sizes}
 use Rattle.fx_rewrite.specs.declared.spare.Spare.{Spare}
 
 -- the tree is found, the step is there with these sizes, and what the rule needs is ready

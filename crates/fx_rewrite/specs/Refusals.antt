@@ -8,7 +8,7 @@ use Rattle.fx_expr.specs.SizeOf.{size_of}
 use Rattle.fx_rules.specs.Rules.{RewritesTree}
 use Rattle.fx_rules.specs.Turned.{Becomes, turned}
 use Rattle.fx_rules.specs.Steps.{rewrite, IsUnmatched}
-use Rattle.fx_rewrite.specs.declared.measure.Sizes.{Sizes}
+use Rattle.fx_fold.specs.declared.measure.Sizes.{Sizes}
 use Rattle.fx_rewrite.specs.declared.fault.StepFault.{StepFault}
 use Rattle.fx_rewrite.specs.declared.fault.StepFault.TheVariants.{NoPlace, NoMatch, TooLong, Memory}
 

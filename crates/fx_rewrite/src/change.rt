@@ -11,11 +11,10 @@ ghost use Rattle.fx_rewrite.specs.StepView.{step_view};
 
 use crate::fault::StepFault;
 use crate::judge::{admit, find};
-use crate::measure::Sizes;
 use crate::spare::{Spare, prepare, turn};
 use crate::step::Step;
-use crate::turn::leaf;
 use fx_expr::Function;
+use fx_fold::{Sizes, leaf};
 use std::alloc::Global;
 
 /// Whether the step is there, and then the memory that it needs and the sizes of what goes and comes.

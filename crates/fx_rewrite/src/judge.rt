@@ -13,10 +13,10 @@ ghost use Rattle.fx_rewrite.specs.Refusals.{IsAdmitted, IsRefusedThere};
 ghost use Rattle.fx_rewrite.specs.StepView.{step_view};
 
 use crate::fault::StepFault;
-use crate::measure::{Measure, Sizes};
 use crate::rule::measure;
 use crate::step::Step;
 use fx_expr::{Expr, Function, at};
+use fx_fold::{Measure, Sizes};
 
 /// The tree that a step speaks of.
 pub fn find<'a>(function: &'a Function, place: u32, path: &[u8]) -> Option<&'a Expr>

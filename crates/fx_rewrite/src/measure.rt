@@ -5,35 +5,10 @@
 ghost use Rattle.std.specs.Prelude.{◌≡◌, IsTrue};
 ghost use Rattle.fx_expr.specs.TreeOf.{tree};
 ghost use Rattle.fx_rules.specs.Turned.{same_tree, turned_1, turned_2, turned_3, turned_4, turned_5, turned_6, turned_7, turned_8, turned_9, turned_10, turned_11, turned_12, turned_13, turned_14, turned_15, turned_16, turned_17, turned_18, turned_19, turned_20, turned_21, turned_22, turned_23, turned_24};
-ghost use Rattle.fx_rewrite.specs.MeasureOf.{measure_of};
-ghost use Rattle.fx_rewrite.specs.declared.measure.Measure.TheVariants.{Gives};
+ghost use Rattle.fx_fold.specs.MeasureOf.{measure_of};
 
 use fx_expr::{Expr, Size, same};
-
-/// The sizes of a tree and of the one that stands in its place.
-#[derive(Clone, Copy, Debug, PartialEq, Eq)]
-pub struct Sizes {
-    pub old: Size,
-    pub new: Size,
-}
-
-/// What a rule makes of a tree.
-#[derive(Clone, Copy, Debug, PartialEq, Eq)]
-pub enum Measure {
-    /// The left side doesn't match.
-    NoMatch,
-    /// The folded literal leaves its limits.
-    TooLong,
-    /// A tree of the new size, of one of the old.
-    Gives(Sizes),
-}
-
-/// A tree of the first size becomes one of the second.
-pub fn gives(old: Size, new: Size) -> Measure
-    ensures { result ≡ Gives (record { old = old; new = new }) }
-{
-    Measure::Gives(Sizes { old, new })
-}
+use fx_fold::{Measure, gives};
 
 /// Whether the trees of one letter are the same.
 pub fn alike(a: &Expr, b: &Expr) -> bool

@@ -3,17 +3,17 @@ ghost use Rattle.std.specs.Prelude.{◌≡◌, ◌≤◌, Some};
 ghost use Rattle.fx_model.specs.Paths.{child};
 ghost use Rattle.fx_expr.specs.TreeOf.{tree};
 ghost use Rattle.fx_rules.specs.Turned.{turned};
-ghost use Rattle.fx_rewrite.specs.FoldedOf.{Folds};
-ghost use Rattle.fx_rewrite.specs.MeasureOf.{measure_of};
-ghost use Rattle.fx_rewrite.specs.Turns.{Turns};
+ghost use Rattle.fx_fold.specs.FoldedOf.{Folds};
+ghost use Rattle.fx_fold.specs.MeasureOf.{measure_of};
+ghost use Rattle.fx_fold.specs.Turns.{Turns};
 ghost use Rattle.fx_rewrite.specs.Ready.{IsPlain, IsBoxed, IsDoubling, doubled};
 
-use crate::fold::{
-    Folded, fold_26, fold_27, fold_28, fold_29, fold_30, measure_25, measured, turn_25, turn_folded,
-};
-use crate::measure::Measure;
 use crate::{measure, turn};
 use fx_expr::Expr;
+use fx_fold::{
+    Folded, Measure, fold_26, fold_27, fold_28, fold_29, fold_30, measure_25, measured, turn_25,
+    turn_folded,
+};
 
 /// What the rule of this number makes of a tree.
 pub fn measure(e: &Expr, rule: u8) -> Measure

@@ -6,11 +6,11 @@ ghost use Rattle.fx_expr.specs.TreeOf.{tree};
 ghost use Rattle.fx_rules.specs.Turned.{Becomes, turned};
 ghost use Rattle.fx_rewrite.specs.Ready.{doubled, IsBoxed, IsDoubling};
 ghost use Rattle.fx_rewrite.specs.SpareOf.{IsSpareReady};
-ghost use Rattle.fx_rewrite.specs.Turns.{Turns};
+ghost use Rattle.fx_fold.specs.Turns.{Turns};
 
 use crate::rule::{turn_boxed, turn_doubled, turn_plain};
-use crate::turn::leaf;
 use fx_expr::{Expr, at};
+use fx_fold::leaf;
 use fx_num::Memory;
 use std::alloc::Global;
 

@@ -1,5 +1,7 @@
 //! Steps, as a certificate lists them.
 use fx_expr::Items;
+use fx_num::Memory;
+use std::alloc::Global;
 
 /// By the rule of this number, from 1 on, at the end of a path in the tree at this place: temps and then results.
 #[derive(Debug, Drop)]
@@ -10,4 +12,18 @@ pub struct Step {
     pub path: Items<u8>,
     /// The rule's number.
     pub rule: u8,
+}
+
+/// Equal steps.
+pub fn copied_steps(alloc: Global, steps: &[Step]) -> Result<Vec<Step>, Memory> {
+    let mut copies = Vec::new(alloc);
+    for step in steps {
+        let path = Vec::from_slice(alloc, step.path.as_slice())?;
+        copies.push(Step {
+            place: step.place,
+            path: Items::from_vec(path),
+            rule: step.rule,
+        })?;
+    }
+    Ok(copies)
 }

@@ -7,17 +7,11 @@ ghost use Rattle.fx_expr.specs.TreeOf.{tree};
 ghost use Rattle.fx_model.specs.Tree as model;
 ghost use Rattle.fx_model.specs.Paths.{child};
 ghost use Rattle.fx_rules.specs.Turned.{turned_1, turned_2, turned_3, turned_4, turned_5, turned_6, turned_7, turned_8, turned_9, turned_10, turned_11, turned_12, turned_13, turned_14, turned_15, turned_16, turned_17, turned_18, turned_19, turned_20, turned_21, turned_22, turned_23, turned_24};
-ghost use Rattle.fx_rewrite.specs.Turns.{Turns};
+ghost use Rattle.fx_fold.specs.Turns.{Turns};
 
 use fx_expr::Expr;
+use fx_fold::leaf;
 use std::mem::replace;
-
-/// What stands in a box whose tree was taken out.
-pub fn leaf() -> Expr
-    ensures { tree result ≡ model.Input 0 }
-{
-    Expr::Input(0)
-}
 
 pub fn turn_1(e: Expr) -> Expr
     ensures { Turns turned_1 (tree e) (tree result) }

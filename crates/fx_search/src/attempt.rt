@@ -10,7 +10,8 @@ use fx_flat::{Node, Nodes, flatten};
 use fx_num::Memory;
 use fx_planning::{Cost, Plan, find_plan};
 use fx_points::{Magnitude, NodeFacts, PointFault, choose_points};
-use fx_ranges::{Failed, Grids, Ranges, Scaled, find_ranges, input_error};
+use fx_ranges::{Failed, Ranges, find_ranges};
+use fx_span::{Grids, Scaled, input_error};
 use std::alloc::Global;
 
 /// So often points are chosen again, at most.
@@ -46,7 +47,7 @@ fn given_error(function: &Function, node: &Node) -> Magnitude {
         return Magnitude::ZERO;
     };
     match function.inputs.as_slice().get(*k as usize) {
-        Some(input) => magnitude(input_error(input)),
+        Some(input) => magnitude(input_error(input.err)),
         None => Magnitude::ZERO,
     }
 }

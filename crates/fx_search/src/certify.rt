@@ -12,9 +12,9 @@ use fx_checker::Certified;
 use fx_feedback::judged;
 use fx_moves::Draft;
 use fx_num::{Dyadic, Memory, dle};
-use fx_planning::write;
-use fx_ranges::Grids;
 use fx_rewrite::Step;
+use fx_span::Grids;
+use fx_writing::write;
 use std::alloc::Global;
 
 /// What the checker makes of an attempt behind these steps.

@@ -5,7 +5,7 @@ use crate::task::Task;
 use fx_moves::{Draft, clean_all, draw, factor_all, mutate};
 use fx_num::Memory;
 use fx_planning::Cost;
-use fx_ranges::{Grids, Real};
+use fx_span::{Grids, Real};
 use rand_core::Rng;
 use std::alloc::Global;
 

@@ -3,7 +3,7 @@
 use fx_expr::Function;
 use fx_num::{Dyadic, Memory};
 use fx_planning::Goal;
-use fx_ranges::Real;
+use fx_span::Real;
 use std::alloc::Global;
 
 /// The function, the width of its words, and what its bounds are measured by.

@@ -1,6 +1,6 @@
 use Rattle.std.proofs.Common.{◌≡◌, ◌⊎◌, ◌<◌, ap, sym, arith}
 use Rattle.fx_expr.specs.TreeOf.{tree}
-use Rattle.fx_rewrite.specs.MeasureOf.{measure_of}
+use Rattle.fx_fold.specs.MeasureOf.{measure_of}
 use Rattle.fx_rewrite.proofs.NoRule.{no_rule}
 use Rattle.fx_rewrite.proofs.rule.measure.Goals as goal
 

@@ -2,7 +2,6 @@
 
 use crate::grid::{Grids, PLACE_LIMIT};
 use crate::span::{Scaled, Span, bits};
-use fx_expr::Input;
 use fx_fraction::{Decimal, Fraction, to_fraction};
 use fx_num::{ceil_shift, floor_shift, left_fits};
 
@@ -34,12 +33,12 @@ pub fn ceil_at(top: i128, bottom: i128, places: i32) -> Option<i128> {
     floor_at(top.checked_neg()?, bottom, places)?.checked_neg()
 }
 
-/// From one fraction to another, outward on a grid.
-fn hold(lo: Fraction, hi: Fraction, e: u32) -> Option<Span> {
+/// From one quotient to another, outward on a grid.
+fn hold((p, q): (i128, i128), (r, s): (i128, i128), e: u32) -> Option<Span> {
     let places = i32::try_from(e).ok()?;
     Some(Span {
-        lo: floor_at(lo.p, lo.q, places)?,
-        hi: ceil_at(hi.p, hi.q, places)?,
+        lo: floor_at(p, q, places)?,
+        hi: ceil_at(r, s, places)?,
         e,
     })
 }
@@ -60,7 +59,8 @@ fn places_between(lo: Fraction, hi: Fraction, grids: Grids) -> Option<u32> {
 
 /// From one fraction to another, outward on a grid for their size.
 pub fn range_between(lo: Fraction, hi: Fraction, grids: Grids) -> Option<Span> {
-    hold(lo, hi, places_between(lo, hi, grids)?)
+    let e = places_between(lo, hi, grids)?;
+    hold((lo.p, lo.q), (hi.p, hi.q), e)
 }
 
 /// From one decimal to another, outward on a grid for their size.
@@ -89,10 +89,19 @@ pub fn nearest(c: Fraction, point: i32) -> Option<i128> {
 }
 
 /// Whether a number is a word.
-pub fn is_word(w: i128, width: u32) -> bool {
+fn is_word(w: i128, width: u32) -> bool {
     match left_fits(1, width.saturating_sub(1)) {
         Some(end) => w < end && w.unsigned_abs() <= end.unsigned_abs(),
         None => false,
+    }
+}
+
+/// A number as a word.
+pub fn word_at(w: i128, width: u32) -> Option<i64> {
+    if is_word(w, width) {
+        i64::try_from(w).ok()
+    } else {
+        None
     }
 }
 
@@ -105,13 +114,8 @@ pub fn word_error(c: Fraction, w: i128, point: i32, grids: Grids) -> Option<Span
         .saturating_sub(i64::from(bits(w.unsigned_abs())))
         .saturating_sub(i64::from(bits(c.q.unsigned_abs())));
     let fine = i64::from(grids.error_places_at(point));
-    let places = fine.min(free).clamp(0, 126) as i32;
-    let (top, bottom) = word_difference(c, w, point)?;
-    Some(Span {
-        lo: floor_at(top, bottom, places)?,
-        hi: ceil_at(top, bottom, places)?,
-        e: places.unsigned_abs(),
-    })
+    let difference = word_difference(c, w, point)?;
+    hold(difference, difference, fine.min(free).clamp(0, 126) as u32)
 }
 
 /// The word's value less the literal, as a numerator and a denominator.
@@ -142,8 +146,8 @@ pub fn fits_word(range: Span, point: i32, width: u32) -> bool {
 }
 
 /// The size of an input's error, rounded up to 60 binary places.
-pub fn input_error(input: &Input) -> Option<Scaled> {
-    let err = to_fraction(input.err);
+pub fn input_error(err: Decimal) -> Option<Scaled> {
+    let err = to_fraction(err);
     let m = ceil_at(err.p, err.q, PLACE_LIMIT as i32)?;
     Some(Scaled { m, e: PLACE_LIMIT })
 }

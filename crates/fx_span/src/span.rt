@@ -1,7 +1,8 @@
-//! Intervals of this crate: two mantissas over one exponent.
+//! Intervals: two mantissas over one exponent.
 //!
 //! A certificate's intervals have a dyadic for each end. Here both ends share a grid, so that a sum aligns once and a
-//! comparison of widths is one of mantissas. Nothing rounds but `outward`, and a mantissa that leaves 128 bits gives None.
+//! comparison of widths is one of mantissas. Nothing rounds but `over` and `outward`, and a mantissa that leaves 128 bits gives
+//! None.
 
 use fx_num::{ceil_shift, floor_shift, left_fits};
 
@@ -34,6 +35,28 @@ pub fn product(a: i128, b: i128) -> Option<i128> {
         return Some(i128::from(x).wrapping_mul(i128::from(y)));
     }
     a.checked_mul(b)
+}
+
+/// The lesser floor of a number by two divisors above zero.
+fn least_floor(x: i128, near: i128, far: i128) -> Option<i128> {
+    if near <= 0 || far <= 0 {
+        return None;
+    }
+    Some(x.div_euclid(near).min(x.div_euclid(far)))
+}
+
+/// The floor and the ceiling of a quotient of mantissas by `2^shift`, outward over both ends of the divisor.
+fn outward_quotient(a: Span, b: Span, shift: i64) -> Option<(i128, i128)> {
+    let up = u32::try_from(shift.max(0)).ok()?;
+    let down = u32::try_from(shift.saturating_neg().max(0)).ok()?;
+    let lo = left_fits(a.lo, up)?;
+    let hi = left_fits(a.hi, up)?;
+    let near = left_fits(b.lo, down)?;
+    let far = left_fits(b.hi, down)?;
+    Some((
+        least_floor(lo, near, far)?,
+        least_floor(hi.checked_neg()?, near, far)?.checked_neg()?,
+    ))
 }
 
 impl Scaled {
@@ -116,6 +139,20 @@ impl Span {
             hi: a.max(b),
             e,
         })
+    }
+
+    /// The quotient on the grid `e`, outward, where the divisor's numbers have one sign.
+    pub fn over(self, divisor: Span, e: u32) -> Option<Span> {
+        let (a, b) = if divisor.hi < 0 {
+            (self.negative()?, divisor.negative()?)
+        } else {
+            (self, divisor)
+        };
+        let shift = i64::from(e)
+            .saturating_add(i64::from(b.e))
+            .saturating_sub(i64::from(a.e));
+        let (lo, hi) = outward_quotient(a, b, shift)?;
+        Some(Span { lo, hi, e })
     }
 
     /// The narrowest interval round this one on the grid `e`, or the same where its own grid is coarser.

@@ -3,8 +3,8 @@ use Rattle.fx_model.specs.Tree.{Tree}
 use Rattle.fx_expr.specs.SizeOf.{size_of}
 use Rattle.fx_rules.specs.Turned as rules
 use Rattle.fx_rules.specs.Turned.{Turned}
-use Rattle.fx_rewrite.specs.declared.measure.Measure.{Measure}
-use Rattle.fx_rewrite.specs.declared.measure.Measure.TheVariants.{NoMatch, TooLong, Gives}
+use Rattle.fx_fold.specs.declared.measure.Measure.{Measure}
+use Rattle.fx_fold.specs.declared.measure.Measure.TheVariants.{NoMatch, TooLong, Gives}
 
 -- as the code names it
 abbrev pub measure_of : Tree → Turned → Measure

@@ -10,12 +10,11 @@ ghost use Rattle.fx_model.specs.Tree as model;
 ghost use Rattle.fx_expr.specs.TreeOf.{tree};
 ghost use Rattle.fx_rules.specs.Turned as turns;
 ghost use Rattle.fx_rules.specs.Turned.{Turned, folded, folded_option, turned_25, turned_26, turned_27, turned_28, turned_29, turned_30};
-ghost use Rattle.fx_rewrite.specs.MeasureOf.{measure_of};
-ghost use Rattle.fx_rewrite.specs.FoldedOf.{Folds};
-ghost use Rattle.fx_rewrite.specs.Turns.{Turns};
+ghost use Rattle.fx_fold.specs.MeasureOf.{measure_of};
+ghost use Rattle.fx_fold.specs.FoldedOf.{Folds};
+ghost use Rattle.fx_fold.specs.Turns.{Turns};
 
 use crate::measure::{Measure, gives};
-use crate::turn::leaf;
 use fx_expr::{Expr, Size};
 use fx_fraction::{Fraction, fadd, fdiv, fmul, fneg, fsub};
 use std::mem::replace;
@@ -29,6 +28,13 @@ pub enum Folded {
     TooLong,
     /// A literal.
     Literal(Fraction),
+}
+
+/// What stands in a box whose tree was taken out.
+pub fn leaf() -> Expr
+    ensures { tree result ≡ model.Input 0 }
+{
+    Expr::Input(0)
 }
 
 /// A literal that was reckoned, where it keeps its limits.
@@ -74,6 +80,7 @@ fn inverse(l: Fraction) -> Folded
     ratio(one(), l)
 }
 
+/// The sum of two literals, by rule 26.
 pub fn fold_26(e: &Expr) -> Folded
     ensures { Folds result (turned_26 (tree e.now)) }
 {
@@ -89,6 +96,7 @@ pub fn fold_26(e: &Expr) -> Folded
     literal(fadd(*l, *k))
 }
 
+/// The difference of two literals, by rule 27.
 pub fn fold_27(e: &Expr) -> Folded
     ensures { Folds result (turned_27 (tree e.now)) }
 {
@@ -104,6 +112,7 @@ pub fn fold_27(e: &Expr) -> Folded
     literal(fsub(*l, *k))
 }
 
+/// The product of two literals, by rule 28.
 pub fn fold_28(e: &Expr) -> Folded
     ensures { Folds result (turned_28 (tree e.now)) }
 {
@@ -119,6 +128,7 @@ pub fn fold_28(e: &Expr) -> Folded
     literal(fmul(*l, *k))
 }
 
+/// The quotient of two literals, by rule 29.
 pub fn fold_29(e: &Expr) -> Folded
     ensures { Folds result (turned_29 (tree e.now)) }
 {
@@ -134,6 +144,7 @@ pub fn fold_29(e: &Expr) -> Folded
     ratio(*l, *k)
 }
 
+/// The literal with the other sign, by rule 30.
 pub fn fold_30(e: &Expr) -> Folded
     ensures { Folds result (turned_30 (tree e.now)) }
 {
@@ -171,6 +182,7 @@ fn measured_product(a: &Expr, folded: Folded) -> Measure
     }
 }
 
+/// What rule 25 makes of a quotient by a literal, by its size.
 pub fn measure_25(e: &Expr) -> Measure
     ensures { result ≡ measure_of (tree e.now) (turned_25 (tree e.now)) }
 {
@@ -183,6 +195,7 @@ pub fn measure_25(e: &Expr) -> Measure
     measured_product(a, inverse(*l))
 }
 
+/// A quotient by a literal as a product, by rule 25.
 pub fn turn_25(e: Expr) -> Expr
     ensures { Turns turned_25 (tree e) (tree result) }
 {

@@ -1,0 +1,3 @@
+pub mod MeasureOf
+pub mod Turns
+pub mod FoldedOf
