@@ -1,8 +1,8 @@
 //! The narrowest intervals on binary grids.
 //!
-//! Each end is rounded apart to its grid, by `fx_rounding`, and an interval is given only where both mantissas have at most 62
-//! bits, and the claims of it fit. The trap: an end that isn't there has a long mantissa, so the definition has no interval
-//! either; what isn't rounded by `fx_rounding` has no such promise.
+//! Each end is rounded apart to its grid by `fx_rounding`, and an interval is given only where both mantissas have at most 62
+//! bits and its claims fit. The trap: an end is None only where its mantissa is longer than that, so a None is the
+//! definition's answer too, and never stands for an end that was hard to find.
 #![tactic(auto)]
 
 mod divide;
