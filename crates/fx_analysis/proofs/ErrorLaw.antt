@@ -18,12 +18,12 @@ use Rattle.fx_inequalities.specs.Certificate.{Certificate, NodeLine, Row, zero_i
 use Rattle.fx_inequalities.specs.Affine.{range_at, error_at}
 use Rattle.fx_inequalities.specs.NodeConditions.{no_input, plain_error_claims, quotient_claims, divisor_claims}
 use Rattle.fx_bounds.proofs.Claims.{both_left, both_right}
-use Rattle.fx_grid.specs.Narrow.{Bounds, quotient_bounds, is_apart, narrowest}
+use Rattle.fx_grid.specs.Narrow.{Bounds, quotient_bounds, is_apart, narrowest, unit_value, widened, single}
 use Rattle.fx_grid.specs.declared.fault.Why.TheVariants.{Zero, Beyond}
 use Rattle.fx_analysis.specs.PlainRanges.{box_row}
 use Rattle.fx_analysis.specs.GreedyPoints.{shift_of, product_shift}
 use Rattle.fx_analysis.specs.PlainErrors.{placed_code, formless_line, formless_lines, error_sketch, error_bounds, error_divides, plain_error}
-use Rattle.fx_grid.specs.ErrorGrid.{error_grid, unit_value, widened, single}
+use Rattle.fx_rounding.specs.Grid.{error_grid}
 use Rattle.fx_analysis.specs.Ordered.{IsInPlace}
 use Rattle.fx_grid.specs.Laws.{IsNarrowestOf}
 use Rattle.fx_analysis.specs.Laws.{HasErrors, ErrorsLaw, no_node}

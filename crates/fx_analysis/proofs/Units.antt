@@ -8,7 +8,7 @@ use Rattle.fx_rational.specs.Dyadic.{Dyadic, dyadic, fits_128}
 use Rattle.fx_model.specs.LawfulProgram.{IsPoint}
 use Rattle.fx_inequalities.specs.Formula.{Num, formula_fits, formed, word_at}
 use Rattle.fx_judging.specs.Judging.{Forms}
-use Rattle.fx_grid.proofs.Lefts.{abs_times, sized_fits}
+use Rattle.fx_rounding.proofs.Lefts.{abs_times, sized_fits}
 
 pub number_is : {x d : Dyadic} → Forms (Some x) (Num d) → x ≡ d
 unfolding formed

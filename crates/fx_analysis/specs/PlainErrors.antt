@@ -15,10 +15,10 @@ use Rattle.fx_inequalities.specs.Certificate.{Certificate, NodeLine, zero_interv
 use Rattle.fx_inequalities.specs.Affine.{range_at, error_at}
 use Rattle.fx_inequalities.specs.NodeConditions.{no_input, plain_error_claims, divisor_claims}
 use Rattle.fx_inequalities.specs.Accepted.{no_state}
-use Rattle.fx_grid.specs.Narrow.{Bounds, span_bounds, quotient_bounds, is_apart, narrowest}
+use Rattle.fx_grid.specs.Narrow.{Bounds, span_bounds, quotient_bounds, is_apart, narrowest, unit_value, widened, single}
 use Rattle.fx_grid.specs.declared.fault.Why.{Why}
 use Rattle.fx_grid.specs.declared.fault.Why.TheVariants.{Zero, Beyond}
-use Rattle.fx_grid.specs.ErrorGrid.{error_grid, unit_value, widened, single}
+use Rattle.fx_rounding.specs.Grid.{error_grid}
 use Rattle.fx_analysis.specs.Fold.{Absent, parts_after}
 use Rattle.fx_analysis.specs.PlainRanges.{box_row}
 use Rattle.fx_analysis.specs.GreedyPoints.{shift_of, product_shift, quotient_shift}

@@ -8,7 +8,7 @@ ghost use Rattle.fx_model.specs.Nodes.{nodes_of};
 ghost use Rattle.fx_inequalities.specs.LawfulCertificate.{IsLawfulCertificate};
 ghost use Rattle.fx_flat.specs.NodeOf.{nodes_in};
 ghost use Rattle.fx_program.specs.CodeView.{code_of};
-ghost use Rattle.fx_cert.specs.CertificateView.{line_view, lines_view, certificate_of};
+ghost use Rattle.fx_cert.specs.CertificateView.{line_view, certificate_of};
 ghost use Rattle.fx_analysis.specs.PlainErrors.{formless_line, formless_lines};
 ghost use Rattle.fx_analysis.specs.PlainAttempt as plain;
 ghost use Rattle.fx_analysis.specs.PlainAttempt.{placed_codes};
@@ -19,7 +19,7 @@ use crate::code::code;
 use crate::fault::PlanFault;
 use crate::walk::{errors, points, ranges};
 use fx_cert::{Certificate, NodeLine};
-use fx_expr::{Function, Items};
+use fx_expr::Function;
 use fx_flat::{Node, Nodes, flatten};
 use fx_interval::Interval;
 use fx_num::Memory;
@@ -102,21 +102,6 @@ fn put_lines(alloc: Global, gs: &[Interval], hs: &[Interval]) -> Result<Vec<Node
     Ok(lines)
 }
 
-/// The certificate of so many inputs and these lines, without states, steps and rows.
-fn stateless(alloc: Global, inputs: u32, lines: Vec<NodeLine>) -> Certificate
-    ensures { certificate_of result ≡ record { inputs = inputs; states = 0; steps = []; starts = []; rows = []; error_rows = []; lines = lines_view lines.items } }
-{
-    Certificate {
-        inputs,
-        states: 0,
-        steps: Items::from_vec(Vec::new(alloc)),
-        starts: Items::from_vec(Vec::new(alloc)),
-        rows: Items::from_vec(Vec::new(alloc)),
-        error_rows: Items::from_vec(Vec::new(alloc)),
-        lines: Items::from_vec(lines),
-    }
-}
-
 /// The program and the certificate of a plan.
 fn assemble(
     alloc: Global,
@@ -140,7 +125,7 @@ fn assemble(
     let inputs = nodes.inputs;
     let outputs = nodes.outputs;
     let program = Program::new(alloc, plan.width, name, inputs, 0, outputs, codes)?;
-    Ok((program, stateless(alloc, inputs, lines)))
+    Ok((program, Certificate::stateless(alloc, inputs, lines)))
 }
 
 /// The plain attempt of a function without states, or none where a node has no plain range, point or error.

@@ -17,18 +17,17 @@ ghost use Rattle.fx_judging.specs.Judging.{FormsSpan};
 ghost use Rattle.fx_grid.specs.Narrowed.{HasFewPlaces};
 ghost use Rattle.fx_analysis.specs.GreedyPoints.{shift_of, product_shift};
 ghost use Rattle.fx_analysis.specs.Ordered.{IsInPlace};
-ghost use Rattle.fx_grid.specs.ErrorGrid.{error_grid};
+ghost use Rattle.fx_rounding.specs.Grid.{error_grid};
 ghost use Rattle.fx_analysis.specs.PlainErrors.{plain_error};
 
 use crate::point::{product_shift, shift};
 use crate::range::{input_at, interval_at};
 use fx_expr::Function;
 use fx_flat::Node;
-use fx_grid::{
-    Why, error_grid, input_error, literal_error, narrowest_round, plus, quotient_error, times,
-};
+use fx_grid::{Why, input_error, literal_error, narrowest_round, plus, quotient_error, times};
 use fx_interval::Interval;
 use fx_judging::{interval, loss, minus, zero};
+use fx_rounding::error_grid;
 
 /// The error of a negation.
 fn negation(x: Interval, f: i32) -> Result<Interval, Why>

@@ -5,13 +5,23 @@ use Rattle.fx_rational.specs.Interval.{Interval}
 use Rattle.fx_inequalities.specs.Formula.{formula_value, span}
 use Rattle.fx_inequalities.specs.Claim.{Claim, fits, holds}
 use Rattle.fx_bounds.proofs.Claims.{both_left, both_right}
-use Rattle.fx_grid.specs.Narrow.{Bounds, narrow, is_small, narrowest}
+use Rattle.fx_grid.specs.Narrow.{Bounds, narrow, narrowest}
+use Rattle.fx_rounding.specs.Grid.{is_small}
 use Rattle.fx_grid.specs.declared.fault.Why.{Why}
 use Rattle.fx_grid.specs.declared.fault.Why.TheVariants.{Beyond}
-use Rattle.fx_grid.specs.Laws.{Covers, IsNarrowestOf}
-use Rattle.fx_grid.proofs.Narrows.{narrow_is}
+use Rattle.fx_grid.specs.Laws.{Covers, IsNarrowestOf, NarrowLaw}
+use Rattle.fx_rounding.proofs.Grids.{grid_down_is, grid_up_is}
 use Rattle.fx_grid.proofs.Quotients.{Around}
 use Rattle.fx_grid.proofs.Shorts.{short_small}
+
+pub narrow_is : NarrowLaw
+narrow_is e b = let lo = grid_down_is e b.lo in let hi = grid_up_is e b.hi in record {
+  covers = record { low = lo.below; high = hi.above };
+  grid = record { lo = lo.places; hi = hi.places };
+  lo_lowest = lo.lowest;
+  hi_lowest = hi.lowest;
+  inside = λ j g c. (lo.greatest j.lo g.lo c.low, hi.least j.hi g.hi c.high);
+}
 
 around_covers : (g : Interval) (b : Bounds) → Around (span g) b ↔ Covers g b
 unfolding formula_value

@@ -1,30 +1,60 @@
 -- Quotients of short dyadics, and fractions, on a grid.
-use Rattle.std.proofs.Common.{◌≡◌, ℕ, zero, suc, pred, ◌+◌, ◌-◌, ◌*◌, ◌^◌, ◌<◌, true, ◌&&◌, Option, Some, [], ◌∷◌, ℤ, pos, negsuc, ◌*ℤ◌, ◌<ℤ◌, refl, sym, ap, ap₂, subst, ◌∙◌, arith, pow_pos}
+use Rattle.std.proofs.Common.{◌≡◌, ℕ, zero, suc, pred, ◌+◌, ◌-◌, ◌*◌, ◌^◌, ◌<◌, Bool, true, false, ◌&&◌, if◌then◌else◌, Option, Some, [], ◌∷◌, ℤ, pos, negsuc, ◌*ℤ◌, ◌<ℤ◌, refl, sym, ap, ap₂, subst, ◌∙◌, arith, pow_pos}
 use Rattle.std.specs.Prelude.{unsigned_abs}
 use Rattle.std.specs.List.{list_all}
 use Rattle.std.proofs.lemmas.Int.{ints}
 use Rattle.std.proofs.lemmas.Nat.{mul-le}
 use Rattle.std.proofs.Math.Nat.{mul-pos}
-use Rattle.fx_rational.specs.Rational.{Rational, bottom, over, scaled, floor_div, ceil_div, lowest, Equal, above_zero}
-use Rattle.fx_rational.specs.Dyadic.{Dyadic, dyadic_value, fits_128, least, greatest, product_fits}
+use Rattle.fx_rational.specs.Rational.{Rational, bottom, over, scaled, floor_div, ceil_div, lowest, Equal, AtMost, is_at_most, above_zero}
+use Rattle.fx_rational.specs.Dyadic.{Dyadic, dyadic_value, fits_128, is_dyadic_at_most, least, greatest, product_fits}
 use Rattle.fx_rational.specs.Interval.{Interval}
 use Rattle.fx_rational.proofs.Dyadics.{raised, power_bottom}
 use Rattle.fx_rational.proofs.Lowest.{lowest_is, size-neg_ℤ, suc_pred}
-use Rattle.fx_rational.proofs.Laws.{equal_refl, equal_sym, equal_trans, times_same, le_of_equal}
+use Rattle.fx_rational.proofs.Laws.{equal_refl, equal_sym, equal_trans, times_same, le_trans, le_of_equal, le_antisym}
+use Rattle.fx_rational.proofs.Tests.{at_most_true, at_most_false, at_most_test}
 use Rattle.fx_rational.proofs.Quotient.{Above, above_more, times_cancel}
 use Rattle.fx_inequalities.specs.Formula.{Formula, Num, Span, span, formula_value, formed, formula_fits}
 use Rattle.fx_inequalities.specs.Claim.{BelowFraction, AboveFraction, fits}
 use Rattle.fx_inequalities.specs.NodeConditions.{positive_quotient_claims}
 use Rattle.fx_inequalities.proofs.Formed.{formed_is}
 use Rattle.fx_bounds.proofs.Claims.{both_left, both_right}
-use Rattle.fx_grid.specs.Narrow.{lowest_dyadic, grid_down, grid_up, ratio, positive_bounds, narrow, is_small, narrowest}
+use Rattle.fx_rounding.specs.Grid.{lowest_dyadic, grid_down, grid_up, is_small}
+use Rattle.fx_grid.specs.Narrow.{ratio, lesser_value, greater_value, positive_bounds, narrow, narrowest}
 use Rattle.fx_judging.specs.Judging.{FormsSpan}
 use Rattle.fx_grid.specs.Narrowed.{IsIfSmall, answer_of}
 use Rattle.fx_grid.proofs.Quotients.{ratio_back}
-use Rattle.fx_grid.proofs.Spelling.{down_same, up_same, down_lesser, up_greater}
+use Rattle.fx_rounding.proofs.Grids.{grid_down_is, grid_up_is}
+use Rattle.fx_rounding.proofs.Spelling.{same_spelling, down_same, up_same}
 use Rattle.fx_grid.proofs.Settled.{end_fits, kept_answer}
-use Rattle.fx_grid.proofs.Lefts.{abs_times, small_fits}
+use Rattle.fx_rounding.proofs.Lefts.{abs_times, small_fits}
 use Rattle.fx_grid.proofs.Shorts.{short_small}
+
+-- ---- the lesser and the greater of two, first or last rounded
+pub down_lesser : (e : ℕ) (x y : Rational) → least (grid_down e x) (grid_down e y) ≡ grid_down e (lesser_value x y)
+unfolding least
+down_lesser e x y = by (is_at_most x y) (is_dyadic_at_most (grid_down e x) (grid_down e y)) refl refl
+  where
+    more : (u v : Rational) → AtMost u v → AtMost (dyadic_value (grid_down e u)) (dyadic_value (grid_down e v))
+    more u v l = let g = grid_down_is e u in (grid_down_is e v).greatest (grid_down e u) g.places (le_trans g.below l)
+
+    by : (s t : Bool) → is_at_most x y ≡ s → is_dyadic_at_most (grid_down e x) (grid_down e y) ≡ t → (if t then grid_down e x else grid_down e y) ≡ grid_down e (if s then x else y)
+    by true true p q = refl
+    by true false p q = absurd (let r = (at_most_test (dyadic_value (grid_down e x)) (dyadic_value (grid_down e y))).1 (more x y (at_most_true x y p)) in cc)
+    by false true p q = same_spelling (grid_down e x) (grid_down e y) (le_antisym (at_most_true _ _ q) (more y x (at_most_false x y p))) (grid_down_is e x).lowest (grid_down_is e y).lowest
+    by false false p q = refl
+
+pub up_greater : (e : ℕ) (x y : Rational) → greatest (grid_up e x) (grid_up e y) ≡ grid_up e (greater_value x y)
+unfolding greatest
+up_greater e x y = by (is_at_most y x) (is_dyadic_at_most (grid_up e y) (grid_up e x)) refl refl
+  where
+    more : (u v : Rational) → AtMost u v → AtMost (dyadic_value (grid_up e u)) (dyadic_value (grid_up e v))
+    more u v l = let g = grid_up_is e v in (grid_up_is e u).least (grid_up e v) g.places (le_trans l g.above)
+
+    by : (s t : Bool) → is_at_most y x ≡ s → is_dyadic_at_most (grid_up e y) (grid_up e x) ≡ t → (if t then grid_up e x else grid_up e y) ≡ grid_up e (if s then x else y)
+    by true true p q = refl
+    by true false p q = absurd (let r = (at_most_test (dyadic_value (grid_up e y)) (dyadic_value (grid_up e x))).1 (more y x (at_most_true y x p)) in cc)
+    by false true p q = same_spelling (grid_up e x) (grid_up e y) (le_antisym (more x y (at_most_false y x p)) (at_most_true _ _ q)) (grid_up_is e x).lowest (grid_up_is e y).lowest
+    by false false p q = refl
 
 -- ---- fractions
 product_small : (m : ℤ) (q : ℕ) → unsigned_abs m < 2 ^ 62 → q < 2 ^ 62 → fits_128 (m *ℤ pos q) ≡ true

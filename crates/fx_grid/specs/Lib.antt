@@ -1,9 +1,6 @@
 pub mod Narrow
-pub mod ErrorGrid
 pub mod Laws
 pub mod Narrowed
-pub mod Wide
 pub mod Dividing
 pub mod Exact
-pub mod Places
 pub mod Short

@@ -1,30 +1,13 @@
--- The narrowest interval on a grid round exact bounds. Grid e are the dyadics with at most e binary places, in lowest terms.
-use Rattle.std.specs.Prelude.{ℕ, zero, suc, ◌*◌, ◌^◌, ◌%◌, ◌==◌, ltb, unsigned_abs, ℤ, pos, ◌*ℤ◌, Bool, ◌&&◌, ◌||◌, if◌then◌else◌, List, Result, Ok, Err}
+-- The narrowest interval on a grid round exact bounds.
+use Rattle.std.specs.Prelude.{ℕ, ◌*◌, unsigned_abs, ℤ, pos, ◌*ℤ◌, Bool, ◌&&◌, ◌||◌, if◌then◌else◌, List, Result, Ok, Err}
 use Rattle.std.specs.List.{list_all}
-use Rattle.fx_rational.specs.Rational.{Rational, bottom, over, scaled, floor_div, ceil_div, is_at_most, is_positive, is_negative}
-use Rattle.fx_rational.specs.Dyadic.{Dyadic}
+use Rattle.fx_rational.specs.Rational.{Rational, bottom, over, plus, minus, is_at_most, is_positive, is_negative}
 use Rattle.fx_rational.specs.Interval.{Interval}
-use Rattle.fx_inequalities.specs.Formula.{Span, formula_value, zero_span, span_difference}
+use Rattle.fx_inequalities.specs.Formula.{Span, formula_value, unit_at, zero_span, span_difference}
 use Rattle.fx_inequalities.specs.Claim.{Claim, fits}
+use Rattle.fx_rounding.specs.Grid.{grid_down, grid_up, is_small}
 use Rattle.fx_grid.specs.declared.fault.Why.{Why}
 use Rattle.fx_grid.specs.declared.fault.Why.TheVariants.{Beyond}
-
--- ---- on the grid
--- it has half
-abbrev pub is_even : ℤ → Bool
-is_even m = unsigned_abs m % 2 == 0
-
--- m / 2^e in lowest terms
-unfoldable pub lowest_dyadic : ℤ → ℕ → Dyadic
-lowest_dyadic m zero = record { m = m; e = 0 }
-lowest_dyadic m (suc e) = if is_even m then lowest_dyadic (floor_div m 2) e else record { m = m; e = suc e }
-
--- the greatest of grid e that isn't above x, and the least that isn't below
-unfoldable pub grid_down : ℕ → Rational → Dyadic
-grid_down e x = let y = scaled x (pos e) in lowest_dyadic (floor_div y.top (bottom y)) e
-
-unfoldable pub grid_up : ℕ → Rational → Dyadic
-grid_up e x = let y = scaled x (pos e) in lowest_dyadic (ceil_div y.top (bottom y)) e
 
 -- ---- bounds
 -- what an interval has to hold
@@ -66,11 +49,20 @@ quotient_bounds a b = if is_positive (formula_value b.lo) then positive_bounds a
 abbrev pub is_apart : Span → Bool
 is_apart s = (is_positive (formula_value s.lo) && is_positive (formula_value s.hi)) || (is_negative (formula_value s.lo) && is_negative (formula_value s.hi))
 
--- ---- where it is there
--- a mantissa of 62 bits
-abbrev pub is_small : Dyadic → Bool
-is_small d = ltb (unsigned_abs d.m) (2 ^ 62)
+-- ---- units
+-- 2^-f, which a machine's operation loses at point f
+abbrev pub unit_value : ℤ → Rational
+unit_value f = formula_value (unit_at f)
 
+-- what the machine's quotient loses comes on top on both sides
+abbrev pub widened : ℤ → Bounds → Bounds
+widened f b = record { lo = minus b.lo (unit_value f); hi = plus b.hi (unit_value f) }
+
+-- one number alone
+abbrev pub single : Rational → Bounds
+single x = record { lo = x; hi = x }
+
+-- ---- where it is there
 -- the narrowest on grid e round the bounds, where it is short and these claims of it fit
 abbrev pub narrowest : ℕ → Bounds → (Interval → List Claim) → Result Interval Why
 narrowest e b claims = let g = narrow e b in if is_small g.lo && is_small g.hi && list_all fits (claims g) then Ok g else Err Beyond

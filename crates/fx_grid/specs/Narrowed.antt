@@ -1,10 +1,11 @@
 -- What contracts see of the narrowest interval.
-use Rattle.std.specs.Prelude.{◌≡◌, ◌≤◌, Option, Some, None, Result, Ok, Err, true, false, ◌&&◌, if◌then◌else◌}
+use Rattle.std.specs.Prelude.{◌≡◌, ◌≤◌, Bool, Option, Some, None, Result, Ok, Err, true, false, ◌&&◌, if◌then◌else◌}
 use Rattle.fx_rational.specs.Dyadic.{Dyadic, dyadic_value}
 use Rattle.fx_rational.specs.Interval.{Interval}
 use Rattle.fx_inequalities.specs.Formula.{span}
 use Rattle.fx_inequalities.specs.NodeConditions.{quotient_claims}
-use Rattle.fx_grid.specs.Narrow.{Bounds, is_small, is_apart, quotient_bounds, narrowest}
+use Rattle.fx_grid.specs.Narrow.{Bounds, is_apart, quotient_bounds, narrowest}
+use Rattle.fx_rounding.specs.Grid.{is_small}
 use Rattle.fx_grid.specs.declared.fault.Why.{Why}
 use Rattle.fx_grid.specs.declared.fault.Why.TheVariants.{Zero, Beyond}
 
@@ -21,6 +22,10 @@ IsIfSmall (Some y) x = (y ≡ x) × ((is_small x.lo && is_small x.hi) ≡ true)
 abbrev pub answer_of : Option Interval → Result Interval Why
 answer_of None = Err Beyond
 answer_of (Some g) = Ok g
+
+-- the interval, where both claims of it fit
+abbrev pub if_fitting : Interval → Bool → Bool → Result Interval Why
+if_fitting g a b = if a && b then Ok g else Err Beyond
 
 -- a mantissa of 62 bits and at most 24 binary places
 pub record IsPlainEnd (d : Dyadic) : Type 0 where

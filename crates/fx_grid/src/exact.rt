@@ -1,58 +1,29 @@
 //! Errors of literals and inputs.
 
-ghost use Rattle.std.specs.Prelude.{◌≡◌, ◌*◌, ◌+◌, ◌<◌, ◌≤◌, ◌^◌, ◌∷◌, [], ◌-ℤ◌, ◌*ℤ◌, neg_ℤ, pos, suc, unsigned_abs, ℕ};
+ghost use Rattle.std.specs.Prelude.{◌≡◌, ◌*◌, ◌+◌, ◌<◌, ◌≤◌, ◌^◌, ◌∷◌, [], ◌-ℤ◌, ◌*ℤ◌, neg_ℤ, pos, unsigned_abs, ℕ};
 ghost use Rattle.fx_rational.specs.Rational.{Rational, bottom, lowest, negative, minus, scaled, floor, floor_div};
 ghost use Rattle.fx_model.specs.LawfulProgram.{IsPoint};
 ghost use Rattle.fx_inequalities.specs.Formula.{Formula, Num, Sum, Difference, formula_value, word_at, unit_at};
 ghost use Rattle.fx_inequalities.specs.Claim.{BelowFraction, AboveFraction, fits_over};
 ghost use Rattle.fx_expr.specs.Parts.{input_of};
-ghost use Rattle.fx_grid.specs.Narrow.{Bounds, narrow, narrowest};
-ghost use Rattle.fx_grid.specs.Narrowed.{IsIfSmall};
+ghost use Rattle.fx_grid.specs.Narrow.{Bounds, narrow, narrowest, single, unit_value};
+ghost use Rattle.fx_grid.specs.Narrowed.{IsIfSmall, if_fitting};
 ghost use Rattle.fx_judging.specs.Judging.{Forms};
-ghost use Rattle.fx_grid.specs.ErrorGrid.{error_grid, single, unit_value};
+ghost use Rattle.fx_rounding.specs.Grid.{error_grid};
 ghost use Rattle.fx_grid.specs.Exact.{scaled_top, scaled_bottom, unit_bottom};
-ghost use Rattle.fx_grid.specs.Places.{IsPlace, if_fitting};
 
 use crate::fault::Why;
-use crate::number::{denominator, left, negate, numerator, whole};
 use crate::quotient::{high, low};
-use crate::wide::{ends, rest, signed, wide_down, wide_up};
+use crate::settle::ends;
 use fx_expr::Input;
 use fx_fraction::{Fraction, dyadic_le, fneg, to_fraction};
 use fx_interval::Interval;
 use fx_judging::{difference, number, reduced, sum, unit};
 use fx_num::{Dyadic, left_fits};
-
-/// A point: `k`, or `-1 - k`.
-#[derive(Clone, Copy, Debug)]
-pub enum Place {
-    High(u32),
-    Low(u32),
-}
-
-/// The point by its size.
-pub fn split(f: i32) -> Place
-    requires { IsPoint f }
-    ensures { IsPlace result f }
-{
-    if f >= 0 {
-        Place::High(f as u32)
-    } else {
-        Place::Low((-1 - f) as u32)
-    }
-}
-
-/// How many binary places an error at this point has.
-pub fn grid(f: i32) -> u32
-    requires { IsPoint f }
-    ensures value { result ≡ error_grid f }
-    ensures few { result ≤ 70 }
-{
-    match split(f) {
-        Place::High(k) => k + 8,
-        Place::Low(k) => 7u32.saturating_sub(k),
-    }
-}
+use fx_rounding::{
+    Place, denominator, error_grid, left, negate, numerator, rest, signed, split, whole, wide_down,
+    wide_up,
+};
 
 /// `2^s`.
 fn two_to(s: u32) -> u128
@@ -225,7 +196,7 @@ pub fn literal_error(c: Fraction, f: i32) -> Result<Interval, Why>
     let top = top_of(c, f);
     let bottom = bottom_of(c, f);
     let d = unit_of(c, f);
-    let e = grid(f);
+    let e = error_grid(f);
     let w = whole(top, bottom);
     let r = rest_below(top, bottom);
     let n = negate(signed(r));
@@ -263,7 +234,7 @@ pub fn input_error(input: &Input, f: i32) -> Result<Interval, Why>
     let minus_c = fneg(c);
     let n = minus_both(top_of(c, f), bottom_of(c, f));
     let d = unit_of(c, f);
-    let e = grid(f);
+    let e = error_grid(f);
     let lo = wide_down(n, d, e);
     let p = numerator(c);
     let q = denominator(c);

@@ -1,25 +1,24 @@
 //! Quotients of intervals, and intervals of fractions.
 
-ghost use Rattle.std.specs.Prelude.{◌≡◌, ◌∷◌, [], ◌&&◌, neg_ℤ, ◌<◌, ◌≤◌, ◌^◌, true, unsigned_abs, Some};
+ghost use Rattle.std.specs.Prelude.{◌≡◌, ◌∷◌, [], ◌&&◌, neg_ℤ, ◌<◌, ◌≤◌, ◌^◌, ◌+◌, ◌*ℤ◌, pos, true, unsigned_abs, Some};
 ghost use Rattle.fx_rational.specs.Rational.{Rational, lowest, above_zero, below_zero};
-ghost use Rattle.fx_rational.specs.Rational.{is_positive, is_negative};
 ghost use Rattle.fx_rational.specs.Dyadic.{dyadic, dyadic_value, least, greatest};
-ghost use Rattle.fx_inequalities.specs.Formula.{Num, Span, span, zero_span, span_difference};
+ghost use Rattle.fx_inequalities.specs.Formula.{Num, Span, span};
 ghost use Rattle.fx_inequalities.specs.Claim.{BelowFraction, AboveFraction};
 ghost use Rattle.fx_inequalities.specs.NodeConditions.{positive_quotient_claims};
-ghost use Rattle.fx_grid.specs.Narrow.{grid_down, grid_up, ratio, is_small, narrowest, positive_bounds};
+ghost use Rattle.fx_rounding.specs.Grid.{grid_down, grid_up};
+ghost use Rattle.fx_grid.specs.Narrow.{ratio, narrowest, positive_bounds};
 ghost use Rattle.fx_judging.specs.Judging.{FormsSpan};
 ghost use Rattle.fx_grid.specs.Narrowed.{IsPlainEnd, IsPlainInterval, plain_quotient};
 
 use crate::fault::Why;
-use crate::grid::{exponent, keep, mantissa};
-use crate::number::{
-    denominator, down_fraction, down_quotient, left, negate, up_fraction, up_quotient,
-};
-use crate::settle::answer;
+use crate::settle::{answer, keep};
 use fx_fraction::Fraction;
-use fx_interval::Interval;
-use fx_num::{Dyadic, dle, dsub};
+use fx_interval::{Interval, greatest, least};
+use fx_num::Dyadic;
+use fx_rounding::{
+    denominator, down_fraction, down_quotient, exponent, left, negate, up_fraction, up_quotient,
+};
 
 /// The narrowest on grid `e` from one fraction to another.
 pub fn between(lo: Fraction, hi: Fraction, e: u32) -> Result<Interval, Why>
@@ -50,22 +49,6 @@ pub fn is_below(d: Dyadic) -> bool
     d.m < 0
 }
 
-/// The lesser one, or `a` where they are equal.
-#[tactic(auto, unfolding(fx_rational::specs::Dyadic::least))]
-pub fn least(a: Dyadic, b: Dyadic) -> Dyadic
-    ensures { result ≡ least a b }
-{
-    if dle(a, b) { a } else { b }
-}
-
-/// The greater one, or `a` where they are equal.
-#[tactic(auto, unfolding(fx_rational::specs::Dyadic::greatest))]
-pub fn greatest(a: Dyadic, b: Dyadic) -> Dyadic
-    ensures { result ≡ greatest a b }
-{
-    if dle(b, a) { a } else { b }
-}
-
 /// The lower end.
 pub fn low(i: Interval) -> Dyadic
     ensures { result ≡ i.lo }
@@ -89,12 +72,16 @@ fn small_mantissa(d: Dyadic) -> i128
     d.m
 }
 
-/// The greatest of grid 24 that isn't above a quotient.
-fn ratio_down(a: Dyadic, b: Dyadic) -> Dyadic
+/// A quotient in units of grid 24: one whole number over another.
+fn ratio_parts(a: Dyadic, b: Dyadic) -> (i128, u128)
     requires a { IsPlainEnd a }
     requires b { IsPlainEnd b }
     requires above { above_zero b.m ≡ true }
-    ensures { result ≡ grid_down 24 (ratio (dyadic_value a) (dyadic_value b)) }
+    ensures top { result.0 ≡ a.m *ℤ pos (2 ^ (24 + b.e)) }
+    ensures small { unsigned_abs result.0 < 2 ^ 126 }
+    ensures bottom { result.1 ≡ unsigned_abs (b.m *ℤ pos (2 ^ a.e)) }
+    ensures some { 0 < result.1 }
+    ensures few { result.1 < 2 ^ 126 }
 {
     let am = small_mantissa(a);
     let bm = small_mantissa(b);
@@ -102,7 +89,18 @@ fn ratio_down(a: Dyadic, b: Dyadic) -> Dyadic
     let be = exponent(b);
     let top = left(am, 24 + be);
     let bottom = left(bm, ae);
-    down_quotient(top, bottom.unsigned_abs(), 24)
+    (top, bottom.unsigned_abs())
+}
+
+/// The greatest of grid 24 that isn't above a quotient.
+fn ratio_down(a: Dyadic, b: Dyadic) -> Dyadic
+    requires a { IsPlainEnd a }
+    requires b { IsPlainEnd b }
+    requires above { above_zero b.m ≡ true }
+    ensures { result ≡ grid_down 24 (ratio (dyadic_value a) (dyadic_value b)) }
+{
+    let (top, bottom) = ratio_parts(a, b);
+    down_quotient(top, bottom, 24)
 }
 
 /// The least of grid 24 that isn't below a quotient.
@@ -112,13 +110,8 @@ fn ratio_up(a: Dyadic, b: Dyadic) -> Dyadic
     requires above { above_zero b.m ≡ true }
     ensures { result ≡ grid_up 24 (ratio (dyadic_value a) (dyadic_value b)) }
 {
-    let am = small_mantissa(a);
-    let bm = small_mantissa(b);
-    let ae = exponent(a);
-    let be = exponent(b);
-    let top = left(am, 24 + be);
-    let bottom = left(bm, ae);
-    up_quotient(top, bottom.unsigned_abs(), 24)
+    let (top, bottom) = ratio_parts(a, b);
+    up_quotient(top, bottom, 24)
 }
 
 /// The narrowest round a quotient whose divisor is above zero.

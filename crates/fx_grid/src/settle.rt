@@ -1,15 +1,52 @@
 //! The narrowest interval round what a formula comes to.
 
 ghost use Rattle.std.specs.Prelude.{◌≡◌};
+ghost use Rattle.fx_rational.specs.Interval as model;
 ghost use Rattle.fx_inequalities.specs.Formula.{Span, span};
 ghost use Rattle.fx_inequalities.specs.Claim.{inside};
-ghost use Rattle.fx_grid.specs.Narrow.{span_bounds, narrowest};
+ghost use Rattle.fx_grid.specs.Narrow.{narrow, span_bounds, narrowest};
 ghost use Rattle.fx_judging.specs.Judging.{FormsSpan};
-ghost use Rattle.fx_grid.specs.Narrowed.{answer_of};
+ghost use Rattle.fx_grid.specs.Narrowed.{IsIfSmall, answer_of, bounds_of};
+ghost use Rattle.fx_rounding.specs.Wide.{IsEnd};
 
 use crate::fault::Why;
-use crate::grid::narrowed;
 use fx_interval::Interval;
+use fx_num::Dyadic;
+use fx_rounding::{down, is_small, up};
+
+/// The interval, where its mantissas have at most 62 bits.
+pub fn keep(x: Interval) -> Option<Interval>
+    ensures { IsIfSmall result x }
+{
+    if is_small(x.lo) && is_small(x.hi) {
+        Some(x)
+    } else {
+        None
+    }
+}
+
+/// The narrowest on grid `e` round an interval, where its mantissas have at most 62 bits.
+pub fn narrowed(x: Interval, e: u32) -> Option<Interval>
+    ensures { IsIfSmall result (narrow e (bounds_of x)) }
+{
+    keep(Interval {
+        lo: down(x.lo, e),
+        hi: up(x.hi, e),
+    })
+}
+
+/// The interval with these ends, where both have at most 62 bits.
+pub fn ends(lo: Option<Dyadic>, hi: Option<Dyadic>) -> Option<Interval>
+    ensures { (x : model.Interval) → IsEnd lo x.lo → IsEnd hi x.hi → IsIfSmall result x }
+{
+    match lo {
+        None => None,
+        Some(lo) => match hi {
+            None => None,
+            Some(hi) => keep(Interval { lo, hi }),
+        },
+    }
+}
 
 /// What is kept, or that a number gets too long.
 pub fn answer(kept: Option<Interval>) -> Result<Interval, Why>

@@ -64,17 +64,17 @@ pub fn isub(a: Interval, b: Interval) -> Option<Interval>
     Some(Interval { lo, hi })
 }
 
-/// The lesser one, or `a` where they are equal.
+/// The lesser number, or `a` where they are equal.
 #[tactic(auto, unfolding(fx_rational::specs::Dyadic::least))]
-fn least(a: Dyadic, b: Dyadic) -> Dyadic
+pub fn least(a: Dyadic, b: Dyadic) -> Dyadic
     ensures { result ≡ least a b }
 {
     if dle(a, b) { a } else { b }
 }
 
-/// The greater one, or `a` where they are equal.
+/// The greater number, or `a` where they are equal.
 #[tactic(auto, unfolding(fx_rational::specs::Dyadic::greatest))]
-fn greatest(a: Dyadic, b: Dyadic) -> Dyadic
+pub fn greatest(a: Dyadic, b: Dyadic) -> Dyadic
     ensures { result ≡ greatest a b }
 {
     if dle(b, a) { a } else { b }

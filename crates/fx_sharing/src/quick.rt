@@ -6,11 +6,11 @@
 
 ghost use Rattle.std.specs.Prelude.{◌≡◌, ◌*ℤ◌, ◌-ℤ◌, IfSome, IsTrue};
 ghost use Rattle.std.specs.Option.{SomeIff};
-ghost use Rattle.fx_rational.specs.Dyadic.{difference_fits, dyadic_difference, dyadic_product, fits_128, greatest, least, product_fits};
+ghost use Rattle.fx_rational.specs.Dyadic.{difference_fits, dyadic_difference, dyadic_product, fits_128, product_fits};
 ghost use Rattle.fx_rational.specs.Interval.{interval_product, interval_product_fits};
 
-use fx_interval::Interval;
-use fx_num::{Dyadic, dle, left_fits, mul_fits};
+use fx_interval::{Interval, greatest, least};
+use fx_num::{Dyadic, left_fits, mul_fits};
 
 /// A mantissa in 64 bits.
 fn short(d: Dyadic) -> Option<i64>
@@ -64,22 +64,6 @@ pub fn less_product(left: Dyadic, a: Dyadic, b: Dyadic) -> Option<Dyadic>
     Some(Dyadic::new(m, left.e))
 }
 
-/// The lesser one, or `a` where they are equal.
-#[tactic(auto, unfolding(fx_rational::specs::Dyadic::least))]
-fn lesser(a: Dyadic, b: Dyadic) -> Dyadic
-    ensures { result ≡ least a b }
-{
-    if dle(a, b) { a } else { b }
-}
-
-/// The greater one, or `a` where they are equal.
-#[tactic(auto, unfolding(fx_rational::specs::Dyadic::greatest))]
-fn greater(a: Dyadic, b: Dyadic) -> Dyadic
-    ensures { result ≡ greatest a b }
-{
-    if dle(b, a) { a } else { b }
-}
-
 /// An interval times `a`, where its ends and `a` are short.
 pub fn times_ends(a: Dyadic, ends: Interval) -> Option<Interval>
     ensures fits { IfSome result (λ i. IsTrue (interval_product_fits (record { lo = a; hi = a }) ends)) }
@@ -88,7 +72,7 @@ pub fn times_ends(a: Dyadic, ends: Interval) -> Option<Interval>
     let low = short_product(a, ends.lo)?;
     let high = short_product(a, ends.hi)?;
     Some(Interval {
-        lo: lesser(low, high),
-        hi: greater(low, high),
+        lo: least(low, high),
+        hi: greatest(low, high),
     })
 }

@@ -9,10 +9,10 @@ ghost use Rattle.fx_cert.specs.CertificateView.{row_view, rows_in, shares_of};
 ghost use Rattle.fx_template.specs.Rows.{AreCountedRows, AreWrittenBounds, IsCountedRow};
 
 use crate::unit::unit_entry;
-use fx_analysis::is_small;
 use fx_cert::{Row, Share};
 use fx_interval::Interval;
 use fx_num::Dyadic;
+use fx_rounding::is_small;
 
 /// Whether a text can spell it.
 fn is_written(d: Dyadic) -> bool

@@ -1,9 +1,8 @@
 //! Plain rounds: bounds of the unit rows alone, raised until one step keeps them or the rounds are over.
 
-ghost use Rattle.std.specs.Prelude.{◌≡◌, ◌+◌, ◌-◌, ◌<◌, ◌≤◌, pos, IfOk, Some, None};
+ghost use Rattle.std.specs.Prelude.{◌≡◌, ◌+◌, ◌-◌, ◌<◌, pos, IfOk, Some, None};
 ghost use Rattle.std.specs.Option.{option_map};
 ghost use Rattle.fx_model.specs.Tree.{at};
-ghost use Rattle.fx_model.specs.LawfulProgram.{IsPoint};
 ghost use Rattle.fx_rational.specs.Dyadic.{greatest, least};
 ghost use Rattle.fx_inequalities.specs.Formula.{Span};
 ghost use Rattle.fx_judging.specs.Judging.{FormsSpan};
@@ -14,13 +13,13 @@ ghost use Rattle.fx_template.specs.PlainRounds.{bounds_after, bounds_at_first, f
 ghost use Rattle.fx_template.specs.RoundView.{AreShortBoth, AreShortBounds, bounds_in};
 
 use crate::unit::{bound_at, unit_rows};
-use fx_analysis::{Why, error_grid, narrowest_round};
 use fx_cert::Row;
 use fx_conditions::{Side, error_at, range_at};
-use fx_interval::Interval;
+use fx_grid::{Why, narrowest_round};
+use fx_interval::{Interval, greatest, least};
 use fx_judging::interval;
-use fx_num::{Dyadic, Memory, dle};
 use fx_reach::Transition;
+use fx_rounding::error_grid;
 use fx_sharing::row_bound_of;
 use std::alloc::{AllocError, Global};
 
@@ -78,29 +77,13 @@ fn first_bounds(alloc: Global, t: &Transition, side: &Side) -> Result<Vec<Interv
     Ok(bounds)
 }
 
-/// The lesser of two.
-#[tactic(auto, unfolding(fx_rational::specs::Dyadic::least))]
-fn lesser(a: Dyadic, b: Dyadic) -> Dyadic
-    ensures { result ≡ least a b }
-{
-    if dle(a, b) { a } else { b }
-}
-
-/// The greater of two.
-#[tactic(auto, unfolding(fx_rational::specs::Dyadic::greatest))]
-fn greater(a: Dyadic, b: Dyadic) -> Dyadic
-    ensures { result ≡ greatest a b }
-{
-    if dle(b, a) { a } else { b }
-}
-
 /// From the lesser lower end to the greater upper one.
 fn joined(x: Interval, y: Interval) -> Interval
     ensures { result ≡ record { lo = least x.lo y.lo; hi = greatest x.hi y.hi } }
 {
     Interval {
-        lo: lesser(x.lo, y.lo),
-        hi: greater(x.hi, y.hi),
+        lo: least(x.lo, y.lo),
+        hi: greatest(x.hi, y.hi),
     }
 }
 

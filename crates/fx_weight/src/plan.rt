@@ -1,12 +1,12 @@
 //! The plain plan of a modest function.
 
-ghost use Rattle.std.specs.Prelude.{◌≡◌, ◌≤◌, [], length, map, All, Contains, IfOk, IfErr};
+ghost use Rattle.std.specs.Prelude.{◌≡◌, ◌≤◌, length, map, All, Contains, IfOk, IfErr};
 ghost use Rattle.fx_model.specs.LawfulProgram.{widths};
 ghost use Rattle.fx_model.specs.Limits.{node_limit};
 ghost use Rattle.fx_model.specs.Nodes.{nodes_of};
 ghost use Rattle.fx_flat.specs.NodeOf.{nodes_in};
 ghost use Rattle.fx_program.specs.CodeView.{code_of};
-ghost use Rattle.fx_cert.specs.CertificateView.{line_view, lines_view, certificate_of};
+ghost use Rattle.fx_cert.specs.CertificateView.{line_view, certificate_of};
 ghost use Rattle.fx_weight.specs.Weights.{weights_of, first_immodest, IsModest};
 ghost use Rattle.fx_weight.specs.PlainPlan.{plain_codes, plain_line, plain_program, plain_certificate};
 ghost use Rattle.fx_weight.specs.Laws.{IsBalanced, IsPlan};
@@ -20,7 +20,7 @@ use crate::part::{code, line};
 use crate::walk::{input_count, output_count, weigh, weight_at};
 use crate::weight::Weight;
 use fx_cert::{Certificate, NodeLine};
-use fx_expr::{Function, Items};
+use fx_expr::Function;
 use fx_flat::{Node, flatten};
 use fx_program::{Code, Program};
 use std::alloc::Global;
@@ -62,21 +62,6 @@ fn put_lines(alloc: Global, ws: &[Weight], width: u32) -> Result<Vec<NodeLine>, 
     Ok(lines)
 }
 
-/// The certificate of so many inputs and these lines, without states, steps and rows.
-fn certificate_with(alloc: Global, inputs: u32, lines: Vec<NodeLine>) -> Certificate
-    ensures { certificate_of result ≡ record { inputs = inputs; states = 0; steps = []; starts = []; rows = []; error_rows = []; lines = lines_view lines.items } }
-{
-    Certificate {
-        inputs,
-        states: 0,
-        steps: Items::from_vec(Vec::new(alloc)),
-        starts: Items::from_vec(Vec::new(alloc)),
-        rows: Items::from_vec(Vec::new(alloc)),
-        error_rows: Items::from_vec(Vec::new(alloc)),
-        lines: Items::from_vec(lines),
-    }
-}
-
 /// The plain plan, or the first node that isn't modest.
 pub fn plain_plan(
     alloc: Global,
@@ -100,5 +85,5 @@ pub fn plain_plan(
     let inputs = input_count(function);
     let outputs = output_count(function);
     let program = Program::new(alloc, width, name, inputs, 0, outputs, codes)?;
-    Ok((program, certificate_with(alloc, inputs, lines)))
+    Ok((program, Certificate::stateless(alloc, inputs, lines)))
 }

@@ -1,4 +1,4 @@
-use Rattle.fx_grid.proofs.Narrows.{narrow_is}
+use Rattle.fx_grid.proofs.Narrowest.{narrow_is}
 use Rattle.fx_grid.proofs.narrow_law.Goals as goal
 
 pub returns : goal.returns

@@ -3,8 +3,7 @@ use Rattle.std.specs.Int.{w32}
 use Rattle.std.proofs.lemmas.Int.{to_z-of_z}
 use Rattle.fx_rational.specs.Interval.{Interval}
 use Rattle.fx_judging.specs.Judging.{FormsSpan}
-use Rattle.fx_grid.specs.Narrow.{positive_bounds}
-use Rattle.fx_grid.specs.ErrorGrid.{widened}
+use Rattle.fx_grid.specs.Narrow.{positive_bounds, widened}
 use Rattle.fx_grid.specs.Dividing.{around_quotient}
 use Rattle.fx_grid.proofs.Dividing.{above_formed, unit_over, over_beyond, beyond_around}
 use Rattle.fx_grid.proofs.divide.over.Goals as goal

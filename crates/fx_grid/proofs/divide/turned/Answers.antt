@@ -5,8 +5,7 @@ use Rattle.std.proofs.lemmas.Bool.{and_parts}
 use Rattle.fx_rational.specs.Rational.{below_zero}
 use Rattle.fx_rational.specs.Interval.{Interval}
 use Rattle.fx_inequalities.specs.Formula.{zero_span, span_difference}
-use Rattle.fx_grid.specs.Narrow.{positive_bounds}
-use Rattle.fx_grid.specs.ErrorGrid.{widened}
+use Rattle.fx_grid.specs.Narrow.{positive_bounds, widened}
 use Rattle.fx_grid.specs.Dividing.{around_quotient}
 use Rattle.fx_grid.proofs.Dividing.{below_formed, unit_under, turned_above}
 use Rattle.fx_grid.proofs.divide.turned.Goals as goal

@@ -7,8 +7,7 @@ use Rattle.fx_rational.specs.Interval.{Interval}
 use Rattle.fx_inequalities.specs.Formula.{zero_span, span_difference}
 use Rattle.fx_judging.specs.Judging.{FormsSpan}
 use Rattle.fx_judging.proofs.Judged.{minus_none}
-use Rattle.fx_grid.specs.Narrow.{positive_bounds}
-use Rattle.fx_grid.specs.ErrorGrid.{widened}
+use Rattle.fx_grid.specs.Narrow.{positive_bounds, widened}
 use Rattle.fx_grid.specs.Dividing.{unit_quotient}
 use Rattle.fx_grid.proofs.Dividing.{below_formed, unit_under, under_beyond, beyond_around}
 use Rattle.fx_grid.proofs.divide.under.Goals as goal

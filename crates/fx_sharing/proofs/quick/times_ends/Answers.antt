@@ -11,6 +11,6 @@ returns-clause-fits c =
 
 pub returns-clause-is : goal.returns-clause-is
 returns-clause-is c =
-    ap₂ (λ (l h : Dyadic). record { lo = l; hi = h }) c.lesser.ensures c.greater.ensures
+    ap₂ (λ (l h : Dyadic). record { lo = l; hi = h }) c.least.ensures c.greatest.ensures
     ∙ subst (λ (v : Interval). record { lo = least c.in_ok-low.low c.in_ok-high.high; hi = greatest c.in_ok-low.low c.in_ok-high.high } ≡ interval_product (record { lo = c.args.a; hi = c.args.a }) v) c.ends.view_is
     (ends_are c.args.a c.in_ok-low.low c.in_ok-high.high (record { lo = c.ends.inside.lo; hi = c.ends.inside.hi }) c.in_ok-low.ensures.is c.in_ok-high.ensures.is)
