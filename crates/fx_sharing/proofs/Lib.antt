@@ -2,4 +2,5 @@ pub mod Shares
 pub mod Boxes
 pub mod Nodes
 pub mod Taken
+pub mod Raised
 pub mod Quickly

@@ -12,7 +12,7 @@ ghost use Rattle.fx_sharing.specs.Coefficients.{AreFormed, AreLeft};
 ghost use Rattle.fx_conditions.specs.Sides.{side_at};
 ghost use Rattle.fx_conditions.specs.Limits.{AreShortLines, AreShortRows, AreShortShares, IsShortForm};
 
-use crate::quick::{less_product, times_ends};
+use crate::quick::{less_product, less_raised, times_ends};
 use fx_cert::{Form, NodeLine, Row, Share};
 use fx_conditions::{Side, bound_of, coef_at, row_coef_of, scaled, scaled_number, side_of};
 use fx_interval::Interval;
@@ -134,8 +134,25 @@ fn share_coef(rows: &[Row], states: u32, share: &Share, k: u32) -> Option<Dyadic
     scaled_number(share.times, row_coef_of(rows, states, share.row, k))
 }
 
-/// What a share leaves of coefficient `j`, where that and the row's coefficient `k` are short.
+/// What a share leaves of coefficient `j`, where its times stay short at that exponent.
 fn quick_left(
+    coefs: &[Option<Dyadic>],
+    j: u32,
+    rows: &[Row],
+    states: u32,
+    share: &Share,
+    k: u32,
+) -> Option<Dyadic>
+    ensures { (f : Formula) → Forms (at None coefs.now j) f → IfSome result (λ d. Forms (Some d) (Difference f (Product (Num share.now.times) ((rows_of states (rows_in rows.now)).coef share.now.row k)))) }
+{
+    share.times.keeps();
+    let left = coefficient(coefs, j)?;
+    let coef = row_coef_of(rows, states, share.row, k)?;
+    less_raised(left, share.times, coef)
+}
+
+/// The same where it and the row's coefficient `k` are short.
+fn short_left(
     coefs: &[Option<Dyadic>],
     j: u32,
     rows: &[Row],
@@ -151,8 +168,8 @@ fn quick_left(
     less_product(left, share.times, coef)
 }
 
-/// What a share leaves of coefficient `j`.
-fn left_of(
+/// The same of any numbers.
+fn any_left(
     coefs: &[Option<Dyadic>],
     j: u32,
     rows: &[Row],
@@ -167,25 +184,45 @@ fn left_of(
     difference(coefficient(coefs, j), share_coef(rows, states, share, k))
 }
 
+/// What a share leaves of coefficient `j`. It stands outside of the loop, which has few numbers that aren't quick.
+#[inline(never)]
+fn left_of(
+    coefs: &[Option<Dyadic>],
+    j: u32,
+    rows: &[Row],
+    states: u32,
+    share: &Share,
+    k: u32,
+) -> Option<Dyadic>
+    requires rows { AreShortRows (rows_in rows.now) }
+    requires times { IsShort 96 (Num share.now.times) }
+    ensures { (f : Formula) → Forms (at None coefs.now j) f → Forms result (Difference f (Product (Num share.now.times) ((rows_of states (rows_in rows.now)).coef share.now.row k))) }
+{
+    match short_left(coefs, j, rows, states, share, k) {
+        Some(left) => Some(left),
+        None => any_left(coefs, j, rows, states, share, k),
+    }
+}
+
 /// What a share leaves of the coefficients of the states, which stand behind the inputs'.
 fn take_share(
     coefs: &mut [Option<Dyadic>; 96],
     inputs: u32,
     rows: &[Row],
     states: u32,
-    share: &Share,
+    share: Share,
 )
     requires rows { AreShortRows (rows_in rows.now) }
-    requires times { IsShort 96 (Num share.now.times) }
+    requires times { IsShort 96 (Num share.times) }
     requires few { inputs + states ≤ 96 }
-    ensures { (c : ℕ → Formula) → AreLeft coefs.old inputs states c → AreLeft coefs.new inputs states (λ k. Difference (c k) (Product (Num share.now.times) ((rows_of states (rows_in rows.now)).coef share.now.row k))) }
+    ensures { (c : ℕ → Formula) → AreLeft coefs.old inputs states c → AreLeft coefs.new inputs states (λ k. Difference (c k) (Product (Num share.times) ((rows_of states (rows_in rows.now)).coef share.row k))) }
 {
     for k in 0..states {
         let j = inputs + k;
-        // assigned in each arm, so that what is short isn't copied
-        match quick_left(&*coefs, j, rows, states, share, k) {
+        // assigned in each arm, so that what is quick isn't copied
+        match quick_left(&*coefs, j, rows, states, &share, k) {
             Some(quick) => coefs[j as usize] = Some(quick),
-            None => coefs[j as usize] = left_of(&*coefs, j, rows, states, share, k),
+            None => coefs[j as usize] = left_of(&*coefs, j, rows, states, &share, k),
         }
     }
 }
@@ -204,7 +241,7 @@ fn take_shares(
     ensures { (c : ℕ → Formula) → AreLeft coefs.old inputs states c → AreLeft coefs.new inputs states (λ k. left_over (c k) (rows_of states (rows_in rows.now)) (shares_of shares.now) k) }
 {
     for share in shares {
-        take_share(coefs, inputs, rows, states, share);
+        take_share(coefs, inputs, rows, states, *share);
     }
 }
 

@@ -4,7 +4,7 @@
 //! a text are short. Then one product of 64 bits gives what the operations on dyadics give. What isn't short, or has more
 //! places than what it is taken from, has no answer here, and goes their way.
 
-ghost use Rattle.std.specs.Prelude.{◌≡◌, ◌*ℤ◌, ◌-ℤ◌, IfSome, IsTrue};
+ghost use Rattle.std.specs.Prelude.{◌≡◌, ◌≤◌, ◌^◌, pos, unsigned_abs, ◌*ℤ◌, ◌-ℤ◌, IfSome, IsTrue};
 ghost use Rattle.std.specs.Option.{SomeIff};
 ghost use Rattle.fx_rational.specs.Dyadic.{difference_fits, dyadic_difference, dyadic_product, fits_128, product_fits};
 ghost use Rattle.fx_rational.specs.Interval.{interval_product, interval_product_fits};
@@ -61,6 +61,72 @@ pub fn less_product(left: Dyadic, a: Dyadic, b: Dyadic) -> Option<Dyadic>
     let taken = left_fits(whole, left.e - places)?;
     left.keeps();
     let m = rest(left, taken)?;
+    Some(Dyadic::new(m, left.e))
+}
+
+/// `2^places`.
+fn power(places: u32) -> i64
+    requires { places ≤ 62 }
+    ensures { result ≡ pos (2 ^ places) }
+{
+    1i64 << places
+}
+
+/// A mantissa times `2^places`, where that stays within 2^62.
+fn raised(m: i64, places: u32) -> Option<i64>
+    ensures is { IfSome result (λ x. x ≡ m *ℤ pos (2 ^ places)) }
+    ensures small { IfSome result (λ x. unsigned_abs m ≤ 2 ^ 62) }
+    ensures near { IfSome result (λ x. unsigned_abs x ≤ 2 ^ 62) }
+{
+    let zeros = m.unsigned_abs().leading_zeros();
+    if zeros < 2 || zeros - 2 < places {
+        return None;
+    }
+    Some(m * power(places))
+}
+
+const EDGE: i128 = 1i128 << 64;
+
+const FAR: i128 = 1i128 << 126;
+
+/// The product with a mantissa within 2^64.
+fn multiple(times: i64, b: Dyadic) -> Option<i128>
+    requires near { unsigned_abs times ≤ 2 ^ 62 }
+    ensures is { IfSome result (λ x. x ≡ times *ℤ b.m) }
+    ensures small { IfSome result (λ x. unsigned_abs b.m ≤ 2 ^ 64) }
+    ensures near { IfSome result (λ x. unsigned_abs x ≤ 2 ^ 126) }
+{
+    if b.m < -EDGE || EDGE <= b.m {
+        return None;
+    }
+    Some(i128::from(times) * b.m)
+}
+
+/// The mantissa of `left`, where that is within 2^126, less another.
+fn near_rest(left: Dyadic, taken: i128) -> Option<i128>
+    requires { unsigned_abs taken ≤ 2 ^ 126 }
+    ensures { IfSome result (λ x. x ≡ left.m -ℤ taken) }
+{
+    if left.m < -FAR || FAR <= left.m {
+        return None;
+    }
+    Some(left.m - taken)
+}
+
+/// The same where `a` stays short at the exponent at which the product is taken away: then one product is all.
+pub fn less_raised(left: Dyadic, a: Dyadic, b: Dyadic) -> Option<Dyadic>
+    ensures product { IfSome result (λ d. IsTrue (product_fits a b)) }
+    ensures difference { IfSome result (λ d. IsTrue (difference_fits left (dyadic_product a b))) }
+    ensures is { IfSome result (λ d. d ≡ dyadic_difference left (dyadic_product a b)) }
+{
+    let places = a.e + b.e;
+    if left.e < places {
+        return None;
+    }
+    let times = raised(short(a)?, left.e - places)?;
+    let taken = multiple(times, b)?;
+    left.keeps();
+    let m = near_rest(left, taken)?;
     Some(Dyadic::new(m, left.e))
 }
 

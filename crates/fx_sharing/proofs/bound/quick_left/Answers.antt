@@ -11,4 +11,4 @@ returns c = λ f h.
     let g = (rows_of c.args.states (rows_in c.args.rows.now)).coef c.args.share.now.row c.args.k in
     let left = subst (λ (o : Option Dyadic). Forms o f) (sym c.coefficient.ensures ∙ c.in_ok-left.was) h in
     let coef = subst (λ (o : Option Dyadic). Forms o g) c.in_ok-coef.was c.row_coef_of.ensures in
-    less_forms c.less_product.result c.in_ok-left.left c.args.share.now.times c.in_ok-coef.coef f g c.keeps.ensures left coef c.less_product.ensures.product c.less_product.ensures.difference c.less_product.ensures.is
+    less_forms c.less_raised.result c.in_ok-left.left c.args.share.now.times c.in_ok-coef.coef f g c.keeps.ensures left coef c.less_raised.ensures.product c.less_raised.ensures.difference c.less_raised.ensures.is

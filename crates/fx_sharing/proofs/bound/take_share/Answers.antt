@@ -13,7 +13,7 @@ use Rattle.fx_sharing.proofs.bound.take_share.Goals.{in-Some, in-None}
 pub loop-k-preserved : goal.loop-k-preserved
 loop-k-preserved c = λ f left.
     let i = c.args.inputs in let k = c.loop-k.k in let n = c.args.states in let written = rows_in c.args.rows.now in let xs = c.loop-k.coefs in
-    let d = λ (j : ℕ). Difference (f j) (Product (Num c.args.share.now.times) ((rows_of n written).coef c.args.share.now.row j)) in
+    let d = λ (j : ℕ). Difference (f j) (Product (Num c.args.share.times) ((rows_of n written).coef c.args.share.row j)) in
     let room : i + k < length xs = search rules in
     let before = c.loop-k.invariant f left in
     let number = before.1 k (omega arith) c.loop-k-test.true in
