@@ -6,7 +6,7 @@ use Rattle.fx_inequalities.specs.Formula.{Formula, Num, Difference, Product, Spa
 use Rattle.fx_judging.specs.Judging.{Forms, FormsSpan}
 use Rattle.fx_judging.proofs.Judged.{both_again, difference_forms, product_forms, times_forms}
 
-number_forms : (d : Dyadic) → IsTrue (fits_128 d.m) → Forms (Some d) (Num d)
+pub number_forms : (d : Dyadic) → IsTrue (fits_128 d.m) → Forms (Some d) (Num d)
 unfolding formula_fits formed
 number_forms d h = (h, refl)
 

@@ -1,13 +1,14 @@
 -- Shares of rows, one more at the end a turn, and coefficients in an array.
-use Rattle.std.proofs.Common.{◌≡◌, inl, inr, ℕ, zero, suc, ◌+◌, ◌<◌, ◌≤◌, List, [], ◌∷◌, ◌++◌, length, take, set, get_or, Option, None, refl, ap, sym, ◌∙◌, subst, arith}
+use Rattle.std.proofs.Common.{◌≡◌, inl, inr, ℕ, zero, suc, ◌+◌, ◌<◌, ◌≤◌, List, [], ◌∷◌, ◌++◌, length, take, set, get_or, Option, None, refl, ap, sym, ◌∙◌, subst, arith, rules, tests, true, false}
 use Rattle.std.proofs.Math.Seq.{take-suc}
 use Rattle.std.proofs.lemmas.Bool.{cases_lt}
+use Rattle.std.specs.Prelude.{ltb}
 use Rattle.std.proofs.lemmas.List.{map-append, get_or-set_same, get_or-set_other}
-use Rattle.fx_rational.specs.Dyadic.{Dyadic}
+use Rattle.fx_rational.specs.Dyadic.{Dyadic, zero_dyadic}
 use Rattle.fx_model.specs.Tree.{at}
 use Rattle.fx_inequalities.specs.Formula.{Formula, Num, Sum, Difference, Product, Span, point, span_sum, span_product}
-use Rattle.fx_inequalities.specs.Certificate.{Share, Row}
-use Rattle.fx_inequalities.specs.Affine.{Rows, left_over, rows_of, shared_sum, sum_of}
+use Rattle.fx_inequalities.specs.Certificate.{Share, Row, no_row}
+use Rattle.fx_inequalities.specs.Affine.{Rows, left_over, rows_of, shared_sum, sum_of, unit_coef}
 use Rattle.fx_judging.specs.Judging.{Forms}
 use Rattle.fx_judging.specs.Places.{IsShort}
 use Rattle.fx_judging.proofs.Shorts.{short_difference, short_product, short_sum}
@@ -68,6 +69,20 @@ set_formed xs n c x h lt f s = record { each = each; short = short }
       | inl less ↦ h.short j less
       | inr more ↦ (let same : n ≡ j = omega arith in subst (λ (k : ℕ). IsShort 192 (c k)) same s)
     ]
+
+pub set_unit : (xs : List Dyadic) (i n : ℕ) (x : Dyadic) → n < length xs → ((k : ℕ) → k < n → Num (at zero_dyadic xs k) ≡ unit_coef i k) → Num x ≡ unit_coef i n
+    → (k : ℕ) → k < n + 1 → Num (at zero_dyadic (set xs n x) k) ≡ unit_coef i k
+set_unit xs i n x room before here k lt = elim (cases_lt k n) [
+  | inl less ↦ ap Num (get_or-set_other xs n k x zero_dyadic (omega arith)) ∙ before k less
+  | inr more ↦ (let same : n ≡ k = omega arith in subst (λ (j : ℕ). Num (at zero_dyadic (set xs n x) j) ≡ unit_coef i j) same (ap Num (get_or-set_same xs n x zero_dyadic room) ∙ here))
+]
+
+-- what stands for a unit row, and for any other
+pub unit_row_is : (rs : List Row) (n i k : ℕ) → i < n → (rows_of n rs).coef i k ≡ unit_coef i k
+unit_row_is rs n i k lt = let e : ltb i n ≡ true = search (rules, tests) in rw e refl
+
+pub other_row_is : (rs : List Row) (n i k : ℕ) → n ≤ i → (rows_of n rs).coef i k ≡ Num (at zero_dyadic (at no_row rs i).coefs k)
+other_row_is rs n i k le = let e : ltb i n ≡ false = search (rules, tests) in rw e refl
 
 pub all_formed : (xs : List (Option Dyadic)) (n m : ℕ) (c : ℕ → Formula) → n ≡ m → AreFormed xs n c → AreFormed xs m c
 all_formed xs n m c e h = subst (λ (k : ℕ). AreFormed xs k c) e h

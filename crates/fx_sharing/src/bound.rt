@@ -3,8 +3,9 @@
 ghost use Rattle.std.specs.Prelude.{◌≡◌, ◌+◌, ◌<◌, ◌≤◌, ◌^◌, ℕ, None, Some, IfSome};
 ghost use Rattle.fx_model.specs.Tree.{at};
 ghost use Rattle.fx_rational.specs.Dyadic.{zero_dyadic};
+ghost use Rattle.fx_inequalities.specs.Certificate.{no_row};
 ghost use Rattle.fx_inequalities.specs.Formula.{Difference, Formula, Num, Product, Span, point, span_product};
-ghost use Rattle.fx_inequalities.specs.Affine.{bound_by_rows, left_over, rows_of, shared_sum, weighted_sum};
+ghost use Rattle.fx_inequalities.specs.Affine.{bound_by_rows, left_over, rows_of, shared_sum, unit_coef, weighted_sum};
 ghost use Rattle.fx_judging.specs.Judging.{Forms, FormsSpan};
 ghost use Rattle.fx_judging.specs.Places.{IsShort, IsShortSpan};
 ghost use Rattle.fx_cert.specs.CertificateView.{form_view as form_view, lines_view, rows_in, shares_of};
@@ -14,7 +15,7 @@ ghost use Rattle.fx_conditions.specs.Limits.{AreShortLines, AreShortRows, AreSho
 
 use crate::quick::{less_product, less_raised, times_ends};
 use fx_cert::{Form, NodeLine, Row, Share};
-use fx_conditions::{Side, bound_of, coef_at, row_coef_of, scaled, scaled_number, side_of};
+use fx_conditions::{Side, bound_of, coef_at, scaled, scaled_number, side_of, zero_dyadic};
 use fx_interval::Interval;
 use fx_judging::{difference, number, plus, point, times};
 use fx_num::Dyadic;
@@ -125,86 +126,132 @@ fn with_shares(
     total
 }
 
-/// Coefficient `k` of a share's row, so many times.
-fn share_coef(rows: &[Row], states: u32, share: &Share, k: u32) -> Option<Dyadic>
-    requires rows { AreShortRows (rows_in rows.now) }
-    requires times { IsShort 96 (Num share.now.times) }
-    ensures { Forms result (Product (Num share.now.times) ((rows_of states (rows_in rows.now)).coef share.now.row k)) }
-{
-    scaled_number(share.times, row_coef_of(rows, states, share.row, k))
-}
-
-/// What a share leaves of coefficient `j`, where its times stay short at that exponent.
+/// What so many times a row leave of coefficient `j`, where the times stay short at that exponent.
 fn quick_left(
     coefs: &[Option<Dyadic>],
     j: u32,
-    rows: &[Row],
-    states: u32,
-    share: &Share,
+    row: &[Dyadic],
     k: u32,
+    times: Dyadic,
 ) -> Option<Dyadic>
-    ensures { (f : Formula) → Forms (at None coefs.now j) f → IfSome result (λ d. Forms (Some d) (Difference f (Product (Num share.now.times) ((rows_of states (rows_in rows.now)).coef share.now.row k)))) }
+    ensures { (f : Formula) → Forms (at None coefs.now j) f → IfSome result (λ d. Forms (Some d) (Difference f (Product (Num times) (Num (at zero_dyadic row.now k))))) }
 {
-    share.times.keeps();
     let left = coefficient(coefs, j)?;
-    let coef = row_coef_of(rows, states, share.row, k)?;
-    less_raised(left, share.times, coef)
+    let coef = coef_at(row, k);
+    times.keeps();
+    coef.keeps();
+    less_raised(left, times, coef)
 }
 
-/// The same where it and the row's coefficient `k` are short.
+/// The same where the times and the row's coefficient `k` are short.
 fn short_left(
     coefs: &[Option<Dyadic>],
     j: u32,
-    rows: &[Row],
-    states: u32,
-    share: &Share,
+    row: &[Dyadic],
     k: u32,
+    times: Dyadic,
 ) -> Option<Dyadic>
-    ensures { (f : Formula) → Forms (at None coefs.now j) f → IfSome result (λ d. Forms (Some d) (Difference f (Product (Num share.now.times) ((rows_of states (rows_in rows.now)).coef share.now.row k)))) }
+    ensures { (f : Formula) → Forms (at None coefs.now j) f → IfSome result (λ d. Forms (Some d) (Difference f (Product (Num times) (Num (at zero_dyadic row.now k))))) }
 {
-    share.times.keeps();
     let left = coefficient(coefs, j)?;
-    let coef = row_coef_of(rows, states, share.row, k)?;
-    less_product(left, share.times, coef)
+    let coef = coef_at(row, k);
+    times.keeps();
+    coef.keeps();
+    less_product(left, times, coef)
 }
 
 /// The same of any numbers.
 fn any_left(
     coefs: &[Option<Dyadic>],
     j: u32,
-    rows: &[Row],
-    states: u32,
-    share: &Share,
+    row: &[Dyadic],
     k: u32,
+    times: Dyadic,
 ) -> Option<Dyadic>
-    requires rows { AreShortRows (rows_in rows.now) }
-    requires times { IsShort 96 (Num share.now.times) }
-    ensures { (f : Formula) → Forms (at None coefs.now j) f → Forms result (Difference f (Product (Num share.now.times) ((rows_of states (rows_in rows.now)).coef share.now.row k))) }
+    requires row { IsShort 96 (Num (at zero_dyadic row.now k)) }
+    requires times { IsShort 96 (Num times) }
+    ensures { (f : Formula) → Forms (at None coefs.now j) f → Forms result (Difference f (Product (Num times) (Num (at zero_dyadic row.now k)))) }
 {
-    difference(coefficient(coefs, j), share_coef(rows, states, share, k))
+    let product = scaled_number(times, number(coef_at(row, k)));
+    difference(coefficient(coefs, j), product)
 }
 
-/// What a share leaves of coefficient `j`. It stands outside of the loop, which has few numbers that aren't quick.
+/// What so many times a row leave of coefficient `j`. It stands outside of the loop, which has few numbers that aren't quick.
 #[inline(never)]
 fn left_of(
     coefs: &[Option<Dyadic>],
     j: u32,
-    rows: &[Row],
-    states: u32,
-    share: &Share,
+    row: &[Dyadic],
     k: u32,
+    times: Dyadic,
 ) -> Option<Dyadic>
-    requires rows { AreShortRows (rows_in rows.now) }
-    requires times { IsShort 96 (Num share.now.times) }
-    ensures { (f : Formula) → Forms (at None coefs.now j) f → Forms result (Difference f (Product (Num share.now.times) ((rows_of states (rows_in rows.now)).coef share.now.row k))) }
+    requires row { IsShort 96 (Num (at zero_dyadic row.now k)) }
+    requires times { IsShort 96 (Num times) }
+    ensures { (f : Formula) → Forms (at None coefs.now j) f → Forms result (Difference f (Product (Num times) (Num (at zero_dyadic row.now k)))) }
 {
-    match short_left(coefs, j, rows, states, share, k) {
+    match short_left(coefs, j, row, k, times) {
         Some(left) => Some(left),
-        None => any_left(coefs, j, rows, states, share, k),
+        None => any_left(coefs, j, row, k, times),
     }
 }
 
-/// What a share leaves of the coefficients of the states, which stand behind the inputs'.
+/// What so many times a row leave of the coefficients of the states, which stand behind the inputs'.
+fn take_row(
+    coefs: &mut [Option<Dyadic>; 96],
+    inputs: u32,
+    row: &[Dyadic],
+    states: u32,
+    times: Dyadic,
+)
+    requires row { (k : ℕ) → k < states → IsShort 96 (Num (at zero_dyadic row.now k)) }
+    requires times { IsShort 96 (Num times) }
+    requires few { inputs + states ≤ 96 }
+    ensures { (c : ℕ → Formula) → AreLeft coefs.old inputs states c → AreLeft coefs.new inputs states (λ k. Difference (c k) (Product (Num times) (Num (at zero_dyadic row.now k)))) }
+{
+    for k in 0..states {
+        let j = inputs + k;
+        // assigned in each arm, so that what is quick isn't copied
+        match quick_left(&*coefs, j, row, k, times) {
+            Some(quick) => coefs[j as usize] = Some(quick),
+            None => coefs[j as usize] = left_of(&*coefs, j, row, k, times),
+        }
+    }
+}
+
+/// 1 at its own place.
+fn unit_coef(i: u32, k: u32) -> Dyadic
+    ensures { Num result ≡ unit_coef i k }
+{
+    if i == k {
+        Dyadic { m: 1, e: 0 }
+    } else {
+        zero_dyadic()
+    }
+}
+
+/// The coefficients of the unit row of a state.
+fn unit_coefs(i: u32, states: u32) -> [Dyadic; 96]
+    requires { states ≤ 96 }
+    ensures { (k : ℕ) → k < states → Num (at zero_dyadic result k) ≡ unit_coef i k }
+{
+    let mut unit = [zero_dyadic(); VARIABLES];
+    for k in 0..states {
+        unit[k as usize] = unit_coef(i, k);
+    }
+    unit
+}
+
+/// The coefficients of a row that is no unit row.
+fn coefs_of(rows: &[Row], i: u32) -> &[Dyadic]
+    ensures { result.now ≡ (at no_row (rows_in rows.now) i).coefs }
+{
+    match rows.get(i as usize) {
+        Some(row) => row.coefs.as_slice(),
+        None => &[],
+    }
+}
+
+/// What a share leaves of the coefficients of the states.
 fn take_share(
     coefs: &mut [Option<Dyadic>; 96],
     inputs: u32,
@@ -217,13 +264,12 @@ fn take_share(
     requires few { inputs + states ≤ 96 }
     ensures { (c : ℕ → Formula) → AreLeft coefs.old inputs states c → AreLeft coefs.new inputs states (λ k. Difference (c k) (Product (Num share.times) ((rows_of states (rows_in rows.now)).coef share.row k))) }
 {
-    for k in 0..states {
-        let j = inputs + k;
-        // assigned in each arm, so that what is quick isn't copied
-        match quick_left(&*coefs, j, rows, states, &share, k) {
-            Some(quick) => coefs[j as usize] = Some(quick),
-            None => coefs[j as usize] = left_of(&*coefs, j, rows, states, &share, k),
-        }
+    if share.row < states {
+        let unit = unit_coefs(share.row, states);
+        take_row(coefs, inputs, &unit, states, share.times);
+    } else {
+        let row = coefs_of(rows, share.row);
+        take_row(coefs, inputs, row, states, share.times);
     }
 }
 

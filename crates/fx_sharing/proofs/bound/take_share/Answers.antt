@@ -1,27 +1,19 @@
-use Rattle.std.proofs.Common.{ℕ, ◌+◌, ◌<◌, ◌≤◌, length, List, Option, Some, None, IfSome, subst, sym, arith, rules}
-use Rattle.fx_rational.specs.Dyadic.{Dyadic}
+use Rattle.std.proofs.Common.{List, ap, sym, subst, ◌∙◌}
+use Rattle.fx_rational.specs.Dyadic.{Dyadic, zero_dyadic}
 use Rattle.fx_model.specs.Tree.{at}
-use Rattle.fx_inequalities.specs.Formula.{Num, Difference, Product}
-use Rattle.fx_inequalities.specs.Affine.{rows_of}
-use Rattle.fx_judging.specs.Judging.{Forms}
+use Rattle.fx_inequalities.specs.Formula.{Num}
+use Rattle.fx_judging.specs.Places.{IsShort}
 use Rattle.fx_cert.specs.CertificateView.{rows_in}
-use Rattle.fx_sharing.specs.Coefficients.{AreLeft}
-use Rattle.fx_sharing.proofs.Shares.{set_left}
+use Rattle.fx_conditions.proofs.Shorts.{row_coef_short}
+use Rattle.fx_sharing.proofs.Shares.{unit_row_is, other_row_is}
 use Rattle.fx_sharing.proofs.bound.take_share.Goals as goal
-use Rattle.fx_sharing.proofs.bound.take_share.Goals.{in-Some, in-None}
 
-pub loop-k-preserved : goal.loop-k-preserved
-loop-k-preserved c = λ f left.
-    let i = c.args.inputs in let k = c.loop-k.k in let n = c.args.states in let written = rows_in c.args.rows.now in let xs = c.loop-k.coefs in
-    let d = λ (j : ℕ). Difference (f j) (Product (Num c.args.share.times) ((rows_of n written).coef c.args.share.row j)) in
-    let room : i + k < length xs = search rules in
-    let before = c.loop-k.invariant f left in
-    let number = before.1 k (omega arith) c.loop-k-test.true in
-    elim c.match-quick_left.branch [
-      | in-Some w ↦ (
-          let quick = subst (λ (o : Option Dyadic). IfSome o (λ x. Forms (Some x) (d k))) w.in-Some.is (c.quick_left.ensures (f k) number) in
-          subst (λ (ys : List (Option Dyadic)). AreLeft ys i (k + 1) d × ((j : ℕ) → k + 1 ≤ j → j < n → Forms (at None ys (i + j)) (f j))) (sym w.coefs-is) (set_left xs i n k f d (Some w.in-Some.quick) room before.0 before.1 quick))
-      | in-None w ↦ (
-          let any = w.left_of.ensures (f k) number in
-          subst (λ (ys : List (Option Dyadic)). AreLeft ys i (k + 1) d × ((j : ℕ) → k + 1 ≤ j → j < n → Forms (at None ys (i + j)) (f j))) (sym w.coefs-is) (set_left xs i n k f d w.left_of.result room before.0 before.1 any))
-    ]
+pub take_row-requires-clause-row : goal.take_row-requires-clause-row
+take_row-requires-clause-row c = λ k lt.
+    let rs = rows_in c.args.rows.now in let n = c.args.states in let i = c.args.share.row in
+    subst (IsShort 96) (unit_row_is rs n i k c.if-share-states.true ∙ sym (c.unit_coefs-unit.ensures k lt)) (row_coef_short rs c.requires.rows n i k)
+
+pub take_row-requires-else-share-states-clause-row : goal.take_row-requires-else-share-states-clause-row
+take_row-requires-else-share-states-clause-row c = λ k lt.
+    let rs = rows_in c.args.rows.now in let n = c.args.states in let i = c.args.share.row in
+    subst (IsShort 96) (other_row_is rs n i k c.if-share-states.false ∙ ap (λ (xs : List Dyadic). Num (at zero_dyadic xs k)) (sym c.coefs_of-row.ensures)) (row_coef_short rs c.requires.rows n i k)

@@ -1,4 +1,4 @@
-use Rattle.std.proofs.Common.{rules, ◌≡◌, ℤ, ◌≤◌, ◌^◌, ◌*ℤ◌, unsigned_abs, FitsSigned, to_z, of_z, ap, ◌∙◌, subst}
+use Rattle.std.proofs.Common.{rules, ◌≡◌, ◌≤◌, ◌^◌, ◌*ℤ◌, unsigned_abs, FitsSigned, to_z, of_z, ap, ◌∙◌}
 use Rattle.std.specs.Int.{w128}
 use Rattle.fx_rational.specs.Dyadic.{Dyadic}
 use Rattle.fx_sharing.proofs.Raised.{between, multiple_is, multiple_near}
