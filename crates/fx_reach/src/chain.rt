@@ -96,6 +96,7 @@ fn on_itself(ahead: &Ahead, i: usize, costs: &Costs, limit: i128) -> Option<Dyad
     let times = share_of(r, q)?;
     let whole = floor_at(times, PLACES as i32)?;
     let own = ahead
+        .rows
         .width(i)
         .checked_add(room(ahead.rows.width(0), costs.shift))?;
     let cost = product(whole, own, PLACES)?.checked_add(left_cost(
@@ -113,6 +114,7 @@ pub fn find_closing(ahead: &Ahead, i: usize, costs: &Costs) -> Option<Dyadic> {
     let first = ahead.rows.width(0);
     let next = i.saturating_add(1);
     let limit = ahead
+        .rows
         .width(next)
         .checked_add(room(first, costs.shift))?
         .checked_add(first >> 30)?;
