@@ -2,13 +2,10 @@
 use Rattle.std.proofs.Common.{◌≡◌, ℕ, zero, suc, ◌-◌, ◌<◌, Bool, false, Err, refl, ap, arith}
 use Rattle.fx_lexer.specs.declared.fault.SourceKind.TheVariants.{TooDeep}
 use Rattle.fx_lexer.specs.Tokens.{Lexeme}
-use Rattle.fx_grammar.specs.Steps.{◌>>=◌, Tokens, fault}
+use Rattle.fx_model.specs.Steps.{◌>>=◌}
+use Rattle.fx_grammar.specs.Steps.{Tokens, fault}
 use Rattle.fx_grammar.specs.Expressions.{Known, Reader, closed, opened, sum_from, inner_at, expr_at}
-
-pub expr_is : (known : Known) (outside : Bool) (room : ℕ) → expr_at known outside room ≡ sum_from known outside (inner_at known room)
-unfolding expr_at inner_at
-expr_is known outside zero = refl
-expr_is known outside (suc room) = refl
+use Rattle.fx_grammar.proofs.Expressions.{expr_is}
 
 pub opened_zero : (known : Known) (room : ℕ) (t : Lexeme) (ts : Tokens) → room ≡ 0 → opened known (inner_at known room) t ts ≡ Err (fault t.at TooDeep)
 unfolding opened inner_at

@@ -4,23 +4,20 @@ use Rattle.std.specs.Prelude.{nat_lt}
 use Rattle.std.specs.Char.{is_ascii_digit}
 use Rattle.std.specs.Str.{all_ascii_digits}
 use Rattle.std.specs.Str.Parse.{AllDigits, digits_value}
-use Rattle.std.proofs.lemmas.Str.Parse.{IsNumeralModel, numerals_by_value, tells_all_ascii_digits, digit_at}
+use Rattle.std.proofs.lemmas.Str.Parse.{digit_at}
 use Rattle.std.proofs.lemmas.Int.Digits.{digits_value_more, digits_more}
 use Rattle.std.proofs.lemmas.Bool.{cases_Bool}
 use Rattle.std.proofs.lemmas.List.{take_all}
-use Rattle.fx_model.proofs.Digits.{is_digit}
+use Rattle.fx_model.proofs.Digits.{is_digit, digits_model}
 use Rattle.fx_fraction.specs.Kept.{saturated}
 use Rattle.fx_fraction.specs.ReadParts.{number_kept}
 use Rattle.fx_fraction.proofs.Digits.{digit_is}
-
-own : IsNumeralModel (λ ds. all_ascii_digits ds ≡ true) (digits_value 10)
-own = numerals_by_value _ tells_all_ascii_digits
 
 -- a byte that is no digit
 pub stops : (f : List ℕ) (i : ℕ) → i < length f → is_ascii_digit (get_or f i 0) ≡ false → number_kept f ≡ None
 stops f i lt other =
     elim (cases_Bool (all_ascii_digits f)) [
-      | inl all ↦ let r = is_digit _ (digit_at f i (own.to f all) lt) in absurd cc
+      | inl all ↦ let r = is_digit _ (digit_at f i (digits_model.to f all) lt) in absurd cc
       | inr e ↦ rw e refl
     ]
 
@@ -38,6 +35,6 @@ goes_on f i v lt one before e =
 pub ends : (f : List ℕ) (i v : ℕ) → 0 < length f → length f ≤ i → AllDigits 10 (take i f) → v ≡ saturated (digits_value 10 (take i f)) → Some v ≡ number_kept f
 ends f i v some le before e =
     let whole = take_all i f le in
-    let one : all_ascii_digits f ≡ true = own.from f (subst (λ ds. AllDigits 10 ds) whole before) in
+    let one : all_ascii_digits f ≡ true = digits_model.from f (subst (λ ds. AllDigits 10 ds) whole before) in
     let t : nat_lt 0 (length f) ≡ true = search (rules, tests) in
     rw (one, t, e, whole) refl

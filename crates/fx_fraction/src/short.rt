@@ -1,7 +1,7 @@
-//! The quick form of most numbers: digits that come to less than 2^62 with the zeros at their end.
+//! The quick form of most numbers: texts of at most 19 bytes behind the sign, whose digits come to less than 2^62.
 //!
-//! They are added up in one word, and the zeros come off at the end, where `Significant` counts them as they come. What
-//! is longer is read as before. Nearly always there is no power of ten either, and then the decimal is there at once.
+//! The digits are added up in one word, and the zeros come off at the end, where `Significant` counts them as they come.
+//! What is longer is read digit by digit. Nearly always there is no power of ten either, and then the decimal is there at once.
 
 ghost use Rattle.std.specs.Prelude.{◌≡◌, ◌+◌, ◌-◌, ◌<◌, ◌≤◌, ◌^◌, length, drop, IfSome, Ok};
 ghost use Rattle.std.specs.Str.Parse.{digits_value_after};
@@ -14,104 +14,11 @@ use crate::decimal::{Decimal, signed};
 use crate::read::{Mantissa, behind_sign, is_negative};
 use crate::significant::Significant;
 
-// Below this a number and one digit more stay below 2^62.
-const LIMIT: u64 = 461_168_601_842_738_790;
-
 // As many digits come to less than 2^64, so that none needs a test of its own.
 const FEW: usize = 19;
 
 // What is read of a short text is below this.
 const KEPT: u64 = 1 << 62;
-
-/// The digits that stand first, behind those that came to `start`: what they come to, and how many they are. None where
-/// that might be 2^62 or more.
-fn short_digits(start: u64, text: &[u8]) -> Option<(u64, usize)>
-    requires { start < 2 ^ 62 }
-    ensures count { IfSome result (λ r. r.1 ≡ digit_count text.now) }
-    ensures within { IfSome result (λ r. r.1 ≤ length text.now) }
-    ensures value { IfSome result (λ r. r.0 ≡ digits_value_after 10 start (first_digits text.now)) }
-    ensures small { IfSome result (λ r. r.0 < 2 ^ 62) }
-{
-    let mut now = start;
-    for (i, byte) in text.iter().enumerate() {
-        if !byte.is_ascii_digit() {
-            return Some((now, i));
-        }
-        if now >= LIMIT {
-            return None;
-        }
-        now = now * 10 + u64::from(*byte - b'0');
-    }
-    Some((now, text.len()))
-}
-
-/// The same of the digits behind a point, where a point stands first: what they come to, how many they are, and where
-/// they end.
-fn short_part(start: u64, text: &[u8]) -> Option<(u64, usize, usize)>
-    requires { start < 2 ^ 62 }
-    ensures { IfSome result (IsShortPart start text.now) }
-{
-    match text {
-        [b'.', part @ ..] => {
-            let (size, places) = short_digits(start, part)?;
-            Some((size, places, places + 1))
-        }
-        _ => Some((start, 0, 0)),
-    }
-}
-
-/// A number without the zeros at its end, and how many they are.
-fn stripped(size: u64) -> Significant
-    requires { size < 2 ^ 62 }
-    ensures value { Keeps size result }
-    ensures zeros { zeros_of result < 2 ^ 62 }
-    ensures fits { FitsFront result }
-{
-    if size == 0 {
-        return Significant::Zero;
-    }
-    let mut front = size;
-    let mut zeros = 0;
-    while front % 10 == 0 {
-        front /= 10;
-        zeros += 1;
-    }
-    Significant::Front { front, zeros }
-}
-
-/// The digits behind the sign, with the point among or around them. None where they are long, or there is none.
-pub fn read_short(body: &[u8]) -> Option<Mantissa>
-    ensures { IfSome result (λ m. IsMantissa body.now m.digits m.places m.end) }
-{
-    let (whole, count) = short_digits(0, body)?;
-    let (size, places, end) = short_part(whole, &body[count..])?;
-    if count + places == 0 {
-        return None;
-    }
-    Some(Mantissa {
-        digits: stripped(size),
-        places,
-        end: count + end,
-    })
-}
-
-/// The decimal of a number and its places, in the fewest places.
-fn lowered(is_negative: bool, size: u64, places: u8) -> Decimal
-    requires few { places ≤ 18 }
-    requires small { size < 2 ^ 62 }
-    ensures { within_limits is_negative (trimmed size places) ≡ Ok result }
-{
-    let mut front = size;
-    let mut left = places;
-    while left > 0 && front % 10 == 0 {
-        front /= 10;
-        left -= 1;
-    }
-    Decimal {
-        a: signed(is_negative, front),
-        b: left,
-    }
-}
 
 /// The digits that stand first in a text of few bytes, behind those that came to `start`: what they come to, and how many
 /// they are.
@@ -144,6 +51,62 @@ fn few_part(start: u64, text: &[u8]) -> (u64, usize, usize)
             (size, places, places + 1)
         }
         _ => (start, 0, 0),
+    }
+}
+
+/// A number without the zeros at its end, and how many they are.
+fn stripped(size: u64) -> Significant
+    requires { size < 2 ^ 62 }
+    ensures value { Keeps size result }
+    ensures zeros { zeros_of result < 2 ^ 62 }
+    ensures fits { FitsFront result }
+{
+    if size == 0 {
+        return Significant::Zero;
+    }
+    let mut front = size;
+    let mut zeros = 0;
+    while front % 10 == 0 {
+        front /= 10;
+        zeros += 1;
+    }
+    Significant::Front { front, zeros }
+}
+
+/// The digits behind the sign, with the point among or around them. None where the text is long, or there is none.
+pub fn read_short(body: &[u8]) -> Option<Mantissa>
+    ensures { IfSome result (λ m. IsMantissa body.now m.digits m.places m.end) }
+{
+    if body.len() > FEW {
+        return None;
+    }
+    let (whole, count) = few_digits(0, body);
+    let (size, places, end) = few_part(whole, &body[count..]);
+    if size >= KEPT || count + places == 0 {
+        return None;
+    }
+    Some(Mantissa {
+        digits: stripped(size),
+        places,
+        end: count + end,
+    })
+}
+
+/// The decimal of a number and its places, in the fewest places.
+fn lowered(is_negative: bool, size: u64, places: u8) -> Decimal
+    requires few { places ≤ 18 }
+    requires small { size < 2 ^ 62 }
+    ensures { within_limits is_negative (trimmed size places) ≡ Ok result }
+{
+    let mut front = size;
+    let mut left = places;
+    while left > 0 && front % 10 == 0 {
+        front /= 10;
+        left -= 1;
+    }
+    Decimal {
+        a: signed(is_negative, front),
+        b: left,
     }
 }
 

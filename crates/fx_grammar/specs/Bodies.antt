@@ -7,7 +7,8 @@ use Rattle.fx_grammar.specs.Heads.{◌==ₕ◌}
 use Rattle.fx_model.specs.Limits.{temp_limit, node_limit, height_limit}
 use Rattle.fx_model.specs.Tree.{Tree}
 use Rattle.fx_model.specs.Function.{Temp}
-use Rattle.fx_grammar.specs.Steps.{◌>>=◌, Text, Tokens, Parsed, fault, next_head, next_place, wrong, want, real_at, past_semicolon, repeated, stands_next, behind, listed, free_at}
+use Rattle.fx_model.specs.Steps.{◌>>=◌}
+use Rattle.fx_grammar.specs.Steps.{Text, Tokens, Parsed, fault, next_head, next_place, wrong, want, real_at, past_semicolon, repeated, stands_next, behind, listed, free_at}
 use Rattle.fx_grammar.specs.Operands.{Operand, is_high, tree_or, counted_nodes}
 use Rattle.fx_grammar.specs.Expressions.{Known, expr_at}
 

@@ -7,7 +7,8 @@ use Rattle.fx_rational.specs.Decimal.{decimal_value}
 use Rattle.fx_grammar.specs.declared.head.Head.TheVariants as heads
 use Rattle.fx_grammar.specs.Heads.{◌==ₕ◌}
 use Rattle.fx_rational.specs.Rational.{Rational}
-use Rattle.fx_grammar.specs.Steps.{◌>>=◌, Tokens, Parsed, fault, next_head, next_place, wrong, want, separated, listed, has_name}
+use Rattle.fx_model.specs.Steps.{◌>>=◌}
+use Rattle.fx_grammar.specs.Steps.{Tokens, Parsed, fault, next_head, next_place, wrong, want, separated, listed, has_name}
 use Rattle.fx_grammar.specs.Ranges.{Subjects, new_subject, names_of, subject_at, stated_error, is_relation, is_signed}
 
 -- a relation after a number isn't built, whatever else doesn't begin with a name can't come

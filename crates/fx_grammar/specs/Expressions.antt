@@ -9,7 +9,8 @@ use Rattle.fx_model.specs.Tree.{Tree, Literal, Input, State, Temp}
 use Rattle.fx_rational.specs.Rational.{lowest}
 use Rattle.fx_rational.specs.Decimal.{Decimal, decimal_value}
 use Rattle.fx_grammar.specs.Operands.{Operand, leaf, negation, combined_operand}
-use Rattle.fx_grammar.specs.Steps.{◌>>=◌, when, Text, Tokens, Parsed, repeated, name_place, fault, next_head, is_fresh, wrong, want, decimal, negative_decimal}
+use Rattle.fx_model.specs.Steps.{◌>>=◌}
+use Rattle.fx_grammar.specs.Steps.{when, Text, Tokens, Parsed, repeated, name_place, fault, next_head, is_fresh, wrong, want, decimal, negative_decimal}
 
 -- the names of inputs, states and temps in a row, and where the text ends
 pub record Known : Type 0 where

@@ -6,7 +6,8 @@ use Rattle.fx_grammar.specs.declared.head.Head.TheVariants as heads
 use Rattle.fx_grammar.specs.Heads.{◌==ₕ◌}
 use Rattle.fx_model.specs.Limits.{input_limit, state_limit, output_limit}
 use Rattle.fx_model.specs.Function.{State}
-use Rattle.fx_grammar.specs.Steps.{◌>>=◌, Text, Tokens, Parsed, fault, next_head, next_place, want, real_at, signed_at, listed, free_at}
+use Rattle.fx_model.specs.Steps.{◌>>=◌}
+use Rattle.fx_grammar.specs.Steps.{Text, Tokens, Parsed, fault, next_head, next_place, want, real_at, signed_at, listed, free_at}
 use Rattle.fx_grammar.specs.Ranges.{Subjects, new_subject, names_of}
 
 -- param = name ":" "Real"

@@ -7,7 +7,8 @@ use Rattle.fx_grammar.specs.declared.head.Head.TheVariants as heads
 use Rattle.fx_grammar.specs.Heads.{◌==ₕ◌}
 use Rattle.fx_model.specs.Limits.{node_limit}
 use Rattle.fx_model.specs.Function.{Function}
-use Rattle.fx_grammar.specs.Steps.{◌>>=◌, Text, Tokens, Parsed, fault, next_head, wrong, want, past_semicolon, listed, has_name}
+use Rattle.fx_model.specs.Steps.{◌>>=◌}
+use Rattle.fx_grammar.specs.Steps.{Text, Tokens, Parsed, fault, next_head, wrong, want, past_semicolon, listed, has_name}
 use Rattle.fx_grammar.specs.Ranges.{Subjects, names_of, require_at}
 use Rattle.fx_grammar.specs.Fronts.{Declared, param_at, states_at, type_at}
 use Rattle.fx_grammar.specs.Bodies.{Body, Results, vals_at, result_at, count_of}

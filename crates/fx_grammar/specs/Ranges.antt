@@ -11,7 +11,8 @@ use Rattle.fx_grammar.specs.declared.side.Side.{Side}
 use Rattle.fx_grammar.specs.declared.side.Side.TheVariants.{Low, High, Error}
 use Rattle.fx_grammar.specs.declared.head.Head.TheVariants as heads
 use Rattle.fx_grammar.specs.Heads.{head_of, ◌==ₕ◌}
-use Rattle.fx_grammar.specs.Steps.{◌>>=◌, when, repeated, name_place, Text, Tokens, Parsed, fault, next_head, next_place, wrong, want, numeral_at, signed_at}
+use Rattle.fx_model.specs.Steps.{◌>>=◌}
+use Rattle.fx_grammar.specs.Steps.{when, repeated, name_place, Text, Tokens, Parsed, fault, next_head, next_place, wrong, want, numeral_at, signed_at}
 
 -- an input or an output: its name, the name's place, and what is said of it so far
 pub record Subject : Type 0 where

@@ -9,7 +9,8 @@ use Rattle.fx_grammar.specs.declared.head.Head.TheVariants as heads
 use Rattle.fx_grammar.specs.Heads.{◌==ₕ◌}
 use Rattle.fx_lexer.specs.Tokens.{tokens_of}
 use Rattle.fx_model.specs.Function.{Function}
-use Rattle.fx_grammar.specs.Steps.{◌>>=◌, Text, Tokens, Parsed, fault, next_head, next_place, wrong, want, repeated, stands_next, behind, separated}
+use Rattle.fx_model.specs.Steps.{◌>>=◌}
+use Rattle.fx_grammar.specs.Steps.{Text, Tokens, Parsed, fault, next_head, next_place, wrong, want, repeated, stands_next, behind, separated}
 use Rattle.fx_grammar.specs.Functions.{def_at}
 
 -- "." name

@@ -3,6 +3,7 @@ use Rattle.std.specs.Prelude.{◌==◌, ℕ, zero, suc, Bool, true, false, List,
 use Rattle.std.specs.List.{position}
 use Rattle.std.specs.Prelude.{bytes_eq}
 use Rattle.std.specs.Prelude.{pos, neg_ℤ}
+use Rattle.fx_model.specs.Steps.{◌>>=◌}
 use Rattle.fx_rational.specs.Decimal.{Decimal}
 use Rattle.fx_fraction.specs.declared.fault.NumberFault.{NumberFault}
 use Rattle.fx_fraction.specs.DecimalOf.{decimal_of}
@@ -13,12 +14,6 @@ use Rattle.fx_lexer.specs.Tokens.{Lexeme}
 use Rattle.fx_grammar.specs.declared.head.Head.{Head}
 use Rattle.fx_grammar.specs.declared.head.Head.TheVariants as heads
 use Rattle.fx_grammar.specs.Heads.{head_of, ◌==ₕ◌}
-
--- a step and then the next one, unless the first has a fault
-infixl 10 ◌>>=◌
-abbrev pub ◌>>=◌ : {A B E : Type 0} → Result A E → (A → Result B E) → Result B E
-(Ok x) >>= f = f x
-(Err e) >>= f = Err e
 
 -- a choice whose ways are not looked at before it is made
 abbrev pub when : {A : Type 0} → Bool → (Unit {0} → A) → (Unit {0} → A) → A

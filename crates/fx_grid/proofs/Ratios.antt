@@ -2,14 +2,14 @@
 use Rattle.std.proofs.Common.{◌≡◌, ℕ, zero, suc, pred, ◌+◌, ◌-◌, ◌*◌, ◌^◌, ◌<◌, Bool, true, false, ◌&&◌, if◌then◌else◌, Option, Some, [], ◌∷◌, ℤ, pos, negsuc, ◌*ℤ◌, ◌<ℤ◌, refl, sym, ap, ap₂, subst, ◌∙◌, arith, pow_pos}
 use Rattle.std.specs.Prelude.{unsigned_abs}
 use Rattle.std.specs.List.{list_all}
-use Rattle.std.proofs.lemmas.Int.{ints}
+use Rattle.std.proofs.lemmas.Int.{ints, unsigned_abs-mul}
 use Rattle.std.proofs.lemmas.Nat.{mul-le}
 use Rattle.std.proofs.Math.Nat.{mul-pos}
 use Rattle.fx_rational.specs.Rational.{Rational, bottom, over, scaled, floor_div, ceil_div, lowest, Equal, AtMost, is_at_most, above_zero}
 use Rattle.fx_rational.specs.Dyadic.{Dyadic, dyadic_value, fits_128, is_dyadic_at_most, least, greatest, product_fits}
 use Rattle.fx_rational.specs.Interval.{Interval}
 use Rattle.fx_rational.proofs.Dyadics.{raised, power_bottom}
-use Rattle.fx_rational.proofs.Lowest.{lowest_is, size-neg_ℤ, suc_pred}
+use Rattle.fx_rational.proofs.Lowest.{lowest_is, suc_pred}
 use Rattle.fx_rational.proofs.Laws.{equal_refl, equal_sym, equal_trans, times_same, le_trans, le_of_equal, le_antisym}
 use Rattle.fx_rational.proofs.Tests.{at_most_true, at_most_false, at_most_test}
 use Rattle.fx_rational.proofs.Quotient.{Above, above_more, times_cancel}
@@ -26,7 +26,7 @@ use Rattle.fx_grid.proofs.Quotients.{ratio_back}
 use Rattle.fx_rounding.proofs.Grids.{grid_down_is, grid_up_is}
 use Rattle.fx_rounding.proofs.Spelling.{same_spelling, down_same, up_same}
 use Rattle.fx_grid.proofs.Settled.{end_fits, kept_answer}
-use Rattle.fx_rounding.proofs.Lefts.{abs_times, small_fits}
+use Rattle.fx_rounding.proofs.Lefts.{small_fits}
 use Rattle.fx_grid.proofs.Shorts.{short_small}
 
 -- ---- the lesser and the greater of two, first or last rounded
@@ -59,7 +59,7 @@ up_greater e x y = by (is_at_most y x) (is_dyadic_at_most (grid_up e y) (grid_up
 -- ---- fractions
 product_small : (m : ℤ) (q : ℕ) → unsigned_abs m < 2 ^ 62 → q < 2 ^ 62 → fits_128 (m *ℤ pos q) ≡ true
 product_small m q h l =
-    let e = abs_times m q in let p = mul-le (unsigned_abs m) q (2 ^ 62 - 1) (2 ^ 62 - 1) (omega (arith, h)) (omega (arith, l)) in
+    let e = unsigned_abs-mul m (pos q) in let p = mul-le (unsigned_abs m) q (2 ^ 62 - 1) (2 ^ 62 - 1) (omega (arith, h)) (omega (arith, l)) in
     small_fits (m *ℤ pos q) (omega (arith, e, p))
 
 fractions_fit : (x y : Rational) (g : Interval) → bottom (lowest x) < 2 ^ 62 → bottom (lowest y) < 2 ^ 62 → is_small g.lo ≡ true → is_small g.hi ≡ true → list_all fits (BelowFraction (Num g.lo) x ∷ AboveFraction y (Num g.hi) ∷ []) ≡ true
@@ -85,7 +85,7 @@ ratio_top a b = ap (λ (k : ℕ). (a.m *ℤ pos k) *ℤ pos (2 ^ 24)) (power_bot
 ratio_bottom : (a b : Dyadic) → 0 < unsigned_abs b.m → suc (pred (suc (pred (2 ^ a.e)) * unsigned_abs b.m)) ≡ unsigned_abs (b.m *ℤ pos (2 ^ a.e))
 ratio_bottom a b h =
     suc_pred (suc (pred (2 ^ a.e)) * unsigned_abs b.m) (mul-pos {m = suc (pred (2 ^ a.e))} {n = unsigned_abs b.m} (omega arith) h)
-    ∙ ap (λ (k : ℕ). k * unsigned_abs b.m) (power_bottom a.e) ∙ (let e : 2 ^ a.e * unsigned_abs b.m ≡ unsigned_abs b.m * 2 ^ a.e = omega arith in e) ∙ sym (abs_times b.m (2 ^ a.e))
+    ∙ ap (λ (k : ℕ). k * unsigned_abs b.m) (power_bottom a.e) ∙ (let e : 2 ^ a.e * unsigned_abs b.m ≡ unsigned_abs b.m * 2 ^ a.e = omega arith in e) ∙ sym (unsigned_abs-mul b.m (pos (2 ^ a.e)))
 
 pub ratio_down_is : (a b : Dyadic) → 0 < unsigned_abs b.m → lowest_dyadic (floor_div (a.m *ℤ pos (2 ^ (24 + b.e))) (unsigned_abs (b.m *ℤ pos (2 ^ a.e)))) 24 ≡ grid_down 24 (ratio (dyadic_value a) (dyadic_value b))
 unfolding grid_down scaled ratio dyadic_value over
@@ -102,7 +102,7 @@ positive_some (negsuc n) h = absurd cc
 
 pub bottom_some : (b : Dyadic) (e : ℕ) → above_zero b.m ≡ true → (0 < unsigned_abs b.m) × (0 < unsigned_abs (b.m *ℤ pos (2 ^ e)))
 bottom_some b e h =
-    let p = positive_some b.m h in let q = mul-pos {m = unsigned_abs b.m} {n = 2 ^ e} p (pow_pos e) in let a = abs_times b.m (2 ^ e) in (p, omega (arith, q, a))
+    let p = positive_some b.m h in let q = mul-pos {m = unsigned_abs b.m} {n = 2 ^ e} p (pow_pos e) in let a = unsigned_abs-mul b.m (pos (2 ^ e)) in (p, omega (arith, q, a))
 
 -- of equal numbers
 pub ratio_same : (p q u v : Rational) → Above q → Equal p u → Equal q v → Equal (ratio p q) (ratio u v)
@@ -134,15 +134,10 @@ four_fit s t g fs ft lo hi tl th =
     let p = products g.lo (formed t.lo) lo tl in let q = products g.lo (formed t.hi) lo th in let r = products g.hi (formed t.lo) hi tl in let w = products g.hi (formed t.hi) hi th in
     rw (a, b, sl, sh, ul, uh, p, q, r, w) refl
   where
-    abs_product : (m n : ℤ) → unsigned_abs (m *ℤ n) ≡ unsigned_abs m * unsigned_abs n
-    abs_product m (pos n) = abs_times m n
-    abs_product (pos m) (negsuc n) = size-neg_ℤ (pos (m * suc n))
-    abs_product (negsuc m) (negsuc n) = refl
-
     products : (d e : Dyadic) → is_small d ≡ true → is_small e ≡ true → fits_128 (d.m *ℤ e.m) ≡ true
     products d e h k =
         let l = short_small d h in let n = short_small e k in
-        let a = abs_product d.m e.m in let p = mul-le (unsigned_abs d.m) (unsigned_abs e.m) (2 ^ 62 - 1) (2 ^ 62 - 1) (omega (arith, l)) (omega (arith, n)) in
+        let a = unsigned_abs-mul d.m e.m in let p = mul-le (unsigned_abs d.m) (unsigned_abs e.m) (2 ^ 62 - 1) (2 ^ 62 - 1) (omega (arith, l)) (omega (arith, n)) in
         small_fits (d.m *ℤ e.m) (omega (arith, a, p))
 
 pub quotient_answer : (o : Option Interval) (a b : Interval) (s t : Span) → above_zero b.lo.m ≡ true → above_zero b.hi.m ≡ true → is_small b.lo ≡ true → is_small b.hi ≡ true → FormsSpan (Some a) s → FormsSpan (Some b) t →

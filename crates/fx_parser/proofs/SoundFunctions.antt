@@ -26,7 +26,7 @@ use Rattle.fx_grammar.specs.Functions.{require_word_at, new_name, Front, front_a
 use Rattle.fx_grammar.specs.Sources.{dot_at, import_at, imports_at, function_names, one_def, defs_at, ended, object_at, source_of, functions_of}
 use Rattle.fx_parser.specs.LawfulTokens.{IsSize, AreSound}
 use Rattle.fx_parser.specs.LawfulNames.{IsLawfulAndNamed}
-use Rattle.fx_grammar.proofs.Outcomes.{on_ok}
+use Rattle.fx_model.proofs.Steps.{on_ok}
 use Rattle.fx_parser.proofs.Reading.{only, on_if, refused, same_ok, sound_drop, sound_semicolon, want_ok, real_ok, repeat_ok, separated_ok, listed_ok}
 use Rattle.fx_model.specs.Counts.{tree_nodes, temp_nodes}
 use Rattle.fx_parser.proofs.NodeCounts.{all_tree_nodes, all_nodes}

@@ -20,10 +20,11 @@ use Rattle.fx_grammar.specs.declared.head.Head.TheVariants as heads
 use Rattle.fx_grammar.specs.declared.side.Side.{Side}
 use Rattle.fx_grammar.specs.declared.side.Side.TheVariants.{Low, High, Error}
 use Rattle.fx_grammar.specs.Heads.{head_of, by_kind, word_head, sign_head, head_number, ◌==ₕ◌}
-use Rattle.fx_grammar.specs.Steps.{fault, ◌>>=◌, Tokens, name_place, next_head, decimal, numeral_at, signed_at}
+use Rattle.fx_model.specs.Steps.{◌>>=◌}
+use Rattle.fx_grammar.specs.Steps.{fault, Tokens, name_place, next_head, decimal, numeral_at, signed_at}
 use Rattle.fx_grammar.specs.Ranges.{Subject, Subjects, new_subject, names_of, side_of, with_side, is_said, subject_or, said, found_or, subject_at, is_relation, is_upward, is_signed, stated_error, bound_at, name_first, behind_relation, number_first, condition_at, Conditions, are_open, wanted_at, read_at, conditions_step, conditions_at, or_zero, declared_input, is_lacking, is_empty_range, all_pass, inputs_at, require_at}
 use Rattle.fx_parser.specs.LawfulTokens.{IsSize, IsSound, IsSoundText, AreSound}
-use Rattle.fx_grammar.proofs.Outcomes.{on_ok}
+use Rattle.fx_model.proofs.Steps.{on_ok}
 use Rattle.fx_parser.proofs.Reading.{fine, on_when, on_if, refused, same_ok, sound_drop, want_ok, repeat_ok}
 use Rattle.fx_parser.proofs.SoundTokens.{is_size}
 

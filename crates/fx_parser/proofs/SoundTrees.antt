@@ -15,7 +15,7 @@ use Rattle.fx_grammar.specs.Steps.{Tokens, name_place, next_head, decimal, negat
 use Rattle.fx_grammar.specs.Operands.{Operand, leaf, low_tree, negation, negation_of, combined_operand, both, operation, counted_nodes}
 use Rattle.fx_grammar.specs.Expressions.{Known, Reader, literal, meant, is_call, found_name, named, closed, opened, atom_by, atom_of, behind_minus, factor_of, one_more, goes_on_product, goes_on_sum, term_of, sum_from, expr_at}
 use Rattle.fx_parser.specs.LawfulTokens.{IsSound, AreSound}
-use Rattle.fx_grammar.proofs.Outcomes.{on_ok}
+use Rattle.fx_model.proofs.Steps.{on_ok}
 use Rattle.fx_parser.proofs.Reading.{fine, on_when, refused, same_ok, sound_drop, want_ok, repeat_ok}
 use Rattle.fx_model.specs.Counts.{tree_nodes}
 

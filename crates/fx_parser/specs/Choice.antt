@@ -2,7 +2,8 @@
 use Rattle.std.specs.Prelude.{◌≡◌, ℕ, List, Option, Result, Ok, Err, slice_index_or}
 use Rattle.fx_model.specs.Function.{Function}
 use Rattle.fx_lexer.specs.declared.fault.SourceKind.{SourceKind}
-use Rattle.fx_grammar.specs.Steps.{Text, fault, ◌>>=◌}
+use Rattle.fx_model.specs.Steps.{◌>>=◌}
+use Rattle.fx_grammar.specs.Steps.{Text, fault}
 use Rattle.fx_grammar.specs.Sources.{chosen, functions_of}
 use Rattle.fx_lexer.specs.declared.fault.SourceFault.{SourceFault}
 

@@ -15,7 +15,8 @@ use Rattle.fx_text.specs.declared.fault.TextKind.TheVariants.{OutOfRange}
 use Rattle.fx_text.specs.Cutting.{Line}
 use Rattle.fx_text.specs.Reading.{number_at}
 use Rattle.fx_text.specs.Laws.{AreNarrow}
-use Rattle.fx_text.proofs.Choices.{on_ok, passed}
+use Rattle.fx_model.proofs.Steps.{on_ok}
+use Rattle.fx_text.proofs.Choices.{passed}
 use Rattle.fx_text.proofs.FieldLaws.{front, ended_is, number_takes, number_again, place_takes, place_again}
 use Rattle.fx_word.specs.Words.{IsWidth}
 use Rattle.fx_program.specs.CodeReading.{known_point, point_at, constant_at, shift_at, operands_at, const_at, neg_at, sum_at, add_at, sub_at, mul_at, div_at, copy_at}

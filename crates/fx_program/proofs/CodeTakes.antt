@@ -9,7 +9,8 @@ use Rattle.fx_model.specs.ProgramText.{code_fields}
 use Rattle.fx_text.specs.declared.fault.TextKind.{TextKind}
 use Rattle.fx_text.specs.declared.fault.TextKind.TheVariants.{BadLine}
 use Rattle.fx_text.specs.Cutting.{Line}
-use Rattle.fx_text.proofs.Choices.{on_ok, chosen}
+use Rattle.fx_model.proofs.Steps.{on_ok}
+use Rattle.fx_text.proofs.Choices.{chosen}
 use Rattle.fx_text.proofs.FieldLaws.{front, ended_is, word_takes}
 use Rattle.fx_word.specs.Words.{IsWidth}
 use Rattle.fx_program.specs.CodeReading.{Sizes, input_at, state_at, const_at, neg_at, add_at, sub_at, mul_at, div_at, copy_at, operation_at, last_at, code_at}

@@ -9,7 +9,8 @@ use Rattle.fx_model.specs.Limits.{input_limit, state_limit, output_limit, node_l
 use Rattle.fx_text.specs.declared.fault.TextKind.TheVariants.{BadLine, OutOfRange}
 use Rattle.fx_text.specs.Cutting.{Line}
 use Rattle.fx_text.specs.Spelling.{IsField, Lacks}
-use Rattle.fx_text.proofs.Choices.{on_ok, passed}
+use Rattle.fx_model.proofs.Steps.{on_ok}
+use Rattle.fx_text.proofs.Choices.{passed}
 use Rattle.fx_text.proofs.FieldLaws.{front, field_is, ended_is, word_takes, word_again, place_takes, place_again, count_takes, count_again}
 use Rattle.fx_text.proofs.LineLaws.{IsField-decimal, IsLineOf}
 use Rattle.fx_program.specs.CodeReading.{Sizes}

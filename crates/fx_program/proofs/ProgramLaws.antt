@@ -12,7 +12,7 @@ use Rattle.fx_text.specs.Lines.{line_by}
 use Rattle.fx_text.specs.Many.{AreEach}
 use Rattle.fx_model.specs.LineText.{line_text}
 use Rattle.fx_text.specs.Spelling.{IsOneSpelling}
-use Rattle.fx_text.proofs.Choices.{on_ok}
+use Rattle.fx_model.proofs.Steps.{on_ok}
 use Rattle.fx_text.proofs.TextLaws.{all_takes, all_again}
 use Rattle.fx_text.proofs.LineLaws.{line_spelling}
 use Rattle.fx_text.proofs.ManyLaws.{HasOneSpelling, many_spelling}

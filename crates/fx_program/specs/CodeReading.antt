@@ -6,7 +6,8 @@ use Rattle.fx_model.specs.Tree.{at}
 use Rattle.fx_text.specs.declared.fault.TextKind.{TextKind}
 use Rattle.fx_text.specs.declared.fault.TextKind.TheVariants.{BadLine, OutOfRange}
 use Rattle.fx_text.specs.Cutting.{Line}
-use Rattle.fx_text.specs.Reading.{◌>>=◌, field_at, keyword_at, number_at, place_at, ended_at}
+use Rattle.fx_model.specs.Steps.{◌>>=◌}
+use Rattle.fx_text.specs.Reading.{field_at, keyword_at, number_at, place_at, ended_at}
 
 -- the counts that a program's text names: inputs, states, outputs and codes
 pub record Sizes : Type 0 where

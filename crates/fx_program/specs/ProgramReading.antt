@@ -9,7 +9,8 @@ use Rattle.fx_text.specs.declared.fault.TextKind.{TextKind}
 use Rattle.fx_text.specs.declared.fault.TextKind.TheVariants.{BadLine, OutOfRange}
 use Rattle.fx_text.specs.declared.fault.TextFault.{TextFault}
 use Rattle.fx_text.specs.Cutting.{Line}
-use Rattle.fx_text.specs.Reading.{◌>>=◌, field_at, keyword_at, place_at, count_at, ended_at}
+use Rattle.fx_model.specs.Steps.{◌>>=◌}
+use Rattle.fx_text.specs.Reading.{field_at, keyword_at, place_at, count_at, ended_at}
 use Rattle.fx_text.specs.Lines.{line_by, text_ended_at}
 use Rattle.fx_text.specs.Many.{many}
 use Rattle.fx_program.specs.CodeReading.{Sizes, code_at}

@@ -19,10 +19,11 @@ use Rattle.fx_text.specs.declared.fault.TextKind.{TextKind}
 use Rattle.fx_text.specs.declared.fault.TextKind.TheVariants.{Section}
 use Rattle.fx_text.specs.Cutting.{Line, fields_of, line_at}
 use Rattle.fx_text.specs.Faults.{fault_at}
-use Rattle.fx_text.specs.Reading.{◌>>=◌}
+use Rattle.fx_model.specs.Steps.{◌>>=◌}
 use Rattle.fx_text.specs.Lines.{fields_at, text_ended_at}
 use Rattle.fx_text.specs.Spelling.{AreFields, IsField, IsOneSpelling, Lacks}
-use Rattle.fx_text.proofs.Choices.{on_ok, passed}
+use Rattle.fx_model.proofs.Steps.{on_ok}
+use Rattle.fx_text.proofs.Choices.{passed}
 use Rattle.fx_text.proofs.FieldLaws.{front, ended_is, word_takes, word_again, count_takes, count_again}
 use Rattle.fx_text.proofs.LineLaws.{cut_at-takes, cut_at-again, fields_at-takes, on_line-is, join-lacks, fields_of-join, IsField-decimal}
 use Rattle.fx_text.proofs.TextLaws.{all_takes, all_again}

@@ -13,7 +13,7 @@ use Rattle.fx_inequalities.specs.CertificateText.{box_fields, row_fields, rows_t
 use Rattle.fx_inequalities.specs.LawfulCertificate.{AreUnitRows, AreWrittenRows, IsWrittenRow, unit_vector, zeros}
 use Rattle.fx_text.specs.Many.{AreEach, lines_by}
 use Rattle.fx_text.specs.Spelling.{IsOneSpelling}
-use Rattle.fx_text.proofs.Choices.{on_ok}
+use Rattle.fx_model.proofs.Steps.{on_ok}
 use Rattle.fx_text.proofs.DyadicLaws.{All-from_each, each-from_All}
 use Rattle.fx_text.proofs.LinesLaws.{following, lines_spelling}
 use Rattle.fx_cert.proofs.Units.{unit_length}

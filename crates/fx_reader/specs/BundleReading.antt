@@ -10,7 +10,8 @@ use Rattle.fx_text.specs.declared.fault.TextKind.TheVariants.{Section}
 use Rattle.fx_text.specs.declared.fault.TextFault.{TextFault}
 use Rattle.fx_text.specs.Faults.{fault_at}
 use Rattle.fx_text.specs.Cutting.{Line, fields_of, line_at}
-use Rattle.fx_text.specs.Reading.{◌>>=◌, keyword_at, count_at, ended_at}
+use Rattle.fx_model.specs.Steps.{◌>>=◌}
+use Rattle.fx_text.specs.Reading.{keyword_at, count_at, ended_at}
 use Rattle.fx_text.specs.Lines.{on_line, text_ended_at}
 use Rattle.fx_program.specs.ProgramReading.{program_at}
 use Rattle.fx_cert.specs.BundleView.{Parts}

@@ -1,20 +1,15 @@
 -- Shifts to the left that stay within 126 bits.
-use Rattle.std.proofs.Common.{◌≡◌, ℕ, suc, ◌*◌, ◌-◌, ◌^◌, ◌<◌, ◌≤◌, true, ℤ, pos, negsuc, ◌*ℤ◌, refl, arith}
+use Rattle.std.proofs.Common.{◌≡◌, ℕ, ◌*◌, ◌-◌, ◌^◌, ◌<◌, ◌≤◌, true, ℤ, pos, negsuc, ◌*ℤ◌, arith}
 use Rattle.std.specs.Prelude.{unsigned_abs}
 use Rattle.std.proofs.Math.Pow.{pow_mono}
-use Rattle.std.proofs.lemmas.Int.{ints}
+use Rattle.std.proofs.lemmas.Int.{ints, unsigned_abs-mul}
 use Rattle.std.proofs.lemmas.Nat.{mul-le}
 use Rattle.fx_rational.specs.Dyadic.{fits_128}
 use Rattle.fx_rational.proofs.Fits.{fits_in}
-use Rattle.fx_rational.proofs.Lowest.{size-neg_ℤ}
-
-pub abs_times : (p : ℤ) (k : ℕ) → unsigned_abs (p *ℤ pos k) ≡ unsigned_abs p * k
-abs_times (pos n) k = refl
-abs_times (negsuc n) k = size-neg_ℤ (pos (suc n * k))
 
 pub left_small : (p : ℤ) (s : ℕ) → unsigned_abs p < 2 ^ 62 → s ≤ 64 → unsigned_abs (p *ℤ pos (2 ^ s)) < 2 ^ 126
 left_small p s h l =
-    let e = abs_times p (2 ^ s) in let q : 2 ^ s ≤ 2 ^ 64 = pow_mono l in let m = mul-le (unsigned_abs p) (2 ^ s) (2 ^ 62 - 1) (2 ^ 64) (omega (arith, h)) q in
+    let e = unsigned_abs-mul p (pos (2 ^ s)) in let q : 2 ^ s ≤ 2 ^ 64 = pow_mono l in let m = mul-le (unsigned_abs p) (2 ^ s) (2 ^ 62 - 1) (2 ^ 64) (omega (arith, h)) q in
     omega (arith, e, m)
 
 pub sized_fits : (z : ℤ) → unsigned_abs z < 2 ^ 127 → fits_128 z ≡ true

@@ -2,7 +2,7 @@
 use Rattle.std.proofs.Common.{◌≡◌, ℕ, zero, suc, ◌+◌, ◌-◌, ◌*◌, ◌/◌, ◌^◌, ◌<◌, ◌≤◌, ltb, Bool, true, false, if◌then◌else◌, ℤ, pos, negsuc, ◌+ℤ◌, ◌-ℤ◌, ◌*ℤ◌, [], ◌∷◌, refl, sym, ap, subst, ◌∙◌, arith, pow-add}
 use Rattle.std.specs.Prelude.{unsigned_abs}
 use Rattle.std.proofs.Math.Pow.{pow_mono}
-use Rattle.std.proofs.lemmas.Int.{ints}
+use Rattle.std.proofs.lemmas.Int.{ints, unsigned_abs-mul}
 use Rattle.std.proofs.lemmas.Nat.{mul-le, pow_pos, div_below}
 use Rattle.std.proofs.Math.Nat.{mul-lt-mul_of_pos_right}
 use Rattle.fx_algebra.proofs.Integers.{*ℤ_assoc}
@@ -13,7 +13,6 @@ use Rattle.fx_model.specs.LawfulProgram.{IsPoint}
 use Rattle.fx_fraction.proofs.Halvings.{split_power}
 use Rattle.fx_rounding.specs.Grid.{is_even, is_small, lowest_dyadic, error_grid}
 use Rattle.fx_rounding.specs.Wide.{units_below}
-use Rattle.fx_rounding.proofs.Lefts.{abs_times}
 use Rattle.fx_rounding.proofs.Grids.{half_of}
 use Rattle.fx_rounding.proofs.Ends.{floor_only, whole_places}
 
@@ -105,7 +104,7 @@ long_lowest m (suc e) h = by (is_even m) refl (λ l. long_lowest (floor_div m 2)
     twice = let k : suc e ≡ e + 1 = omega arith in ap (λ (n : ℕ). 2 ^ n) k ∙ pow-add 2 e 1
 
     half : is_even m ≡ true → 2 ^ 62 * 2 ^ e ≤ unsigned_abs (floor_div m 2)
-    half t = let a = abs_times (floor_div m 2) 2 in let b = ap unsigned_abs (half_of m t) in let c = twice in omega (arith, h, a, b, c)
+    half t = let a = unsigned_abs-mul (floor_div m 2) (pos 2) in let b = ap unsigned_abs (half_of m t) in let c = twice in omega (arith, h, a, b, c)
 
     by : (t : Bool) → is_even m ≡ t → (2 ^ 62 * 2 ^ e ≤ unsigned_abs (floor_div m 2) → is_small (lowest_dyadic (floor_div m 2) e) ≡ false) → is_small (if t then lowest_dyadic (floor_div m 2) e else record { m = m; e = suc e }) ≡ false
     by true t more = more (half t)

@@ -1,7 +1,7 @@
 //! The values of a row.
-ghost use Rattle.std.specs.Prelude.{◌≡◌, ◌≢◌, ◌<◌, ◌≤◌, List, true, false, Ok, [], map, length, option_map, IfOk, IfErr, IsTrue};
+ghost use Rattle.std.specs.Prelude.{◌≡◌, ◌≢◌, ◌+◌, ◌<◌, ◌≤◌, List, true, false, Ok, [], map, length, option_map, IfOk, IfErr, OnOk, IsTrue};
 ghost use Rattle.std.specs.List.{list_any};
-ghost use Rattle.std.specs.Vec.{vec_capacity};
+ghost use Rattle.std.specs.Vec.{vec_capacity, vec_len};
 ghost use Rattle.fx_rows.specs.declared.fault.RowKind.TheVariants as kind;
 ghost use Rattle.fx_rational.specs.Decimal.{decimal_value};
 ghost use Rattle.fx_model.specs.Function.{Input};
@@ -11,7 +11,7 @@ ghost use Rattle.fx_fields.specs.Line.{line_fields, is_return, is_special, piece
 ghost use Rattle.fx_fields.specs.Seen.{seen};
 ghost use Rattle.fx_rows.specs.Header.{columns_of};
 ghost use Rattle.fx_rows.specs.Ranges.{AreRangesOf, IsRangeOf, Serves};
-ghost use Rattle.fx_rows.specs.Results.{IsRead, IsRowRead};
+ghost use Rattle.fx_rows.specs.Results.{IsAdded, IsRead, IsRowRead};
 ghost use Rattle.fx_rows.specs.Values.{field_value, values_from, row_of, row_of_fields};
 
 use crate::blanks::trimmed;
@@ -41,6 +41,30 @@ fn read_value(range: &Range, field: Option<&[u8]>) -> Result<Decimal, RowKind>
     }
 }
 
+// Adds the value of a field for input `i`, of this range. Want of memory leaves nothing in the row.
+fn add_value(
+    range: &Range,
+    field: Option<&[u8]>,
+    i: u32,
+    row: &mut Vec<Decimal>,
+) -> Result<(), RowFault>
+    ensures added { (x : Input) → IsRangeOf x range.now → IsAdded result i (field_value x (option_map (λ f. f.now) field.entry)) row.old.items row.new.items }
+    ensures longer { OnOk result (vec_len row.new ≡ vec_len row.old + 1) }
+    ensures room { IfErr result (λ e. e.kind ≡ kind.Memory → vec_capacity row.old < vec_len row.old + 1) }
+    ensures kept { vec_capacity row.old ≤ vec_capacity row.new }
+{
+    match read_value(range, field) {
+        Ok(value) => {
+            if row.push(value).is_err() {
+                row.clear();
+                return Err(MEMORY);
+            }
+            Ok(())
+        }
+        Err(kind) => Err(RowFault { kind, input: i }),
+    }
+}
+
 // Reads the values of the inputs at their columns into `row`, which is empty, by a walk over the text: one where the
 // columns rise.
 fn read_along(
@@ -63,20 +87,7 @@ fn read_along(
         let (field, others) = piece_from(text, rest, column, place);
         rest = others;
         column = place + 1;
-        match read_value(range, field) {
-            Ok(value) => {
-                if row.push(value).is_err() {
-                    row.clear();
-                    return Err(MEMORY);
-                }
-            }
-            Err(kind) => {
-                return Err(RowFault {
-                    kind,
-                    input: i as u32,
-                });
-            }
-        }
+        add_value(range, field, i as u32, row)?;
     }
     Ok(())
 }
@@ -97,20 +108,7 @@ fn read_values(
 {
     for (i, range) in ranges.iter().enumerate() {
         let place = places[i] as usize;
-        match read_value(range, fields.get(place)) {
-            Ok(value) => {
-                if row.push(value).is_err() {
-                    row.clear();
-                    return Err(MEMORY);
-                }
-            }
-            Err(kind) => {
-                return Err(RowFault {
-                    kind,
-                    input: i as u32,
-                });
-            }
-        }
+        add_value(range, fields.get(place), i as u32, row)?;
     }
     Ok(())
 }

@@ -11,9 +11,9 @@ use Rattle.fx_inequalities.specs.Condition as condition
 use Rattle.fx_inequalities.specs.Condition.{Condition, Fault, Kind, fault_of, first_some, first_fault_of, OfNode}
 use Rattle.fx_inequalities.specs.NodeConditions.{node_conditions, variables, form_claims, divisor_claims, range_claims, error_claims, word_claims}
 
-pub no_fault : (f : Option Fault) → first_some f None ≡ f
-no_fault None = refl
-no_fault (Some e) = refl
+pub first_some_none : (f : Option Fault) → first_some f None ≡ f
+first_some_none None = refl
+first_some_none (Some e) = refl
 
 -- the fault of comparisons of node n, with a test
 abbrev pub fault_at : Kind → ℕ → Bool → List Claim → Option Fault
@@ -37,5 +37,5 @@ five fn w ps cert n node c v f e h =
     (first_some (fault_at condition.Divisor n true (divisor_claims ls node))
     (first_some (fault_at condition.Range n true (range_claims fn cert l node form))
     (first_some (fault_at condition.Error n true (error_claims fn cert l node c g form)) o))))
-    (no_fault (fault_at condition.WordTooSmall n true (word_claims w g (range_at ls n) (error_at ls n))))
+    (first_some_none (fault_at condition.WordTooSmall n true (word_claims w g (range_at ls n) (error_at ls n))))
     ∙ ap (λ (m : ℕ). faults fn w cert n node c m g) e ∙ ap (λ (m : ℤ). faults fn w cert n node c v m) h

@@ -30,9 +30,6 @@ room_is a s z lt e two room =
     let le = mul-le a (2 ^ s) (2 ^ m) (2 ^ s) less (omega arith) in
     omega (arith, most, same, le)
 
-raised_abs : (m : ℤ) (p : ℕ) → unsigned_abs (m *ℤ pos p) ≡ unsigned_abs m * p
-raised_abs m p = unsigned_abs-mul m (pos p)
-
 -- a word times a power of two, as 64 bits hold it
 pub raised_is : (m y : ℤ) (s : ℕ) → FitsSigned w64 m → s ≤ 62 → y ≡ pos (2 ^ s) → unsigned_abs m * 2 ^ s ≤ 2 ^ 62
     → (let z = to_z w64 (of_z w64 m) *ℤ to_z w64 (of_z w64 y) in FitsSigned w64 z × (to_z w64 (of_z w64 z) ≡ m *ℤ pos (2 ^ s)))
@@ -42,13 +39,13 @@ raised_is m y s f k ey near =
     let a : to_z w64 (of_z w64 m) ≡ m = to_z-of_z w64 m f in
     let b : to_z w64 (of_z w64 y) ≡ pos (2 ^ s) = ap (λ v. to_z w64 (of_z w64 v)) ey ∙ to_z-of_z w64 (pos (2 ^ s)) small in
     let same : to_z w64 (of_z w64 m) *ℤ to_z w64 (of_z w64 y) ≡ m *ℤ pos (2 ^ s) = λ i. a i *ℤ b i in
-    let abs = raised_abs m (2 ^ s) in
+    let abs = unsigned_abs-mul m (pos (2 ^ s)) in
     let fits : FitsSigned w64 (m *ℤ pos (2 ^ s)) = fits_signed_from_abs w64 (m *ℤ pos (2 ^ s)) (omega (arith, abs, near)) in
     (subst (λ z. FitsSigned w64 z) (sym same) fits, ap (λ z. to_z w64 (of_z w64 z)) same ∙ to_z-of_z w64 (m *ℤ pos (2 ^ s)) fits)
 
 -- it stays near
 pub raised_near : (m x : ℤ) (s : ℕ) → x ≡ m *ℤ pos (2 ^ s) → unsigned_abs m * 2 ^ s ≤ 2 ^ 62 → unsigned_abs x ≤ 2 ^ 62
-raised_near m x s e near = let abs = raised_abs m (2 ^ s) in let same = ap unsigned_abs e in omega (arith, same, abs, near)
+raised_near m x s e near = let abs = unsigned_abs-mul m (pos (2 ^ s)) in let same = ap unsigned_abs e in omega (arith, same, abs, near)
 
 -- and so was the factor
 pub factor_near : (m : ℤ) (s : ℕ) → unsigned_abs m * 2 ^ s ≤ 2 ^ 62 → unsigned_abs m ≤ 2 ^ 62

@@ -1,9 +1,9 @@
 -- Shares of rows, one more at the end a turn, and coefficients in an array.
-use Rattle.std.proofs.Common.{◌≡◌, inl, inr, ℕ, zero, suc, ◌+◌, ◌<◌, ◌≤◌, List, [], ◌∷◌, ◌++◌, length, take, set, get_or, Option, None, refl, ap, sym, ◌∙◌, subst, arith, rules, tests, true, false}
+use Rattle.std.proofs.Common.{◌≡◌, inl, inr, ℕ, zero, suc, ◌+◌, ◌==◌, ◌<◌, ◌≤◌, pos, Bool, if◌then◌else◌, List, [], ◌∷◌, ◌++◌, length, take, set, get_or, replicate, Option, None, refl, ap, sym, ◌∙◌, subst, arith, rules, tests, true, false}
 use Rattle.std.proofs.Math.Seq.{take-suc}
 use Rattle.std.proofs.lemmas.Bool.{cases_lt}
 use Rattle.std.specs.Prelude.{ltb}
-use Rattle.std.proofs.lemmas.List.{map-append, get_or-set_same, get_or-set_other}
+use Rattle.std.proofs.lemmas.List.{map-append, get_or-set_same, get_or-set_other, length-replicate}
 use Rattle.fx_rational.specs.Dyadic.{Dyadic, zero_dyadic}
 use Rattle.fx_model.specs.Tree.{at}
 use Rattle.fx_inequalities.specs.Formula.{Formula, Num, Sum, Difference, Product, Span, point, span_sum, span_product}
@@ -70,12 +70,21 @@ set_formed xs n c x h lt f s = record { each = each; short = short }
       | inr more ↦ (let same : n ≡ j = omega arith in subst (λ (k : ℕ). IsShort 192 (c k)) same s)
     ]
 
-pub set_unit : (xs : List Dyadic) (i n : ℕ) (x : Dyadic) → n < length xs → ((k : ℕ) → k < n → Num (at zero_dyadic xs k) ≡ unit_coef i k) → Num x ≡ unit_coef i n
-    → (k : ℕ) → k < n + 1 → Num (at zero_dyadic (set xs n x) k) ≡ unit_coef i k
-set_unit xs i n x room before here k lt = elim (cases_lt k n) [
-  | inl less ↦ ap Num (get_or-set_other xs n k x zero_dyadic (omega arith)) ∙ before k less
-  | inr more ↦ (let same : n ≡ k = omega arith in subst (λ (j : ℕ). Num (at zero_dyadic (set xs n x) j) ≡ unit_coef i j) same (ap Num (get_or-set_same xs n x zero_dyadic room) ∙ here))
-]
+zeros_at : (m k : ℕ) → at zero_dyadic (replicate m zero_dyadic) k ≡ zero_dyadic
+zeros_at zero k = refl
+zeros_at (suc m) zero = refl
+zeros_at (suc m) (suc k) = zeros_at m k
+
+-- 1 at its own place among so many zeros
+pub unit_among : (m i k : ℕ) (z : Dyadic) → z ≡ zero_dyadic → i < m → Num (at zero_dyadic (set (replicate m z) i (record { m = pos 1; e = 0 })) k) ≡ unit_coef i k
+unit_among m i k z none room = subst (λ (d : Dyadic). Num (at zero_dyadic (set (replicate m d) i one) k) ≡ unit_coef i k) (sym none) (by (i == k) refl)
+  where
+    one : Dyadic
+    one = record { m = pos 1; e = 0 }
+
+    by : (t : Bool) → (i == k) ≡ t → Num (at zero_dyadic (set (replicate m zero_dyadic) i one) k) ≡ (if t then Num one else Num zero_dyadic)
+    by true e = let same : i ≡ k = grind (arith, e) in subst (λ (j : ℕ). Num (at zero_dyadic (set (replicate m zero_dyadic) i one) j) ≡ Num one) same (ap Num (get_or-set_same (replicate m zero_dyadic) i one zero_dyadic (omega (arith, length-replicate m zero_dyadic))))
+    by false e = ap Num (get_or-set_other (replicate m zero_dyadic) i k one zero_dyadic (grind (arith, e)) ∙ zeros_at m k)
 
 -- what stands for a unit row, and for any other
 pub unit_row_is : (rs : List Row) (n i k : ℕ) → i < n → (rows_of n rs).coef i k ≡ unit_coef i k

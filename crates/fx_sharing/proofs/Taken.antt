@@ -1,7 +1,7 @@
 -- What is taken away at one exponent is taken away.
 use Rattle.std.proofs.Common.{◌≡◌, ℕ, zero, suc, ◌+◌, ◌-◌, ◌^◌, ◌≤◌, max, ℤ, pos, negsuc, ◌*ℤ◌, ◌-ℤ◌, Bool, true, false, ◌&&◌, IsTrue, refl, sym, ap, ap₂, subst, ◌∙◌, arith, if◌then◌else◌}
 use Rattle.std.proofs.lemmas.Int.{ints}
-use Rattle.fx_rational.specs.Dyadic.{Dyadic, aligned, dyadic, dyadic_product, dyadic_difference, difference_fits, product_fits, fits_128, is_dyadic_at_most, least, greatest}
+use Rattle.fx_rational.specs.Dyadic.{Dyadic, aligned, dyadic, zero_dyadic, dyadic_product, dyadic_difference, difference_fits, product_fits, fits_128, is_dyadic_at_most, least, greatest}
 use Rattle.fx_rational.specs.Interval.{Interval, interval_product, interval_product_fits}
 
 -- a product's mantissa at a greater exponent, whether or not it is zero
@@ -23,15 +23,15 @@ not_raised m e = let k : e - e ≡ 0 = omega arith in ap (λ (i : ℕ). m *ℤ p
 all_fit : (u v w : Bool) → u ≡ true → v ≡ true → w ≡ true → (u && v && w) ≡ true
 all_fit u v w a b c = rw (a, b, c) refl
 
--- what is known of a product that is taken away, raised to the exponent of what it is taken from
-record Taken (l a b : Dyadic) (t : ℤ) : Type 0 where
-  greater : max l.e (dyadic_product a b).e ≡ l.e
-  left : aligned l (max l.e (dyadic_product a b).e) ≡ l.m
-  taken : aligned (dyadic_product a b) (max l.e (dyadic_product a b).e) ≡ t
+-- what is known of a number that is taken away, raised to the exponent of what it is taken from
+pub record Taken (l d : Dyadic) (t : ℤ) : Type 0 where
+  greater : max l.e d.e ≡ l.e
+  left : aligned l (max l.e d.e) ≡ l.m
+  taken : aligned d (max l.e d.e) ≡ t
 
-taken_is : (l a b : Dyadic) (q t : ℤ) → a.e + b.e ≤ l.e → q ≡ a.m *ℤ b.m → t ≡ q *ℤ pos (2 ^ (l.e - (a.e + b.e))) → Taken l a b t
+pub product_taken : (l a b : Dyadic) (q t : ℤ) → a.e + b.e ≤ l.e → q ≡ a.m *ℤ b.m → t ≡ q *ℤ pos (2 ^ (l.e - (a.e + b.e))) → Taken l (dyadic_product a b) t
 unfolding dyadic_product
-taken_is l a b q t h p r =
+product_taken l a b q t h p r =
     let d = l.e - (a.e + b.e) in
     let al = product_aligned (a.m *ℤ b.m) (a.e + b.e) d l.e (omega arith) in
     let raised : (a.m *ℤ b.m) *ℤ pos (2 ^ d) ≡ t = sym (r ∙ ap (λ (u : ℤ). u *ℤ pos (2 ^ d)) p) in
@@ -41,21 +41,38 @@ taken_is l a b q t h p r =
       taken = ap (λ (e : ℕ). aligned (dyadic_product a b) e) al.greater ∙ al.same ∙ raised;
     }
 
+zero_product : (a b : Dyadic) → b.m ≡ pos 0 → dyadic_product a b ≡ zero_dyadic
+unfolding dyadic_product
+zero_product a b z =
+    let none : a.m *ℤ b.m ≡ pos 0 = ap (λ (m : ℤ). a.m *ℤ m) z ∙ omega (arith, ints) in
+    ap (λ (m : ℤ). dyadic m (a.e + b.e)) none
+
+-- a product with zero takes nothing away
+pub nothing_taken : (l a b : Dyadic) → b.m ≡ pos 0 → Taken l (dyadic_product a b) (pos 0)
+nothing_taken l a b z =
+    let same : max l.e 0 ≡ l.e = omega arith in
+    subst (λ (d : Dyadic). Taken l d (pos 0)) (sym (zero_product a b z)) (record {
+      greater = same;
+      left = ap (λ (e : ℕ). l.m *ℤ pos (2 ^ (e - l.e))) same ∙ not_raised l.m l.e;
+      taken = zero_raised (2 ^ (max l.e 0 - 0));
+    })
+
+pub zero_fits : IsTrue (fits_128 (pos 0))
+unfolding fits_128
+zero_fits = refl
+
 pub whole_fits : (a b : Dyadic) (q : ℤ) → q ≡ a.m *ℤ b.m → IsTrue (fits_128 q) → IsTrue (product_fits a b)
 unfolding product_fits
 whole_fits a b q p h = subst (λ (m : ℤ). IsTrue (fits_128 m)) p h
 
-pub less_fits : (l a b : Dyadic) (q t : ℤ) → a.e + b.e ≤ l.e → q ≡ a.m *ℤ b.m → t ≡ q *ℤ pos (2 ^ (l.e - (a.e + b.e))) → IsTrue (fits_128 l.m) → IsTrue (fits_128 t) → IsTrue (fits_128 (l.m -ℤ t)) → IsTrue (difference_fits l (dyadic_product a b))
+pub less_fits : (l d : Dyadic) (t : ℤ) → Taken l d t → IsTrue (fits_128 l.m) → IsTrue (fits_128 t) → IsTrue (fits_128 (l.m -ℤ t)) → IsTrue (difference_fits l d)
 unfolding difference_fits
-less_fits l a b q t h p r f g k =
-    let is = taken_is l a b q t h p r in
+less_fits l d t is f g k =
     ap₂ (λ (u v : ℤ). fits_128 u && fits_128 v && fits_128 (u -ℤ v)) is.left is.taken ∙ all_fit (fits_128 l.m) (fits_128 t) (fits_128 (l.m -ℤ t)) f g k
 
-pub less_is : (l a b d : Dyadic) (q t m : ℤ) → a.e + b.e ≤ l.e → q ≡ a.m *ℤ b.m → t ≡ q *ℤ pos (2 ^ (l.e - (a.e + b.e))) → m ≡ l.m -ℤ t → d ≡ dyadic m l.e → d ≡ dyadic_difference l (dyadic_product a b)
+pub less_is : (l d r : Dyadic) (t m : ℤ) → Taken l d t → m ≡ l.m -ℤ t → r ≡ dyadic m l.e → r ≡ dyadic_difference l d
 unfolding dyadic_difference
-less_is l a b d q t m h p r k e =
-    let is = taken_is l a b q t h p r in
-    e ∙ ap (λ (u : ℤ). dyadic u l.e) k ∙ sym (λ i. dyadic (is.left i -ℤ is.taken i) (is.greater i))
+less_is l d r t m is k e = e ∙ ap (λ (u : ℤ). dyadic u l.e) k ∙ sym (λ i. dyadic (is.left i -ℤ is.taken i) (is.greater i))
 
 -- ---- an interval times a number
 same_least : (x : Dyadic) → least x x ≡ x

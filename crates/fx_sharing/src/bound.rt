@@ -13,7 +13,7 @@ ghost use Rattle.fx_sharing.specs.Coefficients.{AreFormed, AreLeft};
 ghost use Rattle.fx_conditions.specs.Sides.{side_at};
 ghost use Rattle.fx_conditions.specs.Limits.{AreShortLines, AreShortRows, AreShortShares, IsShortForm};
 
-use crate::quick::{less_product, less_raised, times_ends};
+use crate::quick::{less_raised, times_ends};
 use fx_cert::{Form, NodeLine, Row, Share};
 use fx_conditions::{Side, bound_of, coef_at, scaled, scaled_number, side_of, zero_dyadic};
 use fx_interval::Interval;
@@ -126,7 +126,7 @@ fn with_shares(
     total
 }
 
-/// What so many times a row leave of coefficient `j`, where the times stay short at that exponent.
+/// What so many times a row leave of coefficient `j`, where that is quick.
 fn quick_left(
     coefs: &[Option<Dyadic>],
     j: u32,
@@ -143,40 +143,7 @@ fn quick_left(
     less_raised(left, times, coef)
 }
 
-/// The same where the times and the row's coefficient `k` are short.
-fn short_left(
-    coefs: &[Option<Dyadic>],
-    j: u32,
-    row: &[Dyadic],
-    k: u32,
-    times: Dyadic,
-) -> Option<Dyadic>
-    ensures { (f : Formula) → Forms (at None coefs.now j) f → IfSome result (λ d. Forms (Some d) (Difference f (Product (Num times) (Num (at zero_dyadic row.now k))))) }
-{
-    let left = coefficient(coefs, j)?;
-    let coef = coef_at(row, k);
-    times.keeps();
-    coef.keeps();
-    less_product(left, times, coef)
-}
-
-/// The same of any numbers.
-fn any_left(
-    coefs: &[Option<Dyadic>],
-    j: u32,
-    row: &[Dyadic],
-    k: u32,
-    times: Dyadic,
-) -> Option<Dyadic>
-    requires row { IsShort 96 (Num (at zero_dyadic row.now k)) }
-    requires times { IsShort 96 (Num times) }
-    ensures { (f : Formula) → Forms (at None coefs.now j) f → Forms result (Difference f (Product (Num times) (Num (at zero_dyadic row.now k)))) }
-{
-    let product = scaled_number(times, number(coef_at(row, k)));
-    difference(coefficient(coefs, j), product)
-}
-
-/// What so many times a row leave of coefficient `j`. It stands outside of the loop, which has few numbers that aren't quick.
+/// The same of any numbers. It stands outside of the loop, which has few that aren't quick.
 #[inline(never)]
 fn left_of(
     coefs: &[Option<Dyadic>],
@@ -189,10 +156,8 @@ fn left_of(
     requires times { IsShort 96 (Num times) }
     ensures { (f : Formula) → Forms (at None coefs.now j) f → Forms result (Difference f (Product (Num times) (Num (at zero_dyadic row.now k)))) }
 {
-    match short_left(coefs, j, row, k, times) {
-        Some(left) => Some(left),
-        None => any_left(coefs, j, row, k, times),
-    }
+    let product = scaled_number(times, number(coef_at(row, k)));
+    difference(coefficient(coefs, j), product)
 }
 
 /// What so many times a row leave of the coefficients of the states, which stand behind the inputs'.
@@ -218,26 +183,13 @@ fn take_row(
     }
 }
 
-/// 1 at its own place.
-fn unit_coef(i: u32, k: u32) -> Dyadic
-    ensures { Num result ≡ unit_coef i k }
-{
-    if i == k {
-        Dyadic { m: 1, e: 0 }
-    } else {
-        zero_dyadic()
-    }
-}
-
-/// The coefficients of the unit row of a state.
-fn unit_coefs(i: u32, states: u32) -> [Dyadic; 96]
-    requires { states ≤ 96 }
-    ensures { (k : ℕ) → k < states → Num (at zero_dyadic result k) ≡ unit_coef i k }
+/// The coefficients of the unit row of state `i`.
+fn unit_coefs(i: u32) -> [Dyadic; 96]
+    requires { i < 96 }
+    ensures { (k : ℕ) → Num (at zero_dyadic result k) ≡ unit_coef i k }
 {
     let mut unit = [zero_dyadic(); VARIABLES];
-    for k in 0..states {
-        unit[k as usize] = unit_coef(i, k);
-    }
+    unit[i as usize] = Dyadic { m: 1, e: 0 };
     unit
 }
 
@@ -265,7 +217,7 @@ fn take_share(
     ensures { (c : ℕ → Formula) → AreLeft coefs.old inputs states c → AreLeft coefs.new inputs states (λ k. Difference (c k) (Product (Num share.times) ((rows_of states (rows_in rows.now)).coef share.row k))) }
 {
     if share.row < states {
-        let unit = unit_coefs(share.row, states);
+        let unit = unit_coefs(share.row);
         take_row(coefs, inputs, &unit, states, share.times);
     } else {
         let row = coefs_of(rows, share.row);

@@ -10,7 +10,7 @@ ghost use Rattle.fx_rational.specs.Dyadic.{difference_fits, dyadic_difference, d
 ghost use Rattle.fx_rational.specs.Interval.{interval_product, interval_product_fits};
 
 use fx_interval::{Interval, greatest, least};
-use fx_num::{Dyadic, left_fits, mul_fits};
+use fx_num::{Dyadic, mul_fits};
 
 /// A mantissa in 64 bits.
 fn short(d: Dyadic) -> Option<i64>
@@ -27,13 +27,6 @@ fn product(a: i64, b: i64) -> Option<i128>
     mul_fits(i128::from(a), i128::from(b))
 }
 
-/// The mantissa of `left` less another.
-fn rest(left: Dyadic, taken: i128) -> Option<i128>
-    ensures { SomeIff result (IsTrue (fits_128 (left.m -ℤ taken))) (left.m -ℤ taken) }
-{
-    left.m.checked_sub(taken)
-}
-
 /// `a * b`, of short mantissas and few places.
 #[tactic(auto, unfolding(fx_rational::specs::Dyadic::product_fits, fx_rational::specs::Dyadic::dyadic_product))]
 fn short_product(a: Dyadic, b: Dyadic) -> Option<Dyadic>
@@ -45,23 +38,6 @@ fn short_product(a: Dyadic, b: Dyadic) -> Option<Dyadic>
     }
     let m = product(short(a)?, short(b)?)?;
     Some(Dyadic::new(m, a.e + b.e))
-}
-
-/// `left - a * b`, where both factors are short and the product has no more binary places than `left`.
-pub fn less_product(left: Dyadic, a: Dyadic, b: Dyadic) -> Option<Dyadic>
-    ensures product { IfSome result (λ d. IsTrue (product_fits a b)) }
-    ensures difference { IfSome result (λ d. IsTrue (difference_fits left (dyadic_product a b))) }
-    ensures is { IfSome result (λ d. d ≡ dyadic_difference left (dyadic_product a b)) }
-{
-    let places = a.e + b.e;
-    if left.e < places {
-        return None;
-    }
-    let whole = product(short(a)?, short(b)?)?;
-    let taken = left_fits(whole, left.e - places)?;
-    left.keeps();
-    let m = rest(left, taken)?;
-    Some(Dyadic::new(m, left.e))
 }
 
 /// `2^places`.
@@ -113,7 +89,21 @@ fn near_rest(left: Dyadic, taken: i128) -> Option<i128>
     Some(left.m - taken)
 }
 
-/// The same where `a` stays short at the exponent at which the product is taken away: then one product is all.
+/// `left - a * b`, where `b` is zero: nothing is taken away.
+fn less_nothing(left: Dyadic, a: Dyadic, b: Dyadic) -> Option<Dyadic>
+    ensures product { IfSome result (λ d. IsTrue (product_fits a b)) }
+    ensures difference { IfSome result (λ d. IsTrue (difference_fits left (dyadic_product a b))) }
+    ensures is { IfSome result (λ d. d ≡ dyadic_difference left (dyadic_product a b)) }
+{
+    if b.m != 0 {
+        return None;
+    }
+    left.keeps();
+    Some(Dyadic::new(left.m, left.e))
+}
+
+/// `left - a * b`, where `a` stays short at the exponent at which the product is taken away, so that one product is all, or
+/// where nothing is taken away.
 pub fn less_raised(left: Dyadic, a: Dyadic, b: Dyadic) -> Option<Dyadic>
     ensures product { IfSome result (λ d. IsTrue (product_fits a b)) }
     ensures difference { IfSome result (λ d. IsTrue (difference_fits left (dyadic_product a b))) }
@@ -121,7 +111,7 @@ pub fn less_raised(left: Dyadic, a: Dyadic, b: Dyadic) -> Option<Dyadic>
 {
     let places = a.e + b.e;
     if left.e < places {
-        return None;
+        return less_nothing(left, a, b);
     }
     let times = raised(short(a)?, left.e - places)?;
     let taken = multiple(times, b)?;

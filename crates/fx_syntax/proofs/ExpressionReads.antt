@@ -19,7 +19,7 @@ use Rattle.fx_syntax.proofs.Repeats.{when_true, when_false, repeat_reads, run_fi
 use Rattle.fx_syntax.proofs.Operands.{operand_of, negation_is, joined_is}
 use Rattle.fx_syntax.proofs.Names.{known_of, meant_reads, leaf_is}
 use Rattle.fx_syntax.proofs.Chains.{IsMoreSum, plus, less, IsMoreProduct, times, over', more_sum_shorter, more_product_shorter}
-use Rattle.fx_syntax.proofs.Expressions.{expr_is}
+use Rattle.fx_grammar.proofs.Expressions.{expr_is}
 
 -- ---- runs, from their last operand
 

@@ -18,11 +18,7 @@ use Rattle.fx_syntax.proofs.Repeats.{Seen, Any, keeps_any, when_choose, repeat_s
 use Rattle.fx_syntax.proofs.Chains.{IsMoreSum, plus, less, IsMoreProduct, times, over', sums_fold, products_fold, more_sum_shorter}
 use Rattle.fx_syntax.proofs.Operands.{operand_of, negation_is, joined_is}
 use Rattle.fx_syntax.proofs.Names.{known_of, meant_spells, leaf_is}
-
-pub expr_is : (known : Known) (outside : Bool) (room : ℕ) → expr_at known outside room ≡ sum_from known outside (inner_at known room)
-unfolding expr_at inner_at
-expr_is known outside zero = refl
-expr_is known outside (suc room) = refl
+use Rattle.fx_grammar.proofs.Expressions.{expr_is}
 
 -- ---- what is read is in the grammar
 

@@ -9,7 +9,8 @@ use Rattle.fx_model.specs.Nodes.{nodes_of}
 use Rattle.fx_lexer.specs.Tokens.{Lexeme}
 use Rattle.fx_grammar.specs.declared.head.Head.TheVariants as heads
 use Rattle.fx_grammar.specs.Heads.{◌==ₕ◌}
-use Rattle.fx_grammar.specs.Steps.{◌>>=◌, Text, Tokens, Parsed, next_head, want, past_semicolon, has_name}
+use Rattle.fx_model.specs.Steps.{◌>>=◌}
+use Rattle.fx_grammar.specs.Steps.{Text, Tokens, Parsed, next_head, want, past_semicolon, has_name}
 use Rattle.fx_grammar.specs.Ranges.{Subjects, names_of}
 use Rattle.fx_grammar.specs.Fronts.{param_at}
 use Rattle.fx_grammar.specs.Bodies.{Body, Results, vals_at, result_at, count_of}

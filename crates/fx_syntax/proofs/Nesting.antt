@@ -9,11 +9,12 @@ use Rattle.fx_lexer.specs.declared.fault.SourceFault.{SourceFault}
 use Rattle.fx_lexer.specs.Tokens.{Lexeme}
 use Rattle.fx_grammar.specs.declared.head.Head.TheVariants as heads
 use Rattle.fx_grammar.specs.Heads.{head_of, ◌==ₕ◌}
-use Rattle.fx_grammar.specs.Steps.{◌>>=◌, Tokens, repeat}
+use Rattle.fx_model.specs.Steps.{◌>>=◌}
+use Rattle.fx_grammar.specs.Steps.{Tokens, repeat}
 use Rattle.fx_grammar.specs.Ranges.{Subjects, condition_at, Conditions, are_open, wanted_at, read_at, conditions_step, conditions_at, require_at, with_side, subject_or}
 use Rattle.fx_syntax.specs.Leaves.{IsNext}
 use Rattle.fx_syntax.specs.Conditions.{IsConditions, last, both, IsCondition, nested, number_first, name_first, error_of, IsSaid, AreInputsOf, none, one_more, IsRequire}
-use Rattle.fx_grammar.proofs.Outcomes.{on_ok}
+use Rattle.fx_model.proofs.Steps.{on_ok}
 use Rattle.fx_syntax.proofs.Outcomes.{OnOk, done, failed, and_then, choose, steps, on_true, on_false}
 use Rattle.fx_syntax.proofs.Marks.{mark, same_head, next_shorter, want_spells, want_reads}
 use Rattle.fx_syntax.proofs.Repeats.{when_true}

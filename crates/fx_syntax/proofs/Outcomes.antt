@@ -1,6 +1,6 @@
 -- What holds of the answer of a chain of steps, where it has one; and which answer a chain has.
 use Rattle.std.proofs.Common.{◌≡◌, Bool, true, false, cond, Result, Ok, Err, refl, sym, subst}
-use Rattle.fx_grammar.specs.Steps.{◌>>=◌}
+use Rattle.fx_model.specs.Steps.{◌>>=◌}
 
 -- P holds of the answer, if there is one
 pub record OnOk {A E : Type 0} (P : A → Type 0) (r : Result A E) : Type 0 where

@@ -13,7 +13,7 @@ use Rattle.fx_grammar.specs.Functions.{def_at}
 use Rattle.fx_syntax.specs.Runs.{IsRun, over, more, IsSeparated}
 use Rattle.fx_syntax.specs.Sources.{IsPart, AreImports, IsNewDef, AreDefs, IsObject, IsSource, object, functions}
 use Rattle.fx_syntax.specs.Laws.{ReadIsSpelled, SpelledIsRead, OneMeaning, IsSourceText, TextLaw}
-use Rattle.fx_grammar.proofs.Outcomes.{on_ok}
+use Rattle.fx_model.proofs.Steps.{on_ok}
 use Rattle.fx_syntax.proofs.Outcomes.{OnOk, done, failed, and_then, choose, weaken, steps, on_true, on_false}
 use Rattle.fx_syntax.proofs.Marks.{mark, same_head, next_is, is_next, not_next, behind_is, next_shorter, want_spells, want_reads}
 use Rattle.fx_syntax.proofs.Repeats.{Seen, itself, as_seen, from_seen, Any, keeps_any, Spells, Takes, repeat_spells, repeat_reads, many_spells, many_reads, separated_spells, separated_reads, separated_shorter}

@@ -10,13 +10,13 @@ use Rattle.fx_inequalities.specs.Certificate.{Row, no_row}
 use Rattle.fx_inequalities.specs.LawfulCertificate.{unit_vector}
 use Rattle.fx_conditions.specs.Limits.{AreShortRows, IsShortRow}
 use Rattle.fx_conditions.specs.declared.side.Side.TheVariants.{Value, Error}
-use Rattle.fx_conditions.proofs.Lawful.{short_coefs, short_ends, short_shares}
+use Rattle.fx_conditions.proofs.Lawful.{short_coefs, short_ends, short_shares, no_short_row}
 use Rattle.fx_template.specs.Listed.{first_untrue, or_else}
 use Rattle.fx_template.specs.Transitions.{IsModestTransition, Transition}
 use Rattle.fx_template.specs.PlainRounds.{Bounds, bounds_at_first, first_fallen, plain_rounds, stands, unit_rows}
 use Rattle.fx_template.specs.Rows.{AreCountedRows, AreKept, AreWrittenBounds, IsCountedRow}
 use Rattle.fx_template.specs.Answers.{Found, HasWrittenBounds, HasWrittenStates, IsTemplate}
-use Rattle.fx_template.proofs.UnitRows.{no_row_short, unit_rows_counted, unit_rows_kept, unit_rows_written}
+use Rattle.fx_template.proofs.UnitRows.{unit_rows_counted, unit_rows_kept, unit_rows_written}
 use Rattle.fx_template.proofs.UnitVectors.{units_from}
 use Rattle.fx_template.proofs.Rounds.{first_written, rounds_written}
 
@@ -37,7 +37,7 @@ short_row k count r h w = record { coefs = short_coefs r.coefs h.written; bound 
 pub rows_short : (k : ℕ) (rows : List Row) → AreCountedRows k rows → AreWrittenBounds rows → AreShortRows rows
 rows_short k rows h w i = elim (cases_lt i (length rows)) [
   | inl less ↦ short_row k (length rows) (at no_row rows i) (h.each i no_row less) (w i no_row less)
-  | inr more ↦ subst IsShortRow (sym (get_or_past rows i no_row more)) no_row_short
+  | inr more ↦ subst IsShortRow (sym (get_or_past rows i no_row more)) no_short_row
 ]
 
 -- ---- the plain rows

@@ -11,7 +11,7 @@ use Rattle.fx_inequalities.specs.Certificate.{zero_interval}
 use Rattle.fx_judging.specs.Places.{IsShortSpan}
 use Rattle.fx_conditions.specs.declared.side.Side.{Side}
 use Rattle.fx_conditions.specs.declared.side.Side.TheVariants.{Value, Error}
-use Rattle.fx_conditions.proofs.Lawful.{short_ends}
+use Rattle.fx_conditions.proofs.Lawful.{short_ends, no_ends}
 use Rattle.fx_grid.specs.Narrow.{span_bounds}
 use Rattle.fx_grid.specs.Laws.{IsNarrowestOf}
 use Rattle.fx_grid.proofs.Narrowest.{narrowest_is}
@@ -22,7 +22,6 @@ use Rattle.fx_template.specs.PlainRounds.{Bounds, and_on, both_bounds, bounds_af
 use Rattle.fx_template.specs.Answers.{HasWrittenStates}
 use Rattle.fx_template.specs.RoundView.{AreShortBoth, AreShortBounds}
 use Rattle.fx_template.proofs.Lists.{each_is, tabulate_all, tabulate_at}
-use Rattle.fx_template.proofs.UnitRows.{zero_short}
 
 few_places : (side : Side) (t : Transition) (i : ℕ) → IsModestTransition t → row_grid side t i ≤ 96
 few_places Value t i m = omega arith
@@ -42,7 +41,7 @@ raised_written side t bounds new m e i lt = (raised_is side t bounds i (at zero_
 pub raised_short : (side : Side) (t : Transition) (bounds new : List Interval) → IsModestTransition t → raised_bounds side t bounds ≡ Some new → AreShortBounds new
 raised_short side t bounds new m e i = elim (cases_lt i t.states) [
   | inl less ↦ short_ends (at zero_interval new i) (raised_written side t bounds new m e i less)
-  | inr more ↦ (let count = (each_is (raised_bound side t bounds) t.states new e).count in subst (λ (x : Interval). IsShortSpan 96 (span x)) (sym (get_or_past new i zero_interval (omega (arith, count, more)))) zero_short)
+  | inr more ↦ (let count = (each_is (raised_bound side t bounds) t.states new e).count in subst (λ (x : Interval). IsShortSpan 96 (span x)) (sym (get_or_past new i zero_interval (omega (arith, count, more)))) no_ends)
 ]
 
 -- ---- of both kinds of rows
@@ -70,8 +69,8 @@ round_written : (t : Transition) (b c : Bounds) → IsModestTransition t → bou
 round_written t b c m e i lt = let r = round_is t b c e in (raised_written Value t b.rows c.rows m r.rows i lt, raised_written Error t b.error_rows c.error_rows m r.error_rows i lt)
 
 pub first_short : (side : Side) (t : Transition) → IsModestTransition t → AreShortBounds (first_bounds side t)
-first_short Value t m = tabulate_all (λ (x : Interval). IsShortSpan 96 (span x)) (state_bound Value t) t.states zero_interval zero_short (λ i lt. (m.lines (t.inputs + i)).range)
-first_short Error t m = tabulate_all (λ (x : Interval). IsShortSpan 96 (span x)) (state_bound Error t) t.states zero_interval zero_short (λ i lt. (m.lines (t.inputs + i)).error)
+first_short Value t m = tabulate_all (λ (x : Interval). IsShortSpan 96 (span x)) (state_bound Value t) t.states zero_interval no_ends (λ i lt. (m.lines (t.inputs + i)).range)
+first_short Error t m = tabulate_all (λ (x : Interval). IsShortSpan 96 (span x)) (state_bound Error t) t.states zero_interval no_ends (λ i lt. (m.lines (t.inputs + i)).error)
 
 pub first_written : (t : Transition) → HasWrittenStates t → AreWrittenBoth t (bounds_at_first t)
 first_written t h i lt = (

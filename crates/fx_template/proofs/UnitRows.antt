@@ -2,6 +2,7 @@
 use Rattle.std.proofs.Common.{◌≡◌, ℕ, ◌+◌, ◌<◌, ◌≤◌, ◌&&◌, List, length, get_or, None, inl, inr, sym, ap, subst, ◌∙◌, arith}
 use Rattle.std.proofs.lemmas.Bool.{cases_lt}
 use Rattle.std.proofs.lemmas.List.{get_or_default, get_or_past}
+use Rattle.fx_conditions.proofs.Lawful.{no_short_row}
 use Rattle.fx_rational.specs.Dyadic.{Dyadic, IsWritten, zero_dyadic}
 use Rattle.fx_rational.specs.Interval.{Interval, IsWrittenInterval}
 use Rattle.fx_model.specs.Tree.{at}
@@ -23,12 +24,6 @@ use Rattle.fx_template.specs.RoundView.{AreShortBounds}
 use Rattle.fx_template.proofs.Lists.{all_true, tabulate_all, tabulate_at, tabulate_length}
 use Rattle.fx_template.proofs.UnitVectors.{entry_at, entry_whole, entry_written, units_from}
 
-pub zero_short : IsShortSpan 96 (span zero_interval)
-zero_short = record { lo = record { few = omega arith }; hi = record { few = omega arith } }
-
-pub no_row_short : IsShortRow no_row
-no_row_short = record { coefs = λ j. record { few = omega arith }; bound = zero_short; shares = tt }
-
 unit_short : (k i j : ℕ) → i < k → IsShort 96 (Num (at zero_dyadic (unit_vector k i) j))
 unit_short k i j lt = elim (cases_lt j k) [
   | inl less ↦ (let whole = ap (λ (d : Dyadic). d.e) (entry_at k i j lt less) ∙ entry_whole i j in record { few = omega (arith, whole) })
@@ -36,7 +31,7 @@ unit_short k i j lt = elim (cases_lt j k) [
 ]
 
 pub unit_rows_short : (k : ℕ) (bounds : List Interval) → AreShortBounds bounds → AreShortRows (unit_rows k bounds)
-unit_rows_short k bounds h = tabulate_all IsShortRow (λ i. unit_row k (at zero_interval bounds i) i) k no_row no_row_short (λ i lt. record { coefs = λ j. unit_short k i j lt; bound = h i; shares = tt })
+unit_rows_short k bounds h = tabulate_all IsShortRow (λ i. unit_row k (at zero_interval bounds i) i) k no_row no_short_row (λ i lt. record { coefs = λ j. unit_short k i j lt; bound = h i; shares = tt })
 
 -- row i of them
 pub unit_row_at : (k : ℕ) (bounds : List Interval) (i : ℕ) (d : Row) → i < k → get_or (unit_rows k bounds) i d ≡ unit_row k (at zero_interval bounds i) i

@@ -10,7 +10,7 @@ ghost use Rattle.fx_template.specs.PlainRounds.{unit_row, unit_rows};
 ghost use Rattle.fx_template.specs.RoundView.{AreShortBounds};
 ghost use Rattle.fx_template.specs.Units.{unit_entry};
 
-use fx_cert::Row;
+use fx_cert::{Row, unit_vector};
 use fx_conditions::zero_alone;
 use fx_expr::Items;
 use fx_interval::Interval;
@@ -26,19 +26,6 @@ pub fn unit_entry(i: u32, j: u32) -> Dyadic
     } else {
         Dyadic { m: 0, e: 0 }
     }
-}
-
-/// The unit vector of state `i` among so many.
-fn unit_vector(alloc: Global, states: u32, i: u32) -> Result<Items<Dyadic>, AllocError>
-    requires { i < states }
-    ensures { IfOk result (λ v. v ≡ unit_vector states i) }
-{
-    let mut entries = Vec::new(alloc);
-    for j in 0..states {
-        let entry = unit_entry(i, j);
-        entries.push(entry)?;
-    }
-    Ok(Items::from_vec(entries))
 }
 
 /// Bound `i` of a list, and 0 past its end.

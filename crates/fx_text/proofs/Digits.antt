@@ -5,22 +5,18 @@ use Rattle.std.specs.Char.{digit_value, is_ascii_digit}
 use Rattle.std.specs.Str.{all_ascii_digits}
 use Rattle.std.specs.Str.Parse.{AllDigits, digits_value}
 use Rattle.std.proofs.lemmas.Str.{digit_value_digit}
-use Rattle.std.proofs.lemmas.Str.Parse.{IsNumeralModel, numerals_by_value, tells_all_ascii_digits, digit_at}
+use Rattle.std.proofs.lemmas.Str.Parse.{digit_at}
 use Rattle.std.proofs.lemmas.Int.Digits.{digits_value_more, digits_more}
 use Rattle.std.proofs.lemmas.Bool.{cases_Bool}
 use Rattle.std.proofs.lemmas.List.{take_all}
-use Rattle.fx_model.proofs.Digits.{digit_range, is_digit}
+use Rattle.fx_model.proofs.Digits.{digit_range, is_digit, digits_model}
 use Rattle.fx_text.specs.Numbers.{digits_of, clamped}
-
--- a text of digits, by std's test and value
-pub own : IsNumeralModel (λ ds. all_ascii_digits ds ≡ true) (digits_value 10)
-own = numerals_by_value _ tells_all_ascii_digits
 
 -- a byte that is no digit: the text is no number
 pub digits_stop : (f : List ℕ) (i : ℕ) → i < length f → is_ascii_digit (get_or f i 0) ≡ false → digits_of f ≡ None
 digits_stop f i lt is_none =
     elim (cases_Bool (all_ascii_digits f)) [
-      | inl is_one ↦ let r = is_digit _ (digit_at f i (own.to f is_one) lt) in absurd cc
+      | inl is_one ↦ let r = is_digit _ (digit_at f i (digits_model.to f is_one) lt) in absurd cc
       | inr e ↦ rw e refl
     ]
 
@@ -45,5 +41,5 @@ digits_go_on f i v lt is_one before e =
 pub digits_end : (f : List ℕ) (i v : ℕ) → length f ≤ i → AllDigits 10 (take i f) → v ≡ clamped (digits_value 10 (take i f)) → Some v ≡ option_map clamped (digits_of f)
 digits_end f i v le before e =
     let whole = take_all i f le in
-    let is_one : all_ascii_digits f ≡ true = own.from f (subst (λ ds. AllDigits 10 ds) whole before) in
+    let is_one : all_ascii_digits f ≡ true = digits_model.from f (subst (λ ds. AllDigits 10 ds) whole before) in
     rw (is_one, e, whole) refl

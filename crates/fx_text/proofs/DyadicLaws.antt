@@ -19,7 +19,8 @@ use Rattle.fx_text.specs.Many.{AreEach, dyadics_at}
 use Rattle.fx_model.specs.LineText.{dyadic_text, interval_fields}
 use Rattle.fx_text.specs.Spelling.{IsField, IsOneSpelling, Lacks}
 use Rattle.fx_text.specs.Laws.{IsNarrow}
-use Rattle.fx_text.proofs.Choices.{on_ok, passed, chosen}
+use Rattle.fx_model.proofs.Steps.{on_ok}
+use Rattle.fx_text.proofs.Choices.{passed, chosen}
 use Rattle.fx_text.proofs.NumberLaws.{whole_takes, whole_again, integer_takes, integer_again}
 use Rattle.fx_text.proofs.Mantissas.{dyadic_of-odd}
 use Rattle.fx_text.proofs.FieldLaws.{field_is, known_is, front}

@@ -12,7 +12,8 @@ use Rattle.fx_text.specs.Cutting.{Line}
 use Rattle.fx_text.specs.Numbers.{integer_of}
 use Rattle.fx_text.specs.Reading.{IsWithin, field_at, known, keyword_at, number_at, place_at, count_at, ended_at}
 use Rattle.fx_text.specs.Laws.{AreNarrow}
-use Rattle.fx_text.proofs.Choices.{on_ok, passed, chosen}
+use Rattle.fx_model.proofs.Steps.{on_ok}
+use Rattle.fx_text.proofs.Choices.{passed, chosen}
 use Rattle.fx_text.proofs.NumberLaws.{integer_takes, integer_again}
 
 -- a result that is no fault

@@ -11,14 +11,14 @@ use Rattle.std.proofs.lemmas.List.Sums.{split_at_first, passes_at_first}
 use Rattle.std.proofs.lemmas.List.Splits.{slice_split_none, slice_split_at, join_with_byte-slice_split}
 use Rattle.std.proofs.lemmas.Str.Parse.{digit_from_value}
 use Rattle.std.proofs.lemmas.Fmt.{digits_decimal}
+use Rattle.fx_model.proofs.Digits.{digits_model}
 use Rattle.fx_text.specs.declared.fault.TextKind.{TextKind}
 use Rattle.fx_text.specs.Cutting.{Line, cut_at, fields_of, line_at}
 use Rattle.fx_text.specs.Lines.{fields_in, fields_at, line_by, on_line, text_ended_at}
 use Rattle.fx_model.specs.LineText.{line_text}
 use Rattle.fx_text.specs.Spelling.{AreFields, IsField, IsOneSpelling, Lacks}
-use Rattle.fx_text.proofs.Choices.{on_ok}
+use Rattle.fx_model.proofs.Steps.{on_ok}
 use Rattle.fx_text.proofs.Cuts.{cut_at-parts, cut_at-found}
-use Rattle.fx_text.proofs.Digits.{own}
 
 -- two texts without such a byte
 pub Lacks-append : (c : ℕ) (xs ys : List ℕ) → Lacks c xs → Lacks c ys → Lacks c (xs ++ ys)
@@ -164,7 +164,7 @@ digits_lack c (d ∷ ds) (inl lt) (h, hs) = let r = digit_from_value d h in (sea
 digits_lack c (d ∷ ds) (inr lt) (h, hs) = let r = digit_from_value d h in (search (rules, tests), digits_lack c ds (inr lt) hs)
 
 pub decimal-lacks : (c n : ℕ) → (c < 48) ⊎ (57 < c) → n < 2 ^ 64 → Lacks c (decimal n)
-decimal-lacks c n out lt = digits_lack c (decimal n) out (own.to (decimal n) (digits_decimal own n lt))
+decimal-lacks c n out lt = digits_lack c (decimal n) out (digits_model.to (decimal n) (digits_decimal digits_model n lt))
 
 -- a number can stand in a line
 pub IsField-decimal : (n : ℕ) → n < 2 ^ 64 → IsField (decimal n)

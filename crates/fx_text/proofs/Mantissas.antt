@@ -11,18 +11,18 @@ use Rattle.std.proofs.lemmas.List.{take_all}
 use Rattle.std.proofs.lemmas.Option.{cond_some}
 use Rattle.std.proofs.lemmas.Str.{digit_value_digit}
 use Rattle.std.proofs.lemmas.Str.Parse.{digit_at}
+use Rattle.fx_model.proofs.Digits.{digits_model}
 use Rattle.fx_rational.specs.Dyadic.{Dyadic, IsDyadic, IsWritten, mantissa_end, exponent_limit}
 use Rattle.fx_text.specs.Cutting.{cut_at}
 use Rattle.fx_text.specs.Numbers.{has_good_front, digits_of, whole_of, integer_of, lowest_spelled, dyadic_in, dyadic_of, clamped, kept_signed, kept_dyadic}
 use Rattle.fx_text.proofs.Choices.{chosen}
-use Rattle.fx_text.proofs.Digits.{own}
 use Rattle.fx_text.proofs.NumberLaws.{good_front, cons_drop, negative_is, positive_is}
 
 -- a number of digits is odd as its last digit is
 digits_parity : (ds : List ℕ) → all_ascii_digits ds ≡ true → 0 < length ds → get_or ds (length ds - 1) 0 % 2 ≡ digits_value 10 ds % 2
 digits_parity ds h lt =
     let last : length ds - 1 < length ds = omega arith in
-    let r = digit_at ds (length ds - 1) (own.to ds h) last in
+    let r = digit_at ds (length ds - 1) (digits_model.to ds h) last in
     let d = digit_value_digit (get_or ds (length ds - 1) 0) r in
     let all : take (length ds - 1 + 1) ds ≡ ds = take_all (length ds - 1 + 1) ds (omega arith) in
     let more = digits_value_more 10 ds (length ds - 1) last in

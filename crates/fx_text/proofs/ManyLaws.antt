@@ -3,10 +3,10 @@ use Rattle.std.proofs.Common.{◌≡◌, ℕ, zero, suc, ◌-◌, ◌+◌, ◌�
 use Rattle.std.specs.List.{flat_map}
 use Rattle.std.proofs.lemmas.List.{append-nil}
 use Rattle.std.proofs.lemmas.List.Concat.{flat_map-cons}
-use Rattle.fx_text.specs.Reading.{◌>>=◌}
+use Rattle.fx_model.specs.Steps.{◌>>=◌}
 use Rattle.fx_text.specs.Many.{AreEach, many, with_front}
 use Rattle.fx_text.specs.Spelling.{IsOneSpelling}
-use Rattle.fx_text.proofs.Choices.{on_ok}
+use Rattle.fx_model.proofs.Steps.{on_ok}
 
 regroup : {A X E : Type 0} (front : List A) (a : A) (reading : Result (List A × List X) E) → with_front front (reading >>= λ x. Ok (a ∷ x.0, x.1)) ≡ with_front (front ++ a ∷ []) reading
 regroup {A} front a (Ok x) = ap (λ (all : List A). Ok (all, x.1)) (simp append_assoc)

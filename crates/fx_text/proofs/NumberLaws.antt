@@ -9,10 +9,10 @@ use Rattle.std.proofs.lemmas.Bool.{eqb-true}
 use Rattle.std.proofs.lemmas.Int.{ints}
 use Rattle.std.proofs.lemmas.Str.Parse.{digit_at}
 use Rattle.std.proofs.lemmas.Option.{cond_some}
+use Rattle.fx_model.proofs.Digits.{digits_model}
 use Rattle.fx_text.specs.Numbers.{has_good_front, digits_of, whole_of, negative_number, integer_of}
 use Rattle.fx_text.specs.Laws.{IsNarrow}
 use Rattle.fx_text.proofs.Choices.{chosen}
-use Rattle.fx_text.proofs.Digits.{own}
 
 -- what the test of a number's front says, both ways
 pub good_front : (f : List ℕ) → has_good_front f ≡ true → (0 < length f) × (get_or f 0 0 ≡ 48 → length f ≡ 1)
@@ -33,7 +33,7 @@ whole_takes f n lt e =
     let a = passes (has_good_front f) (digits_of f) n e in
     let b = cond_some (all_ascii_digits f) (digits_value 10 f) n a.1 in
     let g = good_front f a.0 in
-    sym (subst (λ m. decimal m ≡ f) b.1 (decimal-digits_value own f b.0 g.0 g.1 (omega arith)))
+    sym (subst (λ m. decimal m ≡ f) b.1 (decimal-digits_value digits_model f b.0 g.0 g.1 (omega arith)))
   where
     passes : (b : Bool) (x : Option ℕ) (n : ℕ) → cond b x None ≡ Some n → (b ≡ true) × (x ≡ Some n)
     passes true x n e = (refl, e)
@@ -43,7 +43,7 @@ pub whole_again : (n : ℕ) → n < 2 ^ 64 → whole_of (decimal n) ≡ Some n
 unfolding whole_of
 whole_again n lt =
     let front : (length (decimal n) ≡ 1) ⊎ (48 < get_or (decimal n) 0 0) = front_of n lt in
-    rw (front_is_good (decimal n) (decimal_nonempty n lt) front, digits_decimal own n lt, digits_value-decimal own n lt) refl
+    rw (front_is_good (decimal n) (decimal_nonempty n lt) front, digits_decimal digits_model n lt, digits_value-decimal digits_model n lt) refl
   where
     front_of : (n : ℕ) → n < 2 ^ 64 → (length (decimal n) ≡ 1) ⊎ (48 < get_or (decimal n) 0 0)
     front_of zero lt = inl (ap length (decimal_digit 0 (omega arith)))
@@ -91,7 +91,7 @@ integer_takes f z narrow e =
 -- a number without sign begins with a digit
 no_sign : (n : ℕ) → n < 2 ^ 64 → eqb (get_or (decimal n) 0 0) 45 ≡ false
 no_sign n lt =
-    let r = digit_at (decimal n) 0 (own.to (decimal n) (digits_decimal own n lt)) (decimal_nonempty n lt) in
+    let r = digit_at (decimal n) 0 (digits_model.to (decimal n) (digits_decimal digits_model n lt)) (decimal_nonempty n lt) in
     search (rules, tests)
 
 pub integer_again : (z : ℤ) → IsNarrow z → integer_of (signed_decimal z) ≡ Some z

@@ -3,9 +3,9 @@ use Rattle.std.proofs.Common.{◌≡◌, ℕ, List, [], ◌++◌, Result, Ok, re
 use Rattle.std.proofs.lemmas.List.{append-nil}
 use Rattle.fx_text.specs.declared.fault.TextFault.{TextFault}
 use Rattle.fx_text.specs.Lines.{text_ended_at}
-use Rattle.fx_text.specs.Reading.{◌>>=◌}
+use Rattle.fx_model.specs.Steps.{◌>>=◌}
 use Rattle.fx_text.specs.Spelling.{IsOneSpelling}
-use Rattle.fx_text.proofs.Choices.{on_ok}
+use Rattle.fx_model.proofs.Steps.{on_ok}
 use Rattle.fx_text.proofs.LineLaws.{text_ended-is}
 
 -- what a reader of the front makes of all of a text; where the text has to be over, the value's own lines say

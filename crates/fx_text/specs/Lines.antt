@@ -5,7 +5,7 @@ use Rattle.fx_text.specs.declared.fault.TextKind.TheVariants.{BadLine, Extra, Me
 use Rattle.fx_text.specs.declared.fault.TextFault.{TextFault}
 use Rattle.fx_text.specs.Faults.{fault_at, text_memory}
 use Rattle.fx_text.specs.Cutting.{Line, fields_of, line_at}
-use Rattle.fx_text.specs.Reading.{◌>>=◌}
+use Rattle.fx_model.specs.Steps.{◌>>=◌}
 
 -- what is read of line n
 abbrev pub on_line : {A : Type 0} → ℕ → Result A TextKind → Result A TextFault

@@ -5,7 +5,8 @@ use Rattle.fx_text.specs.declared.fault.TextKind.{TextKind}
 use Rattle.fx_text.specs.declared.fault.TextFault.{TextFault}
 use Rattle.fx_text.specs.Cutting.{Line}
 use Rattle.fx_text.specs.Lines.{line_by}
-use Rattle.fx_text.specs.Reading.{◌>>=◌, dyadic_at}
+use Rattle.fx_model.specs.Steps.{◌>>=◌}
+use Rattle.fx_text.specs.Reading.{dyadic_at}
 
 -- `read` is told what is known before a value, as its number or the values before it; `next` says what is known behind it
 unfoldable pub many : {I A X E : Type 0} → (I → List X → Result (A × List X) E) → (I → A → I) → ℕ → I → List X → Result (List A × List X) E

@@ -1,18 +1,13 @@
 -- Reading the fields of a line from left to right: the value and the fields behind it, or the first fault.
 use Rattle.std.specs.Prelude.{◌≡◌, ℕ, ℤ, pos, ◌-ℤ◌, ◌≤ℤ◌, ◌&&◌, List, [], ◌∷◌, Option, Some, None, Result, Ok, Err, if◌then◌else◌, int_le, nat_lt, nat_le, unsigned_abs}
 use Rattle.std.specs.Str.{bytes_eq}
+use Rattle.fx_model.specs.Steps.{◌>>=◌}
 use Rattle.fx_rational.specs.Dyadic.{Dyadic, mantissa_end, exponent_limit}
 use Rattle.fx_rational.specs.Interval.{Interval}
 use Rattle.fx_text.specs.declared.fault.TextKind.{TextKind}
 use Rattle.fx_text.specs.declared.fault.TextKind.TheVariants.{BadLine, BadNumber, OutOfRange, TooMany}
 use Rattle.fx_text.specs.Cutting.{Line}
 use Rattle.fx_text.specs.Numbers.{integer_of, dyadic_of}
-
--- one step after the other, up to the first fault
-infixl 10 ◌>>=◌
-abbrev pub ◌>>=◌ : {A B E : Type 0} → Result A E → (A → Result B E) → Result B E
-(Ok x) >>= f = f x
-(Err e) >>= f = Err e
 
 -- the next field
 abbrev pub field_at : Line → Result (List ℕ × Line) TextKind

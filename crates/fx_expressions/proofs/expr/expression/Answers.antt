@@ -1,5 +1,5 @@
 use Rattle.fx_expressions.specs.Views.{known_in}
-use Rattle.fx_expressions.proofs.Rooms.{expr_is}
+use Rattle.fx_grammar.proofs.Expressions.{expr_is}
 use Rattle.fx_expressions.proofs.expr.expression.Goals as goal
 
 pub returns-clause-value : goal.returns-clause-value

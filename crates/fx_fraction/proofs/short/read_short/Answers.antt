@@ -7,12 +7,13 @@ use Rattle.fx_fraction.proofs.short.read_short.Goals as goal
 
 pub returns : goal.returns
 returns c =
-    let w = c.in_ok-whole.ensures in
-    let p = c.in_ok-size.ensures in
+    let w = c.few_digits-whole.ensures in
+    let count = c.few_digits-whole.result.1 in
+    let p = c.few_part-size.ensures (omega arith) in
     let short : length c.args.body.now < 2 ^ 63 = search rules in
     let zeros = c.stripped.ensures.zeros in
-    let tail = take (length c.args.body.now - c.in_ok-whole.count) (drop c.in_ok-whole.count c.args.body.now) in
-    mantissa_is c.args.body.now tail c.in_ok-whole.count c.stripped.result c.in_ok-size.places c.in_ok-size.end
+    let tail = take (length c.args.body.now - count) (drop count c.args.body.now) in
+    mantissa_is c.args.body.now tail count c.stripped.result c.few_part-size.result.1 c.few_part-size.result.2
     (record {
       count_is = w.count;
       within = w.within;

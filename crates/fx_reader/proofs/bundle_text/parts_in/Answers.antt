@@ -2,7 +2,7 @@ use Rattle.std.proofs.Common.{◌≡◌, ◌∙◌, List, ℕ, Ok, Err, Result, 
 use Rattle.std.proofs.lemmas.Result.{err_from_is_err_and}
 use Rattle.fx_text.specs.declared.fault.TextFault.{TextFault}
 use Rattle.fx_text.specs.Lines.{text_ended_at}
-use Rattle.fx_text.specs.Reading.{◌>>=◌}
+use Rattle.fx_model.specs.Steps.{◌>>=◌}
 use Rattle.fx_cert.specs.BundleView.{Parts}
 use Rattle.fx_cert.specs.CertificateView.{certificate_of}
 use Rattle.fx_reader.proofs.BundleLaws.{by_parts}

@@ -11,7 +11,7 @@ use Rattle.fx_sharing.proofs.bound.take_share.Goals as goal
 pub take_row-requires-clause-row : goal.take_row-requires-clause-row
 take_row-requires-clause-row c = λ k lt.
     let rs = rows_in c.args.rows.now in let n = c.args.states in let i = c.args.share.row in
-    subst (IsShort 96) (unit_row_is rs n i k c.if-share-states.true ∙ sym (c.unit_coefs-unit.ensures k lt)) (row_coef_short rs c.requires.rows n i k)
+    subst (IsShort 96) (unit_row_is rs n i k c.if-share-states.true ∙ sym (c.unit_coefs-unit.ensures k)) (row_coef_short rs c.requires.rows n i k)
 
 pub take_row-requires-else-share-states-clause-row : goal.take_row-requires-else-share-states-clause-row
 take_row-requires-else-share-states-clause-row c = λ k lt.

@@ -1,8 +1,5 @@
-use Rattle.std.proofs.Common.{◌<◌, length, rules}
-use Rattle.fx_sharing.proofs.Shares.{set_unit}
+use Rattle.fx_sharing.proofs.Shares.{unit_among}
 use Rattle.fx_sharing.proofs.bound.unit_coefs.Goals as goal
 
-pub loop-k-preserved : goal.loop-k-preserved
-loop-k-preserved c =
-    let room : c.loop-k.k < length c.loop-k.unit = search rules in
-    set_unit c.loop-k.unit c.args.i c.loop-k.k c.unit_coef.result room c.loop-k.invariant c.unit_coef.ensures
+pub returns : goal.returns
+returns c = λ k. unit_among 96 c.args.i k c.zero_dyadic-unit.result c.zero_dyadic-unit.ensures c.requires

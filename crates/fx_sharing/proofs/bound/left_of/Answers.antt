@@ -4,7 +4,7 @@ use Rattle.fx_model.specs.Tree.{at}
 use Rattle.fx_inequalities.specs.Formula.{Num, Product}
 use Rattle.fx_judging.specs.Judging.{Forms}
 use Rattle.fx_judging.proofs.Shorts.{shorter}
-use Rattle.fx_sharing.proofs.bound.any_left.Goals as goal
+use Rattle.fx_sharing.proofs.bound.left_of.Goals as goal
 
 pub returns : goal.returns
 returns c = λ f h.
