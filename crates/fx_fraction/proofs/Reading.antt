@@ -5,6 +5,7 @@ use Rattle.std.specs.Int.{w128}
 use Rattle.std.specs.Str.Parse.{digits_value, digits_value_after}
 use Rattle.std.proofs.lemmas.Int.{ints}
 use Rattle.std.proofs.lemmas.List.{take_all, drop_all}
+use Rattle.fx_fraction.specs.Digits.{saturated}
 use Rattle.fx_rational.specs.Decimal.{Decimal}
 use Rattle.fx_fraction.specs.declared.fault.NumberFault.{NumberFault}
 use Rattle.fx_fraction.specs.declared.fault.NumberFault.TheVariants.{TooLong, Malformed}
@@ -12,7 +13,7 @@ use Rattle.fx_fraction.specs.declared.significant.Significant.{Significant}
 use Rattle.fx_fraction.specs.declared.significant.Significant.TheVariants.{Zero, Front, Long}
 use Rattle.fx_fraction.specs.Numeral.{Power, Sign, sign_of, behind_sign, is_minus, signed, exponent, digit_count, first_digits, behind_digits, part_of, part_digits, behind_part, power_of, numeral_of, unsigned_of}
 use Rattle.fx_fraction.specs.DecimalOf.{trimmed, fewest_places, within_limits, decimal_from, decimal_of}
-use Rattle.fx_fraction.specs.Kept.{Keeps, FitsFront, zeros_of, saturated, kept_exponent}
+use Rattle.fx_fraction.specs.Kept.{Keeps, FitsFront, zeros_of, kept_exponent}
 use Rattle.fx_fraction.specs.ReadParts.{by_shift, exponent_kept, IsMantissa, IsShortPart}
 use Rattle.fx_fraction.proofs.Digits.{digits_after_append}
 use Rattle.fx_fraction.proofs.Shifts.{fewest_front, fewest_zero, fewest_long, too_far}

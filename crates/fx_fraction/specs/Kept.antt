@@ -1,6 +1,7 @@
 -- What the reader keeps of digits: those up to the last that isn't 0, and the count of zeros behind it. No clause of a public call rests on this.
-use Rattle.std.specs.Prelude.{◌≡◌, ◌≢◌, ℕ, ◌*◌, ◌-◌, ◌^◌, ◌%◌, ◌<◌, ◌≤◌, ℤ, pos, min, Option, Some, None}
+use Rattle.std.specs.Prelude.{◌≡◌, ◌≢◌, ℕ, ◌*◌, ◌^◌, ◌%◌, ◌<◌, ◌≤◌, ℤ, pos, Option, Some, None}
 use Rattle.std.specs.Str.Parse.{digits_value}
+use Rattle.fx_fraction.specs.Digits.{saturated}
 use Rattle.fx_fraction.specs.Numeral.{Power, signed, is_minus}
 use Rattle.fx_fraction.specs.declared.significant.Significant.{Significant}
 use Rattle.fx_fraction.specs.declared.significant.Significant.TheVariants.{Zero, Front, Long}
@@ -26,10 +27,6 @@ abbrev pub zeros_of : Significant → ℕ
 zeros_of Zero = 0
 zeros_of (Front f z) = z
 zeros_of Long = 0
-
--- a number in 64 bits: one past the greatest is kept as the greatest
-abbrev pub saturated : ℕ → ℕ
-saturated n = min n (2 ^ 64 - 1)
 
 -- the exponent of a power whose digits are kept so
 abbrev pub kept_exponent : Option Power → ℤ

@@ -1,3 +1,4 @@
+pub mod Digits
 pub mod Numeral
 pub mod DecimalOf
 pub mod Kept

@@ -1,9 +1,10 @@
 -- What the reader's steps give. No clause of a public call rests on this.
 use Rattle.std.specs.Prelude.{◌≡◌, ℕ, suc, ◌+◌, ◌*◌, ◌^◌, ◌<◌, ◌≤◌, ℤ, pos, negsuc, List, ◌++◌, length, drop, Option, Some, None, option_map, if◌then◌else◌}
 use Rattle.std.specs.Str.Parse.{digits_value, digits_value_after}
+use Rattle.fx_fraction.specs.Digits.{saturated}
 use Rattle.fx_fraction.specs.declared.significant.Significant.{Significant}
 use Rattle.fx_fraction.specs.Numeral.{is_number, power_of, digit_count, first_digits, behind_digits, part_of, part_digits, behind_part}
-use Rattle.fx_fraction.specs.Kept.{saturated, kept_exponent, Keeps, FitsFront, zeros_of}
+use Rattle.fx_fraction.specs.Kept.{kept_exponent, Keeps, FitsFront, zeros_of}
 
 -- front * 10^shift, or front / 10^-shift
 abbrev pub by_shift : ℕ → ℤ → ℕ × ℕ

@@ -28,7 +28,7 @@ pub use fault::NumberFault;
 pub use fraction::Fraction;
 pub use quantised::quantise;
 pub use range::Range;
-pub use read::read_decimal;
+pub use read::{read_decimal, read_natural};
 pub use text::decimal_text;
 
 #[cfg(test)]

@@ -4,8 +4,9 @@
 //! `Significant` says, and an exponent past 64 bits is kept as the greatest, since no text in memory has as many digits
 //! as could bring such a value back into the limits.
 
-ghost use Rattle.std.specs.Prelude.{◌≡◌, ◌+◌, ◌<◌, ◌≤◌, ◌^◌, ℕ, length, drop, IfSome, IfNone, Some, None, false};
+ghost use Rattle.std.specs.Prelude.{◌≡◌, ◌+◌, ◌<◌, ◌≤◌, ◌^◌, ℕ, length, drop, option_map, IfSome, IfNone, Some, None, false};
 ghost use Rattle.std.specs.Str.Parse.{digits_value_after};
+ghost use Rattle.fx_fraction.specs.Digits.{digits_of, saturated};
 ghost use Rattle.fx_fraction.specs.Numeral.{is_minus, sign_of, behind_sign, digit_count, behind_digits, part_of, part_digits, behind_part};
 ghost use Rattle.fx_fraction.specs.DecimalOf.{decimal_of};
 ghost use Rattle.fx_fraction.specs.Kept.{Keeps, FitsFront, zeros_of};
@@ -92,15 +93,12 @@ fn read_mantissa(body: &[u8]) -> Option<Mantissa>
     })
 }
 
-/// The number of at least one digit, and the greatest `u64` where it is greater still.
-fn read_number(digits: &[u8]) -> Option<u64>
-    ensures { result ≡ number_kept digits.now }
+/// The number that digits spell, and the greatest `u64` where it is greater still. None where a byte is no digit.
+pub fn read_natural(text: &[u8]) -> Option<u64>
+    ensures { result ≡ option_map saturated (digits_of text.now) }
 {
-    if digits.is_empty() {
-        return None;
-    }
     let mut value = 0u64;
-    for byte in digits {
+    for byte in text {
         if !byte.is_ascii_digit() {
             return None;
         }
@@ -109,6 +107,16 @@ fn read_number(digits: &[u8]) -> Option<u64>
             .saturating_add(u64::from(*byte - b'0'));
     }
     Some(value)
+}
+
+/// The number of at least one digit.
+fn read_number(digits: &[u8]) -> Option<u64>
+    ensures { result ≡ number_kept digits.now }
+{
+    if digits.is_empty() {
+        return None;
+    }
+    read_natural(digits)
 }
 
 /// The exponent of the power of ten that stands there, or 0 where nothing does.

@@ -19,33 +19,11 @@ use fx_expr::Input;
 use fx_fraction::{Fraction, dyadic_le, fneg, to_fraction};
 use fx_interval::Interval;
 use fx_judging::{difference, number, reduced, sum, unit};
-use fx_num::{Dyadic, left_fits};
+use fx_num::{Dyadic, left_fits, raised};
 use fx_rounding::{
     Place, denominator, error_grid, left, negate, numerator, rest, signed, split, whole, wide_down,
     wide_up,
 };
-
-/// `2^s`.
-fn two_to(s: u32) -> u128
-    requires { s ≤ 64 }
-    ensures value { result ≡ 2 ^ s }
-    ensures some { 0 < result }
-    ensures few { result ≤ 2 ^ 64 }
-{
-    1 << s
-}
-
-/// `b * 2^s`.
-fn raised(b: u64, s: u32) -> u128
-    requires few { b < 2 ^ 62 }
-    requires some { 0 < b }
-    requires shift { s ≤ 64 }
-    ensures value { result ≡ b * 2 ^ s }
-    ensures few { result < 2 ^ 126 }
-    ensures some { 0 < result }
-{
-    u128::from(b) * two_to(s)
-}
 
 /// The numerator of `c * 2^f`.
 fn top_of(c: Fraction, f: i32) -> i128

@@ -52,25 +52,7 @@ pub enum SourceKind {
 
 impl fmt::Display for SourceKind {
     fn fmt<W: fmt::Write>(&self, f: &mut fmt::Formatter<W>) -> fmt::Result {
-        f.write_str(match self {
-            SourceKind::BadUtf8 => "BadUtf8",
-            SourceKind::BadCharacter => "BadCharacter",
-            SourceKind::BadNumber => "BadNumber",
-            SourceKind::NumberTooLong => "NumberTooLong",
-            SourceKind::Unexpected => "Unexpected",
-            SourceKind::EndOfText => "EndOfText",
-            SourceKind::UnknownName => "UnknownName",
-            SourceKind::NamedTwice => "NamedTwice",
-            SourceKind::NoRange => "NoRange",
-            SourceKind::EmptyRange => "EmptyRange",
-            SourceKind::TooDeep => "TooDeep",
-            SourceKind::TooMany => "TooMany",
-            SourceKind::NoSuchFunction => "NoSuchFunction",
-            SourceKind::WhichFunction => "WhichFunction",
-            SourceKind::Unsupported => "Unsupported",
-            SourceKind::WrongArity => "WrongArity",
-            SourceKind::Memory => "Memory",
-        })
+        fmt::Debug::fmt(self, f)
     }
 }
 

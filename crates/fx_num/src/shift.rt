@@ -4,7 +4,7 @@
 //! has an answer: the floor or the ceiling to the right, and to the left the product or None.
 //! The trap: what a left shift drops is lost on an edge too, as in 1 * 2^127, which is 2^127 and doesn't fit.
 
-ghost use Rattle.std.specs.Prelude.{◌≡◌, ◌^◌, pos, ◌+ℤ◌, ◌-ℤ◌, ◌*ℤ◌, IsTrue};
+ghost use Rattle.std.specs.Prelude.{◌≡◌, ◌*◌, ◌^◌, ◌<◌, ◌≤◌, pos, ◌+ℤ◌, ◌-ℤ◌, ◌*ℤ◌, IsTrue};
 ghost use Rattle.std.specs.Option.{SomeIff};
 ghost use Rattle.fx_rational.specs.Rational.{floor_div, ceil_div};
 ghost use Rattle.fx_rational.specs.Dyadic.{fits_128};
@@ -75,4 +75,25 @@ pub fn left_fits(v: i128, s: u32) -> Option<i128>
     } else {
         None
     }
+}
+
+/// `2^s`.
+pub fn two_to(s: u32) -> u128
+    requires { s ≤ 64 }
+    ensures value { result ≡ 2 ^ s }
+    ensures some { 0 < result }
+    ensures few { result ≤ 2 ^ 64 }
+{
+    1 << s
+}
+
+/// `b * 2^s`.
+pub fn raised(b: u64, s: u32) -> u128
+    requires few { b < 2 ^ 62 }
+    requires shift { s ≤ 64 }
+    ensures value { result ≡ b * 2 ^ s }
+    ensures few { result < 2 ^ 126 }
+    ensures some { 0 < b → 0 < result }
+{
+    u128::from(b) * two_to(s)
 }

@@ -33,16 +33,7 @@ pub enum RowKind {
 
 impl fmt::Display for RowKind {
     fn fmt<W: fmt::Write>(&self, f: &mut fmt::Formatter<W>) -> fmt::Result {
-        f.write_str(match self {
-            RowKind::MissingColumn => "MissingColumn",
-            RowKind::TwiceNamed => "TwiceNamed",
-            RowKind::TooFew => "TooFew",
-            RowKind::BadNumber => "BadNumber",
-            RowKind::OutOfRange => "OutOfRange",
-            RowKind::LineTooLong => "LineTooLong",
-            RowKind::StrayReturn => "StrayReturn",
-            RowKind::Memory => "Memory",
-        })
+        fmt::Debug::fmt(self, f)
     }
 }
 

@@ -1,6 +1,5 @@
 pub mod Choices
 pub mod Cuts
-pub mod Digits
 pub mod NumberLaws
 pub mod Mantissas
 pub mod FieldLaws

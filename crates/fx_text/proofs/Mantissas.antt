@@ -11,10 +11,11 @@ use Rattle.std.proofs.lemmas.List.{take_all}
 use Rattle.std.proofs.lemmas.Option.{cond_some}
 use Rattle.std.proofs.lemmas.Str.{digit_value_digit}
 use Rattle.std.proofs.lemmas.Str.Parse.{digit_at}
+use Rattle.fx_fraction.specs.Digits.{digits_of, saturated}
 use Rattle.fx_model.proofs.Digits.{digits_model}
 use Rattle.fx_rational.specs.Dyadic.{Dyadic, IsDyadic, IsWritten, mantissa_end, exponent_limit}
 use Rattle.fx_text.specs.Cutting.{cut_at}
-use Rattle.fx_text.specs.Numbers.{has_good_front, digits_of, whole_of, integer_of, lowest_spelled, dyadic_in, dyadic_of, clamped, kept_signed, kept_dyadic}
+use Rattle.fx_text.specs.Numbers.{has_good_front, whole_of, integer_of, lowest_spelled, dyadic_in, dyadic_of, kept_signed, kept_dyadic}
 use Rattle.fx_text.proofs.Choices.{chosen}
 use Rattle.fx_text.proofs.NumberLaws.{good_front, cons_drop, negative_is, positive_is}
 
@@ -61,25 +62,25 @@ integer_parity f m e =
     ]
 
 -- zero alone is kept as zero
-kept_zero : (n : ℕ) → eqb (clamped n) 0 ≡ eqb n 0
+kept_zero : (n : ℕ) → eqb (saturated n) 0 ≡ eqb n 0
 kept_zero n = grind (arith, nat_tests)
 
 -- what the code keeps of a dyadic from what it keeps of its parts, given whether the mantissa ends odd
-kept_spelled : (m : Option ℤ) (e : Option ℕ) (km : ℤ) (ke : ℕ) (odd b : Bool) → Some km ≡ option_map kept_signed m → Some ke ≡ option_map clamped e → ((z : ℤ) → m ≡ Some z → odd ≡ eqb (unsigned_abs z % 2) 1)
+kept_spelled : (m : Option ℤ) (e : Option ℕ) (km : ℤ) (ke : ℕ) (odd b : Bool) → Some km ≡ option_map kept_signed m → Some ke ≡ option_map saturated e → ((z : ℤ) → m ≡ Some z → odd ≡ eqb (unsigned_abs z % 2) 1)
     → (eqb ke 0 || odd) ≡ b → cond b (Some (km, ke)) None ≡ option_map kept_dyadic (lowest_spelled m e)
 kept_spelled None e km ke odd b p q o t = absurd cc
 kept_spelled (Some m) None km ke odd b p q o t = absurd cc
 kept_spelled (Some m) (Some e) km ke odd b p q o t =
-    let zeros : eqb ke 0 ≡ eqb e 0 = let y : ke ≡ clamped e = cc in rw y (kept_zero e) in
+    let zeros : eqb ke 0 ≡ eqb e 0 = let y : ke ≡ saturated e = cc in rw y (kept_zero e) in
     let test : (eqb e 0 || eqb (unsigned_abs m % 2) 1) ≡ b = rw (sym zeros, sym (o m refl)) t in
     by b test
   where
     by : (b : Bool) → (eqb e 0 || eqb (unsigned_abs m % 2) 1) ≡ b → cond b (Some (km, ke)) None ≡ option_map kept_dyadic (lowest_spelled (Some m) (Some e))
-    by true test = rw test (let x : km ≡ kept_signed m = cc in let y : ke ≡ clamped e = cc in rw (x, y) refl)
+    by true test = rw test (let x : km ≡ kept_signed m = cc in let y : ke ≡ saturated e = cc in rw (x, y) refl)
     by false test = rw test refl
 
 -- the same from the bytes of a field
-pub parts_kept : (field mantissa exponent : List ℕ) (m : ℤ) (e : ℕ) (b : Bool) → cut_at 58 field ≡ Some (mantissa, exponent) → Some m ≡ option_map kept_signed (integer_of mantissa) → Some e ≡ option_map clamped (whole_of exponent)
+pub parts_kept : (field mantissa exponent : List ℕ) (m : ℤ) (e : ℕ) (b : Bool) → cut_at 58 field ≡ Some (mantissa, exponent) → Some m ≡ option_map kept_signed (integer_of mantissa) → Some e ≡ option_map saturated (whole_of exponent)
     → (eqb e 0 || eqb (get_or mantissa (length mantissa - 1) 0 % 2) 1) ≡ b → cond b (Some (m, e)) None ≡ option_map kept_dyadic (dyadic_of field)
 unfolding dyadic_of
 parts_kept field mantissa exponent m e b c p q t =
@@ -87,14 +88,14 @@ parts_kept field mantissa exponent m e b c p q t =
 
 -- what is below the ends of 64 bits is kept as it is
 kept_signed_small : (z m : ℤ) → kept_signed z ≡ m → unsigned_abs m < mantissa_end → z ≡ m
-kept_signed_small (pos n) m h small = let k : unsigned_abs (kept_signed (pos n)) < mantissa_end = subst (λ z. unsigned_abs z < mantissa_end) (sym h) small in let e : clamped n ≡ n = omega arith in ap pos (sym e) ∙ h
+kept_signed_small (pos n) m h small = let k : unsigned_abs (kept_signed (pos n)) < mantissa_end = subst (λ z. unsigned_abs z < mantissa_end) (sym h) small in let e : saturated n ≡ n = omega arith in ap pos (sym e) ∙ h
 kept_signed_small (negsuc n) m h small = let k : unsigned_abs (kept_signed (negsuc n)) < mantissa_end = subst (λ z. unsigned_abs z < mantissa_end) (sym h) small in let e : min n (2 ^ 64 - 2) ≡ n = omega arith in ap negsuc (sym e) ∙ h
 
 -- the same of a dyadic
 kept_small : (d : Dyadic) (m : ℤ) (e : ℕ) → kept_dyadic d ≡ (m, e) → unsigned_abs m < mantissa_end → e ≤ exponent_limit → d ≡ record { m = m; e = e }
 kept_small d m e h small places =
     let x : kept_signed d.m ≡ m = ap (λ p. p.0) h in
-    let y : clamped d.e ≡ e = ap (λ p. p.1) h in
+    let y : saturated d.e ≡ e = ap (λ p. p.1) h in
     let places_are : d.e ≡ e = omega arith in
     ap (λ z. record { m = z; e = d.e }) (kept_signed_small d.m m x small) ∙ ap (λ k. record { m = m; e = k }) places_are
 

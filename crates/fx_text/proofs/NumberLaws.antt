@@ -9,8 +9,9 @@ use Rattle.std.proofs.lemmas.Bool.{eqb-true}
 use Rattle.std.proofs.lemmas.Int.{ints}
 use Rattle.std.proofs.lemmas.Str.Parse.{digit_at}
 use Rattle.std.proofs.lemmas.Option.{cond_some}
+use Rattle.fx_fraction.specs.Digits.{digits_of}
 use Rattle.fx_model.proofs.Digits.{digits_model}
-use Rattle.fx_text.specs.Numbers.{has_good_front, digits_of, whole_of, negative_number, integer_of}
+use Rattle.fx_text.specs.Numbers.{has_good_front, whole_of, negative_number, integer_of}
 use Rattle.fx_text.specs.Laws.{IsNarrow}
 use Rattle.fx_text.proofs.Choices.{chosen}
 

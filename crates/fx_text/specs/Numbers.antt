@@ -1,8 +1,7 @@
 -- Whole numbers and dyadics, each in its one spelling, however great they are.
 use Rattle.std.specs.Prelude.{◌==◌, ℕ, zero, suc, ℤ, pos, negsuc, Bool, true, false, not, ◌||◌, List, [], ◌∷◌, drop, slice_index, Option, Some, None, option_map, min, ◌^◌, ◌-◌, ◌%◌, unsigned_abs, if◌then◌else◌}
-use Rattle.std.specs.Str.{all_ascii_digits}
-use Rattle.std.specs.Str.Parse.{digits_value}
 use Rattle.fx_rational.specs.Dyadic.{Dyadic}
+use Rattle.fx_fraction.specs.Digits.{digits_of, saturated}
 use Rattle.fx_text.specs.Cutting.{cut_at}
 
 -- one digit, or several of which the first is no 0
@@ -10,10 +9,6 @@ abbrev pub has_good_front : List ℕ → Bool
 has_good_front [] = false
 has_good_front (d ∷ []) = true
 has_good_front (d ∷ e ∷ ds) = not (d == 48)
-
--- what the digits say, however great it is
-abbrev pub digits_of : List ℕ → Option ℕ
-digits_of field = if all_ascii_digits field then Some (digits_value 10 field) else None
 
 -- the whole number without sign that a field spells
 unfoldable pub whole_of : List ℕ → Option ℕ
@@ -43,15 +38,11 @@ dyadic_in (Some parts) = lowest_spelled (integer_of parts.0) (whole_of parts.1)
 unfoldable pub dyadic_of : List ℕ → Option Dyadic
 dyadic_of field = dyadic_in (cut_at 58 field)
 
--- what the code keeps of a number: one past the end of 64 bits is kept as that end
-abbrev pub clamped : ℕ → ℕ
-clamped n = min n (2 ^ 64 - 1)
-
--- the same with a sign
+-- what the code keeps of a number with a sign
 abbrev pub kept_signed : ℤ → ℤ
-kept_signed (pos n) = pos (clamped n)
+kept_signed (pos n) = pos (saturated n)
 kept_signed (negsuc n) = negsuc (min n (2 ^ 64 - 2))
 
 -- and of a dyadic's parts
 abbrev pub kept_dyadic : Dyadic → ℤ × ℕ
-kept_dyadic d = (kept_signed d.m, clamped d.e)
+kept_dyadic d = (kept_signed d.m, saturated d.e)

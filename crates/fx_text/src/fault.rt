@@ -31,15 +31,7 @@ pub enum TextKind {
 
 impl fmt::Display for TextKind {
     fn fmt<W: fmt::Write>(&self, f: &mut fmt::Formatter<W>) -> fmt::Result {
-        f.write_str(match self {
-            TextKind::BadLine => "BadLine",
-            TextKind::BadNumber => "BadNumber",
-            TextKind::OutOfRange => "OutOfRange",
-            TextKind::Extra => "Extra",
-            TextKind::TooMany => "TooMany",
-            TextKind::Memory => "Memory",
-            TextKind::Section => "Section",
-        })
+        fmt::Debug::fmt(self, f)
     }
 }
 

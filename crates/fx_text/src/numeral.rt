@@ -5,9 +5,11 @@
 //! whether a mantissa is odd is asked of its last digit.
 
 ghost use Rattle.std.specs.Prelude.{◌≡◌, ◌==◌, ◌||◌, ◌%◌, ◌-◌, length, option_map, slice_index};
-ghost use Rattle.fx_text.specs.Numbers.{has_good_front, digits_of, whole_of, clamped, integer_of, kept_signed, dyadic_of, kept_dyadic};
+ghost use Rattle.fx_fraction.specs.Digits.{saturated};
+ghost use Rattle.fx_text.specs.Numbers.{has_good_front, whole_of, integer_of, kept_signed, dyadic_of, kept_dyadic};
 
 use crate::cut::cut_at;
+use fx_fraction::read_natural;
 
 fn has_good_front(field: &[u8]) -> bool
     ensures { result ≡ has_good_front field.now }
@@ -19,28 +21,13 @@ fn has_good_front(field: &[u8]) -> bool
     }
 }
 
-fn digits(field: &[u8]) -> Option<u64>
-    ensures { result ≡ option_map clamped (digits_of field.now) }
-{
-    let mut value = 0u64;
-    for byte in field {
-        if !byte.is_ascii_digit() {
-            return None;
-        }
-        value = value
-            .saturating_mul(10)
-            .saturating_add(u64::from(*byte - b'0'));
-    }
-    Some(value)
-}
-
 /// The number that the field spells, or the greatest `u64` where it is greater still.
 #[tactic(auto, unfolding(crate::specs::Numbers::whole_of))]
 pub fn whole(field: &[u8]) -> Option<u64>
-    ensures { result ≡ option_map clamped (whole_of field.now) }
+    ensures { result ≡ option_map saturated (whole_of field.now) }
 {
     if has_good_front(field) {
-        digits(field)
+        read_natural(field)
     } else {
         None
     }
