@@ -1,12 +1,12 @@
 -- A factor that is raised to an exponent before it is multiplied stays within 64 bits, and its product within 128.
-use Rattle.std.proofs.Common.{◌≡◌, ℕ, ◌+◌, ◌-◌, ◌*◌, ◌%◌, ◌^◌, ◌<◌, ◌≤◌, ℤ, pos, negsuc, ◌*ℤ◌, int_le, int_lt, false, unsigned_abs, IsTrue, FitsSigned, to_z, of_z, [], ◌∷◌, refl, ap, subst, sym, ◌∙◌, arith}
+use Rattle.std.proofs.Common.{◌≡◌, ℕ, ◌+◌, ◌-◌, ◌*◌, ◌%◌, ◌^◌, ◌<◌, ◌≤◌, ℤ, pos, ◌*ℤ◌, unsigned_abs, IsTrue, FitsSigned, to_z, of_z, [], ◌∷◌, refl, ap, subst, sym, ◌∙◌, arith}
 use Rattle.std.specs.Int.{w64, w128, leading_zeros}
 use Rattle.fx_algebra.proofs.Quote.{by_quotes, quotes}
 use Rattle.fx_rational.specs.Dyadic.{fits_128}
 use Rattle.fx_rational.proofs.Fits.{fits_is}
 use Rattle.std.proofs.Math.Nat.{mod-eq_of_lt}
 use Rattle.std.proofs.Math.Pow.{pow_mono}
-use Rattle.std.proofs.lemmas.Int.{ints, to_z-of_z, to_z_pos, unsigned_abs-mul, fits_signed_from_abs, fits_signed_mul}
+use Rattle.std.proofs.lemmas.Int.{to_z-of_z, to_z_pos, unsigned_abs-mul, fits_signed_from_abs, fits_signed_mul}
 use Rattle.std.proofs.lemmas.Nat.{leading_length, mul-le, pow-add, pow_pos}
 
 -- a power of two as a word
@@ -53,32 +53,6 @@ factor_near m s near =
     let one : 1 ≤ 2 ^ s = pow_pos s in
     let le = mul-le (unsigned_abs m) 1 (unsigned_abs m) (2 ^ s) (omega arith) one in
     omega (arith, le, near)
-
--- a mantissa that passes both tests
-pub between : (m : ℤ) → FitsSigned w128 m → int_lt (to_z w128 (of_z w128 m)) (negsuc 18446744073709551615) ≡ false → int_le (pos 18446744073709551616) (to_z w128 (of_z w128 m)) ≡ false → unsigned_abs m ≤ 2 ^ 64
-between m f h k =
-    let e = to_z-of_z w128 m f in
-    by m (subst (λ z. int_lt z (negsuc 18446744073709551615) ≡ false) e h) (subst (λ z. int_le (pos 18446744073709551616) z ≡ false) e k)
-  where
-    by : (z : ℤ) → int_lt z (negsuc 18446744073709551615) ≡ false → int_le (pos 18446744073709551616) z ≡ false → unsigned_abs z ≤ 2 ^ 64
-    by (pos n) h k = omega (arith, ints, k)
-    by (negsuc n) h k = omega (arith, ints, h)
-
--- its product
-pub multiple_is : (t b x : ℤ) → FitsSigned w64 t → FitsSigned w128 b → x ≡ to_z w64 (of_z w64 t) → unsigned_abs t ≤ 2 ^ 62 → unsigned_abs b ≤ 2 ^ 64
-    → to_z w128 (of_z w128 (to_z w128 (of_z w128 x) *ℤ to_z w128 (of_z w128 b))) ≡ t *ℤ b
-multiple_is t b x f g e near small =
-    let wide : FitsSigned w128 t = fits_signed_from_abs w128 t (omega (arith, near)) in
-    let u : to_z w128 (of_z w128 x) ≡ t = ap (λ v. to_z w128 (of_z w128 v)) (e ∙ to_z-of_z w64 t f) ∙ to_z-of_z w128 t wide in
-    let v : to_z w128 (of_z w128 b) ≡ b = to_z-of_z w128 b g in
-    let fits : FitsSigned w128 (t *ℤ b) = fits_signed_mul w128 t b (2 ^ 62) (2 ^ 64) near small (omega arith) in
-    ap (λ z. to_z w128 (of_z w128 z)) (λ i. u i *ℤ v i) ∙ to_z-of_z w128 (t *ℤ b) fits
-
-pub multiple_near : (t b x : ℤ) → x ≡ t *ℤ b → unsigned_abs t ≤ 2 ^ 62 → unsigned_abs b ≤ 2 ^ 64 → unsigned_abs x ≤ 2 ^ 126
-multiple_near t b x e near small =
-    let abs = unsigned_abs-mul t b in let same = ap unsigned_abs e in
-    let le = mul-le (unsigned_abs t) (unsigned_abs b) (2 ^ 62) (2 ^ 64) near small in
-    omega (arith, same, abs, le)
 
 -- what is raised first is the product raised
 pub raised_product : (x y q t : ℤ) (p : ℕ) → q ≡ x *ℤ pos p → t ≡ q *ℤ y → t ≡ (x *ℤ y) *ℤ pos p

@@ -1,9 +1,9 @@
 -- Shares of rows, one more at the end a turn, and coefficients in an array.
-use Rattle.std.proofs.Common.{◌≡◌, inl, inr, ℕ, zero, suc, ◌+◌, ◌==◌, ◌<◌, ◌≤◌, pos, Bool, if◌then◌else◌, List, [], ◌∷◌, ◌++◌, length, take, set, get_or, replicate, Option, None, refl, ap, sym, ◌∙◌, subst, arith, rules, tests, true, false}
+use Rattle.std.proofs.Common.{◌≡◌, inl, inr, ℕ, zero, suc, ◌+◌, ◌-◌, ◌==◌, ◌<◌, ◌≤◌, pos, Bool, if◌then◌else◌, List, [], ◌∷◌, ◌++◌, length, take, drop, set, get_or, replicate, Option, None, refl, ap, sym, ◌∙◌, subst, arith, rules, tests, true, false}
 use Rattle.std.proofs.Math.Seq.{take-suc}
 use Rattle.std.proofs.lemmas.Bool.{cases_lt}
 use Rattle.std.specs.Prelude.{ltb}
-use Rattle.std.proofs.lemmas.List.{map-append, get_or-set_same, get_or-set_other, length-replicate}
+use Rattle.std.proofs.lemmas.List.{map-append, get_or-drop, get_or-set_same, get_or-set_other, length-drop, length-replicate, take_all}
 use Rattle.fx_rational.specs.Dyadic.{Dyadic, zero_dyadic}
 use Rattle.fx_model.specs.Tree.{at}
 use Rattle.fx_inequalities.specs.Formula.{Formula, Num, Sum, Difference, Product, Span, point, span_sum, span_product}
@@ -14,7 +14,7 @@ use Rattle.fx_judging.specs.Places.{IsShort}
 use Rattle.fx_judging.proofs.Shorts.{short_difference, short_product, short_sum}
 use Rattle.fx_cert.specs.declared.certificate.Share as written
 use Rattle.fx_cert.specs.CertificateView.{share_of, shares_of}
-use Rattle.fx_sharing.specs.Coefficients.{AreFormed, AreLeft}
+use Rattle.fx_sharing.specs.Coefficients.{AreFormed, AreLeft, AreUnits}
 use Rattle.fx_conditions.specs.Limits.{AreShortRows, AreShortShares}
 use Rattle.fx_conditions.proofs.Shorts.{row_coef_short}
 
@@ -85,6 +85,22 @@ unit_among m i k z none room = subst (λ (d : Dyadic). Num (at zero_dyadic (set 
     by : (t : Bool) → (i == k) ≡ t → Num (at zero_dyadic (set (replicate m zero_dyadic) i one) k) ≡ (if t then Num one else Num zero_dyadic)
     by true e = let same : i ≡ k = grind (arith, e) in subst (λ (j : ℕ). Num (at zero_dyadic (set (replicate m zero_dyadic) i one) j) ≡ Num one) same (ap Num (get_or-set_same (replicate m zero_dyadic) i one zero_dyadic (omega (arith, length-replicate m zero_dyadic))))
     by false e = ap Num (get_or-set_other (replicate m zero_dyadic) i k one zero_dyadic (grind (arith, e)) ∙ zeros_at m k)
+
+-- from so many places before that 1 on
+same_place : (i k : ℕ) → i < 96 → unit_coef 95 (95 - i + k) ≡ unit_coef i k
+same_place i k few = by (i == k) (95 == 95 - i + k) refl refl
+  where
+    by : (s t : Bool) → (i == k) ≡ s → (95 == 95 - i + k) ≡ t → (if t then Num (record { m = pos 1; e = 0 }) else Num zero_dyadic) ≡ (if s then Num (record { m = pos 1; e = 0 }) else Num zero_dyadic)
+    by true true d e = refl
+    by false false d e = refl
+    by true false d e = absurd (grind (arith, d, e, few))
+    by false true d e = absurd (grind (arith, d, e, few))
+
+pub unit_from : (xs : List Dyadic) (i k : ℕ) → AreUnits xs → i < 96 → Num (at zero_dyadic (take (length xs - (95 - i)) (drop (95 - i) xs)) k) ≡ unit_coef i k
+unit_from xs i k units few =
+    let n = 95 - i in
+    ap (λ (ys : List Dyadic). Num (at zero_dyadic ys k)) (take_all (length xs - n) (drop n xs) (omega (arith, length-drop n xs)))
+    ∙ ap Num (get_or-drop n xs k zero_dyadic) ∙ units (n + k) ∙ same_place i k few
 
 -- what stands for a unit row, and for any other
 pub unit_row_is : (rs : List Row) (n i k : ℕ) → i < n → (rows_of n rs).coef i k ≡ unit_coef i k

@@ -1,8 +1,9 @@
 -- The coefficients of a combination of the variables, as formulas come to them.
-use Rattle.std.specs.Prelude.{ℕ, ◌+◌, ◌<◌, List, Option, None}
-use Rattle.fx_rational.specs.Dyadic.{Dyadic}
+use Rattle.std.specs.Prelude.{◌≡◌, ℕ, ◌+◌, ◌<◌, List, Option, None}
+use Rattle.fx_rational.specs.Dyadic.{Dyadic, zero_dyadic}
 use Rattle.fx_model.specs.Tree.{at}
-use Rattle.fx_inequalities.specs.Formula.{Formula}
+use Rattle.fx_inequalities.specs.Affine.{unit_coef}
+use Rattle.fx_inequalities.specs.Formula.{Formula, Num}
 use Rattle.fx_judging.specs.Judging.{Forms}
 use Rattle.fx_judging.specs.Places.{IsShort}
 
@@ -14,3 +15,7 @@ pub record AreFormed (xs : List (Option Dyadic)) (n : ℕ) (c : ℕ → Formula)
 -- behind the first i, the numbers are what these k formulas come to
 abbrev pub AreLeft : List (Option Dyadic) → ℕ → ℕ → (ℕ → Formula) → Type 0
 AreLeft xs i k c = (j : ℕ) → j < k → Forms (at None xs (i + j)) (c j)
+
+-- 1 at place 95 and 0 elsewhere
+abbrev pub AreUnits : List Dyadic → Type 0
+AreUnits xs = (j : ℕ) → Num (at zero_dyadic xs j) ≡ unit_coef 95 j

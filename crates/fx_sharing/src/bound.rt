@@ -1,6 +1,6 @@
 //! Where a combination of the variables lies, by rows and shares of rows.
 
-ghost use Rattle.std.specs.Prelude.{◌≡◌, ◌+◌, ◌<◌, ◌≤◌, ◌^◌, ℕ, None, Some, IfSome};
+ghost use Rattle.std.specs.Prelude.{◌≡◌, ◌+◌, ◌<◌, ◌≤◌, ◌^◌, ℕ, length, None, Some, IfSome};
 ghost use Rattle.fx_model.specs.Tree.{at};
 ghost use Rattle.fx_rational.specs.Dyadic.{zero_dyadic};
 ghost use Rattle.fx_inequalities.specs.Certificate.{no_row};
@@ -9,7 +9,7 @@ ghost use Rattle.fx_inequalities.specs.Affine.{bound_by_rows, left_over, rows_of
 ghost use Rattle.fx_judging.specs.Judging.{Forms, FormsSpan};
 ghost use Rattle.fx_judging.specs.Places.{IsShort, IsShortSpan};
 ghost use Rattle.fx_cert.specs.CertificateView.{form_view as form_view, lines_view, rows_in, shares_of};
-ghost use Rattle.fx_sharing.specs.Coefficients.{AreFormed, AreLeft};
+ghost use Rattle.fx_sharing.specs.Coefficients.{AreFormed, AreLeft, AreUnits};
 ghost use Rattle.fx_conditions.specs.Sides.{side_at};
 ghost use Rattle.fx_conditions.specs.Limits.{AreShortLines, AreShortRows, AreShortShares, IsShortForm};
 
@@ -183,14 +183,26 @@ fn take_row(
     }
 }
 
-/// The coefficients of the unit row of state `i`.
-fn unit_coefs(i: u32) -> [Dyadic; 96]
-    requires { i < 96 }
-    ensures { (k : ℕ) → Num (at zero_dyadic result k) ≡ unit_coef i k }
+// Where the 1 of the units stands.
+const CENTRE: usize = VARIABLES - 1;
+
+/// Zeros, a 1 and zeros again: from so many places before the 1 on they are the coefficients of a unit row.
+fn units() -> [Dyadic; 192]
+    ensures { AreUnits result }
 {
-    let mut unit = [zero_dyadic(); VARIABLES];
-    unit[i as usize] = Dyadic { m: 1, e: 0 };
-    unit
+    let mut units = [zero_dyadic(); 2 * VARIABLES];
+    units[CENTRE] = Dyadic { m: 1, e: 0 };
+    units
+}
+
+/// The coefficients of the unit row of state `i`.
+fn unit_coefs(units: &[Dyadic], i: u32) -> &[Dyadic]
+    requires units { AreUnits units.now }
+    requires long { length units.now ≡ 192 }
+    requires few { i < 96 }
+    ensures { (k : ℕ) → Num (at zero_dyadic result.now k) ≡ unit_coef i k }
+{
+    &units[CENTRE - i as usize..]
 }
 
 /// The coefficients of a row that is no unit row.
@@ -210,15 +222,18 @@ fn take_share(
     rows: &[Row],
     states: u32,
     share: Share,
+    units: &[Dyadic],
 )
+    requires units { AreUnits units.now }
+    requires long { length units.now ≡ 192 }
     requires rows { AreShortRows (rows_in rows.now) }
     requires times { IsShort 96 (Num share.times) }
     requires few { inputs + states ≤ 96 }
     ensures { (c : ℕ → Formula) → AreLeft coefs.old inputs states c → AreLeft coefs.new inputs states (λ k. Difference (c k) (Product (Num share.times) ((rows_of states (rows_in rows.now)).coef share.row k))) }
 {
     if share.row < states {
-        let unit = unit_coefs(share.row);
-        take_row(coefs, inputs, &unit, states, share.times);
+        let unit = unit_coefs(units, share.row);
+        take_row(coefs, inputs, unit, states, share.times);
     } else {
         let row = coefs_of(rows, share.row);
         take_row(coefs, inputs, row, states, share.times);
@@ -238,8 +253,9 @@ fn take_shares(
     requires few { inputs + states ≤ 96 }
     ensures { (c : ℕ → Formula) → AreLeft coefs.old inputs states c → AreLeft coefs.new inputs states (λ k. left_over (c k) (rows_of states (rows_in rows.now)) (shares_of shares.now) k) }
 {
+    let units = units();
     for share in shares {
-        take_share(coefs, inputs, rows, states, *share);
+        take_share(coefs, inputs, rows, states, *share, &units);
     }
 }
 

@@ -61,21 +61,16 @@ fn raised(m: i64, places: u32) -> Option<i64>
     Some(m * power(places))
 }
 
-const EDGE: i128 = 1i128 << 64;
-
 const FAR: i128 = 1i128 << 126;
 
-/// The product with a mantissa within 2^64.
+/// The product with a short mantissa.
 fn multiple(times: i64, b: Dyadic) -> Option<i128>
     requires near { unsigned_abs times ≤ 2 ^ 62 }
     ensures is { IfSome result (λ x. x ≡ times *ℤ b.m) }
     ensures small { IfSome result (λ x. unsigned_abs b.m ≤ 2 ^ 64) }
     ensures near { IfSome result (λ x. unsigned_abs x ≤ 2 ^ 126) }
 {
-    if b.m < -EDGE || EDGE <= b.m {
-        return None;
-    }
-    Some(i128::from(times) * b.m)
+    Some(i128::from(times) * i128::from(short(b)?))
 }
 
 /// The mantissa of `left`, where that is within 2^126, less another.

@@ -1,5 +1,5 @@
-use Rattle.fx_sharing.proofs.Shares.{unit_among}
+use Rattle.fx_sharing.proofs.Shares.{unit_from}
 use Rattle.fx_sharing.proofs.bound.unit_coefs.Goals as goal
 
 pub returns : goal.returns
-returns c = λ k. unit_among 96 c.args.i k c.zero_dyadic-unit.result c.zero_dyadic-unit.ensures c.requires
+returns c = λ k. unit_from c.args.units.now c.args.i k c.requires.units c.requires.few
