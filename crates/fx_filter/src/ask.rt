@@ -63,7 +63,6 @@ pub(crate) fn ask<S: Source, K: Sink>(
 }
 
 /// Gives the line last answered to a printer.
-#[inline(always)]
 pub(crate) fn take_line<P: Printer>(
     lines: &Lines,
     printer: &mut P,
