@@ -1,10 +1,11 @@
 //! Literals: where their words are exact, and how far they are off elsewhere.
-ghost use Rattle.std.specs.Prelude.{◌≡◌, ◌<◌, ◌≤◌, ◌^◌, ◌*◌};
+ghost use Rattle.std.specs.Prelude.{◌<◌, ◌^◌};
 
 use crate::choice::{Choice, Choices};
 use crate::entry::{Entry, Exact};
 use crate::magnitude::Magnitude;
 use fx_fraction::Fraction;
+use fx_num::raised;
 
 /// The numerator without its sign.
 fn top(c: Fraction) -> u64
@@ -34,19 +35,10 @@ fn exact_point(c: Fraction) -> Option<i8> {
     }
 }
 
-/// `b * 2^s`.
-fn raised(b: u64, s: u8) -> u128
-    requires few { b < 2 ^ 62 }
-    requires shift { s ≤ 64 }
-    ensures { result ≡ b * 2 ^ s }
-{
-    u128::from(b) << u32::from(s)
-}
-
 /// How far the nearest word at a point is from a literal.
 fn nearest_miss(c: Fraction, f: i8) -> Magnitude {
-    let whole = raised(top(c), f.clamp(0, 64).unsigned_abs());
-    let unit = raised(bottom(c), f.clamp(-64, 0).unsigned_abs());
+    let whole = raised(top(c), u32::from(f.clamp(0, 64).unsigned_abs()));
+    let unit = raised(bottom(c), u32::from(f.clamp(-64, 0).unsigned_abs()));
     if unit == 0 {
         return Magnitude::GREATEST;
     }

@@ -2,7 +2,7 @@
 //!
 //! A great certificate takes a multiple of a row's coefficient away some hundred million times, and mantissas that are read from
 //! a text are short. Then one product of 64 bits gives what the operations on dyadics give. What isn't short, or has more
-//! places than what it is taken from, has no answer here, and goes their way.
+//! places than what it is taken from and isn't zero, has no answer here, and goes their way.
 
 ghost use Rattle.std.specs.Prelude.{◌≡◌, ◌≤◌, ◌^◌, pos, unsigned_abs, ◌*ℤ◌, ◌-ℤ◌, IfSome, IsTrue};
 ghost use Rattle.std.specs.Option.{SomeIff};
