@@ -12,25 +12,7 @@ ghost use Rattle.fx_analysis.specs.PointView.{point_answer};
 use fx_flat::Node;
 use fx_interval::Interval;
 use fx_judging::word_value;
-use fx_num::{Dyadic, dle};
-
-/// `2^s`.
-fn two_to(s: u32) -> u64
-    requires { s ≤ 62 }
-    ensures value { result ≡ 2 ^ s }
-    ensures few { result ≤ 2 ^ 62 }
-{
-    1 << s
-}
-
-/// The same with a sign.
-fn power(s: u32) -> i64
-    requires { s ≤ 62 }
-    ensures value { result ≡ pos (2 ^ s) }
-    ensures few { unsigned_abs result ≤ 2 ^ 62 }
-{
-    two_to(s) as i64
-}
+use fx_num::{Dyadic, dle, short_two_to};
 
 /// Half the size of the least word of this width.
 fn half(width: u32) -> i64
@@ -39,7 +21,7 @@ fn half(width: u32) -> i64
     ensures value { result ≡ pos (2 ^ (width - 2)) }
     ensures few { unsigned_abs result ≤ 2 ^ 62 }
 {
-    power(width - 2)
+    short_two_to(width - 2)
 }
 
 /// The same below zero.

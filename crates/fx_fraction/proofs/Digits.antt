@@ -5,7 +5,7 @@ use Rattle.std.specs.Str.Parse.{digits_value_after}
 use Rattle.std.proofs.lemmas.Str.{digit_value_digit}
 use Rattle.std.proofs.lemmas.List.Sums.{prefix_len-le-length}
 use Rattle.std.proofs.lemmas.List.Folds.{length-prefix_len}
-use Rattle.std.proofs.Math.Nat.{mul-le-mul_left, mul-le-mul_right, mul_assoc, one-le-pow, pow-le-pow_right, pow-suc, pow-succ'}
+use Rattle.std.proofs.Math.Nat.{mul-le-mul_left, mul-le-mul_right, mul_assoc, one-le-pow, pow-suc, pow-succ'}
 use Rattle.fx_model.proofs.Digits.{digit_range}
 use Rattle.fx_fraction.specs.Numeral.{digit_count, first_digits, part_of, part_digits}
 use Rattle.fx_fraction.specs.ReadParts.{IsBelowTens}
@@ -54,8 +54,3 @@ below_tens_more n d k lt h =
     let up : (n * 10 + d + 1) * 10 ^ k ≤ (n + 1) * 10 * 10 ^ k = mul-le-mul_right (10 ^ k) (omega arith) in
     let e : (n + 1) * 10 ^ suc k ≡ (n + 1) * 10 * 10 ^ k = ap (λ (p : ℕ). (n + 1) * p) (pow-succ' 10 k) ∙ sym (mul_assoc (n + 1) 10 (10 ^ k)) in
     omega (arith, up, e, h)
-
-pub below_tens_fewer : (n j k : ℕ) → j ≤ k → IsBelowTens n k → IsBelowTens n j
-below_tens_fewer n j k le h =
-    let up : (n + 1) * 10 ^ j ≤ (n + 1) * 10 ^ k = mul-le-mul_left (n + 1) (pow-le-pow_right {n = 10} (omega arith) le) in
-    omega (arith, up, h)

@@ -1,5 +1,5 @@
 -- A number of digits, read in 64 bits.
-use Rattle.std.proofs.Common.{◌≡◌, ℕ, ◌+◌, ◌*◌, ◌-◌, ◌<◌, ◌≤◌, Bool, true, false, ◌&&◌, List, length, get_or, take, Option, Some, None, if◌then◌else◌, refl, subst, ◌∙◌, inl, inr, arith, rules, tests}
+use Rattle.std.proofs.Common.{◌≡◌, ℕ, ◌+◌, ◌*◌, ◌-◌, ◌<◌, ◌≤◌, Bool, true, false, ◌&&◌, List, length, get_or, take, Some, None, if◌then◌else◌, refl, subst, ◌∙◌, inl, inr, arith, rules, tests}
 use Rattle.std.specs.Prelude.{nat_lt, option_map}
 use Rattle.std.specs.Char.{is_ascii_digit}
 use Rattle.std.specs.Str.{all_ascii_digits}

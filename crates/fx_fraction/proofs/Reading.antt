@@ -2,7 +2,7 @@
 use Rattle.std.proofs.Common.{to_z, of_z, ◌≡◌, ℕ, ◌+◌, ◌-◌, ◌^◌, ◌<◌, ◌≤◌, ℤ, pos, negsuc, ◌-ℤ◌, neg_ℤ, ◌≤ℤ◌, Bool, true, false, cond, ltb, List, [], ◌++◌, length, take, drop, Option, Some, None, Result, Err, inl, inr, refl, sym, ap, subst, ◌∙◌, length-drop, arith, rules, tests}
 use Rattle.std.specs.Prelude.{nat_lt, option_map}
 use Rattle.std.specs.Int.{w128}
-use Rattle.std.specs.Str.Parse.{digits_value, digits_value_after}
+use Rattle.std.specs.Str.Parse.{digits_value}
 use Rattle.std.proofs.lemmas.Int.{ints}
 use Rattle.std.proofs.lemmas.List.{take_all, drop_all}
 use Rattle.fx_fraction.specs.Digits.{saturated}
@@ -14,8 +14,7 @@ use Rattle.fx_fraction.specs.declared.significant.Significant.TheVariants.{Zero,
 use Rattle.fx_fraction.specs.Numeral.{Power, Sign, sign_of, behind_sign, is_minus, signed, exponent, digit_count, first_digits, behind_digits, part_of, part_digits, behind_part, power_of, numeral_of, unsigned_of}
 use Rattle.fx_fraction.specs.DecimalOf.{trimmed, fewest_places, within_limits, decimal_from, decimal_of}
 use Rattle.fx_fraction.specs.Kept.{Keeps, FitsFront, zeros_of, kept_exponent}
-use Rattle.fx_fraction.specs.ReadParts.{by_shift, exponent_kept, IsMantissa, IsShortPart}
-use Rattle.fx_fraction.proofs.Digits.{digits_after_append}
+use Rattle.fx_fraction.specs.ReadParts.{by_shift, exponent_kept, IsMantissa, IsShortNumber}
 use Rattle.fx_fraction.proofs.Shifts.{fewest_front, fewest_zero, fewest_long, too_far}
 
 -- ---- an exponent past 64 bits is beyond all texts
@@ -134,36 +133,16 @@ places_near places z short n = let l = n.low in let h = n.high in (rw (places_is
 
 -- ---- a text without a power
 
--- the parts of a body that ends with them
-pub record IsPlain (body tail : List ℕ) (whole count size places end : ℕ) : Type 0 where
-  pub count_is : count ≡ digit_count body
-  pub within : count ≤ length body
-  pub tail_is : tail ≡ take (length body - count) (drop count body)
-  pub whole_is : whole ≡ digits_value_after 10 0 (first_digits body)
-  pub part : IsShortPart whole tail (size, places, end)
-  pub some : 0 < count + places
-  pub ends : length body ≤ count + end
-
-pub plain_is : (text body tail : List ℕ) (whole count size places end : ℕ) → body ≡ behind_sign text → IsPlain body tail whole count size places end
+pub plain_is : (text body : List ℕ) (size places end : ℕ) → body ≡ behind_sign text → IsShortNumber body size places end → length body ≤ end
     → within_limits (is_minus (sign_of text)) (trimmed size places) ≡ decimal_of text
 unfolding decimal_of numeral_of
-plain_is text body tail whole count size places end b p =
-    let ci = p.count_is in let ends = p.ends in let k = p.within in
-    let all : tail ≡ drop count body = p.tail_is ∙ take_all (length body - count) (drop count body) (omega (arith, length-drop count body)) in
-    let behind : tail ≡ behind_digits body = all ∙ ap (λ (i : ℕ). drop i body) ci in
-    let long : length tail ≡ length body - count = ap length all ∙ length-drop count body in
-    let n = digits_value 10 (first_digits body ++ part_digits (part_of (behind_digits body))) in
-    let l = length (part_digits (part_of (behind_digits body))) in
-    let size_is : size ≡ n = p.part.value
-    ∙ ap (λ (w : ℕ). digits_value_after 10 w (part_digits (part_of tail))) p.whole_is
-    ∙ ap (λ (xs : List ℕ). digits_value_after 10 (digits_value_after 10 0 (first_digits body)) (part_digits (part_of xs))) behind
-    ∙ sym (digits_after_append 0 (first_digits body) (part_digits (part_of (behind_digits body)))) in
-    let places_is : places ≡ l = p.part.places ∙ ap (λ (xs : List ℕ). length (part_digits (part_of xs))) behind in
-    let nothing : behind_part (behind_digits body) ≡ [] = ap behind_part (sym behind) ∙ sym p.part.rest ∙ drop_all end tail (omega arith) in
-    let some : nat_lt 0 (digit_count body + l) ≡ true = (let h = p.some in let q : count + places ≡ digit_count body + l = omega arith in search (rules, tests)) in
-    let e : pos l ≡ pos l -ℤ pos 0 = omega (arith, ints) in
-    ap (λ (m : ℕ). within_limits (is_minus (sign_of text)) (trimmed m places)) size_is
-    ∙ ap (λ (q : ℕ). within_limits (is_minus (sign_of text)) (fewest_places n (pos q))) places_is
-    ∙ ap (λ z. within_limits (is_minus (sign_of text)) (fewest_places n z)) e
+plain_is text body size places end b n ends =
+    let whole = digits_value 10 (first_digits body ++ part_digits (part_of (behind_digits body))) in
+    let nothing : behind_part (behind_digits body) ≡ [] = sym n.rest ∙ drop_all end body ends in
+    let some : nat_lt 0 (digit_count body + length (part_digits (part_of (behind_digits body)))) ≡ true = (let h = n.some in search (rules, tests)) in
+    let e : pos (length (part_digits (part_of (behind_digits body)))) ≡ pos (length (part_digits (part_of (behind_digits body)))) -ℤ pos 0 = omega (arith, ints) in
+    ap (λ (m : ℕ). within_limits (is_minus (sign_of text)) (trimmed m places)) n.value
+    ∙ ap (λ (q : ℕ). within_limits (is_minus (sign_of text)) (fewest_places whole (pos q))) n.places_are
+    ∙ ap (λ z. within_limits (is_minus (sign_of text)) (fewest_places whole z)) e
     ∙ from_parts (sign_of text) body None some (ap power_of nothing)
     ∙ ap (λ (xs : List ℕ). decimal_from (unsigned_of (sign_of text) xs)) b

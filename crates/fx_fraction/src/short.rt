@@ -8,7 +8,7 @@ ghost use Rattle.std.specs.Str.Parse.{digits_value_after};
 ghost use Rattle.fx_fraction.specs.Numeral.{digit_count, first_digits, part_of, part_digits, behind_part};
 ghost use Rattle.fx_fraction.specs.DecimalOf.{trimmed, within_limits, decimal_of};
 ghost use Rattle.fx_fraction.specs.Kept.{Keeps, FitsFront, zeros_of};
-ghost use Rattle.fx_fraction.specs.ReadParts.{IsBelowTens, IsMantissa, IsShortPart};
+ghost use Rattle.fx_fraction.specs.ReadParts.{IsBelowTens, IsMantissa, IsShortNumber, IsShortPart};
 
 use crate::decimal::{Decimal, signed};
 use crate::read::{Mantissa, behind_sign, is_negative};
@@ -73,9 +73,17 @@ fn stripped(size: u64) -> Significant
     Significant::Front { front, zeros }
 }
 
-/// The digits behind the sign, with the point among or around them. None where the text is long, or there is none.
-pub fn read_short(body: &[u8]) -> Option<Mantissa>
-    ensures { IfSome result (λ m. IsMantissa body.now m.digits m.places m.end) }
+/// The digits that stand first in a short text, with the point among or around them.
+#[derive(Clone, Copy)]
+struct ShortNumber {
+    size: u64,
+    places: usize,
+    end: usize,
+}
+
+/// The digits behind the sign. None where the text is long, or there is none.
+fn first_number(body: &[u8]) -> Option<ShortNumber>
+    ensures { IfSome result (λ n. IsShortNumber body.now n.size n.places n.end) }
 {
     if body.len() > FEW {
         return None;
@@ -85,10 +93,22 @@ pub fn read_short(body: &[u8]) -> Option<Mantissa>
     if size >= KEPT || count + places == 0 {
         return None;
     }
-    Some(Mantissa {
-        digits: stripped(size),
+    Some(ShortNumber {
+        size,
         places,
         end: count + end,
+    })
+}
+
+/// The same, with what is kept of the digits.
+pub fn read_short(body: &[u8]) -> Option<Mantissa>
+    ensures { IfSome result (λ m. IsMantissa body.now m.digits m.places m.end) }
+{
+    let number = first_number(body)?;
+    Some(Mantissa {
+        digits: stripped(number.size),
+        places: number.places,
+        end: number.end,
     })
 }
 
@@ -115,13 +135,9 @@ pub fn read_plain(text: &[u8]) -> Option<Decimal>
     ensures { IfSome result (λ d. decimal_of text.now ≡ Ok d) }
 {
     let body = behind_sign(text);
-    if body.len() > FEW {
+    let number = first_number(body)?;
+    if number.end < body.len() || number.places > 18 {
         return None;
     }
-    let (whole, count) = few_digits(0, body);
-    let (size, places, end) = few_part(whole, &body[count..]);
-    if size >= KEPT || count + end < body.len() || count + places == 0 || places > 18 {
-        return None;
-    }
-    Some(lowered(is_negative(text), size, places as u8))
+    Some(lowered(is_negative(text), number.size, number.places as u8))
 }

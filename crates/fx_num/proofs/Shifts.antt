@@ -1,7 +1,8 @@
 -- Shifts of whole numbers of 128 bits by any amount.
 use Rattle.std.proofs.Common.{◌≡◌, ℕ, zero, suc, ◌+◌, ◌-◌, ◌*◌, ◌/◌, ◌%◌, ◌^◌, ◌<◌, ◌≤◌, refl, sym, ap, ◌∙◌, arith, pos, negsuc, ℤ, ◌*ℤ◌, neg_ℤ, ◌≤ℤ◌, ◌<ℤ◌, FitsSigned, to_z, of_z, lit<}
-use Rattle.std.specs.Int.{w128}
-use Rattle.std.proofs.lemmas.Int.{ints, to_z-of_z}
+use Rattle.std.specs.Int.{w64, w128}
+use Rattle.std.proofs.Math.Pow.{pow_mono}
+use Rattle.std.proofs.lemmas.Int.{ints, to_z-of_z, to_z_pos}
 use Rattle.std.proofs.lemmas.Nat.{pow_pos, pow_below, pow-add, shr_below, shl-shr, div-add-mod', mod_below, shr_le, mul-le, mod-mul-add}
 use Rattle.std.proofs.Math.Nat.{div-eq_of_lt, mod-eq_of_lt, pow-le-pow_right}
 use Rattle.fx_rational.specs.Rational.{floor_div, ceil_div}
@@ -109,3 +110,12 @@ far_left (negsuc a) s z h i = let p = pow_below 127 s h in let q = i.low in omeg
 -- zero stays zero
 pub zero_left : (v : ℤ) (s : ℕ) → v ≡ pos 0 → v *ℤ pos (2 ^ s) ≡ pos 0
 zero_left v s e = ap (λ (z : ℤ). z *ℤ pos (2 ^ s)) e ∙ ap pos (omega arith)
+
+-- ---- powers of two
+-- as a word of 64 bits
+pub short_power : (k : ℕ) → k ≤ 62 → to_z w64 (1 * 2 ^ k % 18446744073709551616) ≡ pos (2 ^ k)
+short_power k h =
+    let p : 2 ^ k ≤ 2 ^ 62 = pow_mono h in
+    let a : 1 * 2 ^ k ≡ 2 ^ k = omega arith in
+    let b : 1 * 2 ^ k % 18446744073709551616 ≡ 2 ^ k = ap (λ (n : ℕ). n % 18446744073709551616) a ∙ mod-eq_of_lt (omega arith) in
+    ap (λ (n : ℕ). to_z w64 n) b ∙ to_z_pos w64 (2 ^ k) (omega arith)

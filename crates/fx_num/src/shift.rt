@@ -4,7 +4,7 @@
 //! has an answer: the floor or the ceiling to the right, and to the left the product or None.
 //! The trap: what a left shift drops is lost on an edge too, as in 1 * 2^127, which is 2^127 and doesn't fit.
 
-ghost use Rattle.std.specs.Prelude.{◌≡◌, ◌*◌, ◌^◌, ◌<◌, ◌≤◌, pos, ◌+ℤ◌, ◌-ℤ◌, ◌*ℤ◌, IsTrue};
+ghost use Rattle.std.specs.Prelude.{◌≡◌, ◌*◌, ◌^◌, ◌<◌, ◌≤◌, pos, unsigned_abs, ◌+ℤ◌, ◌-ℤ◌, ◌*ℤ◌, IsTrue};
 ghost use Rattle.std.specs.Option.{SomeIff};
 ghost use Rattle.fx_rational.specs.Rational.{floor_div, ceil_div};
 ghost use Rattle.fx_rational.specs.Dyadic.{fits_128};
@@ -79,10 +79,28 @@ pub fn left_fits(v: i128, s: u32) -> Option<i128>
 
 /// `2^s`.
 pub fn two_to(s: u32) -> u128
-    requires { s ≤ 64 }
+    requires { s ≤ 126 }
     ensures value { result ≡ 2 ^ s }
     ensures some { 0 < result }
-    ensures few { result ≤ 2 ^ 64 }
+    ensures few { result ≤ 2 ^ 126 }
+{
+    1 << s
+}
+
+/// `2^s`, with a sign.
+pub fn signed_two_to(s: u32) -> i128
+    requires { s ≤ 64 }
+    ensures value { result ≡ pos (2 ^ s) }
+    ensures few { unsigned_abs result ≤ 2 ^ 64 }
+{
+    two_to(s) as i128
+}
+
+/// `2^s`, in 64 bits.
+pub fn short_two_to(s: u32) -> i64
+    requires { s ≤ 62 }
+    ensures value { result ≡ pos (2 ^ s) }
+    ensures few { unsigned_abs result ≤ 2 ^ 62 }
 {
     1 << s
 }

@@ -12,7 +12,7 @@ ghost use Rattle.fx_rounding.specs.Wide.{IsEnd, units_below};
 use crate::number::whole;
 use crate::place::{Place, grid, split};
 use crate::wide::{assembled, places, rest};
-use fx_num::{Dyadic, floor_shift};
+use fx_num::{Dyadic, floor_shift, signed_two_to, two_to};
 
 /// Whether it has at most 66 bits.
 fn is_near(w: i128) -> bool
@@ -21,32 +21,13 @@ fn is_near(w: i128) -> bool
     w.unsigned_abs() < 1 << 66
 }
 
-/// `2^s`.
-fn power(s: u32) -> u128
-    requires { s ≤ 126 }
-    ensures value { result ≡ 2 ^ s }
-    ensures some { 0 < result }
-    ensures few { result ≤ 2 ^ 126 }
-{
-    1 << s
-}
-
-/// The same with a sign.
-fn signed_power(s: u32) -> i128
-    requires { s ≤ 64 }
-    ensures value { result ≡ pos (2 ^ s) }
-    ensures few { unsigned_abs result ≤ 2 ^ 64 }
-{
-    power(s) as i128
-}
-
 /// A whole part less `2^s`.
 fn less_power(w: i128, s: u32) -> i128
     requires near { unsigned_abs w < 2 ^ 66 }
     requires few { s ≤ 64 }
     ensures { result ≡ w -ℤ pos (2 ^ s) }
 {
-    w - signed_power(s)
+    w - signed_two_to(s)
 }
 
 /// `w + f / 2^(k + 8)` less `2^-k`, on the grid of point `k`.
@@ -60,7 +41,7 @@ fn less_high(w: i128, f: u128, k: u32) -> Option<Dyadic>
     if f >= 256 {
         return assembled(w, f - 256, e, e);
     }
-    let more = power(e) - 256;
+    let more = two_to(e) - 256;
     assembled(less_power(w, 0), f + more, e, e)
 }
 
@@ -135,7 +116,7 @@ fn low_places(m: i128, s: u32) -> u128
     ensures value { pos result ≡ m -ℤ floor_div m (2 ^ s) *ℤ pos (2 ^ s) }
     ensures few { result < 2 ^ s }
 {
-    rest(m, power(s))
+    rest(m, two_to(s))
 }
 
 /// Places before others.
@@ -147,7 +128,7 @@ fn joined(high: u128, low: u128, s: u32, e: u32) -> u128
     ensures value { result ≡ high * 2 ^ s + low }
     ensures few { result < 2 ^ e }
 {
-    high * power(s) + low
+    high * two_to(s) + low
 }
 
 /// Of `n / (d * 2^j)`, the greatest on the grid that isn't above it, less a unit.

@@ -10,7 +10,7 @@ ghost use Rattle.fx_rational.specs.Dyadic.{difference_fits, dyadic_difference, d
 ghost use Rattle.fx_rational.specs.Interval.{interval_product, interval_product_fits};
 
 use fx_interval::{Interval, greatest, least};
-use fx_num::{Dyadic, mul_fits};
+use fx_num::{Dyadic, mul_fits, short_two_to};
 
 /// A mantissa in 64 bits.
 fn short(d: Dyadic) -> Option<i64>
@@ -40,14 +40,6 @@ fn short_product(a: Dyadic, b: Dyadic) -> Option<Dyadic>
     Some(Dyadic::new(m, a.e + b.e))
 }
 
-/// `2^places`.
-fn power(places: u32) -> i64
-    requires { places ≤ 62 }
-    ensures { result ≡ pos (2 ^ places) }
-{
-    1i64 << places
-}
-
 /// A mantissa times `2^places`, where that stays within 2^62.
 fn raised(m: i64, places: u32) -> Option<i64>
     ensures is { IfSome result (λ x. x ≡ m *ℤ pos (2 ^ places)) }
@@ -58,7 +50,7 @@ fn raised(m: i64, places: u32) -> Option<i64>
     if zeros < 2 || zeros - 2 < places {
         return None;
     }
-    Some(m * power(places))
+    Some(m * short_two_to(places))
 }
 
 const FAR: i128 = 1i128 << 126;
