@@ -26,7 +26,7 @@ use Rattle.fx_cert.specs.declared.certificate.NodeLine.{NodeLine}
 use Rattle.fx_analysis.specs.PlainRanges.{plain_range}
 use Rattle.fx_analysis.specs.PlainErrors.{placed_code, plain_error, formless_lines}
 use Rattle.fx_analysis.specs.PlainAttempt.{placed_codes, attempt_of}
-use Rattle.fx_analysis.specs.Ordered.{IsInPlace}
+use Rattle.fx_flat.specs.InPlace.{IsInPlace}
 use Rattle.fx_analysis.specs.Listed.{IsWholeList}
 use Rattle.fx_analysis.specs.Laws.{no_node}
 use Rattle.fx_analysis.specs.AttemptParts.{ArePlain, ReadsBelow, HasSmallWord, AreSmallWords}
@@ -46,12 +46,12 @@ reads : (i m k : ℕ) (node : model.Node) → IsInPlace i 0 k node → k < m →
 reads i m k (Input j) o lt = tt
 reads i m k (State j) o lt = let p = o.1 in absurd (omega (arith, p))
 reads i m k (Const c) o lt = tt
-reads i m k (Neg a) o lt = omega (arith, o, lt)
-reads i m k (Add a b) o lt = let p = o.0 in let q = o.1 in (omega (arith, p, lt), omega (arith, q, lt))
-reads i m k (Sub a b) o lt = let p = o.0 in let q = o.1 in (omega (arith, p, lt), omega (arith, q, lt))
-reads i m k (Mul a b) o lt = let p = o.0 in let q = o.1 in (omega (arith, p, lt), omega (arith, q, lt))
-reads i m k (Div a b) o lt = let p = o.0 in let q = o.1 in (omega (arith, p, lt), omega (arith, q, lt))
-reads i m k (Copy a) o lt = omega (arith, o, lt)
+reads i m k (Neg a) o lt = let p = o.1 in omega (arith, p, lt)
+reads i m k (Add a b) o lt = let p = o.1 in let q = o.2 in (omega (arith, p, lt), omega (arith, q, lt))
+reads i m k (Sub a b) o lt = let p = o.1 in let q = o.2 in (omega (arith, p, lt), omega (arith, q, lt))
+reads i m k (Mul a b) o lt = let p = o.1 in let q = o.2 in (omega (arith, p, lt), omega (arith, q, lt))
+reads i m k (Div a b) o lt = let p = o.1 in let q = o.2 in (omega (arith, p, lt), omega (arith, q, lt))
+reads i m k (Copy a) o lt = let p = o.1 in omega (arith, p, lt)
 
 small_word : (n k : ℕ) (fn : Function) (ps : List ℤ) (node : model.Node) (f : ℤ) → n ≤ 64 → IsLawfulCode n k (placed_code fn ps node f) → HasSmallWord node f
 small_word n k fn ps (Input j) f l h = tt

@@ -20,17 +20,16 @@ use Rattle.fx_analysis.specs.PlainRanges.{plain_range, plain_ranges}
 use Rattle.fx_analysis.specs.GreedyPoints.{is_from_to, shift_of, product_shift, quotient_shift, has_shifts, is_reached, greedy_point as greedy_of, greedy_points}
 use Rattle.fx_analysis.specs.PlainErrors.{placed_code}
 use Rattle.fx_analysis.specs.PlainAttempt.{placed_codes, attempt_of}
-use Rattle.fx_analysis.specs.Ordered.{IsInPlace}
+use Rattle.fx_flat.specs.InPlace.{IsInPlace}
 use Rattle.fx_grid.specs.Laws.{Covers}
 use Rattle.fx_analysis.specs.Laws.{no_node}
 use Rattle.fx_analysis.specs.AttemptLaws.{AttemptProgramLaw}
 use Rattle.fx_analysis.proofs.Folded.{all_length, made_at, part_at}
-use Rattle.fx_analysis.proofs.Ordered.{node_list}
+use Rattle.fx_flat.proofs.Ordered.{node_list}
 use Rattle.fx_analysis.proofs.RangeLaw.{range_is, fractions_around}
 use Rattle.fx_analysis.proofs.PointLaw.{points_are}
 use Rattle.fx_analysis.proofs.CodeLaw.{codes_are}
 use Rattle.fx_analysis.proofs.LiteralWords.{dyadic_number, reached_word, half_is_word}
-use Rattle.fx_analysis.proofs.Variables.{IsVariable, variable_or_behind}
 
 -- ---- one code
 from_to : (n : ℕ) (s : ℤ) → is_from_to (neg_ℤ (pos n)) (pos 64) s ≡ true → IsShift n s
@@ -48,30 +47,25 @@ HoldsLiteral g node = Unit {0}
 -- what is known of node k at point f, in a function without states
 pub record IsPlacedNode (n i k : ℕ) (ps : List ℤ) (g : Interval) (node : Node) (f : ℤ) : Type 0 where
   pub ordered : IsInPlace i 0 k node
-  pub behind : IsVariable node ⊎ (i + 0 ≤ k)
   pub shifts : has_shifts n ps node f ≡ true
   pub reached : is_reached n g f ≡ true
   pub literal : HoldsLiteral g node
-
-behind_all : (i k : ℕ) (node : Node) → (IsVariable node → ⊥) → IsVariable node ⊎ (i + 0 ≤ k) → i + 0 ≤ k
-behind_all i k node not (inl v) = absurd (not v)
-behind_all i k node not (inr l) = l
 
 pub code_lawful : (n : ℕ) (fn : Function) (i k : ℕ) (ps : List ℤ) (g : Interval) (node : Node) (f : ℤ) → 8 ≤ n → IsPlacedNode n i k ps g node f → IsLawfulCode n k (placed_code fn ps node f) × IsPlaced i 0 k (placed_code fn ps node f)
 code_lawful n fn i k ps g (Input j) f wide h = (tt, h.ordered)
 code_lawful n fn i k ps g (State j) f wide h = let o = h.ordered.1 in absurd (omega (arith, o))
 code_lawful n fn i k ps g (Const c) f wide h =
-    (half_is_word n _ (omega (arith, wide)) (reached_word n g f c h.reached h.literal), behind_all i k (Const c) (λ v. v) h.behind)
-code_lawful n fn i k ps g (Neg a) f wide h = (h.ordered, behind_all i k (Neg a) (λ v. v) h.behind)
+    (half_is_word n _ (omega (arith, wide)) (reached_word n g f c h.reached h.literal), h.ordered)
+code_lawful n fn i k ps g (Neg a) f wide h = (h.ordered.1, h.ordered.0)
 code_lawful n fn i k ps g (Add a b) f wide h =
     let x = is_from_to (neg_ℤ (pos n)) (pos 64) (shift_of ps a f) in let y = is_from_to (neg_ℤ (pos n)) (pos 64) (shift_of ps b f) in
-    ((h.ordered.0, h.ordered.1, from_to n (shift_of ps a f) (both_left x y h.shifts), from_to n (shift_of ps b f) (both_right x y h.shifts)), behind_all i k (Add a b) (λ v. v) h.behind)
+    ((h.ordered.1, h.ordered.2, from_to n (shift_of ps a f) (both_left x y h.shifts), from_to n (shift_of ps b f) (both_right x y h.shifts)), h.ordered.0)
 code_lawful n fn i k ps g (Sub a b) f wide h =
     let x = is_from_to (neg_ℤ (pos n)) (pos 64) (shift_of ps a f) in let y = is_from_to (neg_ℤ (pos n)) (pos 64) (shift_of ps b f) in
-    ((h.ordered.0, h.ordered.1, from_to n (shift_of ps a f) (both_left x y h.shifts), from_to n (shift_of ps b f) (both_right x y h.shifts)), behind_all i k (Sub a b) (λ v. v) h.behind)
-code_lawful n fn i k ps g (Mul a b) f wide h = ((h.ordered.0, h.ordered.1, up_to (2 * n - 2) (product_shift ps a b f) h.shifts), behind_all i k (Mul a b) (λ v. v) h.behind)
-code_lawful n fn i k ps g (Div a b) f wide h = ((h.ordered.0, h.ordered.1, up_to n (quotient_shift ps a b f) h.shifts), behind_all i k (Div a b) (λ v. v) h.behind)
-code_lawful n fn i k ps g (Copy a) f wide h = ((h.ordered, from_to n (shift_of ps a f) h.shifts), behind_all i k (Copy a) (λ v. v) h.behind)
+    ((h.ordered.1, h.ordered.2, from_to n (shift_of ps a f) (both_left x y h.shifts), from_to n (shift_of ps b f) (both_right x y h.shifts)), h.ordered.0)
+code_lawful n fn i k ps g (Mul a b) f wide h = ((h.ordered.1, h.ordered.2, up_to (2 * n - 2) (product_shift ps a b f) h.shifts), h.ordered.0)
+code_lawful n fn i k ps g (Div a b) f wide h = ((h.ordered.1, h.ordered.2, up_to n (quotient_shift ps a b f) h.shifts), h.ordered.0)
+code_lawful n fn i k ps g (Copy a) f wide h = ((h.ordered.1, from_to n (shift_of ps a f) h.shifts), h.ordered.0)
 
 -- ---- all codes
 codes_lawful : (n : ℕ) (fn : Function) (i k : ℕ) (ps : List ℤ) (nodes : List Node) (fs : List ℤ) → length nodes ≡ length fs →
@@ -147,7 +141,6 @@ module _ (n : ℕ) (fn : Function) (gs : List Interval) (ps : List ℤ) (some_wi
       let m = made_at (plain_range fn []) (length fn.inputs) (length fn.states) (nodes_of fn) gs no_node ranged (node_list fn lawful.valid).ordered k lt in
       record {
         ordered = subst (λ (s : ℕ). IsInPlace (length fn.inputs) s k (at no_node (nodes_of fn) k)) no_states m.ordered;
-        behind = subst (λ (s : ℕ). IsVariable (at no_node (nodes_of fn) k) ⊎ (length fn.inputs + s ≤ k)) no_states (variable_or_behind fn k lt);
         shifts = p.shifts;
         reached = p.reached;
         literal = literal_held fn m.part.before (at no_node (nodes_of fn) k) (at zero_interval gs k) (m.part.made ∙ ap (λ (g : Interval). Ok g) (sym (part_at zero_interval m.part)));

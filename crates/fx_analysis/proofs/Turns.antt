@@ -4,16 +4,6 @@ use Rattle.std.proofs.Math.Seq.{drop-cons}
 use Rattle.fx_model.specs.Nodes.{Node}
 use Rattle.fx_grid.specs.declared.fault.Why.{Why}
 use Rattle.fx_analysis.specs.Fold.{Absent, and_on, parts_after}
-use Rattle.fx_analysis.specs.Ordered.{IsInPlace, AreInPlace}
-
--- node k stands where it may
-pub ordered_at : (i s k : ℕ) (nodes : List Node) (d : Node) → AreInPlace i s 0 nodes → k < length nodes → IsInPlace i s k (get_or nodes k d)
-ordered_at i s k nodes d h lt = subst (λ (m : ℕ). IsInPlace i s m (get_or nodes k d)) (omega arith) (go k 0 nodes h lt)
-  where
-    go : (k m : ℕ) (nodes : List Node) → AreInPlace i s m nodes → k < length nodes → IsInPlace i s (k + m) (get_or nodes k d)
-    go k m [] h lt = absurd (omega (arith, lt))
-    go zero m (x ∷ xs) h lt = subst (λ (n : ℕ). IsInPlace i s n x) (omega arith) h.0
-    go (suc k) m (x ∷ xs) h lt = subst (λ (n : ℕ). IsInPlace i s n (get_or xs k d)) (omega arith) (go k (m + 1) xs h.1 (omega (arith, lt)))
 
 -- k nodes have the parts xs, and the rest of the fold is all of it
 pub record IsWalked {A : Type 0} (f : List A → Node → Result A Why) (nodes : List Node) (k : ℕ) (xs : List A) : Type 0 where

@@ -1,6 +1,6 @@
 -- Lemmas on how a run over lines ends.
 use Rattle.std.proofs.Common.{◌≡◌, ℕ, ◌+◌, ◌≤◌, true, false, nat_lt, List, [], ◌∷◌, ◌++◌, Option, length, take, drop, arith, refl, sym, ap, subst, ◌∙◌, append_assoc, append-nil, inl, inr}
-use Rattle.std.specs.Prelude.{◌==◌, ◌<◌, ◌↔◌, None, Some, position, Result, Ok, Err, IfOk, IfErr, OnOk, IsErrOf}
+use Rattle.std.specs.Prelude.{◌==◌, ◌<◌, ◌↔◌, None, Some, position, Result, Ok, Err, IfOk, IfErr, OnOk, IsErrOf, IfSome}
 use Rattle.std.specs.Io.KnownBytes.{Consumes, Appends, IsAtEnd}
 use Rattle.std.specs.Str.Lines.{lines}
 use Rattle.std.proofs.KnownBytes.{Consumes-trans, Appends-nil, Appends-trans}
@@ -12,7 +12,7 @@ use Rattle.fx_base.specs.Text.{text_at, lines_in}
 use Rattle.fx_base.specs.LineSteps.{LinesState, IsFirstLine, TakesLine}
 use Rattle.fx_filter.specs.Outcome.{Outcome, behind_lines, stopped_lines}
 use Rattle.fx_rows.specs.ReadRows.{moved_down}
-use Rattle.fx_filter.specs.Promise.{IfKnown, IsDone, IsBadAt, PrintsFront, IsDue, IsFailed, RunTakesUpTo}
+use Rattle.fx_filter.specs.Promise.{IsDone, IsBadAt, PrintsFront, IsDue, IsFailed, RunTakesUpTo}
 use Rattle.fx_filter.specs.Outcome.{IfBad}
 use Rattle.fx_filter.specs.Running.{Ran, Asked, EndsAs, HasNoLine, HasLine, IsBadLine, StopsAs}
 use Rattle.fx_filter.specs.declared.printer.Stop.{Stop}
@@ -25,7 +25,7 @@ use Rattle.fx_filter.specs.declared.fault.RunFault.TheVariants.{Row, ReadFault, 
 use Rattle.fx_filter.proofs.Steps.{lines-front, text-front}
 
 -- bytes that were taken of known ones stand in front of what is left
-known : (a b : Option (List ℕ)) (bytes : List ℕ) (P : List ℕ → Type 0) → Consumes a b bytes → ((ys : List ℕ) → b ≡ Some ys → P (bytes ++ ys)) → IfKnown a P
+known : (a b : Option (List ℕ)) (bytes : List ℕ) (P : List ℕ → Type 0) → Consumes a b bytes → ((ys : List ℕ) → b ≡ Some ys → P (bytes ++ ys)) → IfSome a P
 known None b bytes P c f = tt
 known (Some xs) None bytes P c f = absurd c
 known (Some xs) (Some ys) bytes P c f = subst P (sym c) (f ys refl)
@@ -39,7 +39,7 @@ regrouped s a b x = ap (λ t. t ++ x) (sym (append_assoc s a b)) ∙ append_asso
 
 -- what was written is a front of the text, whatever comes
 pub cut-short : (o now : List (List ℕ) → Outcome) (r : LinesState) (left left1 before after after' : Option (List ℕ)) (page : List ℕ) (count bound n : ℕ)
-    → Ran o now r left left1 before after page count bound → Appends after after' (take n page) → IfKnown left (λ all. PrintsFront (o (lines_in all)).text before after')
+    → Ran o now r left left1 before after page count bound → Appends after after' (take n page) → IfSome left (λ all. PrintsFront (o (lines_in all)).text before after')
 cut-short o now r left left1 before after after' page count bound n ran put =
     known left left1 (ran.front ++ r.held) (λ all. PrintsFront (o (lines_in all)).text before after') ran.taken (λ ys e.
     let rest = lines (text_at (r.number == 0) (r.held ++ ys)) in
@@ -56,7 +56,7 @@ cut-short o now r left left1 before after after' page count bound n ran put =
 
 -- the same where nothing more was written
 pub cut-here : (o now : List (List ℕ) → Outcome) (r : LinesState) (left left1 before after : Option (List ℕ)) (page : List ℕ) (count bound : ℕ)
-    → Ran o now r left left1 before after page count bound → IfKnown left (λ all. PrintsFront (o (lines_in all)).text before after)
+    → Ran o now r left left1 before after page count bound → IfSome left (λ all. PrintsFront (o (lines_in all)).text before after)
 cut-here o now r left left1 before after page count bound ran = cut-short o now r left left1 before after after page count bound 0 ran (Appends-nil after)
 
 -- a write failed
@@ -153,7 +153,7 @@ all-outcome o now r left left1 left2 before after page more ys count bound ran n
 pub all-done : (o now : List (List ℕ) → Outcome) (r : LinesState) (left left1 left2 before after : Option (List ℕ)) (page more : List ℕ) (count bound : ℕ)
     → ((now []).text ≡ []) × ((now []).rows ≡ 0) → (now []).bad ≡ None → (ran : Ran o now r left left1 before after page count bound) → page ≡ []
     → Consumes left1 left2 more → text_at (r.number == 0) (r.held ++ more) ≡ [] → (r.is_ended ≡ true → length more ≡ 0) → IsAtEnd left2
-    → IfKnown left (λ all. IsDone (o (lines_in all)) count before after)
+    → IfSome left (λ all. IsDone (o (lines_in all)) count before after)
 all-done o now r left left1 left2 before after page more count bound nothing good ran empty took none quiet end =
     known left left2 (ran.front ++ (r.held ++ more)) (λ all. IsDone (o (lines_in all)) count before after)
     (subst (Consumes left left2) (append_assoc ran.front r.held more) (Consumes-trans left left1 left2 (ran.front ++ r.held) more ran.taken took)) (λ ys e.
@@ -211,7 +211,7 @@ line-stopped o now r r' left left1 left2 before mid last page page' more count b
 )
 line-stopped o now r r' left left1 left2 before mid last page page' more count bound stop.Memory f asked line few within stops bad = (
   subst (IsDue o left left2 before last) (sym stops.0)
-      (subst (λ a. IfKnown left (λ all. PrintsFront (o (lines_in all)).text before a)) (sym stops.1) (cut-here o now r left left1 before mid page count bound asked.ran)),
+      (subst (λ a. IfSome left (λ all. PrintsFront (o (lines_in all)).text before a)) (sym stops.1) (cut-here o now r left left1 before mid page count bound asked.ran)),
   up-to o now r left left1 left2 before mid page more count bound f asked.ran asked.took within (λ e. let z = sym stops.0 ∙ e in absurd cc),
 )
 
@@ -222,7 +222,7 @@ of-result left left' limit f t = (t.0, t.1, ((λ e. t.2.0 (let same : f ≡ faul
 
 -- what the clauses of a run say of its answer
 pub record IsOver (o : List (List ℕ) → Outcome) (left left' before after : Option (List ℕ)) (limit : ℕ) (result : Result ℕ RunFault) : Type 0 where
-  pub done : IfOk result (λ n. IfKnown left (λ all. IsDone (o (lines_in all)) n before after))
+  pub done : IfOk result (λ n. IfSome left (λ all. IsDone (o (lines_in all)) n before after))
   pub end : OnOk result (IsAtEnd left')
   pub due : IfErr result (IsDue o left left' before after)
   pub taken : (taken : List ℕ) × Consumes left left' taken × (IsErrOf result fault.TooLong ↔ (limit < length taken))
@@ -232,7 +232,7 @@ pub lines-ended : (o now : List (List ℕ) → Outcome) (r r' : LinesState) (lef
     → ((now []).text ≡ []) × ((now []).rows ≡ 0) → (asked : Asked o now r left left1 left2 before mid page more count bound) → HasNoLine r r' left2 page more → r.taken + length more ≤ bound
     → EndsAs (now []) r'.number count result → IsOver o left left2 before mid bound result
 lines-ended o now r r' left left1 left2 before mid page more count bound (Ok n) nothing asked over within ends = record {
-  done = subst (λ k. IfKnown left (λ all. IsDone (o (lines_in all)) k before mid)) (sym ends.1)
+  done = subst (λ k. IfSome left (λ all. IsDone (o (lines_in all)) k before mid)) (sym ends.1)
       (all-done o now r left left1 left2 before mid page more count bound nothing ends.0 asked.ran over.empty asked.took over.none asked.quiet over.end);
   end = over.end;
   due = tt;

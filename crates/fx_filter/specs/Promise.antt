@@ -1,5 +1,5 @@
 -- What stands written, and what was taken, when a run over lines ends.
-use Rattle.std.specs.Prelude.{ℕ, ◌≡◌, ◌+◌, ◌≤◌, ◌<◌, ◌==◌, ◌⊎◌, ◌↔◌, List, [], ◌++◌, length, position, ⊤, Option, Some, None}
+use Rattle.std.specs.Prelude.{ℕ, ◌≡◌, ◌+◌, ◌≤◌, ◌<◌, ◌==◌, ◌⊎◌, ◌↔◌, List, [], ◌++◌, length, position, Option, Some, None, IfSome}
 use Rattle.std.specs.Io.KnownBytes.{Consumes, Appends}
 use Rattle.fx_rows.specs.Faults.{RowFlaw, row_fault_of}
 use Rattle.fx_base.specs.Text.{lines_in}
@@ -7,11 +7,6 @@ use Rattle.fx_base.specs.LineSteps.{EndsLine}
 use Rattle.fx_filter.specs.Outcome.{Outcome}
 use Rattle.fx_filter.specs.declared.fault.RunFault.{RunFault}
 use Rattle.fx_filter.specs.declared.fault.RunFault.TheVariants.{Row, ReadFault, WriteFault, TooLong, Memory}
-
--- where the bytes are told, P of them
-abbrev pub IfKnown : Option (List ℕ) → (List ℕ → Type 0) → Type 0
-IfKnown None P = ⊤
-IfKnown (Some all) P = P all
 
 -- all is printed, and no line is bad
 pub record IsDone (o : Outcome) (count : ℕ) (before after : Option (List ℕ)) : Type 0 where
@@ -70,11 +65,11 @@ pub record IsLineNear (line : ℕ) (left left' : Option (List ℕ)) : Type 0 whe
 
 -- what holds after each fault
 abbrev pub IsDue : (List (List ℕ) → Outcome) → Option (List ℕ) → Option (List ℕ) → Option (List ℕ) → Option (List ℕ) → RunFault → Type 0
-IsDue o left left' before after (Row line fault) = IfKnown left (λ all. IsBadAt (o (lines_in all)) line (row_fault_of fault) before after) × IsLineNear line left left'
-IsDue o left left' before after ReadFault = IfKnown left (λ all. PrintsFront (o (lines_in all)).text before after) × PrintsWholeLines o left left' before after
-IsDue o left left' before after WriteFault = IfKnown left (λ all. PrintsFront (o (lines_in all)).text before after) × IsPrompt o left left' before after
-IsDue o left left' before after TooLong = IfKnown left (λ all. PrintsFront (o (lines_in all)).text before after)
-IsDue o left left' before after Memory = IfKnown left (λ all. PrintsFront (o (lines_in all)).text before after)
+IsDue o left left' before after (Row line fault) = IfSome left (λ all. IsBadAt (o (lines_in all)) line (row_fault_of fault) before after) × IsLineNear line left left'
+IsDue o left left' before after ReadFault = IfSome left (λ all. PrintsFront (o (lines_in all)).text before after) × PrintsWholeLines o left left' before after
+IsDue o left left' before after WriteFault = IfSome left (λ all. PrintsFront (o (lines_in all)).text before after) × IsPrompt o left left' before after
+IsDue o left left' before after TooLong = IfSome left (λ all. PrintsFront (o (lines_in all)).text before after)
+IsDue o left left' before after Memory = IfSome left (λ all. PrintsFront (o (lines_in all)).text before after)
 
 -- bytes were taken from the front, and more than `limit` of them exactly where the fault is TooLong
 abbrev pub RunTakesUpTo : Option (List ℕ) → Option (List ℕ) → ℕ → RunFault → Type 0

@@ -21,7 +21,7 @@ ghost use Rattle.fx_rows.specs.declared.fault.RowKind.TheVariants as kind;
 ghost use Rattle.fx_filter.specs.Rooms.{HasRoom};
 ghost use Rattle.fx_filter.specs.Outcome.{Outcome, behind_lines, one, stopped_lines, IfBad};
 ghost use Rattle.fx_filter.specs.Printed.{lines_outcome, outcome_of};
-ghost use Rattle.fx_filter.specs.Promise.{Grows, IfKnown, IsDone, IsDue};
+ghost use Rattle.fx_filter.specs.Promise.{Grows, IsDone, IsDue};
 ghost use Rattle.fx_filter.specs.declared.printer.Stop.TheVariants as stop;
 
 use crate::fault::{NO_HEADER, RunFault};
@@ -208,7 +208,7 @@ pub fn run_steps<M: RowStep + Drop, S: Source, K: Sink>(
 ) -> Result<u64, RunFault>
     requires limit { limit < 2 ^ 64 - 1 }
     requires can { M.can_run step }
-    ensures done { IfOk result (λ n. IfKnown (S.left source.old) (λ all. IsDone (outcome_of (M.head step) (M.printed step) (read_rows (M.meaning step) all)) n (K.taken sink.old) (K.taken sink.new))) }
+    ensures done { IfOk result (λ n. IfSome (S.left source.old) (λ all. IsDone (outcome_of (M.head step) (M.printed step) (read_rows (M.meaning step) all)) n (K.taken sink.old) (K.taken sink.new))) }
     ensures end { OnOk result (IsAtEnd (S.left source.new)) }
     ensures due { IfErr result (IsDue (lines_outcome (M.meaning step) (M.head step) (M.printed step) None) (S.left source.old) (S.left source.new) (K.taken sink.old) (K.taken sink.new)) }
     ensures taken { (taken : List ℕ) × Consumes (S.left source.old) (S.left source.new) taken × (IsErrOf result RunFault.TooLong ↔ (limit < length taken)) }

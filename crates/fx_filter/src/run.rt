@@ -1,10 +1,10 @@
 //! The loop: the next line, and what is printed of it.
-ghost use Rattle.std.specs.Prelude.{◌≡◌, ◌+◌, ◌-◌, ◌^◌, ◌<◌, ◌≤◌, ◌↔◌, ℕ, List, length, IfOk, IfErr, OnOk, IsErrOf};
+ghost use Rattle.std.specs.Prelude.{◌≡◌, ◌+◌, ◌-◌, ◌^◌, ◌<◌, ◌≤◌, ◌↔◌, ℕ, List, length, IfOk, IfErr, OnOk, IsErrOf, IfSome};
 ghost use Rattle.std.specs.Io.KnownBytes.{Consumes, IsAtEnd};
 ghost use Rattle.fx_base.specs.Causes.{Rose};
 ghost use Rattle.fx_base.specs.Text.{lines_in};
 ghost use Rattle.fx_filter.specs.Outcome.{one};
-ghost use Rattle.fx_filter.specs.Promise.{Grows, IfKnown, IsDone, IsDue};
+ghost use Rattle.fx_filter.specs.Promise.{Grows, IsDone, IsDue};
 
 use crate::ask::{ask, end_at, stop_at, take_line};
 use crate::fault::RunFault;
@@ -30,7 +30,7 @@ pub fn run_lines<P: Printer, S: Source, K: Sink>(
 ) -> Result<u64, RunFault>
     requires limit { limit < 2 ^ 64 - 1 }
     requires can { P.can_take printer.old }
-    ensures done { IfOk result (λ n. IfKnown (S.left source.old) (λ all. IsDone (P.outcome printer.old (lines_in all)) n (K.taken sink.old) (K.taken sink.new))) }
+    ensures done { IfOk result (λ n. IfSome (S.left source.old) (λ all. IsDone (P.outcome printer.old (lines_in all)) n (K.taken sink.old) (K.taken sink.new))) }
     ensures end { OnOk result (IsAtEnd (S.left source.new)) }
     ensures due { IfErr result (IsDue (P.outcome printer.old) (S.left source.old) (S.left source.new) (K.taken sink.old) (K.taken sink.new)) }
     ensures taken { (taken : List ℕ) × Consumes (S.left source.old) (S.left source.new) taken × (IsErrOf result RunFault.TooLong ↔ (limit < length taken)) }

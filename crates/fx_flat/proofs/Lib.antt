@@ -1,3 +1,4 @@
 pub mod Growth
 mod Pushing
 mod Turns
+pub mod Ordered

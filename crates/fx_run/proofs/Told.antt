@@ -1,23 +1,23 @@
 -- What is promised of a run is promised of the same told in other words.
 use Rattle.std.proofs.Common.{◌≡◌, ℕ, List, ◌++◌, Option, ap, subst}
-use Rattle.std.specs.Prelude.{None, Some, IfErr, IfOk, Result, Ok, Err}
+use Rattle.std.specs.Prelude.{None, Some, IfErr, IfOk, Result, Ok, Err, IfSome}
 use Rattle.std.specs.Io.KnownBytes.{Appends}
 use Rattle.fx_base.specs.Text.{lines_in}
 use Rattle.fx_rows.specs.Faults.{row_fault_of}
 use Rattle.fx_filter.specs.Outcome.{Outcome}
-use Rattle.fx_filter.specs.Promise.{IfKnown, IsBadAt, IsDone, IsDue, IsPrompt, PrintsFront, PrintsWholeLines}
+use Rattle.fx_filter.specs.Promise.{IsBadAt, IsDone, IsDue, IsPrompt, PrintsFront, PrintsWholeLines}
 use Rattle.fx_filter.specs.declared.fault.RunFault.{RunFault}
 use Rattle.fx_filter.specs.declared.fault.RunFault.TheVariants.{Row, ReadFault, WriteFault, TooLong, Memory}
 
-known : (left : Option (List ℕ)) (P Q : List ℕ → Type 0) → ((all : List ℕ) → P all → Q all) → IfKnown left P → IfKnown left Q
+known : (left : Option (List ℕ)) (P Q : List ℕ → Type 0) → ((all : List ℕ) → P all → Q all) → IfSome left P → IfSome left Q
 known None P Q f h = tt
 known (Some all) P Q f h = f all h
 
 module _ (o o' : List (List ℕ) → Outcome) (same : (ls : List (List ℕ)) → o ls ≡ o' ls) (left left' before after : Option (List ℕ)) where
-  front : IfKnown left (λ all. PrintsFront (o (lines_in all)).text before after) → IfKnown left (λ all. PrintsFront (o' (lines_in all)).text before after)
+  front : IfSome left (λ all. PrintsFront (o (lines_in all)).text before after) → IfSome left (λ all. PrintsFront (o' (lines_in all)).text before after)
   front = known left _ _ (λ all. subst (λ (x : Outcome). PrintsFront x.text before after) (same (lines_in all)))
 
-  pub done-told : (n : Result ℕ RunFault) → IfOk n (λ k. IfKnown left (λ all. IsDone (o (lines_in all)) k before after)) → IfOk n (λ k. IfKnown left (λ all. IsDone (o' (lines_in all)) k before after))
+  pub done-told : (n : Result ℕ RunFault) → IfOk n (λ k. IfSome left (λ all. IsDone (o (lines_in all)) k before after)) → IfOk n (λ k. IfSome left (λ all. IsDone (o' (lines_in all)) k before after))
   done-told (Ok k) h = known left _ _ (λ all. subst (λ (x : Outcome). IsDone x k before after) (same (lines_in all))) h
   done-told (Err f) h = tt
 

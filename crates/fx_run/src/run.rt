@@ -1,11 +1,11 @@
 //! The run of a certified program over a source and a sink.
-ghost use Rattle.std.specs.Prelude.{◌≡◌, ◌-◌, ◌^◌, ◌<◌, ◌≤◌, ◌↔◌, ℕ, List, length, Contains, IfOk, IfErr, OnOk, IsErrOf};
+ghost use Rattle.std.specs.Prelude.{◌≡◌, ◌-◌, ◌^◌, ◌<◌, ◌≤◌, ◌↔◌, ℕ, List, length, Contains, IfOk, IfErr, OnOk, IsErrOf, IfSome};
 ghost use Rattle.std.specs.Io.KnownBytes.{Consumes, IsAtEnd};
 ghost use Rattle.fx_base.specs.Causes.{Rose};
 ghost use Rattle.fx_base.specs.Text.{lines_in};
 ghost use Rattle.fx_model.specs.LawfulProgram.{widths};
 ghost use Rattle.fx_model.specs.Machine.{start_words};
-ghost use Rattle.fx_filter.specs.Promise.{Grows, IfKnown, IsDone, IsDue};
+ghost use Rattle.fx_filter.specs.Promise.{Grows, IsDone, IsDue};
 ghost use Rattle.fx_filter.specs.declared.fault.RunFault.TheVariants.{ReadFault, WriteFault, TooLong};
 ghost use Rattle.fx_run.specs.Printed.{RowsLaw, run_outcome};
 ghost use Rattle.fx_run.specs.Steps.{CanStep};
@@ -50,7 +50,7 @@ fn run_at<const B: u32, S: Source, K: Sink>(
     requires width { certified.now.program.width ≡ B }
     requires limit { limit < 2 ^ 64 - 1 }
     ensures done { let o = run_outcome certified.now.function certified.now.program in
-        IfOk result (λ n. IfKnown (S.left source.old) (λ all. IsDone (o (lines_in all)) n (K.taken sink.old) (K.taken sink.new))) }
+        IfOk result (λ n. IfSome (S.left source.old) (λ all. IsDone (o (lines_in all)) n (K.taken sink.old) (K.taken sink.new))) }
     ensures end { OnOk result (IsAtEnd (S.left source.new)) }
     ensures due { let o = run_outcome certified.now.function certified.now.program in
         IfErr result (IsDue o (S.left source.old) (S.left source.new) (K.taken sink.old) (K.taken sink.new)) }
@@ -91,7 +91,7 @@ pub fn run_rows<S: Source, K: Sink>(
 ) -> Result<u64, RunFault>
     requires limit { limit < 2 ^ 64 - 1 }
     ensures done { let o = run_outcome certified.now.function certified.now.program in
-        IfOk result (λ n. IfKnown (S.left source.old) (λ all. IsDone (o (lines_in all)) n (K.taken sink.old) (K.taken sink.new))) }
+        IfOk result (λ n. IfSome (S.left source.old) (λ all. IsDone (o (lines_in all)) n (K.taken sink.old) (K.taken sink.new))) }
     ensures end { OnOk result (IsAtEnd (S.left source.new)) }
     ensures due { let o = run_outcome certified.now.function certified.now.program in
         IfErr result (IsDue o (S.left source.old) (S.left source.new) (K.taken sink.old) (K.taken sink.new)) }

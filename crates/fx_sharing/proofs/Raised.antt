@@ -9,14 +9,6 @@ use Rattle.std.proofs.Math.Pow.{pow_mono}
 use Rattle.std.proofs.lemmas.Int.{to_z-of_z, to_z_pos, unsigned_abs-mul, fits_signed_from_abs, fits_signed_mul}
 use Rattle.std.proofs.lemmas.Nat.{leading_length, mul-le, pow-add, pow_pos}
 
--- a power of two as a word
-pub power_is : (k : ℕ) → k ≤ 62 → to_z w64 (1 * 2 ^ k % 18446744073709551616) ≡ pos (2 ^ k)
-power_is k h =
-    let p : 2 ^ k ≤ 2 ^ 62 = pow_mono h in
-    let a : 1 * 2 ^ k ≡ 2 ^ k = omega arith in
-    let b : 1 * 2 ^ k % 18446744073709551616 ≡ 2 ^ k = ap (λ (n : ℕ). n % 18446744073709551616) a ∙ mod-eq_of_lt (omega arith) in
-    ap (λ (n : ℕ). to_z w64 n) b ∙ to_z_pos w64 (2 ^ k) (omega arith)
-
 -- what has two more leading zeros than it is raised by
 pub room_is : (a s z : ℕ) → a < 2 ^ 64 → z ≡ leading_zeros w64 a → 2 ≤ z → s ≤ z - 2 → a * 2 ^ s ≤ 2 ^ 62
 room_is a s z lt e two room =
@@ -29,6 +21,13 @@ room_is a s z lt e two room =
     let less : a ≤ 2 ^ m = omega (arith, below) in
     let le = mul-le a (2 ^ s) (2 ^ m) (2 ^ s) less (omega arith) in
     omega (arith, most, same, le)
+
+-- what can be raised so far can be raised less
+pub room_left : (a s room : ℕ) → s ≤ room → a * 2 ^ room ≤ 2 ^ 62 → a * 2 ^ s ≤ 2 ^ 62
+room_left a s room le near =
+    let most : 2 ^ s ≤ 2 ^ room = pow_mono le in
+    let less = mul-le a (2 ^ s) a (2 ^ room) (omega arith) most in
+    omega (arith, less, near)
 
 -- a word times a power of two, as 64 bits hold it
 pub raised_is : (m y : ℤ) (s : ℕ) → FitsSigned w64 m → s ≤ 62 → y ≡ pos (2 ^ s) → unsigned_abs m * 2 ^ s ≤ 2 ^ 62
@@ -46,13 +45,6 @@ raised_is m y s f k ey near =
 -- it stays near
 pub raised_near : (m x : ℤ) (s : ℕ) → x ≡ m *ℤ pos (2 ^ s) → unsigned_abs m * 2 ^ s ≤ 2 ^ 62 → unsigned_abs x ≤ 2 ^ 62
 raised_near m x s e near = let abs = unsigned_abs-mul m (pos (2 ^ s)) in let same = ap unsigned_abs e in omega (arith, same, abs, near)
-
--- and so was the factor
-pub factor_near : (m : ℤ) (s : ℕ) → unsigned_abs m * 2 ^ s ≤ 2 ^ 62 → unsigned_abs m ≤ 2 ^ 62
-factor_near m s near =
-    let one : 1 ≤ 2 ^ s = pow_pos s in
-    let le = mul-le (unsigned_abs m) 1 (unsigned_abs m) (2 ^ s) (omega arith) one in
-    omega (arith, le, near)
 
 -- what is raised first is the product raised
 pub raised_product : (x y q t : ℤ) (p : ℕ) → q ≡ x *ℤ pos p → t ≡ q *ℤ y → t ≡ (x *ℤ y) *ℤ pos p

@@ -1,3 +1,4 @@
 pub mod Coefficients
 pub mod Boxes
 pub mod KeptRows
+pub mod ShortTimes

@@ -1,8 +1,9 @@
 //! Where a combination of the variables lies, by rows and shares of rows.
 
-ghost use Rattle.std.specs.Prelude.{◌≡◌, ◌+◌, ◌<◌, ◌≤◌, ◌^◌, ℕ, length, None, Some, IfSome};
+ghost use Rattle.std.specs.Prelude.{◌≡◌, ◌+◌, ◌<◌, ◌≤◌, ◌^◌, ℕ, length, None, Some, IfSome, IsTrue};
 ghost use Rattle.fx_model.specs.Tree.{at};
-ghost use Rattle.fx_rational.specs.Dyadic.{zero_dyadic};
+ghost use Rattle.fx_rational.specs.Dyadic as model;
+ghost use Rattle.fx_rational.specs.Dyadic.{fits_128, zero_dyadic};
 ghost use Rattle.fx_inequalities.specs.Certificate.{no_row};
 ghost use Rattle.fx_inequalities.specs.Formula.{Difference, Formula, Num, Product, Span, point, span_product};
 ghost use Rattle.fx_inequalities.specs.Affine.{bound_by_rows, left_over, rows_of, shared_sum, unit_coef, weighted_sum};
@@ -10,10 +11,11 @@ ghost use Rattle.fx_judging.specs.Judging.{Forms, FormsSpan};
 ghost use Rattle.fx_judging.specs.Places.{IsShort, IsShortSpan};
 ghost use Rattle.fx_cert.specs.CertificateView.{form_view as form_view, lines_view, rows_in, shares_of};
 ghost use Rattle.fx_sharing.specs.Coefficients.{AreFormed, AreLeft, AreUnits};
+ghost use Rattle.fx_sharing.specs.ShortTimes.{AreTimes, HasRoom};
 ghost use Rattle.fx_conditions.specs.Sides.{side_at};
 ghost use Rattle.fx_conditions.specs.Limits.{AreShortLines, AreShortRows, AreShortShares, IsShortForm};
 
-use crate::quick::{less_raised, times_ends};
+use crate::quick::{ShortTimes, less_raised, short_times, times_ends};
 use fx_cert::{Form, NodeLine, Row, Share};
 use fx_conditions::{Side, bound_of, coef_at, scaled, scaled_number, side_of, zero_dyadic};
 use fx_interval::Interval;
@@ -132,15 +134,19 @@ fn quick_left(
     j: u32,
     row: &[Dyadic],
     k: u32,
-    times: Dyadic,
+    times: &Option<ShortTimes>,
 ) -> Option<Dyadic>
-    ensures { (f : Formula) → Forms (at None coefs.now j) f → IfSome result (λ d. Forms (Some d) (Difference f (Product (Num times) (Num (at zero_dyadic row.now k))))) }
+    requires { IfSome times.now HasRoom }
+    ensures { (a : model.Dyadic) (f : Formula) → IsTrue (fits_128 a.m) → IfSome times.now (λ t. AreTimes t a) → Forms (at None coefs.now j) f →
+        IfSome result (λ d. Forms (Some d) (Difference f (Product (Num a) (Num (at zero_dyadic row.now k))))) }
 {
+    let Some(short) = times else {
+        return None;
+    };
     let left = coefficient(coefs, j)?;
     let coef = coef_at(row, k);
-    times.keeps();
     coef.keeps();
-    less_raised(left, times, coef)
+    less_raised(left, *short, coef)
 }
 
 /// The same of any numbers. It stands outside of the loop, which has few that aren't quick.
@@ -173,10 +179,12 @@ fn take_row(
     requires few { inputs + states ≤ 96 }
     ensures { (c : ℕ → Formula) → AreLeft coefs.old inputs states c → AreLeft coefs.new inputs states (λ k. Difference (c k) (Product (Num times) (Num (at zero_dyadic row.now k)))) }
 {
+    times.keeps();
+    let short = short_times(times);
     for k in 0..states {
         let j = inputs + k;
         // assigned in each arm, so that what is quick isn't copied
-        match quick_left(&*coefs, j, row, k, times) {
+        match quick_left(&*coefs, j, row, k, &short) {
             Some(quick) => coefs[j as usize] = Some(quick),
             None => coefs[j as usize] = left_of(&*coefs, j, row, k, times),
         }

@@ -6,7 +6,8 @@
 
 ghost use Rattle.std.specs.Prelude.{◌≡◌, ◌≤◌, ◌^◌, pos, unsigned_abs, ◌*ℤ◌, ◌-ℤ◌, IfSome, IsTrue};
 ghost use Rattle.std.specs.Option.{SomeIff};
-ghost use Rattle.fx_rational.specs.Dyadic.{difference_fits, dyadic_difference, dyadic_product, fits_128, product_fits};
+ghost use Rattle.fx_rational.specs.Dyadic.{Dyadic, difference_fits, dyadic_difference, dyadic_product, fits_128, product_fits};
+ghost use Rattle.fx_sharing.specs.ShortTimes.{AreTimes, HasRoom};
 ghost use Rattle.fx_rational.specs.Interval.{interval_product, interval_product_fits};
 
 use fx_interval::{Interval, greatest, least};
@@ -40,29 +41,53 @@ fn short_product(a: Dyadic, b: Dyadic) -> Option<Dyadic>
     Some(Dyadic::new(m, a.e + b.e))
 }
 
-/// A mantissa times `2^places`, where that stays within 2^62.
-fn raised(m: i64, places: u32) -> Option<i64>
-    ensures is { IfSome result (λ x. x ≡ m *ℤ pos (2 ^ places)) }
-    ensures small { IfSome result (λ x. unsigned_abs m ≤ 2 ^ 62) }
-    ensures near { IfSome result (λ x. unsigned_abs x ≤ 2 ^ 62) }
+/// A number in 64 bits, and by how many places it can be raised within 2^62. It is made once for all coefficients of a row.
+#[derive(Clone, Copy)]
+pub struct ShortTimes {
+    mantissa: i64,
+    exponent: u32,
+    room: u32,
+}
+
+/// The number in 64 bits, where it is within 2^62.
+pub fn short_times(a: Dyadic) -> Option<ShortTimes>
+    ensures room { IfSome result HasRoom }
+    ensures is { IfSome result (λ t. AreTimes t a) }
 {
-    let zeros = m.unsigned_abs().leading_zeros();
-    if zeros < 2 || zeros - 2 < places {
+    let mantissa = short(a)?;
+    let zeros = mantissa.unsigned_abs().leading_zeros();
+    if zeros < 2 {
         return None;
     }
-    Some(m * short_two_to(places))
+    Some(ShortTimes {
+        mantissa,
+        exponent: a.e,
+        room: zeros - 2,
+    })
+}
+
+/// Its mantissa times `2^places`, where there is room.
+fn raised(times: ShortTimes, places: u32) -> Option<i64>
+    requires { HasRoom times }
+    ensures is { IfSome result (λ x. x ≡ times.mantissa *ℤ pos (2 ^ places)) }
+    ensures near { IfSome result (λ x. unsigned_abs x ≤ 2 ^ 62) }
+{
+    if times.room < places {
+        return None;
+    }
+    Some(times.mantissa * short_two_to(places))
 }
 
 const FAR: i128 = 1i128 << 126;
 
 /// The product with a short mantissa.
-fn multiple(times: i64, b: Dyadic) -> Option<i128>
-    requires near { unsigned_abs times ≤ 2 ^ 62 }
-    ensures is { IfSome result (λ x. x ≡ times *ℤ b.m) }
+fn multiple(factor: i64, b: Dyadic) -> Option<i128>
+    requires near { unsigned_abs factor ≤ 2 ^ 62 }
+    ensures is { IfSome result (λ x. x ≡ factor *ℤ b.m) }
     ensures small { IfSome result (λ x. unsigned_abs b.m ≤ 2 ^ 64) }
     ensures near { IfSome result (λ x. unsigned_abs x ≤ 2 ^ 126) }
 {
-    Some(i128::from(times) * i128::from(short(b)?))
+    Some(i128::from(factor) * i128::from(short(b)?))
 }
 
 /// The mantissa of `left`, where that is within 2^126, less another.
@@ -76,11 +101,11 @@ fn near_rest(left: Dyadic, taken: i128) -> Option<i128>
     Some(left.m - taken)
 }
 
-/// `left - a * b`, where `b` is zero: nothing is taken away.
-fn less_nothing(left: Dyadic, a: Dyadic, b: Dyadic) -> Option<Dyadic>
-    ensures product { IfSome result (λ d. IsTrue (product_fits a b)) }
-    ensures difference { IfSome result (λ d. IsTrue (difference_fits left (dyadic_product a b))) }
-    ensures is { IfSome result (λ d. d ≡ dyadic_difference left (dyadic_product a b)) }
+/// `left` less any multiple of `b`, where `b` is zero: nothing is taken away.
+fn less_nothing(left: Dyadic, b: Dyadic) -> Option<Dyadic>
+    ensures product { (a : Dyadic) → IfSome result (λ d. IsTrue (product_fits a b)) }
+    ensures difference { (a : Dyadic) → IfSome result (λ d. IsTrue (difference_fits left (dyadic_product a b))) }
+    ensures is { (a : Dyadic) → IfSome result (λ d. d ≡ dyadic_difference left (dyadic_product a b)) }
 {
     if b.m != 0 {
         return None;
@@ -91,17 +116,18 @@ fn less_nothing(left: Dyadic, a: Dyadic, b: Dyadic) -> Option<Dyadic>
 
 /// `left - a * b`, where `a` stays short at the exponent at which the product is taken away, so that one product is all, or
 /// where nothing is taken away.
-pub fn less_raised(left: Dyadic, a: Dyadic, b: Dyadic) -> Option<Dyadic>
-    ensures product { IfSome result (λ d. IsTrue (product_fits a b)) }
-    ensures difference { IfSome result (λ d. IsTrue (difference_fits left (dyadic_product a b))) }
-    ensures is { IfSome result (λ d. d ≡ dyadic_difference left (dyadic_product a b)) }
+pub fn less_raised(left: Dyadic, times: ShortTimes, b: Dyadic) -> Option<Dyadic>
+    requires { HasRoom times }
+    ensures product { (a : Dyadic) → AreTimes times a → IfSome result (λ d. IsTrue (product_fits a b)) }
+    ensures difference { (a : Dyadic) → AreTimes times a → IfSome result (λ d. IsTrue (difference_fits left (dyadic_product a b))) }
+    ensures is { (a : Dyadic) → AreTimes times a → IfSome result (λ d. d ≡ dyadic_difference left (dyadic_product a b)) }
 {
-    let places = a.e + b.e;
+    let places = times.exponent + b.e;
     if left.e < places {
-        return less_nothing(left, a, b);
+        return less_nothing(left, b);
     }
-    let times = raised(short(a)?, left.e - places)?;
-    let taken = multiple(times, b)?;
+    let factor = raised(times, left.e - places)?;
+    let taken = multiple(factor, b)?;
     left.keeps();
     let m = near_rest(left, taken)?;
     Some(Dyadic::new(m, left.e))

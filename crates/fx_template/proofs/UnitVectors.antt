@@ -6,13 +6,25 @@ use Rattle.fx_rational.specs.Dyadic.{Dyadic, IsWritten, zero_dyadic}
 use Rattle.fx_model.specs.Tree.{at}
 use Rattle.fx_inequalities.specs.LawfulCertificate.{AreUnitRows, unit_vector, zeros}
 use Rattle.fx_inequalities.specs.Certificate.{Row, no_row}
+use Rattle.fx_inequalities.specs.Formula.{Num}
+use Rattle.fx_inequalities.specs.Affine.{unit_coef}
 use Rattle.fx_cert.proofs.Units.{zeros_more}
 use Rattle.fx_template.specs.Listed.{tabulate}
-use Rattle.fx_template.specs.Units.{unit_entry}
 use Rattle.fx_template.proofs.Lists.{tabulate_at, tabulate_length}
 
 one : Dyadic
 one = record { m = pos 1; e = 0 }
+
+-- entry j of the unit vector of state i
+abbrev pub unit_entry : ℕ → ℕ → Dyadic
+unit_entry i j = if i == j then record { m = pos 1; e = 0 } else zero_dyadic
+
+entry_of : (d : Dyadic) (i j : ℕ) → Num d ≡ unit_coef i j → d ≡ unit_entry i j
+entry_of d i j e = by (i == j) e
+  where
+    by : (t : Bool) → Num d ≡ (if t then Num one else Num zero_dyadic) → d ≡ (if t then one else zero_dyadic)
+    by true e = cc
+    by false e = cc
 
 other : (i j : ℕ) → j < i → unit_entry i j ≡ zero_dyadic
 other i j lt = by (i == j) refl
@@ -55,8 +67,8 @@ unit_is k i lt = let same : suc i + (k - (i + 1)) ≡ k = omega (arith, lt) in
     subst (λ (m : ℕ). tabulate m (unit_entry i) ≡ unit_vector k i) same (behind i (k - (i + 1)))
 
 -- a list that has them is the unit vector
-pub unit_by : (xs : List Dyadic) (i : ℕ) → i < length xs → ((j : ℕ) → j < length xs → at zero_dyadic xs j ≡ unit_entry i j) → xs ≡ unit_vector (length xs) i
-unit_by xs i lt h = ext_get_or zero_dyadic xs (tabulate (length xs) (unit_entry i)) (sym (tabulate_length (unit_entry i) (length xs))) (λ j less. h j less ∙ sym (tabulate_at (unit_entry i) (length xs) j zero_dyadic less)) ∙ unit_is (length xs) i lt
+pub unit_by : (xs : List Dyadic) (i : ℕ) → i < length xs → ((j : ℕ) → j < length xs → Num (at zero_dyadic xs j) ≡ unit_coef i j) → xs ≡ unit_vector (length xs) i
+unit_by xs i lt h = ext_get_or zero_dyadic xs (tabulate (length xs) (unit_entry i)) (sym (tabulate_length (unit_entry i) (length xs))) (λ j less. entry_of (at zero_dyadic xs j) i j (h j less) ∙ sym (tabulate_at (unit_entry i) (length xs) j zero_dyadic less)) ∙ unit_is (length xs) i lt
 
 -- ---- its entries are 0 and 1
 pub entry_at : (k i j : ℕ) → i < k → j < k → at zero_dyadic (unit_vector k i) j ≡ unit_entry i j

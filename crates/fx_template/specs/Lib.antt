@@ -3,5 +3,4 @@ pub mod Transitions
 pub mod PlainRounds
 pub mod Rows
 pub mod Answers
-pub mod Units
 pub mod RoundView

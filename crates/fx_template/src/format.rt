@@ -8,8 +8,8 @@ ghost use Rattle.fx_inequalities.specs.LawfulCertificate.{AreShares, unit_vector
 ghost use Rattle.fx_cert.specs.CertificateView.{row_view, rows_in, shares_of};
 ghost use Rattle.fx_template.specs.Rows.{AreCountedRows, AreWrittenBounds, IsCountedRow};
 
-use crate::unit::unit_entry;
 use fx_cert::{Row, Share};
+use fx_conditions::unit_coef;
 use fx_interval::Interval;
 use fx_num::Dyadic;
 use fx_rounding::is_small;
@@ -46,7 +46,7 @@ fn is_unit(coefs: &[Dyadic], i: u32) -> bool
     ensures { i < length coefs.now → result ≡ true → coefs.now ≡ unit_vector (length coefs.now) i }
 {
     for j in 0..coefs.len() {
-        if coefs[j] != unit_entry(i, j as u32) {
+        if coefs[j] != unit_coef(i, j as u32) {
             return false;
         }
     }

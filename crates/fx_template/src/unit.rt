@@ -8,25 +8,12 @@ ghost use Rattle.fx_cert.specs.CertificateView.{row_view, rows_in};
 ghost use Rattle.fx_conditions.specs.Limits.{AreShortRows};
 ghost use Rattle.fx_template.specs.PlainRounds.{unit_row, unit_rows};
 ghost use Rattle.fx_template.specs.RoundView.{AreShortBounds};
-ghost use Rattle.fx_template.specs.Units.{unit_entry};
 
 use fx_cert::{Row, unit_vector};
 use fx_conditions::zero_alone;
 use fx_expr::Items;
 use fx_interval::Interval;
-use fx_num::Dyadic;
 use std::alloc::{AllocError, Global};
-
-/// Entry `j` of the unit vector of state `i`.
-pub fn unit_entry(i: u32, j: u32) -> Dyadic
-    ensures { result ≡ unit_entry i j }
-{
-    if i == j {
-        Dyadic { m: 1, e: 0 }
-    } else {
-        Dyadic { m: 0, e: 0 }
-    }
-}
 
 /// Bound `i` of a list, and 0 past its end.
 pub fn bound_at(bounds: &[Interval], i: u32) -> Interval

@@ -12,8 +12,7 @@ use Rattle.fx_weight.specs.Laws.{IsBalanced}
 use Rattle.fx_weight.proofs.Exponents.{sum_balanced, product_balanced}
 use Rattle.fx_weight.proofs.Inputs.{input_facts}
 use Rattle.fx_weight.proofs.Literals.{const_balanced}
-use Rattle.fx_weight.specs.Ordered.{IsOrdered}
-use Rattle.fx_weight.proofs.Ordered.{AreOrdered}
+use Rattle.fx_flat.specs.InPlace.{IsInPlace, AreInPlace}
 
 -- each node with its weight, from k on; both lists are equally long
 abbrev pub ArePairs : (ℕ → Node → Weight → Type 0) → ℕ → List Node → List Weight → Type 0
@@ -42,10 +41,11 @@ pub record IsWeighed (n : ℕ) (inputs : List function.Input) (ws : List Weight)
   pub is : x ≡ node_weight n inputs ws node
   pub at : at no_weight ws k ≡ x
   pub below : k < length ws
-  pub ordered : IsOrdered (length inputs) k node
+  pub states : ℕ
+  pub ordered : IsInPlace (length inputs) states k node
 
 -- weights behind the operands change nothing
-weight_kept : (n : ℕ) (inputs : List function.Input) (ws more : List Weight) (node : Node) → IsOrdered (length inputs) (length ws) node → node_weight n inputs ws node ≡ node_weight n inputs (ws ++ more) node
+weight_kept : {s : ℕ} (n : ℕ) (inputs : List function.Input) (ws more : List Weight) (node : Node) → IsInPlace (length inputs) s (length ws) node → node_weight n inputs ws node ≡ node_weight n inputs (ws ++ more) node
 weight_kept n inputs ws more (Input k) h = refl
 weight_kept n inputs ws more (State k) h = refl
 weight_kept n inputs ws more (Const c) h = refl
@@ -62,12 +62,12 @@ pub record AreWeighed (n : ℕ) (inputs : List function.Input) (nodes : List Nod
   pub is : weights_after n inputs nodes ws ≡ ws ++ rest
   pub pairs : ArePairs (IsWeighed n inputs (weights_after n inputs nodes ws)) (length ws) nodes rest
 
-pub folded : (n : ℕ) (inputs : List function.Input) (nodes : List Node) (ws : List Weight) → AreOrdered (length inputs) (length ws) nodes → AreWeighed n inputs nodes ws
-folded n inputs [] ws h = record { rest = []; is = sym (append-nil ws); pairs = tt }
-folded n inputs (node ∷ nodes) ws h =
+pub folded : (n : ℕ) (inputs : List function.Input) (s : ℕ) (nodes : List Node) (ws : List Weight) → AreInPlace (length inputs) s (length ws) nodes → AreWeighed n inputs nodes ws
+folded n inputs s [] ws h = record { rest = []; is = sym (append-nil ws); pairs = tt }
+folded n inputs s (node ∷ nodes) ws h =
     let x = node_weight n inputs ws node in
     let long = length_push ws x in
-    let f = folded n inputs nodes (ws ++ x ∷ []) (subst (λ (k : ℕ). AreOrdered (length inputs) k nodes) (sym long) h.1) in
+    let f = folded n inputs s nodes (ws ++ x ∷ []) (subst (λ (k : ℕ). AreInPlace (length inputs) s k nodes) (sym long) h.1) in
     let all : weights_after n inputs nodes (ws ++ x ∷ []) ≡ ws ++ x ∷ f.rest = f.is ∙ append_assoc ws (x ∷ []) f.rest in
     record {
       rest = x ∷ f.rest;
@@ -77,6 +77,7 @@ folded n inputs (node ∷ nodes) ws h =
           is = weight_kept n inputs ws (x ∷ f.rest) node h.0 ∙ ap (λ (zs : List Weight). node_weight n inputs zs node) (sym all);
           at = ap (λ (zs : List Weight). at no_weight zs (length ws)) all ∙ get_or-append_seam ws x f.rest no_weight;
           below = let l = ap length all in let m = length-append ws (x ∷ f.rest) in omega (arith, l, m);
+          states = s;
           ordered = h.0;
         },
         subst (λ (k : ℕ). ArePairs (IsWeighed n inputs (weights_after n inputs nodes (ws ++ x ∷ []))) k nodes f.rest) long f.pairs,
@@ -99,8 +100,8 @@ pub few : (w : ℕ) → nat_le w 40 ≡ true → w ≤ 40
 few w e = grind arith
 
 -- a modest node after balanced ones is balanced
-pub node_balanced : (n : ℕ) (inputs : List function.Input) (ws : List Weight) (k : ℕ) (node : Node) → IsWordWidth n → ((a : ℕ) → a < k → IsBalanced n (at no_weight ws a)) →
-    IsOrdered (length inputs) k node → is_modest node (node_weight n inputs ws node) ≡ true → IsBalanced n (node_weight n inputs ws node)
+pub node_balanced : {s : ℕ} (n : ℕ) (inputs : List function.Input) (ws : List Weight) (k : ℕ) (node : Node) → IsWordWidth n → ((a : ℕ) → a < k → IsBalanced n (at no_weight ws a)) →
+    IsInPlace (length inputs) s k node → is_modest node (node_weight n inputs ws node) ≡ true → IsBalanced n (node_weight n inputs ws node)
 node_balanced n inputs ws k (Input j) width before o m = (input_facts n (at no_input inputs j) width (few _ m)).balanced
 node_balanced n inputs ws k (State j) width before o m = absurd cc
 node_balanced n inputs ws k (Const c) width before o m = const_balanced n c width (few _ m)

@@ -21,7 +21,7 @@ use Rattle.fx_weight.specs.PlainPlan.{plain_code, plain_codes, plain_line, power
 use Rattle.fx_weight.specs.Laws.{IsBalanced, IsPlainFunction, IsPlan, PlainLaw}
 use Rattle.fx_weight.proofs.PowerSizes.{minus_power, power_more}
 use Rattle.fx_weight.proofs.Literals.{const_is_word}
-use Rattle.fx_weight.specs.Ordered.{IsOrdered}
+use Rattle.fx_flat.specs.InPlace.{IsInPlace}
 use Rattle.fx_weight.proofs.Folded.{ArePairs, few}
 use Rattle.fx_weight.proofs.Points.{point}
 use Rattle.fx_weight.proofs.Whole.{IsGoodNode, width, no_states, list, good, same_length, balanced_at, codes, codes_long, points, no_plain_fault}
@@ -42,7 +42,7 @@ code_lawful n fn k node x wide g =
     ws : List Weight
     ws = weights_of n fn
 
-    by : (node : Node) → IsOrdered (length fn.inputs) k node → is_modest node (node_weight n fn.inputs (weights_of n fn) node) ≡ true →
+    by : {s : ℕ} (node : Node) → IsInPlace (length fn.inputs) s k node → is_modest node (node_weight n fn.inputs (weights_of n fn) node) ≡ true →
         (let c = plain_code n (weights_of n fn) node (node_weight n fn.inputs (weights_of n fn) node) in IsLawfulCode n k c × IsPlaced (length fn.inputs) 0 k c)
     by (Input j) o m = (tt, o)
     by (State j) o m = absurd cc

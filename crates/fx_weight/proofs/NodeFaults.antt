@@ -27,7 +27,7 @@ use Rattle.fx_weight.proofs.Operations.{range_of, error_of, error_at_61, turned_
 use Rattle.fx_weight.proofs.Words.{word_met}
 use Rattle.fx_weight.proofs.Inputs.{IsKnownInput, input_facts, input_range, input_error_claims}
 use Rattle.fx_weight.proofs.Literals.{const_range, const_error}
-use Rattle.fx_weight.specs.Ordered.{IsOrdered}
+use Rattle.fx_flat.specs.InPlace.{IsInPlace}
 use Rattle.fx_weight.proofs.Folded.{IsWeighed, few}
 use Rattle.fx_weight.proofs.Points.{point, sum_point}
 
@@ -74,7 +74,7 @@ module _ (n : ℕ) (fn : Function) (ws : List Weight) (cert : Certificate) (k : 
   error_is : (a : ℕ) → a < k → error_at cert.lines a ≡ error_of (at no_weight ws a)
   error_is a lt = ap (λ (l : NodeLine). span l.error) (line_at a lt)
 
-  pub range_met : (node : Node) → IsOrdered (length fn.inputs) k node → IsNarrowNode node → is_modest node (node_weight n fn.inputs ws node) ≡ true →
+  pub range_met : {s : ℕ} (node : Node) → IsInPlace (length fn.inputs) s k node → IsNarrowNode node → is_modest node (node_weight n fn.inputs ws node) ≡ true →
       AreMet (plain_range_claims fn cert node (range_of (node_weight n fn.inputs ws node)))
   range_met (Input j) o w m =
       let facts = input_facts n (at no_input fn.inputs j) width (few _ m) in
@@ -101,7 +101,7 @@ module _ (n : ℕ) (fn : Function) (ws : List Weight) (cert : Certificate) (k : 
       let l = (balanced a o.1).few in
       subst (λ (s : Span). AreMet (inside s (range_of (at no_weight ws a)))) (sym (range_is a o.1)) (copied_inside {k = (at no_weight ws a).w} (omega (arith, l)) (range_at_zero (at no_weight ws a).w))
 
-  pub error_met : (node : Node) → IsOrdered (length fn.inputs) k node → IsNarrowNode node → is_modest node (node_weight n fn.inputs ws node) ≡ true →
+  pub error_met : {s : ℕ} (node : Node) → IsInPlace (length fn.inputs) s k node → IsNarrowNode node → is_modest node (node_weight n fn.inputs ws node) ≡ true →
       (let x = node_weight n fn.inputs ws node in AreMet (plain_error_claims fn cert node (plain_code n ws node x) (point n x) (range_of x) (error_of x)))
   error_met (Input j) o w m =
       let facts = input_facts n (at no_input fn.inputs j) width (few _ m) in
@@ -138,16 +138,16 @@ conditions_at fn w cert n node c form l f =
     record { kind = condition.Error; part = OfNode; index = n; test = true; claims = error_claims fn cert l node c f form } ∷
     record { kind = condition.WordTooSmall; part = OfNode; index = n; test = true; claims = word_claims w f (span l.range) (span l.error) } ∷ []
 
-no_divisor : (cert : Certificate) (i k : ℕ) (node : Node) (x : Weight) → IsOrdered i k node → is_modest node x ≡ true → divisor_claims cert.lines node ≡ []
-no_divisor cert i k (Input j) x o m = refl
-no_divisor cert i k (State j) x o m = refl
-no_divisor cert i k (Const c) x o m = refl
-no_divisor cert i k (Neg a) x o m = refl
-no_divisor cert i k (Add a b) x o m = refl
-no_divisor cert i k (Sub a b) x o m = refl
-no_divisor cert i k (Mul a b) x o m = refl
-no_divisor cert i k (Div a b) x o m = absurd cc
-no_divisor cert i k (Copy a) x o m = refl
+no_divisor : (cert : Certificate) (node : Node) (x : Weight) → is_modest node x ≡ true → divisor_claims cert.lines node ≡ []
+no_divisor cert (Input j) x m = refl
+no_divisor cert (State j) x m = refl
+no_divisor cert (Const c) x m = refl
+no_divisor cert (Neg a) x m = refl
+no_divisor cert (Add a b) x m = refl
+no_divisor cert (Sub a b) x m = refl
+no_divisor cert (Mul a b) x m = refl
+no_divisor cert (Div a b) x m = absurd cc
+no_divisor cert (Copy a) x m = refl
 
 five : (a b c d e : Condition) → fault_of a ≡ None → fault_of b ≡ None → fault_of c ≡ None → fault_of d ≡ None → fault_of e ≡ None → first_fault_of (a ∷ b ∷ c ∷ d ∷ e ∷ []) ≡ None
 five a b c d e p q r s t = rw (p, q, r, s, t) refl
@@ -172,7 +172,7 @@ node_faults n fn ws cert ps k node x lines points width narrow balanced h m w =
     let modest = subst (λ (y : Weight). is_modest node y ≡ true) h.is m in
     let range = range_met n fn ws cert k lines width narrow before h.below node h.ordered w modest in
     let error = error_met n fn ws cert k lines width narrow before h.below node h.ordered w modest in
-    let no_div : AreMet (divisor_claims cert.lines node) = subst AreMet (sym (no_divisor cert (length fn.inputs) k node x h.ordered m)) none_met in
+    let no_div : AreMet (divisor_claims cert.lines node) = subst AreMet (sym (no_divisor cert node x m)) none_met in
     let back = sym h.is in
     (λ i. first_fault_of (conditions_at fn n cert k node (plain_code n ws node x) (form i) (l i) (f i)))
     ∙ five (at_node condition.Form k true []) (at_node condition.Divisor k true (divisor_claims cert.lines node)) (at_node condition.Range k true (plain_range_claims fn cert node (range_of x)))
@@ -205,16 +205,16 @@ both n ws ps x a b p q =
     ap (λ (z : ℤ). z -ℤ shift_to ws x a) p ∙ sum_point n (at no_weight ws a).w x.w ∙ sym (ap (λ (z : ℤ). z -ℤ shift_to ws x b) q ∙ sum_point n (at no_weight ws b).w x.w)
 
 -- both operands come to the point of the sum
-pointed : (n i k : ℕ) (ws : List Weight) (ps : List ℤ) (node : Node) (x : Weight) → IsOrdered i k node → ((a : ℕ) → a < k → at (pos 0) ps a ≡ point n (at no_weight ws a)) → same_point ps (plain_code n ws node x) ≡ true
-pointed n i k ws ps (Input j) x o e = refl
-pointed n i k ws ps (State j) x o e = refl
-pointed n i k ws ps (Const c) x o e = refl
-pointed n i k ws ps (Neg a) x o e = refl
-pointed n i k ws ps (Add a b) x o e = same_whole _ _ (both n ws ps x a b (e a o.1) (e b o.2))
-pointed n i k ws ps (Sub a b) x o e = same_whole _ _ (both n ws ps x a b (e a o.1) (e b o.2))
-pointed n i k ws ps (Mul a b) x o e = refl
-pointed n i k ws ps (Div a b) x o e = refl
-pointed n i k ws ps (Copy a) x o e = refl
+pointed : (n i s k : ℕ) (ws : List Weight) (ps : List ℤ) (node : Node) (x : Weight) → IsInPlace i s k node → ((a : ℕ) → a < k → at (pos 0) ps a ≡ point n (at no_weight ws a)) → same_point ps (plain_code n ws node x) ≡ true
+pointed n i s k ws ps (Input j) x o e = refl
+pointed n i s k ws ps (State j) x o e = refl
+pointed n i s k ws ps (Const c) x o e = refl
+pointed n i s k ws ps (Neg a) x o e = refl
+pointed n i s k ws ps (Add a b) x o e = same_whole _ _ (both n ws ps x a b (e a o.1) (e b o.2))
+pointed n i s k ws ps (Sub a b) x o e = same_whole _ _ (both n ws ps x a b (e a o.1) (e b o.2))
+pointed n i s k ws ps (Mul a b) x o e = refl
+pointed n i s k ws ps (Div a b) x o e = refl
+pointed n i s k ws ps (Copy a) x o e = refl
 
 shape_and_shift : (a b : Condition) → fault_of a ≡ None → fault_of b ≡ None → first_fault_of (a ∷ b ∷ []) ≡ None
 shape_and_shift a b p q = rw (p, q) refl
@@ -222,11 +222,11 @@ shape_and_shift a b p q = rw (p, q) refl
 before_next : (i next k : ℕ) (ps : List ℤ) → k < next → state_point i next ps k ≡ true
 before_next i next k ps lt = let e : ltb k next ≡ true = grind (arith, lt) in rw e refl
 
-pub shape_faults : (n i next k : ℕ) (ws : List Weight) (ps : List ℤ) (node : Node) (x : Weight) → k < next → k < length ws → ps ≡ map (point n) ws → IsOrdered i k node →
+pub shape_faults : (n i s next k : ℕ) (ws : List Weight) (ps : List ℤ) (node : Node) (x : Weight) → k < next → k < length ws → ps ≡ map (point n) ws → IsInPlace i s k node →
     first_fault_of (shape_conditions i next ps k node (plain_code n ws node x)) ≡ None
-shape_faults n i next k ws ps node x lt below points o =
+shape_faults n i s next k ws ps node x lt below points o =
     let e : (a : ℕ) → a < k → at (pos 0) ps a ≡ point n (at no_weight ws a) = λ a l. ap (λ (qs : List ℤ). at (pos 0) qs a) points ∙ get_or-map (point n) ws a no_weight (pos 0) (omega (arith, l, below)) in
-    let p = pointed n i k ws ps node x o e in let q = before_next i next k ps lt in
+    let p = pointed n i s k ws ps node x o e in let q = before_next i next k ps lt in
     shape_and_shift (at_node condition.Shape k (same_shape node (plain_code n ws node x)) []) (at_node condition.Shift k (same_point ps (plain_code n ws node x) && state_point i next ps k) [])
     (faultless condition.Shape OfNode k (same_shape node (plain_code n ws node x)) [] (shaped n ws node x) none_met)
     (faultless condition.Shift OfNode k (same_point ps (plain_code n ws node x) && state_point i next ps k) [] (rw (p, q) refl) none_met)

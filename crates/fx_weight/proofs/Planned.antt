@@ -26,7 +26,7 @@ use Rattle.fx_weight.specs.Laws.{IsNarrowInput, IsNarrowNode, IsPlan}
 use Rattle.fx_weight.specs.CodeParts.{HasOperands, FitLiterals, FitsLiteral}
 use Rattle.fx_weight.specs.WeightOf.{weight_of, weights_in}
 use Rattle.fx_weight.specs.declared.weight.Weight.{Weight}
-use Rattle.fx_weight.proofs.Ordered.{node_list}
+use Rattle.fx_flat.proofs.Ordered.{node_list}
 use Rattle.fx_weight.proofs.Stateless.{as_many, literals_fit, operands_below, codes_more, stateless}
 use Rattle.fx_weight.proofs.Lawful.{plan_is}
 
@@ -64,7 +64,7 @@ module _ (n : ℕ) (fn : Function) (some_width : Contains widths n) (lawful : Is
 
   pub operands : All (HasOperands (length ws)) (nodes_in nodes)
   operands = subst (λ (k : ℕ). All (HasOperands k) (nodes_in nodes)) (length-map nodes node_of ∙ each)
-      (subst (λ (xs : List model.Node). All (HasOperands (length xs)) xs) (sym same_nodes) (operands_below (length fn.inputs) (nodes_of fn) (node_list fn lawful.valid).ordered))
+      (subst (λ (xs : List model.Node). All (HasOperands (length xs)) xs) (sym same_nodes) (operands_below (length fn.inputs) (length fn.states) (nodes_of fn) (node_list fn lawful.valid).ordered))
 
   pub literals : FitLiterals n (nodes_in nodes) (weights_in ws)
   literals = subst (λ (xs : List model.Node). FitLiterals n xs (weights_in ws)) (sym same_nodes) (subst (λ (xs : List weights.Weight). FitLiterals n (nodes_of fn) xs) (sym same_weights) (literals_fit n fn width lawful.valid modest))

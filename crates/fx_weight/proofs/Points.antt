@@ -10,7 +10,7 @@ use Rattle.fx_model.specs.Nodes.{Node, Input, State, Const, Neg, Add, Sub, Mul, 
 use Rattle.fx_model.proofs.Widths.{IsWordWidth}
 use Rattle.fx_weight.specs.Weights.{Weight, no_weight, range_point, node_weight, is_modest}
 use Rattle.fx_weight.specs.PlainPlan.{shift_to, plain_code, plain_codes}
-use Rattle.fx_weight.specs.Ordered.{IsOrdered}
+use Rattle.fx_flat.specs.InPlace.{IsInPlace}
 use Rattle.fx_weight.proofs.Folded.{ArePairs, IsWeighed}
 
 -- the point of a weight
@@ -38,7 +38,7 @@ pub code_point : (n : ℕ) (inputs : List function.Input) (ws : List Weight) (ps
     ((a : ℕ) → a < k → at (pos 0) ps a ≡ point n (at no_weight ws a)) → point_of (plain_code n ws node x) ps ≡ point n x
 code_point n inputs ws ps k node x width h m e = subst (λ (y : Weight). point_of (plain_code n ws node y) ps ≡ point n y) (sym h.is) (by node h.ordered (subst (λ (y : Weight). is_modest node y ≡ true) h.is m))
   where
-    by : (node : Node) → IsOrdered (length inputs) k node → is_modest node (node_weight n inputs ws node) ≡ true → point_of (plain_code n ws node (node_weight n inputs ws node)) ps ≡ point n (node_weight n inputs ws node)
+    by : {s : ℕ} (node : Node) → IsInPlace (length inputs) s k node → is_modest node (node_weight n inputs ws node) ≡ true → point_of (plain_code n ws node (node_weight n inputs ws node)) ps ≡ point n (node_weight n inputs ws node)
     by (Input j) o m = refl
     by (State j) o m = refl
     by (Const c) o m = refl

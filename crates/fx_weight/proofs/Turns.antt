@@ -11,18 +11,9 @@ use Rattle.fx_model.specs.Nodes.{Node}
 use Rattle.fx_model.proofs.Widths.{IsWordWidth}
 use Rattle.fx_weight.specs.Weights.{Weight, no_weight, node_weight, weights_after, is_modest, first_immodest}
 use Rattle.fx_weight.specs.Laws.{IsBalanced}
-use Rattle.fx_weight.specs.Ordered.{IsOrdered}
-use Rattle.fx_weight.proofs.Ordered.{AreOrdered}
+use Rattle.fx_flat.specs.InPlace.{IsInPlace, AreInPlace}
+use Rattle.fx_flat.proofs.Ordered.{ordered_at}
 use Rattle.fx_weight.proofs.Folded.{node_balanced}
-
--- node k stands where it may
-pub ordered_at : (i k : ℕ) (nodes : List Node) (d : Node) → AreOrdered i 0 nodes → k < length nodes → IsOrdered i k (get_or nodes k d)
-ordered_at i k nodes d h lt = subst (λ (m : ℕ). IsOrdered i m (get_or nodes k d)) (omega arith) (go k 0 nodes h lt)
-  where
-    go : (k m : ℕ) (nodes : List Node) → AreOrdered i m nodes → k < length nodes → IsOrdered i (k + m) (get_or nodes k d)
-    go k m [] h lt = absurd (omega (arith, lt))
-    go zero m (x ∷ xs) h lt = subst (λ (n : ℕ). IsOrdered i n x) (omega arith) h.0
-    go (suc k) m (x ∷ xs) h lt = subst (λ (n : ℕ). IsOrdered i n (get_or xs k d)) (omega arith) (go k (m + 1) xs h.1 (omega (arith, lt)))
 
 -- each input's error isn't negative
 pub error_nonnegative : (is : List function.Input) (k : ℕ) (d : function.Input) → AreInputs is → k < length is → AtMost (whole (pos 0)) (get_or is k d).err
@@ -84,10 +75,10 @@ module _ (n : ℕ) (inputs : List function.Input) (nodes : List Node) (all : Lis
   walk_stops m = first_here ∙ ap (λ (t : Bool). if t then first_immodest (k + 1) (drop (k + 1) nodes) (drop (k + 1) all) else Some k) m
 
 -- the code's node and weight
-pub turn_on : (n : ℕ) (inputs : List function.Input) (nodes : List Node) (all : List Weight) (k : ℕ) (ws : List Weight) (node : Node) (y : Weight) → IsWordWidth n → k < length nodes → get_or nodes k node ≡ node → IsWalked n inputs nodes all k ws →
-    AreOrdered (length inputs) 0 nodes → (y ≡ node_weight n inputs ws node) × (is_modest node (node_weight n inputs ws node) ≡ true) → IsWalked n inputs nodes all (k + 1) (ws ++ y ∷ [])
-turn_on n inputs nodes all k ws node y width lt is h ordered made =
-    let o = subst (IsOrdered (length inputs) k) is (ordered_at (length inputs) k nodes node ordered lt) in
+pub turn_on : (n : ℕ) (inputs : List function.Input) (s : ℕ) (nodes : List Node) (all : List Weight) (k : ℕ) (ws : List Weight) (node : Node) (y : Weight) → IsWordWidth n → k < length nodes → get_or nodes k node ≡ node → IsWalked n inputs nodes all k ws →
+    AreInPlace (length inputs) s 0 nodes → (y ≡ node_weight n inputs ws node) × (is_modest node (node_weight n inputs ws node) ≡ true) → IsWalked n inputs nodes all (k + 1) (ws ++ y ∷ [])
+turn_on n inputs s nodes all k ws node y width lt is h ordered made =
+    let o = subst (IsInPlace (length inputs) s k) is (ordered_at (length inputs) s k nodes node ordered lt) in
     let c = h.count in
     let balanced = node_balanced n inputs ws k node width (λ a l. h.balanced a no_weight (omega (arith, l, c))) o made.1 in
     subst (λ (z : Weight). IsWalked n inputs nodes all (k + 1) (ws ++ z ∷ [])) (sym made.0) (walk_on n inputs nodes all k ws node lt is h made.1 balanced)
