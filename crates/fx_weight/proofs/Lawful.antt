@@ -37,24 +37,24 @@ code_lawful : (n : ℕ) (fn : Function) (k : ℕ) (node : Node) (x : Weight) →
 code_lawful n fn k node x wide g =
     let h = g.weighed in
     subst (λ (y : Weight). IsLawfulCode n k (plain_code n (weights_of n fn) node y) × IsPlaced (length fn.inputs) 0 k (plain_code n (weights_of n fn) node y)) (sym h.is)
-    (by node h.ordered (subst (λ (y : Weight). is_modest node y ≡ true) h.is g.modest))
+    (by h.states node h.ordered (subst (λ (y : Weight). is_modest node y ≡ true) h.is g.modest))
   where
     ws : List Weight
     ws = weights_of n fn
 
-    by : {s : ℕ} (node : Node) → IsInPlace (length fn.inputs) s k node → is_modest node (node_weight n fn.inputs (weights_of n fn) node) ≡ true →
+    by : (s : ℕ) (node : Node) → IsInPlace (length fn.inputs) s k node → is_modest node (node_weight n fn.inputs (weights_of n fn) node) ≡ true →
         (let c = plain_code n (weights_of n fn) node (node_weight n fn.inputs (weights_of n fn) node) in IsLawfulCode n k c × IsPlaced (length fn.inputs) 0 k c)
-    by (Input j) o m = (tt, o)
-    by (State j) o m = absurd cc
-    by (Const c) o m = (const_is_word n c wide (few _ m), omega (arith, o))
-    by (Neg a) o m = (o.1, let p = o.0 in omega (arith, p))
-    by (Add a b) o m = let l = few _ m in let p = o.0 in
+    by s (Input j) o m = (tt, o)
+    by s (State j) o m = absurd cc
+    by s (Const c) o m = (const_is_word n c wide (few _ m), omega (arith, o))
+    by s (Neg a) o m = (o.1, let p = o.0 in omega (arith, p))
+    by s (Add a b) o m = let l = few _ m in let p = o.0 in
         ((o.1, o.2, shift_few n _ _ (omega arith) l, shift_few n _ _ (omega arith) l), omega (arith, p))
-    by (Sub a b) o m = let l = few _ m in let p = o.0 in
+    by s (Sub a b) o m = let l = few _ m in let p = o.0 in
         ((o.1, o.2, shift_few n _ _ (omega arith) l, shift_few n _ _ (omega arith) l), omega (arith, p))
-    by (Mul a b) o m = let p = o.0 in let l = wide.least in ((o.1, o.2, omega (arith, l)), omega (arith, p))
-    by (Div a b) o m = absurd cc
-    by (Copy a) o m = let p = o.0 in ((o.1, no_shift n), omega (arith, p))
+    by s (Mul a b) o m = let p = o.0 in let l = wide.least in ((o.1, o.2, omega (arith, l)), omega (arith, p))
+    by s (Div a b) o m = absurd cc
+    by s (Copy a) o m = let p = o.0 in ((o.1, no_shift n), omega (arith, p))
 
 codes_lawful : (n : ℕ) (fn : Function) (k : ℕ) (nodes : List Node) (xs : List Weight) → IsWordWidth n → ArePairs (IsGoodNode n fn) k nodes xs → AreLawful n (length fn.inputs) 0 k (plain_codes n (weights_of n fn) nodes xs)
 codes_lawful n fn k [] [] wide g = tt
