@@ -1,13 +1,12 @@
 -- A factor that is raised to an exponent before it is multiplied stays within 64 bits, and its product within 128.
-use Rattle.std.proofs.Common.{◌≡◌, ℕ, ◌+◌, ◌-◌, ◌*◌, ◌%◌, ◌^◌, ◌<◌, ◌≤◌, ℤ, pos, ◌*ℤ◌, unsigned_abs, IsTrue, FitsSigned, to_z, of_z, [], ◌∷◌, refl, ap, subst, sym, ◌∙◌, arith}
+use Rattle.std.proofs.Common.{◌≡◌, ℕ, ◌+◌, ◌-◌, ◌*◌, ◌^◌, ◌<◌, ◌≤◌, ℤ, pos, ◌*ℤ◌, unsigned_abs, IsTrue, FitsSigned, to_z, of_z, [], ◌∷◌, refl, ap, subst, sym, ◌∙◌, arith}
 use Rattle.std.specs.Int.{w64, w128, leading_zeros}
 use Rattle.fx_algebra.proofs.Quote.{by_quotes, quotes}
 use Rattle.fx_rational.specs.Dyadic.{fits_128}
 use Rattle.fx_rational.proofs.Fits.{fits_is}
-use Rattle.std.proofs.Math.Nat.{mod-eq_of_lt}
 use Rattle.std.proofs.Math.Pow.{pow_mono}
-use Rattle.std.proofs.lemmas.Int.{to_z-of_z, to_z_pos, unsigned_abs-mul, fits_signed_from_abs, fits_signed_mul}
-use Rattle.std.proofs.lemmas.Nat.{leading_length, mul-le, pow-add, pow_pos}
+use Rattle.std.proofs.lemmas.Int.{to_z-of_z, unsigned_abs-mul, fits_signed_from_abs, fits_signed_mul}
+use Rattle.std.proofs.lemmas.Nat.{leading_length, mul-le, pow-add}
 
 -- what has two more leading zeros than it is raised by
 pub room_is : (a s z : ℕ) → a < 2 ^ 64 → z ≡ leading_zeros w64 a → 2 ≤ z → s ≤ z - 2 → a * 2 ^ s ≤ 2 ^ 62

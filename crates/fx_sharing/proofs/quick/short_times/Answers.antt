@@ -1,6 +1,5 @@
-use Rattle.std.proofs.Common.{◌≡◌, ℕ, ◌-◌, ◌≤◌, ◌*◌, ◌^◌, unsigned_abs, refl, ap, subst, ◌∙◌, arith, rules}
+use Rattle.std.proofs.Common.{◌≡◌, ℕ, ◌-◌, ◌≤◌, ◌*◌, ◌^◌, unsigned_abs, to_z, of_z, refl, subst, arith, rules}
 use Rattle.std.specs.Int.{w64, leading_zeros}
-use Rattle.std.proofs.lemmas.Int.{to_z-of_z}
 use Rattle.std.proofs.lemmas.Nat.{leading_le}
 use Rattle.fx_sharing.proofs.Raised.{room_is}
 use Rattle.fx_sharing.proofs.quick.short_times.Goals as goal
@@ -8,7 +7,7 @@ use Rattle.fx_sharing.proofs.quick.short_times.Goals as goal
 pub returns-clause-room : goal.returns-clause-room
 returns-clause-room c =
     let n = c.unsigned_abs-zeros.result in let z = leading_zeros w64 n in
-    let same : n ≡ unsigned_abs c.in_ok-mantissa.mantissa = search rules in
+    let same : n ≡ unsigned_abs (to_z w64 (of_z w64 c.in_ok-mantissa.mantissa)) = search rules in
     let most = leading_le 64 n in
     record {
       few = omega (arith, most);
