@@ -1,5 +1,5 @@
 -- Plain errors: of each node the narrowest interval that the error's inequality allows, with eight binary places more than its point.
-use Rattle.std.specs.Prelude.{◌+◌, ◌-◌, unsigned_abs, ℤ, pos, Bool, true, ◌&&◌, if◌then◌else◌, List, [], ◌∷◌, map, length, Result, Err, None}
+use Rattle.std.specs.Prelude.{unsigned_abs, ℤ, pos, Bool, true, ◌&&◌, if◌then◌else◌, List, [], ◌∷◌, map, length, Result, Err, None}
 use Rattle.std.specs.List.{list_all}
 use Rattle.fx_rational.specs.Rational.{minus, negative, scaled, floor}
 use Rattle.fx_rational.specs.Interval.{Interval}
