@@ -1,22 +1,21 @@
 -- The run over given rows: it isn't stuck, keeps its bounds, and is printed line by line.
-use Rattle.std.proofs.Common.{◌≡◌, ℕ, ℤ, List, [], ◌∷◌, ◌++◌, map, length, Option, Some, None, Bool, true, false, refl, ap, sym, subst, ◌∙◌}
+use Rattle.std.proofs.Common.{◌≡◌, ℕ, ℤ, List, [], ◌∷◌, ◌++◌, map, length, Option, Some, None, refl, ap, sym, subst, ◌∙◌}
 use Rattle.std.specs.Prelude.{All, if◌then◌else◌}
 use Rattle.std.specs.Option.{option_map, option_and_then}
 use Rattle.std.proofs.lemmas.List.Elements.{All-head, All-tail}
 use Rattle.fx_rational.specs.Rational.{Rational}
 use Rattle.fx_rational.specs.Decimal.{Decimal, decimal_value}
-use Rattle.fx_model.specs.Function.{Function, Input, Step, Run, exact_run, run_of}
+use Rattle.fx_model.specs.Function.{Function, Input, Step, Run, run_of}
 use Rattle.fx_model.specs.Machine.{Program, machine_run, machine_step, output_points, start_words}
-use Rattle.fx_model.specs.Page.{line_of, names_from, page, page_lines, word_texts}
+use Rattle.fx_model.specs.Page.{line_of, names_from, page_lines}
 use Rattle.fx_model.specs.Rows.{AreInputs, AreTrueOf, InRangeLaw, IsInRange}
 use Rattle.fx_inequalities.specs.Certificate.{Certificate}
 use Rattle.fx_inequalities.specs.Rewriting.{Rewrites}
 use Rattle.fx_sound.specs.Soundness.{AllAlike, BoundLaw, IsCertified, RunLaw, RunsAgree}
-use Rattle.fx_rows.specs.ReadRows.{Given, Read, RowsInRangeLaw, lines_read}
-use Rattle.fx_filter.specs.Outcome.{Outcome}
+use Rattle.fx_rows.specs.ReadRows.{Read, RowsInRangeLaw, lines_read}
 use Rattle.fx_filter.specs.Printed.{lines_outcome, page_of}
 use Rattle.fx_checker.specs.CertifiedView.{Accepted}
-use Rattle.fx_run.specs.Printed.{IsHonestRun, IsWithinBounds, RowsLaw, given_values, printed, run_outcome, run_page}
+use Rattle.fx_run.specs.Printed.{IsWithinBounds, RowsLaw, given_values, printed, run_outcome, run_page}
 use Rattle.fx_run.specs.Steps.{lines_from, line_then, step_line}
 
 -- ---- the law

@@ -1,11 +1,11 @@
 -- What is promised of a run is promised of the same told in other words.
-use Rattle.std.proofs.Common.{◌≡◌, ℕ, List, ◌++◌, Option, ap, subst}
+use Rattle.std.proofs.Common.{◌≡◌, ℕ, List, ◌++◌, Option, subst}
 use Rattle.std.specs.Prelude.{None, Some, IfErr, IfOk, Result, Ok, Err, IfSome}
 use Rattle.std.specs.Io.KnownBytes.{Appends}
 use Rattle.fx_base.specs.Text.{lines_in}
 use Rattle.fx_rows.specs.Faults.{row_fault_of}
 use Rattle.fx_filter.specs.Outcome.{Outcome}
-use Rattle.fx_filter.specs.Promise.{IsBadAt, IsDone, IsDue, IsPrompt, PrintsFront, PrintsWholeLines}
+use Rattle.fx_filter.specs.Promise.{IsBadAt, IsDone, IsDue, PrintsFront}
 use Rattle.fx_filter.specs.declared.fault.RunFault.{RunFault}
 use Rattle.fx_filter.specs.declared.fault.RunFault.TheVariants.{Row, ReadFault, WriteFault, TooLong, Memory}
 

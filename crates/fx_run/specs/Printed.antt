@@ -1,10 +1,10 @@
 -- What a run over the rows of an input prints, and what is true of it.
-use Rattle.std.specs.Prelude.{ℕ, ◌≡◌, ℤ, List, [], ◌∷◌, ◌++◌, length, map, Option, Some, None, if◌then◌else◌}
+use Rattle.std.specs.Prelude.{ℕ, ◌≡◌, ℤ, List, [], length, map, Option, Some, None, if◌then◌else◌}
 use Rattle.fx_rational.specs.Rational.{Rational}
 use Rattle.fx_rational.specs.Decimal.{Decimal, decimal_value}
-use Rattle.fx_model.specs.Function.{Function, Step, Run, exact_run}
-use Rattle.fx_model.specs.Machine.{Program, machine_run, machine_step, output_points}
-use Rattle.fx_model.specs.Page.{line_of, page, word_texts}
+use Rattle.fx_model.specs.Function.{Function, Run, exact_run}
+use Rattle.fx_model.specs.Machine.{Program, machine_run}
+use Rattle.fx_model.specs.Page.{page}
 use Rattle.fx_model.specs.Rows.{AreTrueOf}
 use Rattle.fx_inequalities.specs.Certificate.{Certificate}
 use Rattle.fx_sound.specs.Soundness.{AllBounded}
