@@ -6,11 +6,11 @@ use Rattle.fx_conditions.proofs.Lawful.{no_short_row}
 use Rattle.fx_rational.specs.Dyadic.{Dyadic, IsWritten, zero_dyadic}
 use Rattle.fx_rational.specs.Interval.{Interval, IsWrittenInterval}
 use Rattle.fx_model.specs.Tree.{at}
-use Rattle.fx_inequalities.specs.Formula.{Num, span}
+use Rattle.fx_inequalities.specs.Formula.{Num}
 use Rattle.fx_inequalities.specs.Certificate.{Row, no_row, zero_interval}
 use Rattle.fx_inequalities.specs.LawfulCertificate.{unit_vector}
 use Rattle.fx_bounds.proofs.Claims.{both_right}
-use Rattle.fx_judging.specs.Places.{IsShort, IsShortSpan}
+use Rattle.fx_judging.specs.Places.{IsShort}
 use Rattle.fx_conditions.specs.Limits.{AreShortRows, IsShortRow}
 use Rattle.fx_conditions.specs.declared.side.Side.{Side}
 use Rattle.fx_sharing.specs.KeptRows.{kept_row}

@@ -20,6 +20,7 @@ abbrev pub unit_entry : ℕ → ℕ → Dyadic
 unit_entry i j = if i == j then record { m = pos 1; e = 0 } else zero_dyadic
 
 entry_of : (d : Dyadic) (i j : ℕ) → Num d ≡ unit_coef i j → d ≡ unit_entry i j
+unfolding one
 entry_of d i j e = by (i == j) e
   where
     by : (t : Bool) → Num d ≡ (if t then Num one else Num zero_dyadic) → d ≡ (if t then one else zero_dyadic)
