@@ -102,10 +102,11 @@ impl Page {
         BLOCK - self.used >= LINE
     }
 
-    /// Writes all.
+    /// Writes all. Where that fails, the page stays as it was.
     pub fn write_out<K: Sink>(&mut self, sink: &mut K) -> Result<(), Failed>
         ensures all { OnOk result (Appends (K.taken sink.old) (K.taken sink.new) self.old) }
         ensures empty { OnOk result (self.new ≡ []) }
+        ensures kept { OnErr result (self.new ≡ self.old) }
         ensures front { OnErr result (AppendsFront (K.taken sink.old) (K.taken sink.new) self.old) }
         ensures cause { HasCause (K.faults sink.old) (K.faults sink.new) result }
     {
