@@ -2,7 +2,6 @@
 
 use crate::basis::{ScaledRows, exchange};
 use fx_cert::{Row, Share};
-use fx_conditions::zero_dyadic;
 use fx_expr::Items;
 use fx_interval::Interval;
 use fx_num::{Dyadic, Memory, dsub};
@@ -61,7 +60,7 @@ fn state_part(alloc: Global, c: &Combination<'_>, states: usize) -> Result<Vec<i
             .coefs
             .get(c.spans.len().saturating_add(k))
             .copied()
-            .unwrap_or(zero_dyadic());
+            .unwrap_or(Dyadic::zero());
         row.push(floor_at(coef, PLACES as i32).unwrap_or(0))?;
     }
     Ok(row)

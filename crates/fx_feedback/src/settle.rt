@@ -5,8 +5,7 @@
 
 use crate::boxes::{hold_all, intervals, next_boxes};
 use crate::task::Task;
-use fx_cert::NodeLine;
-use fx_conditions::Side;
+use fx_cert::{NodeLine, Side};
 use fx_num::Memory;
 use fx_proposal::{Proposal, propose_rows};
 use fx_reach::Transition;

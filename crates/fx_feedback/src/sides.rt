@@ -2,8 +2,7 @@
 
 use crate::settle::Settling;
 use crate::task::Task;
-use fx_cert::NodeLine;
-use fx_conditions::Side;
+use fx_cert::{NodeLine, Side};
 use fx_num::Memory;
 use fx_planning::{Plan, find_plan_in};
 use fx_ranges::{Ranges, find_ranges_in, start_error, start_range};

@@ -8,7 +8,7 @@
 
 ghost use Rattle.std.specs.Prelude.{◌≡◌, ◌+◌, ◌≤◌, ◌^◌, IsTrue};
 ghost use Rattle.std.specs.Option.{SomeIff};
-ghost use Rattle.fx_rational.specs.Dyadic.{fits_128, least, greatest};
+ghost use Rattle.fx_rational.specs.Dyadic.{zero_dyadic, fits_128, least, greatest};
 ghost use Rattle.fx_rational.specs.Interval.{interval_sum, interval_sum_fits, interval_difference, interval_difference_fits, interval_product, interval_product_fits, is_inside, outward_to};
 
 use fx_num::{Dyadic, dadd, dle, dmul, dsub, round_down, round_up};
@@ -34,6 +34,16 @@ impl Model for Interval {
 }
 
 impl Interval {
+    /// Zero alone.
+    pub fn zero() -> Interval
+        ensures { result ≡ record { lo = zero_dyadic; hi = zero_dyadic } }
+    {
+        Interval {
+            lo: Dyadic::zero(),
+            hi: Dyadic::zero(),
+        }
+    }
+
     /// What each interval keeps: ends whose mantissas have 128 bits.
     pub fn keeps(&self)
         ensures lo { IsTrue (fits_128 self.now.lo.m) }

@@ -8,7 +8,8 @@ ghost use Rattle.std.specs.Prelude.{◌<◌, length, IfSome};
 use crate::rule::inverse;
 use fx_expr::{Expr, Function, Items, same};
 use fx_num::Memory;
-use fx_rewrite::{Step, StepFault, apply, copied_steps};
+use fx_rewrite::{StepFault, apply};
+use fx_step::{Step, copied_steps};
 use std::alloc::Global;
 
 /// The most steps of a draft.

@@ -5,7 +5,7 @@
 
 ghost use Rattle.std.specs.Prelude.{◌≡◌, ◌+◌, ◌≤◌, ◌^◌, IsTrue};
 ghost use Rattle.std.specs.Option.{SomeIff};
-ghost use Rattle.fx_rational.specs.Dyadic.{dyadic, fits_128, sum_fits, dyadic_sum, difference_fits, dyadic_difference, product_fits, dyadic_product, is_dyadic_at_most, rounded_down, rounded_up};
+ghost use Rattle.fx_rational.specs.Dyadic.{dyadic, zero_dyadic, fits_128, sum_fits, dyadic_sum, difference_fits, dyadic_difference, product_fits, dyadic_product, is_dyadic_at_most, rounded_down, rounded_up};
 
 use crate::shift::{add_fits, ceil_shift, floor_shift, left_fits, mul_fits, subtract_fits};
 use std::marker::Model;
@@ -32,6 +32,13 @@ impl Model for Dyadic {
 }
 
 impl Dyadic {
+    /// Zero.
+    pub fn zero() -> Dyadic
+        ensures { result ≡ zero_dyadic }
+    {
+        Dyadic { m: 0, e: 0 }
+    }
+
     /// `m / 2^e`, with the exponent 0 where m is zero.
     pub fn new(m: i128, e: u32) -> Dyadic
         requires { e ≤ 2 ^ 20 }

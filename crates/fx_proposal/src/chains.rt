@@ -1,6 +1,6 @@
 //! What chains begin with: the unit rows, and what the outputs take of the states.
 
-use fx_conditions::coef_of;
+use fx_cert::affine_coef;
 use fx_num::Memory;
 use fx_reach::{
     Ahead, Chain, Linear, PLACES, Transition, floor_at, look_ahead, unit_cost, unit_row,
@@ -29,11 +29,8 @@ fn state_part(alloc: Global, t: &Transition, node: u32) -> Result<Option<Vec<i12
     let mut row = Vec::new(alloc);
     let mut is_some = false;
     for k in 0..t.states {
-        let coef = coef_of(&t.lines, variables, node, t.inputs.saturating_add(k));
-        let entry = match coef {
-            Some(coef) => floor_at(coef, PLACES as i32).unwrap_or(0),
-            None => 0,
-        };
+        let coef = affine_coef(&t.lines, variables, node, t.inputs.saturating_add(k));
+        let entry = floor_at(coef, PLACES as i32).unwrap_or(0);
         is_some = is_some || entry != 0;
         row.push(entry)?;
     }

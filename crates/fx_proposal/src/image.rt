@@ -1,14 +1,13 @@
 //! What comes of a row in one step, as exact numbers: on each state, and by what drives it.
 
 use crate::ends::Ends;
-use fx_conditions::{zero_alone, zero_dyadic};
 use fx_interval::Interval;
 use fx_num::{Dyadic, dadd, dsub};
 use fx_reach::{Linear, Pool, ceil_at, floor_at, plus_scaled, times};
 
 /// Coefficient `j` of what row `i` is of the next states.
 fn image_coef(linear: &Linear, pool: &Pool, i: usize, j: usize) -> Option<Dyadic> {
-    let mut total = zero_dyadic();
+    let mut total = Dyadic::zero();
     for k in 0..linear.states {
         let own = pool.coef(i, k);
         if own.m != 0 {
@@ -20,7 +19,7 @@ fn image_coef(linear: &Linear, pool: &Pool, i: usize, j: usize) -> Option<Dyadic
 
 /// What the rests of the next states add to row `i`.
 fn rests_of(linear: &Linear, pool: &Pool, i: usize) -> Option<Interval> {
-    let mut total = zero_alone();
+    let mut total = Interval::zero();
     for (k, rest) in linear.rests.iter().enumerate() {
         total = plus_scaled(total, pool.coef(i, k), *rest)?;
     }
@@ -50,7 +49,7 @@ pub fn left_coef(linear: &Linear, pool: &Pool, i: usize, j: usize) -> Option<Dya
 
 /// Where the row is at the start.
 pub fn start_of(pool: &Pool, i: usize, starts: &[Interval], places: i32) -> Option<Ends> {
-    let mut total = zero_alone();
+    let mut total = Interval::zero();
     for (k, start) in starts.iter().enumerate() {
         total = plus_scaled(total, pool.coef(i, k), *start)?;
     }

@@ -2,7 +2,6 @@
 
 use crate::ends::Ends;
 use crate::image::{drive_of, left_coef, start_of};
-use fx_conditions::zero_dyadic;
 use fx_interval::Interval;
 use fx_num::{Dyadic, Memory, ceil_shift, dadd, dle, floor_shift, left_fits};
 use fx_reach::{Linear, Pool, ceil_at, floor_at};
@@ -82,7 +81,7 @@ fn put_left(
 
 /// How often row `i` is taken of itself, if that is below 1.
 fn own_of(terms: &[Taken], i: usize) -> Option<Dyadic> {
-    let mut total = zero_dyadic();
+    let mut total = Dyadic::zero();
     for term in terms {
         if term.row == i {
             total = dadd(total, term.times)?;
@@ -176,7 +175,7 @@ fn finished(
     starts: Option<&[Interval]>,
 ) -> Option<Left> {
     let drive = drive_of(linear, pool, i)?;
-    let own = own.unwrap_or(zero_dyadic());
+    let own = own.unwrap_or(Dyadic::zero());
     let start = match starts {
         Some(starts) => Some(start_of(pool, i, starts, places)?),
         None => None,

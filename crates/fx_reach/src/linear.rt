@@ -2,7 +2,7 @@
 
 use crate::transition::Transition;
 use crate::whole::{PLACES, ceil_at, floor_at, greater, magnitude, unit_row};
-use fx_conditions::{Side, coef_of, side_of, side_rest_of, zero_alone, zero_dyadic};
+use fx_cert::{Side, affine_coef, side_at, side_rest};
 use fx_interval::Interval;
 use fx_num::{Dyadic, Memory, ceil_shift, floor_shift};
 use std::alloc::Global;
@@ -45,8 +45,8 @@ pub struct Linear {
 fn put_coefs(coefs: &mut Vec<Dyadic>, t: &Transition, k: u32) -> Result<(), Memory> {
     let variables = t.inputs.saturating_add(t.states);
     for j in 0..variables {
-        let coef = coef_of(&t.lines, variables, t.next.saturating_add(k), j);
-        coefs.push(coef.unwrap_or(zero_dyadic()))?;
+        let coef = affine_coef(&t.lines, variables, t.next.saturating_add(k), j);
+        coefs.push(coef)?;
     }
     Ok(())
 }
@@ -65,8 +65,8 @@ fn all_rests(alloc: Global, t: &Transition, side: &Side) -> Result<Vec<Interval>
     let variables = t.inputs.saturating_add(t.states);
     let mut rests = Vec::new(alloc);
     for k in 0..t.states {
-        let rest = side_rest_of(side, &t.lines, variables, t.next.saturating_add(k));
-        rests.push(rest.unwrap_or(zero_alone()))?;
+        let rest = side_rest(side, &t.lines, variables, t.next.saturating_add(k));
+        rests.push(rest)?;
     }
     Ok(rests)
 }
@@ -75,7 +75,7 @@ fn all_rests(alloc: Global, t: &Transition, side: &Side) -> Result<Vec<Interval>
 fn all_spans(alloc: Global, t: &Transition, side: &Side) -> Result<Vec<Interval>, Memory> {
     let mut spans = Vec::new(alloc);
     for j in 0..t.inputs {
-        spans.push(side_of(side, &t.lines, j).unwrap_or(zero_alone()))?;
+        spans.push(side_at(side, &t.lines, j))?;
     }
     Ok(spans)
 }
@@ -104,7 +104,7 @@ impl Linear {
         let place = k.saturating_mul(variables).saturating_add(j);
         match self.coefs.get(place) {
             Some(coef) => *coef,
-            None => zero_dyadic(),
+            None => Dyadic::zero(),
         }
     }
 
@@ -148,7 +148,7 @@ impl Linear {
             let Some(coefs) = self.column(alloc, j)? else {
                 return Ok(None);
             };
-            let span = self.spans.get(j).copied().unwrap_or(zero_alone());
+            let span = self.spans.get(j).copied().unwrap_or(Interval::zero());
             if self.add_drive(coefs, span)?.is_none() {
                 return Ok(None);
             }
@@ -160,7 +160,7 @@ impl Linear {
     fn add_rests(&mut self, alloc: Global) -> Result<Option<()>, Memory> {
         for k in 0..self.states {
             let coefs = unit_row(alloc, self.states, k, 1 << PLACES)?;
-            let rest = self.rests.get(k).copied().unwrap_or(zero_alone());
+            let rest = self.rests.get(k).copied().unwrap_or(Interval::zero());
             if self.add_drive(coefs, rest)?.is_none() {
                 return Ok(None);
             }

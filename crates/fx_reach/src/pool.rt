@@ -3,7 +3,6 @@
 use crate::rows::Rows;
 use crate::whole::{PLACES, bits, floor_at, lowest};
 use fx_cert::Share;
-use fx_conditions::zero_dyadic;
 use fx_num::{Dyadic, Memory, floor_shift};
 use std::alloc::Global;
 
@@ -40,7 +39,7 @@ impl Pool {
         let place = i.saturating_mul(self.rows.states).saturating_add(j);
         match self.coefs.get(place) {
             Some(coef) => *coef,
-            None => zero_dyadic(),
+            None => Dyadic::zero(),
         }
     }
 
@@ -136,7 +135,7 @@ impl Pool {
         reach: (i128, i128),
     ) -> Result<usize, Memory> {
         for j in 0..self.rows.states {
-            self.push_coef(coefs.get(j).copied().unwrap_or(zero_dyadic()))?;
+            self.push_coef(coefs.get(j).copied().unwrap_or(Dyadic::zero()))?;
         }
         self.push_reach(alloc, reach, 0)
     }

@@ -1,4 +1,3 @@
-pub mod StepView
 pub mod Ready
 pub mod Refusals
 pub mod SpareOf

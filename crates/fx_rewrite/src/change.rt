@@ -7,14 +7,14 @@ ghost use Rattle.std.specs.Prelude.{◌≡◌, Some, IfErr, OnErr, OnOk, MatchRe
 ghost use Rattle.fx_rules.specs.Steps.{rewrite};
 ghost use Rattle.fx_rewrite.specs.Prepared.{IsPrepared};
 ghost use Rattle.fx_rewrite.specs.Refusals.{IsRefused};
-ghost use Rattle.fx_rewrite.specs.StepView.{step_view};
+ghost use Rattle.fx_step.specs.StepView.{step_view};
 
 use crate::fault::StepFault;
 use crate::judge::{admit, find};
 use crate::spare::{Spare, prepare, turn};
-use crate::step::Step;
 use fx_expr::Function;
 use fx_fold::{Sizes, leaf};
+use fx_step::Step;
 use std::alloc::Global;
 
 /// Whether the step is there, and then the memory that it needs and the sizes of what goes and comes.

@@ -4,14 +4,14 @@
 //! value is the list of the steps that are left.
 ghost use Rattle.std.specs.Prelude.{◌≡◌, ◌∷◌, [], IfOk, OnErr, MatchOption};
 ghost use Rattle.fx_rules.specs.SingleSteps.{single_steps};
-ghost use Rattle.fx_rewrite.specs.StepView.{step_view};
+ghost use Rattle.fx_step.specs.StepView.{step_view};
 ghost use Rattle.fx_rewrite.specs.Left.{left};
 
 use crate::first::first_at;
-use crate::step::Step;
 use crate::successor::{copied, position_after};
 use fx_expr::{Function, Items};
 use fx_num::Memory;
+use fx_step::Step;
 use std::alloc::Global;
 
 /// Where the cursor stands: nothing before this rule at this path in this tree is left.

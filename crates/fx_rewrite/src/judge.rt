@@ -10,13 +10,13 @@ ghost use Rattle.fx_expr.specs.SizeOf.{size_of};
 ghost use Rattle.fx_expr.specs.TreeOf.{tree};
 ghost use Rattle.fx_rules.specs.Steps.{is_within_limits};
 ghost use Rattle.fx_rewrite.specs.Refusals.{IsAdmitted, IsRefusedThere};
-ghost use Rattle.fx_rewrite.specs.StepView.{step_view};
+ghost use Rattle.fx_step.specs.StepView.{step_view};
 
 use crate::fault::StepFault;
 use crate::rule::measure;
-use crate::step::Step;
 use fx_expr::{Expr, Function, at};
 use fx_fold::{Measure, Sizes};
+use fx_step::Step;
 
 /// The tree that a step speaks of.
 pub fn find<'a>(function: &'a Function, place: u32, path: &[u8]) -> Option<&'a Expr>

@@ -1,7 +1,7 @@
 //! Rewriting: a function is changed in place by a step of a certificate, and keeps its meaning.
 //!
-//! A `Step` names a tree, a path in it and a rule. What the rules are stands in `fx_rules`, by which contracts say what a
-//! step gives.
+//! A step names a tree, a path in it and a rule (`fx_step`). What the rules are stands in `fx_rules`, by which contracts say
+//! what a step gives.
 #![tactic(auto)]
 
 mod change;
@@ -12,11 +12,9 @@ mod judge;
 mod measure;
 mod rule;
 mod spare;
-mod step;
 mod successor;
 mod turn;
 
 pub use change::apply;
 pub use cursor::SingleSteps;
 pub use fault::StepFault;
-pub use step::{Step, copied_steps};

@@ -12,8 +12,8 @@ use fx_checker::Certified;
 use fx_feedback::judged;
 use fx_moves::Draft;
 use fx_num::{Dyadic, Memory, dle};
-use fx_rewrite::Step;
 use fx_span::Grids;
+use fx_step::Step;
 use fx_writing::write;
 use std::alloc::Global;
 

@@ -4,8 +4,8 @@ use Rattle.fx_inequalities.specs.Certificate.{StartBox}
 use Rattle.fx_judging.specs.Places.{IsShortSpan}
 use Rattle.fx_judging.proofs.Shorts.{shorter_span}
 use Rattle.fx_conditions.specs.Limits.{AreShortBoxes}
-use Rattle.fx_conditions.specs.declared.side.Side.{Side}
-use Rattle.fx_conditions.specs.declared.side.Side.TheVariants.{Value, Error}
+use Rattle.fx_cert.specs.declared.side.Side.{Side}
+use Rattle.fx_cert.specs.declared.side.Side.TheVariants.{Value, Error}
 use Rattle.fx_sharing.specs.Boxes.{box_at}
 
 pub box_short : (side : Side) (bs : List StartBox) → AreShortBoxes bs → (k : ℕ) → IsShortSpan 512 (box_at side bs k)

@@ -5,8 +5,8 @@ use Rattle.fx_inequalities.specs.Formula.{Product, Span, zero_span}
 use Rattle.fx_inequalities.specs.Certificate.{NodeLine, Row, no_row}
 use Rattle.fx_inequalities.specs.Claim.{Claim, inside}
 use Rattle.fx_inequalities.specs.Affine.{affine_at, bound_by_rows, rows_of, sum_of, weighted_sum}
-use Rattle.fx_conditions.specs.Sides.{side_at, side_rest}
-use Rattle.fx_conditions.specs.declared.side.Side.{Side}
+use Rattle.fx_cert.specs.Sides.{side_at, side_rest}
+use Rattle.fx_cert.specs.declared.side.Side.{Side}
 
 -- where row i lies after one step, over so many inputs and states, and from the node of the first next state on
 abbrev pub next_row : ℕ → ℕ → ℕ → List NodeLine → List Row → Side → ℕ → Span

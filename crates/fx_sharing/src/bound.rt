@@ -12,12 +12,12 @@ ghost use Rattle.fx_judging.specs.Places.{IsShort, IsShortSpan};
 ghost use Rattle.fx_cert.specs.CertificateView.{form_view as form_view, lines_view, rows_in, shares_of};
 ghost use Rattle.fx_sharing.specs.Coefficients.{AreFormed, AreLeft, AreUnits};
 ghost use Rattle.fx_sharing.specs.ShortTimes.{AreTimes, HasRoom};
-ghost use Rattle.fx_conditions.specs.Sides.{side_at};
+ghost use Rattle.fx_cert.specs.Sides.{side_at};
 ghost use Rattle.fx_conditions.specs.Limits.{AreShortLines, AreShortRows, AreShortShares, IsShortForm};
 
 use crate::quick::{ShortTimes, less_raised, short_times, times_ends};
-use fx_cert::{Form, NodeLine, Row, Share};
-use fx_conditions::{Side, bound_of, coef_at, scaled, scaled_number, side_of, zero_dyadic};
+use fx_cert::{Form, NodeLine, Row, Share, Side, coef_at};
+use fx_conditions::{bound_of, scaled, scaled_number, side_of};
 use fx_interval::Interval;
 use fx_judging::{difference, number, plus, point, times};
 use fx_num::Dyadic;
@@ -198,7 +198,7 @@ const CENTRE: usize = VARIABLES - 1;
 fn units() -> [Dyadic; 192]
     ensures { AreUnits result }
 {
-    let mut units = [zero_dyadic(); 2 * VARIABLES];
+    let mut units = [Dyadic::zero(); 2 * VARIABLES];
     units[CENTRE] = Dyadic { m: 1, e: 0 };
     units
 }

@@ -19,14 +19,12 @@ ghost use Rattle.fx_cert.specs.CertificateView.{boxes_in, certificate_of, lines_
 ghost use Rattle.fx_conditions.specs.MatchView.{code_in, node_in};
 ghost use Rattle.fx_conditions.specs.Limits.{IsShortCertificate};
 ghost use Rattle.fx_sharing.specs.Boxes.{box_at};
-ghost use Rattle.fx_conditions.specs.declared.side.Side.TheVariants as sides;
+ghost use Rattle.fx_cert.specs.declared.side.Side.TheVariants as sides;
 
 use crate::share::{node_error, node_form, node_range};
 use crate::start::box_interval;
-use fx_cert::{Certificate, NodeLine, StartBox};
-use fx_conditions::{
-    Matched, Side, divisor_judgement, error_at, range_at, word_judgement, zero_fraction,
-};
+use fx_cert::{Certificate, NodeLine, Side, StartBox, error_at, range_at};
+use fx_conditions::{Matched, divisor_judgement, word_judgement, zero_fraction};
 use fx_expr::Function;
 use fx_fraction::{Fraction, to_fraction};
 use fx_interval::Interval;

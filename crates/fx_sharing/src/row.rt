@@ -10,14 +10,12 @@ ghost use Rattle.fx_judging.specs.Judging.{Forms, FormsSpan, judged};
 ghost use Rattle.fx_cert.specs.CertificateView.{lines_view, rows_in, shares_of};
 ghost use Rattle.fx_sharing.specs.Coefficients.{AreFormed};
 ghost use Rattle.fx_sharing.specs.KeptRows.{kept_row, next_row};
-ghost use Rattle.fx_conditions.specs.Sides.{side_rest};
+ghost use Rattle.fx_cert.specs.Sides.{side_rest};
 ghost use Rattle.fx_conditions.specs.Limits.{AreShortLines, AreShortRows};
 
 use crate::bound::{VARIABLES, bound_by_rows};
-use fx_cert::{Form, NodeLine, Row, Share, StartBox};
-use fx_conditions::{
-    Side, bound_of, coef_at, coef_of, row_coef_of, side_rest_of, zero_alone, zero_dyadic,
-};
+use fx_cert::{Form, NodeLine, Row, Share, Side, StartBox, coef_at};
+use fx_conditions::{bound_of, coef_of, row_coef_of, side_rest_of};
 use fx_interval::Interval;
 use fx_judging::{Judgement, interval, lies_in, number, plus, point, product, sum, times, zero};
 use fx_num::Dyadic;
@@ -68,7 +66,7 @@ fn row_coefficient(
     requires few { next + states < 2 ^ 32 }
     ensures { Forms result (sum_of states (λ s. Product ((rows_of states (rows_in rows.now)).coef i s) ((affine_at variables (lines_view lines.now) (next + s)).coef j))) }
 {
-    let mut total = number(zero_dyadic());
+    let mut total = number(Dyadic::zero());
     for s in 0..states {
         total = sum(
             total,

@@ -17,15 +17,12 @@ ghost use Rattle.fx_judging.specs.Places.{IsShortSpan};
 ghost use Rattle.fx_judging.specs.FaultView.{condition_fault_of};
 ghost use Rattle.fx_cert.specs.CertificateView.{certificate_of, form_view as form_view, lines_view, rows_in, shares_of};
 ghost use Rattle.fx_conditions.specs.MatchView.{code_in, node_in};
-ghost use Rattle.fx_conditions.specs.Sides.{side_at, side_rest};
+ghost use Rattle.fx_cert.specs.Sides.{side_at, side_rest};
 ghost use Rattle.fx_conditions.specs.Limits.{AreShortLines, AreShortRows, AreShortShares, IsShortCertificate, IsShortForm};
 
 use crate::bound::{bound_by_rows, form_coefs};
-use fx_cert::{Certificate, Form, NodeLine, Row, Share};
-use fx_conditions::{
-    Matched, Side, error_at, error_judgement, form_at, form_judgement, range_at, range_judgement,
-    within,
-};
+use fx_cert::{Certificate, Form, NodeLine, Row, Share, Side, error_at, range_at};
+use fx_conditions::{Matched, error_judgement, form_at, form_judgement, range_judgement, within};
 use fx_expr::Function;
 use fx_interval::Interval;
 use fx_judging::{ConditionFault, ConditionKind, Judgement, Part, fault, interval, untrue};

@@ -11,11 +11,11 @@ ghost use Rattle.fx_inequalities.specs.Affine.{rows_of, weighted_sum};
 ghost use Rattle.fx_judging.specs.Judging.{FormsSpan, judged};
 ghost use Rattle.fx_cert.specs.CertificateView.{boxes_in, rows_in};
 ghost use Rattle.fx_conditions.specs.Limits.{AreShortBoxes, AreShortRows};
-ghost use Rattle.fx_conditions.specs.declared.side.Side.TheVariants as sides;
+ghost use Rattle.fx_cert.specs.declared.side.Side.TheVariants as sides;
 ghost use Rattle.fx_sharing.specs.Boxes.{box_at};
 
-use fx_cert::{Row, StartBox};
-use fx_conditions::{Side, bound_of, row_coef_of, zero_alone, zero_fraction};
+use fx_cert::{Row, Side, StartBox};
+use fx_conditions::{bound_of, row_coef_of, zero_fraction};
 use fx_expr::Function;
 use fx_fraction::{Fraction, to_fraction};
 use fx_interval::Interval;
@@ -39,7 +39,7 @@ pub fn box_interval(starts: &[StartBox], side: &Side, s: u32) -> Interval
             Side::Value => start.range,
             Side::Error => start.error,
         },
-        None => zero_alone(),
+        None => Interval::zero(),
     }
 }
 

@@ -6,7 +6,7 @@ ghost use Rattle.std.specs.Option.{option_map};
 ghost use Rattle.fx_model.specs.LawfulProgram.{widths};
 ghost use Rattle.fx_inequalities.specs.LawfulCertificate.{IsLawfulCertificate};
 ghost use Rattle.fx_rules.specs.SingleSteps.{is_there};
-ghost use Rattle.fx_rewrite.specs.StepView.{step_view};
+ghost use Rattle.fx_step.specs.StepView.{step_view};
 ghost use Rattle.fx_cert.specs.CertificateView.{certificate_of};
 ghost use Rattle.fx_analysis.specs.AttemptView.{attempt_in};
 ghost use Rattle.fx_synth.specs.Turns.{AreJudged, IsOutcome};
@@ -17,8 +17,8 @@ use fx_checker::{Certified, CheckKind, check};
 use fx_expr::Function;
 use fx_num::Memory;
 use fx_program::Program;
-use fx_rewrite::Step;
 use fx_rules::rewrite_law;
+use fx_step::Step;
 use std::alloc::Global;
 
 // What the checker makes of an attempt, where there is one.

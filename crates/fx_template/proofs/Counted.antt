@@ -9,7 +9,7 @@ use Rattle.fx_model.specs.Tree.{at}
 use Rattle.fx_inequalities.specs.Certificate.{Row, no_row}
 use Rattle.fx_inequalities.specs.LawfulCertificate.{unit_vector}
 use Rattle.fx_conditions.specs.Limits.{AreShortRows, IsShortRow}
-use Rattle.fx_conditions.specs.declared.side.Side.TheVariants.{Value, Error}
+use Rattle.fx_cert.specs.declared.side.Side.TheVariants.{Value, Error}
 use Rattle.fx_conditions.proofs.Lawful.{short_coefs, short_ends, short_shares, no_short_row}
 use Rattle.fx_template.specs.Listed.{first_untrue, or_else}
 use Rattle.fx_template.specs.Transitions.{IsModestTransition, Transition}

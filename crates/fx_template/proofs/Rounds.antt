@@ -9,8 +9,8 @@ use Rattle.fx_inequalities.specs.Formula.{span}
 use Rattle.fx_inequalities.specs.Claim.{inside}
 use Rattle.fx_inequalities.specs.Certificate.{zero_interval}
 use Rattle.fx_judging.specs.Places.{IsShortSpan}
-use Rattle.fx_conditions.specs.declared.side.Side.{Side}
-use Rattle.fx_conditions.specs.declared.side.Side.TheVariants.{Value, Error}
+use Rattle.fx_cert.specs.declared.side.Side.{Side}
+use Rattle.fx_cert.specs.declared.side.Side.TheVariants.{Value, Error}
 use Rattle.fx_conditions.proofs.Lawful.{short_ends, no_ends}
 use Rattle.fx_grid.specs.Narrow.{span_bounds}
 use Rattle.fx_grid.specs.Laws.{IsNarrowestOf}

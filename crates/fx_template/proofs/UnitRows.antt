@@ -12,7 +12,7 @@ use Rattle.fx_inequalities.specs.LawfulCertificate.{unit_vector}
 use Rattle.fx_bounds.proofs.Claims.{both_right}
 use Rattle.fx_judging.specs.Places.{IsShort}
 use Rattle.fx_conditions.specs.Limits.{AreShortRows, IsShortRow}
-use Rattle.fx_conditions.specs.declared.side.Side.{Side}
+use Rattle.fx_cert.specs.declared.side.Side.{Side}
 use Rattle.fx_sharing.specs.KeptRows.{kept_row}
 use Rattle.fx_rounding.specs.Grid.{is_small}
 use Rattle.fx_cert.proofs.Units.{unit_length}

@@ -4,7 +4,7 @@ use Rattle.fx_rational.specs.Interval.{IsWrittenInterval}
 use Rattle.fx_model.specs.Tree.{at}
 use Rattle.fx_inequalities.specs.Certificate.{Row, no_line}
 use Rattle.fx_cert.specs.CertificateView.{rows_in}
-use Rattle.fx_conditions.specs.declared.side.Side.TheVariants.{Value, Error}
+use Rattle.fx_cert.specs.declared.side.Side.TheVariants.{Value, Error}
 use Rattle.fx_template.specs.Transitions.{Transition}
 use Rattle.fx_template.specs.PlainRounds.{bounds_at_first, first_fallen, plain_rounds}
 use Rattle.fx_template.specs.Rows.{AreCountedRows, AreKept, AreWrittenBounds}

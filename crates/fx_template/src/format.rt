@@ -8,8 +8,7 @@ ghost use Rattle.fx_inequalities.specs.LawfulCertificate.{AreShares, unit_vector
 ghost use Rattle.fx_cert.specs.CertificateView.{row_view, rows_in, shares_of};
 ghost use Rattle.fx_template.specs.Rows.{AreCountedRows, AreWrittenBounds, IsCountedRow};
 
-use fx_cert::{Row, Share};
-use fx_conditions::unit_coef;
+use fx_cert::{Row, Share, unit_coef};
 use fx_interval::Interval;
 use fx_num::Dyadic;
 use fx_rounding::is_small;

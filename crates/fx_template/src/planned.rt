@@ -11,7 +11,6 @@ ghost use Rattle.fx_template.specs.Transitions.{planned_form, planned_line, plan
 
 use fx_affine::{Affine, Plan};
 use fx_cert::{Form, NodeLine};
-use fx_conditions::{zero_alone, zero_dyadic};
 use fx_expr::Items;
 use fx_flat::Nodes;
 use fx_interval::Interval;
@@ -25,7 +24,7 @@ fn interval_at(list: &[Interval], n: usize) -> Interval
 {
     match list.get(n) {
         Some(x) => *x,
-        None => zero_alone(),
+        None => Interval::zero(),
     }
 }
 
@@ -35,7 +34,7 @@ fn centres_at(list: &[(Dyadic, Dyadic)], n: usize) -> (Dyadic, Dyadic)
 {
     match list.get(n) {
         Some(centres) => *centres,
-        None => (zero_dyadic(), zero_dyadic()),
+        None => (Dyadic::zero(), Dyadic::zero()),
     }
 }
 

@@ -13,8 +13,7 @@ ghost use Rattle.fx_template.specs.PlainRounds.{bounds_after, bounds_at_first, f
 ghost use Rattle.fx_template.specs.RoundView.{AreShortBoth, AreShortBounds, bounds_in};
 
 use crate::unit::{bound_at, unit_rows};
-use fx_cert::Row;
-use fx_conditions::{Side, error_at, range_at};
+use fx_cert::{Row, Side, error_at, range_at};
 use fx_grid::{Why, narrowest_round};
 use fx_interval::{Interval, greatest, least};
 use fx_judging::interval;

@@ -13,8 +13,7 @@ ghost use Rattle.fx_template.specs.RoundView.{bounds_in};
 
 use crate::round::Bounds;
 use crate::unit::bound_at;
-use fx_cert::Row;
-use fx_conditions::Side;
+use fx_cert::{Row, Side};
 use fx_interval::Interval;
 use fx_judging::Judgement;
 use fx_reach::Transition;

@@ -10,7 +10,6 @@ ghost use Rattle.fx_template.specs.PlainRounds.{unit_row, unit_rows};
 ghost use Rattle.fx_template.specs.RoundView.{AreShortBounds};
 
 use fx_cert::{Row, unit_vector};
-use fx_conditions::zero_alone;
 use fx_expr::Items;
 use fx_interval::Interval;
 use std::alloc::{AllocError, Global};
@@ -21,7 +20,7 @@ pub fn bound_at(bounds: &[Interval], i: u32) -> Interval
 {
     match bounds.get(i as usize) {
         Some(bound) => *bound,
-        None => zero_alone(),
+        None => Interval::zero(),
     }
 }
 

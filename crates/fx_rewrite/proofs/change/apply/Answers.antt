@@ -2,7 +2,7 @@ use Rattle.std.proofs.Common.{Some, sym, ap, subst, ◌∙◌}
 use Rattle.fx_model.specs.Function.{Function}
 use Rattle.fx_expr.specs.LawfulFunction.{IsLawfulFunction}
 use Rattle.fx_expr.specs.TreeOf.{tree}
-use Rattle.fx_rewrite.specs.StepView.{step_view}
+use Rattle.fx_step.specs.StepView.{step_view}
 use Rattle.fx_rewrite.specs.Prepared.{IsPrepared}
 use Rattle.fx_rewrite.proofs.Applied.{out_lawful, out_there, leaf_out, in_is, in_lawful}
 use Rattle.fx_rewrite.proofs.change.apply.Goals as goal

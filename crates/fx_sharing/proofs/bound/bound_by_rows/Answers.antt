@@ -2,7 +2,7 @@ use Rattle.std.proofs.Common.{ℕ, ◌+◌, ◌<◌, arith}
 use Rattle.fx_inequalities.specs.Affine.{left_over, rows_of, shared_sum, weighted_sum}
 use Rattle.fx_judging.specs.Places.{IsShort}
 use Rattle.fx_cert.specs.CertificateView.{lines_view, rows_in, shares_of}
-use Rattle.fx_conditions.specs.Sides.{side_at}
+use Rattle.fx_cert.specs.Sides.{side_at}
 use Rattle.fx_sharing.proofs.Shares.{left_short}
 use Rattle.fx_sharing.proofs.bound.bound_by_rows.Goals as goal
 

@@ -3,4 +3,4 @@ use Rattle.fx_sharing.proofs.Shares.{unit_among}
 use Rattle.fx_sharing.proofs.bound.units.Goals as goal
 
 pub returns : goal.returns
-returns c = λ j. unit_among 192 95 j c.zero_dyadic-units.result c.zero_dyadic-units.ensures (omega arith)
+returns c = λ j. unit_among 192 95 j c.zero-units.result c.zero-units.ensures (omega arith)

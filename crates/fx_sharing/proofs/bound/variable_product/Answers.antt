@@ -3,7 +3,7 @@ use Rattle.fx_inequalities.specs.Formula.{point}
 use Rattle.fx_judging.specs.Judging.{Forms}
 use Rattle.fx_judging.proofs.Shorts.{shorter, short_point}
 use Rattle.fx_cert.specs.CertificateView.{lines_view}
-use Rattle.fx_conditions.specs.Sides.{side_at}
+use Rattle.fx_cert.specs.Sides.{side_at}
 use Rattle.fx_conditions.proofs.Shorts.{side_short}
 use Rattle.fx_sharing.proofs.bound.variable_product.Goals as goal
 

@@ -2,7 +2,7 @@ use Rattle.std.proofs.Common.{arith}
 use Rattle.fx_inequalities.specs.Formula.{point, span_product}
 use Rattle.fx_inequalities.specs.Affine.{weighted_sum}
 use Rattle.fx_cert.specs.CertificateView.{lines_view}
-use Rattle.fx_conditions.specs.Sides.{side_at}
+use Rattle.fx_cert.specs.Sides.{side_at}
 use Rattle.fx_conditions.proofs.Sums.{one_more}
 use Rattle.fx_sharing.proofs.bound.with_inputs.Goals as goal
 

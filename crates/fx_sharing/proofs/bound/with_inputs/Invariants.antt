@@ -4,7 +4,7 @@ use Rattle.fx_inequalities.specs.Affine.{weighted_sum}
 use Rattle.fx_judging.specs.Judging.{FormsSpan}
 use Rattle.fx_cert.specs.CertificateView.{lines_view}
 use Rattle.fx_sharing.specs.Coefficients.{AreFormed}
-use Rattle.fx_conditions.specs.Sides.{side_at}
+use Rattle.fx_cert.specs.Sides.{side_at}
 use Rattle.fx_sharing.proofs.bound.with_inputs.Given as goal
 
 abbrev pub invariant-loop-j : goal.invariant-loop-j

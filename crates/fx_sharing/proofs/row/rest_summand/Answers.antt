@@ -3,7 +3,7 @@ use Rattle.fx_inequalities.specs.Formula.{point}
 use Rattle.fx_inequalities.specs.Affine.{affine_at, rows_of}
 use Rattle.fx_judging.proofs.Shorts.{shorter, short_point}
 use Rattle.fx_cert.specs.CertificateView.{lines_view, rows_in}
-use Rattle.fx_conditions.specs.Sides.{side_rest}
+use Rattle.fx_cert.specs.Sides.{side_rest}
 use Rattle.fx_conditions.proofs.Shorts.{row_coef_short, side_rest_short}
 use Rattle.fx_sharing.proofs.row.rest_summand.Goals as goal
 

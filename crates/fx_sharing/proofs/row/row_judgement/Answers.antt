@@ -4,7 +4,7 @@ use Rattle.fx_inequalities.specs.Certificate.{no_row}
 use Rattle.fx_inequalities.specs.Formula.{Product, zero_span}
 use Rattle.fx_inequalities.specs.Affine.{affine_at, bound_by_rows, rows_of, sum_of, weighted_sum}
 use Rattle.fx_cert.specs.CertificateView.{lines_view, rows_in}
-use Rattle.fx_conditions.specs.Sides.{side_at, side_rest}
+use Rattle.fx_cert.specs.Sides.{side_at, side_rest}
 use Rattle.fx_sharing.proofs.row.row_judgement.Goals as goal
 
 pub returns : goal.returns

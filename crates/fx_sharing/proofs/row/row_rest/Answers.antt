@@ -2,7 +2,7 @@ use Rattle.std.proofs.Common.{ℕ, ◌+◌}
 use Rattle.fx_inequalities.specs.Formula.{point, span_product, zero_span}
 use Rattle.fx_inequalities.specs.Affine.{affine_at, rows_of, weighted_sum}
 use Rattle.fx_cert.specs.CertificateView.{lines_view, rows_in}
-use Rattle.fx_conditions.specs.Sides.{side_rest}
+use Rattle.fx_cert.specs.Sides.{side_rest}
 use Rattle.fx_conditions.proofs.Sums.{one_more}
 use Rattle.fx_sharing.proofs.row.row_rest.Goals as goal
 

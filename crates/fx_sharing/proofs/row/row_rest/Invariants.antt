@@ -3,7 +3,7 @@ use Rattle.fx_inequalities.specs.Formula.{zero_span}
 use Rattle.fx_inequalities.specs.Affine.{affine_at, rows_of, weighted_sum}
 use Rattle.fx_judging.specs.Judging.{FormsSpan}
 use Rattle.fx_cert.specs.CertificateView.{lines_view, rows_in}
-use Rattle.fx_conditions.specs.Sides.{side_rest}
+use Rattle.fx_cert.specs.Sides.{side_rest}
 use Rattle.fx_sharing.proofs.row.row_rest.Given as goal
 
 abbrev pub invariant-loop-s : goal.invariant-loop-s

@@ -4,7 +4,7 @@ use Rattle.fx_model.specs.Tree.{at}
 use Rattle.fx_inequalities.specs.Formula.{Num}
 use Rattle.fx_inequalities.specs.Affine.{bound_by_rows, of_line, rows_of}
 use Rattle.fx_cert.specs.CertificateView.{form_view as form_view, lines_view, rows_in, shares_of}
-use Rattle.fx_conditions.specs.Sides.{side_at, side_rest}
+use Rattle.fx_cert.specs.Sides.{side_at, side_rest}
 use Rattle.fx_sharing.proofs.share.by_shares.Goals as goal
 
 pub returns : goal.returns

@@ -4,7 +4,7 @@ use Rattle.fx_model.specs.Tree.{at}
 use Rattle.fx_inequalities.specs.Formula.{Num}
 use Rattle.fx_inequalities.specs.Affine.{of_line}
 use Rattle.fx_cert.specs.CertificateView.{form_view as form_view}
-use Rattle.fx_conditions.specs.Sides.{side_rest}
+use Rattle.fx_cert.specs.Sides.{side_rest}
 use Rattle.fx_sharing.proofs.share.form_bound.Goals as goal
 
 pub returns : goal.returns

@@ -6,8 +6,8 @@ use Rattle.fx_inequalities.specs.Formula.{Num, Span}
 use Rattle.fx_inequalities.specs.Affine.{bound_by_rows, of_line, rows_of}
 use Rattle.fx_judging.specs.Judging.{judged}
 use Rattle.fx_cert.specs.CertificateView.{form_view as form_view, lines_view, rows_in, shares_of}
-use Rattle.fx_conditions.specs.Sides.{side_at, side_rest}
-use Rattle.fx_conditions.specs.declared.side.Side.TheVariants as sides
+use Rattle.fx_cert.specs.Sides.{side_at, side_rest}
+use Rattle.fx_cert.specs.declared.side.Side.TheVariants as sides
 use Rattle.fx_sharing.proofs.share.formed_range.Goals as goal
 
 pub returns-in-Some : goal.returns-in-Some

@@ -7,7 +7,7 @@ use Rattle.fx_inequalities.specs.Formula.{Difference, Span, word_at}
 use Rattle.fx_judging.specs.Judging.{judged}
 use Rattle.fx_cert.specs.CertificateView.{boxes_in}
 use Rattle.fx_sharing.specs.Boxes.{box_at}
-use Rattle.fx_conditions.specs.declared.side.Side.TheVariants as sides
+use Rattle.fx_cert.specs.declared.side.Side.TheVariants as sides
 use Rattle.fx_sharing.proofs.start.start_judgement.Goals as goal
 
 pub returns : goal.returns

@@ -1,6 +1,6 @@
 use Rattle.std.proofs.Common.{ap, subst}
 use Rattle.fx_cert.specs.CertificateView.{rows_in}
-use Rattle.fx_conditions.specs.declared.side.Side.TheVariants.{Value, Error}
+use Rattle.fx_cert.specs.declared.side.Side.TheVariants.{Value, Error}
 use Rattle.fx_template.specs.Transitions.{transition_in}
 use Rattle.fx_template.specs.Rows.{AreCountedRows, AreKept}
 use Rattle.fx_template.proofs.find.is_template.Goals as goal

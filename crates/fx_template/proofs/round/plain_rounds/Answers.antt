@@ -1,6 +1,6 @@
 use Rattle.std.proofs.Common.{◌≡◌, ◌∙◌, ◌-◌, subst, sym, ap, arith}
 use Rattle.std.specs.Option.{option_map}
-use Rattle.fx_conditions.specs.declared.side.Side.TheVariants.{Value, Error}
+use Rattle.fx_cert.specs.declared.side.Side.TheVariants.{Value, Error}
 use Rattle.fx_template.specs.Transitions.{transition_in}
 use Rattle.fx_template.specs.PlainRounds.{plain_rounds}
 use Rattle.fx_template.specs.RoundView.{AreShortBoth, bounds_in}

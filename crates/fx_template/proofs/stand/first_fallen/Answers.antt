@@ -1,5 +1,5 @@
 use Rattle.std.proofs.Common.{sym, arith}
-use Rattle.fx_conditions.specs.declared.side.Side.TheVariants as sides
+use Rattle.fx_cert.specs.declared.side.Side.TheVariants as sides
 use Rattle.fx_template.specs.Transitions.{transition_in}
 use Rattle.fx_template.specs.PlainRounds.{stands}
 use Rattle.fx_template.proofs.Lists.{first_within}

@@ -1,4 +1,5 @@
-//! Steps, as a certificate lists them.
+//! A step, and copies of steps.
+
 use fx_expr::Items;
 use fx_num::Memory;
 use std::alloc::Global;

@@ -1,6 +1,6 @@
 -- What contracts see of a step.
 use Rattle.fx_inequalities.specs.Rewriting.{Rewriting}
-use Rattle.fx_rewrite.specs.declared.step.Step.{Step}
+use Rattle.fx_step.specs.declared.step.Step.{Step}
 
 -- the step of the definitions
 abbrev pub step_view : Step → Rewriting
