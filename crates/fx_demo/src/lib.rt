@@ -11,6 +11,3 @@ mod rows;
 mod source;
 
 pub use demo::demonstrate;
-
-#[cfg(test)]
-mod tests;

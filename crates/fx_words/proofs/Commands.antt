@@ -84,6 +84,18 @@ show-is-one = record {
   wants = λ ps e. ap (option_map words.Show) (no-file ps e);
 }
 
+migrate-is-one : IsCommand (codes "migrate")
+unfolding walk_fault walked defaults_fault
+migrate-is-one = record {
+  options = [];
+  apart = tt;
+  known = refl;
+  faults = λ rest. ap₂ by_walk (stopped-walk (walk_from nothing_held) (codes "migrate") [] rest) (sym (walk_stopped [] commands (walk_from nothing_held) (codes "migrate") [] rest))
+      ∙ nil-or_else (faults_from (codes "migrate") (options_rules []) (walk_at [] settled_now 1 false) rest) [] ∙ and-true _;
+  rows = λ rest. ap (λ w. entered (built fixd_app) w.stopped) (sym (walk_stopped [] commands (walk_from nothing_held) (codes "migrate") [] rest));
+  wants = λ ps e. ap (option_map words.Migrate) (no-file ps e);
+}
+
 synth-is-one : IsCommand (codes "synth")
 unfolding walk_fault walked defaults_fault
 synth-is-one = record {
@@ -162,38 +174,42 @@ other-way xs ys e = by_other (bytes_eq ys xs) refl where
   by_other true f = sym ((bytes_eq-Decides xs ys).1 (sym ((bytes_eq-Decides ys xs).0 f))) ∙ e
   by_other false f = refl
 
-not-met : (r c v s d : Bool) → r ≡ false → c ≡ false → v ≡ false → s ≡ false → d ≡ false
+not-met : (r c v m s d : Bool) → r ≡ false → c ≡ false → v ≡ false → m ≡ false → s ≡ false → d ≡ false
     → option_map (λ (p : Bytes × List Bytes). p.0)
-    (if r || false then Some (codes "run", []) else if c || false then Some (codes "check", []) else if v || false then Some (codes "show", []) else if s || false then Some (codes "synth", [])
-    else if d || false then Some (codes "demo", []) else None)
+    (if r || false then Some (codes "run", []) else if c || false then Some (codes "check", []) else if v || false then Some (codes "show", []) else if m || false then Some (codes "migrate", [])
+    else if s || false then Some (codes "synth", []) else if d || false then Some (codes "demo", []) else None)
     ≡ None
-not-met true c v s d e f h g i = absurd (cc)
-not-met false true v s d e f h g i = absurd (cc)
-not-met false false true s d e f h g i = absurd (cc)
-not-met false false false true d e f h g i = absurd (cc)
-not-met false false false false true e f h g i = absurd (cc)
-not-met false false false false false e f h g i = refl
+not-met true c v m s d e f h j g i = absurd (cc)
+not-met false true v m s d e f h j g i = absurd (cc)
+not-met false false true m s d e f h j g i = absurd (cc)
+not-met false false false true s d e f h j g i = absurd (cc)
+not-met false false false false true d e f h j g i = absurd (cc)
+not-met false false false false false true e f h j g i = absurd (cc)
+not-met false false false false false false e f h j g i = refl
 
-not-known : (r c v s d : Bool) → r ≡ false → c ≡ false → v ≡ false → s ≡ false → d ≡ false →
-    (if r then Some [] else if c then Some [] else if v then Some [] else if s then Some synth_options else if d then Some [] else None) ≡ None
-not-known true c v s d e f h g i = absurd (cc)
-not-known false true v s d e f h g i = absurd (cc)
-not-known false false true s d e f h g i = absurd (cc)
-not-known false false false true d e f h g i = absurd (cc)
-not-known false false false false true e f h g i = absurd (cc)
-not-known false false false false false e f h g i = refl
+not-known : (r c v m s d : Bool) → r ≡ false → c ≡ false → v ≡ false → m ≡ false → s ≡ false → d ≡ false →
+    (if r then Some [] else if c then Some [] else if v then Some [] else if m then Some [] else if s then Some synth_options else if d then Some [] else None) ≡ None
+not-known true c v m s d e f h j g i = absurd (cc)
+not-known false true v m s d e f h j g i = absurd (cc)
+not-known false false true m s d e f h j g i = absurd (cc)
+not-known false false false true s d e f h j g i = absurd (cc)
+not-known false false false false true d e f h j g i = absurd (cc)
+not-known false false false false false true e f h j g i = absurd (cc)
+not-known false false false false false false e f h j g i = refl
+
+-- a word is this command's name, or what it is shown to be otherwise
+or-another : (word name : Bytes) → IsCommand name → (bytes_eq word name ≡ false → IsCommand word ⊎ IsNone word) → IsCommand word ⊎ IsNone word
+or-another word name is otherwise = by_name (bytes_eq word name) refl where
+  by_name : (b : Bool) → bytes_eq word name ≡ b → IsCommand word ⊎ IsNone word
+  by_name true e = inl (subst IsCommand (sym ((bytes_eq-Decides word name).0 e)) is)
+  by_name false e = otherwise e
 
 pub which-command : (word : Bytes) → IsCommand word ⊎ IsNone word
 which-command word =
-    by_name (bytes_eq word (codes "run")) refl (bytes_eq word (codes "check")) refl (bytes_eq word (codes "show")) refl (bytes_eq word (codes "synth")) refl (bytes_eq word (codes "demo")) refl where
-      by_name : (r : Bool) → bytes_eq word (codes "run") ≡ r → (c : Bool) → bytes_eq word (codes "check") ≡ c → (v : Bool) → bytes_eq word (codes "show") ≡ v →
-          (s : Bool) → bytes_eq word (codes "synth") ≡ s → (d : Bool) → bytes_eq word (codes "demo") ≡ d → IsCommand word ⊎ IsNone word
-      by_name true e c f v h s g d i = inl (subst IsCommand (sym ((bytes_eq-Decides word (codes "run")).0 e)) run-is-one)
-      by_name false e true f v h s g d i = inl (subst IsCommand (sym ((bytes_eq-Decides word (codes "check")).0 f)) check-is-one)
-      by_name false e false f true h s g d i = inl (subst IsCommand (sym ((bytes_eq-Decides word (codes "show")).0 h)) show-is-one)
-      by_name false e false f false h true g d i = inl (subst IsCommand (sym ((bytes_eq-Decides word (codes "synth")).0 g)) synth-is-one)
-      by_name false e false f false h false g true i = inl (subst IsCommand (sym ((bytes_eq-Decides word (codes "demo")).0 i)) demo-is-one)
-      by_name false e false f false h false g false i = inr (record {
-        met = not-met _ _ _ _ _ (other-way word (codes "run") e) (other-way word (codes "check") f) (other-way word (codes "show") h) (other-way word (codes "synth") g) (other-way word (codes "demo") i);
-        unknown = not-known _ _ _ _ _ e f h g i;
-      })
+    or-another word (codes "run") run-is-one (λ e. or-another word (codes "check") check-is-one (λ f. or-another word (codes "show") show-is-one (λ h.
+    or-another word (codes "migrate") migrate-is-one (λ j. or-another word (codes "synth") synth-is-one (λ g. or-another word (codes "demo") demo-is-one (λ i.
+    inr (record {
+      met = not-met _ _ _ _ _ _ (other-way word (codes "run") e) (other-way word (codes "check") f) (other-way word (codes "show") h) (other-way word (codes "migrate") j)
+          (other-way word (codes "synth") g) (other-way word (codes "demo") i);
+      unknown = not-known _ _ _ _ _ _ e f h j g i;
+    })))))))

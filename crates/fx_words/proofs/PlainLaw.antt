@@ -1,7 +1,7 @@
 -- Without options the entries are files.
 use Rattle.std.proofs.Common.{◌≡◌, ◌∙◌, Bool, true, false, List, [], ◌∷◌, map, Option, Some, None, option_map, codes, refl, ap}
 use Rattle.std.specs.Prelude.{if◌then◌else◌, option_and_then}
-use Rattle.fx_words.specs.Command.{Command, Run, Check, Show, command_of}
+use Rattle.fx_words.specs.Command.{Command, Run, Check, Show, Migrate, command_of}
 use Rattle.fx_words.specs.Grammar.{Bytes, Entry, after_option, ends_options, entries_in, file_entry, is_dashed, once, option_parts, stand_once, value_named, with_entry}
 use Rattle.fx_words.specs.Plain.{files_among, one_file}
 
@@ -47,3 +47,6 @@ check-takes-one-file words = taken Check words
 
 pub show-takes-one-file : (words : List Bytes) → command_of (codes "show" ∷ words) ≡ option_map Show (one_file (files_among words))
 show-takes-one-file words = taken Show words
+
+pub migrate-takes-one-file : (words : List Bytes) → command_of (codes "migrate" ∷ words) ≡ option_map Migrate (one_file (files_among words))
+migrate-takes-one-file words = taken Migrate words

@@ -37,7 +37,11 @@ top_app = record (new_app (codes "fixd")) {
   };
 }
 
+-- those of a bundle in FILE
+abbrev pub bundles_app : App
+bundles_app =
+    with_subcommand (with_subcommand (with_subcommand (with_subcommand top_app (file_app (codes "run")).top)
+    (file_app (codes "check")).top) (file_app (codes "show")).top) (file_app (codes "migrate")).top
+
 abbrev pub fixd_app : App
-fixd_app =
-    with_subcommand (with_subcommand (with_subcommand (with_subcommand (with_subcommand top_app (file_app (codes "run")).top) (file_app (codes "check")).top)
-    (file_app (codes "show")).top) synth_app.top) (file_app (codes "demo")).top
+fixd_app = with_subcommand (with_subcommand bundles_app synth_app.top) (file_app (codes "demo")).top

@@ -19,6 +19,7 @@ pub data Command : Type 0 where
   Run : (file : Bytes) → Command
   Check : (file : Bytes) → Command
   Show : (file : Bytes) → Command
+  Migrate : (file : Bytes) → Command
   Synth : Synthesis → Command
   Demo : (n : ℕ) → Command
 
@@ -59,6 +60,7 @@ options_of word =
     if bytes_eq word (codes "run") then Some []
     else if bytes_eq word (codes "check") then Some []
     else if bytes_eq word (codes "show") then Some []
+    else if bytes_eq word (codes "migrate") then Some []
     else if bytes_eq word (codes "synth") then Some synth_options
     else if bytes_eq word (codes "demo") then Some []
     else None
@@ -69,6 +71,7 @@ command_given word given =
     if bytes_eq word (codes "run") then option_map Run (given (codes "file"))
     else if bytes_eq word (codes "check") then option_map Check (given (codes "file"))
     else if bytes_eq word (codes "show") then option_map Show (given (codes "file"))
+    else if bytes_eq word (codes "migrate") then option_map Migrate (given (codes "file"))
     else if bytes_eq word (codes "synth") then synthesis_given given
     else if bytes_eq word (codes "demo") then demo_given (given (codes "file"))
     else None

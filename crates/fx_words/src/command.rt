@@ -20,6 +20,8 @@ pub enum Command<'a> {
     Check(&'a str),
     /// Prints the codes of the bundle with their intervals, and the bounds.
     Show(&'a str),
+    /// Writes the bundle as one of the second version.
+    Migrate(&'a str),
     /// Makes a bundle of a source.
     Synth(Synthesis<'a>),
     /// Synthesises and runs the source of this number.

@@ -71,6 +71,16 @@ fn show_in<'a>(matches: &ArgMatches<'a>) -> Option<Command<'a>>
     }
 }
 
+fn migrate_in<'a>(matches: &ArgMatches<'a>) -> Option<Command<'a>>
+    ensures command { option_map command_view result ≡ option_map words.Migrate (first_of (codes "file") (rows_of (found_of matches.now))) }
+    ensures lawful { IfSome result (λ c. IsLawfulCommand (command_view c)) }
+{
+    match text_of(matches, "file") {
+        Some(file) => Some(Command::Migrate(file)),
+        None => None,
+    }
+}
+
 fn synth_in<'a>(matches: &ArgMatches<'a>) -> Option<Command<'a>>
     ensures command { option_map command_view result ≡ lawful_command (codes "synth") synth_options (λ name. first_of name (rows_of (found_of matches.now))) }
     ensures lawful { IfSome result (λ c. IsLawfulCommand (command_view c)) }
@@ -110,6 +120,7 @@ pub fn command_in<'a>(matches: &ArgMatches<'a>) -> Option<Command<'a>>
         "run" => run_in(found),
         "check" => check_in(found),
         "show" => show_in(found),
+        "migrate" => migrate_in(found),
         "synth" => synth_in(found),
         "demo" => demo_in(found),
         _ => None,

@@ -3,7 +3,7 @@ ghost use Rattle.std.specs.Prelude.{◌≡◌, IfOk, false, codes};
 ghost use Rattle.clap.specs.Words.{app_of, rule_of};
 ghost use Rattle.clap.specs.declared.builder.command.Command.TheViews.{out-Command};
 ghost use Rattle.clap.specs.Simple.{with_rule, with_subcommand};
-ghost use Rattle.fx_words.specs.App.{file_rule, option_rule, required_option_rule, file_app, synth_app, top_app, fixd_app};
+ghost use Rattle.fx_words.specs.App.{file_rule, option_rule, required_option_rule, file_app, synth_app, top_app, bundles_app, fixd_app};
 
 use clap::{Arg, ArgAction, Command as Parser};
 use std::alloc::{AllocError, Global};
@@ -83,18 +83,34 @@ fn with_command<'a>(line: Parser<'a>, command: Parser<'a>) -> Result<Parser<'a>,
     line.subcommand(command)
 }
 
+// A command line with one command more that takes this one word alone.
+fn with_file_command<'a>(
+    alloc: Global,
+    line: Parser<'a>,
+    name: &'a str,
+) -> Result<Parser<'a>, AllocError>
+    ensures { IfOk result (λ c. app_of c ≡ with_subcommand (app_of line.entry) (file_app name.entry.now).top) }
+{
+    let command = file_command(alloc, name)?;
+    with_command(line, command)
+}
+
+// The command line of the commands on a bundle.
+fn on_bundles<'a>(alloc: Global) -> Result<Parser<'a>, AllocError>
+    ensures { IfOk result (λ c. app_of c ≡ bundles_app) }
+{
+    let line = with_file_command(alloc, top(alloc), "run")?;
+    let line = with_file_command(alloc, line, "check")?;
+    let line = with_file_command(alloc, line, "show")?;
+    with_file_command(alloc, line, "migrate")
+}
+
 /// The whole command line.
 pub fn fixd<'a>(alloc: Global) -> Result<Parser<'a>, AllocError>
     ensures { IfOk result (λ c. app_of c ≡ fixd_app) }
 {
-    let run = file_command(alloc, "run")?;
-    let check = file_command(alloc, "check")?;
-    let show = file_command(alloc, "show")?;
+    let line = on_bundles(alloc)?;
     let synth = synth(alloc)?;
-    let demo = file_command(alloc, "demo")?;
-    let line = with_command(top(alloc), run)?;
-    let line = with_command(line, check)?;
-    let line = with_command(line, show)?;
     let line = with_command(line, synth)?;
-    with_command(line, demo)
+    with_file_command(alloc, line, "demo")
 }

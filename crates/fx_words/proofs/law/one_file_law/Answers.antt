@@ -1,5 +1,5 @@
 use Rattle.fx_words.specs.Command.{texts}
-use Rattle.fx_words.proofs.PlainLaw.{run-takes-one-file, check-takes-one-file, show-takes-one-file}
+use Rattle.fx_words.proofs.PlainLaw.{run-takes-one-file, check-takes-one-file, show-takes-one-file, migrate-takes-one-file}
 use Rattle.fx_words.proofs.law.one_file_law.Goals as goal
 
 pub returns-clause-run : goal.returns-clause-run
@@ -10,3 +10,6 @@ returns-clause-check c = check-takes-one-file (texts c.args.words.now)
 
 pub returns-clause-show : goal.returns-clause-show
 returns-clause-show c = show-takes-one-file (texts c.args.words.now)
+
+pub returns-clause-migrate : goal.returns-clause-migrate
+returns-clause-migrate c = migrate-takes-one-file (texts c.args.words.now)
