@@ -1,13 +1,13 @@
 # What a newcomer runs: a first look, the examples proved and built, and the gate.
-.PHONY: try run install test
+.PHONY: try run install test wrong-bodies
 
 PROGRAM := build/fixd
 SOURCES := $(shell git ls-files crates crates.txt)
 PREFIX ?= /usr/local
 
-# the first example by the same sources, compiled without a proof of anything: a look, in some minutes
+# the first example by the same sources, compiled without a proof of anything: a look, in half a minute
 try:
-	@echo "compiling without proofs: some minutes" >&2
+	@echo "compiling without proofs: half a minute" >&2
 	@cd crates/fx_cli && rt try -- run data/half.bundle < ../../examples/half/half.csv
 	@echo "this was a try: nothing of it is proved; 'make run' proves first" >&2
 
@@ -19,8 +19,9 @@ run: $(PROGRAM)
 	@$(PROGRAM) run build/smooth.bundle < examples/smooth/smooth.csv
 
 $(PROGRAM): $(SOURCES)
-	@echo "proving and building $(PROGRAM): up to an hour the first time, seconds later" >&2
+	@echo "proving and building $(PROGRAM): half an hour of four processors the first time, seconds later" >&2
 	@mkdir -p build
+	@tools/prove fx_cli
 	@(cd crates/fx_cli && rt run -- run ../../examples/half/half.bundle < ../../examples/half/half.csv) > build/build.log 2>&1 \
 	  || { cat build/build.log >&2; exit 1; }
 	@cp crates/fx_cli/out/fx_cli $(PROGRAM)
@@ -30,6 +31,10 @@ install: $(PROGRAM)
 	install -D -m 755 $(PROGRAM) $(DESTDIR)$(PREFIX)/bin/fixd
 	install -D -m 644 docs/fixd.1 $(DESTDIR)$(PREFIX)/share/man/man1/fixd.1
 
-# every proof from nothing, every wrong body that must be refused, every test
+# every proof from nothing, the wrong bodies that tell most, every case, every test
 test:
 	@.ci/run
+
+# the wrong bodies that the gate leaves out: hours of a processor
+wrong-bodies:
+	@tools/wrong-bodies
