@@ -1,6 +1,6 @@
 //! The last line of a page.
 ghost use Rattle.std.specs.Prelude.{IfSome};
-ghost use Rattle.fx_demo.specs.LastLine.{IsLastLine};
+ghost use Rattle.fx_listing.specs.LastLine.{IsLastLine};
 
 use memchr::memrchr;
 

@@ -4,7 +4,7 @@ use Rattle.std.proofs.lemmas.Grind.{common_steps}
 use Rattle.std.proofs.Math.Seq.{drop-cons}
 use Rattle.std.proofs.lemmas.List.{take-append-drop, take_all, drop_all, length-drop, get_or-drop, get_or_default}
 use Rattle.memchr.specs.Find.{IsLastByte, is_byte}
-use Rattle.fx_demo.specs.LastLine.{IsLastLine}
+use Rattle.fx_listing.specs.LastLine.{IsLastLine}
 
 -- the bytes before a line feed, and those behind it
 at-feed : (bytes : List ℕ) (end : ℕ) → end < length bytes → is_byte 10 (get_or bytes end 0) ≡ true → bytes ≡ take end bytes ++ 10 ∷ drop (suc end) bytes

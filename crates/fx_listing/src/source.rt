@@ -1,8 +1,8 @@
 //! The source of a demonstration, and its function.
 ghost use Rattle.std.specs.Prelude.{◌≡◌, ◌++◌, ◌<◌, ◌≤◌, OnOk, IfOk, None, Ok};
 ghost use Rattle.fx_grammar.specs.Sources.{parsed};
-ghost use Rattle.fx_demo.specs.Listing.{numbered_lines};
-ghost use Rattle.fx_demo.specs.Source.{demo_source, head_text, result_text, temp_line, two_digits};
+ghost use Rattle.fx_listing.specs.Listing.{numbered_lines};
+ghost use Rattle.fx_listing.specs.Source.{demo_source, head_text, result_text, temp_line, two_digits};
 ghost use Rattle.std.specs.Fmt.{decimal};
 
 use fx_expr::Function;
