@@ -1,4 +1,1 @@
-pub mod Listed
-mod Feeds
-mod Lengths
 mod Running

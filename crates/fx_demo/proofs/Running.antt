@@ -10,7 +10,7 @@ use Rattle.fx_rows.specs.Header.{header_of}
 use Rattle.fx_rows.specs.ReadRows.{Read, after_header, lines_read, moved_down}
 use Rattle.fx_run.specs.Printed.{RowsLaw, given_values, run_outcome, run_page}
 use Rattle.fx_demo.specs.Demonstration.{IsRun}
-use Rattle.fx_demo.specs.Rows.{demo_rows}
+use Rattle.fx_listing.specs.Rows.{demo_rows}
 
 -- a bad line that is told further down is one
 still-none : (k : ℕ) (bad : Option (ℕ × RowFlaw)) → moved_down k bad ≡ None → bad ≡ None

@@ -10,9 +10,9 @@ use Rattle.fx_rows.specs.ReadRows.{Given, read_rows}
 use Rattle.fx_run.specs.Printed.{given_values, IsHonestRun}
 use Rattle.fx_weight.specs.PlainClass.{outside_of}
 use Rattle.fx_synth.specs.Synthesis.{IsSynthesised}
-use Rattle.fx_demo.specs.LastLine.{IsLastLine}
-use Rattle.fx_demo.specs.Rows.{demo_rows}
-use Rattle.fx_demo.specs.Source.{demo_source}
+use Rattle.fx_listing.specs.LastLine.{IsLastLine}
+use Rattle.fx_listing.specs.Rows.{demo_rows}
+use Rattle.fx_listing.specs.Source.{demo_source}
 
 -- an accepted program for the source of number n, as a synthesis at 32 bits with 200 tries finds one; the plain plan serves its
 -- function, so that its bounds are at most those of the plan

@@ -1,5 +1,1 @@
-pub mod Listing
-pub mod Source
-pub mod Rows
-pub mod LastLine
 pub mod Demonstration

@@ -2,7 +2,7 @@
 
 ghost use Rattle.std.specs.Prelude.{Contains, IfOk};
 ghost use Rattle.fx_model.specs.LawfulProgram.{widths};
-ghost use Rattle.fx_feedback.specs.Answers.{IsOffered};
+ghost use Rattle.fx_checker.specs.Answers.{IsOffered};
 
 use crate::boxes::intervals;
 use crate::narrow::{narrow_outputs, narrow_ranges, put_shares};
@@ -10,9 +10,8 @@ use crate::point::{caps_of_negated, decider, greatest_points, lowered_caps};
 use crate::settle::{Settled, settle};
 use crate::sides::{OfErrors, OfValues};
 use crate::task::Task;
-use crate::verdict::judged;
 use fx_cert::{Share, StartBox};
-use fx_checker::Certified;
+use fx_checker::{Certified, offered};
 use fx_expr::{Function, Items};
 use fx_flat::{Nodes, flatten};
 use fx_num::Memory;
@@ -126,7 +125,7 @@ fn checked(
         lines,
         kept,
     )?;
-    let certified = judged(alloc, task.function, task.width, written)?;
+    let certified = offered(alloc, task.function, task.width, written)?;
     Ok(certified)
 }
 

@@ -16,7 +16,5 @@ mod point;
 mod settle;
 mod sides;
 mod task;
-mod verdict;
 
 pub use attempt::certify_states;
-pub use verdict::judged;

@@ -3,13 +3,12 @@
 //! What is written is judged by the checker. Where it refuses, a formula mostly left 128 bits, and the same attempt is made
 //! on coarser grids.
 ghost use Rattle.std.specs.Prelude.{IfOk};
-ghost use Rattle.fx_feedback.specs.Answers.{IsOffered};
+ghost use Rattle.fx_checker.specs.Answers.{IsOffered};
 
 use crate::attempt::{Attempt, attempted};
 use crate::polish::Polish;
 use crate::task::Task;
-use fx_checker::Certified;
-use fx_feedback::judged;
+use fx_checker::{Certified, offered};
 use fx_moves::Draft;
 use fx_num::{Dyadic, Memory, dle};
 use fx_span::Grids;
@@ -35,7 +34,7 @@ fn judged_after(
         &attempt.ranges,
         plan,
     )?;
-    let certified = judged(alloc, task.source, task.width, written)?;
+    let certified = offered(alloc, task.source, task.width, written)?;
     Ok(certified)
 }
 

@@ -1,14 +1,13 @@
 //! The search, from its first draw to what the checker has certified.
 ghost use Rattle.std.specs.Prelude.{Contains, IfOk};
 ghost use Rattle.fx_model.specs.LawfulProgram.{widths};
-ghost use Rattle.fx_feedback.specs.Answers.{IsOffered};
+ghost use Rattle.fx_checker.specs.Answers.{IsOffered};
 
 use crate::certify::{certified, keeps};
 use crate::climb::best_draft;
 use crate::task::{Task, references};
 use fx_checker::Certified;
 use fx_expr::Function;
-use fx_feedback::certify_states;
 use fx_moves::Draft;
 use fx_num::{Dyadic, Memory};
 use rand_core::SeedableRng;
@@ -90,8 +89,8 @@ fn best(
 /// The best certified program that the search finds in so many tries, if it finds one.
 ///
 /// `held` has the bounds of the answer that stands so far, one for each output, and none of them is exceeded; it is empty
-/// where there is no answer. The first try is the function as it stands, and for one with states (`certify_states`) it is
-/// the only one, made whatever the number of tries.
+/// where there is no answer. The first try is the function as it stands. Boxes and rows of states it doesn't look for, so it finds
+/// nothing for a function that has some.
 pub fn search(
     alloc: Global,
     function: &Function,
@@ -103,10 +102,6 @@ pub fn search(
     requires width { Contains widths width }
     ensures { IfOk result (IsOffered width function.now) }
 {
-    if function.states.len() > 0 {
-        let found = certify_states(alloc, function, width)?;
-        return Ok(found);
-    }
     if tries == 0 {
         return Ok(None);
     }

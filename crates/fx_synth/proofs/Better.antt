@@ -13,7 +13,7 @@ use Rattle.fx_analysis.specs.PlainAttempt.{Attempt}
 use Rattle.fx_checker.specs.CertifiedView.{Accepted}
 use Rattle.fx_analysis.specs.Attempts.{IsAcceptedAfter, tried_steps}
 use Rattle.fx_synth.specs.Synthesis.{attempted, AreSmaller, AreNoGreater, IsSynthesised, IsUnfound}
-use Rattle.fx_feedback.specs.Answers.{IsAnswerFor, IsOffered}
+use Rattle.fx_checker.specs.Answers.{IsAnswerFor, IsOffered}
 use Rattle.fx_synth.specs.Turns.{IsOutcome, IsTaken, Resists, Suits, SuitsIfAny, IsBestAfter}
 
 -- ---- bounds

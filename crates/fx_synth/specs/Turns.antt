@@ -1,26 +1,19 @@
 -- What the turns of a synthesis keep. No clause of a public call rests on this.
 use Rattle.std.specs.Prelude.{◌≡◌, ◌≢◌, ◌⊎◌, ⊤, ℕ, List, [], ◌∷◌, All, Option, Some, None}
 use Rattle.fx_model.specs.Function.{Function}
-use Rattle.fx_inequalities.specs.Accepted.{IsAccepted}
 use Rattle.fx_inequalities.specs.Rewriting.{Rewriting}
-use Rattle.fx_rules.specs.Steps.{rewrite}
 use Rattle.fx_analysis.specs.PlainAttempt.{Attempt}
 use Rattle.fx_checker.specs.CertifiedView.{Accepted}
-use Rattle.fx_feedback.specs.Answers.{IsAnswerFor, IsOffered}
+use Rattle.fx_checker.specs.Answers.{IsAnswerFor, IsJudged}
 use Rattle.fx_weight.specs.PlainClass.{outside_of}
 use Rattle.fx_analysis.specs.Attempts.{IsAcceptedAfter}
 use Rattle.fx_synth.specs.Bounds.{AreWithinWeights}
 use Rattle.fx_synth.specs.Synthesis.{attempted, AreSmaller, AreNoGreater}
 
--- what the checker made of an attempt for fn
-abbrev pub IsJudged : Function → Attempt → Option Accepted → Type 0
-IsJudged fn t None = ¬ IsAccepted rewrite fn t.program t.certificate
-IsJudged fn t (Some a) = IsAccepted rewrite fn t.program t.certificate × (a ≡ record { function = fn; program = t.program; certificate = t.certificate })
-
--- the same where there may be none
+-- what the checker made of an attempt for fn, where there is one
 abbrev pub AreJudged : Function → Option Attempt → Option Accepted → Type 0
 AreJudged fn None o = o ≡ None
-AreJudged fn (Some t) o = IsJudged fn t o
+AreJudged fn (Some t) o = IsJudged fn t.program t.certificate o
 
 -- the attempt after these steps
 pub record IsAnswerAfter (n : ℕ) (fn : Function) (steps : List Rewriting) (a : Accepted) : Type 0 where

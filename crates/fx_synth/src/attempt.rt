@@ -13,7 +13,7 @@ ghost use Rattle.fx_synth.specs.Turns.{AreJudged, IsOutcome};
 
 use fx_analysis::{attempt_after, no_steps_law, plain_attempt};
 use fx_cert::Certificate;
-use fx_checker::{Certified, CheckKind, check};
+use fx_checker::{Certified, judged};
 use fx_expr::Function;
 use fx_num::Memory;
 use fx_program::Program;
@@ -22,7 +22,7 @@ use fx_step::Step;
 use std::alloc::Global;
 
 // What the checker makes of an attempt, where there is one.
-fn judged(
+fn verdict(
     alloc: Global,
     function: &Function,
     attempt: Option<(Program, Certificate)>,
@@ -33,13 +33,8 @@ fn judged(
     let Some((program, certificate)) = attempt else {
         return Ok(None);
     };
-    match check(alloc, function, program, certificate) {
-        Ok(certified) => Ok(Some(certified)),
-        Err(fault) => match fault.kind {
-            CheckKind::Memory => Err(Memory),
-            _ => Ok(None),
-        },
-    }
+    let answer = judged(alloc, function, program, certificate)?;
+    Ok(answer)
 }
 
 /// The plain attempt, where it is there and accepted.
@@ -54,7 +49,7 @@ pub fn plain_answer(
 {
     no_steps_law();
     let attempt = plain_attempt(alloc, function, width)?;
-    let answer = judged(alloc, function, attempt)?;
+    let answer = verdict(alloc, function, attempt)?;
     Ok(answer)
 }
 
@@ -72,6 +67,6 @@ pub fn step_answer(
 {
     rewrite_law();
     let attempt = attempt_after(alloc, function, width, step)?;
-    let answer = judged(alloc, function, attempt)?;
+    let answer = verdict(alloc, function, attempt)?;
     Ok(answer)
 }

@@ -6,6 +6,7 @@ ghost use Rattle.fx_rules.specs.SingleSteps.{single_steps};
 ghost use Rattle.fx_weight.specs.Laws.{IsInClass};
 ghost use Rattle.fx_weight.specs.OutsideView.{outside_view};
 ghost use Rattle.fx_weight.specs.PlainClass.{outside_of};
+ghost use Rattle.fx_checker.specs.Answers.{IsOffered};
 ghost use Rattle.fx_synth.specs.Bounds.{AreWithinWeights};
 ghost use Rattle.fx_synth.specs.Synthesis.{Explains, IsSynthesised};
 ghost use Rattle.fx_synth.specs.Turns.{IsBestAfter, SuitsIfAny};
@@ -15,7 +16,8 @@ use crate::attempt::{plain_answer, step_answer};
 use crate::fault::SynthFault;
 use fx_checker::{Certified, check};
 use fx_expr::Function;
-use fx_num::Memory;
+use fx_feedback::certify_states;
+use fx_num::{Dyadic, Memory};
 use fx_rewrite::SingleSteps;
 use fx_search::search;
 use fx_weight::{Outside, WeightFault, bound_law, class_law, find_outside, plain_plan};
@@ -90,7 +92,26 @@ fn attempts(
     Ok(answer)
 }
 
-// The answer, or what the search finds where that is better.
+// What the search finds, or of a function with states what is certified at its limit.
+fn found(
+    alloc: Global,
+    function: &Function,
+    width: u32,
+    seed: u64,
+    tries: u32,
+    held: &[Dyadic],
+) -> Result<Option<Certified>, Memory>
+    requires width { Contains widths width }
+    ensures { IfOk result (IsOffered width function.now) }
+{
+    if function.states.len() > 0 {
+        certify_states(alloc, function, width)
+    } else {
+        search(alloc, function, width, seed, tries, held)
+    }
+}
+
+// The answer, or what is found where that is better.
 fn searched(
     alloc: Global,
     function: &Function,
@@ -104,7 +125,7 @@ fn searched(
     ensures { (steps : List Rewriting) → IsBestAfter width function.now steps answer → IfOk result (IsBestAfter width function.now steps) }
 {
     let held = bounds_of(alloc, &answer)?;
-    let candidate = search(alloc, function, width, seed, tries, &held)?;
+    let candidate = found(alloc, function, width, seed, tries, &held)?;
     Ok(taken(answer, candidate))
 }
 

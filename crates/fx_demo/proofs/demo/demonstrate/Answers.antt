@@ -1,5 +1,5 @@
 use Rattle.std.proofs.Common.{subst}
-use Rattle.fx_demo.specs.LastLine.{IsLastLine}
+use Rattle.fx_listing.specs.LastLine.{IsLastLine}
 use Rattle.fx_demo.proofs.demo.demonstrate.Goals as goal
 
 pub returns : goal.returns

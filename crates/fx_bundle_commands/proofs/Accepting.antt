@@ -1,0 +1,164 @@
+-- How the reading of an accepted bundle ends.
+use Rattle.std.proofs.Common.{◌≡◌, ◌≢◌, ◌⊎◌, ◌<◌, ◌≤◌, length, refl, sym, ap, subst, ◌∙◌, ℕ, List, Option, Some, None, Result, Ok, Err, inl, inr}
+use Rattle.std.specs.Prelude.{IsSomeAnd, IfOk, IfErr}
+use Rattle.fx_base.specs.Causes.{Rose}
+use Rattle.fx_base.specs.Shelf.{Files, IfPaper, IsMissing}
+use Rattle.fx_base.specs.declared.answers.InFault.{InFault}
+use Rattle.fx_base.specs.declared.answers.InFault.TheVariants as reads
+use Rattle.fx_model.specs.Limits.{bundle_limit}
+use Rattle.fx_model.specs.Function.{Function}
+use Rattle.fx_checker.specs.CertifiedView.{Accepted}
+use Rattle.fx_bundle_commands.specs.Outside.{IfFile}
+use Rattle.fx_bundle_commands.specs.Opening as opens
+use Rattle.fx_inequalities.specs.Accepted.{first_fault}
+use Rattle.fx_inequalities.specs.Condition as condition
+use Rattle.fx_inequalities.specs.Condition.{Fault, Kind}
+use Rattle.fx_rules.specs.Steps.{rewrite}
+use Rattle.fx_lexer.specs.Faults as source
+use Rattle.fx_lexer.specs.declared.fault.SourceFault.{SourceFault}
+use Rattle.fx_lexer.specs.declared.fault.SourceKind.TheVariants as sources
+use Rattle.fx_text.specs.Faults as text
+use Rattle.fx_text.specs.declared.fault.TextFault.{TextFault}
+use Rattle.fx_text.specs.declared.fault.TextKind.TheVariants as texts
+use Rattle.fx_grammar.specs.Sources.{parsed}
+use Rattle.fx_checker.specs.Refusal.{IsRefusal, IsToldOf, kind_told}
+use Rattle.fx_checker.specs.declared.fault.CheckFault.{CheckFault}
+use Rattle.fx_checker.specs.declared.fault.CheckKind.{CheckKind}
+use Rattle.fx_checker.specs.declared.fault.CheckKind.TheVariants.{Counts, Step, Shape, Shift, Range, Divisor, Error, WordTooSmall, Form, Start, Row, ErrorRow, Demand, Beyond, Memory}
+use Rattle.fx_cert.specs.BundleView.{Parts}
+use Rattle.fx_reader.specs.BundleReading.{bundle_in}
+use Rattle.fx_ends.specs.Ends as ends
+use Rattle.fx_ends.specs.Ends.{End}
+use Rattle.fx_bundle_commands.specs.Opening.{Spells, meaning_of, OpeningEnds}
+use Rattle.fx_bundle_commands.specs.OpeningView.{ReadingEnds, no_bundle, misread, rejected, IsRejection, IsReadAs, IsOpened, read_end}
+use Rattle.fx_bundle_commands.specs.OpeningView as opening
+
+-- want of memory ends it, wherever it comes
+memory_ends : (bytes : List ℕ) (end : End) → end ≡ ends.NoMemory → ReadingEnds bytes end
+memory_ends bytes end e = subst (ReadingEnds bytes) (sym e) opening.no_memory
+
+-- the text isn't a bundle's
+pub text_ends : (bytes : List ℕ) (fault : TextFault) (end : End) → (end ≡ ends.NoMemory) ⊎ ((end ≡ ends.BadBundle fault) × (fault.kind ≢ texts.Memory)) →
+    (bundle_in bytes ≡ Err fault) ⊎ (fault ≡ text.text_memory) → ReadingEnds bytes end
+text_ends bytes fault end (inl e) given = memory_ends bytes end e
+text_ends bytes fault end (inr told) (inl read) = subst (ReadingEnds bytes) (sym told.0) (no_bundle fault read)
+text_ends bytes fault end (inr told) (inr none) = absurd (told.1 (ap (λ f. f.kind) none))
+
+-- the source has no such function
+pub source_ends : (bytes : List ℕ) (b : Parts) (fault : SourceFault) (end : End) → Spells bytes b → (end ≡ ends.NoMemory) ⊎ ((end ≡ ends.Misread fault) × (fault.kind ≢ sources.Memory)) →
+    (meaning_of b ≡ Err fault) ⊎ (fault ≡ source.source_memory) → ReadingEnds bytes end
+source_ends bytes b fault end spelled (inl e) given = memory_ends bytes end e
+source_ends bytes b fault end spelled (inr told) (inl read) = subst (ReadingEnds bytes) (sym told.0) (misread b fault spelled read)
+source_ends bytes b fault end spelled (inr told) (inr none) = absurd (told.1 (ap (λ f. f.kind) none))
+
+-- ---- a checker's kind tells one condition's
+kind_back : CheckKind → Kind
+kind_back Counts = condition.Counts
+kind_back Step = condition.Step
+kind_back Shape = condition.Shape
+kind_back Shift = condition.Shift
+kind_back Range = condition.Range
+kind_back Divisor = condition.Divisor
+kind_back Error = condition.Error
+kind_back WordTooSmall = condition.WordTooSmall
+kind_back Form = condition.Form
+kind_back Start = condition.Start
+kind_back Row = condition.Row
+kind_back ErrorRow = condition.ErrorRow
+kind_back Demand = condition.Demand
+kind_back Beyond = condition.Beyond
+kind_back Memory = condition.Beyond
+
+back_is : (k : Kind) → kind_back (kind_told k) ≡ k
+unfolding kind_back
+back_is condition.Counts = refl
+back_is condition.Step = refl
+back_is condition.Shape = refl
+back_is condition.Shift = refl
+back_is condition.Range = refl
+back_is condition.Divisor = refl
+back_is condition.Error = refl
+back_is condition.WordTooSmall = refl
+back_is condition.Form = refl
+back_is condition.Start = refl
+back_is condition.Row = refl
+back_is condition.ErrorRow = refl
+back_is condition.Demand = refl
+back_is condition.Beyond = refl
+
+not_memory : (k : Kind) → Memory ≡ kind_told k → ⊥
+not_memory condition.Counts e = absurd cc
+not_memory condition.Step e = absurd cc
+not_memory condition.Shape e = absurd cc
+not_memory condition.Shift e = absurd cc
+not_memory condition.Range e = absurd cc
+not_memory condition.Divisor e = absurd cc
+not_memory condition.Error e = absurd cc
+not_memory condition.WordTooSmall e = absurd cc
+not_memory condition.Form e = absurd cc
+not_memory condition.Start e = absurd cc
+not_memory condition.Row e = absurd cc
+not_memory condition.ErrorRow e = absurd cc
+not_memory condition.Demand e = absurd cc
+not_memory condition.Beyond e = absurd cc
+
+-- two faults that are told alike are one
+one_fault : (told : CheckFault) (a b : Fault) → IsToldOf told a → IsToldOf told b → a ≡ b
+one_fault told a b h k =
+    let kind : a.kind ≡ b.kind = sym (back_is a.kind) ∙ ap kind_back (sym h.kind ∙ k.kind) ∙ back_is b.kind in
+    let part : a.part ≡ b.part = sym h.part ∙ k.part in
+    let index : a.index ≡ b.index = sym h.index ∙ k.index in
+    λ i. record { kind = kind i; part = part i; index = index i }
+
+-- the checker's fault is the first of the definitions
+first_told : (told : CheckFault) (found : Fault) (first : Option Fault) → IsToldOf told found → IsRefusal told first → first ≡ Some found
+first_told told found first h (inl none) = absurd (not_memory found.kind (sym (ap (λ (f : CheckFault). f.kind) none) ∙ h.kind))
+first_told told found None h (inr k) = absurd k
+first_told told found (Some f) h (inr k) = ap Some (one_fault told f found k h)
+
+-- a condition fails
+pub check_ends : (bytes : List ℕ) (b : Parts) (fn : Function) (told : CheckFault) (end : End) → Spells bytes b → meaning_of b ≡ Ok fn → IsRejection told end →
+    IsRefusal told (first_fault rewrite fn b.program b.certificate) → ReadingEnds bytes end
+check_ends bytes b fn told end spelled meant (inl e) refused = memory_ends bytes end e
+check_ends bytes b fn told end spelled meant (inr r) refused =
+    subst (ReadingEnds bytes) (sym r.1) (rejected b fn r.0 spelled meant (first_told told r.0 (first_fault rewrite fn b.program b.certificate) r.2 refused))
+
+-- what was parsed is what the source means
+pub meant : (b : Parts) (source name : List ℕ) → source ≡ b.source → name ≡ b.program.name → parsed source (Some name) ≡ meaning_of b
+meant b source name e h = λ i. parsed (e i) (Some (h i))
+
+-- ---- of the file
+pub if_file : (papers : Option Files) (name bytes : List ℕ) (P : List ℕ → Type 0) → IfPaper papers name (λ paper. paper ≡ Some bytes) → P bytes → IfFile papers name P
+if_file None name bytes P is p = tt
+if_file (Some files) name bytes P is p = subst (λ (paper : Option (List ℕ)). IsSomeAnd paper P) (sym is) p
+
+-- what was read is a bundle
+pub is_opened : (papers : Option Files) (name bytes slice : List ℕ) (a : Accepted) → IfPaper papers name (λ paper. paper ≡ Some bytes) → length bytes ≤ bundle_limit → slice ≡ bytes → IsReadAs slice a → IsOpened papers name a
+is_opened papers name bytes slice a is short same read = let r = subst (λ (t : List ℕ). IsReadAs t a) same read in record { source = r.source; is_bundle = if_file papers name bytes _ is (short, r.spelled); accepted = r.accepted }
+
+-- what was read is none
+ending : (papers : Option Files) (before after : ℕ) (name bytes : List ℕ) (end : End) → IfPaper papers name (λ paper. paper ≡ Some bytes) → length bytes ≤ bundle_limit → ReadingEnds bytes end → OpeningEnds papers before after name end
+ending papers before after name bytes end is short (no_bundle fault read) = opens.no_bundle fault (if_file papers name bytes _ is (short, read))
+ending papers before after name bytes end is short (misread b fault spelled meant) = opens.misread b fault (if_file papers name bytes _ is (short, spelled)) meant
+ending papers before after name bytes end is short (rejected b fn fault spelled meant first) = opens.rejected b fn fault (if_file papers name bytes _ is (short, spelled)) meant first
+ending papers before after name bytes end is short opening.no_memory = opens.no_memory
+
+pub opening_ends : (papers : Option Files) (before after : ℕ) (name bytes slice : List ℕ) (end : End) → IfPaper papers name (λ paper. paper ≡ Some bytes) → length bytes ≤ bundle_limit → slice ≡ bytes → ReadingEnds slice end →
+    OpeningEnds papers before after name end
+opening_ends papers before after name bytes slice end is short same read = ending papers before after name bytes end is short (subst (λ (t : List ℕ). ReadingEnds t end) same read)
+
+-- it wasn't read
+pub read_ends : (papers : Option Files) (before after : ℕ) (name : List ℕ) (fault : InFault) → (fault ≡ reads.TooLong → IfFile papers name (λ file. bundle_limit < length file)) →
+    (fault ≡ reads.ReadFault → IsMissing papers name ⊎ Rose before after) → OpeningEnds papers before after name (read_end fault)
+read_ends papers before after name reads.ReadFault long failed = opens.unread (failed refl)
+read_ends papers before after name reads.TooLong long failed = opens.long (long refl)
+read_ends papers before after name reads.Memory long failed = opens.no_memory
+
+-- ---- what is said of an answer, in other words
+pub if_ok : {T E : Type 0} {P Q : T → Type 0} (r : Result T E) → ((x : T) → P x → Q x) → IfOk r P → IfOk r Q
+if_ok (Ok x) f p = f x p
+if_ok (Err e) f p = tt
+
+pub if_err : {T E : Type 0} {P Q : E → Type 0} (r : Result T E) → ((e : E) → P e → Q e) → IfErr r P → IfErr r Q
+if_err (Ok x) f p = tt
+if_err (Err e) f p = f e p

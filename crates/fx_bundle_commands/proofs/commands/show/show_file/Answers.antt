@@ -1,0 +1,12 @@
+use Rattle.std.proofs.Common.{refl}
+use Rattle.fx_bundle_commands.specs.Opening.{unopened, opened}
+use Rattle.fx_bundle_commands.specs.OpeningView.{with_source}
+use Rattle.fx_bundle_commands.proofs.commands.show.show_file.Goals as goal
+
+pub returns-in-Err-clause-ended : goal.returns-in-Err-clause-ended
+returns-in-Err-clause-ended g c = λ left reads. unopened _ c.in-Err.ensures.failed (record { left = refl; taken = refl })
+
+pub returns-in-Ok-clause-ended : goal.returns-in-Ok-clause-ended
+returns-in-Ok-clause-ended g c =
+    let o = c.in-Ok.ensures.opened in let a = c.in-Ok.certified in
+    λ left reads. opened _ (with_source a o.source) a.function o.is_bundle o.accepted (c.print_table.ensures.ended o.source left reads)

@@ -1,0 +1,5 @@
+pub mod Outside
+pub mod Opening
+pub mod OpeningView
+pub mod Exact
+pub mod commands

@@ -1,0 +1,50 @@
+-- What `check FILE` does: it prints the bounds of an accepted bundle.
+use Rattle.std.specs.Prelude.{ℕ, ◌+◌, ◌==◌, List, Option, [], ◌∷◌, ◌++◌, codes, if◌then◌else◌}
+use Rattle.std.specs.Fmt.{decimal, signed_decimal}
+use Rattle.std.specs.List.{concat}
+use Rattle.std.specs.Io.KnownBytes.{Appends}
+use Rattle.fx_base.specs.Calls.{AppendsFront}
+use Rattle.fx_base.specs.Causes.{Rose}
+use Rattle.fx_base.specs.Shelf.{Files}
+use Rattle.fx_rational.specs.Dyadic.{Dyadic}
+use Rattle.fx_model.specs.Function.{Function}
+use Rattle.fx_model.specs.Machine.{Program}
+use Rattle.fx_inequalities.specs.Certificate.{Certificate}
+use Rattle.fx_inequalities.specs.Accepted.{bound_dyadic}
+use Rattle.fx_cert.specs.BundleView.{Parts}
+use Rattle.fx_bundle_commands.specs.Outside.{Streams}
+use Rattle.fx_ends.specs.Ends.{End, Done, WriteFault}
+use Rattle.fx_listing.specs.Listing.{numbered_lines}
+use Rattle.fx_bundle_commands.specs.Opening.{OpensThen}
+use Rattle.fx_bundle_commands.specs.Exact.{IsReady, OrNoMemory}
+
+-- m, or m/2^e, piece by piece; what a certificate writes is in lowest terms
+abbrev pub bound_pieces : Dyadic → List (List ℕ)
+bound_pieces d = if d.e == 0 then signed_decimal d.m ∷ [] else signed_decimal d.m ∷ codes "/2^" ∷ decimal d.e ∷ []
+
+-- the line outJ BOUND of output j, counted from 0
+abbrev pub bound_line : ℕ → Dyadic → List ℕ
+bound_line j d = concat (codes "out" ∷ decimal (j + 1) ∷ codes " " ∷ bound_pieces d ++ (codes "\n" ∷ []))
+
+-- a line for each of m outputs, of which the first is output j
+abbrev pub bound_lines : Program → Certificate → ℕ → ℕ → List ℕ
+bound_lines p c = numbered_lines (λ j. bound_line j (bound_dyadic p c j))
+
+-- what is printed of an accepted bundle
+abbrev pub report : Program → Certificate → List ℕ
+report p c = codes "accepted\n" ++ bound_lines p c 0 p.outputs
+
+-- how the printing ends
+pub data ReportEnds (old new : Streams) (b : Parts) (fn : Function) : End → Type 0 where
+  reported : Appends old.taken new.taken (report b.program b.certificate) → ReportEnds old new b fn Done
+  unwritten : Rose old.write_faults new.write_faults → AppendsFront old.taken new.taken (report b.program b.certificate) → ReportEnds old new b fn WriteFault
+
+-- all of it
+abbrev pub CheckEnds : Option Files → ℕ → ℕ → Streams → Streams → List ℕ → End → Type 0
+CheckEnds papers before after old new name = OpensThen papers before after name old new (ReportEnds old new)
+
+-- ---- completeness
+-- the report of an accepted bundle is printed where no write fails
+abbrev pub CheckCompletes : Option Files → ℕ → ℕ → Streams → Streams → List ℕ → (End → Type 0) → Type 0
+CheckCompletes papers before after old new name IsEnd =
+    (b : Parts) (fn : Function) → IsReady papers before after name b fn → ¬ Rose old.write_faults new.write_faults → OrNoMemory IsEnd Done

@@ -1,0 +1,59 @@
+-- What `show FILE` does: it prints the codes of an accepted bundle with what its certificate says of them, and its bounds.
+use Rattle.std.specs.Prelude.{◌≡◌, ℕ, ℤ, pos, List, Option, [], ◌∷◌, ◌++◌, length, map}
+use Rattle.std.specs.Fmt.{decimal, signed_decimal}
+use Rattle.std.specs.List.{concat}
+use Rattle.std.specs.Io.KnownBytes.{Appends}
+use Rattle.fx_base.specs.Calls.{AppendsFront}
+use Rattle.fx_base.specs.Causes.{Rose}
+use Rattle.fx_base.specs.Shelf.{Files}
+use Rattle.fx_rational.specs.Dyadic.{Dyadic}
+use Rattle.fx_model.specs.Function.{Function}
+use Rattle.fx_model.specs.LineText.{line_text}
+use Rattle.fx_model.specs.Machine.{Code, Program, points_of}
+use Rattle.fx_model.specs.ProgramText.{code_fields}
+use Rattle.fx_model.specs.Tree.{at}
+use Rattle.fx_inequalities.specs.Certificate.{Certificate, NodeLine, no_line}
+use Rattle.fx_cert.specs.BundleView.{Parts}
+use Rattle.fx_bundle_commands.specs.Outside.{Streams}
+use Rattle.fx_ends.specs.Ends.{End, Done, WriteFault, NoMemory}
+use Rattle.fx_listing.specs.Listing.{numbered_lines}
+use Rattle.fx_bundle_commands.specs.Opening.{OpensThen}
+use Rattle.fx_bundle_commands.specs.Exact.{IsReady, OrNoMemory}
+use Rattle.fx_bundle_commands.specs.commands.Check.{bound_pieces, bound_lines}
+
+-- the name of its instruction
+abbrev pub instruction_name : Code → List ℕ
+instruction_name code = at [] (code_fields code) 0
+
+-- m, or m/2^e
+abbrev pub value_text : Dyadic → List ℕ
+value_text d = concat (bound_pieces d)
+
+-- a code's number, instruction and point, and the ends of its range and of its error
+abbrev pub shown_fields : ℕ → List ℕ → ℤ → NodeLine → List (List ℕ)
+shown_fields n name f line =
+    decimal n ∷ name ∷ signed_decimal f ∷ value_text line.range.lo ∷ value_text line.range.hi ∷ value_text line.error.lo ∷ value_text line.error.hi ∷ []
+
+-- the line of code n
+abbrev pub shown_line : Program → Certificate → ℕ → List ℕ
+shown_line p c n = line_text (shown_fields n (at [] (map instruction_name p.codes) n) (at (pos 0) (points_of p.codes) n) (at no_line c.lines n))
+
+-- what is printed of an accepted bundle
+abbrev pub table : Program → Certificate → List ℕ
+table p c = numbered_lines (shown_line p c) 0 (length p.codes) ++ bound_lines p c 0 p.outputs
+
+-- how the printing ends
+pub data ShowEnds (old new : Streams) (b : Parts) (fn : Function) : End → Type 0 where
+  shown : Appends old.taken new.taken (table b.program b.certificate) → ShowEnds old new b fn Done
+  unwritten : Rose old.write_faults new.write_faults → AppendsFront old.taken new.taken (table b.program b.certificate) → ShowEnds old new b fn WriteFault
+  no_memory : new.taken ≡ old.taken → ShowEnds old new b fn NoMemory
+
+-- all of it
+abbrev pub ShownEnds : Option Files → ℕ → ℕ → Streams → Streams → List ℕ → End → Type 0
+ShownEnds papers before after old new name = OpensThen papers before after name old new (ShowEnds old new)
+
+-- ---- completeness
+-- the table of an accepted bundle is printed where no write fails
+abbrev pub ShowCompletes : Option Files → ℕ → ℕ → Streams → Streams → List ℕ → (End → Type 0) → Type 0
+ShowCompletes papers before after old new name IsEnd =
+    (b : Parts) (fn : Function) → IsReady papers before after name b fn → ¬ Rose old.write_faults new.write_faults → OrNoMemory IsEnd Done

@@ -1,0 +1,9 @@
+//! The commands, one a file.
+
+mod check;
+mod run;
+mod show;
+
+pub use check::check_file;
+pub use run::run_file;
+pub use show::show_file;

@@ -1,0 +1,35 @@
+//! `check FILE`: the bounds of an accepted bundle.
+ghost use Rattle.std.specs.Prelude.{◌≡◌, ℕ, List, Option};
+ghost use Rattle.fx_filter.specs.Promise.{Grows};
+ghost use Rattle.fx_ends.specs.EndView.{end_of};
+ghost use Rattle.fx_bundle_commands.specs.OpeningView.{IsQuiet};
+ghost use Rattle.fx_bundle_commands.specs.commands.Check.{CheckEnds};
+
+use crate::open::open;
+use crate::report::put_report;
+use fx_base::{Shelf, Sink};
+use fx_ends::End;
+use std::alloc::Global;
+
+/// Prints that the bundle in the file of this name is accepted, and the bound of each output.
+pub fn check_file<H: Shelf, K: Sink>(
+    alloc: Global,
+    shelf: &mut H,
+    name: &str,
+    output: &mut K,
+) -> End<'static>
+    ensures ended { (left : Option (List ℕ)) (reads : ℕ) → CheckEnds (H.papers shelf.old) (H.faults shelf.old) (H.faults shelf.new)
+        (record { left = left; read_faults = reads; taken = K.taken output.old; write_faults = K.faults output.old })
+        (record { left = left; read_faults = reads; taken = K.taken output.new; write_faults = K.faults output.new })
+        name.now (end_of result) }
+    ensures appended { Grows (K.taken output.old) (K.taken output.new) }
+    ensures quiet { IsQuiet (end_of result) → output.new ≡ output.old }
+{
+    match open(alloc, shelf, name) {
+        Err(end) => end,
+        Ok(certified) => match put_report(&certified, output) {
+            Ok(()) => End::Done,
+            Err(_) => End::WriteFault,
+        },
+    }
+}

@@ -1,0 +1,86 @@
+//! `run FILE`: the rows of the input through an accepted bundle's program.
+ghost use Rattle.std.specs.Prelude.{◌≡◌, ℕ, List, map};
+ghost use Rattle.std.specs.Io.KnownBytes.{Consumes};
+ghost use Rattle.fx_expr.specs.Parts.{input_of};
+ghost use Rattle.fx_filter.specs.Promise.{Grows};
+ghost use Rattle.fx_ends.specs.Ends as ends;
+ghost use Rattle.fx_ends.specs.Ends.{end_line, status_of};
+ghost use Rattle.fx_ends.specs.EndView.{end_of};
+ghost use Rattle.fx_ends.specs.Notes.{AreNotes};
+ghost use Rattle.fx_bundle_commands.specs.OpeningView.{IsQuiet, with_source};
+ghost use Rattle.fx_bundle_commands.specs.commands.Run.{RunEnds, Runs};
+
+use crate::open::open;
+use fx_base::{Shelf, Sink, Source, Status};
+use fx_checker::Certified;
+use fx_ends::End;
+use fx_expr::Input;
+use fx_filter::RunFault;
+use fx_run::run_rows;
+use std::alloc::Global;
+
+// In bytes: the longest input of rows.
+const ROWS_LIMIT: u64 = 1_073_741_824;
+
+// The inputs of a certified function.
+fn inputs_of(certified: &Certified) -> &[Input]
+    ensures { map input_of result.now ≡ certified.now.function.inputs }
+{
+    certified.function().inputs.as_slice()
+}
+
+// Runs the rows of the input.
+fn run_input<'a, S: Source, K: Sink>(
+    alloc: Global,
+    certified: &'a Certified,
+    input: &mut S,
+    output: &mut K,
+) -> End<'a>
+    ensures ended { (source : List ℕ) → Runs
+        (record { left = S.left input.old; read_faults = S.faults input.old; taken = K.taken output.old; write_faults = K.faults output.old })
+        (record { left = S.left input.new; read_faults = S.faults input.new; taken = K.taken output.new; write_faults = K.faults output.new })
+        (with_source certified.now source) certified.now.function (end_of result) }
+    ensures loud { IsQuiet (end_of result) → ⊥ }
+    ensures consumed { (taken : List ℕ) × Consumes (S.left input.old) (S.left input.new) taken }
+    ensures appended { Grows (K.taken output.old) (K.taken output.new) }
+{
+    match run_rows(alloc, certified, input, output, ROWS_LIMIT) {
+        Ok(_) => End::Done,
+        Err(RunFault::Row { line, fault }) => End::BadRow {
+            inputs: inputs_of(certified),
+            line,
+            fault,
+        },
+        Err(RunFault::ReadFault) => End::ReadFault,
+        Err(RunFault::WriteFault) => End::WriteFault,
+        Err(RunFault::TooLong) => End::OverLimit,
+        Err(RunFault::Memory) => End::NoMemory,
+    }
+}
+
+/// Runs the rows of the input through the bundle in the file of this name, and prints their page.
+pub fn run_file<H: Shelf, S: Source, K: Sink, N: Sink>(
+    alloc: Global,
+    shelf: &mut H,
+    name: &str,
+    input: &mut S,
+    output: &mut K,
+    notes: &mut N,
+) -> Status
+    ensures ended { (end : ends.End) × (result ≡ status_of end) ×
+        AreNotes (N.taken notes.old) (N.taken notes.new) (N.faults notes.old) (N.faults notes.new) (end_line end) ×
+        RunEnds (H.papers shelf.old) (H.faults shelf.old) (H.faults shelf.new)
+        (record { left = S.left input.old; read_faults = S.faults input.old; taken = K.taken output.old; write_faults = K.faults output.old })
+        (record { left = S.left input.new; read_faults = S.faults input.new; taken = K.taken output.new; write_faults = K.faults output.new })
+        name.now end × (IsQuiet end → (input.new ≡ input.old) × (output.new ≡ output.old)) }
+    ensures consumed { (taken : List ℕ) × Consumes (S.left input.old) (S.left input.new) taken }
+    ensures appended { Grows (K.taken output.old) (K.taken output.new) }
+{
+    match open(alloc, shelf, name) {
+        Err(end) => end.finish(notes),
+        Ok(certified) => {
+            let end = run_input(alloc, &certified, input, output);
+            end.finish(notes)
+        }
+    }
+}

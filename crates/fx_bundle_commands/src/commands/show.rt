@@ -1,0 +1,68 @@
+//! `show FILE`: the codes of an accepted bundle with what is certified of them, and the bounds.
+ghost use Rattle.std.specs.Prelude.{◌≡◌, ◌++◌, ℕ, List, Option, OnOk, OnErr, length};
+ghost use Rattle.std.specs.Io.KnownBytes.{Appends};
+ghost use Rattle.fx_base.specs.Calls.{AppendsFront};
+ghost use Rattle.fx_base.specs.Causes.{HasCause};
+ghost use Rattle.fx_filter.specs.Promise.{Grows};
+ghost use Rattle.fx_ends.specs.EndView.{end_of};
+ghost use Rattle.fx_listing.specs.Listing.{numbered_lines};
+ghost use Rattle.fx_bundle_commands.specs.OpeningView.{IsQuiet, with_source};
+ghost use Rattle.fx_bundle_commands.specs.commands.Check.{bound_lines};
+ghost use Rattle.fx_bundle_commands.specs.commands.Show.{ShowEnds, ShownEnds, shown_line, table};
+
+use crate::open::open;
+use crate::report::put_bounds;
+use crate::table::codes_text;
+use fx_base::{Failed, Shelf, Sink, put_all};
+use fx_checker::Certified;
+use fx_ends::End;
+use std::alloc::Global;
+
+// Writes the lines of the codes, which are this text, and those of the outputs.
+fn put_table<K: Sink>(text: &[u8], certified: &Certified, output: &mut K) -> Result<(), Failed>
+    requires { text.now ≡ numbered_lines (shown_line certified.now.program certified.now.certificate) 0 (length certified.now.program.codes) }
+    ensures all { OnOk result (Appends (K.taken output.old) (K.taken output.new) (table certified.now.program certified.now.certificate)) }
+    ensures front { OnErr result (AppendsFront (K.taken output.old) (K.taken output.new) (table certified.now.program certified.now.certificate)) }
+    ensures cause { HasCause (K.faults output.old) (K.faults output.new) result }
+{
+    put_all(output, text)?;
+    put_bounds(certified, output)
+}
+
+// Prints the table of an accepted bundle.
+fn print_table<K: Sink>(alloc: Global, certified: &Certified, output: &mut K) -> End<'static>
+    ensures ended { (source : List ℕ) (left : Option (List ℕ)) (reads : ℕ) → ShowEnds
+        (record { left = left; read_faults = reads; taken = K.taken output.old; write_faults = K.faults output.old })
+        (record { left = left; read_faults = reads; taken = K.taken output.new; write_faults = K.faults output.new })
+        (with_source certified.now source) certified.now.function (end_of result) }
+    ensures appended { Grows (K.taken output.old) (K.taken output.new) }
+    ensures loud { IsQuiet (end_of result) → ⊥ }
+{
+    let Ok(text) = codes_text(alloc, certified) else {
+        return End::NoMemory;
+    };
+    match put_table(text.as_slice(), certified, output) {
+        Ok(()) => End::Done,
+        Err(_) => End::WriteFault,
+    }
+}
+
+/// Prints a line for each code of the bundle in the file of this name, and the bound of each output.
+pub fn show_file<H: Shelf, K: Sink>(
+    alloc: Global,
+    shelf: &mut H,
+    name: &str,
+    output: &mut K,
+) -> End<'static>
+    ensures ended { (left : Option (List ℕ)) (reads : ℕ) → ShownEnds (H.papers shelf.old) (H.faults shelf.old) (H.faults shelf.new)
+        (record { left = left; read_faults = reads; taken = K.taken output.old; write_faults = K.faults output.old })
+        (record { left = left; read_faults = reads; taken = K.taken output.new; write_faults = K.faults output.new })
+        name.now (end_of result) }
+    ensures appended { Grows (K.taken output.old) (K.taken output.new) }
+    ensures quiet { IsQuiet (end_of result) → output.new ≡ output.old }
+{
+    match open(alloc, shelf, name) {
+        Err(end) => end,
+        Ok(certified) => print_table(alloc, &certified, output),
+    }
+}

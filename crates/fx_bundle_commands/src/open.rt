@@ -1,0 +1,134 @@
+//! The accepted bundle in FILE.
+//!
+//! The file is read whole, its text is read as a bundle, the bundle's source as a function, and then all conditions are
+//! looked at; the first cause ends it. The trap: want of memory may come at any stage, and is no fault of the bundle.
+ghost use Rattle.std.specs.Prelude.{◌≡◌, ◌≢◌, ◌⊎◌, ◌≤◌, length, IfOk, IfErr, MatchOption, Some};
+ghost use Rattle.fx_base.specs.Shelf.{IfPaper};
+ghost use Rattle.fx_model.specs.Limits.{bundle_limit};
+ghost use Rattle.fx_text.specs.declared.fault.TextKind.TheVariants as texts;
+ghost use Rattle.fx_lexer.specs.declared.fault.SourceKind.TheVariants as sources;
+ghost use Rattle.fx_judging.specs.FaultView.{kind_of};
+ghost use Rattle.fx_checker.specs.Refusal.{kind_told};
+ghost use Rattle.fx_checker.specs.declared.fault.CheckKind.TheVariants as checks;
+ghost use Rattle.fx_ends.specs.Ends as ends;
+ghost use Rattle.fx_ends.specs.EndView.{end_of};
+ghost use Rattle.fx_bundle_commands.specs.Opening.{OpeningEnds};
+ghost use Rattle.fx_bundle_commands.specs.OpeningView.{IsOpened, IsReadAs, ReadingEnds, IsRejection, read_end};
+
+use fx_base::{InFault, Shelf, read_file};
+use fx_cert::Bundle;
+use fx_checker::{Certified, CheckFault, CheckKind, check};
+use fx_ends::End;
+use fx_judging::{ConditionFault, ConditionKind};
+use fx_lexer::{SourceFault, SourceKind};
+use fx_parser::parse;
+use fx_reader::{bundle_text_law, read_bundle};
+use fx_text::{TextFault, TextKind};
+use std::alloc::Global;
+
+// In bytes.
+const BUNDLE_LIMIT: u64 = 67_108_864;
+
+/// Of a file that wasn't read.
+pub fn end_of_read(fault: InFault) -> End<'static>
+    ensures { end_of result ≡ read_end fault }
+{
+    match fault {
+        InFault::ReadFault => End::ReadFault,
+        InFault::TooLong => End::OverLimit,
+        InFault::Memory => End::NoMemory,
+    }
+}
+
+// Of a text that isn't a bundle's.
+fn end_of_text(fault: TextFault) -> End<'static>
+    ensures { (end_of result ≡ ends.NoMemory) ⊎ ((end_of result ≡ ends.BadBundle fault) × (fault.kind ≢ texts.Memory)) }
+{
+    match fault.kind {
+        TextKind::Memory => End::NoMemory,
+        _ => End::BadBundle(fault),
+    }
+}
+
+/// Of a source that has no such function.
+pub fn end_of_source(fault: SourceFault) -> End<'static>
+    ensures { (end_of result ≡ ends.NoMemory) ⊎ ((end_of result ≡ ends.Misread fault) × (fault.kind ≢ sources.Memory)) }
+{
+    match fault.kind {
+        SourceKind::Memory => End::NoMemory,
+        _ => End::Misread(fault),
+    }
+}
+
+// The condition of a checker's fault. None for want of memory.
+fn condition_of(kind: CheckKind) -> Option<ConditionKind>
+    ensures { MatchOption result (kind ≡ checks.Memory) (λ found. kind ≡ kind_told (kind_of found)) }
+{
+    Some(match kind {
+        CheckKind::Counts => ConditionKind::Counts,
+        CheckKind::Step => ConditionKind::Step,
+        CheckKind::Shape => ConditionKind::Shape,
+        CheckKind::Shift => ConditionKind::Shift,
+        CheckKind::Range => ConditionKind::Range,
+        CheckKind::Divisor => ConditionKind::Divisor,
+        CheckKind::Error => ConditionKind::Error,
+        CheckKind::WordTooSmall => ConditionKind::WordTooSmall,
+        CheckKind::Form => ConditionKind::Form,
+        CheckKind::Start => ConditionKind::Start,
+        CheckKind::Row => ConditionKind::Row,
+        CheckKind::ErrorRow => ConditionKind::ErrorRow,
+        CheckKind::Demand => ConditionKind::Demand,
+        CheckKind::Beyond => ConditionKind::Beyond,
+        CheckKind::Memory => return None,
+    })
+}
+
+// Of a bundle that isn't accepted.
+fn end_of_check(fault: CheckFault) -> End<'static>
+    ensures { IsRejection fault (end_of result) }
+{
+    match condition_of(fault.kind) {
+        None => End::NoMemory,
+        Some(kind) => End::Rejected(ConditionFault {
+            kind,
+            part: fault.part,
+            index: fault.index,
+        }),
+    }
+}
+
+// The accepted bundle that these bytes spell.
+fn accept(alloc: Global, bytes: &[u8]) -> Result<Certified, End<'static>>
+    ensures accepted { IfOk result (IsReadAs bytes.now) }
+    ensures failed { IfErr result (λ end. ReadingEnds bytes.now (end_of end)) }
+{
+    bundle_text_law();
+    let Bundle {
+        source,
+        program,
+        certificate,
+    } = match read_bundle(alloc, bytes) {
+        Ok(bundle) => bundle,
+        Err(fault) => return Err(end_of_text(fault)),
+    };
+    let function = match parse(alloc, source.as_slice(), Some(program.name.as_str())) {
+        Ok(function) => function,
+        Err(fault) => return Err(end_of_source(fault)),
+    };
+    match check(alloc, &function, program, certificate) {
+        Ok(certified) => Ok(certified),
+        Err(fault) => Err(end_of_check(fault)),
+    }
+}
+
+/// The accepted bundle in the file of this name.
+pub fn open<H: Shelf>(alloc: Global, shelf: &mut H, name: &str) -> Result<Certified, End<'static>>
+    ensures opened { IfOk result (IsOpened (H.papers shelf.old) name.now) }
+    ensures failed { IfErr result (λ end. OpeningEnds (H.papers shelf.old) (H.faults shelf.old) (H.faults shelf.new) name.now (end_of end)) }
+{
+    let bytes = match read_file(alloc, shelf, name, BUNDLE_LIMIT) {
+        Ok(bytes) => bytes,
+        Err(fault) => return Err(end_of_read(fault)),
+    };
+    accept(alloc, &bytes)
+}

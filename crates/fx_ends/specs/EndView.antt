@@ -1,0 +1,23 @@
+-- What contracts see of how a call ends.
+use Rattle.std.specs.Prelude.{map}
+use Rattle.fx_judging.specs.FaultView as conditions
+use Rattle.fx_rows.specs.Faults as rows
+use Rattle.fx_weight.specs.OutsideView.{outside_view}
+use Rattle.fx_expr.specs.Parts.{input_of}
+use Rattle.fx_ends.specs.Ends as ends
+use Rattle.fx_ends.specs.declared.end.End.{End}
+use Rattle.fx_ends.specs.declared.end.End.TheVariants.{Done, Usage, ReadFault, WriteFault, NoMemory, OverLimit, Rejected, Misread, BadBundle, NotFound, BadRow}
+
+-- the definition's end
+abbrev pub end_of : End → ends.End
+end_of Done = ends.Done
+end_of Usage = ends.Usage
+end_of ReadFault = ends.ReadFault
+end_of WriteFault = ends.WriteFault
+end_of NoMemory = ends.NoMemory
+end_of OverLimit = ends.OverLimit
+end_of (Rejected fault) = ends.Rejected (conditions.condition_fault_of fault)
+end_of (Misread fault) = ends.Misread fault
+end_of (BadBundle fault) = ends.BadBundle fault
+end_of (NotFound outside) = ends.NotFound (outside_view outside)
+end_of (BadRow inputs line fault) = ends.BadRow (map input_of inputs.now) line (rows.row_fault_of fault)

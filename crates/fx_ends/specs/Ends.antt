@@ -1,0 +1,76 @@
+-- How a call ends: its status, and the line on the notes that says why.
+use Rattle.std.specs.Prelude.{ℕ, List, [], ◌∷◌, ◌++◌, codes, Option, Some, None, option_map}
+use Rattle.std.specs.List.{concat}
+use Rattle.std.specs.Fmt.{decimal}
+use Rattle.fx_model.specs.Tree.{at}
+use Rattle.fx_model.specs.Function.{Input}
+use Rattle.fx_inequalities.specs.Condition.{Fault}
+use Rattle.fx_inequalities.specs.NodeConditions.{no_input}
+use Rattle.fx_lexer.specs.declared.fault.SourceFault.{SourceFault}
+use Rattle.fx_text.specs.declared.fault.TextFault.{TextFault}
+use Rattle.fx_rows.specs.Faults as rows
+use Rattle.fx_weight.specs.PlainClass.{Outside, Node, Demand}
+use Rattle.fx_rows.specs.declared.fault.RowKind.{RowKind}
+use Rattle.fx_rows.specs.declared.fault.RowKind.TheVariants.{LineTooLong, StrayReturn}
+use Rattle.fx_judging.specs.PartNames.{part_name}
+use Rattle.fx_ends.specs.KindTexts.{condition_text, source_text, bundle_kind_text, row_text}
+
+-- the inputs are those of the function whose rows were read
+pub data End : Type 0 where
+  Done Usage ReadFault WriteFault NoMemory OverLimit : End
+  Rejected : (fault : Fault) → End
+  Misread : (fault : SourceFault) → End
+  BadBundle : (fault : TextFault) → End
+  NotFound : (outside : Outside) → End
+  BadRow : (inputs : List Input) (line : ℕ) (fault : rows.RowFlaw) → End
+
+-- its status
+abbrev pub status_of : End → ℕ
+status_of Done = 0
+status_of (Rejected fault) = 1
+status_of Usage = 2
+status_of (Misread fault) = 3
+status_of (BadBundle fault) = 4
+status_of (BadRow inputs line fault) = 5
+status_of ReadFault = 6
+status_of WriteFault = 7
+status_of NoMemory = 8
+status_of (NotFound outside) = 9
+status_of OverLimit = 10
+
+-- the column's name behind a row's fault; one of the line as a whole has none
+abbrev pub column_text : List Input → ℕ → RowKind → List (List ℕ)
+column_text inputs k LineTooLong = []
+column_text inputs k StrayReturn = []
+column_text inputs k kind = codes " column " ∷ (at no_input inputs k).name ∷ []
+
+-- of a line of rows
+abbrev pub row_reason : List ℕ → ℕ → List (List ℕ) → List (List ℕ)
+row_reason kind line column = codes "row: " ∷ kind ∷ codes " at line " ∷ decimal line ∷ column
+
+-- what keeps a function outside; outputs count from 1
+abbrev pub outside_text : Outside → List (List ℕ)
+outside_text (Node node) = codes "node " ∷ decimal node ∷ []
+outside_text (Demand output) = codes "output " ∷ decimal output ∷ []
+
+-- what the line says behind `fixd: `, piece by piece
+abbrev pub reason : End → Option (List (List ℕ))
+reason Done = None
+reason (Rejected fault) = Some (codes "rejected: " ∷ condition_text fault.kind ∷ codes " at " ∷ part_name fault.part ∷ codes " " ∷ decimal fault.index ∷ [])
+reason Usage = Some (codes "usage: synth, check, run, show or demo" ∷ [])
+reason (Misread fault) = Some (codes "source: " ∷ source_text fault.kind ∷ codes " at byte " ∷ decimal fault.at ∷ [])
+reason (BadBundle fault) = Some (codes "bundle: " ∷ bundle_kind_text fault.kind ∷ codes " at line " ∷ decimal fault.line ∷ [])
+reason (BadRow inputs line fault) = Some (row_reason (row_text fault.kind) line (column_text inputs fault.input fault.kind))
+reason (NotFound outside) = Some (codes "not found: " ∷ outside_text outside)
+reason ReadFault = Some (codes "read fault" ∷ [])
+reason WriteFault = Some (codes "write fault" ∷ [])
+reason NoMemory = Some (codes "out of memory" ∷ [])
+reason OverLimit = Some (codes "over the limit" ∷ [])
+
+-- the whole line
+abbrev pub note_text : List (List ℕ) → List ℕ
+note_text why = concat (codes "fixd: " ∷ why ++ (codes "\n" ∷ []))
+
+-- where there is one
+abbrev pub end_line : End → Option (List ℕ)
+end_line end = option_map note_text (reason end)

@@ -1,0 +1,4 @@
+pub mod Notes
+pub mod KindTexts
+pub mod Ends
+pub mod EndView

@@ -1,0 +1,248 @@
+//! How a call ends: its status, and its line on the notes.
+//!
+//! All commands end in the same ways, so that a status means one thing. The trap: a bad row is told with its column's
+//! name, which is the function's, so such an end can't outlive the bundle.
+ghost use Rattle.std.specs.Prelude.{◌≡◌, ◌∷◌, [], Some, map, codes};
+ghost use Rattle.fx_model.specs.Tree.{at};
+ghost use Rattle.fx_inequalities.specs.NodeConditions.{no_input};
+ghost use Rattle.fx_expr.specs.Parts.{input_of};
+ghost use Rattle.fx_rows.specs.Faults as rows;
+ghost use Rattle.fx_judging.specs.FaultView as conditions;
+ghost use Rattle.std.specs.Fmt.{decimal};
+ghost use Rattle.fx_weight.specs.OutsideView.{outside_view};
+ghost use Rattle.fx_ends.specs.Ends as ends;
+ghost use Rattle.fx_ends.specs.Ends.{end_line, status_of};
+ghost use Rattle.fx_ends.specs.EndView.{end_of};
+ghost use Rattle.fx_ends.specs.Notes.{AreNotes};
+
+use crate::kind::{bundle_text, condition_text, row_text, source_text};
+use crate::notes::note_line;
+use fx_base::{Sink, Status};
+use fx_expr::Input;
+use fx_judging::ConditionFault;
+use fx_lexer::SourceFault;
+use fx_rows::{RowFault, RowKind};
+use fx_text::TextFault;
+use fx_weight::Outside;
+use itoa::Buffer;
+
+/// How a call ends.
+#[derive(Clone, Copy, Debug)]
+pub enum End<'a> {
+    /// All was done.
+    Done,
+    /// The words aren't a command's.
+    Usage,
+    /// A read of FILE or of the input failed, or there is no FILE.
+    ReadFault,
+    /// A write of the output failed.
+    WriteFault,
+    /// No memory was left.
+    NoMemory,
+    /// FILE or the input is over its limit.
+    OverLimit,
+    /// A condition of the bundle's certificate fails.
+    Rejected(ConditionFault),
+    /// The bundle's source has a fault.
+    Misread(SourceFault),
+    /// The bundle's text has one.
+    BadBundle(TextFault),
+    /// Nothing is found for the function, which this keeps outside the class that is served always.
+    NotFound(Outside),
+    /// A line of the input is bad, for the function with these inputs.
+    BadRow {
+        inputs: &'a [Input],
+        line: u64,
+        fault: RowFault,
+    },
+}
+
+// The name of an input. Empty where there is no such input.
+fn name_of(inputs: &[Input], input: u32) -> &str
+    ensures { result.now ≡ (at no_input (map input_of inputs.now) input).name }
+{
+    match inputs.get(input as usize) {
+        Some(input) => input.name.as_str(),
+        None => "",
+    }
+}
+
+fn note_rejected<N: Sink>(fault: ConditionFault, notes: &mut N)
+    ensures { AreNotes (N.taken notes.old) (N.taken notes.new) (N.faults notes.old) (N.faults notes.new) (end_line (ends.Rejected (conditions.condition_fault_of fault))) }
+{
+    let mut digits = Buffer::new();
+    note_line(
+        &[
+            "fixd: ",
+            "rejected: ",
+            condition_text(fault.kind),
+            " at ",
+            fault.part.name(),
+            " ",
+            digits.format(fault.index),
+            "\n",
+        ],
+        notes,
+    );
+}
+
+fn note_misread<N: Sink>(fault: SourceFault, notes: &mut N)
+    ensures { AreNotes (N.taken notes.old) (N.taken notes.new) (N.faults notes.old) (N.faults notes.new) (end_line (ends.Misread fault)) }
+{
+    let mut digits = Buffer::new();
+    note_line(
+        &[
+            "fixd: ",
+            "source: ",
+            source_text(fault.kind),
+            " at byte ",
+            digits.format(fault.at),
+            "\n",
+        ],
+        notes,
+    );
+}
+
+fn note_bundle<N: Sink>(fault: TextFault, notes: &mut N)
+    ensures { AreNotes (N.taken notes.old) (N.taken notes.new) (N.faults notes.old) (N.faults notes.new) (end_line (ends.BadBundle fault)) }
+{
+    let mut digits = Buffer::new();
+    note_line(
+        &[
+            "fixd: ",
+            "bundle: ",
+            bundle_text(fault.kind),
+            " at line ",
+            digits.format(fault.line),
+            "\n",
+        ],
+        notes,
+    );
+}
+
+// Of a fault of a line as a whole.
+fn note_whole_line<N: Sink>(kind: &str, line: u64, notes: &mut N)
+    ensures { AreNotes (N.taken notes.old) (N.taken notes.new) (N.faults notes.old) (N.faults notes.new) (Some (ends.note_text (ends.row_reason kind.now line []))) }
+{
+    let mut digits = Buffer::new();
+    note_line(
+        &[
+            "fixd: ",
+            "row: ",
+            kind,
+            " at line ",
+            digits.format(line),
+            "\n",
+        ],
+        notes,
+    );
+}
+
+// Of a fault at the column of this name.
+fn note_column<N: Sink>(kind: &str, line: u64, name: &str, notes: &mut N)
+    ensures { AreNotes (N.taken notes.old) (N.taken notes.new) (N.faults notes.old) (N.faults notes.new) (Some (ends.note_text (ends.row_reason kind.now line (codes " column " ∷ name.now ∷ [])))) }
+{
+    let mut digits = Buffer::new();
+    note_line(
+        &[
+            "fixd: ",
+            "row: ",
+            kind,
+            " at line ",
+            digits.format(line),
+            " column ",
+            name,
+            "\n",
+        ],
+        notes,
+    );
+}
+
+fn note_place<N: Sink>(part: &str, place: u32, notes: &mut N)
+    ensures { AreNotes (N.taken notes.old) (N.taken notes.new) (N.faults notes.old) (N.faults notes.new) (Some (ends.note_text (codes "not found: " ∷ part.now ∷ decimal place ∷ []))) }
+{
+    let mut digits = Buffer::new();
+    note_line(
+        &["fixd: ", "not found: ", part, digits.format(place), "\n"],
+        notes,
+    );
+}
+
+fn note_outside<N: Sink>(outside: Outside, notes: &mut N)
+    ensures { AreNotes (N.taken notes.old) (N.taken notes.new) (N.faults notes.old) (N.faults notes.new) (end_line (ends.NotFound (outside_view outside))) }
+{
+    match outside {
+        Outside::Node { node } => note_place("node ", node, notes),
+        Outside::Demand { output } => note_place("output ", output, notes),
+    }
+}
+
+fn note_row<N: Sink>(inputs: &[Input], line: u64, fault: RowFault, notes: &mut N)
+    ensures { AreNotes (N.taken notes.old) (N.taken notes.new) (N.faults notes.old) (N.faults notes.new) (end_line (ends.BadRow (map input_of inputs.now) line (rows.row_fault_of fault))) }
+{
+    let kind = row_text(fault.kind);
+    match fault.kind {
+        RowKind::LineTooLong => note_whole_line(kind, line, notes),
+        RowKind::StrayReturn => note_whole_line(kind, line, notes),
+        _ => note_column(kind, line, name_of(inputs, fault.input), notes),
+    }
+}
+
+fn note_reason<N: Sink>(reason: &str, notes: &mut N)
+    ensures { AreNotes (N.taken notes.old) (N.taken notes.new) (N.faults notes.old) (N.faults notes.new) (Some (ends.note_text (reason.now ∷ []))) }
+{
+    note_line(&["fixd: ", reason, "\n"], notes);
+}
+
+impl<'a> End<'a> {
+    /// Its status.
+    pub fn status(&self) -> Status
+        ensures { result ≡ status_of (end_of self.now) }
+    {
+        match self {
+            End::Done => Status::DONE,
+            End::Usage => Status::USAGE,
+            End::ReadFault => Status::READ_FAULT,
+            End::WriteFault => Status::WRITE_FAULT,
+            End::NoMemory => Status::MEMORY,
+            End::OverLimit => Status::OVER_LIMIT,
+            End::Rejected(_) => Status::REJECTED,
+            End::Misread(_) => Status::SOURCE,
+            End::BadBundle(_) => Status::BUNDLE,
+            End::NotFound(_) => Status::NOT_FOUND,
+            End::BadRow { .. } => Status::ROW,
+        }
+    }
+
+    /// Writes its line on the notes, or a front of it where they fail.
+    pub fn note<N: Sink>(&self, notes: &mut N)
+        ensures { AreNotes (N.taken notes.old) (N.taken notes.new) (N.faults notes.old) (N.faults notes.new) (end_line (end_of self.now)) }
+    {
+        match self {
+            End::Done => {}
+            End::Usage => note_reason("usage: synth, check, run, show or demo", notes),
+            End::ReadFault => note_reason("read fault", notes),
+            End::WriteFault => note_reason("write fault", notes),
+            End::NoMemory => note_reason("out of memory", notes),
+            End::OverLimit => note_reason("over the limit", notes),
+            End::Rejected(fault) => note_rejected(*fault, notes),
+            End::Misread(fault) => note_misread(*fault, notes),
+            End::BadBundle(fault) => note_bundle(*fault, notes),
+            End::NotFound(outside) => note_outside(*outside, notes),
+            End::BadRow {
+                inputs,
+                line,
+                fault,
+            } => note_row(inputs, *line, *fault, notes),
+        }
+    }
+
+    /// Its status, with its line on the notes.
+    pub fn finish<N: Sink>(self, notes: &mut N) -> Status
+        ensures status { result ≡ status_of (end_of self.entry) }
+        ensures line { AreNotes (N.taken notes.old) (N.taken notes.new) (N.faults notes.old) (N.faults notes.new) (end_line (end_of self.entry)) }
+    {
+        self.note(notes);
+        self.status()
+    }
+}

@@ -1,0 +1,32 @@
+//! A line on the notes.
+//!
+//! It goes out in pieces that end at the first failure, and no memory is taken for it.
+//! The trap: a line is written when the status is decided already, and one that fails changes nothing.
+ghost use Rattle.std.specs.Prelude.{map, OnOk, OnErr};
+ghost use Rattle.std.specs.List.{concat};
+ghost use Rattle.std.specs.Io.KnownBytes.{Appends};
+ghost use Rattle.fx_base.specs.Causes.{HasCause};
+ghost use Rattle.fx_base.specs.Calls.{AppendsFront};
+ghost use Rattle.fx_ends.specs.Notes.{IsNoted};
+
+use fx_base::{Failed, Sink, put_all};
+
+/// Writes these pieces one behind the other.
+pub fn put_pieces<N: Sink>(pieces: &[&str], notes: &mut N) -> Result<(), Failed>
+    ensures all { OnOk result (Appends (N.taken notes.old) (N.taken notes.new) (concat (map (λ p. p.now) pieces.now))) }
+    ensures front { OnErr result (AppendsFront (N.taken notes.old) (N.taken notes.new) (concat (map (λ p. p.now) pieces.now))) }
+    ensures cause { HasCause (N.faults notes.old) (N.faults notes.new) result }
+{
+    for piece in pieces {
+        put_all(notes, piece.as_bytes())?;
+    }
+    Ok(())
+}
+
+/// Writes the line of these pieces, or a front of it where the notes fail.
+#[tactic(auto, using(crate::proofs::Noted::noted))]
+pub fn note_line<N: Sink>(pieces: &[&str], notes: &mut N)
+    ensures { IsNoted (N.taken notes.old) (N.taken notes.new) (N.faults notes.old) (N.faults notes.new) (concat (map (λ p. p.now) pieces.now)) }
+{
+    let _ = put_pieces(pieces, notes);
+}

@@ -1,0 +1,3 @@
+pub mod Listed
+mod Feeds
+mod Lengths

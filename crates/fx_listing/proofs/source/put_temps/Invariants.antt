@@ -1,0 +1,8 @@
+use Rattle.std.proofs.Common.{◌≡◌, ◌-◌, ◌+◌, ◌++◌}
+use Rattle.fx_listing.specs.Listing.{numbered_lines}
+use Rattle.fx_listing.specs.Source.{temp_line}
+use Rattle.fx_listing.proofs.source.put_temps.Given as goal
+
+-- what was appended, and the lines that are left, are all of them
+abbrev pub invariant-loop-i : goal.invariant-loop-i
+invariant-loop-i l = l.out.items ++ numbered_lines temp_line l.i (l.n + 1 - l.i) ≡ l.fn.out.items ++ numbered_lines temp_line 1 l.n

@@ -1,0 +1,4 @@
+pub mod Listing
+pub mod Source
+pub mod Rows
+pub mod LastLine
