@@ -133,8 +133,11 @@ if_file None name bytes P is p = tt
 if_file (Some files) name bytes P is p = subst (λ (paper : Option (List ℕ)). IsSomeAnd paper P) (sym is) p
 
 -- what was read is a bundle
-pub is_opened : (papers : Option Files) (name bytes slice : List ℕ) (a : Accepted) → IfPaper papers name (λ paper. paper ≡ Some bytes) → length bytes ≤ bundle_limit → slice ≡ bytes → IsReadAs slice a → IsOpened papers name a
-is_opened papers name bytes slice a is short same read = let r = subst (λ (t : List ℕ). IsReadAs t a) same read in record { source = r.source; is_bundle = if_file papers name bytes _ is (short, r.spelled); accepted = r.accepted }
+pub is_opened : (papers : Option Files) (name bytes slice source : List ℕ) (a : Accepted) → IfPaper papers name (λ paper. paper ≡ Some bytes) → length bytes ≤ bundle_limit → slice ≡ bytes → IsReadAs slice source a
+    → IsOpened papers name source a
+is_opened papers name bytes slice source a is short same read =
+    let r = subst (λ (t : List ℕ). IsReadAs t source a) same read in
+    record { lawful = r.spelled.lawful; is_bundle = if_file papers name bytes _ is (short, r.spelled); accepted = r.accepted }
 
 -- what was read is none
 ending : (papers : Option Files) (before after : ℕ) (name bytes : List ℕ) (end : End) → IfPaper papers name (λ paper. paper ≡ Some bytes) → length bytes ≤ bundle_limit → ReadingEnds bytes end → OpeningEnds papers before after name end

@@ -1,3 +1,4 @@
 pub mod Accepting
 mod Shown
 mod Consumed
+mod Migrated

@@ -12,7 +12,7 @@ use Rattle.fx_text.specs.declared.fault.TextFault.{TextFault}
 use Rattle.fx_checker.specs.CertifiedView.{Accepted}
 use Rattle.fx_checker.specs.Refusal.{IsToldOf}
 use Rattle.fx_checker.specs.declared.fault.CheckFault.{CheckFault}
-use Rattle.fx_cert.specs.BundleView.{Parts}
+use Rattle.fx_cert.specs.BundleView.{Parts, IsLawfulBundle}
 use Rattle.fx_reader.specs.BundleReading.{bundle_in}
 use Rattle.fx_ends.specs.Ends.{End, Usage, NotFound, Rejected, Misread, BadBundle, ReadFault, OverLimit, NoMemory}
 use Rattle.fx_bundle_commands.specs.Opening.{Spells, meaning_of, IsAcceptedAs, IsBundle}
@@ -21,15 +21,14 @@ use Rattle.fx_bundle_commands.specs.Opening.{Spells, meaning_of, IsAcceptedAs, I
 abbrev pub with_source : Accepted → List ℕ → Parts
 with_source a source = record { source = source; program = a.program; certificate = a.certificate }
 
--- the bytes spell an accepted bundle of these parts
-pub record IsReadAs (bytes : List ℕ) (a : Accepted) : Type 0 where
-  pub source : List ℕ
+-- the bytes spell an accepted bundle of this source and these parts
+pub record IsReadAs (bytes source : List ℕ) (a : Accepted) : Type 0 where
   pub spelled : Spells bytes (with_source a source)
   pub accepted : IsAcceptedAs (with_source a source) a.function
 
--- FILE is a bundle of these parts, and it is accepted
-pub record IsOpened (papers : Option Files) (name : List ℕ) (a : Accepted) : Type 0 where
-  pub source : List ℕ
+-- FILE is a lawful bundle of this source and these parts, and it is accepted
+pub record IsOpened (papers : Option Files) (name source : List ℕ) (a : Accepted) : Type 0 where
+  pub lawful : IsLawfulBundle (with_source a source)
   pub is_bundle : IsBundle papers name (with_source a source)
   pub accepted : IsAcceptedAs (with_source a source) a.function
 

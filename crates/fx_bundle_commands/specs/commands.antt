@@ -1,3 +1,4 @@
 pub mod Run
 pub mod Check
 pub mod Show
+pub mod Migrate

@@ -19,6 +19,7 @@ use fx_base::{InFault, Shelf, read_file};
 use fx_cert::Bundle;
 use fx_checker::{Certified, CheckFault, CheckKind, check};
 use fx_ends::End;
+use fx_expr::Items;
 use fx_judging::{ConditionFault, ConditionKind};
 use fx_lexer::{SourceFault, SourceKind};
 use fx_parser::parse;
@@ -97,9 +98,18 @@ fn end_of_check(fault: CheckFault) -> End<'static>
     }
 }
 
+/// An accepted bundle.
+#[derive(Drop)]
+pub struct Opened {
+    /// The bytes of its source.
+    pub source: Items<u8>,
+    /// The function that they mean, with the program and the certificate.
+    pub certified: Certified,
+}
+
 // The accepted bundle that these bytes spell.
-fn accept(alloc: Global, bytes: &[u8]) -> Result<Certified, End<'static>>
-    ensures accepted { IfOk result (IsReadAs bytes.now) }
+fn accept(alloc: Global, bytes: &[u8]) -> Result<Opened, End<'static>>
+    ensures accepted { IfOk result (λ o. IsReadAs bytes.now o.source o.certified) }
     ensures failed { IfErr result (λ end. ReadingEnds bytes.now (end_of end)) }
 {
     bundle_text_law();
@@ -116,14 +126,14 @@ fn accept(alloc: Global, bytes: &[u8]) -> Result<Certified, End<'static>>
         Err(fault) => return Err(end_of_source(fault)),
     };
     match check(alloc, &function, program, certificate) {
-        Ok(certified) => Ok(certified),
+        Ok(certified) => Ok(Opened { source, certified }),
         Err(fault) => Err(end_of_check(fault)),
     }
 }
 
 /// The accepted bundle in the file of this name.
-pub fn open<H: Shelf>(alloc: Global, shelf: &mut H, name: &str) -> Result<Certified, End<'static>>
-    ensures opened { IfOk result (IsOpened (H.papers shelf.old) name.now) }
+pub fn open<H: Shelf>(alloc: Global, shelf: &mut H, name: &str) -> Result<Opened, End<'static>>
+    ensures opened { IfOk result (λ o. IsOpened (H.papers shelf.old) name.now o.source o.certified) }
     ensures failed { IfErr result (λ end. OpeningEnds (H.papers shelf.old) (H.faults shelf.old) (H.faults shelf.new) name.now (end_of end)) }
 {
     let bytes = match read_file(alloc, shelf, name, BUNDLE_LIMIT) {

@@ -27,7 +27,7 @@ pub fn check_file<H: Shelf, K: Sink>(
 {
     match open(alloc, shelf, name) {
         Err(end) => end,
-        Ok(certified) => match put_report(&certified, output) {
+        Ok(opened) => match put_report(&opened.certified, output) {
             Ok(()) => End::Done,
             Err(_) => End::WriteFault,
         },

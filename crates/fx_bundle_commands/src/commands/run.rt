@@ -78,8 +78,8 @@ pub fn run_file<H: Shelf, S: Source, K: Sink, N: Sink>(
 {
     match open(alloc, shelf, name) {
         Err(end) => end.finish(notes),
-        Ok(certified) => {
-            let end = run_input(alloc, &certified, input, output);
+        Ok(opened) => {
+            let end = run_input(alloc, &opened.certified, input, output);
             end.finish(notes)
         }
     }

@@ -63,6 +63,6 @@ pub fn show_file<H: Shelf, K: Sink>(
 {
     match open(alloc, shelf, name) {
         Err(end) => end,
-        Ok(certified) => print_table(alloc, &certified, output),
+        Ok(opened) => print_table(alloc, &opened.certified, output),
     }
 }

@@ -21,8 +21,7 @@ returns-in-Ok-check-clause-accepted c =
     let b = bundle_of c.in-Ok.bundle in
     let name = c.as_str.ensures.text ∙ ap (λ p. p.name) c.program.view_is in
     let is = meant b _ _ c.as_slice.ensures name in
-    subst (IsReadAs c.args.bytes.now) (sym c.in-Ok-check.ensures.kept) (record {
-      source = b.source;
+    subst (IsReadAs c.args.bytes.now b.source) (sym c.in-Ok-check.ensures.kept) (record {
       spelled = record { lawful = c.in-Ok.ensures.lawful; text_is = (c.bundle_text_law.ensures.takes c.args.bytes.now b c.in-Ok.ensures.value).0 };
       accepted = record { meant = sym is ∙ c.in-Ok-parse.ensures; accepted = c.in-Ok-check.ensures.accepted };
     })

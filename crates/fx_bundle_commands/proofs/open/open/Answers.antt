@@ -11,7 +11,7 @@ returns-in-Err-clause-failed g c =
 pub returns-clause-opened : goal.returns-clause-opened
 returns-clause-opened g c =
     let short : length c.in-Ok.bytes.items ≤ bundle_limit = omega (arith, c.in-Ok.bytes.ok.0, c.in-Ok.ensures.within) in
-    if_ok c.accept.result (λ a. is_opened _ _ c.in-Ok.bytes.items _ a c.in-Ok.ensures.all short c.deref.ensures.value) c.accept.ensures.accepted
+    if_ok c.accept.result (λ o. is_opened _ _ c.in-Ok.bytes.items _ o.source o.certified c.in-Ok.ensures.all short c.deref.ensures.value) c.accept.ensures.accepted
 
 pub returns-clause-failed : goal.returns-clause-failed
 returns-clause-failed g c =

@@ -11,13 +11,13 @@ returns-in-Err-clause-ended g c = λ left reads. unopened _ c.in-Err.ensures.fai
 
 pub returns-in-Ok-put_report-clause-ended : goal.returns-in-Ok-put_report-clause-ended
 returns-in-Ok-put_report-clause-ended g c =
-    let o = c.in-Ok.ensures.opened in let a = c.in-Ok.certified in
-    λ left reads. opened _ (with_source a o.source) a.function o.is_bundle o.accepted (reported c.in-Ok-put_report.ensures.all)
+    let o = c.in-Ok.ensures.opened in let x = c.in-Ok.opened in
+    λ left reads. opened _ (with_source x.certified x.source) x.certified.function o.is_bundle o.accepted (reported c.in-Ok-put_report.ensures.all)
 
 pub returns-clause-ended : goal.returns-clause-ended
 returns-clause-ended g c =
-    let o = c.in-Ok.ensures.opened in let a = c.in-Ok.certified in
-    λ left reads. opened _ (with_source a o.source) a.function o.is_bundle o.accepted (unwritten c.in-Err-put_report.ensures.cause.failed c.in-Err-put_report.ensures.front)
+    let o = c.in-Ok.ensures.opened in let x = c.in-Ok.opened in
+    λ left reads. opened _ (with_source x.certified x.source) x.certified.function o.is_bundle o.accepted (unwritten c.in-Err-put_report.ensures.cause.failed c.in-Err-put_report.ensures.front)
 
 pub returns-in-Err-clause-appended : goal.returns-in-Err-clause-appended
 returns-in-Err-clause-appended g c = none_grown _

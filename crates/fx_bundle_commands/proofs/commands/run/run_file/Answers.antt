@@ -11,5 +11,5 @@ returns-in-Err g c = record { ended = (end_of c.in-Err.end, c.finish.ensures.sta
 
 pub returns-in-Ok : goal.returns-in-Ok
 returns-in-Ok g c =
-    let o = c.in-Ok.ensures.opened in let a = c.in-Ok.certified in let r = c.run_input-end.ensures in
-    record { ended = (end_of c.run_input-end.result, c.finish-in-Ok.ensures.status, c.finish-in-Ok.ensures.line, opened _ (with_source a o.source) a.function o.is_bundle o.accepted (r.ended o.source), λ quiet. absurd (r.loud quiet)); consumed = r.consumed; appended = r.appended }
+    let o = c.in-Ok.ensures.opened in let x = c.in-Ok.opened in let r = c.run_input-end.ensures in
+    record { ended = (end_of c.run_input-end.result, c.finish-in-Ok.ensures.status, c.finish-in-Ok.ensures.line, opened _ (with_source x.certified x.source) x.certified.function o.is_bundle o.accepted (r.ended x.source), λ quiet. absurd (r.loud quiet)); consumed = r.consumed; appended = r.appended }

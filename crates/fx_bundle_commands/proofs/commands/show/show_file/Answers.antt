@@ -8,5 +8,5 @@ returns-in-Err-clause-ended g c = λ left reads. unopened _ c.in-Err.ensures.fai
 
 pub returns-in-Ok-clause-ended : goal.returns-in-Ok-clause-ended
 returns-in-Ok-clause-ended g c =
-    let o = c.in-Ok.ensures.opened in let a = c.in-Ok.certified in
-    λ left reads. opened _ (with_source a o.source) a.function o.is_bundle o.accepted (c.print_table.ensures.ended o.source left reads)
+    let o = c.in-Ok.ensures.opened in let x = c.in-Ok.opened in
+    λ left reads. opened _ (with_source x.certified x.source) x.certified.function o.is_bundle o.accepted (c.print_table.ensures.ended x.source left reads)

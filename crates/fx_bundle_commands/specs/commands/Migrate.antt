@@ -1,0 +1,45 @@
+-- What `migrate FILE` does: it writes an accepted bundle as one of the second version.
+use Rattle.std.specs.Prelude.{◌≡◌, ℕ, List, Option}
+use Rattle.std.specs.Io.KnownBytes.{Appends}
+use Rattle.fx_base.specs.Calls.{AppendsFront}
+use Rattle.fx_base.specs.Causes.{Rose}
+use Rattle.fx_base.specs.Shelf.{Files}
+use Rattle.fx_rational.specs.Rational.{Rational}
+use Rattle.fx_model.specs.Function.{Function}
+use Rattle.fx_model.specs.Machine.{machine_run}
+use Rattle.fx_model.specs.Versions.{second_version}
+use Rattle.fx_inequalities.specs.Accepted.{certified_bound}
+use Rattle.fx_cert.specs.BundleView.{Parts, IsLawfulBundle, text_of}
+use Rattle.fx_ends.specs.Ends.{End, Done, WriteFault, NoMemory}
+use Rattle.fx_bundle_commands.specs.Outside.{Streams}
+use Rattle.fx_bundle_commands.specs.Opening.{IsAcceptedAs, OpensThen}
+use Rattle.fx_bundle_commands.specs.Exact.{IsReady, OrNoMemory}
+
+-- the bundle with the second version of its program, and all else as it is
+abbrev pub migrated : Parts → Parts
+migrated b = record b { program = second_version b.program }
+
+-- it is a bundle that is accepted for the same function, runs as before, and has the bounds that it had; of the second version
+-- it is the bundle itself
+pub record IsMigrated (b : Parts) (fn : Function) : Type 0 where
+  pub lawful : IsLawfulBundle (migrated b)
+  pub accepted : IsAcceptedAs (migrated b) fn
+  pub run : (rows : List (List Rational)) → machine_run (migrated b).program rows ≡ machine_run b.program rows
+  pub bound : (j : ℕ) → certified_bound (migrated b).program (migrated b).certificate j ≡ certified_bound b.program b.certificate j
+  pub itself : b.program.version ≡ 2 → migrated b ≡ b
+
+-- how the writing ends
+pub data MigrateEnds (old new : Streams) (b : Parts) (fn : Function) : End → Type 0 where
+  written : IsMigrated b fn → Appends old.taken new.taken (text_of (migrated b)) → MigrateEnds old new b fn Done
+  unwritten : Rose old.write_faults new.write_faults → AppendsFront old.taken new.taken (text_of (migrated b)) → MigrateEnds old new b fn WriteFault
+  no_memory : new.taken ≡ old.taken → MigrateEnds old new b fn NoMemory
+
+-- all of it
+abbrev pub MigratedEnds : Option Files → ℕ → ℕ → Streams → Streams → List ℕ → End → Type 0
+MigratedEnds papers before after old new name = OpensThen papers before after name old new (MigrateEnds old new)
+
+-- ---- completeness
+-- the text of an accepted bundle is written where no write fails
+abbrev pub MigrateCompletes : Option Files → ℕ → ℕ → Streams → Streams → List ℕ → (End → Type 0) → Type 0
+MigrateCompletes papers before after old new name IsEnd =
+    (b : Parts) (fn : Function) → IsReady papers before after name b fn → ¬ Rose old.write_faults new.write_faults → OrNoMemory IsEnd Done
