@@ -1,2 +1,1 @@
-mod Better
-mod Outcomes
+mod Found

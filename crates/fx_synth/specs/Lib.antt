@@ -1,3 +1,1 @@
-pub mod Bounds
 pub mod Synthesis
-pub mod Turns

@@ -1,31 +1,15 @@
 -- What a synthesis answers.
-use Rattle.std.specs.Prelude.{◌≡◌, ◌≢◌, ◌<◌, ℕ, List, [], length, Contains, Some, None}
-use Rattle.fx_rational.specs.Rational.{AtMost}
+use Rattle.std.specs.Prelude.{◌≡◌, ◌≢◌, ℕ, List, [], Contains, Some, None}
 use Rattle.fx_model.specs.Function.{Function}
-use Rattle.fx_inequalities.specs.Accepted.{certified_bound}
 use Rattle.fx_inequalities.specs.Rewriting.{Rewriting}
 use Rattle.fx_analysis.specs.Attempts.{IsAcceptedAfter, tried_steps}
 use Rattle.fx_analysis.specs.PlainAttempt.{Attempt}
 use Rattle.fx_checker.specs.CertifiedView.{Accepted}
 use Rattle.fx_weight.specs.PlainClass.{Outside, outside_of}
 use Rattle.fx_weight.specs.OutsideView.{outside_view}
-use Rattle.fx_synth.specs.Bounds.{AreWithinWeights}
+use Rattle.fx_attempts.specs.Bounds.{attempted, AreNoGreater, AreSmaller, AreWithinWeights}
 use Rattle.fx_synth.specs.declared.fault.SynthFault.{SynthFault}
 use Rattle.fx_synth.specs.declared.fault.SynthFault.TheVariants.{NotFound, Memory}
-
--- ---- bounds
--- each bound of a is smaller than that of b
-abbrev pub AreSmaller : Function → Attempt → Attempt → Type 0
-AreSmaller fn a b = (j : ℕ) → j < length fn.demands → ¬ AtMost (certified_bound b.program b.certificate j) (certified_bound a.program a.certificate j)
-
--- each is at most that of b
-abbrev pub AreNoGreater : Function → Attempt → Attempt → Type 0
-AreNoGreater fn a b = (j : ℕ) → j < length fn.demands → AtMost (certified_bound a.program a.certificate j) (certified_bound b.program b.certificate j)
-
--- ---- the answer
--- program and certificate of what is accepted
-abbrev pub attempted : Accepted → Attempt
-attempted a = record { program = a.program; certificate = a.certificate }
 
 -- what is found is for this function, of its name and at width n: in the class of the plain plan with bounds of the weights,
 -- outside it no worse than an accepted plain attempt; and no accepted attempt of so many tries has smaller bounds at all outputs

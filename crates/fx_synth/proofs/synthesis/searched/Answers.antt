@@ -1,4 +1,4 @@
-use Rattle.fx_synth.proofs.Better.{stands_still}
+use Rattle.fx_attempts.proofs.Better.{stands_still}
 use Rattle.fx_synth.proofs.synthesis.searched.Goals as goal
 
 pub returns : goal.returns

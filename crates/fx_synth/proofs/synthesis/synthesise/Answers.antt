@@ -2,8 +2,8 @@ use Rattle.std.proofs.Common.{◌∙◌, sym, ap, subst, take}
 use Rattle.std.specs.Option.{option_map}
 use Rattle.fx_rules.specs.SingleSteps.{single_steps}
 use Rattle.fx_weight.specs.OutsideView.{outside_view}
-use Rattle.fx_synth.specs.Turns.{IsBestAfter}
-use Rattle.fx_synth.proofs.Better.{found, not_found}
+use Rattle.fx_attempts.specs.Turns.{IsBestAfter}
+use Rattle.fx_synth.proofs.Found.{found, not_found}
 use Rattle.fx_synth.proofs.synthesis.synthesise.Goals as goal
 
 pub returns-in-Some-clause-found : goal.returns-in-Some-clause-found

@@ -7,8 +7,7 @@ use Rattle.fx_checker.specs.CertifiedView.{Accepted}
 use Rattle.fx_checker.specs.Answers.{IsAnswerFor, IsJudged}
 use Rattle.fx_weight.specs.PlainClass.{outside_of}
 use Rattle.fx_analysis.specs.Attempts.{IsAcceptedAfter}
-use Rattle.fx_synth.specs.Bounds.{AreWithinWeights}
-use Rattle.fx_synth.specs.Synthesis.{attempted, AreSmaller, AreNoGreater}
+use Rattle.fx_attempts.specs.Bounds.{attempted, AreNoGreater, AreSmaller, AreWithinWeights}
 
 -- what the checker made of an attempt for fn, where there is one
 abbrev pub AreJudged : Function → Option Attempt → Option Accepted → Type 0

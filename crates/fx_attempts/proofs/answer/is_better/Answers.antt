@@ -1,8 +1,8 @@
 use Rattle.std.proofs.Common.{◌≤◌, length, subst}
 use Rattle.fx_model.specs.Function.{Function}
-use Rattle.fx_synth.specs.Synthesis.{attempted, AreNoGreater}
-use Rattle.fx_synth.proofs.Better.{no_greater, not_smaller}
-use Rattle.fx_synth.proofs.answer.is_better.Goals as goal
+use Rattle.fx_attempts.specs.Bounds.{attempted, AreNoGreater}
+use Rattle.fx_attempts.proofs.Better.{no_greater, not_smaller}
+use Rattle.fx_attempts.proofs.answer.is_better.Goals as goal
 
 pub returns-then-are_no_greater-clause-left : goal.returns-then-are_no_greater-clause-left
 returns-then-are_no_greater-clause-left c =

@@ -4,8 +4,8 @@ use Rattle.fx_rational.specs.Rational.{AtMost}
 use Rattle.fx_rational.specs.Dyadic.{is_dyadic_at_most}
 use Rattle.fx_rational.proofs.Tests.{at_most_true, at_most_test}
 use Rattle.fx_inequalities.specs.Accepted.{bound_dyadic, certified_bound}
-use Rattle.fx_synth.proofs.Better.{next_below}
-use Rattle.fx_synth.proofs.answer.are_no_greater.Goals as goal
+use Rattle.fx_attempts.proofs.Better.{next_below}
+use Rattle.fx_attempts.proofs.answer.are_no_greater.Goals as goal
 
 pub returns-then-not-dle : goal.returns-then-not-dle
 returns-then-not-dle c =

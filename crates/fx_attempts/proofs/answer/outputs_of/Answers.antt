@@ -1,7 +1,7 @@
 use Rattle.std.proofs.Common.{◌∙◌, ap}
 use Rattle.fx_model.specs.Machine.{Program}
-use Rattle.fx_synth.proofs.Outcomes.{outputs_are}
-use Rattle.fx_synth.proofs.answer.outputs_of.Goals as goal
+use Rattle.fx_attempts.proofs.Outcomes.{outputs_are}
+use Rattle.fx_attempts.proofs.answer.outputs_of.Goals as goal
 
 pub returns-clause-count : goal.returns-clause-count
 returns-clause-count c =

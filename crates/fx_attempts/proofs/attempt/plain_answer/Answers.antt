@@ -1,8 +1,8 @@
 use Rattle.std.proofs.Common.{◌∙◌, [], refl, sym}
 use Rattle.std.specs.Option.{option_map}
 use Rattle.fx_analysis.specs.AttemptView.{attempt_in}
-use Rattle.fx_synth.proofs.Outcomes.{judged_outcome, after_own}
-use Rattle.fx_synth.proofs.attempt.plain_answer.Goals as goal
+use Rattle.fx_attempts.proofs.Outcomes.{judged_outcome, after_own}
+use Rattle.fx_attempts.proofs.attempt.plain_answer.Goals as goal
 
 pub returns : goal.returns
 returns c =

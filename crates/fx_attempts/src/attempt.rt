@@ -9,7 +9,7 @@ ghost use Rattle.fx_rules.specs.SingleSteps.{is_there};
 ghost use Rattle.fx_step.specs.StepView.{step_view};
 ghost use Rattle.fx_cert.specs.CertificateView.{certificate_of};
 ghost use Rattle.fx_analysis.specs.AttemptView.{attempt_in};
-ghost use Rattle.fx_synth.specs.Turns.{AreJudged, IsOutcome};
+ghost use Rattle.fx_attempts.specs.Turns.{AreJudged, IsOutcome};
 
 use fx_analysis::{attempt_after, no_steps_law, plain_attempt};
 use fx_cert::Certificate;

@@ -8,13 +8,13 @@ use Rattle.fx_rational.proofs.Laws.{le_refl, le_trans, le_total}
 use Rattle.fx_model.specs.Function.{Function}
 use Rattle.fx_inequalities.specs.Rewriting.{Rewriting}
 use Rattle.fx_rules.specs.SingleSteps.{single_steps, is_there, steps_in, trees_of}
-use Rattle.fx_weight.specs.PlainClass.{Outside, outside_of}
+use Rattle.fx_weight.specs.PlainClass.{outside_of}
 use Rattle.fx_analysis.specs.PlainAttempt.{Attempt}
 use Rattle.fx_checker.specs.CertifiedView.{Accepted}
 use Rattle.fx_analysis.specs.Attempts.{IsAcceptedAfter, tried_steps}
-use Rattle.fx_synth.specs.Synthesis.{attempted, AreSmaller, AreNoGreater, IsSynthesised, IsUnfound}
+use Rattle.fx_attempts.specs.Bounds.{attempted, AreSmaller, AreNoGreater}
 use Rattle.fx_checker.specs.Answers.{IsAnswerFor, IsOffered}
-use Rattle.fx_synth.specs.Turns.{IsOutcome, IsTaken, Resists, Suits, SuitsIfAny, IsBestAfter}
+use Rattle.fx_attempts.specs.Turns.{IsOutcome, IsTaken, Resists, Suits, SuitsIfAny, IsBestAfter}
 
 -- ---- bounds
 pub no_greater : (fn : Function) (a b : Attempt) → AreSmaller fn a b → AreNoGreater fn a b
@@ -169,20 +169,7 @@ next_below P j h p k l = ⊎_elim (λ (e : k ≡ j). subst P (sym e) p) (λ (m :
     either k j l = grind arith
 
 -- ---- of all attempts that are made
-each_tried : (n : ℕ) (fn : Function) (tries : ℕ) (o : Option Accepted) → IsBestAfter n fn (take tries (single_steps fn)) o → (steps : List Rewriting) → Contains (tried_steps tries fn) steps → Resists n fn o steps
+pub each_tried : (n : ℕ) (fn : Function) (tries : ℕ) (o : Option Accepted) → IsBestAfter n fn (take tries (single_steps fn)) o → (steps : List Rewriting) → Contains (tried_steps tries fn) steps → Resists n fn o steps
 each_tried n fn tries o h steps c =
     let all = All-map (Resists n fn o) (λ (s : Rewriting). s ∷ []) (take tries (single_steps fn)) h.each in
     All-contains (Resists n fn o) (tried_steps tries fn) steps (All-cons (Resists n fn o) [] (map (λ (s : Rewriting). s ∷ []) (take tries (single_steps fn))) h.plain all) c
-
-pub found : (n tries : ℕ) (fn : Function) (a : Accepted) → IsBestAfter n fn (take tries (single_steps fn)) (Some a) → IsSynthesised n tries fn a
-found n tries fn a h = record {
-  function_is = h.suits.answer.function_is;
-  named = h.suits.answer.named;
-  width_is = h.suits.answer.width_is;
-  bounded = h.suits.bounded;
-  no_worse = h.suits.no_worse;
-  unbeaten = λ steps c t acc. each_tried n fn tries (Some a) h steps c t acc;
-}
-
-pub not_found : (n tries : ℕ) (fn : Function) (reason : Outside) → IsBestAfter n fn (take tries (single_steps fn)) None → outside_of n fn ≡ Some reason → IsUnfound n tries fn reason
-not_found n tries fn reason h outside = record { outside = outside; none_accepted = λ steps c t acc. each_tried n fn tries None h steps c t acc }

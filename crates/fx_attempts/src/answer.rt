@@ -1,7 +1,7 @@
 //! One certified program against another, by their bounds.
 ghost use Rattle.std.specs.Prelude.{◌≡◌, ◌↔◌, false, length, IsTrue};
-ghost use Rattle.fx_synth.specs.Synthesis.{attempted, AreNoGreater, AreSmaller};
-ghost use Rattle.fx_synth.specs.Turns.{AreForOne, IsTaken};
+ghost use Rattle.fx_attempts.specs.Bounds.{attempted, AreNoGreater, AreSmaller};
+ghost use Rattle.fx_attempts.specs.Turns.{AreForOne, IsTaken};
 
 use fx_checker::Certified;
 use fx_num::{Dyadic, Memory, dle};

@@ -1,7 +1,7 @@
 use Rattle.std.proofs.Common.{ℕ, ◌<◌}
 use Rattle.fx_rational.specs.Rational.{AtMost}
 use Rattle.fx_inequalities.specs.Accepted.{certified_bound}
-use Rattle.fx_synth.proofs.answer.are_no_greater.Given as goal
+use Rattle.fx_attempts.proofs.answer.are_no_greater.Given as goal
 
 -- the bounds so far are no greater
 abbrev pub invariant-loop-j : goal.invariant-loop-j

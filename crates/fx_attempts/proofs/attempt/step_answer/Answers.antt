@@ -2,8 +2,8 @@ use Rattle.std.proofs.Common.{[], ◌∷◌, sym}
 use Rattle.std.specs.Option.{option_map}
 use Rattle.fx_step.specs.StepView.{step_view}
 use Rattle.fx_analysis.specs.AttemptView.{attempt_in}
-use Rattle.fx_synth.proofs.Outcomes.{judged_outcome, after_own, step_named}
-use Rattle.fx_synth.proofs.attempt.step_answer.Goals as goal
+use Rattle.fx_attempts.proofs.Outcomes.{judged_outcome, after_own, step_named}
+use Rattle.fx_attempts.proofs.attempt.step_answer.Goals as goal
 
 pub returns : goal.returns
 returns c =

@@ -19,7 +19,7 @@ use Rattle.fx_analysis.specs.PlainErrors.{plain_errors}
 use Rattle.fx_analysis.specs.PlainAttempt.{Attempt, attempt_of, with_errors, with_points, with_ranges, plain_attempt}
 use Rattle.fx_checker.specs.CertifiedView.{Accepted}
 use Rattle.fx_analysis.specs.Attempts.{with_steps, attempt_after}
-use Rattle.fx_synth.specs.Turns.{AreJudged, IsAnswerAfter, IsOutcome}
+use Rattle.fx_attempts.specs.Turns.{AreJudged, IsAnswerAfter, IsOutcome}
 
 -- what each plain attempt of a function has
 pub record IsPlainOf (n : ℕ) (fn : Function) (a : Attempt) : Type 0 where

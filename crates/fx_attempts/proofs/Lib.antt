@@ -1,0 +1,2 @@
+pub mod Better
+mod Outcomes

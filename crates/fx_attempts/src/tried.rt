@@ -1,0 +1,106 @@
+//! The plain plan, the plain attempt and the attempts after one step, each passed through the checker.
+ghost use Rattle.std.specs.Prelude.{◌≡◌, [], None, Contains, IfOk, option_map, take};
+ghost use Rattle.fx_model.specs.LawfulProgram.{widths};
+ghost use Rattle.fx_rules.specs.SingleSteps.{single_steps};
+ghost use Rattle.fx_weight.specs.Laws.{IsInClass};
+ghost use Rattle.fx_weight.specs.OutsideView.{outside_view};
+ghost use Rattle.fx_weight.specs.PlainClass.{outside_of};
+ghost use Rattle.fx_attempts.specs.Bounds.{AreWithinWeights};
+ghost use Rattle.fx_attempts.specs.Turns.{IsBestAfter, SuitsIfAny};
+
+use crate::answer::taken;
+use crate::attempt::{plain_answer, step_answer};
+use fx_checker::{Certified, check};
+use fx_expr::Function;
+use fx_num::Memory;
+use fx_rewrite::SingleSteps;
+use fx_weight::{Outside, WeightFault, bound_law, class_law, plain_plan};
+use std::alloc::Global;
+
+// The plain plan, certified.
+fn planned(alloc: Global, function: &Function, width: u32) -> Result<Certified, Memory>
+    requires width { Contains widths width }
+    requires class { IsInClass width function.now }
+    ensures function { IfOk result (λ a. a.function ≡ function.now) }
+    ensures named { IfOk result (λ a. a.program.name ≡ function.now.name) }
+    ensures width_is { IfOk result (λ a. a.program.width ≡ width) }
+    ensures bounded { IfOk result (λ a. AreWithinWeights width function.now a.program a.certificate) }
+{
+    class_law();
+    bound_law();
+    let (program, certificate) = match plain_plan(alloc, function, width) {
+        Ok(plan) => plan,
+        Err(WeightFault::NotModest { .. }) => unreachable!(),
+        Err(WeightFault::Memory) => return Err(Memory),
+    };
+    match check(alloc, function, program, certificate) {
+        Ok(certified) => Ok(certified),
+        // the plan is accepted, so only memory was wanting
+        Err(_) => Err(Memory),
+    }
+}
+
+/// The first answer: the plain plan, where it serves the function.
+pub fn first_answer(
+    alloc: Global,
+    function: &Function,
+    width: u32,
+    outside: Option<Outside>,
+) -> Result<Option<Certified>, Memory>
+    requires width { Contains widths width }
+    requires outside { option_map outside_view outside ≡ outside_of width function.now }
+    requires class { outside ≡ None → IsInClass width function.now }
+    ensures { IfOk result (SuitsIfAny width function.now) }
+{
+    if outside.is_some() {
+        return Ok(None);
+    }
+    let certified = planned(alloc, function, width)?;
+    Ok(Some(certified))
+}
+
+// The best of an answer, the plain attempt and the attempts after the first single steps.
+fn attempts(
+    alloc: Global,
+    function: &Function,
+    width: u32,
+    tries: u32,
+    first: Option<Certified>,
+) -> Result<Option<Certified>, Memory>
+    requires stateless { function.now.states ≡ [] }
+    requires width { Contains widths width }
+    requires suits { SuitsIfAny width function.now first }
+    ensures { IfOk result (IsBestAfter width function.now (take tries (single_steps function.now))) }
+{
+    function.keeps();
+    let plain = plain_answer(alloc, function, width)?;
+    let mut answer = taken(first, plain);
+    let mut steps = SingleSteps::new(alloc, function);
+    for _turn in 0..tries {
+        let Some(step) = steps.next(alloc)? else {
+            return Ok(answer);
+        };
+        let candidate = step_answer(alloc, function, width, step)?;
+        answer = taken(answer, candidate);
+    }
+    Ok(answer)
+}
+
+/// The best of an answer, the plain attempt and the attempts after the first single steps. A function with states has no attempts.
+pub fn tried(
+    alloc: Global,
+    function: &Function,
+    width: u32,
+    tries: u32,
+    first: Option<Certified>,
+) -> Result<Option<Certified>, Memory>
+    requires width { Contains widths width }
+    requires suits { SuitsIfAny width function.now first }
+    ensures { IfOk result (IsBestAfter width function.now (take tries (single_steps function.now))) }
+{
+    if function.states.len() > 0 {
+        return Ok(first);
+    }
+    let answer = attempts(alloc, function, width, tries, first)?;
+    Ok(answer)
+}
