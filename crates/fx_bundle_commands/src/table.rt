@@ -22,25 +22,6 @@ use fx_text::{begin_line, end_line, put_number, put_word};
 use itoa::Buffer;
 use std::alloc::{AllocError, Global};
 
-// The name of a code's instruction.
-fn instruction(code: Code) -> &'static str
-    ensures { result.now ≡ instruction_name (code_of code) }
-{
-    match code {
-        Code::Input { .. } => "in",
-        Code::State { .. } => "st",
-        Code::Const { .. } => "const",
-        Code::Neg { .. } => "neg",
-        Code::Add { .. } => "add",
-        Code::Sub { .. } => "sub",
-        Code::Mul { .. } => "mul",
-        Code::MulNear { .. } => "mulr",
-        Code::Div { .. } => "div",
-        Code::Copy { .. } => "copy",
-        Code::CopyNear { .. } => "copyr",
-    }
-}
-
 /// A space and a value.
 pub fn put_value(out: &mut Vec<u8>, value: Dyadic) -> Result<(), AllocError>
     ensures { OnOk result (out.new.items ≡ out.old.items ++ 32 ∷ value_text value) }
@@ -94,7 +75,7 @@ fn name_in(codes: &[Code], n: u32) -> &'static str
     ensures { result.now ≡ at [] (map instruction_name (map code_of codes.now)) n }
 {
     match codes.get(n as usize) {
-        Some(code) => instruction(*code),
+        Some(code) => code.name(),
         None => "",
     }
 }
