@@ -17,6 +17,9 @@ same() { cmp "$2" "$3" && echo "$1: as it should be"; }
 fixd synth --width 16 smooth.fixd > smooth.bundle
 [ "$(fixd check smooth.bundle | head -1)" = accepted ] && echo "synth and check: as they should be"
 
+fixd migrate smooth.bundle > second.bundle
+fixd check second.bundle | same "migrate" - <(fixd check smooth.bundle)
+
 # rows enough for parts
 { echo now,last,older; for n in $(seq 1 5000); do echo "0.$n,-0.$((n % 97)),0.$((n % 89))"; done; } > all.csv
 fixd run smooth.bundle < all.csv | tail -n +2 > whole.out
