@@ -24,6 +24,3 @@ pub use shelves::{FileName, Papers, Shelf};
 pub use sinks::{BytesOut, Silent, Sink};
 pub use sources::{BytesIn, CleanIn, Source};
 pub use whole::{put_all, read_all, read_file};
-
-#[cfg(test)]
-mod tests;

@@ -10,7 +10,4 @@ mod last;
 mod rows;
 mod source;
 
-pub use demo::demonstrate;
-
-#[cfg(test)]
-mod tests;
+pub use demo::{demonstrate, served_function};

@@ -21,6 +21,3 @@ pub use items::Items;
 pub use parts::{Input, State, Temp};
 pub use place::{at, exchange, operand};
 pub use size::Size;
-
-#[cfg(test)]
-mod tests;

@@ -15,3 +15,7 @@ pub mod Numerals
 pub mod Values
 pub mod Comparisons
 pub mod Lowest
+mod WorkedRanges
+mod WorkedWords
+mod WorkedFractions
+mod WorkedComparisons

@@ -30,6 +30,3 @@ pub use quantised::quantise;
 pub use range::Range;
 pub use read::{read_decimal, read_natural};
 pub use text::decimal_text;
-
-#[cfg(test)]
-mod tests;

@@ -118,6 +118,3 @@ pub fn outward(a: Interval, e: u32) -> Interval
         hi: round_up(a.hi, e),
     }
 }
-
-#[cfg(test)]
-mod tests;

@@ -20,6 +20,3 @@ mod word;
 pub use fault::{SourceFault, SourceKind};
 pub use law::{fault_law, layout_law, places_law};
 pub use token::{Token, TokenKind, tokens};
-
-#[cfg(test)]
-mod tests;

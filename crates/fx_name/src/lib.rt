@@ -11,6 +11,3 @@ mod word;
 
 pub use name::Name;
 pub use word::{is_letter, is_name, is_reserved, is_word_byte};
-
-#[cfg(test)]
-mod tests;

@@ -29,6 +29,3 @@ pub use print::{
     begin_line, end_line, put_dyadic, put_dyadics, put_four, put_interval, put_number, put_one,
     put_three, put_two, put_word,
 };
-
-#[cfg(test)]
-mod tests;

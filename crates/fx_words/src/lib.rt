@@ -16,6 +16,3 @@ mod settings;
 
 pub use command::{Command, Synthesis, WordFault, read_words};
 pub use law::one_file_law;
-
-#[cfg(test)]
-mod tests;
