@@ -30,6 +30,6 @@ install: $(PROGRAM)
 	install -D -m 755 $(PROGRAM) $(DESTDIR)$(PREFIX)/bin/fixd
 	install -D -m 644 docs/fixd.1 $(DESTDIR)$(PREFIX)/share/man/man1/fixd.1
 
-# every proof from nothing, every wrong body that must be refused, every test
+# every proof from nothing, every wrong body that must be refused, every test and every case
 test:
 	@.ci/run

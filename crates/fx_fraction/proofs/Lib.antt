@@ -17,5 +17,6 @@ pub mod Comparisons
 pub mod Lowest
 mod WorkedRanges
 mod WorkedWords
+mod WorkedReadings
 mod WorkedFractions
 mod WorkedComparisons
