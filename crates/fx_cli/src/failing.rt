@@ -5,7 +5,7 @@
 ghost use Rattle.std.specs.Prelude.{◌≤◌, ℕ, List, None, length};
 ghost use Rattle.fx_base.specs.Causes.{Rose};
 
-use crate::tests::{HALF, bundle};
+use crate::tests::HALF;
 use fx_base::{Failed, Shelf, Sink, Source};
 use fx_command::fixd;
 use std::alloc::Global;
@@ -280,9 +280,8 @@ const WRITE_FAULT: &str = "fixd: write fault\n";
 #[test]
 fn a_file_that_cannot_be_read(rt: HostRuntime) -> Result<(), Fail> {
     let alloc = rt.alloc();
-    let text = bundle(alloc, &rt, HALF, &[])?;
     for run in &RUNS {
-        let whole = perform(alloc, text.as_bytes(), run, NOTHING_FAILS)?;
+        let whole = perform(alloc, HALF.as_bytes(), run, NOTHING_FAILS)?;
         assert!(rt;
             whole.is(run.2, run.3.as_bytes(), run.4),
             "{:?} of {:?}",
@@ -295,7 +294,7 @@ fn a_file_that_cannot_be_read(rt: HostRuntime) -> Result<(), Fail> {
                 file: call,
                 ..NOTHING_FAILS
             };
-            let other = perform(alloc, text.as_bytes(), run, fails)?;
+            let other = perform(alloc, HALF.as_bytes(), run, fails)?;
             assert!(rt;
                 other.file.failed() == (call <= whole.file.made),
                 "{:?}: read {call} of FILE",
@@ -322,16 +321,15 @@ fn a_file_that_cannot_be_read(rt: HostRuntime) -> Result<(), Fail> {
 #[test]
 fn an_input_that_cannot_be_read(rt: HostRuntime) -> Result<(), Fail> {
     let alloc = rt.alloc();
-    let text = bundle(alloc, &rt, HALF, &[])?;
     for run in &RUNS {
-        let whole = perform(alloc, text.as_bytes(), run, NOTHING_FAILS)?;
+        let whole = perform(alloc, HALF.as_bytes(), run, NOTHING_FAILS)?;
         for k in 0..=whole.input.made {
             let call = k.saturating_add(1);
             let fails = Fails {
                 input: call,
                 ..NOTHING_FAILS
             };
-            let other = perform(alloc, text.as_bytes(), run, fails)?;
+            let other = perform(alloc, HALF.as_bytes(), run, fails)?;
             assert!(rt;
                 other.input.failed() == (call <= whole.input.made),
                 "{:?}: read {call}",
@@ -362,16 +360,15 @@ fn an_input_that_cannot_be_read(rt: HostRuntime) -> Result<(), Fail> {
 #[test]
 fn an_output_that_cannot_be_written(rt: HostRuntime) -> Result<(), Fail> {
     let alloc = rt.alloc();
-    let text = bundle(alloc, &rt, HALF, &[])?;
     for run in &RUNS {
-        let whole = perform(alloc, text.as_bytes(), run, NOTHING_FAILS)?;
+        let whole = perform(alloc, HALF.as_bytes(), run, NOTHING_FAILS)?;
         for k in 0..=whole.output.calls.made {
             let call = k.saturating_add(1);
             let fails = Fails {
                 output: call,
                 ..NOTHING_FAILS
             };
-            let other = perform(alloc, text.as_bytes(), run, fails)?;
+            let other = perform(alloc, HALF.as_bytes(), run, fails)?;
             assert!(rt;
                 other.output.calls.failed() == (call <= whole.output.calls.made),
                 "{:?}: write {call}",
@@ -416,16 +413,15 @@ static OTHERS: [Fails; 4] = [
 #[test]
 fn notes_that_cannot_be_written(rt: HostRuntime) -> Result<(), Fail> {
     let alloc = rt.alloc();
-    let text = bundle(alloc, &rt, HALF, &[])?;
     for run in &RUNS {
         for fails in &OTHERS {
-            let whole = perform(alloc, text.as_bytes(), run, *fails)?;
+            let whole = perform(alloc, HALF.as_bytes(), run, *fails)?;
             for k in 0..=whole.notes.calls.made {
                 let fails = Fails {
                     notes: k.saturating_add(1),
                     ..*fails
                 };
-                let other = perform(alloc, text.as_bytes(), run, fails)?;
+                let other = perform(alloc, HALF.as_bytes(), run, fails)?;
                 assert!(rt;
                     other.status == whole.status && *other.output.taken == *whole.output.taken,
                     "{:?} of {:?}: {fails:?}",

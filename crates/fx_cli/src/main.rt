@@ -51,6 +51,4 @@ fn main(rt: HostRuntime) -> ExitCode {
 #[cfg(test)]
 mod failing;
 #[cfg(test)]
-mod searches;
-#[cfg(test)]
 mod tests;

@@ -20,7 +20,7 @@ use std::alloc::Global;
 const ROWS_LIMIT: u64 = 1 << 20;
 
 /// The function of the source of number `n`, which the plain plan serves at 32 bits.
-pub(crate) fn served_function(alloc: Global, n: u32) -> Result<Function, Memory>
+pub fn served_function(alloc: Global, n: u32) -> Result<Function, Memory>
     requires { n ≤ 500 }
     ensures meant { IfOk result (λ fn. parsed (demo_source n) None ≡ Ok fn) }
     ensures served { IfOk result (λ fn. outside_of 32 fn ≡ None) }
@@ -28,7 +28,7 @@ pub(crate) fn served_function(alloc: Global, n: u32) -> Result<Function, Memory>
     let function = function_of(alloc, n)?;
     let outside = find_outside(alloc, &function, 32)?;
     if outside.is_some() {
-        // the plain plan serves every such function, as a test of each number shows
+        // the plain plan serves every such function, as a test of `fx_cli` shows of each number
         return Err(Memory);
     }
     Ok(function)
@@ -58,7 +58,7 @@ fn page_of(alloc: Global, certified: &Certified) -> Result<BytesOut, Memory>
     let mut page = BytesOut::new(Vec::new(alloc));
     match run_rows(alloc, certified, &mut rows, &mut page, ROWS_LIMIT) {
         Ok(count) if count == u64::from(ROWS) => Ok(page),
-        // every row is good, as a test of each number shows; so only memory was wanting
+        // every row is good: all numbers have the same, and a test of `fx_cli` runs them; so only memory was wanting
         _ => Err(Memory),
     }
 }

@@ -1,12 +1,5 @@
-//! Worked texts, with the answers that they get: sources, certificates and bundles.
+//! Worked rows: definitions at values that were worked out elsewhere, each proved by evaluation.
 //!
-//! Tests alone, of `fx_parser`, `fx_cert`, `fx_reader` and `fx_checker`. They stand here since a crate's tests are proved with
-//! all of it, and these take longest.
+//! Nothing runs here, and no crate stands on this one. A row of `proofs/` names a definition, its arguments and its value, which
+//! is that of a program in another language, so that the gate refuses a wrong definition; and a row more has no crate proved anew.
 #![tactic(auto)]
-
-#[cfg(test)]
-mod bundles;
-#[cfg(test)]
-mod certificates;
-#[cfg(test)]
-mod sources;

@@ -1,0 +1,9 @@
+mod Comparisons
+mod Fractions
+mod Intervals
+mod Judgements
+mod Ranges
+mod Readings
+mod Shifts
+mod WordTexts
+mod Words
