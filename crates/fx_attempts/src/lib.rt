@@ -7,7 +7,7 @@
 
 mod answer;
 mod attempt;
-mod tried;
+mod plain;
 
 pub use answer::{bounds_of, taken};
-pub use tried::{first_answer, tried};
+pub use plain::{first_answer, tried};

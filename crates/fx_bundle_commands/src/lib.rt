@@ -11,5 +11,5 @@ mod report;
 mod table;
 
 pub use commands::{check_file, migrate_file, run_file, show_file};
-pub use open::{end_of_read, end_of_source, open};
+pub use open::{end_of_read, end_of_source};
 pub use table::put_value;

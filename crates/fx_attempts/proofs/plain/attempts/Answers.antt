@@ -5,7 +5,7 @@ use Rattle.fx_inequalities.specs.Rewriting.{Rewriting}
 use Rattle.fx_rewrite.specs.Left.{left}
 use Rattle.fx_step.specs.StepView.{step_view}
 use Rattle.fx_attempts.proofs.Better.{step_there, one_done, stands_first, stands_next}
-use Rattle.fx_attempts.proofs.tried.attempts.Goals as goal
+use Rattle.fx_attempts.proofs.plain.attempts.Goals as goal
 
 pub loop-turn-init : goal.loop-turn-init
 loop-turn-init c =
