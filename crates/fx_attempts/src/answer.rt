@@ -1,5 +1,5 @@
 //! One certified program against another, by their bounds.
-ghost use Rattle.std.specs.Prelude.{◌≡◌, ◌↔◌, false, length, IsTrue};
+ghost use Rattle.std.specs.Prelude.{◌≡◌, ◌↔◌, Some, false, length, IsTrue};
 ghost use Rattle.fx_attempts.specs.Bounds.{attempted, AreNoGreater, AreSmaller};
 ghost use Rattle.fx_attempts.specs.Turns.{AreForOne, IsTaken};
 
@@ -43,22 +43,40 @@ fn is_better(a: &Certified, b: &Certified) -> bool
     are_no_greater(a, b)
 }
 
+// The candidate where it is better, else the answer.
+fn better(answer: Certified, candidate: Certified) -> Certified
+    requires { AreForOne (Some answer) (Some candidate) }
+    ensures { IsTaken (Some answer) (Some candidate) (Some result) }
+{
+    if is_better(&candidate, &answer) {
+        drop(answer);
+        candidate
+    } else {
+        drop(candidate);
+        answer
+    }
+}
+
+// The same where there may be no candidate.
+fn better_of(answer: Certified, candidate: Option<Certified>) -> Certified
+    requires { AreForOne (Some answer) candidate }
+    ensures { IsTaken (Some answer) candidate (Some result) }
+{
+    match candidate {
+        Some(candidate) => better(answer, candidate),
+        None => answer,
+    }
+}
+
 /// The candidate, where there is one and no answer yet, or one that is no worse at any output and better at some; else the
 /// answer.
 pub fn taken(answer: Option<Certified>, candidate: Option<Certified>) -> Option<Certified>
     requires { AreForOne answer candidate }
     ensures { IsTaken answer candidate result }
 {
-    let Some(answer) = answer else {
-        return candidate;
-    };
-    let Some(candidate) = candidate else {
-        return Some(answer);
-    };
-    if is_better(&candidate, &answer) {
-        Some(candidate)
-    } else {
-        Some(answer)
+    match answer {
+        Some(answer) => Some(better_of(answer, candidate)),
+        None => candidate,
     }
 }
 

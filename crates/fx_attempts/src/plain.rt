@@ -1,7 +1,9 @@
 //! The plain plan, the plain attempt and the attempts after one step, each passed through the checker.
-ghost use Rattle.std.specs.Prelude.{◌≡◌, [], None, Contains, IfOk, option_map, take};
+ghost use Rattle.std.specs.Prelude.{◌≡◌, ◌++◌, ◌∷◌, [], List, None, true, Contains, IfOk, option_map, take};
 ghost use Rattle.fx_model.specs.LawfulProgram.{widths};
-ghost use Rattle.fx_rules.specs.SingleSteps.{single_steps};
+ghost use Rattle.fx_inequalities.specs.Rewriting.{Rewriting};
+ghost use Rattle.fx_rules.specs.SingleSteps.{is_there, single_steps};
+ghost use Rattle.fx_step.specs.StepView.{step_view};
 ghost use Rattle.fx_weight.specs.Laws.{IsInClass};
 ghost use Rattle.fx_weight.specs.OutsideView.{outside_view};
 ghost use Rattle.fx_weight.specs.PlainClass.{outside_of};
@@ -14,6 +16,7 @@ use fx_checker::{Certified, check};
 use fx_expr::Function;
 use fx_num::Memory;
 use fx_rewrite::SingleSteps;
+use fx_step::Step;
 use fx_weight::{Outside, WeightFault, bound_law, class_law, plain_plan};
 use std::alloc::Global;
 
@@ -59,6 +62,42 @@ pub fn first_answer(
     Ok(Some(certified))
 }
 
+// The better of an answer and the plain attempt.
+fn first_turn(
+    alloc: Global,
+    function: &Function,
+    width: u32,
+    first: Option<Certified>,
+) -> Result<Option<Certified>, Memory>
+    requires stateless { function.now.states ≡ [] }
+    requires width { Contains widths width }
+    requires suits { SuitsIfAny width function.now first }
+    ensures { IfOk result (IsBestAfter width function.now []) }
+{
+    function.keeps();
+    let plain = plain_answer(alloc, function, width)?;
+    Ok(taken(first, plain))
+}
+
+// The better of an answer and the attempt after a step.
+fn next_turn(
+    alloc: Global,
+    function: &Function,
+    width: u32,
+    step: Step,
+    answer: Option<Certified>,
+) -> Result<Option<Certified>, Memory>
+    requires stateless { function.now.states ≡ [] }
+    requires width { Contains widths width }
+    requires there { is_there function.now (step_view step) ≡ true }
+    requires suits { SuitsIfAny width function.now answer }
+    ensures { (done : List Rewriting) → IsBestAfter width function.now done answer → IfOk result (IsBestAfter width function.now (done ++ step_view step ∷ [])) }
+{
+    function.keeps();
+    let candidate = step_answer(alloc, function, width, step)?;
+    Ok(taken(answer, candidate))
+}
+
 // The best of an answer, the plain attempt and the attempts after the first single steps.
 fn attempts(
     alloc: Global,
@@ -72,16 +111,13 @@ fn attempts(
     requires suits { SuitsIfAny width function.now first }
     ensures { IfOk result (IsBestAfter width function.now (take tries (single_steps function.now))) }
 {
-    function.keeps();
-    let plain = plain_answer(alloc, function, width)?;
-    let mut answer = taken(first, plain);
+    let mut answer = first_turn(alloc, function, width, first)?;
     let mut steps = SingleSteps::new(alloc, function);
     for _turn in 0..tries {
         let Some(step) = steps.next(alloc)? else {
             return Ok(answer);
         };
-        let candidate = step_answer(alloc, function, width, step)?;
-        answer = taken(answer, candidate);
+        answer = next_turn(alloc, function, width, step, answer)?;
     }
     Ok(answer)
 }

@@ -1,0 +1,6 @@
+use Rattle.fx_attempts.proofs.Better.{stands_first}
+use Rattle.fx_attempts.proofs.plain.first_turn.Goals as goal
+
+pub returns : goal.returns
+returns c =
+    stands_first c.args.width c.args.function.now c.args.first c.in_ok-plain.plain c.taken.result c.keeps.ensures.sizes.some_output c.requires.suits c.in_ok-plain.ensures c.taken.ensures
