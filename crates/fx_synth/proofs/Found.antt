@@ -1,5 +1,5 @@
 -- What the best answer of all is worth, or that there is none.
-use Rattle.std.proofs.Common.{◌≡◌, ℕ, take, Option, Some, None}
+use Rattle.std.proofs.Common.{◌≡◌, ℕ, take, Some, None}
 use Rattle.fx_model.specs.Function.{Function}
 use Rattle.fx_rules.specs.SingleSteps.{single_steps}
 use Rattle.fx_weight.specs.PlainClass.{Outside, outside_of}

@@ -17,7 +17,7 @@ use fx_search::search;
 use fx_weight::find_outside;
 use std::alloc::Global;
 
-// What the search finds, or of a function with states what is certified at its limit.
+// What a search finds: of a function with states what is certified at its limit, of others what keeps these bounds.
 fn found(
     alloc: Global,
     function: &Function,
@@ -36,6 +36,23 @@ fn found(
     }
 }
 
+// What a search finds beside an answer.
+fn candidate_to(
+    alloc: Global,
+    function: &Function,
+    width: u32,
+    seed: u64,
+    tries: u32,
+    answer: &Option<Certified>,
+) -> Result<Option<Certified>, Memory>
+    requires width { Contains widths width }
+    ensures { IfOk result (IsOffered width function.now) }
+{
+    let held = bounds_of(alloc, answer)?;
+    let candidate = found(alloc, function, width, seed, tries, &held)?;
+    Ok(candidate)
+}
+
 // The answer, or what is found where that is better.
 fn searched(
     alloc: Global,
@@ -49,8 +66,7 @@ fn searched(
     requires suits { SuitsIfAny width function.now answer }
     ensures { (steps : List Rewriting) → IsBestAfter width function.now steps answer → IfOk result (IsBestAfter width function.now steps) }
 {
-    let held = bounds_of(alloc, &answer)?;
-    let candidate = found(alloc, function, width, seed, tries, &held)?;
+    let candidate = candidate_to(alloc, function, width, seed, tries, &answer)?;
     Ok(taken(answer, candidate))
 }
 
