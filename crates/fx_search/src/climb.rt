@@ -67,8 +67,21 @@ fn heated<R: Rng>(rng: &mut R, cost: Cost) -> Cost {
     }
 }
 
+/// A draft that begins at the source: first it is only cleaned, then factored too.
+fn started<R: Rng>(alloc: Global, rng: &mut R, task: Task<'_>, turn: u32) -> Result<Draft, Memory> {
+    let mut draft = Draft::new(alloc, task.source)?;
+    if turn == 1 {
+        clean_all(alloc, &mut draft)?;
+    } else {
+        factor_all(alloc, rng, &mut draft)?;
+    }
+    Ok(draft)
+}
+
 impl Climb {
-    fn new(alloc: Global, source: Trial) -> Result<Climb, Memory> {
+    /// At the source, which is the best so far.
+    fn at_source(alloc: Global, task: Task<'_>) -> Result<Climb, Memory> {
+        let source = Trial::new(alloc, task, Draft::new(alloc, task.source)?)?;
         Ok(Climb {
             best: source.copy(alloc)?,
             current: source,
@@ -102,8 +115,24 @@ impl Climb {
         !is_start && steps <= WARM_STEPS && trial.cost.is_below(limit)
     }
 
-    /// Makes the attempt of a draft, and takes it up where it serves.
-    fn take<R: Rng>(
+    /// Keeps a copy of a trial that is better than all before it.
+    fn keep_best(&mut self, alloc: Global, trial: &Trial) -> Result<(), Memory> {
+        if trial.cost.is_below(self.best.cost) {
+            self.best = trial.copy(alloc)?;
+            self.since = 0;
+        }
+        Ok(())
+    }
+
+    /// Takes a trial up, where it is accepted.
+    fn take<R: Rng>(&mut self, rng: &mut R, trial: Trial, is_start: bool) {
+        if self.accepts(rng, &trial, is_start) {
+            self.current = trial;
+        }
+    }
+
+    /// Makes the attempt of a draft that isn't the current one, and lets it serve.
+    fn attempt<R: Rng>(
         &mut self,
         alloc: Global,
         rng: &mut R,
@@ -115,26 +144,47 @@ impl Climb {
             return Ok(());
         }
         let trial = Trial::new(alloc, task, draft)?;
-        if trial.cost.is_below(self.best.cost) {
-            self.best = trial.copy(alloc)?;
-            self.since = 0;
+        self.keep_best(alloc, &trial)?;
+        self.take(rng, trial, is_start);
+        Ok(())
+    }
+
+    /// The draft to try next.
+    fn next_draft<R: Rng>(
+        &mut self,
+        alloc: Global,
+        rng: &mut R,
+        task: Task<'_>,
+        turn: u32,
+        is_start: bool,
+    ) -> Result<Draft, Memory> {
+        if is_start {
+            started(alloc, rng, task, turn)
+        } else {
+            self.moved(alloc, rng)
         }
-        if self.accepts(rng, &trial, is_start) {
-            self.current = trial;
+    }
+
+    /// So many tries, of which the source was the first.
+    fn run<R: Rng>(
+        &mut self,
+        alloc: Global,
+        rng: &mut R,
+        task: Task<'_>,
+        tries: u32,
+    ) -> Result<(), Memory> {
+        let starts = (tries / 5).clamp(1, STARTS);
+        for turn in 1..tries {
+            let is_start = turn <= starts;
+            let draft = self.next_draft(alloc, rng, task, turn, is_start)?;
+            self.attempt(alloc, rng, task, draft, is_start)?;
         }
         Ok(())
     }
-}
 
-/// A draft that begins at the source: first it is only cleaned, then factored too.
-fn started<R: Rng>(alloc: Global, rng: &mut R, task: Task<'_>, turn: u32) -> Result<Draft, Memory> {
-    let mut draft = Draft::new(alloc, task.source)?;
-    if turn == 1 {
-        clean_all(alloc, &mut draft)?;
-    } else {
-        factor_all(alloc, rng, &mut draft)?;
+    fn into_best(self) -> Draft {
+        self.best.draft
     }
-    Ok(draft)
 }
 
 /// The draft with the best attempt among so many.
@@ -144,17 +194,7 @@ pub fn best_draft<R: Rng>(
     task: Task<'_>,
     tries: u32,
 ) -> Result<Draft, Memory> {
-    let source = Trial::new(alloc, task, Draft::new(alloc, task.source)?)?;
-    let mut climb = Climb::new(alloc, source)?;
-    let starts = (tries / 5).clamp(1, STARTS);
-    for turn in 1..tries {
-        let is_start = turn <= starts;
-        let draft = if is_start {
-            started(alloc, rng, task, turn)?
-        } else {
-            climb.moved(alloc, rng)?
-        };
-        climb.take(alloc, rng, task, draft, is_start)?;
-    }
-    Ok(climb.best.draft)
+    let mut climb = Climb::at_source(alloc, task)?;
+    climb.run(alloc, rng, task, tries)?;
+    Ok(climb.into_best())
 }
