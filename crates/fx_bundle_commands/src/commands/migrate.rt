@@ -11,41 +11,36 @@ ghost use Rattle.fx_bundle_commands.specs.Opening.{IsAcceptedAs};
 ghost use Rattle.fx_bundle_commands.specs.OpeningView.{IsQuiet, with_source};
 ghost use Rattle.fx_bundle_commands.specs.commands.Migrate.{MigrateEnds, MigratedEnds, migrated};
 
-use crate::open::open;
+use crate::open::{Opened, open};
 use fx_base::{Shelf, Sink, put_all};
 use fx_cert::print_bundle;
-use fx_checker::Certified;
 use fx_ends::End;
 use fx_num::Memory;
 use std::alloc::Global;
 
-// The text of a bundle of this source in the second version.
-fn migrated_text(alloc: Global, source: &[u8], certified: &Certified) -> Result<Vec<u8>, Memory>
-    requires short { length source.now ≤ source_limit }
-    ensures text { IfOk result (λ text. text.items ≡ text_of (migrated (with_source certified.now source.now))) }
+// The text of the bundle in the second version.
+fn migrated_text(alloc: Global, opened: &Opened) -> Result<Vec<u8>, Memory>
+    requires short { length opened.now.source ≤ source_limit }
+    ensures text { IfOk result (λ text. text.items ≡ text_of (migrated (with_source opened.now.certified opened.now.source))) }
 {
-    certified.certified();
-    let program = certified.program().second_version(alloc)?;
-    print_bundle(alloc, source, &program, certified.certificate())
+    opened.certified.certified();
+    let program = opened.certified.program().second_version(alloc)?;
+    let certificate = opened.certified.certificate();
+    print_bundle(alloc, opened.source.as_slice(), &program, certificate)
 }
 
 // Writes that text.
-fn print_migrated<K: Sink>(
-    alloc: Global,
-    source: &[u8],
-    certified: &Certified,
-    output: &mut K,
-) -> End<'static>
-    requires lawful { IsLawfulBundle (with_source certified.now source.now) }
-    requires accepted { IsAcceptedAs (with_source certified.now source.now) certified.now.function }
+fn print_migrated<K: Sink>(alloc: Global, opened: &Opened, output: &mut K) -> End<'static>
+    requires lawful { IsLawfulBundle (with_source opened.now.certified opened.now.source) }
+    requires accepted { IsAcceptedAs (with_source opened.now.certified opened.now.source) opened.now.certified.function }
     ensures ended { (left : Option (List ℕ)) (reads : ℕ) → MigrateEnds
         (record { left = left; read_faults = reads; taken = K.taken output.old; write_faults = K.faults output.old })
         (record { left = left; read_faults = reads; taken = K.taken output.new; write_faults = K.faults output.new })
-        (with_source certified.now source.now) certified.now.function (end_of result) }
+        (with_source opened.now.certified opened.now.source) opened.now.certified.function (end_of result) }
     ensures appended { Grows (K.taken output.old) (K.taken output.new) }
     ensures loud { IsQuiet (end_of result) → ⊥ }
 {
-    let Ok(text) = migrated_text(alloc, source, certified) else {
+    let Ok(text) = migrated_text(alloc, opened) else {
         return End::NoMemory;
     };
     match put_all(output, text.as_slice()) {
@@ -70,6 +65,6 @@ pub fn migrate_file<H: Shelf, K: Sink>(
 {
     match open(alloc, shelf, name) {
         Err(end) => end,
-        Ok(opened) => print_migrated(alloc, opened.source.as_slice(), &opened.certified, output),
+        Ok(opened) => print_migrated(alloc, &opened, output),
     }
 }
