@@ -1,0 +1,23 @@
+"""The crates of the repository: what each stands on, and what its proof takes of a processor."""
+import os
+
+TOP = os.path.dirname(os.path.dirname(os.path.abspath(__file__)))
+LIST = f"{TOP}/crates.txt"
+SECONDS = f"{TOP}/.ci/seconds"
+
+
+def fields_of(path, mark):
+    """Returns what stands before and behind the first mark of each line that has it, without comments."""
+    with open(path, encoding="utf-8") as file:
+        parted = [line.partition("#")[0].strip().partition(mark) for line in file]
+    return {name.strip(): rest.strip() for name, found, rest in parted if found}
+
+
+def listed():
+    """Returns the crates that each crate lists, those of the toolchain among them, in the order of the file."""
+    return {name: below.split() for name, below in fields_of(LIST, ":").items()}
+
+
+def seconds():
+    """Returns the seconds of each crate's proof, as they were measured."""
+    return {name: float(value) for name, value in fields_of(SECONDS, " ").items()}
