@@ -4,7 +4,7 @@ use Rattle.std.specs.List.{All, Contains}
 use Rattle.std.proofs.Math.Seq.{take-append_seam}
 use Rattle.std.proofs.lemmas.List.Elements.{All-nil, All-head, All-tail, All-cons, All-push, All-map, All-contains, filter_passes}
 use Rattle.fx_rational.proofs.Laws.{le_refl, le_trans, le_total}
-use Rattle.fx_model.specs.Function.{Function}
+use Rattle.fx_model.specs.Function.{Function, outputs}
 use Rattle.fx_inequalities.specs.Rewriting.{Rewriting}
 use Rattle.fx_rules.specs.SingleSteps.{single_steps, is_there, steps_in, trees_of}
 use Rattle.fx_weight.specs.PlainClass.{outside_of}
@@ -20,7 +20,7 @@ pub no_greater : (fn : Function) (a b : Attempt) → AreSmaller fn a b → AreNo
 no_greater fn a b h j l = ⊎_elim (λ is. is) (λ other. absurd (h j l other)) (le_total _ _)
 
 -- with an output no bounds are smaller than such as are no greater
-pub not_smaller : (fn : Function) (a b : Attempt) → 1 ≤ length fn.demands → AreNoGreater fn b a → ¬ AreSmaller fn a b
+pub not_smaller : (fn : Function) (a b : Attempt) → 1 ≤ outputs fn → AreNoGreater fn b a → ¬ AreSmaller fn a b
 not_smaller fn a b some h beats = beats 0 (omega (arith, some)) (h 0 (omega (arith, some)))
 
 -- ---- one attempt
@@ -50,7 +50,7 @@ module _ (n : ℕ) (fn : Function) where
       subst (λ x. Resists n fn x steps) (sym is.0) (λ t acc beats. h t acc (λ j l over. beats j l (le_trans (least j l) over)))
 
   -- of the candidate itself
-  pub resists_own : (steps : List Rewriting) (o c r : Option Accepted) → 1 ≤ length fn.demands → SuitsIfAny n fn o → IsOutcome n fn steps c → IsTaken o c r → Resists n fn r steps
+  pub resists_own : (steps : List Rewriting) (o c r : Option Accepted) → 1 ≤ outputs fn → SuitsIfAny n fn o → IsOutcome n fn steps c → IsTaken o c r → Resists n fn r steps
   resists_own steps None None r some suits out is = subst (λ x. Resists n fn x steps) (sym is) out
   resists_own steps None (Some c) r some suits out is = subst (λ x. Resists n fn x steps) (sym is) (λ t acc.
       subst (λ x. ¬ AreSmaller fn t x) (sym (one_attempt n fn steps (attempted c) t out.accepted acc)) (not_smaller fn t t some (λ j l. le_refl _)))
@@ -132,7 +132,7 @@ module _ (n : ℕ) (fn : Function) where
       All-cons (λ s. Resists n fn r (s ∷ [])) x xs (resists n fn (x ∷ []) o c r suits is (All-head (λ s. Resists n fn o (s ∷ [])) x xs a))
       (each_resists xs o c r suits is (All-tail (λ s. Resists n fn o (s ∷ [])) x xs a))
 
-  pub stands_first : (o c r : Option Accepted) → 1 ≤ length fn.demands → SuitsIfAny n fn o → IsOutcome n fn [] c → IsTaken o c r → IsBestAfter n fn [] r
+  pub stands_first : (o c r : Option Accepted) → 1 ≤ outputs fn → SuitsIfAny n fn o → IsOutcome n fn [] c → IsTaken o c r → IsBestAfter n fn [] r
   stands_first o c r some suits out is = record { suits = plain_suits n fn o c r suits out is; plain = resists_own n fn [] o c r some suits out is; each = All-nil _ }
 
   -- once a candidate is looked at, wherever it comes from
@@ -143,7 +143,7 @@ module _ (n : ℕ) (fn : Function) where
     each = each_resists done o c r h.suits is h.each;
   }
 
-  pub stands_next : (done : List Rewriting) (s : Rewriting) (o c r : Option Accepted) → 1 ≤ length fn.demands → IsBestAfter n fn done o → IsOutcome n fn (s ∷ []) c → IsTaken o c r → IsBestAfter n fn (done ++ s ∷ []) r
+  pub stands_next : (done : List Rewriting) (s : Rewriting) (o c r : Option Accepted) → 1 ≤ outputs fn → IsBestAfter n fn done o → IsOutcome n fn (s ∷ []) c → IsTaken o c r → IsBestAfter n fn (done ++ s ∷ []) r
   stands_next done s o c r some h out is =
       let still = stands_still done o c r h (offered n fn (s ∷ []) c out) is in
       record { suits = still.suits; plain = still.plain; each = All-push (λ x. Resists n fn r (x ∷ [])) done s still.each (resists_own n fn (s ∷ []) o c r some h.suits out is) }

@@ -1,9 +1,9 @@
 -- What comes of an attempt.
-use Rattle.std.proofs.Common.{◌≡◌, ◌∙◌, true, ℕ, ℤ, List, [], ◌∷◌, Option, Some, None, Result, Ok, Err, length, refl, sym, ap, subst}
+use Rattle.std.proofs.Common.{◌≡◌, ◌∙◌, true, ℕ, ℤ, List, [], ◌∷◌, Option, Some, None, Result, Ok, Err, refl, sym, ap, subst}
 use Rattle.std.specs.Option.{option_map}
 use Rattle.std.specs.Prelude.{is_some, unwrap_or}
 use Rattle.fx_rational.specs.Interval.{Interval}
-use Rattle.fx_model.specs.Function.{Function}
+use Rattle.fx_model.specs.Function.{Function, outputs}
 use Rattle.fx_model.specs.Machine.{Program}
 use Rattle.fx_bounds.proofs.Claims.{all_met}
 use Rattle.fx_inequalities.specs.Certificate.{Certificate}
@@ -74,5 +74,5 @@ step_named law fn s there = by (rewrite fn s) refl there
     by (Some h) e t = ap (λ (f : Function). f.name) ((law.exact fn s h).0 e).result
 
 -- as many outputs as the function has
-pub outputs_are : (fn : Function) (p : Program) (cert : Certificate) → IsCertified rewrite fn p cert → p.outputs ≡ length fn.demands
+pub outputs_are : (fn : Function) (p : Program) (cert : Certificate) → IsCertified rewrite fn p cert → p.outputs ≡ outputs fn
 outputs_are fn p cert c = (counted fn p cert (all_met (conditions rewrite fn p cert) c.accepted).0.test).outputs

@@ -1,7 +1,8 @@
 //! One certified program against another, by their bounds.
-ghost use Rattle.std.specs.Prelude.{◌≡◌, ◌↔◌, Some, false, length, IsTrue};
+ghost use Rattle.std.specs.Prelude.{◌≡◌, ◌↔◌, Some, false, IsTrue};
 ghost use Rattle.fx_attempts.specs.Bounds.{attempted, AreNoGreater, AreSmaller};
 ghost use Rattle.fx_attempts.specs.Turns.{AreForOne, IsTaken};
+ghost use Rattle.fx_model.specs.Function.{outputs};
 
 use fx_checker::Certified;
 use fx_num::{Dyadic, Memory, dle};
@@ -9,7 +10,7 @@ use std::alloc::Global;
 
 // How many outputs the function has.
 fn outputs_of(certified: &Certified) -> u32
-    ensures count { result ≡ length certified.now.function.demands }
+    ensures count { result ≡ outputs certified.now.function }
     ensures same { result ≡ certified.now.program.outputs }
 {
     certified.certified();

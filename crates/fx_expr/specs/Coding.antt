@@ -76,8 +76,12 @@ state_code = code_by (List ℕ × Rational) (coded× (coded_list coded_ℕ) rati
 abbrev pub temp_code : Coded source.Temp
 temp_code = code_by (List ℕ × Tree) (coded× (coded_list coded_ℕ) tree_code) (λ t. (t.name, t.tree)) (λ p. record { name = p.0; tree = p.1 }) (λ _. refl)
 
+abbrev pub demand_code : Coded source.Demand
+demand_code = code_by (Option Rational × (Option Rational × Option Rational)) (coded× (coded_option rational_code) (coded× (coded_option rational_code) (coded_option rational_code)))
+    (λ d. (d.err, (d.lo, d.hi))) (λ p. record { err = p.0; lo = p.1.0; hi = p.1.1 }) (λ _. refl)
+
 abbrev pub function_code : Coded Function
-function_code = code_by (List ℕ × (List source.Input × (List source.State × (List source.Temp × (List Tree × List (Option Rational))))))
-    (coded× (coded_list coded_ℕ) (coded× (coded_list input_code) (coded× (coded_list state_code) (coded× (coded_list temp_code) (coded× (coded_list tree_code) (coded_list (coded_option rational_code)))))))
+function_code = code_by (List ℕ × (List source.Input × (List source.State × (List source.Temp × (List Tree × List source.Demand)))))
+    (coded× (coded_list coded_ℕ) (coded× (coded_list input_code) (coded× (coded_list state_code) (coded× (coded_list temp_code) (coded× (coded_list tree_code) (coded_list demand_code))))))
     (λ f. (f.name, (f.inputs, (f.states, (f.temps, (f.results, f.demands))))))
     (λ p. record { name = p.0; inputs = p.1.0; states = p.1.1.0; temps = p.1.1.1.0; results = p.1.1.1.1.0; demands = p.1.1.1.1.1 }) (λ _. refl)

@@ -1,27 +1,26 @@
 -- What contracts see of a function.
-use Rattle.std.specs.Prelude.{◌≡◌, ℕ, List, length, map, Option}
-use Rattle.std.specs.Option.{option_map}
-use Rattle.fx_rational.specs.Decimal.{Decimal, decimal_value}
+use Rattle.std.specs.Prelude.{◌≡◌, ℕ, List, length, map}
 use Rattle.fx_model.specs.Function as model
 use Rattle.fx_model.specs.Nodes.{nodes_of}
 use Rattle.fx_expr.specs.TreeOf.{tree}
-use Rattle.fx_expr.specs.Parts.{input_of, state_of, temp_of}
+use Rattle.fx_expr.specs.Parts.{input_of, state_of, temp_of, demand_of}
 use Rattle.fx_expr.specs.LawfulFunction.{IsLawfulFunction}
 use Rattle.fx_expr.specs.declared.expr.Expr.{Expr}
 use Rattle.fx_expr.specs.declared.parts.Input.{Input}
 use Rattle.fx_expr.specs.declared.parts.State.{State}
 use Rattle.fx_expr.specs.declared.parts.Temp.{Temp}
+use Rattle.fx_expr.specs.declared.parts.Demand.{Demand}
 use Rattle.fx_expr.specs.declared.function.Function.TheInside.{Inside}
 
 -- the record of the definitions, with trees for expressions and rationals for decimals
-abbrev pub made_function : List ℕ → List Input → List State → List Temp → List Expr → List (Option Decimal) → model.Function
+abbrev pub made_function : List ℕ → List Input → List State → List Temp → List Expr → List Demand → model.Function
 made_function name inputs states temps results demands = record {
   name = name;
   inputs = map input_of inputs;
   states = map state_of states;
   temps = map temp_of temps;
   results = map tree results;
-  demands = map (option_map decimal_value) demands;
+  demands = map demand_of demands;
 }
 
 -- all but the count of nodes

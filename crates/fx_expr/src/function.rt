@@ -1,7 +1,5 @@
 //! A function, valid by its type.
 ghost use Rattle.std.specs.Prelude.{◌≡◌, ◌+◌, ◌<◌, ◌≤◌, length, map, None, Some, IfOk, IsSome, MatchOption, slice_get};
-ghost use Rattle.std.specs.Option.{option_map};
-ghost use Rattle.fx_rational.specs.Decimal.{decimal_value};
 ghost use Rattle.fx_expr.specs.TreeOf.{tree};
 ghost use Rattle.fx_expr.specs.Parts.{input_of, state_of, temp_of};
 ghost use Rattle.fx_model.specs.Nodes.{nodes_of};
@@ -16,16 +14,14 @@ ghost use Rattle.fx_expr.specs.SizeOf.{size_of};
 use crate::count::{count_results, count_temps};
 use crate::expr::Expr;
 use crate::items::Items;
-use crate::parts::{Input, State, Temp};
+use crate::parts::{Demand, Input, State, Temp};
 use crate::trees::{exchange_in, tree_in};
-use fx_fraction::Decimal;
 use fx_name::Name;
 use fx_num::Memory;
 use std::alloc::Global;
 use std::marker::Model;
 
-/// A function: its results are the outputs and then the next states, in declared order; each output has a place for a
-/// demanded bound.
+/// A function: its results are the outputs and then the next states, in declared order; each output has its demand.
 #[derive(Debug, Drop)]
 pub struct Function {
     pub name: Name,
@@ -33,7 +29,7 @@ pub struct Function {
     pub states: Items<State>,
     pub temps: Items<Temp>,
     pub results: Items<Expr>,
-    pub demands: Items<Option<Decimal>>,
+    pub demands: Items<Demand>,
     // How many nodes it has.
     nodes: u32,
 }
@@ -92,7 +88,7 @@ fn copy_results(alloc: Global, results: &[Expr]) -> Result<Vec<Expr>, Memory>
     Ok(copies)
 }
 
-fn copy_demands(alloc: Global, demands: &[Option<Decimal>]) -> Result<Vec<Option<Decimal>>, Memory>
+fn copy_demands(alloc: Global, demands: &[Demand]) -> Result<Vec<Demand>, Memory>
     ensures { IfOk result (λ v. v.items ≡ demands.now) }
 {
     let mut copies = Vec::new(alloc);
@@ -108,7 +104,7 @@ impl Function {
         states: Items<State>,
         temps: Items<Temp>,
         results: Items<Expr>,
-        demands: Items<Option<Decimal>>,
+        demands: Items<Demand>,
     ) -> Function
         requires { IsLawfulFunction (made_function name inputs states temps results demands) }
         ensures { result ≡ made_function name inputs states temps results demands }

@@ -18,6 +18,6 @@ mod trees;
 pub use expr::{Expr, same};
 pub use function::Function;
 pub use items::Items;
-pub use parts::{Input, State, Temp};
+pub use parts::{Demand, Input, State, Temp};
 pub use place::{at, exchange, operand};
 pub use size::Size;

@@ -1,6 +1,7 @@
-//! What a function declares: its inputs, its states and its temps.
+//! What a function declares: its inputs, its states, its temps, and what is demanded of its outputs.
 ghost use Rattle.std.specs.Prelude.{◌≡◌, IfOk};
-ghost use Rattle.fx_expr.specs.Parts.{input_of, state_of, temp_of};
+ghost use Rattle.fx_model.specs.Function.{free};
+ghost use Rattle.fx_expr.specs.Parts.{input_of, state_of, temp_of, demand_of};
 
 use crate::expr::Expr;
 use fx_fraction::Decimal;
@@ -29,6 +30,30 @@ pub struct State {
 pub struct Temp {
     pub name: Name,
     pub expr: Expr,
+}
+
+/// What is demanded of an output, each where there is one.
+#[derive(Clone, Copy, Debug, PartialEq, Eq)]
+pub struct Demand {
+    /// By how much the printed value may differ from the exact one.
+    pub err: Option<Decimal>,
+    /// The least that the printed value may be.
+    pub lo: Option<Decimal>,
+    /// The greatest that it may be.
+    pub hi: Option<Decimal>,
+}
+
+impl Demand {
+    /// Nothing is demanded.
+    pub fn free() -> Demand
+        ensures { demand_of result ≡ free }
+    {
+        Demand {
+            err: None,
+            lo: None,
+            hi: None,
+        }
+    }
 }
 
 impl Input {

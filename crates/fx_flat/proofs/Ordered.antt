@@ -5,7 +5,7 @@ use Rattle.std.proofs.lemmas.List.{length_push}
 use Rattle.std.proofs.lemmas.List.Elements.{All-nil}
 use Rattle.fx_model.specs.Tree as tree
 use Rattle.fx_model.specs.Tree.{Tree, at}
-use Rattle.fx_model.specs.Function.{Function, Temp}
+use Rattle.fx_model.specs.Function.{Function, Temp, outputs}
 use Rattle.fx_model.specs.Nodes.{Node, Neg, Add, Sub, Mul, Div, Flat, flat, inputs_from, states_from, copies_of, nodes_after, nodes_of}
 use Rattle.fx_flat.specs.InPlace.{IsInPlace, AreInPlace}
 use Rattle.fx_model.specs.Valid.{RefersBelow, AllReferBelow, ReferBack, IsValid}
@@ -139,7 +139,7 @@ module _ (fn : Function) (valid : IsValid fn) where
   start_ordered : AreInPlace (length fn.inputs) (length fn.states) 0 (inputs_from 0 (length fn.inputs) ++ states_from 0 (length fn.states))
   start_ordered = ordered_append (length fn.inputs) (length fn.states) 0 (inputs_from 0 (length fn.inputs)) (states_from 0 (length fn.states)) (inputs_ordered (length fn.inputs) (length fn.states) 0 (length fn.inputs) (omega arith)) (states_ordered (length fn.inputs) (length fn.states) (0 + length (inputs_from 0 (length fn.inputs))) 0 (length fn.states) (let l = inputs_length 0 (length fn.inputs) in omega (arith, l)) (omega arith))
 
-  pub node_list : IsNodeList (length fn.inputs) (length fn.states) (length fn.demands + length fn.states) (nodes_of fn)
+  pub node_list : IsNodeList (length fn.inputs) (length fn.states) (outputs fn + length fn.states) (nodes_of fn)
   node_list =
       let s = start_long in
       let all = after_ordered (length fn.inputs) (length fn.states) fn.temps fn.results [] [] (inputs_from 0 (length fn.inputs) ++ states_from 0 (length fn.states)) (omega (arith, s)) start_ordered

@@ -3,6 +3,7 @@
 //! Each call appends the nodes of its part and gives the number of the part's node, so that the list is built in one
 //! pass. No more than 4,000 nodes come, which the function keeps as its limit.
 ghost use Rattle.std.specs.Prelude.{◌≡◌, ◌+◌, ◌<◌, ◌≤◌, ◌∷◌, ◌++◌, length, map, IfOk, OnOk, []};
+ghost use Rattle.fx_model.specs.Function.{outputs};
 ghost use Rattle.fx_model.specs.Nodes.{nodes_of, nodes_after, flat, inputs_from, states_from, copies_of};
 ghost use Rattle.fx_model.specs.Valid.{RefersBelow};
 ghost use Rattle.fx_expr.specs.TreeOf.{tree};
@@ -145,7 +146,7 @@ pub fn flatten(alloc: Global, function: &Function) -> Result<Nodes, Memory>
     ensures list { IfOk result (λ nodes. nodes_in nodes.list ≡ nodes_of function.now) }
     ensures inputs { IfOk result (λ nodes. nodes.inputs ≡ length function.now.inputs) }
     ensures states { IfOk result (λ nodes. nodes.states ≡ length function.now.states) }
-    ensures outputs { IfOk result (λ nodes. nodes.outputs ≡ length function.now.demands) }
+    ensures outputs { IfOk result (λ nodes. nodes.outputs ≡ outputs function.now) }
 {
     function.keeps();
     let inputs = function.inputs.len() as u32;

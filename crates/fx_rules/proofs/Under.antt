@@ -1,11 +1,11 @@
 -- Under a path in a tree, and in a whole function.
-use Rattle.std.proofs.Common.{◌≡◌, ℕ, zero, suc, List, [], ◌∷◌, ◌++◌, Option, Some, None, refl, take, drop, length}
+use Rattle.std.proofs.Common.{◌≡◌, ℕ, zero, suc, List, [], ◌∷◌, ◌++◌, Option, Some, None, refl, take, drop}
 use Rattle.std.specs.Prelude.{pos, slice_get}
 use Rattle.std.specs.Option.{option_map, option_and_then}
 use Rattle.fx_rational.specs.Rational.{Rational, whole, plus, minus, negative, times, quotient, Equal}
 use Rattle.fx_model.specs.Tree.{Tree, Literal, Input, State, Temp, Negation, Sum, Difference, Product, Quotient, at, on_one, on_two, always, value_of}
 use Rattle.fx_model.specs.Function as function
-use Rattle.fx_model.specs.Function.{Function, temp_values, values_of, exact, step_of}
+use Rattle.fx_model.specs.Function.{Function, temp_values, values_of, exact, step_of, outputs}
 use Rattle.fx_rational.proofs.Laws.{equal_refl, plus_same, minus_same, times_same, negative_same}
 use Rattle.fx_rational.specs.Laws.{SameOption}
 use Rattle.fx_rational.proofs.Quotient.{quotient_same}
@@ -185,7 +185,7 @@ changed_same f k e g i same = record {
   inputs = refl;
   states = refl;
   demands = refl;
-  exact = λ t x. steps_same (length f.demands) (temp_values f.temps t x []) (temp_values (temps_changed f.temps k g) t x [])
+  exact = λ t x. steps_same (outputs f) (temp_values f.temps t x []) (temp_values (temps_changed f.temps k g) t x [])
       (λ y. values_of f.results t x y) (λ y. values_of (results_after f.temps f.results k g) t x y)
       (temps_same f.temps f.results k e g i same t x [] [] (tt {0})) (λ y z h. after_same f.temps f.results k e g i same t x y z h);
 }

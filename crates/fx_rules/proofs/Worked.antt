@@ -4,7 +4,7 @@ use Rattle.fx_algebra.specs.Gcd.{gcd}
 use Rattle.fx_rational.specs.Rational.{Rational, over, whole, plus, minus, times, negative, divided, quotient, lowest}
 use Rattle.fx_model.specs.Tree.{Tree, Literal, Input, State, Temp, Negation, Sum, Difference, Product, Quotient}
 use Rattle.fx_model.specs.Function as function
-use Rattle.fx_model.specs.Function.{Function}
+use Rattle.fx_model.specs.Function.{Function, free}
 use Rattle.fx_model.specs.Paths.{found}
 use Rattle.fx_inequalities.specs.Rewriting.{Rewriting}
 use Rattle.fx_rules.specs.Turned.{Turned, NoMatch, TooLong, Becomes, turned}
@@ -35,7 +35,7 @@ of_three result = record {
   states = [];
   temps = [];
   results = result ∷ [];
-  demands = None ∷ [];
+  demands = free ∷ [];
 }
 
 abbrev step : ℕ → List ℕ → ℕ → Rewriting

@@ -8,7 +8,7 @@ use Rattle.fx_fraction.specs.Numeral.{numeral_of}
 use Rattle.fx_fraction.specs.DecimalOf.{trimmed, decimal_of}
 use Rattle.fx_model.specs.Tree.{Tree, Literal, Input, State, Temp, Negation, Sum, Difference, Product, Quotient}
 use Rattle.fx_model.specs.Function as function
-use Rattle.fx_model.specs.Function.{Function}
+use Rattle.fx_model.specs.Function.{Function, free}
 use Rattle.fx_lexer.specs.declared.fault.SourceFault.{SourceFault}
 use Rattle.fx_lexer.specs.declared.fault.SourceKind.TheVariants as kinds
 use Rattle.fx_lexer.specs.Numbers.{digits_at, part_len, mark_len, power_len, number_len}
@@ -44,7 +44,7 @@ unit : Text → function.Input
 unit name = record { name = name; lo = whole (pos 0); hi = whole (pos 1); err = whole (pos 0) }
 
 f_of : List function.Temp → Tree → Function
-f_of temps result = record { name = codes "f"; inputs = unit (codes "x") ∷ unit (codes "y") ∷ []; states = []; temps = temps; results = result ∷ []; demands = None ∷ [] }
+f_of temps result = record { name = codes "f"; inputs = unit (codes "x") ∷ unit (codes "y") ∷ []; states = []; temps = temps; results = result ∷ []; demands = free ∷ [] }
 
 abbrev x : Tree
 x = Input 0
@@ -158,7 +158,7 @@ averager = record {
   states = record { name = codes "x"; start = whole (pos 0) } ∷ [];
   temps = record { name = codes "y"; tree = Sum (Product (Literal a_half) (State 0)) (Product (Literal a_half) (Input 0)) } ∷ [];
   results = Temp 0 ∷ Temp 0 ∷ [];
-  demands = Some (over (pos 1) 100) ∷ [];
+  demands = record { err = Some (over (pos 1) 100); lo = None; hi = None } ∷ [];
 }
 
 averager_is : IsSourceText averager_text (averager ∷ [])
@@ -172,9 +172,9 @@ nothing_is = (text_law [] []).0 refl
 object_text : Text
 object_text = codes "import a.b /* import */ object M { import c def f(x: Real): Real = {require(1 >= x && x > 0) x} }"
 
-object_is : IsSourceText object_text (record { name = codes "f"; inputs = unit (codes "x") ∷ []; states = []; temps = []; results = x ∷ []; demands = None ∷ [] } ∷ [])
+object_is : IsSourceText object_text (record { name = codes "f"; inputs = unit (codes "x") ∷ []; states = []; temps = []; results = x ∷ []; demands = free ∷ [] } ∷ [])
 unfolding object_text unit read
-object_is = (text_law object_text (record { name = codes "f"; inputs = unit (codes "x") ∷ []; states = []; temps = []; results = x ∷ []; demands = None ∷ [] } ∷ [])).0 refl
+object_is = (text_law object_text (record { name = codes "f"; inputs = unit (codes "x") ∷ []; states = []; temps = []; results = x ∷ []; demands = free ∷ [] } ∷ [])).0 refl
 
 -- ---- texts that are no source
 
