@@ -5,7 +5,7 @@ Tested is what docs/messages.md and docs/formats.md say of a failed read or writ
 status and line come, and what stands on the output. A line of the table says what was done, what has to come, and what came. A fault is
 any other status, a line that isn't that status's, output that isn't what is due (or, where a front of it is due, no front), an
 answer that comes later than the row before it was whole, or a run that hangs. Where the page leaves several ends open, all are named. The
-script ends with 1 where there is a fault. With `--long` an input of 1 GiB and of a byte more come too, some minutes. Outside the gate: it needs a built program and Linux; as root, it also reads a file
+script ends with 1 where there is a fault. With `--long` an input of 5 GiB comes too, some minutes. Outside the gate: it needs a built program and Linux; as root, it also reads a file
 as another user and fills a file system of 4 KiB.
 """
 import contextlib
@@ -462,16 +462,16 @@ def try_changes(table, folder):
 
 
 def try_long(table, _):
-    """An input that is as long as it may be, and one that is a byte longer: both are blank behind two lines."""
-    for size, status in ((1 << 30, 0), ((1 << 30) + 1, 10)):
-        child = table.start(["run", AVERAGE], stdin=subprocess.PIPE)
-        block, left = b"\n" * 65536, size - len(ROWS)
-        with contextlib.suppress(BrokenPipeError), child.stdin:
-            child.stdin.write(ROWS)
-            while left:
-                left -= child.stdin.write(block[:left])
-        child.stdin = None
-        table.row(f"an input of {size:,} bytes", table.end(child), {status: PAGE}, front=status == 10)
+    """An input of more bytes than 32 bits count, blank behind two lines."""
+    size = 5 << 30
+    child = table.start(["run", AVERAGE], stdin=subprocess.PIPE)
+    block, left = b"\n" * 65536, size - len(ROWS)
+    with contextlib.suppress(BrokenPipeError), child.stdin:
+        child.stdin.write(ROWS)
+        while left:
+            left -= child.stdin.write(block[:left])
+    child.stdin = None
+    table.row(f"an input of {size:,} bytes", table.end(child), {0: PAGE}, front=False)
 
 
 def main():

@@ -1,9 +1,11 @@
 //! What a plan costs.
 //!
-//! First comes by how much a bound is above what it has to keep, then the bounds' mean. What fails costs more than any
+//! First comes how far an output is from what it has to keep, then the bounds' mean. What fails costs more than any
 //! plan, and the less the further on in the list of nodes it fails.
 
-use fx_expr::Function;
+use crate::ends::end_excess;
+use crate::setting::Setting;
+use fx_expr::Demand;
 use fx_fraction::{Decimal, to_fraction};
 use fx_span::{Real, Span};
 
@@ -19,7 +21,8 @@ pub struct Goal<'a> {
 /// What is paid for a plan, or for none.
 #[derive(Clone, Copy, Debug, PartialEq, Eq)]
 pub enum Cost {
-    /// The greatest quotient of a bound by what it has to keep, but at least 1, and the mean of those by the references.
+    /// The greatest quotient of a bound by what it has to keep, but at least 1, and more where an output leaves a demanded
+    /// end; and the mean of those by the references.
     Planned { excess: Real, mean: Real },
     /// There is no plan: from the node that fails on so many are left.
     Failed { left: u32 },
@@ -38,8 +41,8 @@ impl Cost {
     }
 }
 
-/// About a demand.
-fn demand(d: Decimal) -> Real {
+/// About a decimal.
+fn about(d: Decimal) -> Real {
     let c = to_fraction(d);
     Real::of(c.p, 0).over(Real::of(c.q, 0))
 }
@@ -58,21 +61,35 @@ fn reference(goal: Goal<'_>, j: usize) -> Real {
     if bound.is_zero() { Real::ONE } else { bound }
 }
 
+/// How far an output is from what is demanded of it: at least 1, and 1 where all of it is kept.
+fn demand_excess(demand: Demand, range: Option<Span>, error: Span, bound: Real) -> Real {
+    let by_error = match demand.err {
+        Some(d) => Real::ONE.max(bound.over(about(d))),
+        None => Real::ONE,
+    };
+    match range {
+        Some(range) => by_error.max(end_excess(demand, range, error, bound)),
+        None => by_error,
+    }
+}
+
 /// What the outputs' errors cost.
-pub fn cost_of(function: &Function, goal: Goal<'_>, outputs: &[Span]) -> Cost {
-    let demands = function.demands.as_slice();
+pub fn cost_of(setting: &Setting<'_>, outputs: &[Span]) -> Cost {
+    let demands = setting.function.demands.as_slice();
+    let first = setting.first_output();
     let mut excess = Real::ONE;
     let mut sum = Real::ZERO;
     let mut count = 0_i64;
     for (j, error) in outputs.iter().enumerate() {
         let size = bound(*error);
-        let ratio = size.over(reference(goal, j));
+        let ratio = size.over(reference(setting.goal, j));
         sum = sum.plus(ratio);
         count = count.saturating_add(1);
-        if let Some(Some(d)) = demands.get(j) {
-            excess = excess.max(size.over(demand(*d)));
+        if let Some(demand) = demands.get(j) {
+            let range = setting.ranges.span(first.saturating_add(j));
+            excess = excess.max(demand_excess(*demand, range, *error, size));
         }
-        if goal.is_held {
+        if setting.goal.is_held {
             excess = excess.max(ratio);
         }
     }

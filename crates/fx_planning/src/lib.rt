@@ -7,7 +7,8 @@
 //! - `find_plan` makes the codes at the points and their errors, by the checker's own formulas rounded outward once a node.
 //!   Floors err to one side only, so the words of literals are worth choosing: once each is the nearest, once it is moved
 //!   so that what it goes into has its error's middle at zero; and each output is tuned by the one literal whose slope
-//!   promises most. The cheaper plan stands.
+//!   promises most. Where an output leaves an end that is demanded, a literal that brings it back is moved first. The cheaper
+//!   plan stands.
 //! - Where words are too small for a range with its error, the plan names their nodes (`Plan::small`), and the caller takes
 //!   coarser points. `Cost` orders plans, and what fails by how far it came.
 //!
@@ -22,6 +23,7 @@
 mod adjoint;
 mod centre;
 mod cost;
+mod ends;
 mod error;
 mod plan;
 mod setting;

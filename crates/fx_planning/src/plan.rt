@@ -53,10 +53,8 @@ impl Plan {
 
 /// The errors of the outputs.
 pub fn outputs_of<'a>(setting: &Setting<'_>, errors: &'a Errors) -> &'a [Span] {
-    let function = setting.function;
-    let outputs = function.demands.len();
-    let to = errors.spans.len().saturating_sub(function.states.len());
-    let from = to.saturating_sub(outputs);
+    let from = setting.first_output();
+    let to = from.saturating_add(setting.function.demands.len());
     errors.spans.get(from..to).unwrap_or(&[])
 }
 
@@ -72,7 +70,7 @@ fn planned(
         Ok(errors) => errors,
         Err(failed) => return Ok(Err(failed)),
     };
-    let cost = cost_of(setting.function, setting.goal, outputs_of(setting, &errors));
+    let cost = cost_of(setting, outputs_of(setting, &errors));
     Ok(Ok(Plan {
         width: setting.width,
         codes,

@@ -75,6 +75,12 @@ impl Setting<'_> {
         codes_of(alloc, self.function, self.nodes, self.points, self.width)
     }
 
+    /// The node of the first output.
+    pub fn first_output(&self) -> usize {
+        let behind = self.function.demands.len().saturating_add(self.function.states.len());
+        self.nodes.len().saturating_sub(behind)
+    }
+
     /// The point of a node.
     pub fn point(&self, n: usize) -> Option<i32> {
         self.points.get(n).copied()

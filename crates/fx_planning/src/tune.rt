@@ -5,6 +5,7 @@
 
 use crate::adjoint::slopes_of;
 use crate::cost::cost_of;
+use crate::ends::keep_ends;
 use crate::error::find_errors;
 use crate::plan::{Plan, outputs_of};
 use crate::setting::Setting;
@@ -21,10 +22,10 @@ const ROUNDS: usize = 2;
 
 /// A word moved, and about what the output's bound comes to.
 #[derive(Clone, Copy, Debug)]
-struct Move {
-    node: usize,
-    units: i64,
-    bound: Real,
+pub struct Move {
+    pub node: usize,
+    pub units: i64,
+    pub bound: Real,
 }
 
 /// The bound that an error's ends give.
@@ -33,7 +34,7 @@ fn bound(ends: RealSpan) -> Real {
 }
 
 /// About the bound where a literal with this slope by unit is moved by so many units.
-fn bound_after(ends: RealSpan, slope: RealSpan, units: i64) -> Real {
+pub fn bound_after(ends: RealSpan, slope: RealSpan, units: i64) -> Real {
     let by = Real::of(i128::from(units), 0);
     let x = slope.lo.times(by);
     let y = slope.hi.times(by);
@@ -42,7 +43,7 @@ fn bound_after(ends: RealSpan, slope: RealSpan, units: i64) -> Real {
 }
 
 /// The lesser of two moves, and the first of equals.
-fn lesser(best: Option<Move>, other: Move) -> Option<Move> {
+pub fn lesser(best: Option<Move>, other: Move) -> Option<Move> {
     match best {
         Some(first) => if other.bound.is_below(first.bound) {
             Some(other)
@@ -62,11 +63,7 @@ fn better(
     ends: RealSpan,
     limit: Real,
 ) -> Option<Move> {
-    let unit = Real::power(f.saturating_neg());
-    let slope = RealSpan {
-        lo: slope.lo.times(unit),
-        hi: slope.hi.times(unit),
-    };
+    let slope = slope.scaled(Real::power(f.saturating_neg()));
     let twice = slope.lo.plus(slope.hi);
     if twice.is_zero() {
         return best;
@@ -139,7 +136,7 @@ pub fn try_word(
     let Ok(errors) = find_errors(alloc, setting, &mut codes, false)? else {
         return Ok(false);
     };
-    let cost = cost_of(setting.function, setting.goal, outputs_of(setting, &errors));
+    let cost = cost_of(setting, outputs_of(setting, &errors));
     if !errors.small.is_empty() || !cost.is_below(plan.cost) {
         return Ok(false);
     }
@@ -149,17 +146,19 @@ pub fn try_word(
     Ok(true)
 }
 
-/// Tunes a plan for one output, and answers whether there was a move to try.
+/// Tunes a plan for output `j`, which is this node, and answers whether there was a move to try.
 fn tune_output(
     alloc: Global,
     setting: &Setting<'_>,
     plan: &mut Plan,
+    j: usize,
     output: usize,
 ) -> Result<bool, Memory> {
+    let slopes = slopes_of(alloc, setting.nodes, setting.ranges, output)?;
+    keep_ends(alloc, setting, plan, &slopes, j, output)?;
     let Some(error) = plan.errors.span(output) else {
         return Ok(false);
     };
-    let slopes = slopes_of(alloc, setting.nodes, setting.ranges, output)?;
     let Some(best) = best_move(&plan.codes, &slopes, RealSpan::of(error)) else {
         return Ok(false);
     };
@@ -173,9 +172,9 @@ pub fn tune(alloc: Global, setting: &Setting<'_>, plan: &mut Plan) -> Result<(),
     let function = setting.function;
     let outputs = function.demands.len();
     for turn in 0..outputs.saturating_mul(ROUNDS) {
-        let behind = outputs.saturating_sub(turn.checked_rem(outputs).unwrap_or(0));
-        let output = count.saturating_sub(behind);
-        let has_moved = tune_output(alloc, setting, plan, output)?;
+        let j = turn.checked_rem(outputs).unwrap_or(0);
+        let output = count.saturating_sub(outputs.saturating_sub(j));
+        let has_moved = tune_output(alloc, setting, plan, j, output)?;
         if !has_moved && outputs == 1 {
             return Ok(());
         }

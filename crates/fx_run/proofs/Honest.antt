@@ -49,7 +49,8 @@ honest rewrite f p cert in_range rows_in_range run_law bound_law inputs certifie
     record {
       run = first.run;
       own = first.not_stuck;
-      within = λ ts' true_ts. within f p cert gs ts' first.run bound_law first.not_stuck (run_law rewrite f p cert gs ts' certified true_ts);
+      ends = first.ends;
+      bound = λ ts' true_ts. within f p cert gs ts' first.run bound_law first.not_stuck (run_law rewrite f p cert gs ts' certified true_ts);
     }
 
 -- ---- the lines

@@ -7,7 +7,7 @@ use Rattle.fx_model.specs.Machine.{Program, machine_run}
 use Rattle.fx_model.specs.Page.{page}
 use Rattle.fx_model.specs.Rows.{AreTrueOf}
 use Rattle.fx_inequalities.specs.Certificate.{Certificate}
-use Rattle.fx_sound.specs.Soundness.{AllBounded}
+use Rattle.fx_sound.specs.Soundness.{AllBounded, AllInEnds}
 use Rattle.fx_rows.specs.ReadRows.{Read, lines_read}
 use Rattle.fx_filter.specs.Outcome.{Outcome}
 
@@ -35,11 +35,13 @@ pub record IsWithinBounds (f : Function) (p : Program) (cert : Certificate) (run
   pub defined : exact_run f ts ≡ Some exact_made
   pub bounded : AllBounded p cert run.outputs exact_made.outputs
 
--- the machine isn't stuck on these rows, and for all rows that may be the true ones its outputs keep their bounds
+-- the machine isn't stuck on these rows, each printed value keeps the ends that the source demands of it, and for all rows that may be
+-- the true ones the outputs keep their bounds
 pub record IsHonestRun (f : Function) (p : Program) (cert : Certificate) (gs : List (List Rational)) : Type 0 where
   pub run : Run ℤ
   pub own : machine_run p gs ≡ Some run
-  pub within : (ts : List (List Rational)) → AreTrueOf f.inputs gs ts → IsWithinBounds f p cert run ts
+  pub ends : AllInEnds f p run.outputs
+  pub bound : (ts : List (List Rational)) → AreTrueOf f.inputs gs ts → IsWithinBounds f p cert run ts
 
 -- so it is for the rows of any lines
 abbrev pub RowsLaw : Function → Program → Certificate → Type 0

@@ -18,8 +18,8 @@ mod span;
 
 pub use grid::{Grids, PLACE_LIMIT};
 pub use literal::{
-    fits_word, input_error, nearest, range_between, range_of, reading_error, unit_on, word_at,
-    word_error,
+    ceil_at, fits_word, floor_at, input_error, nearest, range_between, range_of, reading_error,
+    unit_on, word_at, word_error,
 };
 pub use real::Real;
 pub use real_span::RealSpan;

@@ -39,6 +39,14 @@ impl RealSpan {
         }
     }
 
+    /// The product with a number above zero.
+    pub fn scaled(self, by: Real) -> RealSpan {
+        RealSpan {
+            lo: self.lo.times(by),
+            hi: self.hi.times(by),
+        }
+    }
+
     /// The numbers with the other sign.
     pub fn negative(self) -> RealSpan {
         RealSpan {

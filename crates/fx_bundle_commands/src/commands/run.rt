@@ -20,7 +20,7 @@ use fx_run::run_rows;
 use std::alloc::Global;
 
 // In bytes: the longest input of rows.
-const ROWS_LIMIT: u64 = 1_073_741_824;
+const ROWS_LIMIT: u64 = 1_099_511_627_776;
 
 // The inputs of a certified function.
 fn inputs_of(certified: &Certified) -> &[Input]
