@@ -3,7 +3,9 @@ use Rattle.std.specs.Prelude.{◌≡◌, ℕ, List, length, None, Ok}
 use Rattle.fx_grammar.specs.Sources.{parsed}
 use Rattle.fx_model.specs.Function.{Function}
 use Rattle.fx_model.specs.Page.{page}
+use Rattle.fx_model.specs.LawfulProgram.{IsLawfulProgram}
 use Rattle.fx_inequalities.specs.Accepted.{IsAccepted}
+use Rattle.fx_inequalities.specs.LawfulCertificate.{IsLawfulCertificate}
 use Rattle.fx_rules.specs.Steps.{rewrite}
 use Rattle.fx_checker.specs.CertifiedView.{Accepted}
 use Rattle.fx_rows.specs.ReadRows.{Given, read_rows}
@@ -14,11 +16,13 @@ use Rattle.fx_listing.specs.LastLine.{IsLastLine}
 use Rattle.fx_listing.specs.Rows.{demo_rows}
 use Rattle.fx_listing.specs.Source.{demo_source}
 
--- an accepted program for the source of number n, as a synthesis at 32 bits with 200 tries finds one; the plain plan serves its
+-- an accepted program for the source of number n, as a text spells it and a synthesis at 32 bits with 200 tries finds one; the plain plan serves its
 -- function, so that its bounds are at most those of the plan
 pub record IsProgram (n : ℕ) (a : Accepted) : Type 0 where
   pub meant : parsed (demo_source n) None ≡ Ok a.function
   pub served : outside_of 32 a.function ≡ None
+  pub program : IsLawfulProgram a.program
+  pub certificate : IsLawfulCertificate a.certificate
   pub accepted : IsAccepted rewrite a.function a.program a.certificate
   pub synthesised : IsSynthesised 32 200 a.function a
 
@@ -26,7 +30,7 @@ pub record IsProgram (n : ℕ) (a : Accepted) : Type 0 where
 abbrev pub given : Function → Given
 given fn = (read_rows fn demo_rows).given
 
--- its machine's run over the thousand rows isn't stuck, is within the bounds for all rows that may be the true ones, and prints this page
+-- its machine's run over the thousand rows is honest, and prints this page
 pub record IsRun (a : Accepted) (text : List ℕ) : Type 0 where
   pub good : (given a.function).bad ≡ None
   pub count : length (given a.function).rows ≡ 1000

@@ -12,6 +12,8 @@ returns-in-Ok c =
     let s = c.in-Ok.ensures.found in record {
       meant = c.in_ok-function.ensures.meant ∙ ap Ok (sym s.function_is);
       served = ap (outside_of 32) s.function_is ∙ c.in_ok-function.ensures.served;
+      program = c.certified.ensures.certified.program;
+      certificate = c.certified.ensures.certified.certificate;
       accepted = c.certified.ensures.certified.accepted;
       synthesised = subst (λ fn. IsSynthesised 32 200 fn c.in-Ok.certified) (sym s.function_is) s;
     }
