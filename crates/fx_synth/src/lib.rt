@@ -10,5 +10,6 @@ mod fault;
 mod synthesis;
 
 pub use fault::SynthFault;
+pub use fx_moves::draw;
 pub use fx_weight::Outside;
 pub use synthesis::synthesise;
