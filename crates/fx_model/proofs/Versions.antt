@@ -1,12 +1,9 @@
 -- A lawful program of any version is one of the second.
-use Rattle.std.proofs.Common.{◌≤◌, refl, arith, get_or}
-use Rattle.fx_model.specs.Machine.{Round, Floor, Nearest, Code, Program, Input, State, Const, Neg, Add, Sub, Mul, Div, Copy}
-use Rattle.fx_model.specs.LawfulProgram.{IsOfVersion, IsLawfulProgram, first_version}
+use Rattle.std.proofs.Common.{refl, arith, get_or}
+use Rattle.fx_model.specs.Machine.{Code, Program, Input, State, Const, Neg, Add, Sub, Mul, Div, Copy}
+use Rattle.fx_model.specs.LawfulProgram.{IsOfVersion, IsLawfulProgram}
 use Rattle.fx_model.specs.Versions.{second_version}
-
-by_then : (r : Round) → first_version r ≤ 2
-by_then Floor = omega arith
-by_then Nearest = omega arith
+use Rattle.fx_model.proofs.Rounds.{in_second}
 
 of_second : (c : Code) → IsOfVersion 2 c
 of_second (Input k f) = tt
@@ -15,9 +12,9 @@ of_second (Const w f) = tt
 of_second (Neg a) = tt
 of_second (Add a b sa sb) = tt
 of_second (Sub a b sa sb) = tt
-of_second (Mul r a b s) = by_then r
+of_second (Mul r a b s) = in_second r
 of_second (Div a b s) = tt
-of_second (Copy r a s) = by_then r
+of_second (Copy r a s) = in_second r
 
 pub second_lawful : (p : Program) → IsLawfulProgram p → IsLawfulProgram (second_version p)
 second_lawful p l =
