@@ -75,7 +75,8 @@ fn demand_excess(demand: Demand, range: Option<Span>, error: Span, bound: Real) 
 
 /// What the outputs' errors cost.
 pub fn cost_of(setting: &Setting<'_>, outputs: &[Span]) -> Cost {
-    let demands = setting.function.demands.as_slice();
+    let function = setting.function;
+    let demands = function.demands.as_slice();
     let first = setting.first_output();
     let mut excess = Real::ONE;
     let mut sum = Real::ZERO;

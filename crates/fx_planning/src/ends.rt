@@ -110,7 +110,8 @@ fn push_once(
     j: usize,
     n: usize,
 ) -> Result<bool, Memory> {
-    let demands = setting.function.demands.as_slice();
+    let function = setting.function;
+    let demands = function.demands.as_slice();
     let (Some(demand), Some(range), Some(error)) =
         (demands.get(j), setting.ranges.span(n), plan.errors.span(n))
     else {

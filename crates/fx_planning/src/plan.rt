@@ -53,8 +53,9 @@ impl Plan {
 
 /// The errors of the outputs.
 pub fn outputs_of<'a>(setting: &Setting<'_>, errors: &'a Errors) -> &'a [Span] {
+    let function = setting.function;
     let from = setting.first_output();
-    let to = from.saturating_add(setting.function.demands.len());
+    let to = from.saturating_add(function.demands.len());
     errors.spans.get(from..to).unwrap_or(&[])
 }
 

@@ -77,7 +77,8 @@ impl Setting<'_> {
 
     /// The node of the first output.
     pub fn first_output(&self) -> usize {
-        let behind = self.function.demands.len().saturating_add(self.function.states.len());
+        let function = self.function;
+        let behind = function.demands.len().saturating_add(function.states.len());
         self.nodes.len().saturating_sub(behind)
     }
 
