@@ -1,5 +1,5 @@
 -- Which of two decimals is the greater, over one denominator.
-use Rattle.std.proofs.Common.{◌≡◌, ℕ, suc, pred, ◌^◌, ◌<◌, pos, ◌*ℤ◌, refl}
+use Rattle.std.proofs.Common.{◌≡◌, ◌^◌, pos, ◌*ℤ◌, refl}
 use Rattle.std.specs.Prelude.{int_le}
 use Rattle.fx_fraction.proofs.Values.{tens}
 use Rattle.fx_rational.specs.Rational.{over, is_at_most}

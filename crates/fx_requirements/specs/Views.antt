@@ -11,6 +11,7 @@ use Rattle.fx_cursor.specs.Texts.{numeral_decimal}
 use Rattle.fx_requirements.specs.declared.subject.Subject.{Subject}
 use Rattle.fx_requirements.specs.declared.subject.Named.{Named}
 use Rattle.fx_requirements.specs.declared.condition.Conditions.{Conditions}
+use Rattle.fx_requirements.specs.declared.ensuring.Demanded.{Demanded}
 
 abbrev pub subject_of : Subject → ranges.Subject
 subject_of s = record { name = s.name.now; at = s.at; lo = option_map numeral_decimal s.lo; hi = option_map numeral_decimal s.hi; err = option_map numeral_decimal s.err }
@@ -28,5 +29,9 @@ conditions_in c = record { depth = c.depth; wants = c.wants; subjects = subjects
 abbrev pub inputs_value : Vec Subject Global → List model.Input
 inputs_value v = map ranges.declared_input (subjects_of v)
 
-abbrev pub demand_value : Option Numeral → Option Rational
-demand_value d = option_map decimal_value (option_map numeral_decimal d)
+-- the value of a number that may be given
+abbrev pub given : Option Numeral → Option Rational
+given n = option_map decimal_value (option_map numeral_decimal n)
+
+abbrev pub demand_value : Demanded → model.Demand
+demand_value d = record { err = given d.err; lo = given d.lo; hi = given d.hi }

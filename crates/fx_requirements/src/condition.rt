@@ -1,4 +1,5 @@
-//! The conditions of `require`: ends and errors of inputs, in parentheses that may nest.
+//! Conditions, each of which gives an end or an error of an input or an output; and those of `require`, in parentheses that
+//! may nest.
 //!
 //! Parentheses are counted, not followed, so that a million of them need no stack. The trap: a relation with a number or a name
 //! on both sides is found at its second side, and told at its first token.
@@ -16,7 +17,7 @@ use fx_cursor::{Numeral, Parsed, behind, number, peek, place_at, signed, want, w
 use fx_grammar::{Head, Side, head_of};
 use fx_lexer::{SourceFault, SourceKind, Token};
 
-pub fn is_relation(head: Head) -> bool
+fn is_relation(head: Head) -> bool
     ensures { result ≡ is_relation head }
 {
     head == Head::Below || head == Head::AtMost || head == Head::Above || head == Head::AtLeast
@@ -29,7 +30,7 @@ fn is_upward(head: Head) -> bool
 }
 
 /// A number stands next, with or without a minus.
-pub fn is_signed(tokens: &[Token<'_>]) -> bool
+fn is_signed(tokens: &[Token<'_>]) -> bool
     ensures { result ≡ is_signed (lexemes tokens.now) }
 {
     let head = peek(tokens);
@@ -37,7 +38,7 @@ pub fn is_signed(tokens: &[Token<'_>]) -> bool
 }
 
 #[tactic(auto, unfolding(fx_grammar::specs::Ranges::stated_error))]
-pub fn error_at<'t, 'a>(
+fn error_at<'t, 'a>(
     end: u32,
     subjects: Vec<Subject<'a>>,
     token: &Token<'a>,
@@ -152,8 +153,9 @@ fn number_first<'t, 'a>(
     )
 }
 
+/// A condition without parentheses around it, which is also a demand.
 #[tactic(auto, unfolding(fx_grammar::specs::Ranges::condition_at))]
-fn condition_at<'t, 'a>(
+pub(crate) fn condition_at<'t, 'a>(
     end: u32,
     subjects: Vec<Subject<'a>>,
     tokens: &'t [Token<'a>],

@@ -1,66 +1,30 @@
 //! `ensuring`: the names of the outputs in order, and what is demanded of them.
-ghost use Rattle.std.specs.Prelude.{◌≡◌, ◌≤◌, ◌<◌, ◌+◌, ◌^◌, ℕ, length, map, replicate, option_map, IfOk, [], Ok, None};
-ghost use Rattle.fx_rational.specs.Decimal.{decimal_value};
+//!
+//! A demand is read as a condition of `require` is, over the names of the outputs.
+ghost use Rattle.std.specs.Prelude.{◌≡◌, ◌≤◌, ◌<◌, length, map, replicate, IfOk, Ok};
+ghost use Rattle.fx_model.specs.Function.{free};
 ghost use Rattle.fx_lexer.specs.Faults.{GivesParsed};
 ghost use Rattle.fx_cursor.specs.Views.{lexemes};
 ghost use Rattle.fx_requirements.specs.Views.{subject_of, subjects_of, demand_value, IsNamed};
-ghost use Rattle.fx_lexer.specs.Tokens.{lexeme_of};
-ghost use Rattle.fx_grammar.specs.Ensuring.{demand_at, no_demand, past_minus, output_at, first_place, of_arity, outputs_at, ensuring_at, maybe_ensuring_at};
+ghost use Rattle.fx_grammar.specs.Ensuring.{output_at, first_place, of_arity, outputs_at, declared_demand, demands_at, ensuring_at, maybe_ensuring_at};
 
-use crate::condition::{error_at, is_relation, is_signed};
-use crate::subject::{Named, Subject, no_subjects, subject_at, with_subject};
-use fx_cursor::{
-    Items, Numeral, Parsed, behind, listed, peek, place, place_at, separated, want, wrong,
-};
+use crate::condition::condition_at;
+use crate::range::{Flaw, none_has};
+use crate::subject::{Named, Subject, no_subjects, with_subject};
+use fx_cursor::{Items, Numeral, Parsed, behind, listed, peek, place, separated, want};
 use fx_grammar::Head;
 use fx_lexer::{SourceFault, SourceKind, Token};
 use std::alloc::Global;
 
-/// One demand.
-#[tactic(auto, unfolding(fx_grammar::specs::Ensuring::demand_at))]
-fn demand<'t, 'a>(
-    end: u32,
-    subjects: Vec<Subject<'a>>,
-    tokens: &'t [Token<'a>],
-) -> Parsed<'t, 'a, Vec<Subject<'a>>>
-    ensures value { GivesParsed (λ x. (subjects_of x.0, lexemes x.1.now)) result (demand_at end (subjects_of subjects.entry) (lexemes tokens.now)) }
-    ensures shorter { IfOk result (λ x. length x.1.now < length tokens.now) }
-{
-    if peek(tokens) != Head::Name {
-        return Err(no_demand(end, tokens));
-    }
-    let (token, rest) = want(end, Head::Name, tokens)?;
-    let k = subject_at(&subjects, &token)?;
-    let head = peek(rest);
-    if head == Head::PlusMinus {
-        return error_at(end, subjects, &token, k, behind(rest));
-    }
-    if is_relation(head) {
-        return Err(SourceFault::at(token.at, SourceKind::Unsupported));
-    }
-    Err(wrong(end, rest))
-}
-
-/// The fault of a demand that doesn't begin with a name.
-fn no_demand(end: u32, tokens: &[Token<'_>]) -> SourceFault
-    ensures { result ≡ no_demand end (lexemes tokens.now) }
-{
-    if !is_signed(tokens) {
-        return wrong(end, tokens);
-    }
-    if is_relation(peek(behind(past_minus(tokens)))) {
-        return SourceFault::at(place_at(end, tokens), SourceKind::Unsupported);
-    }
-    wrong(end, tokens)
-}
-
-fn past_minus<'t, 'a>(tokens: &'t [Token<'a>]) -> &'t [Token<'a>]
-    ensures { lexemes result.now ≡ past_minus (lexemes tokens.now) }
-{
-    if peek(tokens) == Head::Minus {
-        return behind(tokens);
-    }
-    tokens
+/// What is demanded of an output, as it stands in the text.
+#[derive(Clone, Copy, Debug)]
+pub struct Demanded<'a> {
+    /// By how much it may be wrong.
+    pub err: Option<Numeral<'a>>,
+    /// Its lower end.
+    pub lo: Option<Numeral<'a>>,
+    /// Its upper end.
+    pub hi: Option<Numeral<'a>>,
 }
 
 /// An output's name behind those that were read.
@@ -158,8 +122,7 @@ struct DemandRule {
 }
 
 impl<'a> Items<'a> for DemandRule {
-    ghost use Rattle.fx_grammar.specs.Ranges.{Subjects};
-    ghost use Rattle.fx_grammar.specs.Ensuring.{demand_at};
+    ghost use Rattle.fx_grammar.specs.Ranges.{Subjects, condition_at};
     ghost use Rattle.fx_requirements.specs.Views.{subjects_of};
 
     type Kept = Vec<Subject<'a>>;
@@ -170,38 +133,69 @@ impl<'a> Items<'a> for DemandRule {
 
     ghost can_go_on = { λ rule subjects. Unit {0} };
 
-    ghost item_at = { λ rule. demand_at rule.end };
+    ghost item_at = { λ rule. condition_at rule.end };
 
     fn item<'t>(
         &self,
         subjects: Vec<Subject<'a>>,
         tokens: &'t [Token<'a>],
     ) -> Parsed<'t, 'a, Vec<Subject<'a>>> {
-        demand(self.end, subjects, tokens)
+        condition_at(self.end, subjects, tokens)
     }
 }
 
-fn errors_in<'a>(
+// What was said of an output.
+fn demand_of<'a>(subject: &Subject<'a>) -> Demanded<'a>
+    ensures { demand_value result ≡ declared_demand (subject_of subject.now) }
+{
+    Demanded {
+        err: subject.err,
+        lo: subject.lo,
+        hi: subject.hi,
+    }
+}
+
+// Nothing is demanded.
+fn free<'a>() -> Demanded<'a>
+    ensures { demand_value result ≡ free }
+{
+    Demanded {
+        err: None,
+        lo: None,
+        hi: None,
+    }
+}
+
+fn all_demanded<'a>(
     alloc: Global,
     subjects: &[Subject<'a>],
-) -> Result<Vec<Option<Numeral<'a>>>, SourceFault>
-    ensures { GivesParsed (λ v. map demand_value v.items) result (Ok (map (λ s. option_map decimal_value s.err) (map subject_of subjects.now))) }
+) -> Result<Vec<Demanded<'a>>, SourceFault>
+    ensures { GivesParsed (λ v. map demand_value v.items) result (Ok (map declared_demand (map subject_of subjects.now))) }
 {
-    let mut errors = Vec::new(alloc);
+    let mut demands = Vec::new(alloc);
     for subject in subjects {
-        errors.push(subject.err)?;
+        demands.push(demand_of(subject))?;
     }
-    Ok(errors)
+    Ok(demands)
 }
 
-fn no_demands<'a>(alloc: Global, outputs: usize) -> Result<Vec<Option<Numeral<'a>>>, SourceFault>
-    ensures { GivesParsed (λ v. map demand_value v.items) result (Ok (replicate outputs None)) }
+fn no_demands<'a>(alloc: Global, outputs: usize) -> Result<Vec<Demanded<'a>>, SourceFault>
+    ensures { GivesParsed (λ v. map demand_value v.items) result (Ok (replicate outputs free)) }
 {
     let mut demands = Vec::new(alloc);
     for _ in 0..outputs {
-        demands.push(None)?;
+        demands.push(free())?;
     }
     Ok(demands)
+}
+
+/// The demands, if no two ends are in the wrong order.
+#[tactic(auto, unfolding(fx_grammar::specs::Ensuring::demands_at))]
+fn demands_at<'a>(alloc: Global, subjects: &[Subject<'a>]) -> Result<Vec<Demanded<'a>>, SourceFault>
+    ensures { GivesParsed (λ v. map demand_value v.items) result (demands_at (map subject_of subjects.now)) }
+{
+    none_has(Flaw::EmptyDemand, subjects)?;
+    all_demanded(alloc, subjects)
 }
 
 /// The demands, behind the word.
@@ -211,7 +205,7 @@ fn ensuring_at<'t, 'a>(
     end: u32,
     outputs: usize,
     tokens: &'t [Token<'a>],
-) -> Parsed<'t, 'a, Vec<Option<Numeral<'a>>>>
+) -> Parsed<'t, 'a, Vec<Demanded<'a>>>
     ensures value { GivesParsed (λ x. (map demand_value x.0.items, lexemes x.1.now)) result (ensuring_at end outputs (lexemes tokens.now)) }
     ensures shorter { IfOk result (λ x. length x.1.now < length tokens.now) }
 {
@@ -220,8 +214,8 @@ fn ensuring_at<'t, 'a>(
     let (_, rest) = want(end, Head::Arrow, rest)?;
     let (subjects, rest) = separated(&DemandRule { end }, Head::And, names, rest)?;
     let (_, rest) = want(end, Head::Close, rest)?;
-    let errors = errors_in(alloc, &subjects)?;
-    Ok((errors, rest))
+    let demands = demands_at(alloc, &subjects)?;
+    Ok((demands, rest))
 }
 
 /// The demands that there may be.
@@ -231,7 +225,7 @@ pub fn maybe_ensuring<'t, 'a>(
     end: u32,
     outputs: usize,
     tokens: &'t [Token<'a>],
-) -> Parsed<'t, 'a, Vec<Option<Numeral<'a>>>>
+) -> Parsed<'t, 'a, Vec<Demanded<'a>>>
     ensures value { GivesParsed (λ x. (map demand_value x.0.items, lexemes x.1.now)) result (maybe_ensuring_at end outputs (lexemes tokens.now)) }
     ensures shorter { IfOk result (λ x. length x.1.now ≤ length tokens.now) }
 {

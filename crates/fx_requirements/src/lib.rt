@@ -10,8 +10,10 @@
 mod condition;
 mod ensuring;
 mod inputs;
+mod range;
 mod subject;
 
-pub use ensuring::{first_place, maybe_ensuring};
-pub use inputs::{or_zero, require};
+pub use ensuring::{Demanded, first_place, maybe_ensuring};
+pub use inputs::require;
+pub use range::or_zero;
 pub use subject::{Named, Subject, no_subjects, with_subject};

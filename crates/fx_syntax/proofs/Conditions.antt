@@ -1,5 +1,5 @@
 -- Single conditions, and the ranges that they give, read and spelled.
-use Rattle.std.proofs.Common.{◌≡◌, ◌⊎◌, inl, inr, ℕ, ◌<◌, Bool, true, false, cond, List, [], ◌∷◌, map, length, drop, Option, Some, None, Ok, Err, refl, sym, ap, subst, ◌∙◌, arith}
+use Rattle.std.proofs.Common.{◌≡◌, ℕ, ◌<◌, Bool, true, false, cond, List, [], ◌∷◌, map, length, drop, Option, Some, None, Ok, Err, refl, sym, ap, subst, ◌∙◌, arith}
 use Rattle.std.specs.Prelude.{◌&&◌, ◌||◌, not}
 use Rattle.std.proofs.lemmas.Bool.{and_parts, not-false}
 use Rattle.fx_rational.specs.Decimal.{Decimal, decimal_value}
@@ -18,7 +18,7 @@ use Rattle.fx_grammar.specs.Steps.{Tokens, fault, next_head, next_place, name_pl
 use Rattle.fx_grammar.specs.Ranges.{Subject, Subjects, names_of, is_said, side_of, subject_or, said, found_or, subject_at, is_relation, is_upward, stated_error, bound_at, name_first, is_signed, behind_relation, number_first, condition_at, declared_input, or_zero, is_lacking, is_empty_range, all_pass, inputs_at}
 use Rattle.fx_syntax.specs.Leaves.{IsNext, IsNumber, IsSigned, plain, negative}
 use Rattle.fx_syntax.specs.Conditions as syntax
-use Rattle.fx_syntax.specs.Conditions.{IsSaid, IsRelation, below, at_most, above, at_least, IsNameFirst, IsNumberFirst, IsErrorOf, IsInputOf, AreInputsOf, none, one_more}
+use Rattle.fx_syntax.specs.Conditions.{IsSaid, IsRelation, below, at_most, above, at_least, IsNameFirst, IsNumberFirst, IsErrorOf, IsSimple, error_of, IsInputOf, AreInputsOf, none, one_more}
 use Rattle.fx_syntax.proofs.Outcomes.{OnOk, answered, done, failed, and_then, choose, weaken, steps, on_true, on_false}
 use Rattle.fx_syntax.proofs.Marks.{mark, same_head, next_is, is_next, not_next, next_head_is, behind_is, next_shorter, want_spells, want_reads, number_spells, number_reads, signed_spells, signed_reads, signed_shorter}
 use Rattle.fx_syntax.proofs.Repeats.{when_false}
@@ -89,7 +89,7 @@ relation_some _ e = refl
 
 -- ---- conditions without parentheses around them
 
-pub error_spells : (end : ℕ) (subjects : Subjects) (ts : Tokens) (t u : Lexeme) (k : ℕ) (signs numbers : Tokens)
+error_spells : (end : ℕ) (subjects : Subjects) (ts : Tokens) (t u : Lexeme) (k : ℕ) (signs numbers : Tokens)
     → IsNext heads.Name ts t signs → IsNext heads.PlusMinus signs u numbers → name_place (names_of subjects) t.text ≡ Some k
     → OnOk (λ x. IsErrorOf subjects ts x.0 x.1) (stated_error end subjects t k numbers)
 unfolding stated_error
@@ -98,28 +98,24 @@ error_spells end subjects ts t u k signs numbers n sign p =
     and_then (said_spells Error d.0 t subjects k p) (λ s said.
     done (record { name = t; number = d.0; signs = signs; numbers = numbers; name_next = n; sign = mark sign; number_is = number; said = said })))
 
-pub error_reads : (end : ℕ) (before : Subjects) (after : Subjects) (numbers : Tokens) (t : Lexeme) (d : Decimal) (rest : Tokens) → IsNumber numbers d rest → (i : IsSaid Error d t before after)
+error_reads : (end : ℕ) (before : Subjects) (after : Subjects) (numbers : Tokens) (t : Lexeme) (d : Decimal) (rest : Tokens) → IsNumber numbers d rest → (i : IsSaid Error d t before after)
     → stated_error end before t i.place numbers ≡ Ok (after, rest)
 unfolding stated_error
 error_reads end before after numbers t d rest n i = steps _ (number_reads end n) (steps _ (said_reads Error d t before after i) refl)
 
--- what one condition says
-pub IsSimple : Subjects → Tokens → Subjects → Tokens → Type 0
-IsSimple s ts after rest = IsNumberFirst s ts after rest ⊎ (IsNameFirst s ts after rest ⊎ IsErrorOf s ts after rest)
-
 name_first_spells : (end : ℕ) (s : Subjects) (ts : Tokens) → OnOk (λ x. IsSimple s ts x.0 x.1) (name_first end s ts)
-unfolding name_first bound_at IsSimple on_left
+unfolding name_first bound_at on_left
 name_first_spells end s ts =
     and_then (want_spells end heads.Name ts) (λ t n.
     and_then (subject_spells s t.0) (λ k p.
     choose (next_head t.1 ==ₕ heads.PlusMinus)
-    (λ e. let u = next_is t.1 heads.PlusMinus (same_head _ _ e) refl in weaken (λ x i. inr (inr i)) (error_spells end s ts t.0 u.0 k t.1 (drop 1 t.1) n u.1 p))
+    (λ e. let u = next_is t.1 heads.PlusMinus (same_head _ _ e) refl in weaken (λ x i. error_of i) (error_spells end s ts t.0 u.0 k t.1 (drop 1 t.1) n u.1 p))
     (λ e. choose (is_relation (next_head t.1))
     (λ r. let u = next_is t.1 (next_head t.1) refl (relation_some _ r) in
     choose (next_head (drop 1 t.1) ==ₕ heads.Name) (λ e. failed) (λ e.
     and_then (signed_spells end (drop 1 t.1)) (λ d signed.
     and_then (said_spells (on_left (next_head t.1)) d.0 t.0 s k p) (λ s' said.
-    done (inr (inl (record {
+    done (syntax.name_first (record {
       name = t.0;
       head = next_head t.1;
       left = on_left (next_head t.1);
@@ -132,11 +128,11 @@ name_first_spells end s ts =
       relation = relation_spells _ r;
       number_is = signed;
       said = said;
-    })))))))
+    }))))))
     (λ r. failed))))
 
 number_first_spells : (end : ℕ) (s : Subjects) (ts : Tokens) → OnOk (λ x. IsSimple s ts x.0 x.1) (number_first end s ts)
-unfolding number_first behind_relation IsSimple on_right
+unfolding number_first behind_relation on_right
 number_first_spells end s ts =
     and_then (signed_spells end ts) (λ d signed.
     choose (is_relation (next_head d.1))
@@ -145,7 +141,7 @@ number_first_spells end s ts =
     and_then (want_spells end heads.Name (drop 1 d.1)) (λ t n.
     and_then (subject_spells s t.0) (λ k p.
     and_then (said_spells (on_right (next_head d.1)) d.0 t.0 s k p) (λ s' said.
-    done (inl (record {
+    done (syntax.number_first (record {
       name = t.0;
       head = next_head d.1;
       left = on_left (next_head d.1);
@@ -180,7 +176,7 @@ unfolding bound_at
 bound_reads end s after ts rest t d side n i =
     on_false _ (signed_head n).0 (steps _ (signed_reads end n) (steps _ (said_reads side d t s after i) refl))
 
-pub name_first_reads : (end : ℕ) (s : Subjects) (ts : Tokens) (after : Subjects) (rest : Tokens) → IsNameFirst s ts after rest → condition_at end s ts ≡ Ok (after, rest)
+name_first_reads : (end : ℕ) (s : Subjects) (ts : Tokens) (after : Subjects) (rest : Tokens) → IsNameFirst s ts after rest → condition_at end s ts ≡ Ok (after, rest)
 unfolding condition_at name_first on_left
 name_first_reads end s ts after rest i =
     let sign = relation_reads i.relation in
@@ -199,7 +195,7 @@ unfolding behind_relation
 behind_reads end first s after ts rest t d side n i =
     on_false _ (name_not_signed n) (steps _ (want_reads end n) (steps _ (subject_reads s t i.place i.known) (steps _ (said_reads side d t s after i) refl)))
 
-pub number_first_reads : (end : ℕ) (s : Subjects) (ts : Tokens) (after : Subjects) (rest : Tokens) → IsNumberFirst s ts after rest → condition_at end s ts ≡ Ok (after, rest)
+number_first_reads : (end : ℕ) (s : Subjects) (ts : Tokens) (after : Subjects) (rest : Tokens) → IsNumberFirst s ts after rest → condition_at end s ts ≡ Ok (after, rest)
 unfolding condition_at number_first on_right
 number_first_reads end s ts after rest i =
     let sign = relation_reads i.relation in
@@ -211,7 +207,7 @@ number_first_reads end s ts after rest i =
     ∙ ap (behind_relation end (next_place end ts) s i.number i.right) (behind_is i.sign.next)
     ∙ behind_reads end (next_place end ts) s after i.names rest i.name i.number i.right i.name_next i.said)))
 
-pub error_of_reads : (end : ℕ) (s : Subjects) (ts : Tokens) (after : Subjects) (rest : Tokens) → IsErrorOf s ts after rest → condition_at end s ts ≡ Ok (after, rest)
+error_of_reads : (end : ℕ) (s : Subjects) (ts : Tokens) (after : Subjects) (rest : Tokens) → IsErrorOf s ts after rest → condition_at end s ts ≡ Ok (after, rest)
 unfolding condition_at name_first
 error_of_reads end s ts after rest i =
     on_true _ (is_next i.name_next) (
@@ -221,6 +217,11 @@ error_of_reads end s ts after rest i =
     ap (stated_error end s i.name i.said.place) (behind_is i.sign.next)
     ∙ error_reads end s after i.numbers i.name i.number rest i.number_is i.said))))
 
+pub simple_reads : (end : ℕ) (s : Subjects) (ts : Tokens) (after : Subjects) (rest : Tokens) → IsSimple s ts after rest → condition_at end s ts ≡ Ok (after, rest)
+simple_reads end s ts after rest (syntax.number_first i) = number_first_reads end s ts after rest i
+simple_reads end s ts after rest (syntax.name_first i) = name_first_reads end s ts after rest i
+simple_reads end s ts after rest (error_of i) = error_of_reads end s ts after rest i
+
 -- ---- how long a condition is, and how it begins
 
 -- it isn't a parenthesis, and takes a token at least
@@ -228,30 +229,23 @@ pub record IsPlainStep (ts rest : Tokens) : Type 0 where
   pub head : (next_head ts ==ₕ heads.Open) ≡ false
   pub shorter : length rest < length ts
 
-pub number_first_step : (s : Subjects) (ts : Tokens) (after : Subjects) (rest : Tokens) → IsNumberFirst s ts after rest → IsPlainStep ts rest
+number_first_step : (s : Subjects) (ts : Tokens) (after : Subjects) (rest : Tokens) → IsNumberFirst s ts after rest → IsPlainStep ts rest
 number_first_step s ts after rest i = record { head = (signed_head i.number_is).1; shorter = let a = signed_shorter i.number_is in let b = next_shorter i.sign.next in let c = next_shorter i.name_next in omega arith }
 
-pub name_first_step : (s : Subjects) (ts : Tokens) (after : Subjects) (rest : Tokens) → IsNameFirst s ts after rest → IsPlainStep ts rest
+name_first_step : (s : Subjects) (ts : Tokens) (after : Subjects) (rest : Tokens) → IsNameFirst s ts after rest → IsPlainStep ts rest
 name_first_step s ts after rest i = record { head = not_next i.name_next heads.Open refl; shorter = let a = signed_shorter i.number_is in let b = next_shorter i.sign.next in let c = next_shorter i.name_next in omega arith }
 
-pub error_of_step : (s : Subjects) (ts : Tokens) (after : Subjects) (rest : Tokens) → IsErrorOf s ts after rest → IsPlainStep ts rest
+error_of_step : (s : Subjects) (ts : Tokens) (after : Subjects) (rest : Tokens) → IsErrorOf s ts after rest → IsPlainStep ts rest
 error_of_step s ts after rest i = record { head = not_next i.name_next heads.Open refl; shorter = let a = next_shorter i.number_is.next in let b = next_shorter i.sign.next in let c = next_shorter i.name_next in omega arith }
 
 pub simple_step : (s : Subjects) (ts : Tokens) (after : Subjects) (rest : Tokens) → IsSimple s ts after rest → IsPlainStep ts rest
-unfolding IsSimple
-simple_step s ts after rest (inl i) = number_first_step s ts after rest i
-simple_step s ts after rest (inr (inl i)) = name_first_step s ts after rest i
-simple_step s ts after rest (inr (inr i)) = error_of_step s ts after rest i
-
-pub simple_is : (s : Subjects) (ts : Tokens) (after : Subjects) (rest : Tokens) → IsSimple s ts after rest → syntax.IsCondition s ts after rest
-unfolding IsSimple
-simple_is s ts after rest (inl i) = syntax.number_first i
-simple_is s ts after rest (inr (inl i)) = syntax.name_first i
-simple_is s ts after rest (inr (inr i)) = syntax.error_of i
+simple_step s ts after rest (syntax.number_first i) = number_first_step s ts after rest i
+simple_step s ts after rest (syntax.name_first i) = name_first_step s ts after rest i
+simple_step s ts after rest (error_of i) = error_of_step s ts after rest i
 
 -- ---- ranges
 
-pass_spells : (fails : Subject → Bool) (faulty : ℕ → SourceFault) (s : Subject) (subjects : Subjects) (u : Unit {0}) → all_pass fails faulty (s ∷ subjects) ≡ Ok u → (fails s ≡ false) × (all_pass fails faulty subjects ≡ Ok u)
+pub pass_spells : (fails : Subject → Bool) (faulty : ℕ → SourceFault) (s : Subject) (subjects : Subjects) (u : Unit {0}) → all_pass fails faulty (s ∷ subjects) ≡ Ok u → (fails s ≡ false) × (all_pass fails faulty subjects ≡ Ok u)
 unfolding all_pass
 pass_spells fails faulty s subjects u e = by (fails s) refl e
   where
@@ -306,7 +300,7 @@ range_reads s x i = (
     true_is : (b : Bool) → b ≡ true → b ≡ true
     true_is b e = e
 
-passes : (fails : Subject → Bool) (faulty : ℕ → SourceFault) (s : Subject) (subjects : Subjects) → fails s ≡ false → all_pass fails faulty subjects ≡ Ok tt → all_pass fails faulty (s ∷ subjects) ≡ Ok tt
+pub passes : (fails : Subject → Bool) (faulty : ℕ → SourceFault) (s : Subject) (subjects : Subjects) → fails s ≡ false → all_pass fails faulty subjects ≡ Ok tt → all_pass fails faulty (s ∷ subjects) ≡ Ok tt
 unfolding all_pass
 passes fails faulty s subjects e f = when_false _ _ e ∙ f
 

@@ -1,37 +1,21 @@
--- Demanded bounds, read and spelled.
-use Rattle.std.proofs.Common.{◌≡◌, ℕ, ◌<◌, ◌≤◌, true, false, eqb, List, [], length, drop, Option, Ok, refl, sym, ap, ◌∙◌, arith, rules, tests}
-use Rattle.fx_rational.specs.Rational.{Rational}
+-- The demands of outputs, behind their names.
+use Rattle.std.proofs.Common.{◌≡◌, ℕ, ◌<◌, ◌≤◌, true, false, eqb, List, [], length, drop, Ok, refl, sym, ap, ◌∙◌, arith, rules, tests}
+use Rattle.fx_model.specs.Function.{Demand}
 use Rattle.fx_grammar.specs.declared.head.Head.TheVariants as heads
 use Rattle.fx_grammar.specs.Heads.{◌==ₕ◌}
 use Rattle.fx_grammar.specs.Steps.{Tokens, next_head, has_name, listed as listed_by}
-use Rattle.fx_grammar.specs.Ranges.{Subjects, names_of, stated_error}
-use Rattle.fx_grammar.specs.Ensuring.{demand_at, output_at, of_arity, outputs_at, ensuring_at, maybe_ensuring_at}
-use Rattle.fx_syntax.specs.Conditions.{IsErrorOf}
+use Rattle.fx_grammar.specs.Ranges.{Subjects, names_of, condition_at}
+use Rattle.fx_grammar.specs.Ensuring.{output_at, of_arity, outputs_at, ensuring_at, maybe_ensuring_at}
+use Rattle.fx_syntax.specs.Conditions.{IsSimple}
 use Rattle.fx_syntax.specs.Ensuring.{IsOutput, IsOutputs, one, several, IsEnsuring, IsMaybeEnsuring, left_out, written}
 use Rattle.fx_syntax.proofs.Outcomes.{OnOk, done, failed, and_then, choose, weaken, steps, on_true, on_false}
 use Rattle.fx_syntax.proofs.Marks.{mark, same_head, next_is, is_next, not_next, behind_is, next_shorter, want_spells, want_reads}
 use Rattle.fx_syntax.proofs.Repeats.{itself, as_seen, from_seen, Any, keeps_any, Spells, separated_spells, separated_reads, listed_spells, listed_reads, separated_shorter, listed_shorter}
-use Rattle.fx_syntax.proofs.Conditions.{subject_spells, subject_reads, error_spells, error_reads, error_of_step}
+use Rattle.fx_syntax.proofs.Conditions.{condition_spells, simple_reads, simple_step}
+use Rattle.fx_syntax.proofs.Demands.{demands_spell, demands_read}
 
-demand_spells : (end : ℕ) → Spells itself Any IsErrorOf (demand_at end)
-unfolding demand_at
-demand_spells end s any ts = as_seen (choose (next_head ts ==ₕ heads.Name)
-    (λ e. and_then (want_spells end heads.Name ts) (λ t n.
-    and_then (subject_spells s t.0) (λ k p.
-    choose (next_head t.1 ==ₕ heads.PlusMinus)
-    (λ e. let u = next_is t.1 heads.PlusMinus (same_head _ _ e) refl in error_spells end s ts t.0 u.0 k t.1 (drop 1 t.1) n u.1 p)
-    (λ e. failed))))
-    (λ e. failed))
-
-demand_reads : (end : ℕ) (s : Subjects) (ts : Tokens) (after : Subjects) (rest : Tokens) → IsErrorOf s ts after rest → demand_at end s ts ≡ Ok (after, rest)
-unfolding demand_at
-demand_reads end s ts after rest i =
-    on_true _ (is_next i.name_next) (
-    steps _ (want_reads end i.name_next) (
-    steps _ (subject_reads s i.name i.said.place i.said.known) (
-    on_true _ (is_next i.sign.next) (
-    ap (stated_error end s i.name i.said.place) (behind_is i.sign.next)
-    ∙ error_reads end s after i.numbers i.name i.number rest i.number_is i.said))))
+demand_spells : (end : ℕ) → Spells itself Any IsSimple (condition_at end)
+demand_spells end s any ts = as_seen (condition_spells end s ts)
 
 output_spells : (end : ℕ) → Spells itself Any IsOutput (output_at end)
 unfolding output_at
@@ -73,8 +57,9 @@ ensuring_spells end count ts =
     and_then (want_spells end heads.Open ts) (λ o n.
     and_then (outputs_spell end count o.1) (λ names outputs.
     and_then (want_spells end heads.Arrow names.1) (λ a arrow.
-    and_then (from_seen (separated_spells itself Any IsErrorOf (demand_at end) (demand_spells end) (keeps_any IsErrorOf) heads.And refl names.0 (tt {0}) a.1)) (λ s demands.
+    and_then (from_seen (separated_spells itself Any IsSimple (condition_at end) (demand_spells end) (keeps_any IsSimple) heads.And refl names.0 (tt {0}) a.1)) (λ s demanded.
     and_then (want_spells end heads.Close s.1) (λ c close.
+    and_then (demands_spell s.0) (λ ds demands.
     done (record {
       outputs = names.0;
       demanded = s.0;
@@ -85,22 +70,22 @@ ensuring_spells end count ts =
       opening = mark n;
       outputs_are = outputs.1;
       arrow = mark arrow;
-      demanded_are = demands;
+      demanded_are = demanded;
       close = mark close;
       as_many = outputs.0;
-      value = refl;
-    }))))))
+      demands_are = demands;
+    })))))))
 
-ensuring_reads : (end count : ℕ) (ts : Tokens) (demands : List (Option Rational)) (rest : Tokens) → IsEnsuring count ts demands rest → ensuring_at end count ts ≡ Ok (demands, rest)
+ensuring_reads : (end count : ℕ) (ts : Tokens) (demands : List Demand) (rest : Tokens) → IsEnsuring count ts demands rest → ensuring_at end count ts ≡ Ok (demands, rest)
 unfolding ensuring_at
 ensuring_reads end count ts demands rest i =
     steps _ (want_reads end i.opening.next) (
     steps _ (outputs_read end count i.outputs_are i.as_many) (
     steps _ (want_reads end i.arrow.next) (
-    steps _ (separated_reads itself IsErrorOf (demand_at end) (λ ts. Unit {0}) (λ s ts after rest i fits. demand_reads end s ts after rest i) (λ s ts after rest i. (error_of_step s ts after rest i).shorter)
+    steps _ (separated_reads itself IsSimple (condition_at end) (λ ts. Unit {0}) (λ s ts after rest i fits. simple_reads end s ts after rest i) (λ s ts after rest i. (simple_step s ts after rest i).shorter)
     heads.And (λ ts t us n. tt {0}) i.demanded_are (tt {0}) (not_next i.close.next heads.And refl)) (
     steps _ (want_reads end i.close.next) (
-    ap (λ (ds : List (Option Rational)). Ok (ds, rest)) (sym i.value))))))
+    steps _ (demands_read i.demands_are) refl)))))
 
 pub maybe_ensuring_spells : (end count : ℕ) (ts : Tokens) → OnOk (λ x. IsMaybeEnsuring count ts x.0 x.1) (maybe_ensuring_at end count ts)
 unfolding maybe_ensuring_at
@@ -108,7 +93,7 @@ maybe_ensuring_spells end count ts = choose (next_head ts ==ₕ heads.Ensuring)
     (λ e. let t = next_is ts heads.Ensuring (same_head _ _ e) refl in weaken (λ x i. written (mark t.1) i) (ensuring_spells end count (drop 1 ts)))
     (λ e. done left_out)
 
-pub maybe_ensuring_reads : (end count : ℕ) {ts : Tokens} {demands : List (Option Rational)} {rest : Tokens} → IsMaybeEnsuring count ts demands rest → (next_head rest ==ₕ heads.Ensuring) ≡ false
+pub maybe_ensuring_reads : (end count : ℕ) {ts : Tokens} {demands : List Demand} {rest : Tokens} → IsMaybeEnsuring count ts demands rest → (next_head rest ==ₕ heads.Ensuring) ≡ false
     → maybe_ensuring_at end count ts ≡ Ok (demands, rest)
 unfolding maybe_ensuring_at
 maybe_ensuring_reads end count left_out off = on_false _ off refl
@@ -121,8 +106,8 @@ outputs_shorter : {ts : Tokens} {outputs : Subjects} {rest : Tokens} → IsOutpu
 outputs_shorter (one i) = next_shorter i.next
 outputs_shorter (several o i) = let a = next_shorter o.next in let b = listed_shorter IsOutput output_shorter i in omega arith
 
-pub maybe_ensuring_shorter : (count : ℕ) {ts : Tokens} {demands : List (Option Rational)} {rest : Tokens} → IsMaybeEnsuring count ts demands rest → length rest ≤ length ts
+pub maybe_ensuring_shorter : (count : ℕ) {ts : Tokens} {demands : List Demand} {rest : Tokens} → IsMaybeEnsuring count ts demands rest → length rest ≤ length ts
 maybe_ensuring_shorter count left_out = omega arith
 maybe_ensuring_shorter count (written n i) =
     let a = next_shorter n.next in let b = next_shorter i.opening.next in let c = outputs_shorter i.outputs_are in let d = next_shorter i.arrow.next in
-    let e = separated_shorter heads.And IsErrorOf (λ s ts after rest i. (error_of_step s ts after rest i).shorter) i.demanded_are in let f = next_shorter i.close.next in omega arith
+    let e = separated_shorter heads.And IsSimple (λ s ts after rest i. (simple_step s ts after rest i).shorter) i.demanded_are in let f = next_shorter i.close.next in omega arith

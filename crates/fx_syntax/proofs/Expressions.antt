@@ -10,7 +10,7 @@ use Rattle.fx_grammar.specs.declared.head.Head.TheVariants as heads
 use Rattle.fx_grammar.specs.Heads.{head_of, ◌==ₕ◌}
 use Rattle.fx_grammar.specs.Steps.{Tokens, next_head, is_fresh, decimal, negative_decimal, name_place, repeated}
 use Rattle.fx_grammar.specs.Operands.{Operand, leaf, negation, combined_operand}
-use Rattle.fx_grammar.specs.Expressions.{Known, Reader, is_call, found_name, named, closed, opened, atom_by, atom_of, behind_minus, factor_of, one_more, goes_on_product, goes_on_sum, term_of, sum_from, expr_at, inner_at}
+use Rattle.fx_grammar.specs.Expressions.{Known, Reader, is_call, found_name, named, closed, opened, atom_by, atom_of, behind_minus, factor_of, one_more, goes_on_product, goes_on_sum, term_of, sum_from, expr_at}
 use Rattle.fx_syntax.specs.Expressions.{Scope, all_names, literal_tree, IsExpr, one_term, IsTerm, one_factor, IsFactor, one_atom, negative, negation as negated_atom, IsAtom, number, name, parens}
 use Rattle.fx_syntax.proofs.Outcomes.{OnOk, done, failed, and_then, choose, weaken}
 use Rattle.fx_syntax.proofs.Marks.{mark, same_head, next_is, want_spells}
@@ -18,7 +18,6 @@ use Rattle.fx_syntax.proofs.Repeats.{Seen, Any, keeps_any, when_choose, repeat_s
 use Rattle.fx_syntax.proofs.Chains.{IsMoreSum, plus, less, IsMoreProduct, times, over', sums_fold, products_fold, more_sum_shorter}
 use Rattle.fx_syntax.proofs.Operands.{operand_of, negation_is, joined_is}
 use Rattle.fx_syntax.proofs.Names.{known_of, meant_spells, leaf_is}
-use Rattle.fx_grammar.proofs.Expressions.{expr_is}
 
 -- ---- what is read is in the grammar
 

@@ -1,10 +1,9 @@
 -- Whole functions, read and spelled.
-use Rattle.std.proofs.Common.{◌≡◌, ℕ, ◌<◌, ◌≤◌, ◌+◌, ◌-◌, true, false, List, [], ◌++◌, length, map, Option, Ok, refl, sym, ap, subst, ◌∙◌, arith, rules, tests}
+use Rattle.std.proofs.Common.{◌≡◌, ℕ, ◌<◌, ◌≤◌, ◌+◌, ◌-◌, true, false, List, [], ◌++◌, length, map, Ok, refl, sym, ap, subst, ◌∙◌, arith, rules, tests}
 use Rattle.std.specs.Prelude.{nat_lt}
 use Rattle.std.proofs.lemmas.List.{append-nil, length-map}
-use Rattle.fx_rational.specs.Rational.{Rational}
 use Rattle.fx_model.specs.Tree.{Tree}
-use Rattle.fx_model.specs.Function.{Function, Input, State, Temp}
+use Rattle.fx_model.specs.Function.{Function, Input, State, Temp, Demand}
 use Rattle.fx_model.specs.Nodes.{nodes_of}
 use Rattle.fx_lexer.specs.Tokens.{Lexeme}
 use Rattle.fx_grammar.specs.declared.head.Head.TheVariants as heads
@@ -123,7 +122,7 @@ body_is f e =
     ∙ ap (λ n. bodies.the_body (all_names (with_temps (scope_of f) [])) (length (names_of f.subjects)) n [] 0) (sym (length-map f.declared.states (λ s. s.name)))
 
 -- what was read of the body before its brace
-function_of : Front → List Input → List Temp → List Tree → List (Option Rational) → Function
+function_of : Front → List Input → List Temp → List Tree → List Demand → Function
 function_of f inputs temps xs demands = record { name = f.name; inputs = inputs; states = f.declared.states; temps = temps; results = xs; demands = demands }
 
 closing : ℕ → ℕ → Front → List Input → Body → Results → Tokens → Parsed Function
@@ -137,7 +136,7 @@ ending end word f inputs b us = result_at end word f.reals b us >>= λ r. closin
 
 -- the brace that closes, and the demands
 record IsClosing (f : Front) (inputs : List Input) (temps : List Temp) (xs : List Tree) (ts : Tokens) (fn : Function) (rest : Tokens) : Type 0 where
-  demands : List (Option Rational)
+  demands : List Demand
   brace : Lexeme
   braces : Tokens
   bounds : Tokens
@@ -147,7 +146,7 @@ record IsClosing (f : Front) (inputs : List Input) (temps : List Temp) (xs : Lis
   value : fn ≡ function_of f inputs temps xs demands
   nodes : length (nodes_of (function_of f inputs temps xs demands)) ≤ 4000
 
-count_is : (f : Front) (inputs : List Input) (temps : List Temp) (xs : List Tree) (demands : List (Option Rational)) → length inputs ≡ length f.subjects
+count_is : (f : Front) (inputs : List Input) (temps : List Temp) (xs : List Tree) (demands : List Demand) → length inputs ≡ length f.subjects
     → length (nodes_of (function_of f inputs temps xs demands)) ≡ length (names_of f.subjects) + length (map (λ (s : State). s.name) f.declared.states) + length xs + (sizes temps + tree_sizes xs)
 unfolding function_of
 count_is f inputs temps xs demands same =

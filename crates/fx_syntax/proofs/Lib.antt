@@ -10,6 +10,7 @@ pub mod Expressions
 pub mod ExpressionReads
 pub mod Chains
 pub mod Bodies
+pub mod Demands
 pub mod Ensuring
 pub mod NodeCounts
 pub mod Functions

@@ -13,12 +13,12 @@ use Rattle.fx_model.specs.Steps.{◌>>=◌}
 use Rattle.fx_grammar.specs.Steps.{Tokens, repeat}
 use Rattle.fx_grammar.specs.Ranges.{Subjects, condition_at, Conditions, are_open, wanted_at, read_at, conditions_step, conditions_at, require_at, with_side, subject_or}
 use Rattle.fx_syntax.specs.Leaves.{IsNext}
-use Rattle.fx_syntax.specs.Conditions.{IsConditions, last, both, IsCondition, nested, number_first, name_first, error_of, IsSaid, AreInputsOf, none, one_more, IsRequire}
+use Rattle.fx_syntax.specs.Conditions.{IsSaid, IsSimple, number_first, name_first, error_of, IsConditions, last, both, IsCondition, nested, simple, AreInputsOf, none, one_more, IsRequire}
 use Rattle.fx_model.proofs.Steps.{on_ok}
 use Rattle.fx_syntax.proofs.Outcomes.{OnOk, done, failed, and_then, choose, steps, on_true, on_false}
 use Rattle.fx_syntax.proofs.Marks.{mark, same_head, next_shorter, want_spells, want_reads}
 use Rattle.fx_syntax.proofs.Repeats.{when_true}
-use Rattle.fx_syntax.proofs.Conditions.{IsSimple, condition_spells, simple_step, simple_is, IsPlainStep, number_first_step, name_first_step, error_of_step, number_first_reads, name_first_reads, error_of_reads, ranges_spell, ranges_read}
+use Rattle.fx_syntax.proofs.Conditions.{condition_spells, simple_step, simple_reads, IsPlainStep, ranges_spell, ranges_read}
 
 -- behind an open parenthesis or an &&, and behind a condition, in so many parentheses
 abbrev wanting : ℕ → Subjects → Conditions
@@ -136,7 +136,7 @@ module _ (end k : ℕ) (more : Closes end k) where
 
   due_more : (n d : ℕ) (s : Subjects) (ts : Tokens) (c : Conditions) (us : Tokens) (y : Conditions × Tokens) → n ≤ suc k → IsWanted (suc d) s ts c us → loop end n c us ≡ Ok y → length us < n → IsClosed end d s ts n y
   due_more n d s ts c us y le (opens o) e lt = opened n d s ts us _ y le o e lt
-  due_more n d s ts c us y le (says {after = after} i) e lt = met_more n d s after ts us y le (simple_is s ts after us i) e lt
+  due_more n d s ts c us y le (says {after = after} i) e lt = met_more n d s after ts us y le (simple i) e lt
 
 closes_all : (end k : ℕ) → Closes end k
 closes_all end zero = record { due = λ n d s ts x y le w e lt. absurd (omega arith); met = λ n d s between ts us y le i e lt. absurd (omega arith) }
@@ -258,9 +258,7 @@ mutual
   condition_reaches : {s : Subjects} {ts : Tokens} {after : Subjects} {rest : Tokens} → IsCondition s ts after rest → (end d : ℕ) → Reaches end d s ts after rest
   condition_reaches (nested {s = s} {after = after} {ts = ts} {us = us} {vs = vs} {rest = rest} o i c) end d =
       nested_reaches end d s ts us vs o.token c.token after rest o.next (conditions_reach i end (suc d)) c.next
-  condition_reaches (number_first {s = s} {after = after} {ts = ts} {rest = rest} i) end d = simple_reaches end d s ts after rest (number_first_reads end s ts after rest i) (number_first_step s ts after rest i)
-  condition_reaches (name_first {s = s} {after = after} {ts = ts} {rest = rest} i) end d = simple_reaches end d s ts after rest (name_first_reads end s ts after rest i) (name_first_step s ts after rest i)
-  condition_reaches (error_of {s = s} {after = after} {ts = ts} {rest = rest} i) end d = simple_reaches end d s ts after rest (error_of_reads end s ts after rest i) (error_of_step s ts after rest i)
+  condition_reaches (simple {s = s} {after = after} {ts = ts} {rest = rest} i) end d = simple_reaches end d s ts after rest (simple_reads end s ts after rest i) (simple_step s ts after rest i)
 
 stops : (end n : ℕ) (s : Subjects) (ts : Tokens) → loop end n (having 0 s) ts ≡ Ok (having 0 s, ts)
 unfolding repeat
@@ -295,15 +293,18 @@ mutual
 
   condition_shorter : {s : Subjects} {ts : Tokens} {after : Subjects} {rest : Tokens} → IsCondition s ts after rest → length rest < length ts
   condition_shorter (nested o i c) = let x = next_shorter o.next in let y = conditions_shorter i in let z = next_shorter c.next in omega arith
-  condition_shorter (number_first i) = (number_first_step _ _ _ _ i).shorter
-  condition_shorter (name_first i) = (name_first_step _ _ _ _ i).shorter
-  condition_shorter (error_of i) = (error_of_step _ _ _ _ i).shorter
+  condition_shorter (simple i) = (simple_step _ _ _ _ i).shorter
 
 pub require_shorter : {s : Subjects} {ts : Tokens} {inputs : List Input} {rest : Tokens} → IsRequire s ts inputs rest → length rest < length ts
 require_shorter i = let x = next_shorter i.opening.next in let y = conditions_shorter i.conditions_are in let z = next_shorter i.close.next in omega arith
 
 said_count : {side : Side} {d : Decimal} {t : Lexeme} {before after : Subjects} → IsSaid side d t before after → length after ≡ length before
 said_count {side = side} {d = d} {before = before} i = ap length i.value ∙ length-set before i.place (with_side side d (subject_or before i.place))
+
+simple_count : {s : Subjects} {ts : Tokens} {after : Subjects} {rest : Tokens} → IsSimple s ts after rest → length after ≡ length s
+simple_count (number_first i) = said_count i.said
+simple_count (name_first i) = said_count i.said
+simple_count (error_of i) = said_count i.said
 
 -- there are as many subjects as before
 mutual
@@ -313,9 +314,7 @@ mutual
 
   condition_count : {s : Subjects} {ts : Tokens} {after : Subjects} {rest : Tokens} → IsCondition s ts after rest → length after ≡ length s
   condition_count (nested o i c) = conditions_count i
-  condition_count (number_first i) = said_count i.said
-  condition_count (name_first i) = said_count i.said
-  condition_count (error_of i) = said_count i.said
+  condition_count (simple i) = simple_count i
 
 inputs_count : {subjects : Subjects} {inputs : List Input} → AreInputsOf subjects inputs → length inputs ≡ length subjects
 inputs_count none = refl

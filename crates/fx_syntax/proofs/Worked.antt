@@ -22,7 +22,7 @@ use Rattle.fx_grammar.specs.Ranges.{said, subject_at, stated_error, bound_at, na
 use Rattle.fx_grammar.specs.Expressions.{closed, opened, atom_of, behind_minus, factor_of, term_of, sum_from, expr_at, inner_at}
 use Rattle.fx_grammar.specs.Fronts.{param_at, declared_state, states_at, one_real, type_at}
 use Rattle.fx_grammar.specs.Bodies.{whole_at, typed_at, val_at, vals_at, single_at, element_at, tuple_at, result_at}
-use Rattle.fx_grammar.specs.Ensuring.{demand_at, output_at, outputs_at, ensuring_at, maybe_ensuring_at}
+use Rattle.fx_grammar.specs.Ensuring.{output_at, outputs_at, demands_at, ensuring_at, maybe_ensuring_at}
 use Rattle.fx_grammar.specs.Functions.{require_word_at, front_at, body_at, def_at}
 use Rattle.fx_grammar.specs.Sources.{dot_at, import_at, imports_at, one_def, defs_at, object_at, source_of, functions_of}
 use Rattle.fx_syntax.specs.Expressions.{Scope, literal_tree, IsExpr, one_term, difference, one_factor, product, one_atom, IsAtom, number}
@@ -32,7 +32,7 @@ use Rattle.fx_syntax.proofs.Sources.{text_law}
 
 -- what is read of a text, with every definition opened
 unfoldable pub read : Text → Result (List Function) SourceFault
-unfolding gcd over is_at_most lowest decimal_value numeral_of trimmed decimal_of digits_at part_len mark_len power_len number_len comment_end first_item tokens_from tokens_of head_of want real_at decimal numeral_at signed_at repeat separated listed free_at said subject_at stated_error bound_at name_first behind_relation number_first condition_at conditions_step conditions_at all_pass inputs_at require_at closed opened atom_of behind_minus factor_of term_of sum_from expr_at inner_at param_at declared_state states_at one_real type_at whole_at typed_at val_at vals_at single_at element_at tuple_at result_at demand_at output_at outputs_at ensuring_at maybe_ensuring_at require_word_at front_at body_at def_at dot_at import_at imports_at one_def defs_at object_at source_of
+unfolding gcd over is_at_most lowest decimal_value numeral_of trimmed decimal_of digits_at part_len mark_len power_len number_len comment_end first_item tokens_from tokens_of head_of want real_at decimal numeral_at signed_at repeat separated listed free_at said subject_at stated_error bound_at name_first behind_relation number_first condition_at conditions_step conditions_at all_pass inputs_at require_at closed opened atom_of behind_minus factor_of term_of sum_from expr_at inner_at param_at declared_state states_at one_real type_at whole_at typed_at val_at vals_at single_at element_at tuple_at result_at output_at outputs_at demands_at ensuring_at maybe_ensuring_at require_word_at front_at body_at def_at dot_at import_at imports_at one_def defs_at object_at source_of
 read text = functions_of text
 
 -- ---- expressions: the body of a function of x and y
@@ -164,6 +164,24 @@ averager = record {
 averager_is : IsSourceText averager_text (averager ∷ [])
 unfolding averager_text averager read
 averager_is = (text_law averager_text (averager ∷ [])).0 refl
+
+-- an output that has both ends and an error
+clamped_text : Text
+clamped_text = codes "def f(x: Real): Real = {require(0 <= x && x <= 1) x + 0.5} ensuring(res => 0.5 <= res && res <= 1.5 && res +/- 0.1)"
+
+clamped : Function
+clamped = record {
+  name = codes "f";
+  inputs = unit (codes "x") ∷ [];
+  states = [];
+  temps = [];
+  results = Sum x (Literal a_half) ∷ [];
+  demands = record { err = Some (over (pos 1) 10); lo = Some (over (pos 5) 10); hi = Some (over (pos 15) 10) } ∷ [];
+}
+
+clamped_is : IsSourceText clamped_text (clamped ∷ [])
+unfolding clamped_text clamped unit read
+clamped_is = (text_law clamped_text (clamped ∷ [])).0 refl
 
 nothing_is : IsSourceText [] []
 unfolding read

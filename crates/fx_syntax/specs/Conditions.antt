@@ -67,6 +67,12 @@ pub record IsErrorOf (before : Subjects) (ts : Tokens) (after : Subjects) (rest 
   pub number_is : IsNumber numbers number rest
   pub said : IsSaid Error number name before after
 
+-- simple = signed rel name | name rel signed | name "+/-" number: a condition without parentheses around it, or a demand
+pub data IsSimple (before : Subjects) (ts : Tokens) (after : Subjects) (rest : Tokens) : Type 0 where
+  number_first : IsNumberFirst before ts after rest → IsSimple before ts after rest
+  name_first : IsNameFirst before ts after rest → IsSimple before ts after rest
+  error_of : IsErrorOf before ts after rest → IsSimple before ts after rest
+
 mutual
   -- conds = cond { "&&" cond }
   pub data IsConditions : Subjects → Tokens → Subjects → Tokens → Type 0 where
@@ -74,13 +80,11 @@ mutual
     both : {s between after : Subjects} {ts us vs rest : Tokens}
         → IsCondition s ts between us → IsMark heads.And us vs → IsConditions between vs after rest → IsConditions s ts after rest
 
-  -- cond = "(" conds ")" | signed rel name | name rel signed | name "+/-" number
+  -- cond = "(" conds ")" | simple
   pub data IsCondition : Subjects → Tokens → Subjects → Tokens → Type 0 where
     nested : {s after : Subjects} {ts us vs rest : Tokens}
         → IsMark heads.Open ts us → IsConditions s us after vs → IsMark heads.Close vs rest → IsCondition s ts after rest
-    number_first : {s after : Subjects} {ts rest : Tokens} → IsNumberFirst s ts after rest → IsCondition s ts after rest
-    name_first : {s after : Subjects} {ts rest : Tokens} → IsNameFirst s ts after rest → IsCondition s ts after rest
-    error_of : {s after : Subjects} {ts rest : Tokens} → IsErrorOf s ts after rest → IsCondition s ts after rest
+    simple : {s after : Subjects} {ts rest : Tokens} → IsSimple s ts after rest → IsCondition s ts after rest
 
 -- both ends of an input are given, the lower one isn't above the upper one; an error that isn't given is zero
 pub record IsInputOf (s : Subject) (x : Input) : Type 0 where

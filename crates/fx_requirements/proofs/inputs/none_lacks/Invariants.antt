@@ -1,9 +1,0 @@
-use Rattle.std.proofs.Common.{◌≡◌, drop, map}
-use Rattle.fx_lexer.specs.declared.fault.SourceKind.TheVariants.{NoRange}
-use Rattle.fx_grammar.specs.Steps.{fault}
-use Rattle.fx_requirements.specs.Views.{subject_of}
-use Rattle.fx_grammar.specs.Ranges.{all_pass, is_lacking}
-use Rattle.fx_requirements.proofs.inputs.none_lacks.Given as goal
-
-abbrev pub invariant-loop-subject : goal.invariant-loop-subject
-invariant-loop-subject l = all_pass is_lacking (λ at. fault at NoRange) (map subject_of (drop l.subject-index l.subjects)) ≡ all_pass is_lacking (λ at. fault at NoRange) (map subject_of l.subjects)
