@@ -45,6 +45,7 @@ AreDemanded fn p cert = (j : ℕ) → j < p.outputs → Each Claimed (demand_cla
 
 pub all_in_ends : (fn : Function) (p : Program) (cert : Certificate) → AreDemanded fn p cert → (made : List (List ℤ)) → AllWithin p cert made → AllInEnds fn p made
 all_in_ends fn p cert demanded [] within = tt
-all_in_ends fn p cert demanded (w ∷ ws) within =
-    ((λ j l. in_ends (at free fn.demands j) (range_at cert.lines (output_code p j)) (error_at cert.lines (output_code p j)) (output_value p w j) (within.0 j l) (demanded j l)),
-    all_in_ends fn p cert demanded ws within.1)
+all_in_ends fn p cert demanded (w ∷ ws) within = (
+  (λ j l. in_ends (at free fn.demands j) (range_at cert.lines (output_code p j)) (error_at cert.lines (output_code p j)) (output_value p w j) (within.0 j l) (demanded j l)),
+  all_in_ends fn p cert demanded ws within.1,
+)
