@@ -10,7 +10,7 @@ use std::fmt;
 pub enum SynthFault {
     /// This keeps the function out of the class in which something is found always.
     NotFound {
-        /// The first node that isn't modest, else the first demand that is too tight.
+        /// The first node that isn't modest, else the first output that has a demanded end or too small a demanded error.
         outside: Outside,
     },
     /// No memory was left.
