@@ -112,9 +112,11 @@ fn push_once(
 ) -> Result<bool, Memory> {
     let function = setting.function;
     let demands = function.demands.as_slice();
-    let (Some(demand), Some(range), Some(error)) =
-        (demands.get(j), setting.ranges.span(n), plan.errors.span(n))
-    else {
+    let (Some(demand), Some(range), Some(error)) = (
+        demands.get(j),
+        setting.ranges.span(n),
+        plan.errors.span(n),
+    ) else {
         return Ok(false);
     };
     let (up, down) = moves_wanted(*demand, range, error);
