@@ -1,6 +1,5 @@
 -- A body of which every part was read.
-use Rattle.std.proofs.Common.{◌≡◌, ℕ, ◌-◌, List, length, Option, Ok, Err, refl}
-use Rattle.fx_rational.specs.Rational.{Rational}
+use Rattle.std.proofs.Common.{◌≡◌, ℕ, ◌-◌, List, length, Ok, Err, refl}
 use Rattle.fx_model.specs.Function as model
 use Rattle.fx_lexer.specs.declared.fault.SourceFault.{SourceFault}
 use Rattle.fx_lexer.specs.Tokens.{Lexeme}
@@ -11,7 +10,7 @@ use Rattle.fx_grammar.specs.Bodies.{Body, vals_at, Results, result_at}
 use Rattle.fx_grammar.specs.Ensuring.{maybe_ensuring_at}
 use Rattle.fx_grammar.specs.Functions.{require_word_at, Front, body_of, within_nodes, body_at}
 
-pub body_is : (end word : ℕ) (f : Front) (ts r : Tokens) (i : List model.Input × Tokens) (b : Body × Tokens) (y : Results × Tokens) (c : Lexeme × Tokens) (d : List (Option Rational) × Tokens)
+pub body_is : (end word : ℕ) (f : Front) (ts r : Tokens) (i : List model.Input × Tokens) (b : Body × Tokens) (y : Results × Tokens) (c : Lexeme × Tokens) (d : List model.Demand × Tokens)
     → require_word_at end f.subjects ts ≡ Ok r → require_at end f.subjects r ≡ Ok i → vals_at end (body_of f) (past_semicolon i.1) ≡ Ok b
     → result_at end word f.reals b.0 b.1 ≡ Ok y → want end heads.CloseBrace (past_semicolon y.1) ≡ Ok c
     → maybe_ensuring_at end (f.reals - length f.declared.states) c.1 ≡ Ok d

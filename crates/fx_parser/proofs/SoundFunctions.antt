@@ -1,27 +1,30 @@
 -- A function that is read is lawful, and its names are names.
 use Rattle.std.proofs.Common.{◌≡◌, ℕ, zero, suc, ◌+◌, ◌-◌, ◌<◌, ◌≤◌, Bool, true, false, eqb, List, [], ◌∷◌, ◌++◌, length, map, drop, replicate, Option, Some, None, Ok, refl, sym, ap, subst, ◌∙◌, length-append, arith, rules, tests}
-use Rattle.std.specs.Prelude.{nat_le, nat_lt, IfSome}
+use Rattle.std.specs.Prelude.{nat_le, nat_lt, pos, not, ◌&&◌, IfSome}
 use Rattle.std.specs.Option.{option_map}
 use Rattle.std.specs.List.{All}
 use Rattle.std.proofs.lemmas.List.{length-map}
 use Rattle.std.proofs.lemmas.List.Elements.{All-append, All-nil, All-cons, All-head, All-tail}
-use Rattle.fx_rational.specs.Rational.{Rational}
+use Rattle.fx_rational.specs.Rational.{whole, AtMost, is_at_most}
 use Rattle.fx_rational.specs.Decimal.{Decimal, decimal_value}
+use Rattle.fx_rational.proofs.Tests.{at_most_true}
 use Rattle.fx_model.specs.Names.{IsName}
 use Rattle.fx_model.specs.Tree.{Tree}
 use Rattle.fx_model.specs.Function as model
+use Rattle.fx_model.specs.Function.{free}
 use Rattle.fx_model.specs.Valid.{RefersBelow, AllReferBelow, ReferBack}
 use Rattle.fx_expr.specs.LawfulFunction.{IsLow, IsDemand}
+use Rattle.fx_lexer.specs.declared.fault.SourceKind.TheVariants as faults
 use Rattle.fx_lexer.specs.Tokens.{Lexeme}
 use Rattle.fx_grammar.specs.declared.head.Head.TheVariants as heads
 use Rattle.fx_grammar.specs.Heads.{◌==ₕ◌}
-use Rattle.fx_grammar.specs.Steps.{Tokens, Text, next_head, next_place, past_semicolon, stands_next, behind, listed, has_name, free_at}
+use Rattle.fx_grammar.specs.Steps.{Tokens, Text, next_head, next_place, past_semicolon, stands_next, behind, listed, has_name, free_at, fault}
 use Rattle.fx_grammar.specs.Operands.{Operand, is_high, tree_or, counted_nodes}
 use Rattle.fx_grammar.specs.Expressions.{expr_at}
-use Rattle.fx_grammar.specs.Ranges.{Subjects, new_subject, names_of}
+use Rattle.fx_grammar.specs.Ranges.{Subject, Subjects, new_subject, names_of, is_said, or_zero, all_pass, condition_at}
 use Rattle.fx_grammar.specs.Fronts.{param_at, Declared, declared_state, states_at, one_real, more_than, type_at}
 use Rattle.fx_grammar.specs.Bodies.{Body, known_of, whole_at, typed_at, with_temp, val_at, vals_at, Results, count_of, single_at, element_at, tuple_at, result_at}
-use Rattle.fx_grammar.specs.Ensuring.{demand_at, output_at, of_arity, outputs_at, ensuring_at, maybe_ensuring_at}
+use Rattle.fx_grammar.specs.Ensuring.{output_at, of_arity, outputs_at, declared_demand, is_empty_demand, demands_at, ensuring_at, maybe_ensuring_at}
 use Rattle.fx_grammar.specs.Functions.{require_word_at, new_name, Front, front_at, body_of, body_at, def_at}
 use Rattle.fx_grammar.specs.Sources.{dot_at, import_at, imports_at, function_names, one_def, defs_at, ended, object_at, source_of, functions_of}
 use Rattle.fx_parser.specs.LawfulTokens.{IsSize, AreSound}
@@ -32,7 +35,7 @@ use Rattle.fx_model.specs.Counts.{tree_nodes, temp_nodes}
 use Rattle.fx_parser.proofs.NodeCounts.{all_tree_nodes, all_nodes}
 use Rattle.fx_parser.proofs.SoundTokens.{tokens_sound}
 use Rattle.fx_parser.proofs.SoundTrees.{IsTree, IsOperand, expr_ok}
-use Rattle.fx_parser.proofs.SoundSubjects.{subject_at_ok, IsSubject, AreSubjects, is_name, new_ok, signed_ok, error_ok, require_ok}
+use Rattle.fx_parser.proofs.SoundSubjects.{IsSubject, AreSubjects, is_name, new_ok, signed_ok, condition_ok, all_pass_ok, not_false, require_ok}
 
 -- ---- the front
 
@@ -236,14 +239,6 @@ result_ok end word reals b ts x some p s e = on_if (nat_lt reals 2) _ _ x e
 
 -- ---- demands
 
-demand_ok : (n end : ℕ) (ss : Subjects) (ts : Tokens) (x : Subjects × Tokens) → AreSubjects n ss → AreSound ts → demand_at end ss ts ≡ Ok x → AreSubjects n x.0 × AreSound x.1
-unfolding demand_at
-demand_ok n end ss ts x q s e = on_if (next_head ts ==ₕ heads.Name) _ _ x e
-    (λ on e. on_ok _ _ x e (λ t te e. on_ok _ _ x e (λ k ke e. on_if (next_head t.1 ==ₕ heads.PlusMinus) _ _ x e
-    (λ on e. error_ok n end ss t.0 k (drop 1 t.1) x (subject_at_ok ss t.0 k ke) q (sound_drop 1 t.1 (want_ok end heads.Name ts t s te).2) e)
-    (λ off e. absurd cc))))
-    (λ off e. absurd cc)
-
 output_ok : (end : ℕ) (ss : Subjects) (ts : Tokens) (x : Subjects × Tokens) → All IsSubject ss → AreSound ts → output_at end ss ts ≡ Ok x → All IsSubject x.0 × AreSound x.1
 unfolding output_at
 output_ok end ss ts x a s e = on_ok _ _ x e (λ t te e.
@@ -262,33 +257,58 @@ outputs_ok end n ts x s e = on_if (next_head ts ==ₕ heads.Open) _ _ x e
     (λ on e. on_ok _ _ x e (λ y ye e. counted_ok n y x (listed_ok (All IsSubject) (All IsSubject) (output_at end) end (output_ok end) (output_ok end) [] (drop 1 ts) y (All-nil IsSubject) (sound_drop 1 ts s) ye) e))
     (λ off e. on_ok _ _ x e (λ y ye e. counted_ok n y x (output_ok end [] ts y (All-nil IsSubject) s ye) e))
 
-abbrev AreDemands : ℕ → List (Option Rational) → Type 0
+abbrev AreDemands : ℕ → List model.Demand → Type 0
 AreDemands n ds = (length ds ≡ n) × All IsDemand ds
 
-demands_of : (ss : Subjects) → All IsSubject ss → All IsDemand (map (λ s. option_map decimal_value s.err) ss)
-demands_of [] a = All-nil IsDemand
-demands_of (s ∷ ss) a = All-cons IsDemand _ _ (by s.err (All-head IsSubject s ss a).1) (demands_of ss (All-tail IsSubject s ss a)) where
-  by : (o : Option Decimal) → IfSome o IsSize → IsDemand (option_map decimal_value o)
-  by None p = tt {0}
-  by (Some d) p = p
+-- an error that is demanded is a size
+err_of : (err : Option Decimal) → IfSome err IsSize → IfSome (option_map decimal_value err) (λ e. AtMost (whole (pos 0)) e)
+err_of None p = tt {0}
+err_of (Some d) p = p
 
-ensuring_ok : (end n : ℕ) (ts : Tokens) (x : List (Option Rational) × Tokens) → AreSound ts → ensuring_at end n ts ≡ Ok x → AreDemands n x.0 × AreSound x.1
+-- both ends are said, and the lower one is above the upper one
+abbrev are_empty : Option Decimal → Option Decimal → Bool
+are_empty lo hi = is_said lo && (is_said hi && not (is_at_most (decimal_value (or_zero lo)) (decimal_value (or_zero hi))))
+
+ends_of : (lo hi : Option Decimal) → are_empty lo hi ≡ false → IfSome (option_map decimal_value lo) (λ l. IfSome (option_map decimal_value hi) (λ h. AtMost l h))
+ends_of None hi e = tt {0}
+ends_of (Some l) None e = tt {0}
+ends_of (Some l) (Some h) e = at_most_true _ _ (not_false _ e)
+
+demand_of : (s : Subject) → IsSubject s → is_empty_demand s ≡ false → IsDemand (declared_demand s)
+demand_of s p e = record { err = err_of s.err p.1; ends = ends_of s.lo s.hi e }
+
+demands_of : (ss : Subjects) → All IsSubject ss → All (λ s. is_empty_demand s ≡ false) ss → All IsDemand (map declared_demand ss)
+demands_of [] a o = All-nil IsDemand
+demands_of (s ∷ ss) a o =
+    let one = demand_of s (All-head IsSubject s ss a) (All-head (λ s. is_empty_demand s ≡ false) s ss o) in
+    All-cons IsDemand (declared_demand s) (map declared_demand ss) one (demands_of ss (All-tail IsSubject s ss a) (All-tail (λ s. is_empty_demand s ≡ false) s ss o))
+
+demands_ok : (n : ℕ) (ss : Subjects) (x : List model.Demand) → AreSubjects n ss → demands_at ss ≡ Ok x → AreDemands n x
+unfolding demands_at
+demands_ok n ss x q e =
+    on_ok (all_pass is_empty_demand (λ at. fault at faults.EmptyRange) ss) (λ u. Ok (map declared_demand ss)) x e (λ u ue e.
+    let count : length (map declared_demand ss) ≡ n = simp length-map q.0 in
+    subst (λ (y : List model.Demand). AreDemands n y) (same_ok (map declared_demand ss) x e) (count, demands_of ss q.1 (all_pass_ok is_empty_demand (λ at. fault at faults.EmptyRange) ss u ue)))
+
+ensuring_ok : (end n : ℕ) (ts : Tokens) (x : List model.Demand × Tokens) → AreSound ts → ensuring_at end n ts ≡ Ok x → AreDemands n x.0 × AreSound x.1
 unfolding ensuring_at
-ensuring_ok end n ts x s e = on_ok _ _ x e (λ o oe e. on_ok _ _ x e (λ y ye e. on_ok _ _ x e (λ a ae e. on_ok _ _ x e (λ z ze e. on_ok _ _ x e (λ c ce e.
+ensuring_ok end n ts x s e = on_ok _ _ x e (λ o oe e. on_ok _ _ x e (λ y ye e. on_ok _ _ x e (λ a ae e. on_ok _ _ x e (λ z ze e. on_ok _ _ x e (λ c ce e. on_ok _ _ x e (λ d de e.
     let p = outputs_ok end n o.1 y (want_ok end heads.Open ts o s oe).2 ye in
-    let q = separated_ok (AreSubjects n) (AreSubjects n) heads.And (demand_at end) (demand_ok n end) (demand_ok n end) y.0 a.1 z p.0 (want_ok end heads.Arrow y.1 a p.1 ae).2 ze in
-    let count : length (map (λ s. option_map decimal_value s.err) z.0) ≡ n = simp length-map q.0.0 in
-    subst (λ (y : List (Option Rational) × Tokens). AreDemands n y.0 × AreSound y.1) (same_ok (_, c.1) x e) ((count, demands_of z.0 q.0.1), (want_ok end heads.Close z.1 c q.1 ce).2))))))
+    let q = separated_ok (AreSubjects n) (AreSubjects n) heads.And (condition_at end) (condition_ok n end) (condition_ok n end) y.0 a.1 z p.0 (want_ok end heads.Arrow y.1 a p.1 ae).2 ze in
+    subst (λ (y : List model.Demand × Tokens). AreDemands n y.0 × AreSound y.1) (same_ok (d, c.1) x e) (demands_ok n z.0 d q.0 de, (want_ok end heads.Close z.1 c q.1 ce).2)))))))
 
-none_asked : (n : ℕ) → AreDemands n (replicate n None)
+is_free : IsDemand free
+is_free = record { err = tt {0}; ends = tt {0} }
+
+none_asked : (n : ℕ) → AreDemands n (replicate n free)
 none_asked zero = (refl, All-nil IsDemand)
-none_asked (suc n) = let p = none_asked n in (ap suc p.0, All-cons IsDemand None (replicate n None) (tt {0}) p.1)
+none_asked (suc n) = let p = none_asked n in (ap suc p.0, All-cons IsDemand free (replicate n free) is_free p.1)
 
-maybe_ok : (end n : ℕ) (ts : Tokens) (x : List (Option Rational) × Tokens) → AreSound ts → maybe_ensuring_at end n ts ≡ Ok x → AreDemands n x.0 × AreSound x.1
+maybe_ok : (end n : ℕ) (ts : Tokens) (x : List model.Demand × Tokens) → AreSound ts → maybe_ensuring_at end n ts ≡ Ok x → AreDemands n x.0 × AreSound x.1
 unfolding maybe_ensuring_at
 maybe_ok end n ts x s e = on_if (next_head ts ==ₕ heads.Ensuring) _ _ x e
     (λ on e. ensuring_ok end n (drop 1 ts) x (sound_drop 1 ts s) e)
-    (λ off e. subst (λ (y : List (Option Rational) × Tokens). AreDemands n y.0 × AreSound y.1) (same_ok (_, ts) x e) (none_asked n, s))
+    (λ off e. subst (λ (y : List model.Demand × Tokens). AreDemands n y.0 × AreSound y.1) (same_ok (_, ts) x e) (none_asked n, s))
 
 -- ---- functions
 

@@ -147,7 +147,7 @@ AreSubjects n ss = (length ss ≡ n) × All IsSubject ss
 pub new_ok : (t : Lexeme) → (head_of t ==ₕ heads.Name) ≡ true → IsSound t → IsSubject (new_subject t)
 new_ok t e s = (is_name t e s, tt {0})
 
-pub subject_at_ok : (ss : Subjects) (t : Lexeme) (k : ℕ) → subject_at ss t ≡ Ok k → k < length ss
+subject_at_ok : (ss : Subjects) (t : Lexeme) (k : ℕ) → subject_at ss t ≡ Ok k → k < length ss
 unfolding subject_at
 subject_at_ok ss t k e = by (name_place (names_of ss) t.text) refl e where
   by : (o : Option ℕ) → name_place (names_of ss) t.text ≡ o → found_or t o ≡ Ok k → k < length ss
@@ -174,7 +174,7 @@ said_ok n side d t ss k x lt p q e =
     let all = All-set IsSubject ss k (with_side side d (subject_or ss k)) (with_side_ok side d (subject_or ss k) p (All-get_or IsSubject ss k _ lt q.1)) q.1 in
     subst (λ (y : Subjects). AreSubjects n y) (same_ok _ x r.1) (length-set ss k (with_side side d (subject_or ss k)) ∙ q.0, all)
 
-pub error_ok : (n end : ℕ) (ss : Subjects) (t : Lexeme) (k : ℕ) (ts : Tokens) (x : Subjects × Tokens) → k < length ss → AreSubjects n ss → AreSound ts → stated_error end ss t k ts ≡ Ok x → AreSubjects n x.0 × AreSound x.1
+error_ok : (n end : ℕ) (ss : Subjects) (t : Lexeme) (k : ℕ) (ts : Tokens) (x : Subjects × Tokens) → k < length ss → AreSubjects n ss → AreSound ts → stated_error end ss t k ts ≡ Ok x → AreSubjects n x.0 × AreSound x.1
 unfolding stated_error
 error_ok n end ss t k ts x lt q s e = on_ok _ _ x e (λ d de e. on_ok _ _ x e (λ y ye e.
     let w = number_ok end ts d s de in
@@ -220,7 +220,7 @@ number_first_ok n end ss ts x q s e = on_ok _ _ x e (λ d de e.
     (λ on e. behind_relation_ok n end _ ss d.0 _ (drop 1 d.1) x (other_end (is_upward (next_head d.1)) d.0) q (sound_drop 1 d.1 w) e)
     (λ off e. absurd cc))
 
-condition_ok : (n end : ℕ) (ss : Subjects) (ts : Tokens) (x : Subjects × Tokens) → AreSubjects n ss → AreSound ts → condition_at end ss ts ≡ Ok x → AreSubjects n x.0 × AreSound x.1
+pub condition_ok : (n end : ℕ) (ss : Subjects) (ts : Tokens) (x : Subjects × Tokens) → AreSubjects n ss → AreSound ts → condition_at end ss ts ≡ Ok x → AreSubjects n x.0 × AreSound x.1
 unfolding condition_at
 condition_ok n end ss ts x q s e = on_if (next_head ts ==ₕ heads.Name) _ _ x e (λ on e. name_first_ok n end ss ts x q s e) (λ off e. number_first_ok n end ss ts x q s e)
 
@@ -254,7 +254,7 @@ conditions_ok n end c ts x q s e = on_ok _ _ x e (λ y ye e.
 
 -- ---- inputs
 
-all_pass_ok : (fails : Subject → Bool) (faulty : ℕ → SourceFault) (ss : Subjects) (u : Unit {0}) → all_pass fails faulty ss ≡ Ok u → All (λ s. fails s ≡ false) ss
+pub all_pass_ok : (fails : Subject → Bool) (faulty : ℕ → SourceFault) (ss : Subjects) (u : Unit {0}) → all_pass fails faulty ss ≡ Ok u → All (λ s. fails s ≡ false) ss
 unfolding all_pass
 all_pass_ok fails faulty [] u e = All-nil (λ s. fails s ≡ false)
 all_pass_ok fails faulty (s ∷ ss) u e = on_when (fails s) _ _ u e (λ on e. absurd cc) (λ off e. All-cons (λ s. fails s ≡ false) s ss off (all_pass_ok fails faulty ss u e))
@@ -266,7 +266,7 @@ size_or_zero : (o : Option Decimal) → IfSome o IsSize → IsSize (or_zero o)
 size_or_zero None p = is_size 0 0
 size_or_zero (Some d) p = p
 
-not_false : (b : Bool) → not b ≡ false → b ≡ true
+pub not_false : (b : Bool) → not b ≡ false → b ≡ true
 not_false true e = refl
 not_false false e = absurd cc
 

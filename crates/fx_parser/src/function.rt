@@ -11,13 +11,11 @@ ghost use Rattle.fx_grammar.specs.Bodies.{count_of};
 
 use crate::body::{Body, Results, Temp, outcome, vals};
 use crate::front::{Declared, State, params, states, type_at};
-use fx_cursor::{
-    NODE_LIMIT, Names, Numeral, Parsed, behind, past_semicolon, peek, place, want, wrong,
-};
+use fx_cursor::{NODE_LIMIT, Names, Parsed, behind, past_semicolon, peek, place, want, wrong};
 use fx_expr::Expr;
 use fx_grammar::Head;
 use fx_lexer::{SourceFault, SourceKind, Token};
-use fx_requirements::{Named, Subject, first_place, maybe_ensuring, require};
+use fx_requirements::{Demanded, Named, Subject, first_place, maybe_ensuring, require};
 use std::alloc::Global;
 
 /// A function of the source.
@@ -28,7 +26,7 @@ pub struct Draft<'a> {
     pub states: Vec<State<'a>>,
     pub temps: Vec<Temp<'a>>,
     pub results: Vec<Expr>,
-    pub demands: Vec<Option<Numeral<'a>>>,
+    pub demands: Vec<Demanded<'a>>,
 }
 
 /// A function up to its brace.

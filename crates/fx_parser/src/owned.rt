@@ -6,8 +6,8 @@ ghost use Rattle.std.specs.List.{All};
 ghost use Rattle.fx_model.specs.Names.{IsName};
 ghost use Rattle.fx_expr.specs.Parts as parts;
 ghost use Rattle.fx_grammar.specs.Ranges.{declared_input};
-ghost use Rattle.fx_rational.specs.Decimal.{decimal_value};
 ghost use Rattle.std.specs.Option.{option_map};
+ghost use Rattle.fx_cursor.specs.Texts.{numeral_decimal};
 ghost use Rattle.fx_lexer.specs.Faults.{GivesParsed};
 ghost use Rattle.fx_parser.specs.LawfulNames.{IsLawfulAndNamed};
 ghost use Rattle.fx_requirements.specs.Views.{subject_of, demand_value};
@@ -16,11 +16,11 @@ ghost use Rattle.fx_parser.specs.Views.{state_value, temp_value, draft_of};
 use crate::function::Draft;
 use crate::{body, front};
 use fx_cursor::{Numeral, numeral_value};
-use fx_expr::{Function, Input, Items, State, Temp};
+use fx_expr::{Demand, Function, Input, Items, State, Temp};
 use fx_fraction::Decimal;
 use fx_lexer::SourceFault;
 use fx_name::Name;
-use fx_requirements::{Subject, or_zero};
+use fx_requirements::{Demanded, Subject, or_zero};
 use std::alloc::Global;
 
 fn owned_name(alloc: Global, text: &str) -> Result<Name, SourceFault>
@@ -73,26 +73,27 @@ fn owned_temps(alloc: Global, temps: Vec<body::Temp<'_>>) -> Result<Vec<Temp>, S
     Ok(owned)
 }
 
-fn demand(numeral: Option<Numeral<'_>>) -> Option<Decimal>
-    ensures { option_map decimal_value result ≡ demand_value numeral.entry }
+fn owned_number(number: Option<Numeral<'_>>) -> Option<Decimal>
+    ensures { result ≡ option_map numeral_decimal number.entry }
 {
-    match numeral {
-        Some(numeral) => Some(numeral_value(&numeral)),
+    match number {
+        Some(number) => Some(numeral_value(&number)),
         None => None,
     }
 }
 
-fn owned_demands(
-    alloc: Global,
-    numerals: &[Option<Numeral<'_>>],
-) -> Result<Vec<Option<Decimal>>, SourceFault>
-    ensures { GivesParsed (λ v. map (option_map decimal_value) v.items) result (Ok (map demand_value numerals.now)) }
+fn owned_demands(alloc: Global, demands: &[Demanded<'_>]) -> Result<Vec<Demand>, SourceFault>
+    ensures { GivesParsed (λ v. map parts.demand_of v.items) result (Ok (map demand_value demands.now)) }
 {
-    let mut demands = Vec::new(alloc);
-    for numeral in numerals {
-        demands.push(demand(*numeral))?;
+    let mut owned = Vec::new(alloc);
+    for demanded in demands {
+        owned.push(Demand {
+            err: owned_number(demanded.err),
+            lo: owned_number(demanded.lo),
+            hi: owned_number(demanded.hi),
+        })?;
     }
-    Ok(demands)
+    Ok(owned)
 }
 
 /// The function that was read.

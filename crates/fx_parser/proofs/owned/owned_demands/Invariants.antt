@@ -1,8 +1,7 @@
 use Rattle.std.proofs.Common.{◌≡◌, map, take}
-use Rattle.std.specs.Option.{option_map}
-use Rattle.fx_rational.specs.Decimal.{decimal_value}
+use Rattle.fx_expr.specs.Parts as parts
 use Rattle.fx_requirements.specs.Views.{demand_value}
 use Rattle.fx_parser.proofs.owned.owned_demands.Given as goal
 
-abbrev pub invariant-loop-numeral : goal.invariant-loop-numeral
-invariant-loop-numeral l = map (option_map decimal_value) l.demands.items ≡ map demand_value (take l.numeral-index l.numerals)
+abbrev pub invariant-loop-demanded : goal.invariant-loop-demanded
+invariant-loop-demanded l = map parts.demand_of l.owned.items ≡ map demand_value (take l.demanded-index l.demands)
