@@ -22,8 +22,8 @@ SOURCES = [
     (24, "def e(x: Real): Real = { require(1 <= x && x <= 4) 1 / x } ensuring(r => 0.2499 <= r && r <= 1.0001)"),
     (16, "def f(x: Real, y: Real): (Real, Real) = { require(0 <= x && x <= 1 && 0 <= y && y <= 1) (x - y, 0.25 * x + 0.25) } "
          "ensuring((s, t) => -1.01 <= s && s <= 1.01 && 0.25 <= t && t +/- 0.01)"),
-    (16, "def g(u: Real)(x: Real = 0): (Real, Real) = { require(-1 <= u && u <= 1) val y = 0.5 * x + 0.5 * u (y, y) } ensuring(y => -1.01 <= y && y <= 1.01)"),
-    (32, "def h(u: Real)(x: Real = 0.25): (Real, Real) = { require(0 <= u && u <= 1) val y = 0.9 * x + 0.1 * u (y, y) } ensuring(y => -0.00001 <= y && y <= 1.00001)"),
+    (16, "def g(u: Real)(x: Real = 0): (Real, Real) = { require(-1 <= u && u <= 1) val y = 0.5 * x + 0.5 * u; (y, y) } ensuring(y => -1.01 <= y && y <= 1.01)"),
+    (32, "def h(u: Real)(x: Real = 0.25): (Real, Real) = { require(0 <= u && u <= 1) val y = 0.9 * x + 0.1 * u; (y, y) } ensuring(y => -0.00001 <= y && y <= 1.00001)"),
     (48, "def i(x: Real): Real = { require(-1 <= x && x <= 1) x * x * x - x } ensuring(r => -2.000000001 <= r && r <= 2.000000001)"),
     (64, "def j(x: Real): Real = { require(0 <= x && x <= 1 && x +/- 0.001) 1 - 0.5 * x } ensuring(r => 0.499 <= r && r <= 1.002)"),
 ]
