@@ -471,7 +471,7 @@ def try_long(table, _):
         while left:
             left -= child.stdin.write(block[:left])
     child.stdin = None
-    table.row(f"an input of {size:,} bytes", table.end(child), {0: PAGE}, front=False)
+    table.row(f"an input of {size:,} bytes", table.end(child), {0: PAGE})
 
 
 def main():

@@ -1,19 +1,21 @@
 #!/usr/bin/env python3
 """Runs bundles with demanded ends over many rows, and looks whether a printed value leaves one: ends.py [--rows N] [PROGRAM]
 
-Each source below is synthesised at its width; the rows are at random in the declared ranges, a fifth of them at their ends. What `run`
+Each source below is synthesised at its width; the rows are those of gallery.py, the corners of the declared ranges first. What `run`
 prints of an output has to lie between the ends that the source demands of it. That is proved of every accepted bundle; here it is seen.
 The script ends with 1 where a value leaves an end, or where a source that is served isn't found. Outside the gate: it needs a built program.
 """
+import argparse
 import os
-import random
-import re
-import subprocess
 import sys
 import tempfile
 from fractions import Fraction
 
-HERE = os.path.dirname(os.path.abspath(__file__))
+from calls import Fixd
+from gallery import rows_of, write_rows
+from sources import functions_of
+
+TRIES = 200
 SOURCES = [
     (16, "def a(x: Real): Real = { require(0 <= x && x <= 1) x + 0.5 } ensuring(r => 0.49 <= r && r <= 1.5)"),
     (16, "def b(x: Real): Real = { require(-1 <= x && x <= 1) 0.5 * x + 0.5 } ensuring(r => 0 <= r)"),
@@ -31,77 +33,44 @@ SOURCES = [
 UNFOUND = [(16, "def k(x: Real): Real = { require(0 <= x && x <= 1) x * x } ensuring(r => 0 <= r)")]
 
 
-def demanded(source):
-    """The lower and the upper end of each output, None where there is none."""
-    names, demands = re.search(r"ensuring\((.*?) => (.*)\)", source).groups()
-    ends = {name: [None, None] for name in re.findall(r"\w+", names)}
-    for demand in demands.split(" && "):
-        if lower := re.fullmatch(r"(\S+) <= (\S+)", demand):
-            if lower[2] in ends:
-                ends[lower[2]][0] = Fraction(lower[1])
-            else:
-                ends[lower[1]][1] = Fraction(lower[2])
-    return list(ends.values())
+def seen(fixd, bundle, function, count, folder):
+    """Returns the least and the greatest value that is printed of each output over so many rows."""
+    path = os.path.join(folder, "rows.csv")
+    write_rows(path, function, [given for _, given in rows_of(function, count)])
+    with open(path, encoding="utf-8") as rows:
+        printed = fixd.call(["run", bundle], stdin=rows).splitlines()[1:]
+    columns = zip(*(map(Fraction, line.split(",")) for line in printed))
+    return [(min(column), max(column)) for column in columns]
 
 
-def inputs(source):
-    """The names of the inputs with their ends, an error taken off."""
-    named = re.findall(r"(-?[\d.]+) <= (\w+) && \2 <= (-?[\d.]+)", source.split("ensuring")[0])
-    return [(name, Fraction(lo), Fraction(hi)) for lo, name, hi in named]
-
-
-def rows_of(source, count, drawn):
-    """The header and so many rows, each number with six places."""
-    ranges = inputs(source)
-    lines = [",".join(name for name, _, _ in ranges)]
-    for _ in range(count):
-        fields = []
-        for _, lo, hi in ranges:
-            at = drawn.choice((lo, hi)) if drawn.random() < 0.2 else lo + (hi - lo) * drawn.randrange(10**6) / 10**6
-            fields.append(f"{float(at):.6f}")
-        lines.append(",".join(fields))
-    return "\n".join(lines) + "\n"
-
-
-def outside(program, width, source, count, drawn, folder):
-    """What is wrong with a source, or how near its values came to its ends."""
+def outside(fixd, width, source, count, folder):
+    """Returns whether the printed values keep their ends, and how near they come; None where no bundle is found."""
+    function, = functions_of(source)
     path, bundle = os.path.join(folder, "s.fixd"), os.path.join(folder, "s.bundle")
     with open(path, "w", encoding="utf-8") as file:
         file.write(source)
-    with open(bundle, "wb") as file:
-        found = subprocess.run([program, "synth", "--width", str(width), path], stdout=file, stderr=subprocess.PIPE, text=True)
-    if found.returncode:
-        return False, found.stderr.strip()
-    ran = subprocess.run([program, "run", bundle], input=rows_of(source, count, drawn), capture_output=True, text=True)
-    if ran.returncode:
-        return False, ran.stderr.strip()
-    ends, least, most = demanded(source), {}, {}
-    for line in ran.stdout.splitlines()[1:]:
-        for j, text in enumerate(line.split(",")):
-            value = Fraction(text)
-            least[j], most[j] = min(least.get(j, value), value), max(most.get(j, value), value)
-    told = "; ".join(f"out{j + 1} from {float(least[j]):.9g} to {float(most[j]):.9g}" for j in sorted(least))
-    kept = all((lo is None or lo <= least[j]) and (hi is None or most[j] <= hi) for j, (lo, hi) in enumerate(ends))
-    return kept, told
+    text, _ = fixd.synthesised(path, function.name, width, TRIES)
+    if text is None:
+        return None, "not found"
+    with open(bundle, "w", encoding="utf-8") as file:
+        file.write(text)
+    values = seen(fixd, bundle, function, count, folder)
+    kept = all(ends.get("lo", least) <= least and most <= ends.get("hi", most) for ends, (least, most) in zip(function.demands.values(), values))
+    return kept, "; ".join(f"out{j} from {float(least):.9g} to {float(most):.9g}" for j, (least, most) in enumerate(values, 1))
 
 
 def main():
-    words, count = sys.argv[1:], 100_000
-    if words[:1] == ["--rows"]:
-        count, words = int(words[1]), words[2:]
-    program = os.path.realpath(words[0] if words else os.path.join(HERE, "..", "build", "fixd"))
-    if not os.access(program, os.X_OK):
-        sys.exit("ends: build it first: make run")
-    drawn, faults = random.Random(36), 0
+    options = argparse.ArgumentParser(description=__doc__.split("\n")[0])
+    options.add_argument("program", nargs="?", default=os.path.join(os.path.dirname(os.path.abspath(__file__)), "..", "build", "fixd"))
+    options.add_argument("--rows", type=int, default=100_000)
+    given = options.parse_args()
+    fixd, faults = Fixd(os.path.realpath(given.program)), 0
     with tempfile.TemporaryDirectory() as folder:
-        for width, source in SOURCES:
-            good, told = outside(program, width, source, count, drawn, folder)
-            faults += not good
-            print(f"{'kept' if good else 'NOT KEPT'} {width:2} {source.split('(')[0][4:]}: {told}", flush=True)
-        for width, source in UNFOUND:
-            good, told = outside(program, width, source, 1, drawn, folder)
-            faults += good or not told.startswith("fixd: not found")
-            print(f"{'FOUND' if good else 'none'} {width:2} {source.split('(')[0][4:]}: {told}")
+        for wanted, sources in ((True, SOURCES), (None, UNFOUND)):
+            for width, source in sources:
+                kept, told = outside(fixd, width, source, given.rows, folder)
+                faults += kept is not wanted
+                print(f"{'as due' if kept is wanted else 'FAULT'} {width:2} {source}: {told}", flush=True)
     sys.exit(1 if faults else 0)
 
 

@@ -1,4 +1,4 @@
-"""Reads sources of `fixd` without faults, and computes their exact outputs by Python's fractions. For bench/gallery.py."""
+"""Reads sources of `fixd` without faults, and computes their exact outputs by Python's fractions."""
 import re
 from dataclasses import dataclass, field
 from fractions import Fraction
@@ -8,12 +8,14 @@ TOKEN = re.compile(r"\s+|//[^\n]*|/\*.*?\*/|(\d+(?:\.\d+)?(?:[eE][+-]?\d+)?|[A-Z
 
 @dataclass
 class Function:
-    """A function of a source: its inputs by name with both ends and the error, and its trees."""
+    """A function of a source: its inputs by name with both ends and the error, its trees, and its outputs that `ensuring` names with
+    what is demanded of them."""
     name: str
     inputs: dict = field(default_factory=dict)
     states: dict = field(default_factory=dict)
     temps: list = field(default_factory=list)
     results: list = field(default_factory=list)
+    demands: dict = field(default_factory=dict)
 
 
 class Reader:
@@ -66,7 +68,7 @@ class Reader:
         self.take("{")
         self.take("require")
         self.take("(")
-        self.conditions(function)
+        self.conditions(function.inputs)
         self.taken(";")
         while self.taken("val"):
             function.temps.append(self.temp())
@@ -74,12 +76,19 @@ class Reader:
         self.taken(";")
         self.take("}")
         if self.taken("ensuring"):
-            depth = 0
-            while True:
-                depth += {"(": 1, ")": -1}.get(self.take(), 0)
-                if depth == 0:
-                    break
+            self.take("(")
+            function.demands = {name: {} for name in self.outputs()}
+            self.take("=>")
+            self.conditions(function.demands)
         return function
+
+    def outputs(self):
+        if not self.taken("("):
+            return [self.take()]
+        names = [self.take()]
+        while self.take(",", ")") == ",":
+            names.append(self.take())
+        return names
 
     def parameters(self):
         names = []
@@ -106,27 +115,27 @@ class Reader:
         sign = -1 if self.taken("-") else 1
         return sign * Fraction(self.take())
 
-    def conditions(self, function):
+    def conditions(self, said):
         while True:
             if self.taken("("):
-                self.conditions(function)
+                self.conditions(said)
             else:
-                self.condition(function)
+                self.condition(said)
             if self.take("&&", ")") == ")":
                 return
 
-    def condition(self, function):
-        if self.peek() in function.inputs:
+    def condition(self, said):
+        if self.peek() in said:
             name, relation = self.take(), self.take()
             if relation == "+/-":
-                function.inputs[name]["err"] = Fraction(self.take())
+                said[name]["err"] = Fraction(self.take())
                 return
             value = self.signed()
             is_upper = relation in ("<", "<=")
         else:
             value, relation, name = self.signed(), self.take(), self.take()
             is_upper = relation in (">", ">=")
-        function.inputs[name]["hi" if is_upper else "lo"] = value
+        said[name]["hi" if is_upper else "lo"] = value
 
     def temp(self):
         name = self.take()
