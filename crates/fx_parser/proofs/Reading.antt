@@ -7,7 +7,6 @@ use Rattle.fx_lexer.specs.Tokens.{Lexeme}
 use Rattle.fx_grammar.specs.declared.head.Head.{Head}
 use Rattle.fx_grammar.specs.declared.head.Head.TheVariants as heads
 use Rattle.fx_grammar.specs.Heads.{head_of, ◌==ₕ◌}
-use Rattle.fx_model.specs.Steps.{◌>>=◌}
 use Rattle.fx_grammar.specs.Steps.{when, Tokens, Parsed, want, wrong, real_at, past_semicolon, next_head, repeat, separated, listed, stands_next, behind}
 use Rattle.fx_model.proofs.Steps.{on_ok}
 use Rattle.fx_parser.specs.LawfulTokens.{IsSound, AreSound}

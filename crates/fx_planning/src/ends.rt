@@ -32,6 +32,9 @@ fn surplus(end: Decimal, hi: i128, e: u32) -> Option<i128> {
 /// By how much an output's error has to move up for its values to keep the demanded lower end, and how far down for the
 /// upper one. Zero where they are kept, and where an end doesn't fit: the checker judges what is found.
 pub fn moves_wanted(demand: Demand, range: Span, error: Span) -> (Real, Real) {
+    if demand.lo.is_none() && demand.hi.is_none() {
+        return (Real::ZERO, Real::ZERO);
+    }
     let Some(values) = range.plus(error) else {
         return (Real::ZERO, Real::ZERO);
     };

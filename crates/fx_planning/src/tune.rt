@@ -154,6 +154,9 @@ fn tune_output(
     j: usize,
     output: usize,
 ) -> Result<bool, Memory> {
+    if plan.errors.span(output).is_none() {
+        return Ok(false);
+    }
     let slopes = slopes_of(alloc, setting.nodes, setting.ranges, output)?;
     keep_ends(alloc, setting, plan, &slopes, j, output)?;
     let Some(error) = plan.errors.span(output) else {
@@ -168,13 +171,12 @@ fn tune_output(
 
 /// Tunes a plan for each output, a few rounds.
 pub fn tune(alloc: Global, setting: &Setting<'_>, plan: &mut Plan) -> Result<(), Memory> {
-    let count = setting.nodes.len();
     let function = setting.function;
     let outputs = function.demands.len();
+    let first = setting.first_output();
     for turn in 0..outputs.saturating_mul(ROUNDS) {
         let j = turn.checked_rem(outputs).unwrap_or(0);
-        let output = count.saturating_sub(outputs.saturating_sub(j));
-        let has_moved = tune_output(alloc, setting, plan, j, output)?;
+        let has_moved = tune_output(alloc, setting, plan, j, first.saturating_add(j))?;
         if !has_moved && outputs == 1 {
             return Ok(());
         }
