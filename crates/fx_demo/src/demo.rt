@@ -20,7 +20,7 @@ use std::alloc::Global;
 const ROWS_LIMIT: u64 = 1 << 20;
 
 /// The function of the source of number `n`, which the plain plan serves at 32 bits.
-pub fn served_function(alloc: Global, n: u32) -> Result<Function, Memory>
+fn served_function(alloc: Global, n: u32) -> Result<Function, Memory>
     requires { n ≤ 500 }
     ensures meant { IfOk result (λ fn. parsed (demo_source n) None ≡ Ok fn) }
     ensures served { IfOk result (λ fn. outside_of 32 fn ≡ None) }
