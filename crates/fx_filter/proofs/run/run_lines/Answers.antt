@@ -278,18 +278,18 @@ returns-in-Err-clause-grown g c = grown_on _ _ _ c.lines.invariant.grown c.ask.e
 
 pub returns-in-Err-take_line-clause-prompt : goal.returns-in-Err-take_line-clause-prompt
 returns-in-Err-take_line-clause-prompt g c =
-    noted_on _ _ _ _ c.lines.invariant.prompt
+    noted_on (IsAnswered (g.P.Printer.outcome c.args.printer.now) (g.S.Source.left c.args.source.now) (g.K.Sink.taken c.args.sink.now)) _ _ _ c.lines.invariant.prompt
     (c.ask.ensures.prompt (g.P.Printer.outcome c.args.printer.now) (g.P.Printer.outcome c.lines.printer) (g.S.Source.left c.args.source.now) (g.K.Sink.taken c.args.sink.now) c.lines.count
     (g.met.P.Printer.none c.lines.printer).0 c.lines.invariant.ran)
 
 pub returns-in-Ok-End-clause-prompt : goal.returns-in-Ok-End-clause-prompt
 returns-in-Ok-End-clause-prompt g c =
-    noted_on _ _ _ _ c.lines.invariant.prompt
+    noted_on (IsAnswered (g.P.Printer.outcome c.args.printer.now) (g.S.Source.left c.args.source.now) (g.K.Sink.taken c.args.sink.now)) _ _ _ c.lines.invariant.prompt
     (c.ask.ensures.prompt (g.P.Printer.outcome c.args.printer.now) (g.P.Printer.outcome c.lines.printer) (g.S.Source.left c.args.source.now) (g.K.Sink.taken c.args.sink.now) c.lines.count
     (g.met.P.Printer.none c.lines.printer).0 c.lines.invariant.ran)
 
 pub returns-in-Err-clause-prompt : goal.returns-in-Err-clause-prompt
 returns-in-Err-clause-prompt g c =
-    noted_on _ _ _ _ c.lines.invariant.prompt
+    noted_on (IsAnswered (g.P.Printer.outcome c.args.printer.now) (g.S.Source.left c.args.source.now) (g.K.Sink.taken c.args.sink.now)) _ _ _ c.lines.invariant.prompt
     (c.ask.ensures.prompt (g.P.Printer.outcome c.args.printer.now) (g.P.Printer.outcome c.lines.printer) (g.S.Source.left c.args.source.now) (g.K.Sink.taken c.args.sink.now) c.lines.count
     (g.met.P.Printer.none c.lines.printer).0 c.lines.invariant.ran)
