@@ -3,6 +3,7 @@ pub mod Sink
 pub mod Shelf
 pub mod Calls
 pub mod Kinds
+pub mod Moments
 pub mod Text
 pub mod Fetches
 pub mod LineSteps

@@ -7,10 +7,11 @@ ghost use Rattle.std.specs.Io.KnownBytes.{Consumes};
 ghost use Rattle.fx_base.specs.Causes.{Rose};
 ghost use Rattle.fx_base.specs.declared.answers.LineFault.TheVariants.{ReadFault};
 ghost use Rattle.fx_base.specs.Fetches.{HasFetched};
+ghost use Rattle.fx_base.specs.Moments.{HoldsEachTime, IsSought};
 
 use crate::cuts::line_end_from;
 use crate::held::Held;
-use crate::{LineFault, Source};
+use crate::{LineFault, Sink, Source};
 
 /// What is held once a line was sought.
 #[derive(Clone, Copy)]
@@ -27,12 +28,13 @@ pub(crate) enum Fetched {
 const LONG: usize = 65_540;
 
 /// Reads until the bytes hold a line's end, or more than a line may have. `ahead` is the end that they hold already.
-pub(crate) fn fetch<S: Source>(
+pub(crate) fn fetch<S: Source<K>, K: Sink>(
     held: &mut Held,
     ahead: Option<usize>,
     taken: &mut u64,
     limit: u64,
     source: &mut S,
+    shown: &K,
 ) -> Result<Fetched, LineFault>
     requires ahead { ahead ≡ position (λ b. b == 10) held.old }
     requires room { length held.old ≤ 131072 }
@@ -46,6 +48,7 @@ pub(crate) fn fetch<S: Source>(
     ensures read_fault { IsErrOf result LineFault.ReadFault → Rose (S.faults source.old) (S.faults source.new) }
     ensures too_long { IsErrOf result LineFault.TooLong ↔ (limit < taken.new) }
     ensures lazy { ahead ≢ None → (source.new ≡ source.old) × (held.new ≡ held.old) × (taken.new ≡ taken.old) }
+    ensures sought { HoldsEachTime (IsSought held.old (S.left source.old) (K.taken shown.now)) (S.asked source.old) (S.asked source.new) }
     ensures later { S.faults source.old ≤ S.faults source.new }
     ensures few { length held.new ≤ 131072 }
 {
@@ -57,7 +60,7 @@ pub(crate) fn fetch<S: Source>(
         if seen > LONG {
             return Ok(Fetched::Long);
         }
-        let count = held.read_more(source)?;
+        let count = held.read_more(source, shown)?;
         *taken = taken.saturating_add(count as u64);
         if *taken > limit {
             return Err(LineFault::TooLong);

@@ -5,8 +5,9 @@
 ghost use Rattle.std.specs.Prelude.{◌≡◌, ℕ, List, [], ◌+◌, ◌-◌, ◌<◌, ◌≤◌, ◌++◌, take, drop, length, IfOk, OnErr};
 ghost use Rattle.std.specs.Io.KnownBytes.{Consumes, Keeps, IsAtEnd};
 ghost use Rattle.fx_base.specs.Causes.{HasCause};
+ghost use Rattle.fx_base.specs.Moments.{Notes};
 
-use crate::{Failed, Source};
+use crate::{Failed, Sink, Source};
 use std::alloc::{AllocError, Global};
 use std::marker::Model;
 
@@ -61,19 +62,24 @@ impl Held {
     }
 
     /// Reads once, into the room behind what is held.
-    pub fn read_more<S: Source>(&mut self, source: &mut S) -> Result<usize, Failed>
+    pub fn read_more<S: Source<K>, K: Sink>(
+        &mut self,
+        source: &mut S,
+        shown: &K,
+    ) -> Result<usize, Failed>
         requires { length self.old + 2 ≤ 131072 }
         ensures more { IfOk result (λ n. (more : List ℕ) × Consumes (S.left source.old) (S.left source.new) more
             × (self.new ≡ self.old ++ more) × (length more ≡ n)) }
         ensures few { length self.new ≤ 131072 }
         ensures end { IfOk result (λ n. n ≡ 0 → IsAtEnd (S.left source.new)) }
         ensures err { OnErr result (Keeps (S.left source.old) (S.left source.new) × (self.new ≡ self.old)) }
+        ensures moment { Notes (record { left = S.left source.old; taken = K.taken shown.now }) (S.asked source.old) (S.asked source.new) }
         ensures cause { HasCause (S.faults source.old) (S.faults source.new) result }
     {
         move_up(&mut self.block, self.start, self.end);
         self.end -= self.start;
         self.start = 0;
-        let count = read_behind(&mut self.block, self.end, source)?;
+        let count = read_behind(&mut self.block, self.end, source, shown)?;
         self.end += count;
         Ok(count)
     }
@@ -90,7 +96,12 @@ fn move_up(block: &mut [u8], start: usize, end: usize)
 }
 
 // Reads once, behind the bytes before a place.
-fn read_behind<S: Source>(block: &mut [u8], at: usize, source: &mut S) -> Result<usize, Failed>
+fn read_behind<S: Source<K>, K: Sink>(
+    block: &mut [u8],
+    at: usize,
+    source: &mut S,
+    shown: &K,
+) -> Result<usize, Failed>
     requires { at < length block.old }
     ensures more { IfOk result (λ n. (more : List ℕ) × Consumes (S.left source.old) (S.left source.new) more
         × (take (at + n) block.new ≡ take at block.old ++ more) × (length more ≡ n)) }
@@ -99,8 +110,9 @@ fn read_behind<S: Source>(block: &mut [u8], at: usize, source: &mut S) -> Result
     ensures length { length block.new ≡ length block.old }
     ensures end { IfOk result (λ n. n ≡ 0 → IsAtEnd (S.left source.new)) }
     ensures err { OnErr result (Keeps (S.left source.old) (S.left source.new)) }
+    ensures moment { Notes (record { left = S.left source.old; taken = K.taken shown.now }) (S.asked source.old) (S.asked source.new) }
     ensures cause { HasCause (S.faults source.old) (S.faults source.new) result }
 {
-    let count = source.read(&mut block[at..])?;
+    let count = source.read(&mut block[at..], shown)?;
     Ok(count)
 }

@@ -12,7 +12,7 @@ ghost use Rattle.fx_base.specs.Causes.{Rose};
 use crate::cuts::{line_end, mark_len, trimmed_len};
 use crate::fetch::{Fetched, fetch};
 use crate::held::Held;
-use crate::{LineFault, Memory, Source};
+use crate::{LineFault, Memory, Sink, Source};
 use std::alloc::Global;
 use std::marker::Model;
 
@@ -58,6 +58,7 @@ impl Model for Lines {
 
 impl Lines {
     ghost use Rattle.fx_base.specs.LineSteps.{LinesState, TakesLine};
+    ghost use Rattle.fx_base.specs.Moments.{HoldsEachTime, IsSought};
     ghost use Rattle.fx_base.specs.Text.{text_at};
 
     /// Makes all room that is ever needed. More than `limit` bytes are `TooLong`.
@@ -111,8 +112,13 @@ impl Lines {
         self.ahead.is_some()
     }
 
-    /// Takes the next line, which then stands in `line`. It reads only where no whole line is held.
-    pub fn next_line<S: Source>(&mut self, source: &mut S) -> Result<LineStep, LineFault>
+    /// Takes the next line, which then stands in `line`. It reads only where no whole line is held, and `shown` is what
+    /// whoever feeds the source sees then.
+    pub fn next_line<S: Source<K>, K: Sink>(
+        &mut self,
+        source: &mut S,
+        shown: &K,
+    ) -> Result<LineStep, LineFault>
         requires { IsTrue self.old.is_ready }
         ensures taken { (more : List ℕ) × Consumes (S.left source.old) (S.left source.new) more
             × (self.new.taken ≡ min (self.old.taken + length more) (2 ^ 64 - 1)) × (length self.old.held + length more ≤ 131072)
@@ -130,6 +136,7 @@ impl Lines {
         ensures limit { self.new.limit ≡ self.old.limit }
         ensures lazy { position (λ b. b == 10) self.old.held ≢ None → (source.new ≡ source.old) × (self.new.taken ≡ self.old.taken) × (result ≡ Ok LineStep.Line) }
         ensures after_end { IsTrue self.old.is_ended → (source.new ≡ source.old) × (self.new.taken ≡ self.old.taken) × (result ≡ Ok LineStep.End) }
+        ensures sought { HoldsEachTime (IsSought self.old.held (S.left source.old) (K.taken shown.now)) (S.asked source.old) (S.asked source.new) }
         ensures later { S.faults source.old ≤ S.faults source.new }
     {
         let is_first = self.number == 0;
@@ -147,6 +154,7 @@ impl Lines {
             &mut self.taken,
             self.limit,
             source,
+            shown,
         )?;
         let bytes = self.held.bytes();
         match fetched {

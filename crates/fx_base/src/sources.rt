@@ -1,31 +1,37 @@
 //! What is read from in order: the trait `Source`, and its two kinds in memory.
 //!
 //! A source may tell the bytes still to come (`left`). Callers are generic, so what they prove of a source that tells
-//! holds of the bytes of a real stream, which tells nothing. `BytesIn` comes in pieces and fails at chosen calls, to
+//! holds of the bytes of a real stream, which tells nothing. Whoever feeds a source may look at a sink before more bytes
+//! come, so each read is shown that sink: what a caller owes by then can be said of the moments that a source notes (`asked`). `BytesIn` comes in pieces and fails at chosen calls, to
 //! show that a caller gives the same bytes whatever the pieces; `CleanIn` never fails.
 //! The trap: a method here that states clauses of its own has to repeat the trait's.
-ghost use Rattle.std.specs.Prelude.{◌≡◌, ℕ, ◌≤◌, ◌↔◌, List, length, drop, min, Contains, IsErr, IfOk, OnErr, IsOkAnd, Some, Option};
+ghost use Rattle.std.specs.Prelude.{◌≡◌, ℕ, ◌≤◌, ◌↔◌, List, [], length, drop, min, Contains, IsErr, IfOk, OnErr, IsOkAnd, Some, Option};
 ghost use Rattle.std.specs.Io.{ReadsAtMost};
 ghost use Rattle.std.specs.Io.KnownBytes.{ReadConsumes};
 ghost use Rattle.fx_base.specs.Causes.{HasCause, counted};
+ghost use Rattle.fx_base.specs.Moments.{Moment, Notes};
 
-use crate::Failed;
 use crate::copies::copy_from;
+use crate::{Failed, Sink};
 use std::marker::Model;
 
-/// A source of bytes. Of the bytes still to come it may tell nothing.
-pub trait Source {
+/// A source of bytes, whose feeder sees what the sink `K` has taken. Of the bytes still to come it may tell nothing.
+pub trait Source<K: Sink> {
     // The bytes still to come, where the source tells them.
     ghost left: { Self → Option (List ℕ) };
 
     // How often a read has failed. It never falls.
     ghost faults: { Self → ℕ };
 
+    // Moments at which it was asked for bytes, those that it notes.
+    ghost asked: { Self → List Moment };
+
     /// Puts the next bytes into the front of `buf` and gives their count. `Ok(0)` for a buffer with room is the end of
     /// input. A read that fails takes nothing.
-    fn read(&mut self, buf: &mut [u8]) -> Result<usize, Failed>
+    fn read(&mut self, buf: &mut [u8], shown: &K) -> Result<usize, Failed>
         ensures bound { ReadsAtMost result buf.new }
         ensures bytes { ReadConsumes (left self.old) (left self.new) result buf.new }
+        ensures moment { Notes (record { left = left self.old; taken = K.taken shown.now }) (asked self.old) (asked self.new) }
         ensures cause { HasCause (faults self.old) (faults self.new) result };
 }
 
@@ -68,16 +74,19 @@ impl BytesIn {
     }
 }
 
-impl Source for BytesIn {
+impl<K: Sink> Source<K> for BytesIn {
     ghost use Rattle.fx_base.specs.Kinds.{InputState, after_read};
 
     ghost left = { λ s. Some s.left };
 
     ghost faults = { λ s. s.faults };
 
-    fn read(&mut self, buf: &mut [u8]) -> Result<usize, Failed>
+    ghost asked = { λ s. [] };
+
+    fn read(&mut self, buf: &mut [u8], _shown: &K) -> Result<usize, Failed>
         ensures bound { ReadsAtMost result buf.new }
         ensures bytes { ReadConsumes (Some self.old.left) (Some self.new.left) result buf.new }
+        ensures moment { Notes (record { left = Some self.old.left; taken = K.taken _shown.now }) [] [] }
         ensures cause { HasCause self.old.faults self.new.faults result }
 
         ensures fails { IsErr result ↔ Contains self.old.fails (counted self.old.calls) }
@@ -122,14 +131,17 @@ impl CleanIn {
     }
 }
 
-impl Source for CleanIn {
+impl<K: Sink> Source<K> for CleanIn {
     ghost left = { λ s. Some s };
 
     ghost faults = { λ s. 0 };
 
-    fn read(&mut self, buf: &mut [u8]) -> Result<usize, Failed>
+    ghost asked = { λ s. [] };
+
+    fn read(&mut self, buf: &mut [u8], _shown: &K) -> Result<usize, Failed>
         ensures bound { ReadsAtMost result buf.new }
         ensures bytes { ReadConsumes (Some self.old) (Some self.new) result buf.new }
+        ensures moment { Notes (record { left = Some self.old; taken = K.taken _shown.now }) [] [] }
         ensures cause { HasCause 0 0 result }
 
         ensures count { IsOkAnd result (λ n. n ≡ min (length buf.old) (length self.old)) }

@@ -10,14 +10,19 @@ ghost use Rattle.fx_base.specs.Causes.{Rose, HasCause};
 ghost use Rattle.fx_base.specs.Shelf.{IfPaper, IsMissing};
 ghost use Rattle.fx_base.specs.Calls.{TakesUpTo, AppendsFront};
 
-use crate::{Failed, InFault, Shelf, Sink, Source};
+use crate::{Failed, InFault, Shelf, Silent, Sink, Source};
 use std::alloc::Global;
 
 // In bytes: few calls of the system for a long file, and still little on the stack.
 const BLOCK: usize = 16_384;
 
-/// All bytes up to the end of input, at most `limit` of them. After a refusal the source stands behind what was taken.
-pub fn read_all<S: Source>(alloc: Global, source: &mut S, limit: u64) -> Result<Vec<u8>, InFault>
+/// All bytes up to the end of input, at most `limit` of them; nothing is shown meanwhile. After a refusal the source stands
+/// behind what was taken.
+pub fn read_all<S: Source<Silent>>(
+    alloc: Global,
+    source: &mut S,
+    limit: u64,
+) -> Result<Vec<u8>, InFault>
     ensures all { IfOk result (λ bytes. Consumes (S.left source.old) (S.left source.new) bytes.items) }
     ensures end { OnOk result (IsAtEnd (S.left source.new)) }
     ensures within { IfOk result (λ bytes. vec_len bytes ≤ limit) }
@@ -27,8 +32,9 @@ pub fn read_all<S: Source>(alloc: Global, source: &mut S, limit: u64) -> Result<
 {
     let mut bytes = Vec::new(alloc);
     let mut block = [0; BLOCK];
+    let shown = Silent::new();
     'reads: loop {
-        let count = source.read(&mut block)?;
+        let count = source.read(&mut block, &shown)?;
         if count == 0 {
             return Ok(bytes);
         }

@@ -33,6 +33,10 @@ pub record IsAcceptedAs (b : Parts) (fn : Function) : Type 0 where
 abbrev pub IsBundle : Option Files → List ℕ → Parts → Type 0
 IsBundle papers name b = IfFile papers name (λ file. (length file ≤ bundle_limit) × Spells file b)
 
+-- FILE is a bundle that is accepted
+abbrev pub IsOpen : Option Files → List ℕ → Type 0
+IsOpen papers name = (b : Parts) × (fn : Function) × IsBundle papers name b × IsAcceptedAs b fn
+
 -- why FILE gives no accepted bundle: the first cause in this order; the shelf's faults are counted before and after
 pub data OpeningEnds (papers : Option Files) (before after : ℕ) (name : List ℕ) : End → Type 0 where
   unread : IsMissing papers name ⊎ Rose before after → OpeningEnds papers before after name ReadFault

@@ -14,7 +14,7 @@ use Rattle.fx_checker.specs.Refusal.{IsToldOf}
 use Rattle.fx_checker.specs.declared.fault.CheckFault.{CheckFault}
 use Rattle.fx_cert.specs.BundleView.{Parts, IsLawfulBundle}
 use Rattle.fx_reader.specs.BundleReading.{bundle_in}
-use Rattle.fx_ends.specs.Ends.{End, Usage, NotFound, Rejected, Misread, BadBundle, ReadFault, OverLimit, NoMemory}
+use Rattle.fx_ends.specs.Ends.{End, Done, Usage, NotFound, Rejected, Misread, BadBundle, ReadFault, WriteFault, OverLimit, NoMemory}
 use Rattle.fx_bundle_commands.specs.Opening.{Spells, meaning_of, IsAcceptedAs, IsBundle}
 
 -- the parts with this source
@@ -48,6 +48,12 @@ pub data ReadingEnds (bytes : List ℕ) : End → Type 0 where
 -- the end that a checker's fault is: of the condition that it tells, or want of memory
 abbrev pub IsRejection : CheckFault → End → Type 0
 IsRejection fault end = (end ≡ NoMemory) ⊎ ((found : Fault) × (end ≡ Rejected found) × IsToldOf fault found)
+
+-- an end at which a command that reads no rows has printed nothing
+abbrev pub IsSilent : End → Type 0
+IsSilent Done = ⊥
+IsSilent WriteFault = ⊥
+IsSilent end = Unit {0}
 
 -- an end of a bundle that isn't accepted, or of words that are no command's: nothing is printed, and nothing read
 abbrev pub IsQuiet : End → Type 0

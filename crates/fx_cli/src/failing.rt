@@ -2,7 +2,7 @@
 //!
 //! That a status has its cause is proved; here it is tried which call is the cause. A run ends with 6 or 7 exactly where the
 //! failing call was made, and else as it does where nothing fails.
-ghost use Rattle.std.specs.Prelude.{◌≤◌, ℕ, List, None, length};
+ghost use Rattle.std.specs.Prelude.{◌≤◌, ℕ, List, [], None, length};
 ghost use Rattle.fx_base.specs.Causes.{Rose};
 
 use crate::tests::HALF;
@@ -94,12 +94,14 @@ struct ShortInput<'a> {
     faults: u64,
 }
 
-impl<'a> Source for ShortInput<'a> {
+impl<'a, K: Sink> Source<K> for ShortInput<'a> {
     ghost left = { λ _. None };
 
     ghost faults = { λ s. s.faults };
 
-    fn read(&mut self, buf: &mut [u8]) -> Result<usize, Failed> {
+    ghost asked = { λ _. [] };
+
+    fn read(&mut self, buf: &mut [u8], _shown: &K) -> Result<usize, Failed> {
         if self.calls.next_fails() {
             return Err(counted(&mut self.faults));
         }

@@ -52,3 +52,5 @@ fn main(rt: HostRuntime) -> ExitCode {
 mod failing;
 #[cfg(test)]
 mod tests;
+#[cfg(test)]
+mod watched;

@@ -1,9 +1,8 @@
-//! What no clause says: that there is memory for a call over the kinds in memory, that every source of `demo` is read and served,
-//! and how little is read ahead of an output that can't be written. All other calls are cases, told as texts in `cases/`.
+//! What no clause says: that there is memory for a call over the kinds in memory, and how little is read ahead of an output
+//! that can't be written. All other calls are cases, told as texts in `cases/`; all sources of `demo` are tried by `.ci/checks/demos`.
 
-use fx_base::{BytesIn, BytesOut, FileName, Papers, Status, read_all};
+use fx_base::{BytesIn, BytesOut, FileName, Papers, Source, Status, read_all};
 use fx_command::fixd;
-use fx_demo::served_function;
 use std::alloc::Global;
 use std::test::Fail;
 
@@ -26,14 +25,19 @@ fn shelf(alloc: Global) -> Result<Papers, Fail> {
 
 /// How a call ends, and what it writes.
 #[derive(Drop)]
-struct Answer {
-    status: Status,
+pub(crate) struct Answer {
+    pub(crate) status: Status,
     output: BytesOut,
     notes: BytesOut,
 }
 
 /// Calls `fixd`. The write of this number fails, of the output.
-fn call(alloc: Global, command: &[&str], input: &mut BytesIn, fails: u64) -> Result<Answer, Fail> {
+pub(crate) fn call<S: Source<BytesOut>>(
+    alloc: Global,
+    command: &[&str],
+    input: &mut S,
+    fails: u64,
+) -> Result<Answer, Fail> {
     let mut words = Vec::new(alloc);
     for word in command {
         words.push(String::from_str(alloc, word)?)?;
@@ -88,17 +92,5 @@ fn takes_little_ahead(rt: HostRuntime) -> Result<(), Fail> {
     assert!(rt; answer.status == Status::WRITE_FAULT);
     let left = read_all(alloc, &mut input, 1_000_000)?;
     assert!(rt; left.len() >= 200_002 - 131_072);
-    Ok(())
-}
-
-#[test]
-fn every_source_is_served(rt: HostRuntime) -> Result<(), Fail> {
-    for n in 1..501 {
-        let nodes = match served_function(rt.alloc(), n) {
-            Ok(function) => function.nodes(),
-            Err(_) => 0,
-        };
-        assert!(rt; nodes == 3 * n + 4, "number {n}");
-    }
     Ok(())
 }

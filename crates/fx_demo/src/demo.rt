@@ -19,8 +19,8 @@ use std::alloc::Global;
 // In bytes: more than the rows of a demonstration have.
 const ROWS_LIMIT: u64 = 1 << 20;
 
-/// The function of the source of number `n`, which the plain plan serves at 32 bits.
-pub fn served_function(alloc: Global, n: u32) -> Result<Function, Memory>
+// The function of the source of number `n`, which the plain plan serves at 32 bits.
+fn served_function(alloc: Global, n: u32) -> Result<Function, Memory>
     requires { n ≤ 500 }
     ensures meant { IfOk result (λ fn. parsed (demo_source n) None ≡ Ok fn) }
     ensures served { IfOk result (λ fn. outside_of 32 fn ≡ None) }
@@ -28,7 +28,7 @@ pub fn served_function(alloc: Global, n: u32) -> Result<Function, Memory>
     let function = function_of(alloc, n)?;
     let outside = find_outside(alloc, &function, 32)?;
     if outside.is_some() {
-        // the plain plan serves every such function, as a test of `fx_cli` shows of each number
+        // the plain plan serves every such function, as `.ci/checks/demos` shows of each number
         return Err(Memory);
     }
     Ok(function)

@@ -7,4 +7,4 @@
 
 mod demo;
 
-pub use demo::{demonstrate, served_function};
+pub use demo::demonstrate;

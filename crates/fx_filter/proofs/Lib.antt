@@ -4,3 +4,4 @@ pub mod Turns
 pub mod Exits
 pub mod Asking
 pub mod Grown
+pub mod Prompt

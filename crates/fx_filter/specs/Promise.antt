@@ -4,6 +4,7 @@ use Rattle.std.specs.Io.KnownBytes.{Consumes, Appends}
 use Rattle.fx_rows.specs.Faults.{RowFlaw, row_fault_of}
 use Rattle.fx_base.specs.Text.{lines_in}
 use Rattle.fx_base.specs.LineSteps.{EndsLine}
+use Rattle.fx_base.specs.Moments.{Moment}
 use Rattle.fx_filter.specs.Outcome.{Outcome}
 use Rattle.fx_filter.specs.declared.fault.RunFault.{RunFault}
 use Rattle.fx_filter.specs.declared.fault.RunFault.TheVariants.{Row, ReadFault, WriteFault, TooLong, Memory}
@@ -44,6 +45,10 @@ pub record PrintsWholeLines (o : List (List ℕ) → Outcome) (left left' before
   pub whole : AreWholeLines front
   pub none : position (λ b. b == 10) rest ≡ None
   pub printed : Appends before after (o (lines_in front)).text
+
+-- when it was asked for more, exactly the text of the taken lines that end with a line feed was printed
+abbrev pub IsAnswered : (List (List ℕ) → Outcome) → Option (List ℕ) → Option (List ℕ) → Moment → Type 0
+IsAnswered o left before m = PrintsWholeLines o left m.left before m.taken
 
 -- of the taken bytes all but the last 131,072 at most are lines whose text is printed whole
 pub record IsPrompt (o : List (List ℕ) → Outcome) (left left' before after : Option (List ℕ)) : Type 0 where

@@ -5,9 +5,10 @@
 ghost use Rattle.std.specs.Prelude.{◌≡◌, ◌≢◌, ◌+◌, ◌-◌, ◌^◌, ◌<◌, ◌≤◌, ◌==◌, ◌++◌, ◌∷◌, [], ℕ, List, Option, None, true, not, length, position, IsTrue, IfOk, IfErr, OnOk, OnErr, IsErrOf, MatchResult};
 ghost use Rattle.fx_base.specs.Causes.{Rose, HasCause};
 ghost use Rattle.fx_base.specs.Calls.{AppendsFront};
+ghost use Rattle.fx_base.specs.Moments.{HoldsEachTime};
 ghost use Rattle.fx_filter.specs.Rooms.{HasRoom};
 ghost use Rattle.fx_filter.specs.Outcome.{Outcome, behind_lines, one, IfBad};
-ghost use Rattle.fx_filter.specs.Promise.{Grows, IsFailed};
+ghost use Rattle.fx_filter.specs.Promise.{Grows, IsAnswered, IsFailed};
 ghost use Rattle.fx_filter.specs.Running.{Ran, IsFlushed, IsAsked, EndsAs, IsBadLine, StopsAs};
 ghost use Rattle.fx_filter.specs.declared.fault.RunFault.TheVariants.{ReadFault, WriteFault};
 
@@ -30,7 +31,7 @@ fn flush<K: Sink>(page: &mut Page, must: bool, sink: &mut K) -> Result<(), Faile
 }
 
 /// Asks for the next line. What is printed so far is written before, where the bytes that were taken don't hold it whole.
-pub(crate) fn ask<S: Source, K: Sink>(
+pub(crate) fn ask<S: Source<K>, K: Sink>(
     lines: &mut Lines,
     page: &mut Page,
     source: &mut S,
@@ -45,6 +46,9 @@ pub(crate) fn ask<S: Source, K: Sink>(
         → MatchResult result
         (λ step. IsAsked o now lines.old lines.new left (S.left source.old) (S.left source.new) before (K.taken sink.new) page.new count lines.old.limit step)
         (λ fault. IsFailed o left (S.left source.new) before (K.taken sink.new) lines.old.limit fault) }
+    ensures prompt { (o now : List (List ℕ) → Outcome) (left before : Option (List ℕ)) (count : ℕ) → (now []).text ≡ []
+        → Ran o now lines.old left (S.left source.old) before (K.taken sink.old) page.old count lines.old.limit
+        → HoldsEachTime (IsAnswered o left before) (S.asked source.old) (S.asked source.new) }
     ensures room { OnOk result (HasRoom page.new) }
     ensures grown { Grows (K.taken sink.old) (K.taken sink.new) }
     ensures read_fault { IsErrOf result ReadFault → Rose (S.faults source.old) (S.faults source.new) }
@@ -55,7 +59,7 @@ pub(crate) fn ask<S: Source, K: Sink>(
     if flush(page, !lines.holds_line(), sink).is_err() {
         return Err(RunFault::WriteFault);
     }
-    match lines.next_line(source) {
+    match lines.next_line(source, sink) {
         Ok(step) => Ok(step),
         Err(LineFault::ReadFault) => Err(RunFault::ReadFault),
         Err(LineFault::TooLong) => Err(RunFault::TooLong),

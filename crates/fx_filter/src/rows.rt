@@ -8,20 +8,20 @@ ghost use Rattle.std.specs.List.{list_any};
 ghost use Rattle.std.specs.Vec.{vec_capacity};
 ghost use Rattle.std.specs.Io.KnownBytes.{Consumes, IsAtEnd};
 ghost use Rattle.fx_base.specs.Causes.{Rose};
+ghost use Rattle.fx_base.specs.Moments.{HoldsEachTime};
 ghost use Rattle.fx_rational.specs.Decimal.{decimal_value};
 ghost use Rattle.fx_rational.specs.Decimal as rational;
 ghost use Rattle.fx_model.specs.Function as model;
 ghost use Rattle.fx_model.specs.Rows.{IsInRange};
 ghost use Rattle.fx_fields.specs.Line.{is_special};
-ghost use Rattle.fx_rows.specs.Header.{columns_of};
-ghost use Rattle.fx_rows.specs.Ranges.{Serves};
+ghost use Rattle.fx_rows.specs.Ranges.{reader_columns, Serves};
 ghost use Rattle.fx_rows.specs.ReadRows.{read_rows};
 ghost use Rattle.fx_rows.specs.Faults.{row_fault_of};
 ghost use Rattle.fx_rows.specs.declared.fault.RowKind.TheVariants as kind;
 ghost use Rattle.fx_filter.specs.Rooms.{HasRoom};
 ghost use Rattle.fx_filter.specs.Outcome.{Outcome, behind_lines, one, stopped_lines, IfBad};
 ghost use Rattle.fx_filter.specs.Printed.{lines_outcome, outcome_of};
-ghost use Rattle.fx_filter.specs.Promise.{Grows, IsDone, IsDue};
+ghost use Rattle.fx_filter.specs.Promise.{Grows, IsAnswered, IsDone, IsDue};
 ghost use Rattle.fx_filter.specs.declared.printer.Stop.TheVariants as stop;
 
 use crate::fault::{NO_HEADER, RunFault};
@@ -31,7 +31,8 @@ use crate::run::run_lines;
 use fx_base::{Sink, Source};
 use fx_expr::Function;
 use fx_fraction::Decimal;
-use fx_rows::{Columns, RowFault, RowKind, read_header, read_row};
+use fx_num::Memory;
+use fx_rows::{RowFault, RowKind, RowReader, read_header};
 use std::alloc::Global;
 
 /// What a row does: it prints a line, and may leave a state.
@@ -77,7 +78,7 @@ pub trait RowStep {
 #[derive(Drop)]
 struct RowPrinter<M> {
     step: M,
-    columns: Option<Columns>,
+    reader: Option<RowReader>,
     row: Vec<Decimal>,
     alloc: Global,
 }
@@ -99,22 +100,25 @@ fn take_header<M: RowStep>(
     line: &[u8],
     step: &M,
     page: &mut Page,
-) -> Result<Option<Columns>, Stop>
+) -> Result<Option<RowReader>, Stop>
     requires can { M.can_run step.now }
     requires room { HasRoom page.old }
-    ensures serves { IfOk result (λ o. IfSome o (λ c. Serves c (M.meaning step.now))) }
+    ensures serves { IfOk result (λ o. IfSome o (λ r. Serves r (M.meaning step.now))) }
     ensures taken { IfOk result (λ o. (text : List ℕ) × (page.new ≡ page.old ++ text)
         × ((rest : List (List ℕ)) → lines_outcome (M.meaning step.now) (M.head step.now) (M.printed step.now) None (line.now ∷ rest)
-        ≡ behind_lines 1 text 0 (lines_outcome (M.meaning step.now) (M.head step.now) (M.printed step.now) (option_map columns_of o) rest))) }
+        ≡ behind_lines 1 text 0 (lines_outcome (M.meaning step.now) (M.head step.now) (M.printed step.now) (option_map reader_columns o) rest))) }
     ensures bad { IfErr result (IfBad (λ fault. (page.new ≡ page.old)
         × ((rest : List (List ℕ)) → lines_outcome (M.meaning step.now) (M.head step.now) (M.printed step.now) None (line.now ∷ rest) ≡ stopped_lines (row_fault_of fault)))) }
 {
     match read_header(alloc, line, step.function()) {
         Ok(None) => Ok(None),
-        Ok(Some(columns)) => {
-            step.put_head(page);
-            Ok(Some(columns))
-        }
+        Ok(Some(columns)) => match RowReader::new(alloc, columns, step.function()) {
+            Ok(reader) => {
+                step.put_head(page);
+                Ok(Some(reader))
+            }
+            Err(Memory) => Err(Stop::Memory),
+        },
         Err(fault) => Err(stop_of(fault)),
     }
 }
@@ -123,12 +127,12 @@ fn take_header<M: RowStep>(
 fn take_row<M: RowStep>(
     alloc: Global,
     line: &[u8],
-    columns: &Columns,
+    reader: &RowReader,
     step: &mut M,
     row: &mut Vec<Decimal>,
     page: &mut Page,
 ) -> Result<bool, Stop>
-    requires serves { Serves columns.now (M.meaning step.old) }
+    requires serves { Serves reader.now (M.meaning step.old) }
     requires can { M.can_run step.old }
     requires room { HasRoom page.old }
     requires row_room { length (M.meaning step.old).inputs ≤ vec_capacity row.old }
@@ -136,13 +140,13 @@ fn take_row<M: RowStep>(
     ensures function { OnOk result (M.meaning step.new ≡ M.meaning step.old) }
     ensures row_room { vec_capacity row.old ≤ vec_capacity row.new }
     ensures taken { IfOk result (λ is_row. (text : List ℕ) × (page.new ≡ page.old ++ text)
-        × ((rest : List (List ℕ)) → lines_outcome (M.meaning step.old) (M.head step.old) (M.printed step.old) (Some (columns_of columns.now)) (line.now ∷ rest)
-        ≡ behind_lines 1 text (one is_row) (lines_outcome (M.meaning step.new) (M.head step.new) (M.printed step.new) (Some (columns_of columns.now)) rest))) }
+        × ((rest : List (List ℕ)) → lines_outcome (M.meaning step.old) (M.head step.old) (M.printed step.old) (Some (reader_columns reader.now)) (line.now ∷ rest)
+        ≡ behind_lines 1 text (one is_row) (lines_outcome (M.meaning step.new) (M.head step.new) (M.printed step.new) (Some (reader_columns reader.now)) rest))) }
     ensures bad { IfErr result (IfBad (λ fault. (page.new ≡ page.old)
-        × ((rest : List (List ℕ)) → lines_outcome (M.meaning step.old) (M.head step.old) (M.printed step.old) (Some (columns_of columns.now)) (line.now ∷ rest) ≡ stopped_lines (row_fault_of fault)))) }
+        × ((rest : List (List ℕ)) → lines_outcome (M.meaning step.old) (M.head step.old) (M.printed step.old) (Some (reader_columns reader.now)) (line.now ∷ rest) ≡ stopped_lines (row_fault_of fault)))) }
     ensures memory { list_any is_special line.now ≡ false → result ≢ Err stop.Memory }
 {
-    match read_row(alloc, line, columns, step.function(), row) {
+    match reader.read(alloc, line, step.function(), row) {
         Ok(false) => Ok(false),
         Ok(true) => {
             step.put_row(row, page);
@@ -155,29 +159,28 @@ fn take_row<M: RowStep>(
 impl<M: RowStep + Drop> Printer for RowPrinter<M> {
     ghost use Rattle.std.specs.Prelude.{length, option_map, IfSome, ◌≤◌};
     ghost use Rattle.std.specs.Vec.{vec_capacity};
-    ghost use Rattle.fx_rows.specs.Header.{columns_of};
-    ghost use Rattle.fx_rows.specs.Ranges.{Serves};
+    ghost use Rattle.fx_rows.specs.Ranges.{reader_columns, Serves};
     ghost use Rattle.fx_filter.specs.Printed.{lines_outcome};
     ghost use Rattle.fx_filter.specs.RowLaws.{nothing_printed, long_stops};
 
-    ghost can_take = { λ s. M.can_run s.step × IfSome s.columns (λ c. Serves c (M.meaning s.step))
+    ghost can_take = { λ s. M.can_run s.step × IfSome s.reader (λ r. Serves r (M.meaning s.step))
         × (length (M.meaning s.step).inputs ≤ vec_capacity s.row) };
 
-    ghost outcome = { λ s ls. lines_outcome (M.meaning s.step) (M.head s.step) (M.printed s.step) (option_map columns_of s.columns) ls };
+    ghost outcome = { λ s ls. lines_outcome (M.meaning s.step) (M.head s.step) (M.printed s.step) (option_map reader_columns s.reader) ls };
 
     fn take(&mut self, line: &[u8], page: &mut Page) -> Result<bool, Stop> {
-        match &self.columns {
+        match &self.reader {
             None => match take_header(self.alloc, line, &self.step, page) {
-                Ok(columns) => {
-                    self.columns = columns;
+                Ok(reader) => {
+                    self.reader = reader;
                     Ok(false)
                 }
                 Err(stop) => Err(stop),
             },
-            Some(columns) => take_row(
+            Some(reader) => take_row(
                 self.alloc,
                 line,
-                columns,
+                reader,
                 &mut self.step,
                 &mut self.row,
                 page,
@@ -186,20 +189,20 @@ impl<M: RowStep + Drop> Printer for RowPrinter<M> {
     }
 
     fn end(&self) -> Option<RowFault> {
-        if self.columns.is_some() {
+        if self.reader.is_some() {
             None
         } else {
             Some(NO_HEADER)
         }
     }
 
-    ghost none = { λ s. nothing_printed (M.meaning s.step) (M.head s.step) (M.printed s.step) (M.none s.step) (option_map columns_of s.columns) };
+    ghost none = { λ s. nothing_printed (M.meaning s.step) (M.head s.step) (M.printed s.step) (M.none s.step) (option_map reader_columns s.reader) };
 
-    ghost long = { λ s line rest h. long_stops (M.meaning s.step) (M.head s.step) (M.printed s.step) (M.none s.step) (option_map columns_of s.columns) line rest h };
+    ghost long = { λ s line rest h. long_stops (M.meaning s.step) (M.head s.step) (M.printed s.step) (M.none s.step) (option_map reader_columns s.reader) line rest h };
 }
 
 /// Runs the rows of a source, and writes their page before each read that might wait. Gives the number of rows.
-pub fn run_steps<M: RowStep + Drop, S: Source, K: Sink>(
+pub fn run_steps<M: RowStep + Drop, S: Source<K>, K: Sink>(
     alloc: Global,
     step: M,
     source: &mut S,
@@ -211,6 +214,7 @@ pub fn run_steps<M: RowStep + Drop, S: Source, K: Sink>(
     ensures done { IfOk result (λ n. IfSome (S.left source.old) (λ all. IsDone (outcome_of (M.head step) (M.printed step) (read_rows (M.meaning step) all)) n (K.taken sink.old) (K.taken sink.new))) }
     ensures end { OnOk result (IsAtEnd (S.left source.new)) }
     ensures due { IfErr result (IsDue (lines_outcome (M.meaning step) (M.head step) (M.printed step) None) (S.left source.old) (S.left source.new) (K.taken sink.old) (K.taken sink.new)) }
+    ensures prompt { HoldsEachTime (IsAnswered (lines_outcome (M.meaning step) (M.head step) (M.printed step) None) (S.left source.old) (K.taken sink.old)) (S.asked source.old) (S.asked source.new) }
     ensures taken { (taken : List ℕ) × Consumes (S.left source.old) (S.left source.new) taken × (IsErrOf result RunFault.TooLong ↔ (limit < length taken)) }
     ensures grown { Grows (K.taken sink.old) (K.taken sink.new) }
     ensures read_fault { IsErrOf result RunFault.ReadFault → Rose (S.faults source.old) (S.faults source.new) }
@@ -224,7 +228,7 @@ pub fn run_steps<M: RowStep + Drop, S: Source, K: Sink>(
     };
     let mut printer = RowPrinter {
         step,
-        columns: None,
+        reader: None,
         row,
         alloc,
     };

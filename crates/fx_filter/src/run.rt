@@ -2,9 +2,10 @@
 ghost use Rattle.std.specs.Prelude.{◌≡◌, ◌+◌, ◌-◌, ◌^◌, ◌<◌, ◌≤◌, ◌↔◌, ℕ, List, length, IfOk, IfErr, OnOk, IsErrOf, IfSome};
 ghost use Rattle.std.specs.Io.KnownBytes.{Consumes, IsAtEnd};
 ghost use Rattle.fx_base.specs.Causes.{Rose};
+ghost use Rattle.fx_base.specs.Moments.{HoldsEachTime};
 ghost use Rattle.fx_base.specs.Text.{lines_in};
 ghost use Rattle.fx_filter.specs.Outcome.{one};
-ghost use Rattle.fx_filter.specs.Promise.{Grows, IsDone, IsDue};
+ghost use Rattle.fx_filter.specs.Promise.{Grows, IsAnswered, IsDone, IsDue};
 
 use crate::ask::{ask, end_at, stop_at, take_line};
 use crate::fault::RunFault;
@@ -21,7 +22,7 @@ fn one(is_row: bool) -> u64
 }
 
 /// Runs a printer over the lines of a source, and writes what it prints before each read. Gives the number of rows.
-pub fn run_lines<P: Printer, S: Source, K: Sink>(
+pub fn run_lines<P: Printer, S: Source<K>, K: Sink>(
     alloc: Global,
     printer: &mut P,
     source: &mut S,
@@ -33,6 +34,7 @@ pub fn run_lines<P: Printer, S: Source, K: Sink>(
     ensures done { IfOk result (λ n. IfSome (S.left source.old) (λ all. IsDone (P.outcome printer.old (lines_in all)) n (K.taken sink.old) (K.taken sink.new))) }
     ensures end { OnOk result (IsAtEnd (S.left source.new)) }
     ensures due { IfErr result (IsDue (P.outcome printer.old) (S.left source.old) (S.left source.new) (K.taken sink.old) (K.taken sink.new)) }
+    ensures prompt { HoldsEachTime (IsAnswered (P.outcome printer.old) (S.left source.old) (K.taken sink.old)) (S.asked source.old) (S.asked source.new) }
     ensures taken { (taken : List ℕ) × Consumes (S.left source.old) (S.left source.new) taken × (IsErrOf result RunFault.TooLong ↔ (limit < length taken)) }
     ensures grown { Grows (K.taken sink.old) (K.taken sink.new) }
     ensures read_fault { IsErrOf result RunFault.ReadFault → Rose (S.faults source.old) (S.faults source.new) }

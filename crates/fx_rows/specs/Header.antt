@@ -15,6 +15,10 @@ use Rattle.fx_rows.specs.declared.fault.RowKind.TheVariants.{MissingColumn, Twic
 abbrev pub columns_of : Columns → List ℕ
 columns_of c = c.places
 
+-- one column for each input
+abbrev pub HasPlaces : Columns → Function → Type 0
+HasPlaces c f = length c.places ≡ length f.inputs
+
 -- one more place before the others
 abbrev pub place_before : ℕ → Result (List ℕ) RowFlaw → Result (List ℕ) RowFlaw
 place_before p (Ok ps) = Ok (p ∷ ps)

@@ -1,11 +1,11 @@
 -- The ranges that stand for the inputs of a function.
-use Rattle.std.specs.Prelude.{◌≡◌, ◌≤◌, List, [], ◌∷◌, length}
+use Rattle.std.specs.Prelude.{ℕ, ◌≡◌, ◌≤◌, List, [], ◌∷◌, length}
 use Rattle.fx_rational.specs.Decimal.{Decimal, decimal_value}
 use Rattle.fx_model.specs.Function.{Function, Input}
 use Rattle.fx_model.specs.Rows.{is_given}
 use Rattle.fx_fraction.specs.Units.{holds}
 use Rattle.fx_fraction.specs.declared.range.Range.{Range}
-use Rattle.fx_rows.specs.declared.columns.Columns.{Columns}
+use Rattle.fx_rows.specs.declared.reader.RowReader.{RowReader}
 
 -- r holds just what an input may be given
 abbrev pub IsRangeOf : Input → Range → Type 0
@@ -17,6 +17,10 @@ AreRangesOf [] [] = Unit {0}
 AreRangesOf (i ∷ is) (r ∷ rs) = IsRangeOf i r × AreRangesOf is rs
 AreRangesOf _ _ = ⊥
 
--- the columns have a place and a range for each input of a function
-abbrev pub Serves : Columns → Function → Type 0
-Serves c f = (length c.places ≡ length f.inputs) × AreRangesOf f.inputs c.ranges
+-- the columns by which it reads
+abbrev pub reader_columns : RowReader → List ℕ
+reader_columns r = r.places
+
+-- it has a column and a range for each input of a function
+abbrev pub Serves : RowReader → Function → Type 0
+Serves r f = (length r.places ≡ length f.inputs) × AreRangesOf f.inputs r.ranges

@@ -6,8 +6,7 @@ ghost use Rattle.indexmap.specs.IndexMap.{get_by};
 ghost use Rattle.fx_model.specs.Limits.{input_limit, line_limit};
 ghost use Rattle.fx_expr.specs.Parts.{input_of};
 ghost use Rattle.fx_rows.specs.Blanks.{without_blanks};
-ghost use Rattle.fx_rows.specs.Header.{columns_of, columns_from, header_of, IsHeaderFault};
-ghost use Rattle.fx_rows.specs.Ranges.{AreRangesOf, Serves};
+ghost use Rattle.fx_rows.specs.Header.{columns_of, columns_from, header_of, HasPlaces, IsHeaderFault};
 ghost use Rattle.fx_rows.specs.Places.{places_of, kept_of};
 
 use crate::blanks::trimmed;
@@ -15,7 +14,6 @@ use crate::fault::{MEMORY, RowFault, RowKind, line_fault};
 use csv::ByteRecord;
 use fx_expr::{Function, Input, Items};
 use fx_fields::record_of;
-use fx_fraction::Range;
 use fx_num::Memory;
 use indexmap::IndexMap;
 use std::alloc::Global;
@@ -23,10 +21,8 @@ use std::alloc::Global;
 /// The columns of the inputs.
 #[derive(Debug, Drop)]
 pub struct Columns {
-    // The number of the column of each input.
-    pub(crate) places: Items<u32>,
-    // Which values each input may be given.
-    pub(crate) ranges: Items<Range>,
+    /// The number of the column of each input, from 0.
+    pub places: Items<u32>,
 }
 
 // What is kept of a name at a further place of it.
@@ -97,33 +93,6 @@ fn places_in(alloc: Global, row: &ByteRecord, inputs: &[Input]) -> Result<Items<
     Ok(Items::from_vec(places))
 }
 
-// The ranges of the inputs.
-fn ranges_of(alloc: Global, inputs: &[Input]) -> Result<Items<Range>, Memory>
-    ensures { IfOk result (λ rs. AreRangesOf (map input_of inputs.now) rs) }
-{
-    let mut ranges = Vec::new(alloc);
-    for input in inputs {
-        ranges.push(Range::new(input.lo, input.hi, input.err))?;
-    }
-    Ok(Items::from_vec(ranges))
-}
-
-// The columns of the inputs among the fields of a record.
-fn columns_in(alloc: Global, row: &ByteRecord, inputs: &[Input]) -> Result<Columns, RowFault>
-    requires few_inputs { length inputs.now ≤ input_limit }
-    requires few_fields { length (fields_of row.now) ≤ line_limit + 1 }
-    ensures columns { MatchResult result
-        (λ cs. columns_from 0 (map (λ i. i.name) (map input_of inputs.now)) (map without_blanks (fields_of row.now)) ≡ Ok (columns_of cs))
-        (λ e. IsHeaderFault e (columns_from 0 (map (λ i. i.name) (map input_of inputs.now)) (map without_blanks (fields_of row.now)))) }
-    ensures ranges { IfOk result (λ cs. AreRangesOf (map input_of inputs.now) cs.ranges) }
-{
-    let places = places_in(alloc, row, inputs)?;
-    match ranges_of(alloc, inputs) {
-        Ok(ranges) => Ok(Columns { places, ranges }),
-        Err(Memory) => Err(MEMORY),
-    }
-}
-
 /// The columns that a header line gives to the inputs of a function. None at a blank line.
 pub fn read_header(
     alloc: Global,
@@ -133,15 +102,15 @@ pub fn read_header(
     ensures columns { MatchResult result
         (λ o. header_of function.now line.now ≡ Ok (option_map columns_of o))
         (λ e. IsHeaderFault e (header_of function.now line.now)) }
-    ensures serves { IfOk result (λ o. IfSome o (λ c. Serves c function.now)) }
+    ensures places { IfOk result (λ o. IfSome o (λ c. HasPlaces c function.now)) }
 {
     if let Some(kind) = line_fault(line) {
         return Err(RowFault { kind, input: 0 });
     }
     function.keeps();
     match record_of(alloc, line) {
-        Ok(Some(row)) => match columns_in(alloc, &row, function.inputs.as_slice()) {
-            Ok(columns) => Ok(Some(columns)),
+        Ok(Some(row)) => match places_in(alloc, &row, function.inputs.as_slice()) {
+            Ok(places) => Ok(Some(Columns { places })),
             Err(fault) => Err(fault),
         },
         Ok(None) => Ok(None),

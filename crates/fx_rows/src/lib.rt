@@ -8,9 +8,11 @@ mod blanks;
 mod columns;
 mod fault;
 mod law;
+mod reader;
 mod row;
 
 pub use columns::{Columns, read_header};
 pub use fault::{RowFault, RowKind};
 pub use law::rows_in_range_law;
+pub use reader::RowReader;
 pub use row::read_row;

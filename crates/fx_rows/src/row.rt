@@ -4,19 +4,21 @@ ghost use Rattle.std.specs.List.{list_any};
 ghost use Rattle.std.specs.Vec.{vec_capacity, vec_len};
 ghost use Rattle.fx_rows.specs.declared.fault.RowKind.TheVariants as kind;
 ghost use Rattle.fx_rational.specs.Decimal.{decimal_value};
+ghost use Rattle.fx_model.specs.Function as model;
 ghost use Rattle.fx_model.specs.Function.{Input};
 ghost use Rattle.fx_model.specs.Rows.{IsInRange};
 ghost use Rattle.fx_model.specs.Limits.{input_limit, line_limit};
 ghost use Rattle.fx_fields.specs.Line.{line_fields, is_return, is_special, pieces};
 ghost use Rattle.fx_fields.specs.Seen.{seen};
-ghost use Rattle.fx_rows.specs.Header.{columns_of};
-ghost use Rattle.fx_rows.specs.Ranges.{AreRangesOf, IsRangeOf, Serves};
+ghost use Rattle.fx_rows.specs.Header.{columns_of, HasPlaces};
+ghost use Rattle.fx_rows.specs.Ranges.{reader_columns, AreRangesOf, IsRangeOf, Serves};
 ghost use Rattle.fx_rows.specs.Results.{IsAdded, IsRead, IsRowRead};
 ghost use Rattle.fx_rows.specs.Values.{field_value, values_from, row_of, row_of_fields};
 
 use crate::blanks::trimmed;
 use crate::columns::Columns;
 use crate::fault::{LINE_LIMIT, MEMORY, RowFault, RowKind, line_fault};
+use crate::reader::{RowReader, ranges_of};
 use fx_expr::Function;
 use fx_fields::{Fields, Pieces, piece_from, plain_text, record_of, unmarked_line_law};
 use fx_fraction::{Decimal, Range, read_decimal};
@@ -242,24 +244,22 @@ fn read_one(line: &[u8], places: &[u32], ranges: &[Range], row: &mut Vec<Decimal
     row.push(given).is_ok()
 }
 
-/// Reads the values of a row, in the order of the inputs, and answers false at a blank line. After a fault of an input
-/// `row` holds the values before it, after any other nothing.
-pub fn read_row(
+// Reads the values of any line at these places, and answers false at a blank one.
+fn read_by(
     alloc: Global,
     line: &[u8],
-    columns: &Columns,
-    function: &Function,
+    places: &[u32],
+    ranges: &[Range],
     row: &mut Vec<Decimal>,
 ) -> Result<bool, RowFault>
-    requires { Serves columns.now function.now }
-    ensures read { IsRowRead result row.new.items (row_of function.now (columns_of columns.now) line.now) }
-    ensures room { list_any is_special line.now ≡ false → IfErr result (λ e. e.kind ≡ kind.Memory → vec_capacity row.old < length function.now.inputs) }
+    requires many { length places.now ≡ length ranges.now }
+    requires few { length ranges.now ≤ input_limit }
+    ensures read { (f : model.Function) → AreRangesOf f.inputs ranges.now → IsRowRead result row.new.items (row_of f places.now line.now) }
+    ensures room { list_any is_special line.now ≡ false → IfErr result (λ e. e.kind ≡ kind.Memory → vec_capacity row.old < length ranges.now) }
     ensures kept { vec_capacity row.old ≤ vec_capacity row.new }
-    ensures in_range { IfOk result (λ b. IsTrue b → IsInRange function.now.inputs (map decimal_value row.new.items)) }
+    ensures in_range { (f : model.Function) → AreRangesOf f.inputs ranges.now → IfOk result (λ b. IsTrue b → IsInRange f.inputs (map decimal_value row.new.items)) }
 {
     row.clear();
-    function.keeps();
-    let (places, ranges) = (columns.places.as_slice(), columns.ranges.as_slice());
     if read_one(line, places, ranges, row) {
         return Ok(true);
     }
@@ -267,4 +267,60 @@ pub fn read_row(
         return Err(RowFault { kind, input: 0 });
     }
     read_line(alloc, line, places, ranges, row)
+}
+
+impl RowReader {
+    /// Reads the values of a row, in the order of the inputs, and answers false at a blank line. After a fault of an input
+    /// `row` holds the values before it, after any other nothing.
+    pub fn read(
+        &self,
+        alloc: Global,
+        line: &[u8],
+        function: &Function,
+        row: &mut Vec<Decimal>,
+    ) -> Result<bool, RowFault>
+        requires { Serves self.now function.now }
+        ensures read { IsRowRead result row.new.items (row_of function.now (reader_columns self.now) line.now) }
+        ensures room { list_any is_special line.now ≡ false → IfErr result (λ e. e.kind ≡ kind.Memory → vec_capacity row.old < length function.now.inputs) }
+        ensures kept { vec_capacity row.old ≤ vec_capacity row.new }
+        ensures in_range { IfOk result (λ b. IsTrue b → IsInRange function.now.inputs (map decimal_value row.new.items)) }
+    {
+        function.keeps();
+        read_by(
+            alloc,
+            line,
+            self.places.as_slice(),
+            self.ranges.as_slice(),
+            row,
+        )
+    }
+}
+
+/// Reads the values of one row, as a `RowReader` reads those of many: it makes the ranges anew.
+pub fn read_row(
+    alloc: Global,
+    line: &[u8],
+    columns: &Columns,
+    function: &Function,
+    row: &mut Vec<Decimal>,
+) -> Result<bool, RowFault>
+    requires { HasPlaces columns.now function.now }
+    ensures read { IsRowRead result row.new.items (row_of function.now (columns_of columns.now) line.now) }
+    ensures kept { vec_capacity row.old ≤ vec_capacity row.new }
+    ensures in_range { IfOk result (λ b. IsTrue b → IsInRange function.now.inputs (map decimal_value row.new.items)) }
+{
+    function.keeps();
+    match ranges_of(alloc, function.inputs.as_slice()) {
+        Ok(ranges) => read_by(
+            alloc,
+            line,
+            columns.places.as_slice(),
+            ranges.as_slice(),
+            row,
+        ),
+        Err(Memory) => {
+            row.clear();
+            Err(MEMORY)
+        }
+    }
 }

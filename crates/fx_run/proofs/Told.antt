@@ -2,16 +2,35 @@
 use Rattle.std.proofs.Common.{◌≡◌, ℕ, List, ◌++◌, Option, subst}
 use Rattle.std.specs.Prelude.{None, Some, IfErr, IfOk, Result, Ok, Err, IfSome}
 use Rattle.std.specs.Io.KnownBytes.{Appends}
+use Rattle.fx_base.specs.Moments.{Moment, HoldsEachTime}
 use Rattle.fx_base.specs.Text.{lines_in}
+use Rattle.fx_base.proofs.Noting.{noted_as}
 use Rattle.fx_rows.specs.Faults.{row_fault_of}
 use Rattle.fx_filter.specs.Outcome.{Outcome}
-use Rattle.fx_filter.specs.Promise.{IsBadAt, IsDone, IsDue, PrintsFront}
+use Rattle.fx_filter.specs.Promise.{IsAnswered, IsBadAt, IsDone, IsDue, PrintsFront, PrintsWholeLines}
 use Rattle.fx_filter.specs.declared.fault.RunFault.{RunFault}
 use Rattle.fx_filter.specs.declared.fault.RunFault.TheVariants.{Row, ReadFault, WriteFault, TooLong, Memory}
 
 known : (left : Option (List ℕ)) (P Q : List ℕ → Type 0) → ((all : List ℕ) → P all → Q all) → IfSome left P → IfSome left Q
 known None P Q f h = tt
 known (Some all) P Q f h = f all h
+
+-- the text of whole lines
+whole-lines : (o o' : List (List ℕ) → Outcome) → ((ls : List (List ℕ)) → o ls ≡ o' ls) → (left left' before after : Option (List ℕ)) → PrintsWholeLines o left left' before after → PrintsWholeLines o' left left' before after
+whole-lines o o' same left left' before after h = record {
+  front = h.front;
+  rest = h.rest;
+  taken = h.taken;
+  whole = h.whole;
+  none = h.none;
+  printed = subst (λ (x : Outcome). Appends before after x.text) (same (lines_in h.front)) h.printed;
+}
+
+-- what is answered each time
+pub prompt-told : (o o' : List (List ℕ) → Outcome) → ((ls : List (List ℕ)) → o ls ≡ o' ls) → (left before : Option (List ℕ)) (was is : List Moment)
+    → HoldsEachTime (IsAnswered o left before) was is → HoldsEachTime (IsAnswered o' left before) was is
+prompt-told o o' same left before was is =
+    noted_as (IsAnswered o left before) (IsAnswered o' left before) was is (λ m. whole-lines o o' same left m.left before m.taken)
 
 module _ (o o' : List (List ℕ) → Outcome) (same : (ls : List (List ℕ)) → o ls ≡ o' ls) (left left' before after : Option (List ℕ)) where
   front : IfSome left (λ all. PrintsFront (o (lines_in all)).text before after) → IfSome left (λ all. PrintsFront (o' (lines_in all)).text before after)
@@ -23,17 +42,7 @@ module _ (o o' : List (List ℕ) → Outcome) (same : (ls : List (List ℕ)) →
 
   told : (f : RunFault) → IsDue o left left' before after f → IsDue o' left left' before after f
   told (Row line f) h = (known left _ _ (λ all. subst (λ (x : Outcome). IsBadAt x line (row_fault_of f) before after) (same (lines_in all))) h.0, h.1)
-  told ReadFault h = (
-    front h.0,
-    record {
-      front = h.1.front;
-      rest = h.1.rest;
-      taken = h.1.taken;
-      whole = h.1.whole;
-      none = h.1.none;
-      printed = subst (λ (x : Outcome). Appends before after x.text) (same (lines_in h.1.front)) h.1.printed;
-    },
-  )
+  told ReadFault h = (front h.0, whole-lines o o' same left left' before after h.1)
   told WriteFault h = (
     front h.0,
     record {

@@ -2,10 +2,11 @@
 ghost use Rattle.std.specs.Prelude.{◌≡◌, ◌-◌, ◌^◌, ◌<◌, ◌≤◌, ◌↔◌, ℕ, List, length, Contains, IfOk, IfErr, OnOk, IsErrOf, IfSome};
 ghost use Rattle.std.specs.Io.KnownBytes.{Consumes, IsAtEnd};
 ghost use Rattle.fx_base.specs.Causes.{Rose};
+ghost use Rattle.fx_base.specs.Moments.{HoldsEachTime};
 ghost use Rattle.fx_base.specs.Text.{lines_in};
 ghost use Rattle.fx_model.specs.LawfulProgram.{widths};
 ghost use Rattle.fx_model.specs.Machine.{start_words};
-ghost use Rattle.fx_filter.specs.Promise.{Grows, IsDone, IsDue};
+ghost use Rattle.fx_filter.specs.Promise.{Grows, IsAnswered, IsDone, IsDue};
 ghost use Rattle.fx_filter.specs.declared.fault.RunFault.TheVariants.{ReadFault, WriteFault, TooLong};
 ghost use Rattle.fx_run.specs.Printed.{RowsLaw, run_outcome};
 ghost use Rattle.fx_run.specs.Steps.{CanStep};
@@ -40,7 +41,7 @@ fn first_step<'a, const B: u32>(
 }
 
 // `run_rows` at the program's width.
-fn run_at<const B: u32, S: Source, K: Sink>(
+fn run_at<const B: u32, S: Source<K>, K: Sink>(
     alloc: Global,
     certified: &Certified,
     source: &mut S,
@@ -54,6 +55,7 @@ fn run_at<const B: u32, S: Source, K: Sink>(
     ensures end { OnOk result (IsAtEnd (S.left source.new)) }
     ensures due { let o = run_outcome certified.now.function certified.now.program in
         IfErr result (IsDue o (S.left source.old) (S.left source.new) (K.taken sink.old) (K.taken sink.new)) }
+    ensures prompt { HoldsEachTime (IsAnswered (run_outcome certified.now.function certified.now.program) (S.left source.old) (K.taken sink.old)) (S.asked source.old) (S.asked source.new) }
     ensures taken { (taken : List ℕ) × Consumes (S.left source.old) (S.left source.new) taken × (IsErrOf result TooLong ↔ (limit < length taken)) }
     ensures grown { Grows (K.taken sink.old) (K.taken sink.new) }
     ensures read_fault { IsErrOf result ReadFault → Rose (S.faults source.old) (S.faults source.new) }
@@ -82,7 +84,7 @@ fn width_of(certified: &Certified) -> u32
 /// Lines end at LF, and a CR before it and the mark EF BB BF at the front are no part of one. The first line that isn't
 /// blank names the columns, in any order; the others are rows, one for each state of the machine after the other. Each
 /// row is written before a line is asked for that the bytes taken don't hold whole. More than `limit` bytes are TooLong.
-pub fn run_rows<S: Source, K: Sink>(
+pub fn run_rows<S: Source<K>, K: Sink>(
     alloc: Global,
     certified: &Certified,
     source: &mut S,
@@ -95,6 +97,7 @@ pub fn run_rows<S: Source, K: Sink>(
     ensures end { OnOk result (IsAtEnd (S.left source.new)) }
     ensures due { let o = run_outcome certified.now.function certified.now.program in
         IfErr result (IsDue o (S.left source.old) (S.left source.new) (K.taken sink.old) (K.taken sink.new)) }
+    ensures prompt { HoldsEachTime (IsAnswered (run_outcome certified.now.function certified.now.program) (S.left source.old) (K.taken sink.old)) (S.asked source.old) (S.asked source.new) }
     ensures taken { (taken : List ℕ) × Consumes (S.left source.old) (S.left source.new) taken × (IsErrOf result TooLong ↔ (limit < length taken)) }
     ensures honest { RowsLaw certified.now.function certified.now.program certified.now.certificate }
     ensures grown { Grows (K.taken sink.old) (K.taken sink.new) }

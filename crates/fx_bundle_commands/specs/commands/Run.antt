@@ -3,6 +3,7 @@ use Rattle.std.specs.Prelude.{◌≡◌, ◌↔◌, ℕ, ◌+◌, ◌<◌, ◌�
 use Rattle.std.specs.Io.KnownBytes.{Consumes, IsAtEnd}
 use Rattle.fx_base.specs.Causes.{Rose}
 use Rattle.fx_base.specs.Shelf.{Files}
+use Rattle.fx_base.specs.Moments.{Moment}
 use Rattle.fx_base.specs.Text.{lines_in}
 use Rattle.fx_model.specs.Function.{Function}
 use Rattle.fx_model.specs.Limits.{rows_limit}
@@ -11,12 +12,12 @@ use Rattle.fx_rows.specs.Faults as rows
 use Rattle.fx_rows.specs.Faults.{row_fault_of}
 use Rattle.fx_rows.specs.ReadRows.{read_rows}
 use Rattle.fx_rows.specs.declared.fault.RowFault.{RowFault}
-use Rattle.fx_filter.specs.Promise.{IsDone, IsDue}
+use Rattle.fx_filter.specs.Promise.{IsAnswered, IsDone, IsDue}
 use Rattle.fx_filter.specs.declared.fault.RunFault.TheVariants as run
 use Rattle.fx_run.specs.Printed.{RowsLaw, run_outcome}
 use Rattle.fx_bundle_commands.specs.Outside.{Streams}
 use Rattle.fx_ends.specs.Ends.{End, Done, BadRow, ReadFault, WriteFault, NoMemory, OverLimit}
-use Rattle.fx_bundle_commands.specs.Opening.{OpensThen}
+use Rattle.fx_bundle_commands.specs.Opening.{IsAcceptedAs, IsBundle, OpensThen}
 use Rattle.fx_bundle_commands.specs.Exact.{IsReady, OrNoMemory}
 
 -- how the rows of the input end, and what stands written then; b is the bundle whose source means fn
@@ -44,6 +45,15 @@ pub record Runs (old new : Streams) (b : Parts) (fn : Function) (end : End) : Ty
 -- all of it; the shelf's faults are counted before and after
 abbrev pub RunEnds : Option Files → ℕ → ℕ → Streams → Streams → List ℕ → End → Type 0
 RunEnds papers before after old new name = OpensThen papers before after name old new (Runs old new)
+
+-- ---- promptness
+-- when the input was asked for more, exactly what FILE's accepted bundle makes of the lines taken so far was printed
+pub record HasAnswered (papers : Option Files) (name : List ℕ) (left before : Option (List ℕ)) (m : Moment) : Type 0 where
+  pub bundle : Parts
+  pub function : Function
+  pub is_bundle : IsBundle papers name bundle
+  pub accepted : IsAcceptedAs bundle function
+  pub answered : IsAnswered (run_outcome function bundle.program) left before m
 
 -- ---- completeness
 -- the input is told and within its limit, and neither stream fails

@@ -2,7 +2,7 @@
 ghost use Rattle.std.specs.Prelude.{◌≡◌, ℕ, List, Option};
 ghost use Rattle.fx_filter.specs.Promise.{Grows};
 ghost use Rattle.fx_ends.specs.EndView.{end_of};
-ghost use Rattle.fx_bundle_commands.specs.OpeningView.{IsQuiet};
+ghost use Rattle.fx_bundle_commands.specs.OpeningView.{IsSilent};
 ghost use Rattle.fx_bundle_commands.specs.commands.Check.{CheckEnds};
 
 use crate::open::open;
@@ -23,7 +23,7 @@ pub fn check_file<H: Shelf, K: Sink>(
         (record { left = left; read_faults = reads; taken = K.taken output.new; write_faults = K.faults output.new })
         name.now (end_of result) }
     ensures appended { Grows (K.taken output.old) (K.taken output.new) }
-    ensures quiet { IsQuiet (end_of result) → output.new ≡ output.old }
+    ensures quiet { IsSilent (end_of result) → output.new ≡ output.old }
 {
     match open(alloc, shelf, name) {
         Err(end) => end,

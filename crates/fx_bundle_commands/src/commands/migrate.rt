@@ -8,7 +8,7 @@ ghost use Rattle.fx_model.specs.Limits.{source_limit};
 ghost use Rattle.fx_cert.specs.BundleView.{IsLawfulBundle, text_of};
 ghost use Rattle.fx_ends.specs.EndView.{end_of};
 ghost use Rattle.fx_bundle_commands.specs.Opening.{IsAcceptedAs};
-ghost use Rattle.fx_bundle_commands.specs.OpeningView.{IsQuiet, with_source};
+ghost use Rattle.fx_bundle_commands.specs.OpeningView.{IsSilent, with_source};
 ghost use Rattle.fx_bundle_commands.specs.commands.Migrate.{MigrateEnds, MigratedEnds, migrated};
 
 use crate::open::{Opened, open};
@@ -38,7 +38,7 @@ fn print_migrated<K: Sink>(alloc: Global, opened: &Opened, output: &mut K) -> En
         (record { left = left; read_faults = reads; taken = K.taken output.new; write_faults = K.faults output.new })
         (with_source opened.now.certified opened.now.source) opened.now.certified.function (end_of result) }
     ensures appended { Grows (K.taken output.old) (K.taken output.new) }
-    ensures loud { IsQuiet (end_of result) → ⊥ }
+    ensures quiet { IsSilent (end_of result) → output.new ≡ output.old }
 {
     let Ok(text) = migrated_text(alloc, opened) else {
         return End::NoMemory;
@@ -61,7 +61,7 @@ pub fn migrate_file<H: Shelf, K: Sink>(
         (record { left = left; read_faults = reads; taken = K.taken output.new; write_faults = K.faults output.new })
         name.now (end_of result) }
     ensures appended { Grows (K.taken output.old) (K.taken output.new) }
-    ensures quiet { IsQuiet (end_of result) → output.new ≡ output.old }
+    ensures quiet { IsSilent (end_of result) → output.new ≡ output.old }
 {
     match open(alloc, shelf, name) {
         Err(end) => end,

@@ -1,14 +1,17 @@
 //! `run FILE`: the rows of the input through an accepted bundle's program.
-ghost use Rattle.std.specs.Prelude.{◌≡◌, ℕ, List, map};
+ghost use Rattle.std.specs.Prelude.{◌≡◌, ◌⊎◌, ℕ, List, map};
 ghost use Rattle.std.specs.Io.KnownBytes.{Consumes};
 ghost use Rattle.fx_expr.specs.Parts.{input_of};
-ghost use Rattle.fx_filter.specs.Promise.{Grows};
+ghost use Rattle.fx_base.specs.Moments.{HoldsEachTime};
+ghost use Rattle.fx_filter.specs.Promise.{Grows, IsAnswered};
+ghost use Rattle.fx_run.specs.Printed.{run_outcome};
 ghost use Rattle.fx_ends.specs.Ends as ends;
 ghost use Rattle.fx_ends.specs.Ends.{end_line, status_of};
 ghost use Rattle.fx_ends.specs.EndView.{end_of};
 ghost use Rattle.fx_ends.specs.Notes.{AreNotes};
+ghost use Rattle.fx_bundle_commands.specs.Opening.{IsOpen};
 ghost use Rattle.fx_bundle_commands.specs.OpeningView.{IsQuiet, with_source};
-ghost use Rattle.fx_bundle_commands.specs.commands.Run.{RunEnds, Runs};
+ghost use Rattle.fx_bundle_commands.specs.commands.Run.{HasAnswered, RunEnds, Runs};
 
 use crate::open::open;
 use fx_base::{Shelf, Sink, Source, Status};
@@ -30,7 +33,7 @@ fn inputs_of(certified: &Certified) -> &[Input]
 }
 
 // Runs the rows of the input.
-fn run_input<'a, S: Source, K: Sink>(
+fn run_input<'a, S: Source<K>, K: Sink>(
     alloc: Global,
     certified: &'a Certified,
     input: &mut S,
@@ -41,6 +44,7 @@ fn run_input<'a, S: Source, K: Sink>(
         (record { left = S.left input.new; read_faults = S.faults input.new; taken = K.taken output.new; write_faults = K.faults output.new })
         (with_source certified.now source) certified.now.function (end_of result) }
     ensures loud { IsQuiet (end_of result) → ⊥ }
+    ensures prompt { HoldsEachTime (IsAnswered (run_outcome certified.now.function certified.now.program) (S.left input.old) (K.taken output.old)) (S.asked input.old) (S.asked input.new) }
     ensures consumed { (taken : List ℕ) × Consumes (S.left input.old) (S.left input.new) taken }
     ensures appended { Grows (K.taken output.old) (K.taken output.new) }
 {
@@ -59,7 +63,7 @@ fn run_input<'a, S: Source, K: Sink>(
 }
 
 /// Runs the rows of the input through the bundle in the file of this name, and prints their page.
-pub fn run_file<H: Shelf, S: Source, K: Sink, N: Sink>(
+pub fn run_file<H: Shelf, S: Source<K>, K: Sink, N: Sink>(
     alloc: Global,
     shelf: &mut H,
     name: &str,
@@ -73,6 +77,8 @@ pub fn run_file<H: Shelf, S: Source, K: Sink, N: Sink>(
         (record { left = S.left input.old; read_faults = S.faults input.old; taken = K.taken output.old; write_faults = K.faults output.old })
         (record { left = S.left input.new; read_faults = S.faults input.new; taken = K.taken output.new; write_faults = K.faults output.new })
         name.now end × (IsQuiet end → (input.new ≡ input.old) × (output.new ≡ output.old)) }
+    ensures prompt { HoldsEachTime (HasAnswered (H.papers shelf.old) name.now (S.left input.old) (K.taken output.old)) (S.asked input.old) (S.asked input.new) }
+    ensures untouched { IsOpen (H.papers shelf.old) name.now ⊎ ((input.new ≡ input.old) × (output.new ≡ output.old)) }
     ensures consumed { (taken : List ℕ) × Consumes (S.left input.old) (S.left input.new) taken }
     ensures appended { Grows (K.taken output.old) (K.taken output.new) }
 {

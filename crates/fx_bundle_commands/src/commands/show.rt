@@ -6,7 +6,7 @@ ghost use Rattle.fx_base.specs.Causes.{HasCause};
 ghost use Rattle.fx_filter.specs.Promise.{Grows};
 ghost use Rattle.fx_ends.specs.EndView.{end_of};
 ghost use Rattle.fx_listing.specs.Listing.{numbered_lines};
-ghost use Rattle.fx_bundle_commands.specs.OpeningView.{IsQuiet, with_source};
+ghost use Rattle.fx_bundle_commands.specs.OpeningView.{IsSilent, with_source};
 ghost use Rattle.fx_bundle_commands.specs.commands.Check.{bound_lines};
 ghost use Rattle.fx_bundle_commands.specs.commands.Show.{ShowEnds, ShownEnds, shown_line, table};
 
@@ -36,7 +36,7 @@ fn print_table<K: Sink>(alloc: Global, certified: &Certified, output: &mut K) ->
         (record { left = left; read_faults = reads; taken = K.taken output.new; write_faults = K.faults output.new })
         (with_source certified.now source) certified.now.function (end_of result) }
     ensures appended { Grows (K.taken output.old) (K.taken output.new) }
-    ensures loud { IsQuiet (end_of result) → ⊥ }
+    ensures quiet { IsSilent (end_of result) → output.new ≡ output.old }
 {
     let Ok(text) = codes_text(alloc, certified) else {
         return End::NoMemory;
@@ -59,7 +59,7 @@ pub fn show_file<H: Shelf, K: Sink>(
         (record { left = left; read_faults = reads; taken = K.taken output.new; write_faults = K.faults output.new })
         name.now (end_of result) }
     ensures appended { Grows (K.taken output.old) (K.taken output.new) }
-    ensures quiet { IsQuiet (end_of result) → output.new ≡ output.old }
+    ensures quiet { IsSilent (end_of result) → output.new ≡ output.old }
 {
     match open(alloc, shelf, name) {
         Err(end) => end,

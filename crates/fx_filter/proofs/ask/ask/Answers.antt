@@ -1,11 +1,14 @@
-use Rattle.std.proofs.Common.{◌≡◌, [], Err, arith, sym, ap, ◌∙◌, not}
+use Rattle.std.proofs.Common.{◌≡◌, [], Err, arith, refl, sym, ap, ◌∙◌, not}
 use Rattle.std.proofs.KnownBytes.{Consumes-nil}
 use Rattle.fx_base.specs.declared.answers.LineFault.TheVariants as line
+use Rattle.fx_base.proofs.Noting.{none_noted}
+use Rattle.fx_filter.specs.Promise.{IsAnswered}
 use Rattle.fx_filter.specs.Running.{IsFlushed}
 use Rattle.fx_filter.specs.declared.fault.RunFault.TheVariants.{WriteFault}
 use Rattle.fx_filter.proofs.Exits.{write-failed}
 use Rattle.fx_filter.proofs.Turns.{on-ok, on-err, up-to}
 use Rattle.fx_filter.proofs.Grown.{flushed_grows}
+use Rattle.fx_filter.proofs.Prompt.{answered}
 use Rattle.fx_filter.proofs.Asking.{Turn, gave, failed, over}
 use Rattle.fx_filter.proofs.ask.ask.Goals as goal
 
@@ -125,3 +128,27 @@ returns-in-Err-ReadFault-clause-grown g c = flushed_grows (not c.holds_line.resu
 
 pub returns-in-Err-TooLong-clause-grown : goal.returns-in-Err-TooLong-clause-grown
 returns-in-Err-TooLong-clause-grown g c = flushed_grows (not c.holds_line.result) _ _ c.args.page.now c.flush.new.page c.flush.result c.flush.ensures.all c.flush.ensures.front
+
+pub returns-then-is_err-clause-prompt : goal.returns-then-is_err-clause-prompt
+returns-then-is_err-clause-prompt g c = λ o now left before count none ran. none_noted (IsAnswered o left before) (g.S.Source.asked c.args.source.now)
+
+pub returns-in-Ok-clause-prompt : goal.returns-in-Ok-clause-prompt
+returns-in-Ok-clause-prompt g c = λ o now left before count none ran.
+    answered o now c.args.lines.now left (g.S.Source.left c.args.source.now) before (g.K.Sink.taken c.args.sink.now) (g.K.Sink.taken c.flush.new.sink) c.args.page.now c.flush.new.page count c.args.lines.now.limit
+    c.holds_line.result none ran (on-ok c.flush.result (sym c.is_err.ensures.value ∙ c.if-is_err.false) c.flush.ensures.all)
+    _ _ c.args.lines.now.is_ended refl
+    (λ e. ap g.S.Source.asked (c.next_line.ensures.lazy (c.holds_line.ensures.0 e)).0) (λ e. ap g.S.Source.asked (c.next_line.ensures.after_end e).0) c.next_line.ensures.sought
+
+pub returns-in-Err-ReadFault-clause-prompt : goal.returns-in-Err-ReadFault-clause-prompt
+returns-in-Err-ReadFault-clause-prompt g c = λ o now left before count none ran.
+    answered o now c.args.lines.now left (g.S.Source.left c.args.source.now) before (g.K.Sink.taken c.args.sink.now) (g.K.Sink.taken c.flush.new.sink) c.args.page.now c.flush.new.page count c.args.lines.now.limit
+    c.holds_line.result none ran (on-ok c.flush.result (sym c.is_err.ensures.value ∙ c.if-is_err.false) c.flush.ensures.all)
+    _ _ c.args.lines.now.is_ended refl
+    (λ e. ap g.S.Source.asked (c.next_line.ensures.lazy (c.holds_line.ensures.0 e)).0) (λ e. ap g.S.Source.asked (c.next_line.ensures.after_end e).0) c.next_line.ensures.sought
+
+pub returns-in-Err-TooLong-clause-prompt : goal.returns-in-Err-TooLong-clause-prompt
+returns-in-Err-TooLong-clause-prompt g c = λ o now left before count none ran.
+    answered o now c.args.lines.now left (g.S.Source.left c.args.source.now) before (g.K.Sink.taken c.args.sink.now) (g.K.Sink.taken c.flush.new.sink) c.args.page.now c.flush.new.page count c.args.lines.now.limit
+    c.holds_line.result none ran (on-ok c.flush.result (sym c.is_err.ensures.value ∙ c.if-is_err.false) c.flush.ensures.all)
+    _ _ c.args.lines.now.is_ended refl
+    (λ e. ap g.S.Source.asked (c.next_line.ensures.lazy (c.holds_line.ensures.0 e)).0) (λ e. ap g.S.Source.asked (c.next_line.ensures.after_end e).0) c.next_line.ensures.sought

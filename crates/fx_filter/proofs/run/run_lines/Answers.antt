@@ -1,7 +1,8 @@
 use Rattle.std.proofs.Common.{◌≡◌, ◌+◌, ◌≤◌, [], true, false, length, arith, sym, ap, subst, ◌∙◌}
 use Rattle.fx_base.specs.declared.lines.LineStep.TheVariants.{Line, End}
 use Rattle.fx_filter.specs.Outcome.{one}
-use Rattle.fx_filter.specs.Promise.{IsFailed}
+use Rattle.fx_base.proofs.Noting.{none_noted, noted_on}
+use Rattle.fx_filter.specs.Promise.{IsAnswered, IsFailed}
 use Rattle.fx_filter.specs.Running.{EndsAs, HasNoLine, HasLine, IsAsked, Ran, StopsAs}
 use Rattle.fx_filter.proofs.Steps.{start, stepped}
 use Rattle.fx_filter.proofs.Turns.{one-few}
@@ -20,6 +21,7 @@ lines-init g c =
       bound = ap (λ r. r.limit) c.in-Ok-new.ensures;
       can = c.requires.can;
       grown = none_grown before;
+      prompt = none_noted (IsAnswered o left before) (g.S.Source.asked c.args.source.now);
       later = omega arith;
       later_sink = omega arith;
     }
@@ -75,6 +77,7 @@ lines-preserved g c =
       bound = a.limit ∙ c.lines.invariant.bound;
       can = c.in-Ok-take_line.ensures.can;
       grown = grown_on before (g.K.Sink.taken c.lines.sink) mid c.lines.invariant.grown c.ask.ensures.grown;
+      prompt = noted_on (IsAnswered o left before) _ _ _ c.lines.invariant.prompt (c.ask.ensures.prompt o now left before count nothing.0 c.lines.invariant.ran);
       later = omega (arith, c.lines.invariant.later, c.ask.ensures.later);
       later_sink = omega (arith, c.lines.invariant.later_sink, c.ask.ensures.later_sink);
     }
@@ -272,3 +275,21 @@ returns-in-Ok-End-clause-grown g c = grown_on _ _ _ c.lines.invariant.grown c.as
 
 pub returns-in-Err-clause-grown : goal.returns-in-Err-clause-grown
 returns-in-Err-clause-grown g c = grown_on _ _ _ c.lines.invariant.grown c.ask.ensures.grown
+
+pub returns-in-Err-take_line-clause-prompt : goal.returns-in-Err-take_line-clause-prompt
+returns-in-Err-take_line-clause-prompt g c =
+    noted_on (IsAnswered (g.P.Printer.outcome c.args.printer.now) (g.S.Source.left c.args.source.now) (g.K.Sink.taken c.args.sink.now)) _ _ _ c.lines.invariant.prompt
+    (c.ask.ensures.prompt (g.P.Printer.outcome c.args.printer.now) (g.P.Printer.outcome c.lines.printer) (g.S.Source.left c.args.source.now) (g.K.Sink.taken c.args.sink.now) c.lines.count
+    (g.met.P.Printer.none c.lines.printer).0 c.lines.invariant.ran)
+
+pub returns-in-Ok-End-clause-prompt : goal.returns-in-Ok-End-clause-prompt
+returns-in-Ok-End-clause-prompt g c =
+    noted_on (IsAnswered (g.P.Printer.outcome c.args.printer.now) (g.S.Source.left c.args.source.now) (g.K.Sink.taken c.args.sink.now)) _ _ _ c.lines.invariant.prompt
+    (c.ask.ensures.prompt (g.P.Printer.outcome c.args.printer.now) (g.P.Printer.outcome c.lines.printer) (g.S.Source.left c.args.source.now) (g.K.Sink.taken c.args.sink.now) c.lines.count
+    (g.met.P.Printer.none c.lines.printer).0 c.lines.invariant.ran)
+
+pub returns-in-Err-clause-prompt : goal.returns-in-Err-clause-prompt
+returns-in-Err-clause-prompt g c =
+    noted_on (IsAnswered (g.P.Printer.outcome c.args.printer.now) (g.S.Source.left c.args.source.now) (g.K.Sink.taken c.args.sink.now)) _ _ _ c.lines.invariant.prompt
+    (c.ask.ensures.prompt (g.P.Printer.outcome c.args.printer.now) (g.P.Printer.outcome c.lines.printer) (g.S.Source.left c.args.source.now) (g.K.Sink.taken c.args.sink.now) c.lines.count
+    (g.met.P.Printer.none c.lines.printer).0 c.lines.invariant.ran)

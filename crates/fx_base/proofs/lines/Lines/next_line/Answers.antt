@@ -7,6 +7,7 @@ use Rattle.std.proofs.lemmas.List.{take_all, length-take, length-drop, length-ap
 use Rattle.fx_base.specs.Text.{text_at}
 use Rattle.fx_base.specs.LineSteps.{LinesState}
 use Rattle.fx_base.proofs.Cutting.{is_feed, feed-at, IsFeedAt}
+use Rattle.fx_base.proofs.Noting.{sought_behind}
 use Rattle.fx_base.proofs.Answering.{takes-whole, takes-long, takes-last}
 use Rattle.fx_base.proofs.lines.Lines.next_line.Goals as goal
 
@@ -123,3 +124,18 @@ returns-else-length-eq0-clause-taken g c =
       (λ e. absurd (cc)),
       tt,
     )
+
+pub returns-in_err-fetched-clause-sought : goal.returns-in_err-fetched-clause-sought
+returns-in_err-fetched-clause-sought g c = sought_behind _ _ _ _ _ _ (c.drop_front.ensures ∙ ap (λ (r : LinesState). r.held) c.self.view_is) c.fetch.ensures.sought
+
+pub returns-then-length-eq0-clause-sought : goal.returns-then-length-eq0-clause-sought
+returns-then-length-eq0-clause-sought g c = sought_behind _ _ _ _ _ _ (c.drop_front.ensures ∙ ap (λ (r : LinesState). r.held) c.self.view_is) c.fetch.ensures.sought
+
+pub returns-in-Whole-clause-sought : goal.returns-in-Whole-clause-sought
+returns-in-Whole-clause-sought g c = sought_behind _ _ _ _ _ _ (c.drop_front.ensures ∙ ap (λ (r : LinesState). r.held) c.self.view_is) c.fetch.ensures.sought
+
+pub returns-in-Long-clause-sought : goal.returns-in-Long-clause-sought
+returns-in-Long-clause-sought g c = sought_behind _ _ _ _ _ _ (c.drop_front.ensures ∙ ap (λ (r : LinesState). r.held) c.self.view_is) c.fetch.ensures.sought
+
+pub returns-else-length-eq0-clause-sought : goal.returns-else-length-eq0-clause-sought
+returns-else-length-eq0-clause-sought g c = sought_behind _ _ _ _ _ _ (c.drop_front.ensures ∙ ap (λ (r : LinesState). r.held) c.self.view_is) c.fetch.ensures.sought

@@ -6,7 +6,7 @@ use Rattle.fx_expr.specs.Parts.{input_of}
 use Rattle.fx_expr.specs.declared.parts.Input as declared
 use Rattle.fx_rows.specs.Ranges.{AreRangesOf}
 use Rattle.fx_rows.proofs.Ranges.{range-is, ranges-more}
-use Rattle.fx_rows.proofs.columns.ranges_of.Goals as goal
+use Rattle.fx_rows.proofs.reader.ranges_of.Goals as goal
 
 pub loop-input-preserved : goal.loop-input-preserved
 loop-input-preserved c =
