@@ -1,9 +1,11 @@
+mod Cells
 mod Comparisons
 mod Fractions
 mod Intervals
 mod Judgements
 mod Ranges
 mod Readings
+mod Refusals
 mod Shifts
 mod WordTexts
 mod Words
