@@ -81,9 +81,9 @@ greater_end x e f l = by (is_dyadic_at_most (negated (units f e).lo) (units f e)
 
 -- ---- errors within 2^z
 within_z : (z : ℤ) (e f : ℕ) → e ≤ 2 ^ 61 → AtMost (times (whole (pos e)) (unit (pos f))) (power_value z) → IsWithinPower f e z (span (units f e))
-within_z z e f few h = record {
-  small = small_units f e (omega (arith, few));
-  few = omega (arith, few);
+within_z z e f l h = record {
+  small = small_units f e (omega (arith, l));
+  few = omega (arith, l);
   low = le_trans (negative_le h) (le_of_equal (equal_sym (minus_units_value e f)));
   high = le_trans (le_of_equal (units_value (pos e) f)) h;
 }
