@@ -1,10 +1,10 @@
 -- What a calm function's test says, one by one.
-use Rattle.std.proofs.Common.{◌≡◌, ℕ, zero, suc, ◌+◌, ◌-◌, ◌<◌, ◌≤◌, max, nat_le, Bool, true, false, ◌&&◌, List, [], ◌∷◌, length, get_or, ℤ, pos, negsuc, ◌+ℤ◌, ◌-ℤ◌, ◌≤ℤ◌, refl, arith}
-use Rattle.std.proofs.Common.{int_le}
+use Rattle.std.proofs.Common.{◌≡◌, ℕ, zero, suc, ◌+◌, ◌-◌, ◌<◌, ◌≤◌, max, nat_le, Bool, true, false, ◌&&◌, if◌then◌else◌, List, [], ◌∷◌, length, get_or, int_le, ℤ, pos, negsuc, ◌+ℤ◌, ◌-ℤ◌, ◌≤ℤ◌, refl, arith}
 use Rattle.std.specs.List.{list_all}
 use Rattle.std.specs.Prelude.{All}
 use Rattle.std.proofs.lemmas.Int.{ints}
 use Rattle.std.proofs.lemmas.Bool.{and_parts}
+use Rattle.std.proofs.lemmas.List.Sums.{AllPass-from_list_all}
 use Rattle.fx_rational.specs.Rational.{Rational, whole, over, plus, times, AtMost, Equal, is_at_most}
 use Rattle.fx_rational.specs.Dyadic.{dyadic_value}
 use Rattle.fx_rational.proofs.Ring.{by_quotes, quotes}
@@ -28,9 +28,7 @@ use Rattle.fx_calm_numbers.proofs.Factors.{HasRoom, IsRoomyInput}
 
 -- ---- tests over lists
 pub all_at : {A : Type 0} (p : A → Bool) (xs : List A) (k : ℕ) (d : A) → list_all p xs ≡ true → k < length xs → p (get_or xs k d) ≡ true
-all_at p [] k d e l = absurd (omega (arith, l))
-all_at p (x ∷ xs) zero d e l = (and_parts (p x) (list_all p xs) e).0
-all_at p (x ∷ xs) (suc k) d e l = all_at p xs k d (and_parts (p x) (list_all p xs) e).1 (omega (arith, l))
+all_at p xs k d e l = AllPass-from_list_all p xs e k d l
 
 pub le_of_test : (a b : ℕ) → nat_le a b ≡ true → a ≤ b
 le_of_test a b e = grind arith
@@ -58,7 +56,7 @@ half_twice {x} h = le_trans (plus_le h h) (le_of_equal two_halves)
 greater_nonneg : (x y : Rational) → Nonneg x → Nonneg y → Nonneg (greater x y)
 greater_nonneg x y h g = by (is_at_most y x)
   where
-    by : (t : Bool) → Nonneg (Rattle.std.specs.Prelude.if◌then◌else◌ t x y)
+    by : (t : Bool) → Nonneg (if t then x else y)
     by true = h
     by false = g
 

@@ -1,7 +1,8 @@
 -- The test for calm functions, whose searches end after 64 steps, is the definition, whose searches don't.
-use Rattle.std.proofs.Common.{◌≡◌, ℕ, ◌+◌, ◌-◌, ◌<◌, ◌≤◌, max, nat_le, Bool, true, ◌&&◌, length, ℤ, pos, negsuc, ◌+ℤ◌, ◌-ℤ◌, ◌≤ℤ◌, int_le, refl, sym, ap, subst, ◌∙◌, ◌⊎◌, ⊎_elim, arith}
+use Rattle.std.proofs.Common.{◌≡◌, ℕ, ◌+◌, ◌-◌, ◌<◌, ◌≤◌, max, nat_le, Bool, true, ◌&&◌, length, ℤ, pos, negsuc, ◌+ℤ◌, ◌-ℤ◌, ◌≤ℤ◌, int_le, refl, sym, ap, subst, ◌∙◌, ⊎_elim, arith}
 use Rattle.std.specs.List.{list_all}
 use Rattle.std.proofs.lemmas.Int.{ints}
+use Rattle.std.proofs.lemmas.Bool.{cases_lt}
 use Rattle.fx_fraction.proofs.Ranges.{le_true}
 use Rattle.fx_model.specs.Function as function
 use Rattle.fx_model.specs.Function.{Function}
@@ -15,10 +16,7 @@ use Rattle.fx_calm_numbers.proofs.Calmness.{no_temps, some_state, demands, room,
 -- ---- searches
 first_least : (i : ℕ) (test : ℕ → Bool) (j : ℕ) → i ≤ j → test j ≡ true → first_from i test ≤ j
 unfolding first_from
-first_least i test j l e = ⊎_elim (λ (near : j < i + 64). first_is_least 64 test i j l near e) (λ (far : i + 64 ≤ j). (let h = first_at_most 64 test i in omega (arith, h, far))) (near_or_far j (i + 64))
-  where
-    near_or_far : (a b : ℕ) → (a < b) ⊎ (b ≤ a)
-    near_or_far a b = grind arith
+first_least i test j l e = ⊎_elim (λ (near : j < i + 64). first_is_least 64 test i j l near e) (λ (far : i + 64 ≤ j). (let h = first_at_most 64 test i in omega (arith, h, far))) (cases_lt j (i + 64))
 
 first_start : (i : ℕ) (test : ℕ → Bool) → i ≤ first_from i test
 unfolding first_from

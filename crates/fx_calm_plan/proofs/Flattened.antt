@@ -1,7 +1,7 @@
 -- The bounds of the node list of linear results: each result's copy has its tree's, and all are limited.
 use Rattle.std.proofs.Common.{◌≡◌, ℕ, zero, suc, ◌+◌, ◌^◌, ◌<◌, ◌≤◌, List, [], ◌∷◌, ◌++◌, length, map, refl, sym, ap, subst, ◌∙◌, arith, length-append, append_assoc}
 use Rattle.std.specs.Prelude.{All}
-use Rattle.std.proofs.lemmas.List.{get_or_append_left, append-nil}
+use Rattle.std.proofs.lemmas.List.{get_or_append_left, append-nil, get_or-append-add}
 use Rattle.std.proofs.lemmas.List.Elements.{All-nil, All-cons, All-append}
 use Rattle.std.proofs.Math.Seq.{get_or-append_seam}
 use Rattle.fx_model.specs.Tree as tree
@@ -220,12 +220,5 @@ module _ (c : Numbers) (is : List function.Input) (i s : ℕ) where
       let f = λ (j : ℕ). input_bound c.f (at no_input is j) in let g = λ (j : ℕ). state_bound c in let a = from_length f 0 i in record {
         long = let l = first_long in omega (arith, l);
         inputs = λ k lt. get_or_append_left (bounds_from f 0 i) (bounds_from g 0 s) no_bound k (omega (arith, lt, a)) ∙ from_at f 0 i k lt ∙ ap f (omega arith);
-        states = λ k lt. ap (λ (j : ℕ). at no_bound (bounds_from f 0 i ++ bounds_from g 0 s) (j + k)) (sym a) ∙ behind (bounds_from f 0 i) (bounds_from g 0 s) k ∙ from_at g 0 s k lt;
+        states = λ k lt. ap (λ (j : ℕ). at no_bound (bounds_from f 0 i ++ bounds_from g 0 s) (j + k)) (sym a) ∙ get_or-append-add (bounds_from f 0 i) (bounds_from g 0 s) k no_bound ∙ from_at g 0 s k lt;
       }
-    where
-      behind : (xs ys : List Bound) (k : ℕ) → at no_bound (xs ++ ys) (length xs + k) ≡ at no_bound ys k
-      behind [] ys k = ap (at no_bound ys) (omega arith)
-      behind (x ∷ xs) ys k = ap (λ (j : ℕ). at no_bound ((x ∷ xs) ++ ys) j) (next (length xs) k) ∙ behind xs ys k
-        where
-          next : (n k : ℕ) → suc n + k ≡ suc (n + k)
-          next n k = omega arith

@@ -2,7 +2,7 @@
 use Rattle.std.proofs.Common.{◌≡◌, ℕ, zero, suc, ◌+◌, ◌-◌, ◌^◌, ◌<◌, ◌≤◌, true, List, [], ◌∷◌, ◌++◌, length, map, take, drop, get_or, ◌⊎◌, ⊎_elim, pos, refl, sym, ap, subst, ◌∙◌, arith, length-append, pow_pos}
 use Rattle.std.specs.Prelude.{All, Contains}
 use Rattle.std.proofs.lemmas.Bool.{and_parts}
-use Rattle.std.proofs.lemmas.List.{length-map, get_or-map}
+use Rattle.std.proofs.lemmas.List.{length-map, get_or-map, length-take, length-drop, get_or-take, get_or-drop, get_or-append-add}
 use Rattle.std.proofs.lemmas.List.Elements.{All-nil, All-cons, All-append, All-map}
 use Rattle.fx_rational.specs.Rational.{Rational, whole, plus, times, AtMost, is_at_most}
 use Rattle.fx_rational.proofs.Laws.{le_trans, le_of_equal, times_le}
@@ -139,15 +139,10 @@ each_limited c is i s (t ∷ ts) h = (h 0 t (omega arith), each_limited c is i s
 
 -- elements of the front and of the rest
 take_at : {A : Type 0} (m : ℕ) (xs : List A) (k : ℕ) (d : A) → k < m → k < length xs → (k < length (take m xs)) × (get_or (take m xs) k d ≡ get_or xs k d)
-take_at zero xs k d p q = absurd (omega (arith, p))
-take_at (suc m) [] k d p q = absurd (omega (arith, q))
-take_at (suc m) (x ∷ xs) zero d p q = (omega arith, refl)
-take_at (suc m) (x ∷ xs) (suc k) d p q = let h = take_at m xs k d (omega (arith, p)) (omega (arith, q)) in let l = h.0 in (omega (arith, l), h.1)
+take_at m xs k d p q = (let l = length-take m xs in omega (arith, l, p, q), get_or-take m xs k d p)
 
 drop_at : {A : Type 0} (m : ℕ) (xs : List A) (k : ℕ) (d : A) → m + k < length xs → (k < length (drop m xs)) × (get_or (drop m xs) k d ≡ get_or xs (m + k) d)
-drop_at zero xs k d p = let e : 0 + k ≡ k = omega arith in (omega (arith, p), ap (λ (j : ℕ). get_or xs j d) (sym e))
-drop_at (suc m) [] k d p = absurd (omega (arith, p))
-drop_at (suc m) (x ∷ xs) k d p = let h = drop_at m xs k d (omega (arith, p)) in let e : suc m + k ≡ suc (m + k) = omega arith in (h.0, h.1 ∙ ap (λ (j : ℕ). get_or (x ∷ xs) j d) (sym e))
+drop_at m xs k d p = (let l = length-drop m xs in omega (arith, l, p), get_or-drop m xs k d)
 
 before_or_behind : (k m n : ℕ) → k < n → (k < m) ⊎ (m + (k - m) ≡ k)
 before_or_behind k m n l = grind (arith, l)
@@ -260,16 +255,9 @@ module _ (n : ℕ) (fn : Function) (some_width : Contains widths n) (narrow : Is
   pub bounds_are : bs ≡ front ++ map (tree_bound c fn.inputs) fn.results
   bounds_are = ap (λ (ns : List Node). bounds_after c fn.inputs ns []) nodes_are ∙ built.grown
 
-  behind : (xs ys : List Bound) (k : ℕ) → at no_bound (xs ++ ys) (length xs + k) ≡ at no_bound ys k
-  behind [] ys k = ap (at no_bound ys) (omega arith)
-  behind (x ∷ xs) ys k = ap (λ (j : ℕ). at no_bound ((x ∷ xs) ++ ys) j) (next (length xs) k) ∙ behind xs ys k
-    where
-      next : (n k : ℕ) → suc n + k ≡ suc (n + k)
-      next n k = omega arith
-
   -- the copy of result k
   pub copy_bound : (k : ℕ) (d : Tree) → k < length fn.results → at no_bound bs (length front + k) ≡ tree_bound c fn.inputs (get_or fn.results k d)
-  copy_bound k d lt = ap (λ (zs : List Bound). at no_bound zs (length front + k)) bounds_are ∙ behind front (map (tree_bound c fn.inputs) fn.results) k ∙ get_or-map (tree_bound c fn.inputs) fn.results k d no_bound lt
+  copy_bound k d lt = ap (λ (zs : List Bound). at no_bound zs (length front + k)) bounds_are ∙ get_or-append-add front (map (tree_bound c fn.inputs) fn.results) k no_bound ∙ get_or-map (tree_bound c fn.inputs) fn.results k d no_bound lt
 
   pub bounds_long : length bs ≡ length front + length fn.results
   bounds_long = ap length bounds_are ∙ length-append front (map (tree_bound c fn.inputs) fn.results) ∙ ap (λ (k : ℕ). length front + k) (length-map fn.results (tree_bound c fn.inputs))

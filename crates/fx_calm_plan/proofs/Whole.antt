@@ -1,7 +1,8 @@
 -- No condition of the calm plan has a fault.
-use Rattle.std.proofs.Common.{◌≡◌, ℕ, ◌+◌, ◌-◌, ◌^◌, ◌<◌, ◌≤◌, ◌==◌, ltb, Bool, true, false, ◌&&◌, if◌then◌else◌, List, [], ◌∷◌, ◌++◌, length, map, min, get_or, None, ◌⊎◌, ⊎_elim, ℤ, pos, refl, sym, ap, subst, ◌∙◌, arith, length-append}
+use Rattle.std.proofs.Common.{◌≡◌, ℕ, ◌+◌, ◌-◌, ◌^◌, ◌<◌, ◌≤◌, ◌==◌, ltb, Bool, true, false, ◌&&◌, if◌then◌else◌, List, [], ◌∷◌, ◌++◌, length, map, min, get_or, None, ⊎_elim, ℤ, pos, refl, sym, ap, subst, ◌∙◌, arith, length-append}
 use Rattle.std.specs.Prelude.{All, Contains}
 use Rattle.std.specs.List.{list_all}
+use Rattle.std.proofs.lemmas.Bool.{cases_lt}
 use Rattle.std.proofs.lemmas.List.{length-map, get_or-map, get_or_past}
 use Rattle.std.proofs.lemmas.List.Elements.{All-head, All-tail}
 use Rattle.fx_rational.specs.Rational.{Rational}
@@ -254,10 +255,7 @@ module _ (n : ℕ) (fn : Function) (some_width : Contains widths n) (narrow : Is
   -- ---- rows
   -- the bound of a node, or none
   limited_any : (a : ℕ) → IsLimited c (at no_bound bounds a)
-  limited_any a = ⊎_elim (λ (lt : a < length bounds). limited n fn some_width narrow calm a lt) (λ (past : length bounds ≤ a). subst (IsLimited c) (sym (get_or_past bounds a no_bound past)) (record { r = omega arith; e = omega arith })) (before a (length bounds))
-    where
-      before : (a b : ℕ) → (a < b) ⊎ (b ≤ a)
-      before a b = grind arith
+  limited_any a = ⊎_elim (λ (lt : a < length bounds). limited n fn some_width narrow calm a lt) (λ (past : length bounds ≤ a). subst (IsLimited c) (sym (get_or_past bounds a no_bound past)) (record { r = omega arith; e = omega arith })) (cases_lt a (length bounds))
 
   -- the copy of next state j
   next_place : (j : ℕ) → j < k → (next_code p j ≡ length (front n fn some_width narrow calm) + (outputs fn + j)) × (next_code p j < length bounds)
