@@ -8,7 +8,7 @@ use Rattle.fx_inequalities.specs.Certificate.{Certificate}
 use Rattle.fx_inequalities.specs.Accepted.{certified_bound}
 use Rattle.fx_analysis.specs.PlainAttempt.{Attempt}
 use Rattle.fx_checker.specs.CertifiedView.{Accepted}
-use Rattle.fx_weight.specs.Weights.{power_dyadic}
+use Rattle.fx_sizes.specs.Powers.{power_dyadic}
 use Rattle.fx_weight.specs.PlainClass.{output_power}
 
 -- program and certificate of what is accepted

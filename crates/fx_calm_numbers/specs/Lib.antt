@@ -1,0 +1,4 @@
+pub mod Linear
+pub mod Calm
+pub mod Bounds
+pub mod Laws

@@ -1,0 +1,12 @@
+pub mod Units
+pub mod Values
+pub mod Folded
+pub mod Flattened
+pub mod NodeClaims
+pub mod NodeFaults
+pub mod Rows
+pub mod Limited
+pub mod Points
+pub mod Whole
+pub mod Lawful
+pub mod Planned

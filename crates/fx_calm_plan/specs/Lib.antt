@@ -1,0 +1,2 @@
+pub mod CalmPlan
+pub mod Laws

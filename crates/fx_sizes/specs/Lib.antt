@@ -1,0 +1,4 @@
+pub mod Powers
+pub mod Narrow
+pub mod Demands
+pub mod Laws
