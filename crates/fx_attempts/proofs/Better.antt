@@ -1,5 +1,6 @@
 -- Bounds that are smaller, and answers that stand.
 use Rattle.std.proofs.Common.{◌≡◌, ◌∙◌, ◌≢◌, ◌⊎◌, ⊎_elim, ℕ, zero, suc, ◌+◌, ◌<◌, ◌≤◌, List, [], ◌∷◌, ◌++◌, map, take, append_assoc, append-nil, true, Option, Some, None, length, refl, sym, ap, subst, arith, inl, inr}
+use Rattle.std.specs.Prelude.{ℤ, IfSome}
 use Rattle.std.specs.List.{All, Contains}
 use Rattle.std.proofs.Math.Seq.{take-append_seam}
 use Rattle.std.proofs.lemmas.List.Elements.{All-nil, All-head, All-tail, All-cons, All-push, All-map, All-contains, filter_passes}
@@ -7,11 +8,10 @@ use Rattle.fx_rational.proofs.Laws.{le_refl, le_trans, le_total}
 use Rattle.fx_model.specs.Function.{Function, outputs}
 use Rattle.fx_inequalities.specs.Rewriting.{Rewriting}
 use Rattle.fx_rules.specs.SingleSteps.{single_steps, is_there, steps_in, trees_of}
-use Rattle.fx_weight.specs.PlainClass.{outside_of}
 use Rattle.fx_analysis.specs.PlainAttempt.{Attempt}
 use Rattle.fx_checker.specs.CertifiedView.{Accepted}
 use Rattle.fx_analysis.specs.Attempts.{IsAcceptedAfter, tried_steps}
-use Rattle.fx_attempts.specs.Bounds.{attempted, AreSmaller, AreNoGreater}
+use Rattle.fx_attempts.specs.Bounds.{attempted, promised_powers, AreSmaller, AreNoGreater, AreWithinPowers}
 use Rattle.fx_checker.specs.Answers.{IsAnswerFor, IsOffered}
 use Rattle.fx_attempts.specs.Turns.{IsOutcome, IsTaken, Resists, Suits, SuitsIfAny, IsBestAfter}
 
@@ -65,13 +65,17 @@ module _ (n : ℕ) (fn : Function) where
   least_suits : (a c : Accepted) → Suits n fn a → IsAnswerFor n fn c → AreNoGreater fn (attempted c) (attempted a) → Suits n fn c
   least_suits a c suits own least = record {
     answer = own;
-    bounded = λ inside j l. le_trans (least j l) (suits.bounded inside j l);
-    no_worse = λ outside t acc j l. le_trans (least j l) (suits.no_worse outside t acc j l);
+    bounded = within_on (promised_powers n fn) suits.bounded;
+    no_worse = λ unpromised t acc j l. le_trans (least j l) (suits.no_worse unpromised t acc j l);
   }
+    where
+      within_on : (o : Option (ℕ → ℤ)) → IfSome o (AreWithinPowers fn a.program a.certificate) → IfSome o (AreWithinPowers fn c.program c.certificate)
+      within_on None h = tt
+      within_on (Some v) h = λ j l. le_trans (least j l) (h j l)
 
-  -- the first candidate suits outside the class, where it is no worse than the plain attempt
-  first_suits : (c : Accepted) → outside_of n fn ≢ None → IsAnswerFor n fn c → ((t : Attempt) → IsAcceptedAfter n fn [] t → AreNoGreater fn (attempted c) t) → Suits n fn c
-  first_suits c outside own plain = record { answer = own; bounded = λ inside. absurd (outside inside); no_worse = λ other t acc. plain t acc }
+  -- the first candidate suits where nothing is promised and it is no worse than the plain attempt
+  first_suits : (c : Accepted) → promised_powers n fn ≡ None → IsAnswerFor n fn c → ((t : Attempt) → IsAcceptedAfter n fn [] t → AreNoGreater fn (attempted c) t) → Suits n fn c
+  first_suits c unpromised own plain = record { answer = own; bounded = subst (λ o. IfSome o (AreWithinPowers fn c.program c.certificate)) (sym unpromised) tt; no_worse = λ other t acc. plain t acc }
 
   -- any candidate, where the first one is no worse than the plain attempt
   suits_by : (o c r : Option Accepted) → SuitsIfAny n fn o → IsOffered n fn c → IsTaken o c r →

@@ -1,13 +1,12 @@
 -- What the turns of a synthesis keep. No clause of a public call rests on this.
-use Rattle.std.specs.Prelude.{◌≡◌, ◌≢◌, ◌⊎◌, ⊤, ℕ, List, [], ◌∷◌, All, Option, Some, None}
+use Rattle.std.specs.Prelude.{◌≡◌, ◌⊎◌, ⊤, ℕ, List, [], ◌∷◌, All, Option, Some, None, IfSome}
 use Rattle.fx_model.specs.Function.{Function}
 use Rattle.fx_inequalities.specs.Rewriting.{Rewriting}
 use Rattle.fx_analysis.specs.PlainAttempt.{Attempt}
 use Rattle.fx_checker.specs.CertifiedView.{Accepted}
 use Rattle.fx_checker.specs.Answers.{IsAnswerFor, IsJudged}
-use Rattle.fx_weight.specs.PlainClass.{outside_of}
 use Rattle.fx_analysis.specs.Attempts.{IsAcceptedAfter}
-use Rattle.fx_attempts.specs.Bounds.{attempted, AreNoGreater, AreSmaller, AreWithinWeights}
+use Rattle.fx_attempts.specs.Bounds.{attempted, promised_powers, AreNoGreater, AreSmaller, AreWithinPowers}
 
 -- what the checker made of an attempt for fn, where there is one
 abbrev pub AreJudged : Function → Option Attempt → Option Accepted → Type 0
@@ -42,15 +41,15 @@ abbrev pub Resists : ℕ → Function → Option Accepted → List Rewriting →
 Resists n fn None steps = (t : Attempt) → ¬ IsAcceptedAfter n fn steps t
 Resists n fn (Some a) steps = (t : Attempt) → IsAcceptedAfter n fn steps t → ¬ AreSmaller fn t (attempted a)
 
--- an answer for fn at width n, with bounds of the weights in their class, and outside it no worse than the plain attempt
+-- an answer for fn at width n, with bounds as small as promised, and where nothing is promised no worse than the plain attempt
 pub record Suits (n : ℕ) (fn : Function) (a : Accepted) : Type 0 where
   pub answer : IsAnswerFor n fn a
-  pub bounded : outside_of n fn ≡ None → AreWithinWeights n fn a.program a.certificate
-  pub no_worse : outside_of n fn ≢ None → (t : Attempt) → IsAcceptedAfter n fn [] t → AreNoGreater fn (attempted a) t
+  pub bounded : IfSome (promised_powers n fn) (AreWithinPowers fn a.program a.certificate)
+  pub no_worse : promised_powers n fn ≡ None → (t : Attempt) → IsAcceptedAfter n fn [] t → AreNoGreater fn (attempted a) t
 
--- there is such an answer, or there is none outside the class
+-- there is such an answer, or there is none where none is promised
 abbrev pub SuitsIfAny : ℕ → Function → Option Accepted → Type 0
-SuitsIfAny n fn None = outside_of n fn ≢ None
+SuitsIfAny n fn None = promised_powers n fn ≡ None
 SuitsIfAny n fn (Some a) = Suits n fn a
 
 -- the answer after the plain attempt and those of these single steps

@@ -19,4 +19,4 @@ found n tries fn a h = record {
 }
 
 pub not_found : (n tries : ℕ) (fn : Function) (reason : Outside) → IsBestAfter n fn (take tries (single_steps fn)) None → outside_of n fn ≡ Some reason → IsUnfound n tries fn reason
-not_found n tries fn reason h outside = record { outside = outside; none_accepted = λ steps c t acc. each_tried n fn tries None h steps c t acc }
+not_found n tries fn reason h outside = record { outside = outside; unpromised = h.suits; none_accepted = λ steps c t acc. each_tried n fn tries None h steps c t acc }

@@ -1,5 +1,5 @@
 -- What a synthesis answers.
-use Rattle.std.specs.Prelude.{◌≡◌, ◌≢◌, ℕ, List, [], Contains, Some, None}
+use Rattle.std.specs.Prelude.{◌≡◌, ℕ, List, [], Contains, Some, None, IfSome}
 use Rattle.fx_model.specs.Function.{Function}
 use Rattle.fx_inequalities.specs.Rewriting.{Rewriting}
 use Rattle.fx_analysis.specs.Attempts.{IsAcceptedAfter, tried_steps}
@@ -7,23 +7,24 @@ use Rattle.fx_analysis.specs.PlainAttempt.{Attempt}
 use Rattle.fx_checker.specs.CertifiedView.{Accepted}
 use Rattle.fx_weight.specs.PlainClass.{Outside, outside_of}
 use Rattle.fx_weight.specs.OutsideView.{outside_view}
-use Rattle.fx_attempts.specs.Bounds.{attempted, AreNoGreater, AreSmaller, AreWithinWeights}
+use Rattle.fx_attempts.specs.Bounds.{attempted, promised_powers, AreNoGreater, AreSmaller, AreWithinPowers}
 use Rattle.fx_synth.specs.declared.fault.SynthFault.{SynthFault}
 use Rattle.fx_synth.specs.declared.fault.SynthFault.TheVariants.{NotFound, Memory}
 
--- what is found is for this function, of its name and at width n: in the class of the plain plan with bounds of the weights,
--- outside it no worse than an accepted plain attempt; and no accepted attempt of so many tries has smaller bounds at all outputs
+-- what is found is for this function, of its name and at width n: with bounds as small as promised; where nothing is promised no worse than an
+-- accepted plain attempt; and no accepted attempt of so many tries has smaller bounds at all outputs
 pub record IsSynthesised (n tries : ℕ) (fn : Function) (a : Accepted) : Type 0 where
   pub function_is : a.function ≡ fn
   pub named : a.program.name ≡ fn.name
   pub width_is : a.program.width ≡ n
-  pub bounded : outside_of n fn ≡ None → AreWithinWeights n fn a.program a.certificate
-  pub no_worse : outside_of n fn ≢ None → (t : Attempt) → IsAcceptedAfter n fn [] t → AreNoGreater fn (attempted a) t
+  pub bounded : IfSome (promised_powers n fn) (AreWithinPowers fn a.program a.certificate)
+  pub no_worse : promised_powers n fn ≡ None → (t : Attempt) → IsAcceptedAfter n fn [] t → AreNoGreater fn (attempted a) t
   pub unbeaten : (steps : List Rewriting) → Contains (tried_steps tries fn) steps → (t : Attempt) → IsAcceptedAfter n fn steps t → ¬ AreSmaller fn t (attempted a)
 
--- why nothing is found: this keeps the function outside the class, and no attempt is accepted
+-- why nothing is found: neither plan serves the function, of which this keeps it from the plain one, and no attempt is accepted
 pub record IsUnfound (n tries : ℕ) (fn : Function) (reason : Outside) : Type 0 where
   pub outside : outside_of n fn ≡ Some reason
+  pub unpromised : promised_powers n fn ≡ None
   pub none_accepted : (steps : List Rewriting) → Contains (tried_steps tries fn) steps → (t : Attempt) → ¬ IsAcceptedAfter n fn steps t
 
 -- or there was no memory

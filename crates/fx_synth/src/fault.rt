@@ -8,7 +8,7 @@ use std::fmt;
 /// Why nothing was found.
 #[derive(Clone, Copy, Debug, PartialEq, Eq)]
 pub enum SynthFault {
-    /// This keeps the function out of the class in which something is found always.
+    /// Neither plan serves the function, and this keeps it from the plain one.
     NotFound {
         /// The first node that isn't modest, else the first output that has a demanded end or too small a demanded error.
         outside: Outside,

@@ -90,7 +90,7 @@ fn best_answer(
 
 /// A certified program of this width for the function.
 ///
-/// Where the plain plan serves the function, it is the first answer. The plain attempt and those after each of the first
+/// Where the plain plan serves the function, or else the calm plan, it is the first answer. The plain attempt and those after each of the first
 /// `tries` single steps follow in their order, and then what a search finds in as many tries, with the choices that the seed
 /// gives. One takes the answer's place where it is no worse at any output and better at some.
 pub fn synthesise(

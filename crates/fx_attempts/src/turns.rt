@@ -1,66 +1,19 @@
-//! The plain plan, the plain attempt and the attempts after one step, each passed through the checker.
-ghost use Rattle.std.specs.Prelude.{◌≡◌, ◌++◌, ◌∷◌, [], List, None, true, Contains, IfOk, option_map, take};
+//! The plain attempt and the attempts after one step, each passed through the checker, and the best of them and an answer.
+ghost use Rattle.std.specs.Prelude.{◌≡◌, ◌++◌, ◌∷◌, [], List, true, Contains, IfOk, take};
 ghost use Rattle.fx_model.specs.LawfulProgram.{widths};
 ghost use Rattle.fx_inequalities.specs.Rewriting.{Rewriting};
 ghost use Rattle.fx_rules.specs.SingleSteps.{is_there, single_steps};
 ghost use Rattle.fx_step.specs.StepView.{step_view};
-ghost use Rattle.fx_weight.specs.Laws.{IsInClass};
-ghost use Rattle.fx_weight.specs.OutsideView.{outside_view};
-ghost use Rattle.fx_weight.specs.PlainClass.{outside_of};
-ghost use Rattle.fx_attempts.specs.Bounds.{AreWithinWeights};
 ghost use Rattle.fx_attempts.specs.Turns.{IsBestAfter, SuitsIfAny};
 
 use crate::answer::taken;
 use crate::attempt::{plain_answer, step_answer};
-use fx_checker::{Certified, check};
+use fx_checker::Certified;
 use fx_expr::Function;
 use fx_num::Memory;
 use fx_rewrite::SingleSteps;
 use fx_step::Step;
-use fx_weight::{Outside, WeightFault, bound_law, class_law, plain_plan};
 use std::alloc::Global;
-
-// The plain plan, certified.
-fn planned(alloc: Global, function: &Function, width: u32) -> Result<Certified, Memory>
-    requires width { Contains widths width }
-    requires class { IsInClass width function.now }
-    ensures function { IfOk result (λ a. a.function ≡ function.now) }
-    ensures named { IfOk result (λ a. a.program.name ≡ function.now.name) }
-    ensures width_is { IfOk result (λ a. a.program.width ≡ width) }
-    ensures bounded { IfOk result (λ a. AreWithinWeights width function.now a.program a.certificate) }
-{
-    class_law();
-    bound_law();
-    let (program, certificate) = match plain_plan(alloc, function, width) {
-        Ok(plan) => plan,
-        Err(WeightFault::NotModest { .. }) => unreachable!(),
-        Err(WeightFault::Memory) => return Err(Memory),
-    };
-    match check(alloc, function, program, certificate) {
-        Ok(certified) => Ok(certified),
-        // the plan is accepted, so only memory was wanting
-        Err(_) => Err(Memory),
-    }
-}
-
-/// The first answer: the plain plan, where it serves the function.
-pub fn first_answer(
-    alloc: Global,
-    function: &Function,
-    width: u32,
-    outside: Option<Outside>,
-) -> Result<Option<Certified>, Memory>
-    requires width { Contains widths width }
-    requires outside { option_map outside_view outside ≡ outside_of width function.now }
-    requires class { outside ≡ None → IsInClass width function.now }
-    ensures { IfOk result (SuitsIfAny width function.now) }
-{
-    if outside.is_some() {
-        return Ok(None);
-    }
-    let certified = planned(alloc, function, width)?;
-    Ok(Some(certified))
-}
 
 // The better of an answer and the plain attempt.
 fn first_turn(

@@ -5,7 +5,7 @@ use Rattle.fx_inequalities.specs.Rewriting.{Rewriting}
 use Rattle.fx_rewrite.specs.Left.{left}
 use Rattle.fx_step.specs.StepView.{step_view}
 use Rattle.fx_attempts.proofs.Better.{step_there, one_done}
-use Rattle.fx_attempts.proofs.plain.attempts.Goals as goal
+use Rattle.fx_attempts.proofs.turns.attempts.Goals as goal
 
 pub loop-turn-init : goal.loop-turn-init
 loop-turn-init c = ([], sym c.new-steps.ensures, refl, c.in_ok-answer.ensures)

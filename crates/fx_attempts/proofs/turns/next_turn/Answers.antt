@@ -1,6 +1,6 @@
 use Rattle.fx_step.specs.StepView.{step_view}
 use Rattle.fx_attempts.proofs.Better.{stands_next}
-use Rattle.fx_attempts.proofs.plain.next_turn.Goals as goal
+use Rattle.fx_attempts.proofs.turns.next_turn.Goals as goal
 
 pub returns : goal.returns
 returns c = λ done stands.

@@ -1,5 +1,5 @@
 use Rattle.fx_attempts.proofs.Better.{stands_first}
-use Rattle.fx_attempts.proofs.plain.first_turn.Goals as goal
+use Rattle.fx_attempts.proofs.turns.first_turn.Goals as goal
 
 pub returns : goal.returns
 returns c =

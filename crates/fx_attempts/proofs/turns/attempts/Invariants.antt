@@ -3,7 +3,7 @@ use Rattle.fx_inequalities.specs.Rewriting.{Rewriting}
 use Rattle.fx_rewrite.specs.Left.{left}
 use Rattle.fx_rules.specs.SingleSteps.{single_steps}
 use Rattle.fx_attempts.specs.Turns.{IsBestAfter}
-use Rattle.fx_attempts.proofs.plain.attempts.Given as goal
+use Rattle.fx_attempts.proofs.turns.attempts.Given as goal
 
 -- so many steps were looked at, the others are left, and the answer stands after those
 abbrev pub invariant-loop-turn : goal.invariant-loop-turn

@@ -1,0 +1,86 @@
+//! The first answer: the plan of a class in which one always serves, passed through the checker.
+//!
+//! That a plan is accepted and which bounds it has are laws, so that the checker's answer can only be want of memory.
+ghost use Rattle.std.specs.Prelude.{◌≡◌, ◌≢◌, None, Contains, IfOk, IfSome, option_map};
+ghost use Rattle.fx_model.specs.LawfulProgram.{widths};
+ghost use Rattle.fx_weight.specs.Laws.{IsInClass};
+ghost use Rattle.fx_weight.specs.OutsideView.{outside_view};
+ghost use Rattle.fx_weight.specs.PlainClass.{outside_of, output_power};
+ghost use Rattle.fx_calm_numbers.specs.Calm.{numbers_of, IsCalm};
+ghost use Rattle.fx_attempts.specs.Bounds.{AreWithinPowers};
+ghost use Rattle.fx_attempts.specs.Turns.{SuitsIfAny};
+ghost use Rattle.fx_checker.specs.Answers.{IsAnswerFor};
+
+use fx_calm::{CalmFault, calm_plan};
+use fx_calm_plan::calm_law;
+use fx_checker::{Certified, check};
+use fx_expr::Function;
+use fx_num::Memory;
+use fx_weight::{Outside, WeightFault, bound_law, class_law, plain_plan};
+use std::alloc::Global;
+
+// The plain plan, certified.
+fn plain_answer(alloc: Global, function: &Function, width: u32) -> Result<Certified, Memory>
+    requires width { Contains widths width }
+    requires class { IsInClass width function.now }
+    ensures answer { IfOk result (IsAnswerFor width function.now) }
+    ensures bounded { IfOk result (λ a. AreWithinPowers function.now a.program a.certificate (output_power width function.now)) }
+{
+    class_law();
+    bound_law();
+    let (program, certificate) = match plain_plan(alloc, function, width) {
+        Ok(plan) => plan,
+        Err(WeightFault::NotModest { .. }) => unreachable!(),
+        Err(WeightFault::Memory) => return Err(Memory),
+    };
+    match check(alloc, function, program, certificate) {
+        Ok(certified) => Ok(certified),
+        // the plan is accepted, so only memory was wanting
+        Err(_) => Err(Memory),
+    }
+}
+
+// The calm plan, certified, where the function is calm.
+fn calm_answer(
+    alloc: Global,
+    function: &Function,
+    width: u32,
+) -> Result<Option<Certified>, Memory>
+    requires width { Contains widths width }
+    ensures answer { IfOk result (λ o. IfSome o (IsAnswerFor width function.now)) }
+    ensures bounded { IfOk result (λ o. IfSome o (λ a. AreWithinPowers function.now a.program a.certificate (λ j. (numbers_of width function.now).z))) }
+    ensures calm { IfOk result (λ o. IfSome o (λ a. IsCalm width function.now)) }
+    ensures none { IfOk result (λ o. o ≡ None → IsCalm width function.now → ⊥) }
+{
+    calm_law();
+    let (program, certificate) = match calm_plan(alloc, function, width) {
+        Ok(plan) => plan,
+        Err(CalmFault::NotCalm) => return Ok(None),
+        Err(CalmFault::Memory) => return Err(Memory),
+    };
+    match check(alloc, function, program, certificate) {
+        Ok(certified) => Ok(Some(certified)),
+        // the plan is accepted, so only memory was wanting
+        Err(_) => Err(Memory),
+    }
+}
+
+/// The first answer: the plain plan where it serves the function, else the calm plan where the function is calm.
+pub fn first_answer(
+    alloc: Global,
+    function: &Function,
+    width: u32,
+    outside: Option<Outside>,
+) -> Result<Option<Certified>, Memory>
+    requires width { Contains widths width }
+    requires outside { option_map outside_view outside ≡ outside_of width function.now }
+    requires class { outside ≡ None → IsInClass width function.now }
+    ensures { IfOk result (SuitsIfAny width function.now) }
+{
+    if outside.is_some() {
+        let answer = calm_answer(alloc, function, width)?;
+        return Ok(answer);
+    }
+    let certified = plain_answer(alloc, function, width)?;
+    Ok(Some(certified))
+}
