@@ -1,2 +1,3 @@
 pub mod Better
 mod Outcomes
+mod Promised

@@ -1,0 +1,61 @@
+-- The plan that serves a function keeps what is promised of it.
+use Rattle.std.proofs.Common.{◌≡◌, ℕ, Bool, true, false, Option, Some, None, refl, sym, subst, ◌∙◌}
+use Rattle.std.specs.Prelude.{ℤ, is_some, IfSome}
+use Rattle.std.specs.Option.{option_map}
+use Rattle.fx_model.specs.Function.{Function}
+use Rattle.fx_weight.specs.PlainClass.{Outside, outside_of, output_power}
+use Rattle.fx_calm_numbers.specs.Calm.{is_calm, numbers_of, IsCalm}
+use Rattle.fx_checker.specs.Answers.{IsAnswerFor}
+use Rattle.fx_checker.specs.CertifiedView.{Accepted}
+use Rattle.fx_attempts.specs.Bounds.{powers_by, promised_powers, AreWithinPowers}
+use Rattle.fx_attempts.specs.Turns.{Suits, SuitsIfAny}
+
+module _ (n : ℕ) (fn : Function) where
+  by_plans : Option Outside → Bool → Option (ℕ → ℤ)
+  by_plans outside calm = powers_by outside calm (output_power n fn) (λ j. (numbers_of n fn).z)
+
+  -- where the plain plan serves
+  pub plain_suits_first : (a : Accepted) → outside_of n fn ≡ None → IsAnswerFor n fn a → AreWithinPowers fn a.program a.certificate (output_power n fn) → Suits n fn a
+  plain_suits_first a inside own within = record {
+    answer = own;
+    bounded = subst (λ o. IfSome (by_plans o (is_calm n fn)) (AreWithinPowers fn a.program a.certificate)) (sym inside) within;
+    no_worse = λ none. absurd (some_none (subst (λ o. by_plans o (is_calm n fn) ≡ None) inside none));
+  }
+    where
+      some_none : {v : ℕ → ℤ} → Some v ≡ None → ⊥
+      some_none e = absurd cc
+
+  -- where it doesn't, and the function is calm
+  calm_suits : (a : Accepted) (reason : Outside) → outside_of n fn ≡ Some reason → IsCalm n fn → IsAnswerFor n fn a → AreWithinPowers fn a.program a.certificate (λ j. (numbers_of n fn).z) → Suits n fn a
+  calm_suits a reason outside calm own within = record {
+    answer = own;
+    bounded = subst (λ o. IfSome (by_plans o (is_calm n fn)) (AreWithinPowers fn a.program a.certificate)) (sym outside)
+        (subst (λ t. IfSome (by_plans (Some reason) t) (AreWithinPowers fn a.program a.certificate)) (sym calm) within);
+    no_worse = λ none. absurd (some_none (subst (λ t. by_plans (Some reason) t ≡ None) calm (subst (λ o. by_plans o (is_calm n fn) ≡ None) outside none)));
+  }
+    where
+      some_none : {v : ℕ → ℤ} → Some v ≡ None → ⊥
+      some_none e = absurd cc
+
+  -- neither serves
+  unpromised : (reason : Outside) → outside_of n fn ≡ Some reason → (IsCalm n fn → ⊥) → promised_powers n fn ≡ None
+  unpromised reason outside uncalm = subst (λ o. by_plans o (is_calm n fn) ≡ None) (sym outside) (by (is_calm n fn) refl)
+    where
+      by : (t : Bool) → is_calm n fn ≡ t → by_plans (Some reason) t ≡ None
+      by true e = absurd (uncalm e)
+      by false e = refl
+
+  -- what the calm plan comes to, where the plain one doesn't serve
+  pub calm_suits_first : (o : Option Accepted) (reason : Outside) → outside_of n fn ≡ Some reason → IfSome o (IsAnswerFor n fn) → IfSome o (λ a. AreWithinPowers fn a.program a.certificate (λ j. (numbers_of n fn).z))
+      → IfSome o (λ a. IsCalm n fn) → (o ≡ None → IsCalm n fn → ⊥) → SuitsIfAny n fn o
+  calm_suits_first None reason outside own within calm uncalm = unpromised reason outside (uncalm refl)
+  calm_suits_first (Some a) reason outside own within calm uncalm = calm_suits a reason outside calm own within
+
+-- what a value is seen as, where there is one
+pub view_of_some : {A B : Type 0} (f : A → B) (o : Option A) (seen : Option B) → option_map f o ≡ seen → is_some o ≡ true → (b : B) × (seen ≡ Some b)
+view_of_some f None seen e some = absurd cc
+view_of_some f (Some a) seen e some = (f a, sym e)
+
+pub view_of_none : {A B : Type 0} (f : A → B) (o : Option A) (seen : Option B) → option_map f o ≡ seen → is_some o ≡ false → seen ≡ None
+view_of_none f None seen e none = sym e
+view_of_none f (Some a) seen e none = absurd cc
