@@ -1,7 +1,6 @@
 -- What a calm function's test says, one by one.
-use Rattle.std.proofs.Common.{◌≡◌, ℕ, zero, suc, ◌+◌, ◌-◌, ◌<◌, ◌≤◌, max, nat_le, Bool, true, false, ◌&&◌, if◌then◌else◌, List, [], ◌∷◌, length, get_or, int_le, ℤ, pos, negsuc, ◌+ℤ◌, ◌-ℤ◌, ◌≤ℤ◌, refl, arith}
+use Rattle.std.proofs.Common.{◌≡◌, ℕ, ◌+◌, ◌-◌, ◌<◌, ◌≤◌, max, nat_le, Bool, true, false, ◌&&◌, if◌then◌else◌, List, [], ◌∷◌, length, get_or, int_le, pos, negsuc, ◌+ℤ◌, ◌-ℤ◌, ◌≤ℤ◌, refl, arith}
 use Rattle.std.specs.List.{list_all}
-use Rattle.std.specs.Prelude.{All}
 use Rattle.std.proofs.lemmas.Int.{ints}
 use Rattle.std.proofs.lemmas.Bool.{and_parts}
 use Rattle.std.proofs.lemmas.List.Sums.{AllPass-from_list_all}
@@ -9,7 +8,6 @@ use Rattle.fx_rational.specs.Rational.{Rational, whole, over, plus, times, AtMos
 use Rattle.fx_rational.specs.Dyadic.{dyadic_value}
 use Rattle.fx_rational.proofs.Ring.{by_quotes, quotes}
 use Rattle.fx_rational.proofs.Laws.{equal_refl, equal_sym, le_trans, le_of_equal, plus_le, ordered, Nonneg, times_same, plus_same}
-use Rattle.fx_rational.proofs.Tests.{at_most_true}
 use Rattle.fx_rational.proofs.Powers.{power}
 use Rattle.fx_fraction.proofs.Ranges.{true_le}
 use Rattle.fx_model.specs.Tree.{Tree, at}

@@ -8,7 +8,7 @@ use Rattle.fx_model.specs.Function as function
 use Rattle.fx_model.specs.Function.{Function}
 use Rattle.fx_model.proofs.Widths.{IsWordWidth, width_of}
 use Rattle.fx_sizes.specs.Demands.{allows}
-use Rattle.fx_sizes.proofs.Searches.{first_is_true, first_is_least, first_at_least}
+use Rattle.fx_sizes.proofs.Searches.{first_is_true, first_is_least, first_at_least, first_at_most}
 use Rattle.fx_calm_numbers.specs.Calm.{Numbers, first_from, bounds_starts, bounds_sizes, bounds_values, bounds_errors, numbers, numbers_of, next_trees, is_short, is_contracting, is_calm_with, IsCalm}
 use Rattle.fx_calm_numbers.specs.Laws.{IsLeastFrom, point_at, IsCalmWith, HasCalmNumbers, CalmTestLaw}
 use Rattle.fx_calm_numbers.proofs.Calmness.{no_temps, some_state, demands, room, whole_width, starts_true, sizes_true, values_true, errors_true, linear_true, contracting_true}

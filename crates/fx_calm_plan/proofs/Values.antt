@@ -1,21 +1,15 @@
 -- What written units stand for, and comparisons of them with fractions.
-use Rattle.std.proofs.Common.{◌≡◌, ℕ, suc, ◌+◌, ◌-◌, ◌^◌, ◌<◌, Bool, true, false, if◌then◌else◌, [], ◌∷◌, ℤ, pos, negsuc, ◌*ℤ◌, neg_ℤ, ◌≤ℤ◌, refl, sym, ap, subst, ◌∙◌, arith, pow_pos}
-use Rattle.std.specs.Prelude.{unsigned_abs}
-use Rattle.std.proofs.lemmas.Int.{ints}
-use Rattle.fx_algebra.proofs.Order.{mul_le_right}
-use Rattle.fx_rational.specs.Rational.{Rational, bottom, whole, plus, minus, times, negative, scaled, floor, Equal, AtMost, is_at_most}
-use Rattle.fx_rational.specs.Dyadic.{dyadic_value, dyadic}
+use Rattle.std.proofs.Common.{ℕ, ◌+◌, ◌^◌, [], ◌∷◌, ℤ, pos, neg_ℤ, refl, sym, subst, pow_pos}
+use Rattle.fx_rational.specs.Rational.{Rational, whole, plus, minus, times, negative, scaled, floor, Equal, AtMost}
+use Rattle.fx_rational.specs.Dyadic.{dyadic_value}
 use Rattle.fx_rational.proofs.Ring.{by_quotes, quotes}
-use Rattle.fx_rational.proofs.Laws.{equal_refl, equal_sym, equal_trans, le_refl, le_trans, le_of_equal, plus_le, times_le, negative_le, gap, ordered, nonneg_plus, Nonneg, nonneg_from, times_same, plus_same, minus_same, negative_same}
-use Rattle.fx_rational.proofs.Tests.{at_most_true, at_most_false}
+use Rattle.fx_rational.proofs.Laws.{equal_refl, equal_sym, equal_trans, le_trans, le_of_equal, times_le, negative_le, gap, ordered, nonneg_plus, nonneg_times, times_same, plus_same, minus_same, negative_same}
 use Rattle.fx_rational.proofs.Quotient.{above_nonneg}
 use Rattle.fx_rational.proofs.Floors.{floor_floors, floor-greatest}
-use Rattle.fx_rational.proofs.Dyadics.{as_written, dyadic_exponent}
+use Rattle.fx_rational.proofs.Dyadics.{as_written}
 use Rattle.fx_rational.proofs.Powers.{power, power_above, unit, unit_above, unit_power, over_scaled, scaled_is, whole_order}
-use Rattle.fx_model.specs.Machine.{word_value}
-use Rattle.fx_bounds.proofs.Words.{word_at_is, word_is, unit_at_is}
-use Rattle.fx_bounds.proofs.Losses.{Lost, input_lost}
-use Rattle.fx_inequalities.specs.Formula.{Formula, Num, Sum, Difference, formula_value, word_at, unit_at}
+use Rattle.fx_bounds.proofs.Words.{unit_at_is}
+use Rattle.fx_inequalities.specs.Formula.{Num, Sum, Difference, formula_value, word_at, unit_at}
 use Rattle.fx_rounding.specs.Grid.{lowest_dyadic}
 use Rattle.fx_rounding.proofs.Grids.{lowest_dyadic_is}
 use Rattle.fx_sizes.specs.Powers.{magnitude}
@@ -83,7 +77,7 @@ word_up_to x r f h =
     }
   where
     low_part : AtMost (negative (times (magnitude x) (power f))) (times x (power f))
-    low_part = ordered (Rattle.fx_rational.proofs.Laws.nonneg_times (gap (magnitude_below x)) (above_nonneg (power_above f))) (by_quotes {ρ = x ∷ magnitude x ∷ power f ∷ []} (search quotes depth 20) (search quotes depth 20) refl)
+    low_part = ordered (nonneg_times (gap (magnitude_below x)) (above_nonneg (power_above f))) (by_quotes {ρ = x ∷ magnitude x ∷ power f ∷ []} (search quotes depth 20) (search quotes depth 20) refl)
 
 -- a word less one unit isn't above what it is the floor of, and a unit more isn't below
 pub word_low : (x : Rational) (f : ℕ) → AtMost (formula_value (Difference (word_at (floor (scaled x (pos f))) (pos f)) (Num (lowest_dyadic (pos 1) f)))) x
