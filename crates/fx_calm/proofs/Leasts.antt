@@ -54,3 +54,7 @@ least_both fn one other first last w v h g =
 pub both_ok : {E : Type 0} (fn : Function) (one other : Limit) (first last w : ℕ) (r : Result ℕ E) → IsLeast fn one first last (count_of fn one) w → IfOk r (λ v. IsLeast fn other w last (count_of fn other) v) → IfOk r (λ v. IsLeastOfBoth fn one other first last v)
 both_ok fn one other first last w (Ok v) h g = least_both fn one other first last w v h g
 both_ok fn one other first last w (Err e) h g = tt
+
+-- ---- what holds of those before and of the next
+pub one_more : (P : ℕ → Type 0) (k : ℕ) → ((j : ℕ) → j < k → P j) → P k → (j : ℕ) → j < k + 1 → P j
+one_more P k before own j lt = ⊎_elim (λ (less : j < k). before j less) (λ (same : j ≡ k). subst P (sym same) own) (before_or_last j k lt)

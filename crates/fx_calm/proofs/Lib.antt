@@ -4,3 +4,6 @@ pub mod Tests
 pub mod Limits
 pub mod Leasts
 pub mod Found
+pub mod Walked
+pub mod Placed
+pub mod Rows

@@ -6,9 +6,11 @@ use Rattle.std.proofs.Math.Nat.{zero-div, div-eq_of_lt, add-div_right}
 use Rattle.fx_rational.specs.Rational.{Rational, bottom, over, whole, is_at_most, ceil_div, scaled, AtMost}
 use Rattle.fx_rational.specs.Decimal.{Decimal, decimal_value}
 use Rattle.fx_rational.proofs.Lowest.{suc_pred}
+use Rattle.fx_rational.proofs.Floors.{ceiling_is}
 use Rattle.fx_rational.proofs.Powers.{power}
 use Rattle.fx_sizes.specs.Powers.{magnitude, greater}
-use Rattle.fx_calm_numbers.specs.Bounds.{units_up}
+use Rattle.fx_sizes.specs.Narrow.{IsNarrowNumber}
+use Rattle.fx_calm_numbers.specs.Bounds.{units_up, shifted_up}
 
 -- ---- what they are
 pub fraction_size : (c : Rational) → over (pos (unsigned_abs c.top)) (bottom c) ≡ magnitude c
@@ -62,3 +64,17 @@ top_at_most q k u h = by q.top (unsigned_abs q.top) (bottom q) (2 ^ k) u h.at_mo
   where
     by : (t : ℤ) (n b p : ℕ) → pos n ≡ t → (t *ℤ pos 1) ≤ℤ (pos p *ℤ pos b) → n ≤ b * p
     by t n b p e l = let r : p * b ≡ b * p = omega arith in omega (arith, ints, e, l, r)
+
+-- ---- a whole number is its own ceiling
+pub ceil_one : (z : ℤ) → ceil_div z 1 ≡ z
+ceil_one z = let h = ceiling_is z 1 (omega arith) in let a = h.not_below in let b = h.least in omega (arith, ints, a, b)
+
+-- ---- a shift
+pub shifted_code : (f n d : ℕ) → d ≡ 2 ^ f → (n + (d - 1)) / d ≡ shifted_up f n
+unfolding shifted_up
+shifted_code f n d e = ap (λ (k : ℕ). (n + (k - 1)) / k) e
+
+-- ---- what has a size is narrow
+pub narrow_size : (t b : ℕ) (q : Rational) → 0 < b → b < 2 ^ 62 → over (pos t) b ≡ magnitude q → IsNarrowNumber q
+unfolding over
+narrow_size t b q some few e = let s = suc_pred b some in let g : suc (pred b) ≡ bottom q = ap bottom e in omega (arith, s, g, few)

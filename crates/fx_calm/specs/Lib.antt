@@ -3,3 +3,4 @@ pub mod SumOf
 pub mod TermOf
 pub mod LimitOf
 pub mod NumbersOf
+pub mod BoundOf

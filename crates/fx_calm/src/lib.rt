@@ -7,11 +7,20 @@
 //! The trap: the sums of sizes are exact fractions. Terms of different denominators have no common one of 128 bits.
 #![tactic(auto)]
 
+mod bound;
+mod code;
+mod fault;
 mod least;
 mod limit;
+mod line;
+mod narrow;
 mod numbers;
+mod plan;
 mod size;
 mod sum;
 mod terms;
+mod walk;
 
+pub use fault::CalmFault;
 pub use numbers::{Numbers, find_numbers};
+pub use plan::calm_plan;
