@@ -1,0 +1,9 @@
+pub mod Sizes
+pub mod Counted
+pub mod Tests
+pub mod Limits
+pub mod Leasts
+pub mod Found
+pub mod Walked
+pub mod Placed
+pub mod Rows

@@ -1,0 +1,91 @@
+-- The plan's numbers in code: bounds have 61 bits, and words 64.
+use Rattle.std.proofs.Common.{◌≡◌, ℕ, ◌+◌, ◌^◌, ◌<◌, ◌≤◌, List, [], ◌∷◌, length, get_or, ℤ, pos, negsuc, neg_ℤ, ◌≤ℤ◌, ◌+ℤ◌, ◌-ℤ◌, FitsSigned, refl, sym, ap, subst, ◌∙◌, arith}
+use Rattle.std.specs.Prelude.{All, Contains}
+use Rattle.std.specs.Int.{w64}
+use Rattle.std.proofs.lemmas.Int.{ints}
+use Rattle.std.proofs.lemmas.List.Elements.{All-nil, All-cons, All-from_get_or}
+use Rattle.fx_rational.specs.Rational.{Rational, floor, scaled}
+use Rattle.fx_model.specs.Function as function
+use Rattle.fx_model.specs.Function.{Function}
+use Rattle.fx_model.specs.LawfulProgram.{widths}
+use Rattle.fx_model.specs.Nodes.{Node, Input, State, Const, Neg, Add, Sub, Mul, Div, Copy, nodes_of}
+use Rattle.fx_model.proofs.Widths.{width_of}
+use Rattle.fx_inequalities.specs.Accepted.{start_of}
+use Rattle.fx_sizes.specs.Powers.{magnitude}
+use Rattle.fx_sizes.proofs.Powers.{power_more}
+use Rattle.fx_sizes.proofs.Values.{magnitude_nonneg}
+use Rattle.fx_sizes.proofs.Sizes.{IsUpTo}
+use Rattle.fx_sizes.proofs.Pairs.{ArePairs}
+use Rattle.fx_calm_numbers.specs.Calm.{Numbers, numbers_of, IsCalm}
+use Rattle.fx_calm_numbers.specs.Bounds.{Bound, no_bound, units_up, const_bound}
+use Rattle.fx_calm_numbers.proofs.Calmness.{room}
+use Rattle.fx_calm_numbers.proofs.Rounded.{units_above}
+use Rattle.fx_calm_plan.specs.CalmPlan.{bounds_of}
+use Rattle.fx_calm_plan.specs.Laws.{IsNarrowFunction}
+use Rattle.fx_calm_plan.proofs.Folded.{IsNodeBound}
+use Rattle.fx_calm_plan.proofs.Limited.{limited}
+use Rattle.fx_calm_plan.proofs.Values.{word_up_to}
+use Rattle.fx_calm_plan.proofs.Whole.{pairs, start_limited}
+use Rattle.fx_calm.specs.BoundOf.{IsShort, HasPlace, HasWord, HaveShortStarts}
+
+-- what is at most 2^61 units has a word
+word_fits : (x : Rational) (f : ℕ) → units_up f (magnitude x) ≤ 2 ^ 61 → FitsSigned w64 (floor (scaled x (pos f)))
+word_fits x f few =
+    let h = word_up_to x (units_up f (magnitude x)) f (units_above f (magnitude x) (magnitude_nonneg x)) in
+    go (floor (scaled x (pos f))) (units_up f (magnitude x)) h.low h.high few
+  where
+    go : (z : ℤ) (r : ℕ) → neg_ℤ (pos r) ≤ℤ z → z ≤ℤ pos r → r ≤ 2 ^ 61 → FitsSigned w64 z
+    go (pos k) r low high few = record { sfits = omega (arith, ints, high, few) }
+    go (negsuc k) r low high few = record { sfits = omega (arith, ints, low, few) }
+
+module _ (n : ℕ) (fn : Function) (some : Contains widths n) (narrow : IsNarrowFunction fn) (calm : IsCalm n fn) where
+  abbrev c : Numbers
+  c = numbers_of n fn
+
+  abbrev bs : List Bound
+  bs = bounds_of c fn
+
+  units_few : {k : ℕ} → k ≤ 2 ^ (c.m + c.f) → k ≤ 2 ^ 61
+  units_few l = let w = (room n fn (width_of n some) calm).width in let m = power_more {a = c.m + c.f} {b = 61} w in omega (arith, l, m)
+
+  pub place : HasPlace c
+  place =
+      let r = room n fn (width_of n some) calm in
+      by c.q c.a c.m c.f c.p _ c.v r.v r.roundings r.point r.states r.errors r.width
+    where
+      by : (q a m f p y : ℕ) (v : ℤ) → v ≡ pos y -ℤ pos f → m + 6 ≤ p → p + 2 ≤ f → q + 3 ≤ m → a + p + 5 + y ≤ m + f → m + f ≤ 61 → HasPlace (record { q = q; a = a; m = m; f = f; p = p; v = v; z = c.z })
+      by q a m f p y v e o l s x w = record {
+        point = omega (arith, s, w);
+        few = omega (arith, l, s, w);
+        states = omega (arith, s, w);
+        error_low = omega (arith, ints, e);
+        error_high = omega (arith, ints, e, x, w);
+      }
+
+  pub short : All IsShort bs
+  short = All-from_get_or IsShort bs no_bound (λ a lt. (let h = limited n fn some narrow calm a lt in record { r = units_few h.r; e = units_few h.e }))
+
+  pub short_starts : HaveShortStarts fn c.f
+  short_starts k lt = units_few (start_limited n fn some narrow calm k lt)
+
+  -- ---- words
+  node_word : (k : ℕ) (node : Node) (x : Bound) → IsNodeBound (length fn.states) c fn.inputs bs k node x → HasWord fn c.f node
+  node_word k (Input j) x h = tt
+  node_word k (State j) x h = let lt = h.ordered.1 in (lt, word_fits (start_of fn j) c.f (short_starts j lt))
+  node_word k (Const q) x h =
+      let own : IsShort (const_bound c.f q) = subst IsShort (h.at ∙ h.is) (short k no_bound h.below) in word_fits q c.f own.r
+  node_word k (Neg a) x h = tt
+  node_word k (Add a b) x h = tt
+  node_word k (Sub a b) x h = tt
+  node_word k (Mul a b) x h = tt
+  node_word k (Div a b) x h = tt
+  node_word k (Copy a) x h = tt
+
+  all_words : (k : ℕ) (nodes : List Node) (xs : List Bound) → ArePairs (IsNodeBound (length fn.states) c fn.inputs bs) k nodes xs → All (HasWord fn c.f) nodes
+  all_words k [] [] h = All-nil (HasWord fn c.f)
+  all_words k (node ∷ nodes) (x ∷ xs) h = All-cons (HasWord fn c.f) node nodes (node_word k node x h.0) (all_words (k + 1) nodes xs h.1)
+  all_words k [] (x ∷ xs) h = absurd h
+  all_words k (node ∷ nodes) [] h = absurd h
+
+  pub words : All (HasWord fn c.f) (nodes_of fn)
+  words = all_words 0 (nodes_of fn) bs (pairs n fn some narrow calm)

@@ -1,0 +1,13 @@
+use Rattle.std.proofs.Common.{sym, subst}
+use Rattle.std.specs.Prelude.{IfSome}
+use Rattle.std.specs.Option.{option_map}
+use Rattle.fx_rational.specs.Decimal.{decimal_value}
+use Rattle.fx_sizes.specs.Narrow.{IsNarrowNumber}
+use Rattle.fx_calm.proofs.Sizes.{narrow_size}
+use Rattle.fx_calm.proofs.narrow.narrow_error.Goals as goal
+
+pub returns-in-Some : goal.returns-in-Some
+returns-in-Some c =
+    let s = c.size_of_decimal-size.ensures.weight.size in
+    subst (λ o. IfSome (option_map decimal_value o) IsNarrowNumber) (sym c.in-Some.is)
+    (narrow_size c.size_of_decimal-size.result.top c.size_of_decimal-size.result.bottom (decimal_value c.in-Some.e) s.some s.few c.size_of_decimal-size.ensures.value)

@@ -1,0 +1,6 @@
+pub mod SizeOf
+pub mod SumOf
+pub mod TermOf
+pub mod LimitOf
+pub mod NumbersOf
+pub mod BoundOf

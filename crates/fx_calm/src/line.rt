@@ -1,0 +1,118 @@
+//! The lines of nodes, the boxes of states and the unit rows.
+
+ghost use Rattle.std.specs.Prelude.{◌≡◌, unsigned_abs, ◌+◌, ◌^◌, ◌<◌, ◌≤◌, length, [], map, All, IfOk};
+ghost use Rattle.fx_model.specs.Tree.{at};
+ghost use Rattle.fx_inequalities.specs.Accepted.{no_state, start_of};
+ghost use Rattle.fx_inequalities.specs.LawfulCertificate.{unit_vector};
+ghost use Rattle.fx_rounding.specs.Grid.{lowest_dyadic};
+ghost use Rattle.fx_sizes.specs.Powers.{magnitude};
+ghost use Rattle.fx_cert.specs.CertificateView.{line_view, row_view, rows_in, box_of, boxes_in};
+ghost use Rattle.fx_calm_numbers.specs.Bounds.{units_up};
+ghost use Rattle.fx_calm_plan.specs.CalmPlan.{units, calm_line, calm_start, unit_rows};
+ghost use Rattle.fx_calm.specs.BoundOf.{bound_of, bounds_in, HaveShortStarts};
+
+use crate::bound::Bound;
+use crate::limit::{start_at, state_count};
+use crate::size;
+use fx_cert::{NodeLine, Row, StartBox, unit_vector};
+use fx_expr::{Function, Items};
+use fx_interval::Interval;
+use fx_num::{Dyadic, Memory};
+use fx_rounding::up_quotient;
+use std::alloc::Global;
+
+/// `m / 2^f` in lowest terms.
+fn lowest(m: i128, f: u32) -> Dyadic
+    requires point { f ≤ 58 }
+    requires few { unsigned_abs m < 2 ^ 64 }
+    ensures { result ≡ lowest_dyadic m f }
+{
+    up_quotient(m, 1, f)
+}
+
+/// From `-r` to `r` units `2^-f`.
+pub fn span(r: u64, f: u32) -> Interval
+    requires { f ≤ 58 }
+    ensures { result ≡ units f r }
+{
+    Interval {
+        lo: lowest(-i128::from(r), f),
+        hi: lowest(i128::from(r), f),
+    }
+}
+
+/// The line of a node.
+fn line(b: Bound, f: u32) -> NodeLine
+    requires { f ≤ 58 }
+    ensures { line_view result ≡ calm_line f (bound_of b) }
+{
+    let range = span(b.r, f);
+    let error = span(b.e, f);
+    NodeLine {
+        range,
+        error,
+        form: None,
+    }
+}
+
+/// The lines of all nodes.
+pub fn lines(alloc: Global, bs: &[Bound], f: u32) -> Result<Vec<NodeLine>, Memory>
+    requires { f ≤ 58 }
+    ensures { IfOk result (λ ls. map line_view ls.items ≡ map (calm_line f) (bounds_in bs.now)) }
+{
+    let mut lines = Vec::new(alloc);
+    for i in 0..bs.len() {
+        lines.push(line(bs[i], f))?;
+    }
+    Ok(lines)
+}
+
+/// The box of state `k`.
+fn start(function: &Function, k: u32, f: u32) -> StartBox
+    requires within { k < length function.now.states }
+    requires point { f ≤ 58 }
+    requires short { units_up f (magnitude (start_of function.now k)) ≤ 2 ^ 61 }
+    ensures { box_of result ≡ calm_start f (at no_state function.now.states k) }
+{
+    let r = size::units(start_at(function, k), f);
+    StartBox {
+        range: span(r as u64, f),
+        error: span(1, f),
+    }
+}
+
+/// The boxes of all states.
+pub fn starts(alloc: Global, function: &Function, f: u32) -> Result<Vec<StartBox>, Memory>
+    requires point { f ≤ 58 }
+    requires short { HaveShortStarts function.now f }
+    ensures { IfOk result (λ boxes. boxes_in boxes.items ≡ map (calm_start f) function.now.states) }
+{
+    let mut boxes = Vec::new(alloc);
+    for k in 0..state_count(function) {
+        boxes.push(start(function, k, f))?;
+    }
+    Ok(boxes)
+}
+
+/// The unit row of state `i`.
+fn row(alloc: Global, states: u32, bound: Interval, i: u32) -> Result<Row, Memory>
+    requires { i < states }
+    ensures { IfOk result (λ r. row_view r ≡ record { coefs = unit_vector states i; bound = bound; shares = [] }) }
+{
+    Ok(Row {
+        coefs: unit_vector(alloc, states, i)?,
+        bound,
+        shares: Items::from_vec(Vec::new(alloc)),
+    })
+}
+
+/// The unit rows of so many states, all with one bound.
+pub fn rows(alloc: Global, states: u32, bound: Interval) -> Result<Vec<Row>, Memory>
+    ensures { IfOk result (λ rows. rows_in rows.items ≡ unit_rows states bound 0 states) }
+{
+    let mut rows = Vec::new(alloc);
+    for i in 0..states {
+        rows.push(row(alloc, states, bound, i)?)?;
+    }
+    Ok(rows)
+}

@@ -1,0 +1,120 @@
+//! The calm plan of a calm function.
+
+ghost use Rattle.std.specs.Prelude.{◌≡◌, map, All, Contains, IfOk, OnOk, IfErr};
+ghost use Rattle.fx_model.specs.LawfulProgram.{widths, IsLawfulProgram};
+ghost use Rattle.fx_model.specs.Nodes.{nodes_of};
+ghost use Rattle.fx_program.specs.CodeView.{code_of};
+ghost use Rattle.fx_cert.specs.CertificateView.{certificate_of};
+ghost use Rattle.fx_calm_numbers.specs.Calm.{numbers_of, IsCalm};
+ghost use Rattle.fx_calm_plan.specs.CalmPlan.{calm_code, calm_program, calm_certificate, bounds_of};
+ghost use Rattle.fx_calm_plan.specs.Laws.{IsNarrowFunction};
+ghost use Rattle.fx_calm.specs.declared.fault.CalmFault.TheVariants as fault;
+ghost use Rattle.fx_calm.specs.NumbersOf.{numbers_view};
+ghost use Rattle.fx_calm.specs.BoundOf.{bounds_in, HasPlace, HaveShortStarts, certificate_with};
+
+use crate::bound::{Bound, state_of};
+use crate::code::codes;
+use crate::fault::CalmFault;
+use crate::limit::state_count;
+use crate::line::{lines, rows, span, starts};
+use crate::narrow::narrow_function;
+use crate::numbers::{Numbers, find_numbers};
+use crate::walk::bounds;
+use fx_cert::Certificate;
+use fx_expr::{Function, Items};
+use fx_flat::flatten;
+use fx_num::Memory;
+use fx_program::{Code, Program};
+use fx_weight::{input_count, output_count};
+use std::alloc::Global;
+
+/// The program of these codes.
+fn program(
+    alloc: Global,
+    function: &Function,
+    width: u32,
+    codes: Vec<Code>,
+) -> Result<Program, Memory>
+    requires lawful { IsLawfulProgram (calm_program width function.now) }
+    requires codes { map code_of codes.items ≡ map (calm_code function.now (numbers_of width function.now).f) (nodes_of function.now) }
+    ensures { IfOk result (λ p. p ≡ calm_program width function.now) }
+{
+    function.keeps();
+    let name = function.name.copy(alloc)?;
+    let inputs = input_count(function);
+    let states = state_count(function);
+    let outputs = output_count(function);
+    Program::new(alloc, 1, width, name, inputs, states, outputs, codes)
+}
+
+/// The certificate of these bounds.
+fn certificate(
+    alloc: Global,
+    function: &Function,
+    c: Numbers,
+    bs: &[Bound],
+) -> Result<Certificate, Memory>
+    requires place { HasPlace (numbers_view c) }
+    requires starts { HaveShortStarts function.now c.f }
+    requires bounds { bounds_in bs.now ≡ bounds_of (numbers_view c) function.now }
+    ensures { IfOk result (λ t. certificate_of t ≡ certificate_with (numbers_view c) function.now) }
+{
+    let inputs = input_count(function);
+    let states = state_count(function);
+    let own = state_of(c);
+    let starts = starts(alloc, function, c.f)?;
+    let values = rows(alloc, states, span(own.r, c.f))?;
+    let errors = rows(alloc, states, span(own.e, c.f))?;
+    let lines = lines(alloc, bs, c.f)?;
+    Ok(Certificate {
+        inputs,
+        states,
+        steps: Items::from_vec(Vec::new(alloc)),
+        starts: Items::from_vec(starts),
+        rows: Items::from_vec(values),
+        error_rows: Items::from_vec(errors),
+        lines: Items::from_vec(lines),
+    })
+}
+
+/// The plan of a calm function with these numbers.
+fn plan_of(
+    alloc: Global,
+    function: &Function,
+    width: u32,
+    c: Numbers,
+) -> Result<(Program, Certificate), Memory>
+    requires width { Contains widths width }
+    requires calm { IsCalm width function.now }
+    requires numbers { numbers_view c ≡ numbers_of width function.now }
+    ensures program { IfOk result (λ r. r.0 ≡ calm_program width function.now) }
+    ensures certificate { IfOk result (λ r. certificate_of r.1 ≡ calm_certificate width function.now) }
+    ensures narrow { OnOk result (IsNarrowFunction function.now) }
+{
+    let nodes = flatten(alloc, function)?;
+    narrow_function(function, nodes.list.as_slice());
+    let bs = bounds(alloc, nodes.list.as_slice(), function, c)?;
+    let codes = codes(alloc, nodes.list.as_slice(), function, c.f)?;
+    let program = program(alloc, function, width, codes)?;
+    let certificate = certificate(alloc, function, c, &bs)?;
+    Ok((program, certificate))
+}
+
+/// The calm plan of a function that is calm at a width.
+pub fn calm_plan(
+    alloc: Global,
+    function: &Function,
+    width: u32,
+) -> Result<(Program, Certificate), CalmFault>
+    requires { Contains widths width }
+    ensures program { IfOk result (λ r. r.0 ≡ calm_program width function.now) }
+    ensures certificate { IfOk result (λ r. certificate_of r.1 ≡ calm_certificate width function.now) }
+    ensures calm { OnOk result (IsCalm width function.now) }
+    ensures narrow { OnOk result (IsNarrowFunction function.now) }
+    ensures not_calm { IfErr result (λ e. e ≡ fault.NotCalm → IsCalm width function.now → ⊥) }
+{
+    match find_numbers(alloc, function, width)? {
+        Some(c) => Ok(plan_of(alloc, function, width, c)?),
+        None => Err(CalmFault::NotCalm),
+    }
+}

@@ -1,0 +1,4 @@
+pub mod Division
+pub mod Turned
+pub mod Decided
+mod Worked
