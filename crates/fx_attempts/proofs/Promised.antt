@@ -11,7 +11,7 @@ use Rattle.fx_attempts.specs.Bounds.{powers_by, promised_powers, AreWithinPowers
 use Rattle.fx_attempts.specs.Turns.{Suits, SuitsIfAny}
 
 module _ (n : ℕ) (fn : Function) where
-  by_plans : Option Outside → Bool → Option (ℕ → ℤ)
+  abbrev by_plans : Option Outside → Bool → Option (ℕ → ℤ)
   by_plans outside calm = powers_by outside calm (output_power n fn) (λ j. (numbers_of n fn).z)
 
   -- where the plain plan serves

@@ -20,6 +20,7 @@ use fx_weight::{Outside, WeightFault, bound_law, class_law, plain_plan};
 use std::alloc::Global;
 
 // The plain plan, certified.
+#[tactic(auto, unfolding(fx_sizes::specs::Powers::power_value))]
 fn plain_answer(alloc: Global, function: &Function, width: u32) -> Result<Certified, Memory>
     requires width { Contains widths width }
     requires class { IsInClass width function.now }
