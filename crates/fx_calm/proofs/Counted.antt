@@ -1,16 +1,14 @@
 -- Terms as parts of exact sums.
-use Rattle.std.proofs.Common.{◌≡◌, ℕ, zero, suc, ◌+◌, ◌*◌, ◌^◌, ◌<◌, ◌≤◌, nat_le, Bool, true, false, ◌&&◌, if◌then◌else◌, List, [], ◌∷◌, ◌++◌, map, length, ℤ, pos, negsuc, ◌*ℤ◌, refl, sym, ap, subst, ◌∙◌, arith, pow-add}
+use Rattle.std.proofs.Common.{◌≡◌, ℕ, ◌*◌, ◌^◌, ◌<◌, ◌≤◌, Bool, true, List, [], ◌∷◌, map, pos, ◌*ℤ◌, refl, sym, ap, subst, ◌∙◌, arith, pow-add}
 use Rattle.std.specs.Prelude.{unsigned_abs, All, Result, Ok, Err, OnOk}
-use Rattle.std.specs.List.{list_all}
 use Rattle.std.proofs.lemmas.Bool.{and_parts}
 use Rattle.std.proofs.lemmas.Nat.{mul-le}
 use Rattle.std.proofs.lemmas.Int.{ints}
 use Rattle.std.proofs.Math.Nat.{mul-pos}
-use Rattle.std.proofs.lemmas.List.{length-map}
 use Rattle.std.proofs.lemmas.List.Elements.{All-nil, All-cons, All-append, All-head, All-tail}
 use Rattle.fx_rational.specs.Rational.{Rational, bottom, whole, over, plus, times, Equal, AtMost, is_at_most}
 use Rattle.fx_rational.proofs.Ring.{by_quotes, quotes}
-use Rattle.fx_rational.proofs.Laws.{equal_refl, equal_sym, equal_trans, le_trans, le_of_equal, plus_same, times_same, ordered, gap, Nonneg}
+use Rattle.fx_rational.proofs.Laws.{equal_refl, equal_sym, equal_trans, le_trans, le_of_equal, plus_same, times_same}
 use Rattle.fx_rational.proofs.Lowest.{suc_pred}
 use Rattle.fx_rational.proofs.Tests.{at_most_true}
 use Rattle.fx_rational.proofs.Powers.{power, whole_le}
@@ -19,13 +17,13 @@ use Rattle.fx_model.specs.Tree.{Tree}
 use Rattle.fx_model.specs.Function.{Function}
 use Rattle.fx_sizes.specs.Powers.{power_value, magnitude}
 use Rattle.fx_sizes.proofs.Powers.{power_more, whole_value_is}
-use Rattle.fx_calm_numbers.specs.Linear.{Term, Alone, OfInput, OfState, is_scaled, is_linear, scaled_term, terms_of, total, input_size, state_size, literal_size, input_reach, are_literals_below}
-use Rattle.fx_calm_numbers.specs.Calm.{reach_at, is_short}
+use Rattle.fx_calm_numbers.specs.Linear.{Term, Alone, OfInput, OfState, scaled_term, terms_of, total, input_size, state_size, literal_size, input_reach, are_literals_below}
+use Rattle.fx_calm_numbers.specs.Calm.{reach_at}
 use Rattle.fx_sums.specs.declared.part.Part.{Part}
-use Rattle.fx_sums.specs.Parts.{IsPart, part_value, sum_of}
+use Rattle.fx_sums.specs.Parts.{IsPart, sum_of}
 use Rattle.fx_calm.specs.declared.sum.Sum.{Sum}
 use Rattle.fx_calm.specs.declared.sum.Sum.TheVariants.{States, Sizes, Adds, Values}
-use Rattle.fx_calm.specs.SumOf.{sum_value, state_weight, literal_weight, input_weight, weight_of, size_of, part_of, IsSum, IsNarrowPart}
+use Rattle.fx_calm.specs.SumOf.{sum_value, weight_of, size_of, part_of, IsSum, IsNarrowPart}
 use Rattle.fx_calm.proofs.Sizes.{IsUnsigned, greater_unsigned, top_at_most}
 
 -- ---- one part

@@ -1,5 +1,5 @@
 -- What the searches found are the numbers of a calm function, and where they found none it isn't calm.
-use Rattle.std.proofs.Common.{◌≡◌, ℕ, ◌+◌, ◌-◌, ◌<◌, ◌≤◌, max, nat_le, Bool, true, false, ◌&&◌, if◌then◌else◌, length, ℤ, pos, ◌+ℤ◌, ◌-ℤ◌, int_le, Option, Some, None, ⊎_elim, refl, sym, ap, subst, ◌∙◌, arith}
+use Rattle.std.proofs.Common.{◌≡◌, ℕ, ◌+◌, ◌-◌, ◌<◌, ◌≤◌, max, nat_le, Bool, true, false, ◌&&◌, if◌then◌else◌, length, ℤ, pos, ◌+ℤ◌, ◌-ℤ◌, int_le, Some, None, ⊎_elim, refl, sym, ap, subst, ◌∙◌, arith}
 use Rattle.std.specs.Prelude.{Contains}
 use Rattle.std.specs.List.{list_all}
 use Rattle.std.proofs.lemmas.Bool.{and_parts, cases_lt}
@@ -14,7 +14,7 @@ use Rattle.fx_calm_numbers.specs.Calm.{Numbers, first_from, bounds_starts, bound
 use Rattle.fx_calm_numbers.proofs.Calmness.{room, starts_true, sizes_true, values_true, errors_true, contracting_true}
 use Rattle.fx_calm.specs.declared.sum.Sum.TheVariants.{States, Sizes, Adds, Values}
 use Rattle.fx_calm.specs.declared.limit.Limit.TheVariants.{Starts, Inputs, Literals, Sums, Errors}
-use Rattle.fx_calm.specs.LimitOf.{count_of, AreWithin, IsLeast, IsLeastOfBoth, IsTame}
+use Rattle.fx_calm.specs.LimitOf.{count_of, IsLeast, IsLeastOfBoth, IsTame}
 use Rattle.fx_calm.specs.NumbersOf.{calm_numbers, has_form, HasExponents}
 use Rattle.fx_calm.proofs.Limits.{AllWithin, within_more, starts_from, starts_give, sizes_from, sizes_give, values_from, values_give, errors_from, errors_give, contracting_from, contracting_give}
 

@@ -1,11 +1,11 @@
 -- The search for the least number, thing by thing.
-use Rattle.std.proofs.Common.{◌≡◌, ℕ, ◌+◌, ◌<◌, ◌≤◌, Bool, true, false, ◌⊎◌, ⊎_elim, refl, sym, ap, subst, ◌∙◌, arith}
+use Rattle.std.proofs.Common.{◌≡◌, ℕ, ◌+◌, ◌<◌, ◌≤◌, Bool, true, false, ⊎_elim, sym, ap, subst, ◌∙◌, arith}
 use Rattle.std.specs.Prelude.{Result, Ok, Err, IfOk}
 use Rattle.std.proofs.lemmas.Bool.{cases_lt}
 use Rattle.fx_model.specs.Function.{Function}
 use Rattle.fx_weight.proofs.Folded.{before_or_last}
 use Rattle.fx_calm.specs.declared.limit.Limit.{Limit}
-use Rattle.fx_calm.specs.LimitOf.{count_of, is_within, AreWithin, AreBothWithin, IsLeast, IsLeastAt, IsLeastOfBoth}
+use Rattle.fx_calm.specs.LimitOf.{count_of, is_within, IsLeast, IsLeastAt, IsLeastOfBoth}
 use Rattle.fx_calm.proofs.Limits.{within_more}
 
 -- ---- of one thing

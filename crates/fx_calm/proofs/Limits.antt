@@ -1,5 +1,5 @@
 -- What limits are of lists of things, and that a limit for a number holds for a greater one too.
-use Rattle.std.proofs.Common.{◌≡◌, ℕ, zero, suc, ◌+◌, ◌-◌, ◌^◌, ◌<◌, ◌≤◌, Bool, true, false, ◌&&◌, List, [], ◌∷◌, length, take, drop, get_or, pos, negsuc, ◌-ℤ◌, refl, sym, ap, subst, ◌∙◌, arith}
+use Rattle.std.proofs.Common.{◌≡◌, ℕ, suc, ◌+◌, ◌-◌, ◌<◌, ◌≤◌, Bool, true, ◌&&◌, List, [], ◌∷◌, length, take, get_or, pos, negsuc, ◌-ℤ◌, refl, sym, ap, ◌∙◌, arith}
 use Rattle.std.specs.List.{list_all}
 use Rattle.std.specs.Cmp.{both_ways}
 use Rattle.std.proofs.lemmas.Bool.{and_parts}
@@ -25,7 +25,6 @@ use Rattle.fx_calm_numbers.proofs.Factors.{naturals_le, power_units}
 use Rattle.fx_calm.specs.declared.sum.Sum.TheVariants.{States, Sizes, Adds, Values}
 use Rattle.fx_calm.specs.declared.limit.Limit.{Limit}
 use Rattle.fx_calm.specs.declared.limit.Limit.TheVariants.{Starts, Inputs, Literals, Sums, Errors}
-use Rattle.fx_calm.specs.SumOf.{sum_value}
 use Rattle.fx_calm.specs.LimitOf.{no_tree, count_of, is_within, AreWithin}
 
 -- ---- for a greater number

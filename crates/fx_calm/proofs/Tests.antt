@@ -1,16 +1,14 @@
 -- The tests of the code on sums, inputs and errors are those of the definition.
-use Rattle.std.proofs.Common.{◌≡◌, ℕ, zero, suc, ◌+◌, ◌*◌, ◌^◌, ◌<◌, ◌≤◌, leb, nat_le, Bool, true, false, if◌then◌else◌, ◌&&◌, List, [], ◌∷◌, ◌++◌, map, length, ℤ, pos, negsuc, ◌+ℤ◌, ◌-ℤ◌, ◌≤ℤ◌, ⊎_elim, refl, sym, ap, subst, ◌∙◌, arith}
+use Rattle.std.proofs.Common.{◌≡◌, ℕ, ◌+◌, ◌^◌, ◌<◌, ◌≤◌, leb, nat_le, Bool, true, false, if◌then◌else◌, List, [], ◌∷◌, ◌++◌, map, length, ℤ, pos, ◌-ℤ◌, ⊎_elim, refl, sym, ap, subst, ◌∙◌, arith}
 use Rattle.std.specs.Prelude.{All}
-use Rattle.std.specs.List.{list_all}
 use Rattle.std.specs.Cmp.{both_ways}
 use Rattle.std.proofs.lemmas.Int.{ints}
 use Rattle.std.proofs.lemmas.Bool.{and_parts, cases_lt}
 use Rattle.std.proofs.lemmas.List.{length-map, get_or_past}
 use Rattle.std.proofs.lemmas.List.Elements.{All-nil, All-cons}
-use Rattle.fx_rational.specs.Rational.{Rational, whole, over, plus, times, Equal, AtMost, is_at_most}
-use Rattle.fx_rational.specs.Decimal.{Decimal, decimal_value}
+use Rattle.fx_rational.specs.Rational.{Rational, whole, plus, times, Equal, AtMost, is_at_most}
 use Rattle.fx_rational.proofs.Ring.{by_quotes, quotes}
-use Rattle.fx_rational.proofs.Laws.{equal_refl, equal_sym, equal_trans, le_refl, le_trans, le_of_equal, plus_same, plus_le, times_le, ordered}
+use Rattle.fx_rational.proofs.Laws.{equal_refl, equal_sym, equal_trans, le_trans, le_of_equal, plus_le, times_le, ordered}
 use Rattle.fx_rational.proofs.Tests.{at_most_true, at_most_holds}
 use Rattle.fx_rational.proofs.Quotient.{le_of_times, whole_above, above_nonneg}
 use Rattle.fx_rational.proofs.Powers.{power, power_above, power_sum, whole_le}
@@ -21,21 +19,20 @@ use Rattle.fx_model.specs.Rows.{AreInputs}
 use Rattle.fx_inequalities.specs.NodeConditions.{no_input}
 use Rattle.fx_sizes.specs.Powers.{power_value, is_below_power, magnitude}
 use Rattle.fx_sizes.proofs.Powers.{whole_value_is, below_power, test_power}
-use Rattle.fx_calm_numbers.specs.Linear.{is_linear, terms_of, total, are_literals_below}
+use Rattle.fx_calm_numbers.specs.Linear.{is_linear, terms_of}
 use Rattle.fx_calm_numbers.specs.Calm.{reach_of, reach_at, is_short}
 use Rattle.fx_calm_numbers.specs.Bounds.{units_up}
 use Rattle.fx_calm_numbers.proofs.Calmness.{all_at, le_of_test}
-use Rattle.fx_calm_numbers.proofs.Factors.{naturals_le, naturals_order, power_units}
+use Rattle.fx_calm_numbers.proofs.Factors.{naturals_le, power_units}
 use Rattle.fx_calm_numbers.proofs.Rounded.{units_above, units_least}
 use Rattle.fx_sizes.proofs.Inputs.{error_nonnegative}
 use Rattle.fx_weight.proofs.Units.{size_of_nonneg}
 use Rattle.fx_sums.specs.declared.part.Part.{Part}
 use Rattle.fx_sums.specs.Parts.{IsPart, part_value, sum_of}
 use Rattle.fx_calm.specs.declared.sum.Sum.{Sum}
-use Rattle.fx_calm.specs.declared.limit.Limit.TheVariants.{Inputs, Literals}
 use Rattle.fx_calm.specs.SumOf.{sum_value, part_of, IsSum, IsNarrowPart}
 use Rattle.fx_calm.specs.LimitOf.{no_tree, IsTame}
-use Rattle.fx_calm.proofs.Counted.{worth, parts_sum, terms_unsigned, total_is, low_terms, terms_parts}
+use Rattle.fx_calm.proofs.Counted.{parts_sum, terms_unsigned, total_is, low_terms, terms_parts}
 
 -- equal numbers are below the same powers
 same_below : (x y : Rational) (w n : ℕ) → Equal x y → n ≡ 2 ^ w → is_at_most x (whole (pos n)) ≡ is_below_power y (pos w)

@@ -1,10 +1,9 @@
 -- What contracts see of the conditions that a number bounds.
-use Rattle.std.specs.Prelude.{◌≡◌, ℕ, pos, ◌+◌, ◌-◌, ◌<◌, ◌≤◌, ◌-ℤ◌, Bool, true, false, [], length}
+use Rattle.std.specs.Prelude.{◌≡◌, ℕ, pos, ◌+◌, ◌-◌, ◌<◌, ◌≤◌, ◌-ℤ◌, Bool, true, false, length}
 use Rattle.std.specs.List.{list_all}
-use Rattle.fx_rational.specs.Rational.{Rational, whole, plus}
+use Rattle.fx_rational.specs.Rational.{whole, plus}
 use Rattle.fx_model.specs.Tree as tree
 use Rattle.fx_model.specs.Tree.{Tree, at}
-use Rattle.fx_model.specs.Function as function
 use Rattle.fx_model.specs.Function.{Function, outputs}
 use Rattle.fx_inequalities.specs.NodeConditions.{no_input}
 use Rattle.fx_inequalities.specs.Accepted.{start_of}

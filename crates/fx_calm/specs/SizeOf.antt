@@ -1,5 +1,5 @@
 -- What contracts see of a size.
-use Rattle.std.specs.Prelude.{pos, ◌<◌, ◌≤◌, ◌^◌}
+use Rattle.std.specs.Prelude.{pos, ◌<◌, ◌^◌}
 use Rattle.fx_rational.specs.Rational.{Rational, over}
 use Rattle.fx_calm.specs.declared.size.Size.{Size}
 

@@ -1,5 +1,5 @@
 -- What contracts see of the sums that are compared with powers of two.
-use Rattle.std.specs.Prelude.{ℕ, pos, ◌*◌, ◌^◌, ◌≤◌, ◌<◌, unsigned_abs, List}
+use Rattle.std.specs.Prelude.{ℕ, pos, ◌*◌, ◌^◌, ◌≤◌, ◌<◌, unsigned_abs}
 use Rattle.fx_rational.specs.Rational.{Rational, bottom, whole, plus, times}
 use Rattle.fx_model.specs.Tree.{Tree}
 use Rattle.fx_model.specs.Function.{Function}

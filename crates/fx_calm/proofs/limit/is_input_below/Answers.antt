@@ -1,4 +1,4 @@
-use Rattle.std.proofs.Common.{◌∙◌, ◌++◌, ◌∷◌, [], pos, sym, ap}
+use Rattle.std.proofs.Common.{◌∙◌, ◌++◌, ◌∷◌, [], pos, ap}
 use Rattle.fx_rational.specs.Rational.{over, whole, is_at_most}
 use Rattle.fx_rational.specs.Decimal.{decimal_value}
 use Rattle.fx_expr.specs.Parts.{input_of}

@@ -4,7 +4,7 @@ use Rattle.fx_rational.specs.Rational.{whole, is_at_most}
 use Rattle.fx_calm_numbers.specs.Linear.{terms_of}
 use Rattle.fx_sums.specs.Parts.{IsPart, sum_of}
 use Rattle.fx_calm.specs.SumOf.{part_of}
-use Rattle.fx_calm.proofs.Tests.{put_parts, put_few, sum_test}
+use Rattle.fx_calm.proofs.Tests.{put_parts, sum_test}
 use Rattle.fx_calm.proofs.limit.is_sum_below.Goals as goal
 
 pub adds_up_to-requires-clause-parts : goal.adds_up_to-requires-clause-parts

@@ -1,6 +1,6 @@
-use Rattle.std.proofs.Common.{◌≡◌, ◌*◌, ◌∙◌, ap}
+use Rattle.std.proofs.Common.{◌*◌, ◌∙◌}
 use Rattle.std.specs.Prelude.{unsigned_abs}
-use Rattle.fx_rational.specs.Rational.{Rational, bottom}
+use Rattle.fx_rational.specs.Rational.{bottom}
 use Rattle.fx_calm.proofs.Counted.{product_is}
 use Rattle.fx_calm.proofs.terms.part_of.Goals as goal
 
