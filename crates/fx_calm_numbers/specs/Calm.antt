@@ -105,7 +105,7 @@ is_short t = is_linear t && nat_le (length (terms_of t)) 64
 abbrev pub is_contracting : Tree → Bool
 is_contracting t = is_below_power (state_sizes t) (negsuc 0)
 
--- no temps; there are states; each result is linear; a step halves the states; the numbers leave room; no demand asks more
+-- no temps; there are states; each result is short; a step halves the states; the numbers leave room; each demand allows an error of 2^z
 abbrev pub is_calm_with : Numbers → Function → Bool
 is_calm_with c fn =
     nat_le (length fn.temps) 0 && nat_le 1 (length fn.states) && list_all is_short fn.results && list_all is_contracting (next_trees fn) &&

@@ -1,5 +1,5 @@
 -- The bounds of a node list, node by node: each is that of its node after all bounds.
-use Rattle.std.proofs.Common.{◌≡◌, ℕ, List, [], ◌∷◌, ◌++◌, length, refl, sym, ap₂}
+use Rattle.std.proofs.Common.{◌≡◌, ℕ, List, [], ◌++◌, length, refl, sym, ap₂}
 use Rattle.std.proofs.lemmas.List.{get_or_append_left}
 use Rattle.fx_model.specs.Function as function
 use Rattle.fx_model.specs.Nodes.{Node, Input, State, Const, Neg, Add, Sub, Mul, Div, Copy}

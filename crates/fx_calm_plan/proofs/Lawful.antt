@@ -1,10 +1,10 @@
 -- A text can spell the calm program and the calm certificate.
-use Rattle.std.proofs.Common.{◌≡◌, ℕ, zero, suc, ◌+◌, ◌-◌, ◌^◌, ◌<◌, ◌≤◌, List, [], ◌∷◌, ◌++◌, length, map, drop, get_or, ℤ, pos, refl, sym, ap, subst, ◌∙◌, arith, length-append, pow_pos, pow-add}
+use Rattle.std.proofs.Common.{◌≡◌, ℕ, zero, suc, ◌+◌, ◌-◌, ◌^◌, ◌<◌, ◌≤◌, List, [], ◌∷◌, ◌++◌, length, map, drop, get_or, ℤ, pos, refl, sym, subst, ◌∙◌, arith, pow_pos, pow-add}
 use Rattle.std.specs.Prelude.{All, Contains}
 use Rattle.std.proofs.lemmas.Int.{ints}
 use Rattle.std.proofs.lemmas.List.{length-map}
 use Rattle.std.proofs.lemmas.List.Elements.{All-nil, All-cons, All-head, All-tail, All-map, All-append, All-from_get_or}
-use Rattle.fx_rational.specs.Dyadic.{Dyadic, IsWritten, zero_dyadic}
+use Rattle.fx_rational.specs.Dyadic.{IsWritten, zero_dyadic}
 use Rattle.fx_rational.specs.Interval.{Interval, IsWrittenInterval}
 use Rattle.fx_model.specs.Function.{Function, outputs}
 use Rattle.fx_model.specs.Machine.{Floor, IsWord, points_of}
@@ -21,7 +21,7 @@ use Rattle.fx_sizes.proofs.Pairs.{ArePairs}
 use Rattle.fx_sizes.proofs.Powers.{power_more}
 use Rattle.fx_sizes.proofs.Sizes.{IsUpTo}
 use Rattle.fx_sizes.proofs.Values.{magnitude_nonneg}
-use Rattle.fx_calm_numbers.specs.Bounds.{Bound, no_bound, units_up, error_box, state_bound, const_bound}
+use Rattle.fx_calm_numbers.specs.Bounds.{Bound, no_bound, units_up, state_bound}
 use Rattle.fx_calm_numbers.specs.Calm.{Numbers, numbers_of, IsCalm}
 use Rattle.fx_calm_numbers.proofs.Factors.{box_is}
 use Rattle.fx_calm_numbers.proofs.Rounded.{units_above}

@@ -14,11 +14,12 @@ use Rattle.fx_model.specs.Tree.{Tree, at}
 use Rattle.fx_model.specs.Function as function
 use Rattle.fx_model.specs.Function.{Function, outputs}
 use Rattle.fx_model.specs.Nodes.{Node, Input, State, Const, Neg, Add, Sub, Mul, Copy, flat, inputs_from, states_from, copies_of, nodes_after, nodes_of}
-use Rattle.fx_model.specs.Valid.{RefersBelow, AllReferBelow}
+use Rattle.fx_model.specs.Valid.{AllReferBelow}
 use Rattle.fx_model.specs.LawfulProgram.{widths}
 use Rattle.fx_model.proofs.Counted.{inputs_length, states_length}
 use Rattle.fx_model.proofs.Widths.{IsWordWidth, width_of}
 use Rattle.fx_inequalities.specs.NodeConditions.{no_input}
+use Rattle.fx_flat.proofs.Growth.{result_refers}
 use Rattle.fx_sizes.specs.Powers.{magnitude, power_value}
 use Rattle.fx_sizes.proofs.Powers.{power_more, whole_value_is}
 use Rattle.fx_sizes.proofs.Values.{magnitude_nonneg}
@@ -128,11 +129,6 @@ module _ (c : Numbers) (y : ℕ) (is : List function.Input) (room : HasRoom c y)
       record { r = error_limit r (omega arith); e = error_limit {k = y} (input_units c y i room h) (omega (arith, e)) }
 
 -- ---- single elements
-refers_at : (i s m k : ℕ) (ts : List Tree) (d : Tree) → AllReferBelow i s m ts → k < length ts → RefersBelow i s m (get_or ts k d)
-refers_at i s m k [] d h lt = absurd (omega (arith, lt))
-refers_at i s m zero (t ∷ ts) d h lt = h.0
-refers_at i s m (suc k) (t ∷ ts) d h lt = refers_at i s m k ts d h.1 (omega (arith, lt))
-
 each_limited : (c : Numbers) (is : List function.Input) (i s : ℕ) (ts : List Tree) → ((k : ℕ) (d : Tree) → k < length ts → AreLimited c is (get_or ts k d)) → EachLimited c is i s ts
 each_limited c is i s [] h = tt
 each_limited c is i s (t ∷ ts) h = (h 0 t (omega arith), each_limited c is i s ts (λ k d lt. h (suc k) d (omega (arith, lt))))
@@ -174,7 +170,7 @@ module _ (n : ℕ) (fn : Function) (some_width : Contains widths n) (narrow : Is
   refer = let t = no_temps n fn width calm in subst (λ (m : ℕ). AllReferBelow (length fn.inputs) (length fn.states) m fn.results) (ap length t) narrow.lawful.valid.results
 
   bounded : (k : ℕ) (d : Tree) → k < length fn.results → IsBounded c u fn.inputs (terms_of (get_or fn.results k d)) (tree_bound c fn.inputs (get_or fn.results k d))
-  bounded k d lt = tree_bounded c u fn.inputs spare roomy (length fn.inputs) (length fn.states) 0 (get_or fn.results k d) refl (result_linear n fn width calm k d lt).0 (refers_at (length fn.inputs) (length fn.states) 0 k fn.results d refer lt) (result_literals n fn width calm k d lt)
+  bounded k d lt = tree_bounded c u fn.inputs spare roomy (length fn.inputs) (length fn.states) 0 (get_or fn.results k d) refl (result_linear n fn width calm k d lt).0 (result_refers (length fn.inputs) (length fn.states) 0 k fn.results d refer lt) (result_literals n fn width calm k d lt)
 
   some_results : length fn.results ≡ outputs fn + length fn.states
   some_results = narrow.lawful.valid.all_results

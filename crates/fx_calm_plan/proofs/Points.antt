@@ -1,5 +1,5 @@
 -- All codes of the calm program are at one point, and its state codes have the words of the starts.
-use Rattle.std.proofs.Common.{◌≡◌, ℕ, zero, suc, ◌+◌, ◌<◌, List, [], ◌∷◌, ◌++◌, length, map, ◌⊎◌, ⊎_elim, ℤ, pos, ◌+ℤ◌, ◌-ℤ◌, refl, sym, ap, subst, ◌∙◌, arith, length-append}
+use Rattle.std.proofs.Common.{◌≡◌, ℕ, zero, suc, ◌+◌, ◌<◌, List, [], ◌∷◌, ◌++◌, length, map, ◌⊎◌, ⊎_elim, ℤ, pos, ◌+ℤ◌, ◌-ℤ◌, refl, sym, ap, subst, ◌∙◌, arith, length-append, append_assoc}
 use Rattle.std.specs.Prelude.{All}
 use Rattle.std.proofs.lemmas.Int.{ints}
 use Rattle.std.proofs.lemmas.List.{get_or_append_left, map-append}
@@ -8,8 +8,7 @@ use Rattle.std.proofs.Math.Seq.{get_or-append_seam}
 use Rattle.fx_rational.specs.Rational.{scaled, floor}
 use Rattle.fx_model.specs.Tree.{at}
 use Rattle.fx_model.specs.Function.{Function}
-use Rattle.fx_model.specs.Machine as machine
-use Rattle.fx_model.specs.Machine.{Code, point_of, points_after, points_of, start_words}
+use Rattle.fx_model.specs.Machine.{Code, starts_of, point_of, points_after, points_of, start_words}
 use Rattle.fx_model.specs.Nodes.{Node, Input, State, Const, Neg, Add, Sub, Mul, Div, Copy, inputs_from, states_from}
 use Rattle.fx_inequalities.specs.Accepted.{start_of}
 use Rattle.fx_flat.specs.InPlace.{IsInPlace, AreInPlace}
@@ -66,15 +65,7 @@ all_points fn i s f nodes o w = let h = after_points fn i s f nodes [] o w (λ a
 -- ---- start words
 words_append : (xs ys : List Code) → start_words (xs ++ ys) ≡ start_words xs ++ start_words ys
 words_append [] ys = refl
-words_append (machine.Input k f ∷ xs) ys = words_append xs ys
-words_append (machine.State k f w ∷ xs) ys = ap (λ (zs : List ℤ). w ∷ zs) (words_append xs ys)
-words_append (machine.Const w f ∷ xs) ys = words_append xs ys
-words_append (machine.Neg a ∷ xs) ys = words_append xs ys
-words_append (machine.Add a b sa sb ∷ xs) ys = words_append xs ys
-words_append (machine.Sub a b sa sb ∷ xs) ys = words_append xs ys
-words_append (machine.Mul r a b s ∷ xs) ys = words_append xs ys
-words_append (machine.Div a b s ∷ xs) ys = words_append xs ys
-words_append (machine.Copy r a s ∷ xs) ys = words_append xs ys
+words_append (c ∷ xs) ys = ap (λ (zs : List ℤ). starts_of c ++ zs) (words_append xs ys) ∙ sym (append_assoc (starts_of c) (start_words xs) (start_words ys))
 
 inputs_no_words : (fn : Function) (f k m : ℕ) → start_words (map (calm_code fn f) (inputs_from k m)) ≡ []
 inputs_no_words fn f k zero = refl

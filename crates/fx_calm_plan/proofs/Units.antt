@@ -5,10 +5,10 @@ use Rattle.std.proofs.Math.Nat.{le-mul_of_pos_right}
 use Rattle.std.proofs.lemmas.Int.{ints}
 use Rattle.fx_algebra.proofs.Integers.{neg_ℤ-*ℤ, *ℤ_assoc}
 use Rattle.fx_rational.specs.Rational.{floor_div}
-use Rattle.fx_rational.specs.Dyadic.{Dyadic, aligned, zero_dyadic, IsWritten}
+use Rattle.fx_rational.specs.Dyadic.{Dyadic, aligned, IsWritten}
 use Rattle.fx_rational.specs.Interval.{IsWrittenInterval}
 use Rattle.fx_rational.proofs.Lowest.{size-neg_ℤ}
-use Rattle.fx_inequalities.specs.Formula.{Num, formed, Span, span, zero_span, unit_at, loss_at}
+use Rattle.fx_inequalities.specs.Formula.{Num, formed, Span, span, unit_at, loss_at}
 use Rattle.fx_inequalities.specs.Claim.{inside}
 use Rattle.fx_rounding.specs.Grid.{is_even, lowest_dyadic}
 use Rattle.fx_rounding.proofs.Grids.{half_of, lowest_dyadic_is}

@@ -1,9 +1,9 @@
 -- What written units stand for, and comparisons of them with fractions.
 use Rattle.std.proofs.Common.{ℕ, ◌+◌, ◌^◌, [], ◌∷◌, ℤ, pos, neg_ℤ, refl, sym, subst, pow_pos}
-use Rattle.fx_rational.specs.Rational.{Rational, whole, plus, minus, times, negative, scaled, floor, Equal, AtMost}
+use Rattle.fx_rational.specs.Rational.{Rational, whole, plus, times, negative, scaled, floor, Equal, AtMost}
 use Rattle.fx_rational.specs.Dyadic.{dyadic_value}
 use Rattle.fx_rational.proofs.Ring.{by_quotes, quotes}
-use Rattle.fx_rational.proofs.Laws.{equal_refl, equal_sym, equal_trans, le_trans, le_of_equal, times_le, negative_le, gap, ordered, nonneg_plus, nonneg_times, times_same, plus_same, minus_same, negative_same}
+use Rattle.fx_rational.proofs.Laws.{equal_refl, equal_sym, equal_trans, le_trans, le_of_equal, times_le, negative_le, gap, ordered, nonneg_times, times_same, plus_same, minus_same, negative_same}
 use Rattle.fx_rational.proofs.Quotient.{above_nonneg}
 use Rattle.fx_rational.proofs.Floors.{floor_floors, floor-greatest}
 use Rattle.fx_rational.proofs.Dyadics.{as_written}
@@ -13,7 +13,7 @@ use Rattle.fx_inequalities.specs.Formula.{Num, Sum, Difference, formula_value, w
 use Rattle.fx_rounding.specs.Grid.{lowest_dyadic}
 use Rattle.fx_rounding.proofs.Grids.{lowest_dyadic_is}
 use Rattle.fx_sizes.specs.Powers.{magnitude}
-use Rattle.fx_sizes.proofs.Values.{magnitude_above, magnitude_below, from_magnitude_low, from_magnitude_high, sum_value, difference_value, lost_word}
+use Rattle.fx_sizes.proofs.Values.{magnitude_above, magnitude_below, from_magnitude_low, from_magnitude_high, sum_value, difference_value, lost_word, less_unit, more_unit}
 use Rattle.fx_sizes.proofs.Sizes.{IsUpTo}
 use Rattle.fx_calm_numbers.proofs.Factors.{natural_sum}
 
@@ -56,12 +56,15 @@ pub above_end : (x : Rational) (r f : ℕ) → AtMost (times (magnitude x) (powe
 above_end x r f h = le_trans (from_magnitude_high (to_units (magnitude x) r f h)) (le_of_equal (equal_sym (units_value (pos r) f)))
 
 -- ---- the reading of an input: a unit more
+one_unit_less : (err r u : Rational) → AtMost err (times r u) → AtMost (plus (negative (times (plus r (whole (pos 1))) u)) u) (negative err)
+one_unit_less err r u h = ordered (gap h) (by_quotes {ρ = err ∷ r ∷ u ∷ []} (search quotes depth 20) (search quotes depth 20) refl)
+
 pub error_end : (err : Rational) (r f : ℕ) → AtMost (times err (power f)) (whole (pos r)) → AtMost (formula_value (Sum (Num (lowest_dyadic (neg_ℤ (pos (r + 1))) f)) (unit_at (pos f)))) (negative err)
 error_end err r f h =
     let u = unit (pos f) in
     subst (λ (v : Rational). AtMost v (negative err)) (sym (sum_value (Num (lowest_dyadic (neg_ℤ (pos (r + 1))) f)) (unit_at (pos f))))
     (le_trans (le_of_equal (plus_same (equal_trans (minus_units_value (r + 1) f) (negative_same (times_same one_more (equal_refl u)))) (unit_at_is (pos f))))
-    (ordered (gap (to_units err r f h)) (by_quotes {ρ = err ∷ whole (pos r) ∷ u ∷ []} (search quotes depth 20) (search quotes depth 20) refl)))
+    (one_unit_less err (whole (pos r)) (unit (pos f)) (to_units err r f h)))
   where
     one_more : Equal (whole (pos (r + 1))) (plus (whole (pos r)) (whole (pos 1)))
     one_more = natural_sum r 1
@@ -85,11 +88,11 @@ word_low x f =
     let v = formula_value (word_at (floor (scaled x (pos f))) (pos f)) in let u = unit (pos f) in
     subst (λ (r : Rational). AtMost r x) (sym (difference_value (word_at (floor (scaled x (pos f))) (pos f)) (Num (lowest_dyadic (pos 1) f))))
     (le_trans (le_of_equal (minus_same (equal_refl v) (equal_trans (units_value (pos 1) f) (by_quotes {ρ = u ∷ []} {b = u} (search quotes depth 20) (search quotes depth 20) refl))))
-    (ordered (nonneg_plus (gap (lost_word x (pos f)).high) (above_nonneg (unit_above (pos f)))) (by_quotes {ρ = v ∷ u ∷ x ∷ []} (search quotes depth 20) (search quotes depth 20) refl)))
+    (less_unit v u x (above_nonneg (unit_above (pos f))) (lost_word x (pos f))))
 
 pub word_high : (x : Rational) (f : ℕ) → AtMost x (formula_value (Difference (word_at (floor (scaled x (pos f))) (pos f)) (Num (lowest_dyadic (neg_ℤ (pos 1)) f))))
 word_high x f =
     let v = formula_value (word_at (floor (scaled x (pos f))) (pos f)) in let u = unit (pos f) in
     subst (λ (r : Rational). AtMost x r) (sym (difference_value (word_at (floor (scaled x (pos f))) (pos f)) (Num (lowest_dyadic (neg_ℤ (pos 1)) f))))
-    (le_trans (ordered (gap (lost_word x (pos f)).low) (by_quotes {ρ = v ∷ u ∷ x ∷ []} {a = minus (minus v (negative u)) x} (search quotes depth 20) (search quotes depth 20) refl))
+    (le_trans (more_unit v u x (lost_word x (pos f)))
     (le_of_equal (equal_sym (minus_same (equal_refl v) (equal_trans (minus_units_value 1 f) (negative_same (by_quotes {ρ = u ∷ []} {b = u} (search quotes depth 20) (search quotes depth 20) refl)))))))

@@ -1,10 +1,11 @@
 -- Sizes of numbers without their signs, values of formulas, and what the word of a number loses.
-use Rattle.std.proofs.Common.{◌≡◌, ℕ, Bool, true, false, if◌then◌else◌, ℤ, pos, negsuc, suc, ◌*ℤ◌, neg_ℤ, ◌≤ℤ◌, refl, arith}
+use Rattle.std.proofs.Common.{◌≡◌, ℕ, Bool, true, false, if◌then◌else◌, [], ◌∷◌, ℤ, pos, negsuc, suc, ◌*ℤ◌, neg_ℤ, ◌≤ℤ◌, refl, arith}
 use Rattle.std.specs.Prelude.{unsigned_abs}
 use Rattle.std.proofs.lemmas.Int.{ints}
 use Rattle.fx_algebra.proofs.Order.{mul_le_right}
 use Rattle.fx_rational.specs.Rational.{Rational, bottom, plus, minus, negative, scaled, floor, Equal, AtMost, is_at_most}
-use Rattle.fx_rational.proofs.Laws.{equal_refl, equal_sym, equal_trans, le_refl, le_trans, le_of_equal, minus_same, Nonneg, nonneg_from, negative_le}
+use Rattle.fx_rational.proofs.Ring.{by_quotes, quotes}
+use Rattle.fx_rational.proofs.Laws.{equal_refl, equal_sym, equal_trans, le_refl, le_trans, le_of_equal, minus_same, Nonneg, nonneg_from, negative_le, gap, ordered, nonneg_plus}
 use Rattle.fx_rational.proofs.Powers.{unit}
 use Rattle.fx_rational.proofs.Tests.{at_most_true, at_most_false}
 use Rattle.fx_model.specs.Machine.{word_value}
@@ -73,3 +74,10 @@ lost_word c f =
     let h = input_lost c f in
     let e = minus_same (same_word_value (floor (scaled c f)) f) (equal_refl c) in
     record { low = le_trans h.low (le_of_equal (equal_sym e)); high = le_trans (le_of_equal e) h.high }
+
+-- a word less a unit isn't above its number, and a unit more isn't below
+pub less_unit : (v u c : Rational) → Nonneg u → Lost u (minus v c) → AtMost (minus v u) c
+less_unit v u c n h = ordered (nonneg_plus (gap h.high) n) (by_quotes {ρ = v ∷ u ∷ c ∷ []} (search quotes depth 20) (search quotes depth 20) refl)
+
+pub more_unit : (v u c : Rational) → Lost u (minus v c) → AtMost c (minus v (negative u))
+more_unit v u c h = ordered (gap h.low) (by_quotes {ρ = v ∷ u ∷ c ∷ []} (search quotes depth 20) (search quotes depth 20) refl)
