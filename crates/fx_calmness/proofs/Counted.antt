@@ -67,40 +67,45 @@ IsUnsignedTerm x = IsUnsigned (size_of x)
 one : (P : Term → Type 0) (x : Term) → P x → All P (x ∷ [])
 one P x h = All-cons P x [] h (All-nil P)
 
+-- the term of a product: nothing, or a literal of one of its factors times an input or a state
+of_product : (P : Term → Type 0) (Q : Tree → Type 0) → P (Alone (whole (pos 0))) → ((c : Rational) (k : ℕ) → Q (tree.Literal c) → P (OfInput k (magnitude c))) → ((c : Rational) (k : ℕ) → Q (tree.Literal c) → P (OfState k (magnitude c))) →
+    (a b : Tree) → Q a → Q b → P (scaled_term a b)
+of_product P Q none input state (tree.Literal c) (tree.Literal k) p q = none
+of_product P Q none input state (tree.Literal c) (tree.Input k) p q = input c k p
+of_product P Q none input state (tree.Literal c) (tree.State k) p q = state c k p
+of_product P Q none input state (tree.Literal c) (tree.Temp k) p q = none
+of_product P Q none input state (tree.Literal c) (tree.Negation x) p q = none
+of_product P Q none input state (tree.Literal c) (tree.Sum x y) p q = none
+of_product P Q none input state (tree.Literal c) (tree.Difference x y) p q = none
+of_product P Q none input state (tree.Literal c) (tree.Product x y) p q = none
+of_product P Q none input state (tree.Literal c) (tree.Quotient x y) p q = none
+of_product P Q none input state (tree.Input k) (tree.Literal c) p q = input c k q
+of_product P Q none input state (tree.Input k) (tree.Input j) p q = none
+of_product P Q none input state (tree.Input k) (tree.State j) p q = none
+of_product P Q none input state (tree.Input k) (tree.Temp j) p q = none
+of_product P Q none input state (tree.Input k) (tree.Negation x) p q = none
+of_product P Q none input state (tree.Input k) (tree.Sum x y) p q = none
+of_product P Q none input state (tree.Input k) (tree.Difference x y) p q = none
+of_product P Q none input state (tree.Input k) (tree.Product x y) p q = none
+of_product P Q none input state (tree.Input k) (tree.Quotient x y) p q = none
+of_product P Q none input state (tree.State k) (tree.Literal c) p q = state c k q
+of_product P Q none input state (tree.State k) (tree.Input j) p q = none
+of_product P Q none input state (tree.State k) (tree.State j) p q = none
+of_product P Q none input state (tree.State k) (tree.Temp j) p q = none
+of_product P Q none input state (tree.State k) (tree.Negation x) p q = none
+of_product P Q none input state (tree.State k) (tree.Sum x y) p q = none
+of_product P Q none input state (tree.State k) (tree.Difference x y) p q = none
+of_product P Q none input state (tree.State k) (tree.Product x y) p q = none
+of_product P Q none input state (tree.State k) (tree.Quotient x y) p q = none
+of_product P Q none input state (tree.Temp k) b p q = none
+of_product P Q none input state (tree.Negation x) b p q = none
+of_product P Q none input state (tree.Sum x y) b p q = none
+of_product P Q none input state (tree.Difference x y) b p q = none
+of_product P Q none input state (tree.Product x y) b p q = none
+of_product P Q none input state (tree.Quotient x y) b p q = none
+
 product_unsigned : (a b : Tree) → IsUnsignedTerm (scaled_term a b)
-product_unsigned (tree.Literal c) (tree.Literal k) = refl
-product_unsigned (tree.Literal c) (tree.Input k) = refl
-product_unsigned (tree.Literal c) (tree.State k) = refl
-product_unsigned (tree.Literal c) (tree.Temp k) = refl
-product_unsigned (tree.Literal c) (tree.Negation x) = refl
-product_unsigned (tree.Literal c) (tree.Sum x y) = refl
-product_unsigned (tree.Literal c) (tree.Difference x y) = refl
-product_unsigned (tree.Literal c) (tree.Product x y) = refl
-product_unsigned (tree.Literal c) (tree.Quotient x y) = refl
-product_unsigned (tree.Input k) (tree.Literal c) = refl
-product_unsigned (tree.Input k) (tree.Input j) = refl
-product_unsigned (tree.Input k) (tree.State j) = refl
-product_unsigned (tree.Input k) (tree.Temp j) = refl
-product_unsigned (tree.Input k) (tree.Negation x) = refl
-product_unsigned (tree.Input k) (tree.Sum x y) = refl
-product_unsigned (tree.Input k) (tree.Difference x y) = refl
-product_unsigned (tree.Input k) (tree.Product x y) = refl
-product_unsigned (tree.Input k) (tree.Quotient x y) = refl
-product_unsigned (tree.State k) (tree.Literal c) = refl
-product_unsigned (tree.State k) (tree.Input j) = refl
-product_unsigned (tree.State k) (tree.State j) = refl
-product_unsigned (tree.State k) (tree.Temp j) = refl
-product_unsigned (tree.State k) (tree.Negation x) = refl
-product_unsigned (tree.State k) (tree.Sum x y) = refl
-product_unsigned (tree.State k) (tree.Difference x y) = refl
-product_unsigned (tree.State k) (tree.Product x y) = refl
-product_unsigned (tree.State k) (tree.Quotient x y) = refl
-product_unsigned (tree.Temp k) b = refl
-product_unsigned (tree.Negation x) b = refl
-product_unsigned (tree.Sum x y) b = refl
-product_unsigned (tree.Difference x y) b = refl
-product_unsigned (tree.Product x y) b = refl
-product_unsigned (tree.Quotient x y) b = refl
+product_unsigned a b = of_product IsUnsignedTerm (λ t. Unit {0}) refl (λ c k q. refl) (λ c k q. refl) a b tt tt
 
 pub terms_unsigned : (t : Tree) → All IsUnsignedTerm (terms_of t)
 terms_unsigned (tree.Literal c) = one IsUnsignedTerm _ refl
@@ -168,39 +173,7 @@ zero_low : AtMost (whole (pos 0)) (power 25)
 zero_low = whole_low 0 25 (omega arith)
 
 low_product : (a b : Tree) → are_low a ≡ true → are_low b ≡ true → IsLowTerm (scaled_term a b)
-low_product (tree.Literal c) (tree.Literal k) p q = zero_low
-low_product (tree.Literal c) (tree.Input k) p q = low_literal c p
-low_product (tree.Literal c) (tree.State k) p q = low_literal c p
-low_product (tree.Literal c) (tree.Temp k) p q = zero_low
-low_product (tree.Literal c) (tree.Negation x) p q = zero_low
-low_product (tree.Literal c) (tree.Sum x y) p q = zero_low
-low_product (tree.Literal c) (tree.Difference x y) p q = zero_low
-low_product (tree.Literal c) (tree.Product x y) p q = zero_low
-low_product (tree.Literal c) (tree.Quotient x y) p q = zero_low
-low_product (tree.Input k) (tree.Literal c) p q = low_literal c q
-low_product (tree.Input k) (tree.Input j) p q = zero_low
-low_product (tree.Input k) (tree.State j) p q = zero_low
-low_product (tree.Input k) (tree.Temp j) p q = zero_low
-low_product (tree.Input k) (tree.Negation x) p q = zero_low
-low_product (tree.Input k) (tree.Sum x y) p q = zero_low
-low_product (tree.Input k) (tree.Difference x y) p q = zero_low
-low_product (tree.Input k) (tree.Product x y) p q = zero_low
-low_product (tree.Input k) (tree.Quotient x y) p q = zero_low
-low_product (tree.State k) (tree.Literal c) p q = low_literal c q
-low_product (tree.State k) (tree.Input j) p q = zero_low
-low_product (tree.State k) (tree.State j) p q = zero_low
-low_product (tree.State k) (tree.Temp j) p q = zero_low
-low_product (tree.State k) (tree.Negation x) p q = zero_low
-low_product (tree.State k) (tree.Sum x y) p q = zero_low
-low_product (tree.State k) (tree.Difference x y) p q = zero_low
-low_product (tree.State k) (tree.Product x y) p q = zero_low
-low_product (tree.State k) (tree.Quotient x y) p q = zero_low
-low_product (tree.Temp k) b p q = zero_low
-low_product (tree.Negation x) b p q = zero_low
-low_product (tree.Sum x y) b p q = zero_low
-low_product (tree.Difference x y) b p q = zero_low
-low_product (tree.Product x y) b p q = zero_low
-low_product (tree.Quotient x y) b p q = zero_low
+low_product a b p q = of_product IsLowTerm (λ t. are_low t ≡ true) zero_low (λ c k h. low_literal c h) (λ c k h. low_literal c h) a b p q
 
 pub low_terms : (t : Tree) → are_literals_below (power_value (pos 25)) t ≡ true → All IsLowTerm (terms_of t)
 low_terms (tree.Literal c) e = one IsLowTerm _ (low_literal c e)
