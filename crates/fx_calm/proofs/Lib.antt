@@ -1,9 +1,4 @@
-pub mod Sizes
-pub mod Counted
-pub mod Tests
-pub mod Limits
-pub mod Leasts
-pub mod Found
+pub mod Units
 pub mod Walked
 pub mod Placed
 pub mod Rows

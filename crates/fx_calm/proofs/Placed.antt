@@ -1,11 +1,10 @@
 -- The plan's numbers in code: bounds have 61 bits, and words 64.
-use Rattle.std.proofs.Common.{◌≡◌, ℕ, ◌+◌, ◌^◌, ◌<◌, ◌≤◌, List, [], ◌∷◌, length, get_or, ℤ, pos, negsuc, neg_ℤ, ◌≤ℤ◌, ◌+ℤ◌, ◌-ℤ◌, FitsSigned, refl, sym, ap, subst, ◌∙◌, arith}
+use Rattle.std.proofs.Common.{◌≡◌, ℕ, ◌+◌, ◌^◌, ◌≤◌, List, [], ◌∷◌, length, ℤ, pos, negsuc, neg_ℤ, ◌≤ℤ◌, ◌-ℤ◌, FitsSigned, subst, ◌∙◌, arith}
 use Rattle.std.specs.Prelude.{All, Contains}
 use Rattle.std.specs.Int.{w64}
 use Rattle.std.proofs.lemmas.Int.{ints}
 use Rattle.std.proofs.lemmas.List.Elements.{All-nil, All-cons, All-from_get_or}
 use Rattle.fx_rational.specs.Rational.{Rational, floor, scaled}
-use Rattle.fx_model.specs.Function as function
 use Rattle.fx_model.specs.Function.{Function}
 use Rattle.fx_model.specs.LawfulProgram.{widths}
 use Rattle.fx_model.specs.Nodes.{Node, Input, State, Const, Neg, Add, Sub, Mul, Div, Copy, nodes_of}
@@ -14,7 +13,6 @@ use Rattle.fx_inequalities.specs.Accepted.{start_of}
 use Rattle.fx_sizes.specs.Powers.{magnitude}
 use Rattle.fx_sizes.proofs.Powers.{power_more}
 use Rattle.fx_sizes.proofs.Values.{magnitude_nonneg}
-use Rattle.fx_sizes.proofs.Sizes.{IsUpTo}
 use Rattle.fx_sizes.proofs.Pairs.{ArePairs}
 use Rattle.fx_calm_numbers.specs.Calm.{Numbers, numbers_of, IsCalm}
 use Rattle.fx_calm_numbers.specs.Bounds.{Bound, no_bound, units_up, const_bound}

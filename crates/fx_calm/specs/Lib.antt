@@ -1,6 +1,1 @@
-pub mod SizeOf
-pub mod SumOf
-pub mod TermOf
-pub mod LimitOf
-pub mod NumbersOf
 pub mod BoundOf

@@ -12,8 +12,7 @@ ghost use Rattle.fx_calm_plan.specs.CalmPlan.{units, calm_line, calm_start, unit
 ghost use Rattle.fx_calm.specs.BoundOf.{bound_of, bounds_in, HaveShortStarts};
 
 use crate::bound::Bound;
-use crate::limit::{start_at, state_count};
-use crate::size;
+use fx_calmness::{start_at, state_count, units};
 use fx_cert::{NodeLine, Row, StartBox, unit_vector};
 use fx_expr::{Function, Items};
 use fx_interval::Interval;
@@ -74,7 +73,7 @@ fn start(function: &Function, k: u32, f: u32) -> StartBox
     requires short { units_up f (magnitude (start_of function.now k)) ≤ 2 ^ 61 }
     ensures { box_of result ≡ calm_start f (at no_state function.now.states k) }
 {
-    let r = size::units(start_at(function, k), f);
+    let r = units(start_at(function, k), f);
     StartBox {
         range: span(r as u64, f),
         error: span(1, f),

@@ -8,8 +8,7 @@ ghost use Rattle.fx_flat.specs.NodeOf.{node_of, nodes_in};
 ghost use Rattle.fx_sizes.specs.Narrow.{IsNarrowNumber, IsNarrowState, IsNarrowNode, IsNarrowDemand};
 ghost use Rattle.fx_calm_plan.specs.Laws.{IsNarrowFunction};
 
-use crate::limit::{start_at, state_count};
-use crate::size::{size_of, size_of_decimal};
+use fx_calmness::{size_of, size_of_decimal, start_at, state_count};
 use fx_expr::{Demand, Function};
 use fx_flat::Node;
 use fx_fraction::Decimal;

@@ -1,4 +1,4 @@
-use Rattle.fx_calm.proofs.Sizes.{shifted_code}
+use Rattle.fx_calm.proofs.Units.{shifted_code}
 use Rattle.fx_calm.proofs.bound.shift_up.Goals as goal
 
 pub returns : goal.returns

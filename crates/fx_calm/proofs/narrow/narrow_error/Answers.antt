@@ -3,7 +3,7 @@ use Rattle.std.specs.Prelude.{IfSome}
 use Rattle.std.specs.Option.{option_map}
 use Rattle.fx_rational.specs.Decimal.{decimal_value}
 use Rattle.fx_sizes.specs.Narrow.{IsNarrowNumber}
-use Rattle.fx_calm.proofs.Sizes.{narrow_size}
+use Rattle.fx_calm.proofs.Units.{narrow_size}
 use Rattle.fx_calm.proofs.narrow.narrow_error.Goals as goal
 
 pub returns-in-Some : goal.returns-in-Some

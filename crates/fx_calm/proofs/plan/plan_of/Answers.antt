@@ -1,4 +1,4 @@
-use Rattle.std.proofs.Common.{◌∙◌, ◌≤◌, List, ap, sym, subst}
+use Rattle.std.proofs.Common.{◌∙◌, List, ap, sym, subst}
 use Rattle.std.specs.Prelude.{All}
 use Rattle.fx_model.specs.Nodes.{Node, nodes_of}
 use Rattle.fx_flat.specs.NodeOf.{nodes_in}

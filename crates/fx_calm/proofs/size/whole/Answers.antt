@@ -1,5 +1,0 @@
-use Rattle.fx_calm.proofs.Sizes.{whole_size}
-use Rattle.fx_calm.proofs.size.whole.Goals as goal
-
-pub returns-clause-value : goal.returns-clause-value
-returns-clause-value c = whole_size c.args.n

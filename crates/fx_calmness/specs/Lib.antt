@@ -1,0 +1,5 @@
+pub mod SizeOf
+pub mod SumOf
+pub mod TermOf
+pub mod LimitOf
+pub mod NumbersOf
