@@ -42,11 +42,7 @@ fn plain_answer(alloc: Global, function: &Function, width: u32) -> Result<Certif
 }
 
 // The calm plan, certified, where the function is calm.
-fn calm_answer(
-    alloc: Global,
-    function: &Function,
-    width: u32,
-) -> Result<Option<Certified>, Memory>
+fn calm_answer(alloc: Global, function: &Function, width: u32) -> Result<Option<Certified>, Memory>
     requires width { Contains widths width }
     ensures answer { IfOk result (λ o. IfSome o (IsAnswerFor width function.now)) }
     ensures bounded { IfOk result (λ o. IfSome o (λ a. AreWithinPowers function.now a.program a.certificate (λ j. (numbers_of width function.now).z))) }

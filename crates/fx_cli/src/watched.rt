@@ -82,7 +82,11 @@ fn each_answer_stands_before_the_next_row(rt: HostRuntime) -> Result<(), Fail> {
     let answer = call(alloc, &["run", "a"], &mut input, 0)?;
     assert!(rt; answer.status == Status::DONE && input.looks.len() == 9);
     for look in &input.looks {
-        assert!(rt; look.printed.as_slice() == printed_at(look.left.len()).as_bytes(), "{} left", look.left.len());
+        assert!(rt;
+            look.printed.as_slice() == printed_at(look.left.len()).as_bytes(),
+            "{} left",
+            look.left.len()
+        );
     }
     Ok(())
 }
