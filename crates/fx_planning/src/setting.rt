@@ -63,7 +63,10 @@ impl<'a> Setting<'a> {
             uses: &[],
             boxes: &[],
             wanted,
-            goal: Goal { references: &[] },
+            goal: Goal {
+                references: &[],
+                is_held: false,
+            },
         }
     }
 }
