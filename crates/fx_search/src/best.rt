@@ -59,6 +59,14 @@ fn is_better(attempt: &Attempt, other: &Attempt) -> bool {
     own.is_below(others) || (own == others && has_smaller_bounds(attempt, other))
 }
 
+/// Whether an attempt is better than the best so far, if there is one.
+fn is_best(attempt: &Attempt, best: &Option<Polished>) -> bool {
+    match best {
+        Some(other) => is_better(attempt, &other.attempt),
+        None => true,
+    }
+}
+
 /// The polished attempt of a draft on grids, if there is an attempt. So many plans may be looked at; the others are left.
 pub fn polished(
     alloc: Global,
@@ -89,11 +97,7 @@ pub fn polish_trial(
     let Some(attempt) = polished(alloc, task, &trial.draft, Grids::FINE, plans)? else {
         return Ok(());
     };
-    let is_new = match best {
-        Some(other) => is_better(&attempt, &other.attempt),
-        None => true,
-    };
-    if is_new {
+    if is_best(&attempt, best) {
         let draft = trial.draft.copy(alloc)?;
         *best = Some(Polished { draft, attempt });
     }

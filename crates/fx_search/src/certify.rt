@@ -70,8 +70,8 @@ pub fn certified_as(
     match judged_after(alloc, task, &found.draft.steps, &found.attempt)? {
         Some(certified) => Ok(Some(certified)),
         None => {
-            let certified = certified(alloc, task, &found.draft, plans)?;
-            Ok(certified)
+            let other = certified(alloc, task, &found.draft, plans)?;
+            Ok(other)
         }
     }
 }
