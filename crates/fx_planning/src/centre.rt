@@ -69,7 +69,7 @@ fn moved(
         return Some(error);
     };
     let word = i128::from(w).checked_add(units)?;
-    let Some(w) = word_at(word, setting.width) else {
+    let Some(w) = word_at(word, setting.wanted.width) else {
         return Some(error);
     };
     if units == 0 {

@@ -7,7 +7,7 @@ use crate::centre::centred;
 use crate::setting::Setting;
 use fx_fraction::Fraction;
 use fx_num::{Memory, left_fits};
-use fx_program::Code;
+use fx_program::{Code, Kind, Round};
 use fx_ranges::{Failed, Form, mix_of, operands, weighted};
 use fx_span::{Scaled, Span, reading_error, unit_on, word_error};
 use std::alloc::Global;
@@ -105,14 +105,36 @@ impl Errors {
     }
 }
 
-/// What a shift by `s` to a point loses: a floor, where it is to the right.
-fn floor_loss(s: i32, point: i32) -> Option<Span> {
-    if s <= 0 {
-        return Some(Span::ZERO);
-    }
+/// What a floor at a point loses.
+fn floor_loss(point: i32) -> Option<Span> {
     let e = point.max(0).unsigned_abs();
     let lo = unit_on(point, e)?.checked_neg()?;
     Some(Span { lo, hi: 0, e })
+}
+
+/// What the nearest word at a point is off: half a unit to both sides.
+fn near_loss(point: i32) -> Option<Span> {
+    let halves = point.checked_add(1)?;
+    let e = halves.max(0).unsigned_abs();
+    let hi = unit_on(halves, e)?;
+    let lo = hi.checked_neg()?;
+    Some(Span { lo, hi, e })
+}
+
+/// What a shift by `s` to a point loses: nothing, where it isn't to the right.
+fn shift_loss(round: Round, s: i64, point: i32) -> Option<Span> {
+    if s <= 0 {
+        return Some(Span::ZERO);
+    }
+    match round {
+        Round::Floor => floor_loss(point),
+        Round::Nearest => near_loss(point),
+    }
+}
+
+/// The same of an operand of a sum, which is always rounded down.
+fn term_loss(s: i32, point: i32) -> Option<Span> {
+    shift_loss(Round::Floor, i64::from(s), point)
 }
 
 /// What is said of an operand.
@@ -121,18 +143,18 @@ fn of(list: &[Span], a: u32) -> Option<Span> {
 }
 
 /// The error of a code but a product, by what is said of its operands: their errors, or the rests of their forms.
-fn linear_error(list: &[Span], code: &Code, point: i32) -> Option<Span> {
-    match code {
-        Code::Neg { a } => of(list, *a)?.negative(),
-        Code::Copy { a, s } => of(list, *a)?.plus(floor_loss(*s, point)?),
-        Code::Add { a, b, sa, sb } => of(list, *a)?
+fn linear_error(list: &[Span], kind: &Kind, point: i32) -> Option<Span> {
+    match kind {
+        Kind::Neg { a } => of(list, *a)?.negative(),
+        Kind::Copy { r, a, s } => of(list, *a)?.plus(shift_loss(*r, *s, point)?),
+        Kind::Add { a, b, sa, sb } => of(list, *a)?
             .plus(of(list, *b)?)?
-            .plus(floor_loss(*sa, point)?)?
-            .plus(floor_loss(*sb, point)?),
-        Code::Sub { a, b, sa, sb } => of(list, *a)?
+            .plus(term_loss(*sa, point)?)?
+            .plus(term_loss(*sb, point)?),
+        Kind::Sub { a, b, sa, sb } => of(list, *a)?
             .minus(of(list, *b)?)?
-            .plus(floor_loss(*sa, point)?)?
-            .minus(floor_loss(*sb, point)?),
+            .plus(term_loss(*sa, point)?)?
+            .minus(term_loss(*sb, point)?),
         _ => None,
     }
 }
@@ -174,12 +196,14 @@ fn unrounded_error(
     code: &Code,
     point: i32,
 ) -> Option<Span> {
-    if let Code::Mul { a, b, s } = code {
-        let loss = floor_loss(i32::try_from(*s).ok()?, point)?;
-        let form = Form::of_rest(Span::ZERO);
-        return product_off(setting, errors, (*a as usize, *b as usize), &form)?.plus(loss);
+    match &code.kind() {
+        Kind::Mul { r, a, b, s } => {
+            let loss = shift_loss(*r, i64::from(*s), point)?;
+            let form = Form::of_rest(Span::ZERO);
+            product_off(setting, errors, (*a as usize, *b as usize), &form)?.plus(loss)
+        }
+        kind => linear_error(&errors.spans, kind, point),
     }
-    linear_error(&errors.spans, code, point)
 }
 
 /// The plain error of an operation but a quotient, on the grid of its point.
@@ -226,11 +250,12 @@ fn error_rest(
     form: &Form,
 ) -> Option<Span> {
     let point = setting.point(n)?;
-    let rest = if let Code::Mul { a, b, s } = code {
-        let loss = floor_loss(i32::try_from(*s).ok()?, point)?;
-        product_error(setting, errors, (*a as usize, *b as usize), form, loss)?
-    } else {
-        linear_error(&errors.rests, code, point)?
+    let rest = match &code.kind() {
+        Kind::Mul { r, a, b, s } => {
+            let loss = shift_loss(*r, i64::from(*s), point)?;
+            product_error(setting, errors, (*a as usize, *b as usize), form, loss)?
+        }
+        kind => linear_error(&errors.rests, kind, point)?,
     };
     if form.is_cut {
         cut_share(setting, errors, n, form, rest)
@@ -356,7 +381,7 @@ fn node_error(
 /// Whether the word of a node is too small for what the machine may hold there.
 fn is_small(setting: &Setting<'_>, n: usize, error: Span) -> Option<bool> {
     let point = setting.point(n)?;
-    Some(!setting.ranges.fits(n, error, point, setting.width)?)
+    Some(!setting.ranges.fits(n, error, point, setting.wanted.width)?)
 }
 
 /// The errors of all nodes, or the first node that has none.

@@ -10,13 +10,14 @@ use fx_num::Memory;
 use fx_program::Code;
 use fx_ranges::{Failed, Ranges};
 use fx_span::Span;
+use fx_wanted::Wanted;
 use std::alloc::Global;
 
 /// The codes of all nodes, their errors, and what the plan costs.
 #[derive(Debug, Drop)]
 pub struct Plan {
-    /// The width of its words.
-    pub width: u32,
+    /// What was asked of its words.
+    pub wanted: Wanted,
     pub(crate) codes: Vec<Code>,
     pub(crate) errors: Errors,
     pub(crate) cost: Cost,
@@ -73,7 +74,7 @@ fn planned(
     };
     let cost = cost_of(setting, outputs_of(setting, &errors));
     Ok(Ok(Plan {
-        width: setting.width,
+        wanted: setting.wanted,
         codes,
         errors,
         cost,
@@ -127,14 +128,14 @@ pub fn find_plan(
     nodes: &Nodes,
     ranges: &Ranges,
     points: &[i32],
-    width: u32,
+    wanted: Wanted,
     goal: Goal<'_>,
 ) -> Result<Result<Plan, Failed>, Memory> {
     let uses = count_uses(alloc, nodes.list.as_slice())?;
     let setting = Setting {
         uses: &uses,
         goal,
-        ..Setting::new(function, nodes, ranges, points, width)
+        ..Setting::new(function, nodes, ranges, points, wanted)
     };
     match setting.codes(alloc)? {
         Ok(codes) => better_plan(alloc, &setting, &codes),
@@ -158,7 +159,7 @@ pub fn move_word<'a>(
 ) -> Result<bool, Memory> {
     let setting = Setting {
         goal,
-        ..Setting::new(function, nodes, ranges, points, plan.width)
+        ..Setting::new(function, nodes, ranges, points, plan.wanted)
     };
     try_word(alloc, &setting, plan, node as usize, units)
 }
@@ -171,12 +172,12 @@ pub fn find_plan_in<'a>(
     nodes: &'a Nodes,
     ranges: &'a Ranges,
     points: &'a [i32],
-    width: u32,
+    wanted: Wanted,
     boxes: &'a [Span],
 ) -> Result<Result<Plan, Failed>, Memory> {
     let setting = Setting {
         boxes,
-        ..Setting::new(function, nodes, ranges, points, width)
+        ..Setting::new(function, nodes, ranges, points, wanted)
     };
     match setting.codes(alloc)? {
         Ok(codes) => planned(alloc, &setting, codes, false),

@@ -8,9 +8,10 @@ use fx_num::Memory;
 use fx_program::Code;
 use fx_ranges::{Failed, Ranges, codes_of, operands};
 use fx_span::Span;
+use fx_wanted::Wanted;
 use std::alloc::Global;
 
-/// A function's nodes and their ranges, at a width, and what its bounds are measured by.
+/// A function's nodes and their ranges, what is asked of its words, and what its bounds are measured by.
 #[derive(Clone, Copy, Debug)]
 pub struct Setting<'a> {
     pub function: &'a Function,
@@ -20,7 +21,8 @@ pub struct Setting<'a> {
     pub uses: &'a [u32],
     /// Where the error of each state lies.
     pub boxes: &'a [Span],
-    pub width: u32,
+    /// The words' width, and how they round.
+    pub wanted: Wanted,
     pub goal: Goal<'a>,
 }
 
@@ -51,7 +53,7 @@ impl<'a> Setting<'a> {
         nodes: &'a Nodes,
         ranges: &'a Ranges,
         points: &'a [i32],
-        width: u32,
+        wanted: Wanted,
     ) -> Setting<'a> {
         Setting {
             function,
@@ -60,7 +62,7 @@ impl<'a> Setting<'a> {
             points,
             uses: &[],
             boxes: &[],
-            width,
+            wanted,
             goal: Goal {
                 references: &[],
                 is_held: false,
@@ -72,7 +74,15 @@ impl<'a> Setting<'a> {
 impl Setting<'_> {
     /// The codes at the points, with the nearest words, or the first node that has none.
     pub fn codes(&self, alloc: Global) -> Result<Result<Vec<Code>, Failed>, Memory> {
-        codes_of(alloc, self.function, self.nodes, self.points, self.width)
+        let wanted = self.wanted;
+        codes_of(
+            alloc,
+            self.function,
+            self.nodes,
+            self.points,
+            wanted.width,
+            wanted.round,
+        )
     }
 
     /// The node of the first output.

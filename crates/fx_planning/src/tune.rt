@@ -130,7 +130,7 @@ pub fn try_word(
     n: usize,
     units: i64,
 ) -> Result<bool, Memory> {
-    let Some(mut codes) = moved_codes(alloc, &plan.codes, n, units, setting.width)? else {
+    let Some(mut codes) = moved_codes(alloc, &plan.codes, n, units, setting.wanted.width)? else {
         return Ok(false);
     };
     let Ok(errors) = find_errors(alloc, setting, &mut codes, false)? else {

@@ -11,6 +11,7 @@ use crate::literal::literal;
 use crate::magnitude::Magnitude;
 use crate::operation::{Factor, Rates, Room, input, product, quotient, sum};
 use fx_flat::Node;
+use fx_program::Round;
 use std::alloc::Global;
 
 /// What an attempt reads.
@@ -24,6 +25,8 @@ pub struct Task<'a> {
     pub uses: &'a [u32],
     /// The bits of a word.
     pub width: i8,
+    /// How products round.
+    pub round: Round,
 }
 
 /// A point for each node, and the summed cost of the outputs.
@@ -72,6 +75,7 @@ fn entry_of(task: Task, before: &[Entry], n: usize, cap: i8) -> Option<Entry> {
     let room = Room {
         cap,
         width: task.width,
+        round: task.round,
     };
     match task.nodes.get(n)? {
         Node::Input { .. } | Node::State { .. } => Some(Entry::Listed(input(facts.error, cap))),

@@ -7,6 +7,7 @@ use crate::attempt::{Chosen, Task, attempt, operands};
 use crate::facts::NodeFacts;
 use crate::fault::PointFault;
 use fx_flat::{Node, Nodes};
+use fx_program::Round;
 use std::alloc::Global;
 
 /// Counts a use of an operand.
@@ -143,6 +144,7 @@ pub fn choose_points(
     nodes: &Nodes,
     facts: &[NodeFacts],
     width: u32,
+    round: Round,
 ) -> Result<Vec<i32>, PointFault>
     requires facts { length facts.now ≡ length nodes.now.list }
     requires width { width ≤ 64 }
@@ -156,6 +158,7 @@ pub fn choose_points(
         facts,
         uses: &uses,
         width: width as i8,
+        round,
     };
     let mut caps = range_caps(alloc, facts)?;
     lower_negated(list, &mut caps);

@@ -5,6 +5,7 @@
 use crate::choice::{Choice, Choices, cheaper};
 use crate::entry::{Entry, Exact};
 use crate::magnitude::Magnitude;
+use fx_program::Round;
 
 /// How far the points of a node may go.
 #[derive(Clone, Copy, Debug)]
@@ -13,11 +14,18 @@ pub struct Room {
     pub cap: i8,
     /// The bits of a word.
     pub width: i8,
+    /// How products round.
+    pub round: Round,
 }
 
 /// What a floor at a point may lose.
 fn unit(f: i8) -> Magnitude {
     Magnitude::power_of_two(-i32::from(f))
+}
+
+/// What the nearest word at a point is off at most.
+fn half_unit(f: i8) -> Magnitude {
+    Magnitude::power_of_two(-1 - i32::from(f))
 }
 
 /// The points of an input, which is read with one floor and errs twice as far as it is given.
@@ -58,14 +66,17 @@ pub fn sum(a: &Entry, b: &Entry, room: Room) -> Option<Choices> {
     Some(Choices::down_from(top, Choice::POINTS, |f| sum_at(a, b, f, room.width)))
 }
 
-/// What a product's floor loses at point `f`, if it may have the shift.
-fn floor(shift: i32, f: i8, width: i8) -> Option<Magnitude> {
-    if shift > 2 * i32::from(width) - 2 {
+/// What a product's shift loses at point `f`, if it may have the shift.
+fn product_loss(shift: i32, f: i8, room: Room) -> Option<Magnitude> {
+    if shift > 2 * i32::from(room.width) - 2 {
         None
     } else if shift == 0 {
         Some(Magnitude::ZERO)
     } else {
-        Some(unit(f))
+        Some(match room.round {
+            Round::Floor => unit(f),
+            Round::Nearest => half_unit(f),
+        })
     }
 }
 
@@ -75,12 +86,12 @@ fn least_shift(least: i8, x: i8, f: i8) -> i32 {
 }
 
 /// The choice of the product of an exact literal and `x` at point `f`: the literal's point is the least that keeps all.
-fn scaled_choice(literal: Exact, size: Magnitude, x: Choice, f: i8, width: i8) -> Option<Choice> {
+fn scaled_choice(literal: Exact, size: Magnitude, x: Choice, f: i8, room: Room) -> Option<Choice> {
     let shift = least_shift(literal.least, x.point, f);
-    let floor = floor(shift, f, width)?;
+    let loss = product_loss(shift, f, room)?;
     let wanted = i32::from(f) - i32::from(x.point);
     let point = literal.at(wanted.saturating_add(shift))?.point;
-    let cost = size.times(x.cost).plus(floor);
+    let cost = size.times(x.cost).plus(loss);
     Some(Choice {
         point: f,
         cost,
@@ -90,10 +101,16 @@ fn scaled_choice(literal: Exact, size: Magnitude, x: Choice, f: i8, width: i8) -
 }
 
 /// The choice of the product of an exact literal and another node at point `f`.
-fn scaled_at(literal: Exact, size: Magnitude, other: &Choices, f: i8, width: i8) -> Option<Choice> {
+fn scaled_at(
+    literal: Exact,
+    size: Magnitude,
+    other: &Choices,
+    f: i8,
+    room: Room,
+) -> Option<Choice> {
     let mut best = None;
     for x in other.as_slice() {
-        best = cheaper(best, scaled_choice(literal, size, *x, f, width));
+        best = cheaper(best, scaled_choice(literal, size, *x, f, room));
     }
     best
 }
@@ -103,7 +120,7 @@ fn scaled(literal: Exact, size: Magnitude, other: &Choices, room: Room) -> Optio
     let finest = i32::from(other.finest()?.point);
     let top = (finest + i32::from(literal.greatest)).min(i32::from(room.cap));
     Some(Choices::down_from(top, Choice::POINTS, |f| {
-        scaled_at(literal, size, other, f, room.width)
+        scaled_at(literal, size, other, f, room)
     }))
 }
 
@@ -111,10 +128,10 @@ fn scaled(literal: Exact, size: Magnitude, other: &Choices, room: Room) -> Optio
 fn whole_product(x: Choice, y: Choice, cost: Magnitude, room: Room) -> Choices {
     let point = i32::from(x.point) + i32::from(y.point);
     Choices::down_from(point.min(i32::from(room.cap)), Choice::POINTS, |f| {
-        let floor = floor(point - i32::from(f), f, room.width)?;
+        let loss = product_loss(point - i32::from(f), f, room)?;
         Some(Choice {
             point: f,
-            cost: cost.plus(floor),
+            cost: cost.plus(loss),
             left: x.point,
             right: y.point,
         })

@@ -5,7 +5,7 @@ use fx_expr::Function;
 use fx_flat::Node;
 use fx_fraction::to_fraction;
 use fx_num::Memory;
-use fx_program::Code;
+use fx_program::{Code, Round};
 use fx_span::{nearest, word_at};
 use std::alloc::Global;
 
@@ -45,8 +45,26 @@ pub fn start_word(function: &Function, k: usize, f: i32, width: u32) -> Option<i
     word_at(nearest(to_fraction(state.start), f)?, width)
 }
 
+/// The copy that rounds so where its shift may, and else down.
+fn copy_of(round: Round, a: u32, s: i32, width: u32) -> Code {
+    match (round, u32::try_from(s)) {
+        (Round::Nearest, Ok(places)) if 1 <= places && places <= width => Code::CopyNear {
+            a,
+            s: places,
+        },
+        _ => Code::Copy { a, s },
+    }
+}
+
 /// The code of a node at its point, with the nearest word where it is a literal.
-fn code_of(function: &Function, node: &Node, f: i32, points: &[i32], width: u32) -> Option<Code> {
+fn code_of(
+    function: &Function,
+    node: &Node,
+    f: i32,
+    points: &[i32],
+    width: u32,
+    round: Round,
+) -> Option<Code> {
     Some(match node {
         Node::Input { k } => Code::Input { k: *k, f },
         Node::State { k } => Code::State {
@@ -76,26 +94,22 @@ fn code_of(function: &Function, node: &Node, f: i32, points: &[i32], width: u32)
             sa: shift(points, *a, f, width)?,
             sb: shift(points, *b, f, width)?,
         },
-        Node::Mul { a, b } => Code::Mul {
-            a: *a,
-            b: *b,
-            s: product_shift(points, *a, *b, f, width)?,
-        },
+        Node::Mul { a, b } => {
+            round.product_code(*a, *b, product_shift(points, *a, *b, f, width)?)
+        }
         Node::Div { a, b } => Code::Div {
             a: *a,
             b: *b,
             s: quotient_shift(points, *a, *b, f, width)?,
         },
-        Node::Copy { a } => Code::Copy {
-            a: *a,
-            s: shift(points, *a, f, width)?,
-        },
+        Node::Copy { a } => copy_of(round, *a, shift(points, *a, f, width)?, width),
     })
 }
 
 /// Whether a node has a code at a point, after those of its operands.
 pub fn has_code(function: &Function, node: &Node, f: i32, points: &[i32], width: u32) -> bool {
-    f >= -64 && f <= 62 && code_of(function, node, f, points, width).is_some()
+    // which shifts there are doesn't depend on how they round
+    f >= -64 && f <= 62 && code_of(function, node, f, points, width, Round::Floor).is_some()
 }
 
 /// The code of a node, where its point is one.
@@ -105,25 +119,27 @@ fn code_at(
     n: usize,
     points: &[i32],
     width: u32,
+    round: Round,
 ) -> Option<Code> {
     let f = points.get(n).copied()?;
     if f < -64 || f > 62 {
         return None;
     }
-    code_of(function, nodes.get(n)?, f, points, width)
+    code_of(function, nodes.get(n)?, f, points, width, round)
 }
 
-/// The codes of all nodes, or the first node whose point gives no code of the width.
+/// The codes of all nodes that round so, or the first node whose point gives no code of the width.
 pub fn codes_of(
     alloc: Global,
     function: &Function,
     nodes: &[Node],
     points: &[i32],
     width: u32,
+    round: Round,
 ) -> Result<Result<Vec<Code>, Failed>, Memory> {
     let mut codes = Vec::new(alloc);
     for n in 0..nodes.len() {
-        match code_at(function, nodes, n, points, width) {
+        match code_at(function, nodes, n, points, width, round) {
             Some(code) => codes.push(code)?,
             None => return Ok(Err(Failed::at(n))),
         }

@@ -105,7 +105,13 @@ fn placed_within(
     caps: &[i32],
 ) -> Result<Result<Placed, Failed>, Memory> {
     let facts = facts_of(alloc, function, nodes, ranges, caps)?;
-    let points = match choose_points(alloc, nodes, &facts, task.width.min(64)) {
+    let points = match choose_points(
+        alloc,
+        nodes,
+        &facts,
+        task.wanted.width.min(64),
+        task.wanted.round,
+    ) {
         Ok(points) => points,
         Err(PointFault::NoPoint { node }) => return Ok(Err(Failed::at(node))),
         Err(PointFault::Memory) => return Err(Memory),
@@ -116,7 +122,7 @@ fn placed_within(
         nodes,
         ranges,
         &points,
-        task.width,
+        task.wanted,
         task.goal(),
     )?;
     match found {
@@ -143,7 +149,7 @@ fn backed_off(
     nodes: &Nodes,
     ranges: &Ranges,
 ) -> Result<Result<Placed, Failed>, Memory> {
-    let mut caps = range_caps(alloc, nodes, ranges, task.width)?;
+    let mut caps = range_caps(alloc, nodes, ranges, task.wanted.width)?;
     let mut failed = Failed::at(0);
     for _turn in 0..TURNS {
         let placed = match placed_within(alloc, task, function, nodes, ranges, &caps)? {

@@ -23,7 +23,7 @@ fn judged_after(
     steps: &[Step],
     attempt: &Attempt,
 ) -> Result<Option<Certified>, Memory>
-    ensures { IfOk result (IsOffered task.entry.width task.entry.source.now) }
+    ensures { IfOk result (IsOffered task.entry.wanted task.entry.source.now) }
 {
     let plan = &attempt.placed.plan;
     let written = write(
@@ -34,7 +34,7 @@ fn judged_after(
         &attempt.ranges,
         plan,
     )?;
-    let certified = offered(alloc, task.source, task.width, written)?;
+    let certified = offered(alloc, task.source, task.wanted, written)?;
     Ok(certified)
 }
 
@@ -46,7 +46,7 @@ fn certified_on(
     plans: u32,
     grids: Grids,
 ) -> Result<Option<Certified>, Memory>
-    ensures { IfOk result (IsOffered task.entry.width task.entry.source.now) }
+    ensures { IfOk result (IsOffered task.entry.wanted task.entry.source.now) }
 {
     match attempted(alloc, task, &draft.function, grids)? {
         Ok(mut attempt) => {
@@ -66,7 +66,7 @@ pub fn certified(
     draft: &Draft,
     plans: u32,
 ) -> Result<Option<Certified>, Memory>
-    ensures { IfOk result (IsOffered task.entry.width task.entry.source.now) }
+    ensures { IfOk result (IsOffered task.entry.wanted task.entry.source.now) }
 {
     for grids in [Grids::FINE, Grids::COARSE, Grids::COARSEST] {
         let found = certified_on(alloc, task, draft, plans, grids)?;

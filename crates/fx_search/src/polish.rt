@@ -82,7 +82,7 @@ impl<'a> Polish<'a> {
             &attempt.nodes,
             &attempt.ranges,
             &points,
-            self.task.width,
+            self.task.wanted,
             self.task.goal(),
         )?;
         match found {

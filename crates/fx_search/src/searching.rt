@@ -1,6 +1,5 @@
 //! The search, from its first draw to what the checker has certified.
-ghost use Rattle.std.specs.Prelude.{Contains, IfOk};
-ghost use Rattle.fx_model.specs.LawfulProgram.{widths};
+ghost use Rattle.std.specs.Prelude.{IfOk};
 ghost use Rattle.fx_checker.specs.Answers.{IsOffered};
 
 use crate::certify::{certified, keeps};
@@ -10,6 +9,7 @@ use fx_checker::Certified;
 use fx_expr::Function;
 use fx_moves::Draft;
 use fx_num::{Dyadic, Memory};
+use fx_wanted::Wanted;
 use rand_core::SeedableRng;
 use rand_pcg::Pcg32;
 use std::alloc::Global;
@@ -37,7 +37,7 @@ fn suited(
     plans: u32,
     held: &[Dyadic],
 ) -> Result<Option<Certified>, Memory>
-    ensures { IfOk result (IsOffered task.entry.width task.entry.source.now) }
+    ensures { IfOk result (IsOffered task.entry.wanted task.entry.source.now) }
 {
     let Some(found) = certified(alloc, task, draft, plans)? else {
         return Ok(None);
@@ -56,7 +56,7 @@ fn unstepped(
     plans: u32,
     held: &[Dyadic],
 ) -> Result<Option<Certified>, Memory>
-    ensures { IfOk result (IsOffered task.entry.width task.entry.source.now) }
+    ensures { IfOk result (IsOffered task.entry.wanted task.entry.source.now) }
 {
     let source = Draft::new(alloc, task.source)?;
     let found = suited(alloc, task, &source, plans, held)?;
@@ -68,13 +68,13 @@ fn best(
     alloc: Global,
     task: Task<'_>,
     seed: u64,
-    tries: u32,
     held: &[Dyadic],
 ) -> Result<Option<Certified>, Memory>
-    ensures { IfOk result (IsOffered task.entry.width task.entry.source.now) }
+    ensures { IfOk result (IsOffered task.entry.wanted task.entry.source.now) }
 {
     let mut rng = Pcg32::seed_from_u64(seed);
     let nodes = task.source.nodes();
+    let tries = task.wanted.tries;
     let draft = best_draft(alloc, &mut rng, task, affordable(nodes, tries))?;
     let plans = affordable(nodes, tries.saturating_mul(2));
     match suited(alloc, task, &draft, plans, held)? {
@@ -94,24 +94,22 @@ fn best(
 pub fn search(
     alloc: Global,
     function: &Function,
-    width: u32,
+    wanted: Wanted,
     seed: u64,
-    tries: u32,
     held: &[Dyadic],
 ) -> Result<Option<Certified>, Memory>
-    requires width { Contains widths width }
-    ensures { IfOk result (IsOffered width function.now) }
+    ensures { IfOk result (IsOffered wanted function.now) }
 {
-    if tries == 0 {
+    if wanted.tries == 0 {
         return Ok(None);
     }
     let references = references(alloc, held)?;
     let task = Task {
         source: function,
-        width,
+        wanted,
         references: &references,
         is_held: !held.is_empty(),
     };
-    let found = best(alloc, task, seed, tries, held)?;
+    let found = best(alloc, task, seed, held)?;
     Ok(found)
 }

@@ -4,13 +4,14 @@ use fx_expr::Function;
 use fx_num::{Dyadic, Memory};
 use fx_planning::Goal;
 use fx_span::Real;
+use fx_wanted::Wanted;
 use std::alloc::Global;
 
-/// The function, the width of its words, and what its bounds are measured by.
+/// The function, what is asked of its program, and what its bounds are measured by.
 #[derive(Clone, Copy)]
 pub struct Task<'a> {
     pub source: &'a Function,
-    pub width: u32,
+    pub wanted: Wanted,
     /// About the bounds of the answer that stands.
     pub references: &'a [Real],
     /// Whether there is one, so that none of them may be exceeded.
