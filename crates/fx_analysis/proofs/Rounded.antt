@@ -15,7 +15,8 @@ use Rattle.fx_analysis.specs.PlainRanges.{plain_ranges}
 use Rattle.fx_analysis.specs.GreedyPoints.{greedy_points}
 use Rattle.fx_analysis.specs.PlainErrors.{placed_code, plain_errors}
 use Rattle.fx_analysis.specs.PlainAttempt.{Attempt, placed_codes, attempt_of, with_errors, with_points, with_ranges, plain_attempt}
-use Rattle.fx_analysis.specs.Attempts.{with_steps, RoundedAttemptLaw}
+use Rattle.fx_analysis.specs.Attempts.{with_steps}
+use Rattle.fx_analysis.specs.AttemptLaws.{RoundedLaw}
 
 code_rounded : (n : ℕ) (r : Round) (fn : Function) (ps : List ℤ) (node : Node) (f : ℤ) → RoundsBy r n (placed_code n r fn ps node f)
 code_rounded n r fn ps (Input j) f = tt
@@ -52,7 +53,7 @@ module _ (n : ℕ) (r : Round) (fn : Function) (t : Attempt) where
   by_ranges (Err why) e = absurd cc
 
 -- ---- of the attempt after steps
-pub rounded_after : RoundedAttemptLaw
+pub rounded_after : RoundedLaw
 rounded_after n r fn steps t there = by (plain_attempt n r (rewritten_by rewrite fn steps)) refl there
   where
     by : (a : Option Attempt) → plain_attempt n r (rewritten_by rewrite fn steps) ≡ a → option_map (with_steps steps) a ≡ Some t → IsRoundedBy r t.program
