@@ -18,6 +18,7 @@ use fx_num::Memory;
 use fx_planning::Plan;
 use fx_ranges::Ranges;
 use fx_span::{Grids, Span};
+use fx_wanted::Wanted;
 use fx_writing::{Kept, plan_lines, write_with_states};
 use std::alloc::Global;
 
@@ -39,7 +40,7 @@ fn points_within(
     caps: &[i32],
 ) -> Result<Option<Vec<i32>>, Memory> {
     let nodes = task.nodes.list.as_slice();
-    let caps = caps_of_negated(alloc, nodes, ranges, task.width, caps)?;
+    let caps = caps_of_negated(alloc, nodes, ranges, task.wanted.width, caps)?;
     let Some(points) = greatest_points(alloc, task, ranges, &caps)? else {
         return Ok(None);
     };
@@ -103,7 +104,7 @@ fn checked(
     shares: Vec<Option<Items<Share>>>,
     errors: Errors,
 ) -> Result<Option<Certified>, Memory>
-    ensures { IfOk result (IsOffered task.entry.width task.entry.function.now) }
+    ensures { IfOk result (IsOffered task.entry.wanted task.entry.function.now) }
 {
     let Errors { points, settled } = errors;
     let starts = start_boxes(alloc, &values.starts, &settled.starts)?;
@@ -125,13 +126,13 @@ fn checked(
         lines,
         kept,
     )?;
-    let certified = offered(alloc, task.function, task.width, written)?;
+    let certified = offered(alloc, task.function, task.wanted, written)?;
     Ok(certified)
 }
 
 /// An attempt on these grids.
 fn attempted(alloc: Global, task: Task<'_>) -> Result<Option<Certified>, Memory>
-    ensures { IfOk result (IsOffered task.entry.width task.entry.function.now) }
+    ensures { IfOk result (IsOffered task.entry.wanted task.entry.function.now) }
 {
     let Some(mut values) = settle(alloc, task, &OfValues, None)? else {
         return Ok(None);
@@ -145,7 +146,7 @@ fn attempted(alloc: Global, task: Task<'_>) -> Result<Option<Certified>, Memory>
 
 /// The same on the coarser grids, the coarsest last.
 fn attempted_coarsely(alloc: Global, task: Task<'_>) -> Result<Option<Certified>, Memory>
-    ensures { IfOk result (IsOffered task.entry.width task.entry.function.now) }
+    ensures { IfOk result (IsOffered task.entry.wanted task.entry.function.now) }
 {
     let coarse = Task {
         grids: Grids::COARSE,
@@ -168,16 +169,16 @@ fn attempted_coarsely(alloc: Global, task: Task<'_>) -> Result<Option<Certified>
 pub fn certify_states(
     alloc: Global,
     function: &Function,
-    width: u32,
+    wanted: Wanted,
 ) -> Result<Option<Certified>, Memory>
-    requires width { Contains widths width }
-    ensures { IfOk result (IsOffered width function.now) }
+    requires width { Contains widths wanted.width }
+    ensures { IfOk result (IsOffered wanted function.now) }
 {
     let nodes = flatten(alloc, function)?;
     let task = Task {
         function,
         nodes: &nodes,
-        width,
+        wanted,
         grids: Grids::FINE,
     };
     match attempted(alloc, task)? {

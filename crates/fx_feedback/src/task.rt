@@ -3,12 +3,13 @@
 use fx_expr::Function;
 use fx_flat::Nodes;
 use fx_span::Grids;
+use fx_wanted::Wanted;
 
 /// What an attempt goes on.
 #[derive(Clone, Copy, Debug)]
 pub struct Task<'a> {
     pub function: &'a Function,
     pub nodes: &'a Nodes,
-    pub width: u32,
+    pub wanted: Wanted,
     pub grids: Grids,
 }
