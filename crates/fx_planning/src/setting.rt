@@ -63,10 +63,7 @@ impl<'a> Setting<'a> {
             uses: &[],
             boxes: &[],
             wanted,
-            goal: Goal {
-                references: &[],
-                is_held: false,
-            },
+            goal: Goal { references: &[] },
         }
     }
 }
