@@ -8,10 +8,10 @@ use crate::task::Task;
 use fx_expr::Function;
 use fx_flat::{Node, Nodes, flatten};
 use fx_num::Memory;
-use fx_planning::{Cost, Plan, find_plan};
+use fx_planning::{Cost, Plan, bound, find_plan};
 use fx_points::{Magnitude, NodeFacts, PointFault, choose_points};
 use fx_ranges::{Failed, Ranges, find_ranges};
-use fx_span::{Grids, Scaled, input_error};
+use fx_span::{Grids, Real, Scaled, Span, input_error};
 use std::alloc::Global;
 
 /// So often points are chosen again, at most.
@@ -30,6 +30,32 @@ pub struct Attempt {
     pub nodes: Nodes,
     pub ranges: Ranges,
     pub placed: Placed,
+}
+
+impl Attempt {
+    /// How many outputs there are.
+    pub fn outputs(&self) -> usize {
+        self.nodes.outputs as usize
+    }
+
+    /// The error of an output.
+    pub fn output(&self, j: usize) -> Option<Span> {
+        let results = self.outputs().saturating_add(self.nodes.states as usize);
+        let first = self.nodes.list.len().saturating_sub(results);
+        self.placed.plan.errors().span(first.saturating_add(j))
+    }
+
+    /// About the bounds of the outputs.
+    pub fn bounds(&self, alloc: Global) -> Result<Vec<Real>, Memory> {
+        let mut bounds = Vec::new(alloc);
+        for j in 0..self.outputs() {
+            bounds.push(match self.output(j) {
+                Some(error) => bound(error),
+                None => Real::INFINITE,
+            })?;
+        }
+        Ok(bounds)
+    }
 }
 
 /// A size for ranking, where there is one.

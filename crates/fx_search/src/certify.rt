@@ -5,8 +5,8 @@
 ghost use Rattle.std.specs.Prelude.{IfOk};
 ghost use Rattle.fx_checker.specs.Answers.{IsOffered};
 
-use crate::attempt::{Attempt, attempted};
-use crate::polish::Polish;
+use crate::attempt::Attempt;
+use crate::best::{Polished, polished};
 use crate::task::Task;
 use fx_checker::{Certified, offered};
 use fx_moves::Draft;
@@ -48,14 +48,31 @@ fn certified_on(
 ) -> Result<Option<Certified>, Memory>
     ensures { IfOk result (IsOffered task.entry.wanted task.entry.source.now) }
 {
-    match attempted(alloc, task, &draft.function, grids)? {
-        Ok(mut attempt) => {
-            let mut polish = Polish::new(alloc, task, &draft.function, plans);
-            polish.run(&mut attempt)?;
+    let mut left = plans;
+    match polished(alloc, task, draft, grids, &mut left)? {
+        Some(attempt) => {
             let certified = judged_after(alloc, task, &draft.steps, &attempt)?;
             Ok(certified)
         }
-        Err(_) => Ok(None),
+        None => Ok(None),
+    }
+}
+
+/// The certified program of a polished attempt, or of its draft on the finest grids on which there is one.
+pub fn certified_as(
+    alloc: Global,
+    task: Task<'_>,
+    found: &Polished,
+    plans: u32,
+) -> Result<Option<Certified>, Memory>
+    ensures { IfOk result (IsOffered task.entry.wanted task.entry.source.now) }
+{
+    match judged_after(alloc, task, &found.draft.steps, &found.attempt)? {
+        Some(certified) => Ok(Some(certified)),
+        None => {
+            let certified = certified(alloc, task, &found.draft, plans)?;
+            Ok(certified)
+        }
     }
 }
 

@@ -1,55 +1,47 @@
-//! Climbing: from the best drafts so far by small moves, with some heat, and back to the best where nothing is gained.
+//! Climbing: from the best drafts so far by small moves, with some heat, and back to one of them where nothing is gained.
+//!
+//! Which tries begin at the source, and all that is drawn, doesn't depend on how many tries there are in all: more tries are
+//! the same ones and others behind them.
 
-use crate::attempt::attempted;
+use crate::front::{Front, Trial};
 use crate::task::Task;
 use fx_moves::{Draft, clean_all, draw, factor_all, mutate};
 use fx_num::Memory;
 use fx_planning::Cost;
-use fx_span::{Grids, Real};
+use fx_span::Real;
 use rand_core::Rng;
 use std::alloc::Global;
 
-/// At most so many tries begin at the source.
-const STARTS: u32 = 20;
+/// The first tries begin at the source,
+const FIRST_STARTS: u32 = 4;
 
-/// After so many tries without gain the best is taken up again.
+/// and some more from this one on,
+const LATER_START: u32 = 21;
+
+/// up to here.
+const LAST_START: u32 = 36;
+
+/// After so many tries without gain one of the best is taken up again.
 const PATIENCE: u32 = 20;
 
 /// A dearer draft is taken up only with at most so many steps.
 const WARM_STEPS: usize = 32;
 
-/// A draft, and what its attempt costs.
-#[derive(Drop)]
-struct Trial {
-    draft: Draft,
-    cost: Cost,
-}
-
-impl Trial {
-    /// The attempt of a draft.
-    fn new(alloc: Global, task: Task<'_>, draft: Draft) -> Result<Trial, Memory> {
-        let cost = match attempted(alloc, task, &draft.function, Grids::FINE)? {
-            Ok(attempt) => attempt.placed.plan.cost(),
-            Err(cost) => cost,
-        };
-        Ok(Trial { draft, cost })
-    }
-
-    fn copy(&self, alloc: Global) -> Result<Trial, Memory> {
-        Ok(Trial {
-            draft: self.draft.copy(alloc)?,
-            cost: self.cost,
-        })
-    }
-}
-
 /// Where a search stands.
 #[derive(Drop)]
-struct Climb {
+pub struct Climb {
     current: Trial,
-    best: Trial,
+    /// The best drafts so far.
+    pub front: Front,
     /// How many tries ago the last gain was.
     since: u32,
+    /// How often one of the best was taken up again.
+    returns: u32,
+}
+
+/// Whether a try begins at the source. The source itself is the one before them.
+fn is_start(turn: u32) -> bool {
+    turn <= FIRST_STARTS || (LATER_START <= turn && turn <= LAST_START)
 }
 
 /// A cost raised by at most a tenth.
@@ -80,21 +72,44 @@ fn started<R: Rng>(alloc: Global, rng: &mut R, task: Task<'_>, turn: u32) -> Res
 
 impl Climb {
     /// At the source, which is the best so far.
-    fn at_source(alloc: Global, task: Task<'_>) -> Result<Climb, Memory> {
+    pub fn at_source(alloc: Global, task: Task<'_>) -> Result<Climb, Memory> {
         let source = Trial::new(alloc, task, Draft::new(alloc, task.source)?)?;
+        let mut front = Front::new(alloc);
+        front.keep(alloc, &source)?;
         Ok(Climb {
-            best: source.copy(alloc)?,
             current: source,
+            front,
             since: 0,
+            returns: 0,
         })
     }
 
-    /// A draft by random moves from the current one, or from the best where nothing was gained for long.
+    /// Which of the best is taken up again: the best every other time, and the others in turn.
+    fn return_to(&self) -> usize {
+        let others = self.front.len().saturating_sub(1);
+        let turn = (self.returns >> 1) as usize;
+        if self.returns & 1 == 0 {
+            0
+        } else {
+            turn.checked_rem(others).map_or(0, |i| i.saturating_add(1))
+        }
+    }
+
+    /// Takes up one of the best again.
+    fn go_back(&mut self, alloc: Global) -> Result<(), Memory> {
+        if let Some(trial) = self.front.get(self.return_to()) {
+            self.current = trial.copy(alloc)?;
+        }
+        self.since = 0;
+        self.returns = self.returns.wrapping_add(1);
+        Ok(())
+    }
+
+    /// A draft by random moves from the current one, or from one of the best where nothing was gained for long.
     fn moved<R: Rng>(&mut self, alloc: Global, rng: &mut R) -> Result<Draft, Memory> {
         self.since = self.since.saturating_add(1);
         if self.since > PATIENCE {
-            self.current = self.best.copy(alloc)?;
-            self.since = 0;
+            self.go_back(alloc)?;
         }
         let mut draft = self.current.draft.copy(alloc)?;
         mutate(alloc, rng, &mut draft)?;
@@ -115,10 +130,9 @@ impl Climb {
         !is_start && steps <= WARM_STEPS && trial.cost.is_below(limit)
     }
 
-    /// Keeps a copy of a trial that is better than all before it.
-    fn keep_best(&mut self, alloc: Global, trial: &Trial) -> Result<(), Memory> {
-        if trial.cost.is_below(self.best.cost) {
-            self.best = trial.copy(alloc)?;
+    /// Keeps a copy of a trial that is among the best.
+    fn keep(&mut self, alloc: Global, trial: &Trial) -> Result<(), Memory> {
+        if self.front.keep(alloc, trial)? {
             self.since = 0;
         }
         Ok(())
@@ -144,7 +158,7 @@ impl Climb {
             return Ok(());
         }
         let trial = Trial::new(alloc, task, draft)?;
-        self.keep_best(alloc, &trial)?;
+        self.keep(alloc, &trial)?;
         self.take(rng, trial, is_start);
         Ok(())
     }
@@ -156,45 +170,23 @@ impl Climb {
         rng: &mut R,
         task: Task<'_>,
         turn: u32,
-        is_start: bool,
     ) -> Result<Draft, Memory> {
-        if is_start {
+        if is_start(turn) {
             started(alloc, rng, task, turn)
         } else {
             self.moved(alloc, rng)
         }
     }
 
-    /// So many tries, of which the source was the first.
-    fn run<R: Rng>(
+    /// The try of this number, from 1 on behind the source.
+    pub fn turn<R: Rng>(
         &mut self,
         alloc: Global,
         rng: &mut R,
         task: Task<'_>,
-        tries: u32,
+        turn: u32,
     ) -> Result<(), Memory> {
-        let starts = (tries / 5).clamp(1, STARTS);
-        for turn in 1..tries {
-            let is_start = turn <= starts;
-            let draft = self.next_draft(alloc, rng, task, turn, is_start)?;
-            self.attempt(alloc, rng, task, draft, is_start)?;
-        }
-        Ok(())
+        let draft = self.next_draft(alloc, rng, task, turn)?;
+        self.attempt(alloc, rng, task, draft, is_start(turn))
     }
-
-    fn into_best(self) -> Draft {
-        self.best.draft
-    }
-}
-
-/// The draft with the best attempt among so many.
-pub fn best_draft<R: Rng>(
-    alloc: Global,
-    rng: &mut R,
-    task: Task<'_>,
-    tries: u32,
-) -> Result<Draft, Memory> {
-    let mut climb = Climb::at_source(alloc, task)?;
-    climb.run(alloc, rng, task, tries)?;
-    Ok(climb.into_best())
 }

@@ -62,6 +62,11 @@ impl<'a> Polish<'a> {
         }
     }
 
+    /// How many plans may still be looked at.
+    pub fn left(&self) -> u32 {
+        self.budget
+    }
+
     /// Counts a plan, if there may be another.
     fn spend(&mut self) -> bool {
         let is_left = self.budget > 0;

@@ -1,45 +1,125 @@
 //! The search, from its first draw to what the checker has certified.
+//!
+//! At certain tries, the marks, the best drafts so far are polished, and the best of all is certified at the end. What was found up to a
+//! mark doesn't depend on how many tries follow, so more tries make no answer worse.
 ghost use Rattle.std.specs.Prelude.{IfOk};
 ghost use Rattle.fx_checker.specs.Answers.{IsOffered};
 
-use crate::certify::{certified, keeps};
-use crate::climb::best_draft;
-use crate::task::{Task, references};
+use crate::best::{Polished, polish_trial};
+use crate::certify::{certified, certified_as, keeps};
+use crate::climb::Climb;
+use crate::front::Front;
+use crate::task::{Task, affordable, references};
 use fx_checker::Certified;
 use fx_expr::Function;
 use fx_moves::Draft;
 use fx_num::{Dyadic, Memory};
 use fx_wanted::Wanted;
-use rand_core::SeedableRng;
+use rand_core::{Rng, SeedableRng};
 use rand_pcg::Pcg32;
 use std::alloc::Global;
 
-/// A function of more nodes gets fewer tries, so that
-const MANY_NODES: u32 = 500;
+/// So many plans are looked at in polishing, and two more for each try so far.
+const PLANS: u32 = 64;
 
-/// tries by nodes are at most so many.
-const WORK_LIMIT: u32 = 1 << 18;
+/// Whether the best drafts are polished after so many tries: after 1, 2 and 5, and ten times as many, and so on.
+fn is_mark(tries: u32) -> bool {
+    let mut first = tries;
+    for _place in 0..9 {
+        if first % 10 == 0 {
+            first /= 10;
+        }
+    }
+    first == 1 || first == 2 || first == 5
+}
 
-/// So many tries at most serve a function of so many nodes, and the first one always.
-fn affordable(nodes: u32, tries: u32) -> u32 {
-    if nodes <= MANY_NODES {
-        tries
+/// How many plans are looked at in polishing after so many tries. Between the marks nothing is polished, so that what is
+/// found then is found at the next mark too.
+fn plans_after(nodes: u32, tries: u32) -> u32 {
+    if is_mark(tries) {
+        affordable(nodes, tries.saturating_mul(2).saturating_add(PLANS))
     } else {
-        tries.min((WORK_LIMIT / nodes).max(1))
+        0
     }
 }
 
-/// The certified program of a draft, unless a bound is above the one that stands.
+/// Polishes the best drafts, as far as so many plans go, and lets them take the best one's place.
+fn polish_front(
+    alloc: Global,
+    task: Task<'_>,
+    front: &mut Front,
+    best: &mut Option<Polished>,
+    plans: u32,
+) -> Result<(), Memory> {
+    let mut left = plans;
+    for i in 0..front.len() {
+        if let Some(trial) = front.get(i) {
+            if !trial.is_done {
+                polish_trial(alloc, task, trial, best, &mut left)?;
+            }
+        }
+        if left > 0 {
+            front.finish(i);
+        }
+    }
+    Ok(())
+}
+
+/// The try of this number, of which the source is the first, and the best behind it.
+fn turn<R: Rng>(
+    alloc: Global,
+    rng: &mut R,
+    task: Task<'_>,
+    climb: &mut Climb,
+    best: &mut Option<Polished>,
+    number: u32,
+) -> Result<(), Memory> {
+    if number > 1 {
+        climb.turn(alloc, rng, task, number.saturating_sub(1))?;
+    }
+    if number == task.tries() || is_mark(number) {
+        let plans = plans_after(task.source.nodes(), number);
+        polish_front(alloc, task, &mut climb.front, best, plans)?;
+    }
+    Ok(())
+}
+
+/// The best polished attempt among so many tries.
+fn best_attempt(alloc: Global, task: Task<'_>, seed: u64) -> Result<Option<Polished>, Memory> {
+    let mut rng = Pcg32::seed_from_u64(seed);
+    let mut climb = Climb::at_source(alloc, task)?;
+    let mut best = None;
+    for number in 1..task.tries().saturating_add(1) {
+        turn(alloc, &mut rng, task, &mut climb, &mut best, number)?;
+    }
+    Ok(best)
+}
+
+/// The certified program of a polished attempt, unless a bound is above the one that stands.
 fn suited(
     alloc: Global,
     task: Task<'_>,
-    draft: &Draft,
-    plans: u32,
+    found: &Polished,
     held: &[Dyadic],
 ) -> Result<Option<Certified>, Memory>
     ensures { IfOk result (IsOffered task.entry.wanted task.entry.source.now) }
 {
-    let Some(found) = certified(alloc, task, draft, plans)? else {
+    let Some(certified) = certified_as(alloc, task, found, PLANS)? else {
+        return Ok(None);
+    };
+    if keeps(&certified, held) {
+        Ok(Some(certified))
+    } else {
+        Ok(None)
+    }
+}
+
+/// What the source as it stands gives, for want of a program by any steps.
+fn unstepped(alloc: Global, task: Task<'_>, held: &[Dyadic]) -> Result<Option<Certified>, Memory>
+    ensures { IfOk result (IsOffered task.entry.wanted task.entry.source.now) }
+{
+    let source = Draft::new(alloc, task.source)?;
+    let Some(found) = certified(alloc, task, &source, PLANS)? else {
         return Ok(None);
     };
     if keeps(&found, held) {
@@ -49,18 +129,22 @@ fn suited(
     }
 }
 
-/// What the source as it stands gives, for want of a program by any steps.
-fn unstepped(
+/// What comes of the best polished attempt, or else of the source as it stands.
+fn best_of(
     alloc: Global,
     task: Task<'_>,
-    plans: u32,
+    found: &Polished,
     held: &[Dyadic],
 ) -> Result<Option<Certified>, Memory>
     ensures { IfOk result (IsOffered task.entry.wanted task.entry.source.now) }
 {
-    let source = Draft::new(alloc, task.source)?;
-    let found = suited(alloc, task, &source, plans, held)?;
-    Ok(found)
+    match suited(alloc, task, found, held)? {
+        Some(certified) => Ok(Some(certified)),
+        None => {
+            let certified = unstepped(alloc, task, held)?;
+            Ok(certified)
+        }
+    }
 }
 
 /// The best that is found for a task.
@@ -72,16 +156,14 @@ fn best(
 ) -> Result<Option<Certified>, Memory>
     ensures { IfOk result (IsOffered task.entry.wanted task.entry.source.now) }
 {
-    let mut rng = Pcg32::seed_from_u64(seed);
-    let nodes = task.source.nodes();
-    let tries = task.wanted.tries;
-    let draft = best_draft(alloc, &mut rng, task, affordable(nodes, tries))?;
-    let plans = affordable(nodes, tries.saturating_mul(2));
-    match suited(alloc, task, &draft, plans, held)? {
-        Some(found) => Ok(Some(found)),
+    match best_attempt(alloc, task, seed)? {
+        Some(found) => {
+            let certified = best_of(alloc, task, &found, held)?;
+            Ok(certified)
+        }
         None => {
-            let found = unstepped(alloc, task, plans, held)?;
-            Ok(found)
+            let certified = unstepped(alloc, task, held)?;
+            Ok(certified)
         }
     }
 }
@@ -103,12 +185,11 @@ pub fn search(
     if wanted.tries == 0 {
         return Ok(None);
     }
-    let references = references(alloc, held)?;
+    let references = references(alloc, function, wanted, held)?;
     let task = Task {
         source: function,
         wanted,
         references: &references,
-        is_held: !held.is_empty(),
     };
     let found = best(alloc, task, seed, held)?;
     Ok(found)
