@@ -24,10 +24,10 @@ class Fixd:
             sys.exit(f"fixd {' '.join(words)}: {ran.stderr.strip()}")
         return ran.stdout if ran.returncode == 0 else None
 
-    def synthesised(self, path, name, width, tries, **options):
+    def synthesised(self, path, name, width, tries, rounding="floor", **options):
         """Returns the bundle for the function of this name, or None where none is found, and the seconds that it took."""
         start = time.monotonic()
-        text = self.call(["synth", "--width", str(width), "--tries", str(tries), "--function", name, path], **options)
+        text = self.call(["synth", "--width", str(width), "--tries", str(tries), "--round", rounding, "--function", name, path], **options)
         return text, time.monotonic() - start
 
     def bounds_of(self, bundle):

@@ -1,14 +1,16 @@
 #!/usr/bin/env python3
-"""Measures how good the programs that `synth` finds are: quality.py [PROGRAM] [--widths 8,16,..] [--tries 20,200,..] [--table]
+"""Measures how good the programs that `synth` finds are: quality.py [PROGRAM] [--widths 8,16,..] [--tries 20,200,..] [--rounds floor,nearest] [--seconds]
 
-For each function without state of examples/daisy and of bench/functions.fixd: the certified bound after so many tries over the one that
-0 tries give, which is the program as it is written (of several outputs the mean of their quotients). It prints, for each width, the median and
-the worst of the functions, with --table each function too. `-` stands where nothing is found. Outside the gate; it takes some minutes.
+For each function without state of examples/daisy and of bench/functions.fixd: the certified bound after so many tries over that of the
+program as it is written, which 0 tries give at floor (of several outputs the mean of their quotients). It prints two tables, as they stand in
+docs/quality.md: the median and the worst of the functions at each width, and each function at 32 bits. `-` stands where nothing is found. With
+--seconds it says on the error stream what each call took. Outside the gate; it takes some minutes.
 """
 import argparse
 import glob
 import os
 import statistics
+import sys
 import tempfile
 from fractions import Fraction
 
@@ -16,6 +18,7 @@ from calls import Fixd
 from sources import functions_of
 
 HERE = os.path.dirname(os.path.abspath(__file__))
+SHOWN_WIDTH = 32
 
 
 def functions():
@@ -28,17 +31,6 @@ def functions():
                     yield path, function.name
 
 
-def synthesised(fixd, path, name, width, tries):
-    """The bounds of what is found, or None, and the seconds that it took."""
-    text, seconds = fixd.synthesised(path, name, width, tries)
-    if text is None:
-        return None, seconds
-    with tempfile.NamedTemporaryFile("w", encoding="utf-8") as file:
-        file.write(text)
-        file.flush()
-        return fixd.bounds_of(file.name), seconds
-
-
 def quotient(found, written):
     """The mean of the bounds' quotients; nothing where one of both isn't there."""
     if found is None or written is None:
@@ -47,26 +39,42 @@ def quotient(found, written):
 
 
 def shown(value):
-    return "     -" if value is None else f"{value:6.3f}"
+    return "-" if value is None else f"{value:.3f}"
 
 
-def measured(fixd, width, tries, table):
-    """Prints one width's figures."""
-    columns = [[] for _ in tries]
-    for path, name in functions():
-        written, _ = synthesised(fixd, path, name, width, 0)
-        cells = []
-        for column, count in zip(columns, tries):
-            found, seconds = synthesised(fixd, path, name, width, count)
-            value = quotient(found, written)
-            if value is not None:
-                column.append(value)
-            cells.append(f"{shown(value)} {seconds:7.3f} s")
-        if table:
-            print(f"{width:2} {name:14} " + "  ".join(cells), flush=True)
-    for column, count in zip(columns, tries):
-        if column:
-            print(f"{width:2} bits, {count:4} tries: {len(column)} functions, median {statistics.median(column):.3f}, worst {max(column):.3f}", flush=True)
+class Measuring:
+    """The program, and which columns its tables have: each a rounding and a number of tries."""
+
+    def __init__(self, words):
+        self.fixd = Fixd(os.path.abspath(words.program))
+        self.columns = [(rounding, int(tries)) for rounding in words.rounds.split(",") for tries in words.tries.split(",")]
+        self.tells = words.seconds
+
+    def bounds(self, path, name, width, rounding, tries):
+        """The bounds of what is found, or None."""
+        text, seconds = self.fixd.synthesised(path, name, width, tries, rounding)
+        if self.tells:
+            print(f"{name} {width} {rounding} {tries}: {seconds:.3f} s", file=sys.stderr)
+        if text is None:
+            return None
+        with tempfile.NamedTemporaryFile("w", encoding="utf-8") as file:
+            file.write(text)
+            file.flush()
+            return self.fixd.bounds_of(file.name)
+
+    def row(self, path, name, width):
+        """The quotients of one function, a column each."""
+        written = self.bounds(path, name, width, "floor", 0)
+        return [quotient(self.bounds(path, name, width, *column), written) for column in self.columns]
+
+    def heads(self):
+        return " | ".join(f"{rounding}, {tries} {'try' if tries == 1 else 'tries'}" for rounding, tries in self.columns)
+
+
+def summed(column):
+    """The median and the worst."""
+    values = [value for value in column if value is not None]
+    return f"{statistics.median(values):.3f}, {max(values):.3f}" if values else "-"
 
 
 def main():
@@ -74,12 +82,22 @@ def main():
     parser.add_argument("program", nargs="?", default=os.path.join(HERE, "../build/fixd"))
     parser.add_argument("--widths", default="8,16,24,32,48,64")
     parser.add_argument("--tries", default="1,20,200,800")
-    parser.add_argument("--table", action="store_true")
-    words = parser.parse_args()
-    tries = [int(t) for t in words.tries.split(",")]
-    fixd = Fixd(os.path.abspath(words.program))
-    for width in words.widths.split(","):
-        measured(fixd, int(width), tries, words.table)
+    parser.add_argument("--rounds", default="floor,nearest")
+    parser.add_argument("--seconds", action="store_true")
+    measuring = Measuring(parser.parse_args())
+    widths = [int(width) for width in parser.parse_args().widths.split(",")]
+    each = list(functions())
+    print(f"| width | {measuring.heads()} |")
+    print("|---" * (1 + len(measuring.columns)) + "|")
+    kept = []
+    for width in widths:
+        rows = [(name, measuring.row(path, name, width)) for path, name in each]
+        print(f"| {width} | " + " | ".join(summed(column) for column in zip(*(row for _, row in rows))) + " |", flush=True)
+        kept = rows if width == SHOWN_WIDTH else kept
+    print(f"\n| function | {measuring.heads()} |")
+    print("|---" * (1 + len(measuring.columns)) + "|")
+    for name, row in kept:
+        print(f"| `{name}` | " + " | ".join(map(shown, row)) + " |")
 
 
 if __name__ == "__main__":

@@ -4,7 +4,7 @@ use Rattle.std.specs.Option.{option_map}
 use Rattle.std.specs.Prelude.{is_some, unwrap_or}
 use Rattle.fx_rational.specs.Interval.{Interval}
 use Rattle.fx_model.specs.Function.{Function, outputs}
-use Rattle.fx_model.specs.Machine.{Program}
+use Rattle.fx_model.specs.Machine.{Program, Round}
 use Rattle.fx_bounds.proofs.Claims.{all_met}
 use Rattle.fx_inequalities.specs.Certificate.{Certificate}
 use Rattle.fx_sound.specs.Soundness.{IsCertified}
@@ -19,6 +19,9 @@ use Rattle.fx_analysis.specs.PlainErrors.{plain_errors}
 use Rattle.fx_analysis.specs.PlainAttempt.{Attempt, attempt_of, with_errors, with_points, with_ranges, plain_attempt}
 use Rattle.fx_checker.specs.CertifiedView.{Accepted}
 use Rattle.fx_analysis.specs.Attempts.{with_steps, attempt_after}
+use Rattle.fx_analysis.specs.AttemptLaws.{RoundedLaw}
+use Rattle.fx_wanted.specs.Asked.{rounding_of}
+use Rattle.fx_wanted.specs.declared.wanted.Wanted.{Wanted}
 use Rattle.fx_attempts.specs.Turns.{AreJudged, IsAnswerAfter, IsOutcome}
 
 -- what each plain attempt of a function has
@@ -26,44 +29,49 @@ pub record IsPlainOf (n : ℕ) (fn : Function) (a : Attempt) : Type 0 where
   pub named : a.program.name ≡ fn.name
   pub width_is : a.program.width ≡ n
 
-by_errors : (n : ℕ) (fn : Function) (gs : List Interval) (ps : List ℤ) (r : Result (List Interval) Absent) (a : Attempt) → with_errors n fn gs ps r ≡ Some a → IsPlainOf n fn a
-by_errors n fn gs ps (Ok hs) a e = let same : attempt_of n fn gs ps hs ≡ a = cc in subst (IsPlainOf n fn) same (record { named = refl; width_is = refl })
-by_errors n fn gs ps (Err why) a e = absurd cc
+module _ (n : ℕ) (r : Round) (fn : Function) where
+  by_errors : (gs : List Interval) (ps : List ℤ) (o : Result (List Interval) Absent) (a : Attempt) → with_errors n r fn gs ps o ≡ Some a → IsPlainOf n fn a
+  by_errors gs ps (Ok hs) a e = let same : attempt_of n r fn gs ps hs ≡ a = cc in subst (IsPlainOf n fn) same (record { named = refl; width_is = refl })
+  by_errors gs ps (Err why) a e = absurd cc
 
-by_points : (n : ℕ) (fn : Function) (gs : List Interval) (r : Result (List ℤ) Absent) (a : Attempt) → with_points n fn gs r ≡ Some a → IsPlainOf n fn a
-by_points n fn gs (Ok ps) a e = by_errors n fn gs ps (plain_errors fn ps gs []) a e
-by_points n fn gs (Err why) a e = absurd cc
+  by_points : (gs : List Interval) (o : Result (List ℤ) Absent) (a : Attempt) → with_points n r fn gs o ≡ Some a → IsPlainOf n fn a
+  by_points gs (Ok ps) a e = by_errors gs ps (plain_errors n r fn ps gs []) a e
+  by_points gs (Err why) a e = absurd cc
 
-by_ranges : (n : ℕ) (fn : Function) (r : Result (List Interval) Absent) (a : Attempt) → with_ranges n fn r ≡ Some a → IsPlainOf n fn a
-by_ranges n fn (Ok gs) a e = by_points n fn gs (greedy_points n fn gs) a e
-by_ranges n fn (Err why) a e = absurd cc
+  by_ranges : (o : Result (List Interval) Absent) (a : Attempt) → with_ranges n r fn o ≡ Some a → IsPlainOf n fn a
+  by_ranges (Ok gs) a e = by_points gs (greedy_points n fn gs) a e
+  by_ranges (Err why) a e = absurd cc
 
-pub plain_of : (n : ℕ) (fn : Function) (a : Attempt) → plain_attempt n fn ≡ Some a → IsPlainOf n fn a
-plain_of n fn a e = by_ranges n fn (plain_ranges fn []) a e
+  pub plain_of : (a : Attempt) → plain_attempt n r fn ≡ Some a → IsPlainOf n fn a
+  plain_of a e = by_ranges (plain_ranges fn []) a e
 
 some_same : {x y : Attempt} → Some x ≡ Some y → x ≡ y
 some_same e = cc
 
--- what the checker made of the attempt after these steps, which is of fn's name and at width n where it is there
-pub judged_outcome : (n : ℕ) (fn : Function) (steps : List Rewriting) (a : Option Attempt) (o : Option Accepted) → fn.states ≡ [] → attempt_after n fn steps ≡ a →
-    ((t : Attempt) → a ≡ Some t → (t.program.name ≡ fn.name) × (t.program.width ≡ n)) → AreJudged fn a o → IsOutcome n fn steps o
-judged_outcome n fn steps None o stateless there own h = subst (IsOutcome n fn steps) (sym h) (λ t acc. let none : None ≡ Some t = sym there ∙ acc.there in absurd cc)
-judged_outcome n fn steps (Some t) None stateless there own h = λ s acc.
+-- what the checker made of the attempt after these steps, which is of fn's name, at the width and rounded as is wanted where it is there
+pub judged_outcome : (w : Wanted) (fn : Function) (steps : List Rewriting) (a : Option Attempt) (o : Option Accepted) → RoundedLaw → fn.states ≡ [] →
+    attempt_after w.width (rounding_of w) fn steps ≡ a → ((t : Attempt) → a ≡ Some t → (t.program.name ≡ fn.name) × (t.program.width ≡ w.width)) → AreJudged fn a o →
+    IsOutcome w fn steps o
+judged_outcome w fn steps None o rounded stateless there own h = subst (IsOutcome w fn steps) (sym h) (λ t acc. let none : None ≡ Some t = sym there ∙ acc.there in absurd cc)
+judged_outcome w fn steps (Some t) None rounded stateless there own h = λ s acc.
     let same : s ≡ t = some_same (sym acc.there ∙ there) in h (subst (λ x. IsAccepted rewrite fn x.program x.certificate) same acc.accepted)
-judged_outcome n fn steps (Some t) (Some a) stateless there own h =
+judged_outcome w fn steps (Some t) (Some a) rounded stateless there own h =
     let is = own t refl in
-    subst (IsAnswerAfter n fn steps) (sym h.1) (record { answer = record { function_is = refl; named = is.0; width_is = is.1 }; accepted = record { stateless = stateless; there = there; accepted = h.0 } })
+    let by = rounded w.width (rounding_of w) fn steps t there in
+    subst (IsAnswerAfter w fn steps) (sym h.1)
+    (record { answer = record { function_is = refl; named = is.0; width_is = is.1; rounded = by }; accepted = record { stateless = stateless; there = there; accepted = h.0 } })
 
 -- an attempt after steps that keep the name is of it, and at the width
-pub after_own : (n : ℕ) (fn : Function) (steps : List Rewriting) (a : Option Attempt) → (rewritten_by rewrite fn steps).name ≡ fn.name → attempt_after n fn steps ≡ a →
-    (t : Attempt) → a ≡ Some t → (t.program.name ≡ fn.name) × (t.program.width ≡ n)
-after_own n fn steps a keeps is t some = by (plain_attempt n (rewritten_by rewrite fn steps)) refl (is ∙ some)
+pub after_own : (w : Wanted) (fn : Function) (steps : List Rewriting) (a : Option Attempt) → (rewritten_by rewrite fn steps).name ≡ fn.name →
+    attempt_after w.width (rounding_of w) fn steps ≡ a → (t : Attempt) → a ≡ Some t → (t.program.name ≡ fn.name) × (t.program.width ≡ w.width)
+after_own w fn steps a keeps is t some = by (plain_attempt w.width (rounding_of w) (rewritten_by rewrite fn steps)) refl (is ∙ some)
   where
-    by : (p : Option Attempt) → plain_attempt n (rewritten_by rewrite fn steps) ≡ p → option_map (with_steps steps) p ≡ Some t → (t.program.name ≡ fn.name) × (t.program.width ≡ n)
+    by : (p : Option Attempt) → plain_attempt w.width (rounding_of w) (rewritten_by rewrite fn steps) ≡ p → option_map (with_steps steps) p ≡ Some t →
+        (t.program.name ≡ fn.name) × (t.program.width ≡ w.width)
     by None e f = absurd cc
     by (Some u) e f =
-        let p = plain_of n (rewritten_by rewrite fn steps) u e in let same : with_steps steps u ≡ t = some_same f in
-        subst (λ x. (x.program.name ≡ fn.name) × (x.program.width ≡ n)) same (p.named ∙ keeps, p.width_is)
+        let p = plain_of w.width (rounding_of w) (rewritten_by rewrite fn steps) u e in let same : with_steps steps u ≡ t = some_same f in
+        subst (λ x. (x.program.name ≡ fn.name) × (x.program.width ≡ w.width)) same (p.named ∙ keeps, p.width_is)
 
 -- a step that is there keeps the name
 pub step_named : RewriteLaw → (fn : Function) (s : Rewriting) → is_some (rewrite fn s) ≡ true → (rewritten_by rewrite fn (s ∷ [])).name ≡ fn.name

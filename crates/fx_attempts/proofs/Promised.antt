@@ -5,49 +5,50 @@ use Rattle.std.specs.Option.{option_map}
 use Rattle.fx_model.specs.Function.{Function}
 use Rattle.fx_weight.specs.PlainClass.{Outside, outside_of, output_power}
 use Rattle.fx_calm_numbers.specs.Calm.{is_calm, numbers_of, IsCalm}
+use Rattle.fx_wanted.specs.declared.wanted.Wanted.{Wanted}
 use Rattle.fx_checker.specs.Answers.{IsAnswerFor}
 use Rattle.fx_checker.specs.CertifiedView.{Accepted}
 use Rattle.fx_attempts.specs.Bounds.{powers_by, promised_powers, AreWithinPowers}
 use Rattle.fx_attempts.specs.Turns.{Suits, SuitsIfAny}
 
-module _ (n : ℕ) (fn : Function) where
+module _ (w : Wanted) (fn : Function) where
   abbrev by_plans : Option Outside → Bool → Option (ℕ → ℤ)
-  by_plans outside calm = powers_by outside calm (output_power n fn) (λ j. (numbers_of n fn).z)
+  by_plans outside calm = powers_by outside calm (output_power w.width fn) (λ j. (numbers_of w.width fn).z)
 
   -- where the plain plan serves
-  pub plain_suits_first : (a : Accepted) → outside_of n fn ≡ None → IsAnswerFor n fn a → AreWithinPowers fn a.program a.certificate (output_power n fn) → Suits n fn a
+  pub plain_suits_first : (a : Accepted) → outside_of w.width fn ≡ None → IsAnswerFor w fn a → AreWithinPowers fn a.program a.certificate (output_power w.width fn) → Suits w fn a
   plain_suits_first a inside own within = record {
     answer = own;
-    bounded = subst (λ o. IfSome (by_plans o (is_calm n fn)) (AreWithinPowers fn a.program a.certificate)) (sym inside) within;
-    no_worse = λ none. absurd (some_none (subst (λ o. by_plans o (is_calm n fn) ≡ None) inside none));
+    bounded = subst (λ o. IfSome (by_plans o (is_calm w.width fn)) (AreWithinPowers fn a.program a.certificate)) (sym inside) within;
+    no_worse = λ none. absurd (some_none (subst (λ o. by_plans o (is_calm w.width fn) ≡ None) inside none));
   }
     where
       some_none : {v : ℕ → ℤ} → Some v ≡ None → ⊥
       some_none e = absurd cc
 
   -- where it doesn't, and the function is calm
-  calm_suits : (a : Accepted) (reason : Outside) → outside_of n fn ≡ Some reason → IsCalm n fn → IsAnswerFor n fn a → AreWithinPowers fn a.program a.certificate (λ j. (numbers_of n fn).z) → Suits n fn a
+  calm_suits : (a : Accepted) (reason : Outside) → outside_of w.width fn ≡ Some reason → IsCalm w.width fn → IsAnswerFor w fn a → AreWithinPowers fn a.program a.certificate (λ j. (numbers_of w.width fn).z) → Suits w fn a
   calm_suits a reason outside calm own within = record {
     answer = own;
-    bounded = subst (λ o. IfSome (by_plans o (is_calm n fn)) (AreWithinPowers fn a.program a.certificate)) (sym outside)
+    bounded = subst (λ o. IfSome (by_plans o (is_calm w.width fn)) (AreWithinPowers fn a.program a.certificate)) (sym outside)
         (subst (λ t. IfSome (by_plans (Some reason) t) (AreWithinPowers fn a.program a.certificate)) (sym calm) within);
-    no_worse = λ none. absurd (some_none (subst (λ t. by_plans (Some reason) t ≡ None) calm (subst (λ o. by_plans o (is_calm n fn) ≡ None) outside none)));
+    no_worse = λ none. absurd (some_none (subst (λ t. by_plans (Some reason) t ≡ None) calm (subst (λ o. by_plans o (is_calm w.width fn) ≡ None) outside none)));
   }
     where
       some_none : {v : ℕ → ℤ} → Some v ≡ None → ⊥
       some_none e = absurd cc
 
   -- neither serves
-  unpromised : (reason : Outside) → outside_of n fn ≡ Some reason → (IsCalm n fn → ⊥) → promised_powers n fn ≡ None
-  unpromised reason outside uncalm = subst (λ o. by_plans o (is_calm n fn) ≡ None) (sym outside) (by (is_calm n fn) refl)
+  unpromised : (reason : Outside) → outside_of w.width fn ≡ Some reason → (IsCalm w.width fn → ⊥) → promised_powers w.width fn ≡ None
+  unpromised reason outside uncalm = subst (λ o. by_plans o (is_calm w.width fn) ≡ None) (sym outside) (by (is_calm w.width fn) refl)
     where
-      by : (t : Bool) → is_calm n fn ≡ t → by_plans (Some reason) t ≡ None
+      by : (t : Bool) → is_calm w.width fn ≡ t → by_plans (Some reason) t ≡ None
       by true e = absurd (uncalm e)
       by false e = refl
 
   -- what the calm plan comes to, where the plain one doesn't serve
-  pub calm_suits_first : (o : Option Accepted) (reason : Outside) → outside_of n fn ≡ Some reason → IfSome o (IsAnswerFor n fn) → IfSome o (λ a. AreWithinPowers fn a.program a.certificate (λ j. (numbers_of n fn).z))
-      → IfSome o (λ a. IsCalm n fn) → (o ≡ None → IsCalm n fn → ⊥) → SuitsIfAny n fn o
+  pub calm_suits_first : (o : Option Accepted) (reason : Outside) → outside_of w.width fn ≡ Some reason → IfSome o (IsAnswerFor w fn) → IfSome o (λ a. AreWithinPowers fn a.program a.certificate (λ j. (numbers_of w.width fn).z))
+      → IfSome o (λ a. IsCalm w.width fn) → (o ≡ None → IsCalm w.width fn → ⊥) → SuitsIfAny w fn o
   calm_suits_first None reason outside own within calm uncalm = unpromised reason outside (uncalm refl)
   calm_suits_first (Some a) reason outside own within calm uncalm = calm_suits a reason outside calm own within
 

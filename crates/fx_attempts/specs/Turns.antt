@@ -1,11 +1,12 @@
 -- What the turns of a synthesis keep. No clause of a public call rests on this.
-use Rattle.std.specs.Prelude.{◌≡◌, ◌⊎◌, ⊤, ℕ, List, [], ◌∷◌, All, Option, Some, None, IfSome}
+use Rattle.std.specs.Prelude.{◌≡◌, ◌⊎◌, ⊤, List, [], ◌∷◌, All, Option, Some, None, IfSome}
 use Rattle.fx_model.specs.Function.{Function}
 use Rattle.fx_inequalities.specs.Rewriting.{Rewriting}
 use Rattle.fx_analysis.specs.PlainAttempt.{Attempt}
 use Rattle.fx_checker.specs.CertifiedView.{Accepted}
 use Rattle.fx_checker.specs.Answers.{IsAnswerFor, IsJudged}
 use Rattle.fx_analysis.specs.Attempts.{IsAcceptedAfter}
+use Rattle.fx_wanted.specs.declared.wanted.Wanted.{Wanted}
 use Rattle.fx_attempts.specs.Bounds.{attempted, promised_powers, AreNoGreater, AreSmaller, AreWithinPowers}
 
 -- what the checker made of an attempt for fn, where there is one
@@ -14,14 +15,14 @@ AreJudged fn None o = o ≡ None
 AreJudged fn (Some t) o = IsJudged fn t.program t.certificate o
 
 -- the attempt after these steps
-pub record IsAnswerAfter (n : ℕ) (fn : Function) (steps : List Rewriting) (a : Accepted) : Type 0 where
-  pub answer : IsAnswerFor n fn a
-  pub accepted : IsAcceptedAfter n fn steps (attempted a)
+pub record IsAnswerAfter (w : Wanted) (fn : Function) (steps : List Rewriting) (a : Accepted) : Type 0 where
+  pub answer : IsAnswerFor w fn a
+  pub accepted : IsAcceptedAfter w fn steps (attempted a)
 
 -- what came of the attempt after these steps
-abbrev pub IsOutcome : ℕ → Function → List Rewriting → Option Accepted → Type 0
-IsOutcome n fn steps None = (t : Attempt) → ¬ IsAcceptedAfter n fn steps t
-IsOutcome n fn steps (Some a) = IsAnswerAfter n fn steps a
+abbrev pub IsOutcome : Wanted → Function → List Rewriting → Option Accepted → Type 0
+IsOutcome w fn steps None = (t : Attempt) → ¬ IsAcceptedAfter w fn steps t
+IsOutcome w fn steps (Some a) = IsAnswerAfter w fn steps a
 
 -- two that may be compared are for one function
 abbrev pub AreForOne : Option Accepted → Option Accepted → Type 0
@@ -37,23 +38,23 @@ IsTaken (Some a) (Some c) answer =
     ((answer ≡ Some c) × AreNoGreater a.function (attempted c) (attempted a)) ⊎ ((answer ≡ Some a) × ¬ AreSmaller a.function (attempted c) (attempted a))
 
 -- the attempt after these steps isn't better than the answer, and not accepted where there is none
-abbrev pub Resists : ℕ → Function → Option Accepted → List Rewriting → Type 0
-Resists n fn None steps = (t : Attempt) → ¬ IsAcceptedAfter n fn steps t
-Resists n fn (Some a) steps = (t : Attempt) → IsAcceptedAfter n fn steps t → ¬ AreSmaller fn t (attempted a)
+abbrev pub Resists : Wanted → Function → Option Accepted → List Rewriting → Type 0
+Resists w fn None steps = (t : Attempt) → ¬ IsAcceptedAfter w fn steps t
+Resists w fn (Some a) steps = (t : Attempt) → IsAcceptedAfter w fn steps t → ¬ AreSmaller fn t (attempted a)
 
--- an answer for fn at width n, with bounds as small as promised, and where nothing is promised no worse than the plain attempt
-pub record Suits (n : ℕ) (fn : Function) (a : Accepted) : Type 0 where
-  pub answer : IsAnswerFor n fn a
-  pub bounded : IfSome (promised_powers n fn) (AreWithinPowers fn a.program a.certificate)
-  pub no_worse : promised_powers n fn ≡ None → (t : Attempt) → IsAcceptedAfter n fn [] t → AreNoGreater fn (attempted a) t
+-- an answer for fn as it is wanted, with bounds as small as promised, and where nothing is promised no worse than the plain attempt
+pub record Suits (w : Wanted) (fn : Function) (a : Accepted) : Type 0 where
+  pub answer : IsAnswerFor w fn a
+  pub bounded : IfSome (promised_powers w.width fn) (AreWithinPowers fn a.program a.certificate)
+  pub no_worse : promised_powers w.width fn ≡ None → (t : Attempt) → IsAcceptedAfter w fn [] t → AreNoGreater fn (attempted a) t
 
 -- there is such an answer, or there is none where none is promised
-abbrev pub SuitsIfAny : ℕ → Function → Option Accepted → Type 0
-SuitsIfAny n fn None = promised_powers n fn ≡ None
-SuitsIfAny n fn (Some a) = Suits n fn a
+abbrev pub SuitsIfAny : Wanted → Function → Option Accepted → Type 0
+SuitsIfAny w fn None = promised_powers w.width fn ≡ None
+SuitsIfAny w fn (Some a) = Suits w fn a
 
 -- the answer after the plain attempt and those of these single steps
-pub record IsBestAfter (n : ℕ) (fn : Function) (steps : List Rewriting) (answer : Option Accepted) : Type 0 where
-  pub suits : SuitsIfAny n fn answer
-  pub plain : Resists n fn answer []
-  pub each : All (λ s. Resists n fn answer (s ∷ [])) steps
+pub record IsBestAfter (w : Wanted) (fn : Function) (steps : List Rewriting) (answer : Option Accepted) : Type 0 where
+  pub suits : SuitsIfAny w fn answer
+  pub plain : Resists w fn answer []
+  pub each : All (λ s. Resists w fn answer (s ∷ [])) steps

@@ -11,7 +11,7 @@ ghost use Rattle.fx_cert.specs.CertificateView.{certificate_of};
 ghost use Rattle.fx_analysis.specs.AttemptView.{attempt_in};
 ghost use Rattle.fx_attempts.specs.Turns.{AreJudged, IsOutcome};
 
-use fx_analysis::{attempt_after, no_steps_law, plain_attempt};
+use fx_analysis::{attempt_after, no_steps_law, plain_attempt, rounded_law};
 use fx_cert::Certificate;
 use fx_checker::{Certified, judged};
 use fx_expr::Function;
@@ -19,6 +19,7 @@ use fx_num::Memory;
 use fx_program::Program;
 use fx_rules::rewrite_law;
 use fx_step::Step;
+use fx_wanted::Wanted;
 use std::alloc::Global;
 
 // What the checker makes of an attempt, where there is one.
@@ -41,14 +42,15 @@ fn verdict(
 pub fn plain_answer(
     alloc: Global,
     function: &Function,
-    width: u32,
+    wanted: Wanted,
 ) -> Result<Option<Certified>, Memory>
     requires stateless { function.now.states ≡ [] }
-    requires width { Contains widths width }
-    ensures { IfOk result (IsOutcome width function.now []) }
+    requires width { Contains widths wanted.width }
+    ensures { IfOk result (IsOutcome wanted function.now []) }
 {
     no_steps_law();
-    let attempt = plain_attempt(alloc, function, width)?;
+    rounded_law();
+    let attempt = plain_attempt(alloc, function, wanted.width, wanted.round)?;
     let answer = verdict(alloc, function, attempt)?;
     Ok(answer)
 }
@@ -57,16 +59,17 @@ pub fn plain_answer(
 pub fn step_answer(
     alloc: Global,
     function: &Function,
-    width: u32,
+    wanted: Wanted,
     step: Step,
 ) -> Result<Option<Certified>, Memory>
     requires stateless { function.now.states ≡ [] }
-    requires width { Contains widths width }
+    requires width { Contains widths wanted.width }
     requires there { is_there function.now (step_view step) ≡ true }
-    ensures { IfOk result (IsOutcome width function.now (step_view step ∷ [])) }
+    ensures { IfOk result (IsOutcome wanted function.now (step_view step ∷ [])) }
 {
     rewrite_law();
-    let attempt = attempt_after(alloc, function, width, step)?;
+    rounded_law();
+    let attempt = attempt_after(alloc, function, wanted.width, step, wanted.round)?;
     let answer = verdict(alloc, function, attempt)?;
     Ok(answer)
 }

@@ -16,20 +16,21 @@ use fx_calm_plan::calm_law;
 use fx_checker::{Certified, check};
 use fx_expr::Function;
 use fx_num::Memory;
+use fx_wanted::Wanted;
 use fx_weight::{Outside, WeightFault, bound_law, class_law, plain_plan};
 use std::alloc::Global;
 
 // The plain plan, certified.
 #[tactic(auto, unfolding(fx_sizes::specs::Powers::power_value))]
-fn plain_answer(alloc: Global, function: &Function, width: u32) -> Result<Certified, Memory>
-    requires width { Contains widths width }
-    requires class { IsInClass width function.now }
-    ensures answer { IfOk result (IsAnswerFor width function.now) }
-    ensures bounded { IfOk result (λ a. AreWithinPowers function.now a.program a.certificate (output_power width function.now)) }
+fn plain_answer(alloc: Global, function: &Function, wanted: Wanted) -> Result<Certified, Memory>
+    requires width { Contains widths wanted.width }
+    requires class { IsInClass wanted.width function.now }
+    ensures answer { IfOk result (IsAnswerFor wanted function.now) }
+    ensures bounded { IfOk result (λ a. AreWithinPowers function.now a.program a.certificate (output_power wanted.width function.now)) }
 {
     class_law();
     bound_law();
-    let (program, certificate) = match plain_plan(alloc, function, width) {
+    let (program, certificate) = match plain_plan(alloc, function, wanted.width, wanted.round) {
         Ok(plan) => plan,
         Err(WeightFault::NotModest { .. }) => unreachable!(),
         Err(WeightFault::Memory) => return Err(Memory),
@@ -42,15 +43,15 @@ fn plain_answer(alloc: Global, function: &Function, width: u32) -> Result<Certif
 }
 
 // The calm plan, certified, where the function is calm.
-fn calm_answer(alloc: Global, function: &Function, width: u32) -> Result<Option<Certified>, Memory>
-    requires width { Contains widths width }
-    ensures answer { IfOk result (λ o. IfSome o (IsAnswerFor width function.now)) }
-    ensures bounded { IfOk result (λ o. IfSome o (λ a. AreWithinPowers function.now a.program a.certificate (λ j. (numbers_of width function.now).z))) }
-    ensures calm { IfOk result (λ o. IfSome o (λ a. IsCalm width function.now)) }
-    ensures none { IfOk result (λ o. o ≡ None → IsCalm width function.now → ⊥) }
+fn calm_answer(alloc: Global, function: &Function, wanted: Wanted) -> Result<Option<Certified>, Memory>
+    requires width { Contains widths wanted.width }
+    ensures answer { IfOk result (λ o. IfSome o (IsAnswerFor wanted function.now)) }
+    ensures bounded { IfOk result (λ o. IfSome o (λ a. AreWithinPowers function.now a.program a.certificate (λ j. (numbers_of wanted.width function.now).z))) }
+    ensures calm { IfOk result (λ o. IfSome o (λ a. IsCalm wanted.width function.now)) }
+    ensures none { IfOk result (λ o. o ≡ None → IsCalm wanted.width function.now → ⊥) }
 {
     calm_law();
-    let (program, certificate) = match calm_plan(alloc, function, width) {
+    let (program, certificate) = match calm_plan(alloc, function, wanted.width, wanted.round) {
         Ok(plan) => plan,
         Err(CalmFault::NotCalm) => return Ok(None),
         Err(CalmFault::Memory) => return Err(Memory),
@@ -66,18 +67,18 @@ fn calm_answer(alloc: Global, function: &Function, width: u32) -> Result<Option<
 pub fn first_answer(
     alloc: Global,
     function: &Function,
-    width: u32,
+    wanted: Wanted,
     outside: Option<Outside>,
 ) -> Result<Option<Certified>, Memory>
-    requires width { Contains widths width }
-    requires outside { option_map outside_view outside ≡ outside_of width function.now }
-    requires class { outside ≡ None → IsInClass width function.now }
-    ensures { IfOk result (SuitsIfAny width function.now) }
+    requires width { Contains widths wanted.width }
+    requires outside { option_map outside_view outside ≡ outside_of wanted.width function.now }
+    requires class { outside ≡ None → IsInClass wanted.width function.now }
+    ensures { IfOk result (SuitsIfAny wanted function.now) }
 {
     if outside.is_some() {
-        let answer = calm_answer(alloc, function, width)?;
+        let answer = calm_answer(alloc, function, wanted)?;
         return Ok(answer);
     }
-    let certified = plain_answer(alloc, function, width)?;
+    let certified = plain_answer(alloc, function, wanted)?;
     Ok(Some(certified))
 }

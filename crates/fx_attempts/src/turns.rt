@@ -13,22 +13,23 @@ use fx_expr::Function;
 use fx_num::Memory;
 use fx_rewrite::SingleSteps;
 use fx_step::Step;
+use fx_wanted::Wanted;
 use std::alloc::Global;
 
 // The better of an answer and the plain attempt.
 fn first_turn(
     alloc: Global,
     function: &Function,
-    width: u32,
+    wanted: Wanted,
     first: Option<Certified>,
 ) -> Result<Option<Certified>, Memory>
     requires stateless { function.now.states ≡ [] }
-    requires width { Contains widths width }
-    requires suits { SuitsIfAny width function.now first }
-    ensures { IfOk result (IsBestAfter width function.now []) }
+    requires width { Contains widths wanted.width }
+    requires suits { SuitsIfAny wanted function.now first }
+    ensures { IfOk result (IsBestAfter wanted function.now []) }
 {
     function.keeps();
-    let plain = plain_answer(alloc, function, width)?;
+    let plain = plain_answer(alloc, function, wanted)?;
     Ok(taken(first, plain))
 }
 
@@ -36,18 +37,18 @@ fn first_turn(
 fn next_turn(
     alloc: Global,
     function: &Function,
-    width: u32,
+    wanted: Wanted,
     step: Step,
     answer: Option<Certified>,
 ) -> Result<Option<Certified>, Memory>
     requires stateless { function.now.states ≡ [] }
-    requires width { Contains widths width }
+    requires width { Contains widths wanted.width }
     requires there { is_there function.now (step_view step) ≡ true }
-    requires suits { SuitsIfAny width function.now answer }
-    ensures { (done : List Rewriting) → IsBestAfter width function.now done answer → IfOk result (IsBestAfter width function.now (done ++ step_view step ∷ [])) }
+    requires suits { SuitsIfAny wanted function.now answer }
+    ensures { (done : List Rewriting) → IsBestAfter wanted function.now done answer → IfOk result (IsBestAfter wanted function.now (done ++ step_view step ∷ [])) }
 {
     function.keeps();
-    let candidate = step_answer(alloc, function, width, step)?;
+    let candidate = step_answer(alloc, function, wanted, step)?;
     Ok(taken(answer, candidate))
 }
 
@@ -55,22 +56,21 @@ fn next_turn(
 fn attempts(
     alloc: Global,
     function: &Function,
-    width: u32,
-    tries: u32,
+    wanted: Wanted,
     first: Option<Certified>,
 ) -> Result<Option<Certified>, Memory>
     requires stateless { function.now.states ≡ [] }
-    requires width { Contains widths width }
-    requires suits { SuitsIfAny width function.now first }
-    ensures { IfOk result (IsBestAfter width function.now (take tries (single_steps function.now))) }
+    requires width { Contains widths wanted.width }
+    requires suits { SuitsIfAny wanted function.now first }
+    ensures { IfOk result (IsBestAfter wanted function.now (take wanted.tries (single_steps function.now))) }
 {
-    let mut answer = first_turn(alloc, function, width, first)?;
+    let mut answer = first_turn(alloc, function, wanted, first)?;
     let mut steps = SingleSteps::new(alloc, function);
-    for _turn in 0..tries {
+    for _turn in 0..wanted.tries {
         let Some(step) = steps.next(alloc)? else {
             return Ok(answer);
         };
-        answer = next_turn(alloc, function, width, step, answer)?;
+        answer = next_turn(alloc, function, wanted, step, answer)?;
     }
     Ok(answer)
 }
@@ -79,17 +79,16 @@ fn attempts(
 pub fn tried(
     alloc: Global,
     function: &Function,
-    width: u32,
-    tries: u32,
+    wanted: Wanted,
     first: Option<Certified>,
 ) -> Result<Option<Certified>, Memory>
-    requires width { Contains widths width }
-    requires suits { SuitsIfAny width function.now first }
-    ensures { IfOk result (IsBestAfter width function.now (take tries (single_steps function.now))) }
+    requires width { Contains widths wanted.width }
+    requires suits { SuitsIfAny wanted function.now first }
+    ensures { IfOk result (IsBestAfter wanted function.now (take wanted.tries (single_steps function.now))) }
 {
     if function.states.len() > 0 {
         return Ok(first);
     }
-    let answer = attempts(alloc, function, width, tries, first)?;
+    let answer = attempts(alloc, function, wanted, first)?;
     Ok(answer)
 }

@@ -11,20 +11,26 @@ use Rattle.fx_checker.specs.CertifiedView.{Accepted}
 use Rattle.fx_rows.specs.ReadRows.{Given, read_rows}
 use Rattle.fx_run.specs.Printed.{given_values, IsHonestRun}
 use Rattle.fx_weight.specs.PlainClass.{outside_of}
+use Rattle.fx_program.specs.declared.code.Round.TheVariants.{Floor}
+use Rattle.fx_wanted.specs.declared.wanted.Wanted.{Wanted}
 use Rattle.fx_synth.specs.Synthesis.{IsSynthesised}
 use Rattle.fx_listing.specs.LastLine.{IsLastLine}
 use Rattle.fx_listing.specs.Rows.{demo_rows}
 use Rattle.fx_listing.specs.Source.{demo_source}
 
--- an accepted program for the source of number n, as a text spells it and a synthesis at 32 bits with 200 tries finds one; the plain plan serves its
--- function, so that its bounds are at most those of the plan
+-- what a demonstration asks of its synthesis
+abbrev pub demo_wanted : Wanted
+demo_wanted = record { width = 32; tries = 200; round = Floor }
+
+-- an accepted program for the source of number n, as a text spells it and a synthesis finds one; the plain plan serves its function, so that its bounds
+-- are at most those of the plan
 pub record IsProgram (n : ℕ) (a : Accepted) : Type 0 where
   pub meant : parsed (demo_source n) None ≡ Ok a.function
   pub served : outside_of 32 a.function ≡ None
   pub program : IsLawfulProgram a.program
   pub certificate : IsLawfulCertificate a.certificate
   pub accepted : IsAccepted rewrite a.function a.program a.certificate
-  pub synthesised : IsSynthesised 32 200 a.function a
+  pub synthesised : IsSynthesised demo_wanted a.function a
 
 -- what a function reads of the rows
 abbrev pub given : Function → Given

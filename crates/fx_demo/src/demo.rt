@@ -12,7 +12,7 @@ use fx_expr::Function;
 use fx_listing::{ROWS, function_of, last_line, rows_text};
 use fx_num::Memory;
 use fx_run::run_rows;
-use fx_synth::synthesise;
+use fx_synth::{Round, synthesise};
 use fx_weight::find_outside;
 use std::alloc::Global;
 
@@ -40,7 +40,7 @@ fn program_of(alloc: Global, n: u32) -> Result<Certified, Memory>
     ensures { IfOk result (IsProgram n) }
 {
     let function = served_function(alloc, n)?;
-    match synthesise(alloc, &function, 32, 0, 200) {
+    match synthesise(alloc, &function, 32, 0, 200, Round::Floor) {
         Ok(certified) => {
             certified.certified();
             Ok(certified)

@@ -1,6 +1,7 @@
 //! Taking a combination of the variables apart by rows that stand, for the line of a node.
 
 use crate::basis::{ScaledRows, exchange};
+use crate::budget::Budget;
 use fx_cert::{Row, Share};
 use fx_expr::Items;
 use fx_interval::Interval;
@@ -133,10 +134,11 @@ pub fn take_apart(
     c: &Combination<'_>,
     rows: &[Row],
     scaled: &ScaledRows<'_>,
+    budget: &mut Budget,
 ) -> Result<Option<Apart>, Memory> {
     let states = scaled.states();
     let row = state_part(alloc, c, states)?;
-    let found = exchange(alloc, scaled, &row)?;
+    let found = exchange(alloc, scaled, &row, budget)?;
     match bound_of(c, rows, &found.shares, states) {
         Some(bound) => Ok(Some(Apart {
             shares: Items::from_vec(found.shares),

@@ -3,6 +3,7 @@
 //! What the shares leave of a row goes to the unit rows, so that nothing rests on how accurate this is, and stopping at
 //! any time is lawful. Entries are whole with 40 binary places, in coordinates in which each row costs 1.
 
+use crate::budget::Budget;
 use fx_cert::Share;
 use fx_num::{Memory, floor_shift, left_fits};
 use fx_reach::{PLACES, Pool, bits, product, quotient, share_of, unit_cost, unit_row};
@@ -413,8 +414,20 @@ fn basis_cost(basis: &Basis, cost: i128) -> i128 {
     product(total, cost, EXCHANGE_PLACES).unwrap_or(i128::MAX)
 }
 
-/// Takes a row of 48 binary places apart.
-pub fn exchange(alloc: Global, scaled: &ScaledRows<'_>, row: &[i128]) -> Result<Exchanged, Memory> {
+/// How many products one exchange comes to, about.
+fn step_work(scaled: &ScaledRows<'_>) -> u64 {
+    let states = scaled.pool.rows.states;
+    let rows = scaled.rows.len().saturating_add(states.saturating_mul(4));
+    rows.saturating_mul(states) as u64
+}
+
+/// Takes a row of 48 binary places apart, as well as the budget allows.
+pub fn exchange(
+    alloc: Global,
+    scaled: &ScaledRows<'_>,
+    row: &[i128],
+    budget: &mut Budget,
+) -> Result<Exchanged, Memory> {
     let none = Exchanged {
         cost: 0,
         shares: Vec::new(alloc),
@@ -427,8 +440,9 @@ pub fn exchange(alloc: Global, scaled: &ScaledRows<'_>, row: &[i128]) -> Result<
     };
     let mut basis = Basis::units(alloc, &goal)?;
     let turns = scaled.pool.rows.states.saturating_mul(8).saturating_add(16);
+    let work = step_work(scaled);
     for _turn in 0..turns {
-        if !exchange_once(alloc, scaled, &mut basis)? {
+        if !budget.take(work) || !exchange_once(alloc, scaled, &mut basis)? {
             break;
         }
     }

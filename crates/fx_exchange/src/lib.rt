@@ -1,7 +1,8 @@
 //! Rows taken apart by others: so many times each, and what they leave by the unit rows.
 //!
 //! A row is a sum of other rows in many ways, and what bounds it is the cheapest of them. The simplex step finds a cheap
-//! one: rows of a basis are exchanged one at a time, from the unit rows on, until no row makes the sum cheaper.
+//! one: rows of a basis are exchanged one at a time, from the unit rows on, until no row makes the sum cheaper, or the budget
+//! of the synthesis is spent: a dense matrix of many states would take minutes.
 //!
 //! Nothing is promised of the shares: whoever takes them tests the bound that they show. Stopping at any time is lawful,
 //! since what the shares leave goes to the unit rows.
@@ -9,6 +10,8 @@
 
 mod apart;
 mod basis;
+mod budget;
 
 pub use apart::{Apart, Combination, pool_of, take_apart};
 pub use basis::{Exchanged, ScaledRows, exchange};
+pub use budget::Budget;

@@ -1,7 +1,6 @@
-//! An attempt: boxes, points and errors of a function as it stands, checked.
+//! An attempt: boxes, points and errors of a function, checked, on finer and coarser grids.
 
-ghost use Rattle.std.specs.Prelude.{Contains, IfOk};
-ghost use Rattle.fx_model.specs.LawfulProgram.{widths};
+ghost use Rattle.std.specs.Prelude.{IfOk};
 ghost use Rattle.fx_checker.specs.Answers.{IsOffered};
 
 use crate::boxes::intervals;
@@ -12,8 +11,9 @@ use crate::sides::{OfErrors, OfValues};
 use crate::task::Task;
 use fx_cert::{Share, StartBox};
 use fx_checker::{Certified, offered};
-use fx_expr::{Function, Items};
-use fx_flat::{Nodes, flatten};
+use fx_exchange::Budget;
+use fx_expr::Items;
+use fx_flat::Nodes;
 use fx_num::Memory;
 use fx_planning::Plan;
 use fx_ranges::Ranges;
@@ -39,7 +39,7 @@ fn points_within(
     caps: &[i32],
 ) -> Result<Option<Vec<i32>>, Memory> {
     let nodes = task.nodes.list.as_slice();
-    let caps = caps_of_negated(alloc, nodes, ranges, task.width, caps)?;
+    let caps = caps_of_negated(alloc, nodes, ranges, task.wanted.width, caps)?;
     let Some(points) = greatest_points(alloc, task, ranges, &caps)? else {
         return Ok(None);
     };
@@ -58,7 +58,12 @@ fn lower(nodes: &Nodes, caps: &mut [i32], points: &[i32], small: &[u32]) {
 }
 
 /// Errors at points at which no word is too small.
-fn backed_off(alloc: Global, task: Task<'_>, ranges: &Ranges) -> Result<Option<Errors>, Memory> {
+fn backed_off(
+    alloc: Global,
+    task: Task<'_>,
+    ranges: &Ranges,
+    budget: &mut Budget,
+) -> Result<Option<Errors>, Memory> {
     let mut caps = vec![in alloc; 62_i32; task.nodes.list.len()]?;
     let mut before = None;
     for _turn in 0..TURNS {
@@ -69,7 +74,7 @@ fn backed_off(alloc: Global, task: Task<'_>, ranges: &Ranges) -> Result<Option<E
             ranges,
             points: &points,
         };
-        let Some(settled) = settle(alloc, task, &kind, before)? else {
+        let Some(settled) = settle(alloc, task, &kind, before, budget)? else {
             return Ok(None);
         };
         if settled.found.small().is_empty() {
@@ -102,15 +107,16 @@ fn checked(
     values: Settled<Ranges>,
     shares: Vec<Option<Items<Share>>>,
     errors: Errors,
+    budget: &mut Budget,
 ) -> Result<Option<Certified>, Memory>
-    ensures { IfOk result (IsOffered task.entry.width task.entry.function.now) }
+    ensures { IfOk result (IsOffered task.entry.wanted task.entry.source.now) }
 {
     let Errors { points, settled } = errors;
     let starts = start_boxes(alloc, &values.starts, &settled.starts)?;
     let mut lines = plan_lines(alloc, task.nodes, &values.found, &settled.found)?;
     put_shares(&mut lines, shares);
     let rows = settled.proposal.rows();
-    narrow_outputs(alloc, task.nodes, &mut lines, rows, &points)?;
+    narrow_outputs(alloc, task.nodes, &mut lines, rows, &points, budget)?;
     let kept = Kept {
         starts,
         rows: values.proposal.into_rows(),
@@ -118,73 +124,56 @@ fn checked(
     };
     let written = write_with_states(
         alloc,
-        task.function,
-        &[],
+        task.source,
+        task.steps,
         task.nodes,
         &settled.found,
         lines,
         kept,
     )?;
-    let certified = offered(alloc, task.function, task.width, written)?;
+    let certified = offered(alloc, task.source, task.wanted, written)?;
     Ok(certified)
 }
 
 /// An attempt on these grids.
-fn attempted(alloc: Global, task: Task<'_>) -> Result<Option<Certified>, Memory>
-    ensures { IfOk result (IsOffered task.entry.width task.entry.function.now) }
+fn attempted(
+    alloc: Global,
+    task: Task<'_>,
+    budget: &mut Budget,
+) -> Result<Option<Certified>, Memory>
+    ensures { IfOk result (IsOffered task.entry.wanted task.entry.source.now) }
 {
-    let Some(mut values) = settle(alloc, task, &OfValues, None)? else {
+    let mut own = budget.half();
+    let Some(mut values) = settle(alloc, task, &OfValues, None, &mut own)? else {
         return Ok(None);
     };
-    let shares = narrow_ranges(alloc, task, &mut values.found, values.proposal.rows())?;
-    match backed_off(alloc, task, &values.found)? {
-        Some(errors) => checked(alloc, task, values, shares, errors),
+    let rows = values.proposal.rows();
+    // of all that exchanges do this matters least, and it may be thousands of nodes
+    let mut rest = own.half();
+    let shares = narrow_ranges(alloc, task, &mut values.found, rows, &mut rest)?;
+    budget.give_back(own);
+    budget.give_back(rest);
+    match backed_off(alloc, task, &values.found, budget)? {
+        Some(errors) => checked(alloc, task, values, shares, errors, budget),
         None => Ok(None),
     }
 }
 
-/// The same on the coarser grids, the coarsest last.
-fn attempted_coarsely(alloc: Global, task: Task<'_>) -> Result<Option<Certified>, Memory>
-    ensures { IfOk result (IsOffered task.entry.width task.entry.function.now) }
-{
-    let coarse = Task {
-        grids: Grids::COARSE,
-        ..task
-    };
-    match attempted(alloc, coarse)? {
-        Some(found) => Ok(Some(found)),
-        None => {
-            let coarsest = Task {
-                grids: Grids::COARSEST,
-                ..task
-            };
-            let found = attempted(alloc, coarsest)?;
-            Ok(found)
-        }
-    }
-}
-
-/// A certified program for a function with states, if one is found: on the finest grids on which there is one.
-pub fn certify_states(
+/// The same on the finest grids on which there is one.
+pub fn certified(
     alloc: Global,
-    function: &Function,
-    width: u32,
+    task: Task<'_>,
+    budget: &mut Budget,
 ) -> Result<Option<Certified>, Memory>
-    requires width { Contains widths width }
-    ensures { IfOk result (IsOffered width function.now) }
+    ensures { IfOk result (IsOffered task.entry.wanted task.entry.source.now) }
 {
-    let nodes = flatten(alloc, function)?;
-    let task = Task {
-        function,
-        nodes: &nodes,
-        width,
-        grids: Grids::FINE,
-    };
-    match attempted(alloc, task)? {
-        Some(found) => Ok(Some(found)),
-        None => {
-            let found = attempted_coarsely(alloc, task)?;
-            Ok(found)
+    for grids in [Grids::FINE, Grids::COARSE, Grids::COARSEST] {
+        let mut own = budget.half();
+        let found = attempted(alloc, Task { grids, ..task }, &mut own)?;
+        if found.is_some() {
+            return Ok(found);
         }
+        budget.give_back(own);
     }
+    Ok(None)
 }

@@ -11,10 +11,11 @@
 
 mod attempt;
 mod boxes;
+mod certify;
 mod narrow;
 mod point;
 mod settle;
 mod sides;
 mod task;
 
-pub use attempt::certify_states;
+pub use certify::certify_states;

@@ -6,7 +6,7 @@
 use crate::boxes::span_of;
 use crate::task::Task;
 use fx_cert::{Form, NodeLine, Row, Share};
-use fx_exchange::{Apart, Combination, ScaledRows, pool_of, take_apart};
+use fx_exchange::{Apart, Budget, Combination, ScaledRows, pool_of, take_apart};
 use fx_expr::Items;
 use fx_flat::Nodes;
 use fx_interval::{Interval, outward};
@@ -35,13 +35,14 @@ impl<'a> Standing<'a> {
         alloc: Global,
         coefs: &[Dyadic],
         rest: Interval,
+        budget: &mut Budget,
     ) -> Result<Option<Apart>, Memory> {
         let combination = Combination {
             coefs,
             spans: self.spans,
             rest,
         };
-        take_apart(alloc, &combination, self.rows, self.scaled)
+        take_apart(alloc, &combination, self.rows, self.scaled, budget)
     }
 }
 
@@ -81,8 +82,10 @@ fn error_by_rows(
     error: Interval,
     standing: Standing<'_>,
     point: i32,
+    budget: &mut Budget,
 ) -> Result<Option<Interval>, Memory> {
-    let Some(apart) = standing.apart(alloc, form.coefs.as_slice(), form.error_rest)? else {
+    let found = standing.apart(alloc, form.coefs.as_slice(), form.error_rest, budget)?;
+    let Some(apart) = found else {
         return Ok(None);
     };
     let bound = on_grid(apart.bound, point);
@@ -99,10 +102,11 @@ fn narrow_line(
     line: &mut NodeLine,
     standing: Standing<'_>,
     point: i32,
+    budget: &mut Budget,
 ) -> Result<(), Memory> {
     let error = line.error;
     if let Some(form) = &mut line.form {
-        if let Some(narrower) = error_by_rows(alloc, form, error, standing, point)? {
+        if let Some(narrower) = error_by_rows(alloc, form, error, standing, point, budget)? {
             line.error = narrower;
         }
     }
@@ -116,6 +120,7 @@ pub fn narrow_outputs(
     lines: &mut Vec<NodeLine>,
     rows: &[Row],
     points: &[i32],
+    budget: &mut Budget,
 ) -> Result<(), Memory> {
     let spans = input_errors(alloc, lines, nodes.inputs)?;
     let states = nodes.states as usize;
@@ -130,7 +135,7 @@ pub fn narrow_outputs(
     for n in start..end {
         let point = points.get(n).copied().unwrap_or(0);
         if let Some(line) = lines.get_mut(n) {
-            narrow_line(alloc, line, standing, point)?;
+            narrow_line(alloc, line, standing, point, budget)?;
         }
     }
     Ok(())
@@ -174,6 +179,7 @@ fn range_by_rows(
     task: Task<'_>,
     line: &NodeLine,
     standing: Standing<'_>,
+    budget: &mut Budget,
 ) -> Result<Option<(Span, Items<Share>)>, Memory> {
     let Some(form) = &line.form else {
         return Ok(None);
@@ -181,7 +187,7 @@ fn range_by_rows(
     if !has_several_states(form, standing.spans.len()) {
         return Ok(None);
     }
-    let Some(apart) = standing.apart(alloc, form.coefs.as_slice(), form.rest)? else {
+    let Some(apart) = standing.apart(alloc, form.coefs.as_slice(), form.rest, budget)? else {
         return Ok(None);
     };
     match span_of(apart.bound) {
@@ -198,11 +204,12 @@ fn narrow_node(
     n: usize,
     line: &NodeLine,
     standing: Standing<'_>,
+    budget: &mut Budget,
 ) -> Result<Option<Items<Share>>, Memory> {
     let Some(node) = task.nodes.list.as_slice().get(n) else {
         return Ok(None);
     };
-    match range_by_rows(alloc, task, line, standing)? {
+    match range_by_rows(alloc, task, line, standing, budget)? {
         Some((span, shares)) => if ranges.narrow(n, node, Some(span)) {
             Ok(Some(shares))
         } else {
@@ -221,6 +228,7 @@ pub fn narrow_ranges(
     task: Task<'_>,
     ranges: &mut Ranges,
     rows: &[Row],
+    budget: &mut Budget,
 ) -> Result<Vec<Option<Items<Share>>>, Memory> {
     let inputs = task.nodes.inputs as usize;
     let states = task.nodes.states as usize;
@@ -235,7 +243,7 @@ pub fn narrow_ranges(
     narrow_states(ranges, rows, inputs, states);
     let mut shares = Vec::new(alloc);
     for (n, line) in lines.iter().enumerate() {
-        shares.push(narrow_node(alloc, task, ranges, n, line, standing)?)?;
+        shares.push(narrow_node(alloc, task, ranges, n, line, standing, budget)?)?;
     }
     Ok(shares)
 }

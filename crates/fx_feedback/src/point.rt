@@ -45,7 +45,7 @@ fn greatest(task: Task<'_>, n: usize, points: &[i32], cap: i32) -> Option<i32> {
     let steps = cap.saturating_sub(LEAST).saturating_add(1).clamp(0, 127);
     for down in 0..steps {
         let f = cap.saturating_sub(down);
-        if has_code(task.function, node, f, points, task.width) {
+        if has_code(task.function, node, f, points, task.wanted.width) {
             return Some(f);
         }
     }
@@ -54,15 +54,15 @@ fn greatest(task: Task<'_>, n: usize, points: &[i32], cap: i32) -> Option<i32> {
 
 /// The point of node `n`.
 fn point_of(task: Task<'_>, ranges: &Ranges, n: usize, points: &[i32], cap: i32) -> Option<i32> {
-    let cap = cap_of(task.nodes, ranges, n, task.width, cap);
+    let cap = cap_of(task.nodes, ranges, n, task.wanted.width, cap);
     let decider = decider(task.nodes, n);
     if decider == n {
         return greatest(task, n, points, cap);
     }
     let only = points.get(decider).copied()?;
     let node = task.nodes.list.as_slice().get(n)?;
-    if only <= ranges.cap(n, task.width)?
-        && has_code(task.function, node, only, points, task.width)
+    if only <= ranges.cap(n, task.wanted.width)?
+        && has_code(task.function, node, only, points, task.wanted.width)
     {
         Some(only)
     } else {

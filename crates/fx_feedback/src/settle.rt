@@ -6,8 +6,9 @@
 use crate::boxes::{hold_all, intervals, next_boxes};
 use crate::task::Task;
 use fx_cert::{NodeLine, Side};
+use fx_exchange::Budget;
 use fx_num::Memory;
-use fx_proposal::{Proposal, propose_rows};
+use fx_proposal::{Proposal, propose_rows_within};
 use fx_reach::Transition;
 use fx_span::Span;
 use std::alloc::Global;
@@ -71,13 +72,14 @@ fn proposed_in<S: Settling>(
     starts: &[Span],
     boxes: &[Span],
     before: Option<Proposal>,
+    budget: &mut Budget,
 ) -> Result<Option<(S::Found, Proposal)>, Memory> {
     let Some((found, lines)) = kind.found_in(alloc, task, boxes)? else {
         return Ok(None);
     };
     let starts = intervals(alloc, starts)?;
     let t = Transition::over(task.nodes, kind.points(), lines);
-    match propose_rows(alloc, &t, &kind.side(), Some(&starts), before)? {
+    match propose_rows_within(alloc, &t, &kind.side(), Some(&starts), before, budget)? {
         Some(proposal) => Ok(Some((found, proposal))),
         None => Ok(None),
     }
@@ -89,6 +91,7 @@ pub fn settle<S: Settling>(
     task: Task<'_>,
     kind: &S,
     first: Option<Proposal>,
+    budget: &mut Budget,
 ) -> Result<Option<Settled<S::Found>>, Memory> {
     let Some(starts) = starts_of(alloc, task, kind)? else {
         return Ok(None);
@@ -96,8 +99,8 @@ pub fn settle<S: Settling>(
     let mut boxes = Vec::from_slice(alloc, &starts)?;
     let mut before = first;
     for turn in 0..TURNS {
-        let Some((found, proposal)) = proposed_in(alloc, task, kind, &starts, &boxes, before)?
-        else {
+        let next = proposed_in(alloc, task, kind, &starts, &boxes, before, budget)?;
+        let Some((found, proposal)) = next else {
             return Ok(None);
         };
         if hold_all(&boxes, proposal.rows()) {

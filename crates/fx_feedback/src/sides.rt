@@ -66,7 +66,7 @@ impl Settling for OfErrors<'_> {
         let function = task.function;
         let node = function.inputs.len().saturating_add(k);
         let point = self.points.get(node).copied().unwrap_or(0);
-        start_error(function, k, point, task.width, task.grids)
+        start_error(function, k, point, task.wanted.width, task.grids)
     }
 
     fn found_in(
@@ -81,7 +81,7 @@ impl Settling for OfErrors<'_> {
             task.nodes,
             self.ranges,
             self.points,
-            task.width,
+            task.wanted,
             boxes,
         )?;
         let Ok(plan) = found else {

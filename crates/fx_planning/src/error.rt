@@ -213,8 +213,8 @@ pub fn plain_error(
     code: &Code,
     point: i32,
 ) -> Option<Span> {
-    let e = setting.error_grid(point);
-    Some(unrounded_error(setting, errors, code, point)?.outward(e))
+    let error = unrounded_error(setting, errors, code, point)?;
+    Some(setting.on_error_grid(error, point))
 }
 
 /// What the cut coefficients leave of the inputs' errors.
@@ -275,10 +275,12 @@ fn formed_error(
     let Some(form) = setting.ranges.form(n) else {
         return Some(NodeError::plain(plain));
     };
-    let e = setting.error_grid(setting.point(n)?);
-    let rest = error_rest(setting, errors, n, code, &form)?.outward(e);
+    let point = setting.point(n)?;
+    let rest = error_rest(setting, errors, n, code, &form)?;
+    let rest = setting.on_error_grid(rest, point);
     let row = setting.ranges.row(n);
-    let by_form = weighted(row, form.e, rest, &errors.spans)?.outward(e);
+    let by_form = weighted(row, form.e, rest, &errors.spans)?;
+    let by_form = setting.on_error_grid(by_form, point);
     let is_shown = by_form.is_narrower(plain)?;
     Some(NodeError {
         span: if is_shown { by_form } else { plain },
@@ -304,11 +306,12 @@ fn quotient_error(
     let off = setting.ranges.span(n)?.times(errors.span(b)?)?;
     let x = errors.span(a)?.minus(off)?.over(seen, e)?;
     let unit = unit_on(point, e)?;
-    Some(Span {
+    let error = Span {
         lo: x.lo.checked_sub(unit)?,
         hi: x.hi.checked_add(unit)?,
         e,
-    })
+    };
+    Some(setting.on_error_grid(error, point))
 }
 
 /// The error of a literal's word.
@@ -331,7 +334,8 @@ fn input_error(setting: &Setting<'_>, n: usize, k: usize) -> Option<NodeError> {
     let input = function.inputs.as_slice().get(k)?;
     let point = setting.point(n)?;
     let e = setting.error_grid(point);
-    Some(NodeError::of_variable(reading_error(input.err, point, e)?))
+    let error = reading_error(input.err, point, e)?;
+    Some(NodeError::of_variable(setting.on_error_grid(error, point)))
 }
 
 /// The error of a state, which is its box.

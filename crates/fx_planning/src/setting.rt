@@ -7,9 +7,12 @@ use fx_fraction::Fraction;
 use fx_num::Memory;
 use fx_program::Code;
 use fx_ranges::{Failed, Ranges, codes_of, operands};
-use fx_span::Span;
+use fx_span::{Span, bits};
 use fx_wanted::Wanted;
 use std::alloc::Global;
+
+/// An error has so many bits less than a range has.
+const BITS_LESS: u32 = 8;
 
 /// A function's nodes and their ranges, what is asked of its words, and what its bounds are measured by.
 #[derive(Clone, Copy, Debug)]
@@ -100,6 +103,16 @@ impl Setting<'_> {
     /// The grid of an error at a point.
     pub fn error_grid(&self, point: i32) -> u32 {
         self.ranges.grids().error_places_at(point)
+    }
+
+    /// An error on the grid of its point, or on a coarser one where it has many bits: an input may err by far more than a
+    /// word does, and products of such errors would leave 128 bits.
+    pub fn on_error_grid(&self, error: Span, point: i32) -> Span {
+        let most = self.ranges.grids().range_bits.saturating_sub(BITS_LESS);
+        let few = most
+            .saturating_add(error.e)
+            .saturating_sub(bits(error.size()));
+        error.outward(self.error_grid(point).min(few))
     }
 
     /// The literal that a node is, if it is one.

@@ -1,12 +1,14 @@
 -- Codes that round as was asked for are lawful ones of the version that this way to round came with.
-use Rattle.std.proofs.Common.{◌≡◌, ℕ, ◌≤◌, true, false, List, get_or, ℤ, pos, refl, sym, subst, arith, tests}
+use Rattle.std.proofs.Common.{◌≡◌, ℕ, ◌≤◌, true, false, List, [], ◌∷◌, map, get_or, ℤ, pos, refl, sym, subst, arith}
 use Rattle.std.specs.Prelude.{Bool, int_le, nat_le, ◌&&◌, All, Contains, if◌then◌else◌}
 use Rattle.std.proofs.lemmas.Bool.{and_parts}
 use Rattle.std.proofs.lemmas.Int.{ints}
-use Rattle.std.proofs.lemmas.List.Elements.{All-nil, All-cons, All-map}
+use Rattle.std.proofs.lemmas.List.Elements.{All-nil, All-head, All-tail, All-cons, All-map}
 use Rattle.fx_model.specs.LawfulProgram.{IsShift, IsCopyShift, IsOfVersion, least_shift, least_copy_shift, greatest_copy_shift, first_version, versions}
-use Rattle.fx_model.specs.Machine.{Round, Floor, Nearest, Code, Input, State, Const, Neg, Add, Sub, Mul, Div, Copy}
-use Rattle.fx_program.specs.Rounding.{product_round, copy_round, RoundsBy}
+use Rattle.fx_model.specs.Machine.{Round, Floor, Nearest, Code, Program, Input, State, Const, Neg, Add, Sub, Mul, Div, Copy}
+use Rattle.fx_program.specs.CodeView.{code_of}
+use Rattle.fx_program.specs.Rounding.{product_round, copy_round, RoundsBy, IsRoundedBy}
+use Rattle.fx_program.specs.declared.code.Code as code
 
 -- ---- products
 -- one whose shift may round so does
@@ -72,3 +74,15 @@ rounded_is_of_version r n (Copy r' a s) e =
 -- so are all
 pub rounded_are_of_version : (r : Round) (n : ℕ) (cs : List Code) → All (RoundsBy r n) cs → All (IsOfVersion (first_version r)) cs
 rounded_are_of_version r n cs all = λ k d lt. rounded_is_of_version r n (get_or cs k d) (all k d lt)
+
+-- ---- the codes of a program in memory
+each_rounds : (r : Round) (n : ℕ) (cs : List code.Code) → All (RoundsBy r n) (map code_of cs) → All (λ c. RoundsBy r n (code_of c)) cs
+each_rounds r n [] h = All-nil _
+each_rounds r n (c ∷ cs) h = All-cons (λ (d : code.Code). RoundsBy r n (code_of d)) c cs (All-head (RoundsBy r n) (code_of c) (map code_of cs) h) (each_rounds r n cs (All-tail (RoundsBy r n) (code_of c) (map code_of cs) h))
+
+-- a program rounds so where its version and its codes do
+pub program_rounds : (r : Round) (p : Program) (cs : List code.Code) → p.codes ≡ map code_of cs → p.version ≡ first_version r → All (λ c. RoundsBy r p.width (code_of c)) cs → IsRoundedBy r p
+program_rounds r p cs is version all = record { version = version; codes = subst (All (RoundsBy r p.width)) (sym is) (All-map (RoundsBy r p.width) code_of cs all) }
+
+pub codes_round : (r : Round) (p : Program) (cs : List code.Code) → p.codes ≡ map code_of cs → IsRoundedBy r p → All (λ c. RoundsBy r p.width (code_of c)) cs
+codes_round r p cs is h = each_rounds r p.width cs (subst (All (RoundsBy r p.width)) is h.codes)

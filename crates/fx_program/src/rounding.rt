@@ -3,7 +3,7 @@
 //! To the nearest a product rounds whose shift is from 1 on, and a copy whose shift is from 1 to the width: what drops nothing, or
 //! more than a word, has no such code and rounds down.
 
-ghost use Rattle.std.specs.Prelude.{◌≡◌, ◌↔◌, IsTrue};
+ghost use Rattle.std.specs.Prelude.{◌≡◌, ◌↔◌, All, IsTrue};
 ghost use Rattle.fx_model.specs.LawfulProgram.{IsShift};
 ghost use Rattle.fx_model.specs.Machine as machine;
 ghost use Rattle.fx_program.specs.CodeView.{round_of, code_of};
@@ -68,20 +68,25 @@ fn rounds_by(code: Code, round: Round, width: u32) -> bool
     }
 }
 
+/// Whether each of these does.
+fn all_round_by(codes: &[Code], round: Round, width: u32) -> bool
+    requires { IsWidth width }
+    ensures { IsTrue result ↔ All (λ code. RoundsBy (round_of round) width (code_of code)) codes.now }
+{
+    for i in 0..codes.len() {
+        if !rounds_by(codes[i], round, width) {
+            return false;
+        }
+    }
+    true
+}
+
 impl Program {
     /// Whether its codes round so, and its version is the one that this way to round came with.
     pub fn is_rounded_by(&self, round: Round) -> bool
         ensures { IsTrue result ↔ IsRoundedBy (round_of round) self.now }
     {
         self.keeps();
-        if self.version != round.first_version() {
-            return false;
-        }
-        for code in &self.codes {
-            if !rounds_by(*code, round, self.width) {
-                return false;
-            }
-        }
-        true
+        self.version == round.first_version() && all_round_by(&self.codes, round, self.width)
     }
 }

@@ -1,7 +1,7 @@
 //! All rows of a try: chains one after the other, as long as there is place, and exchanges where they end early.
 
 use fx_cert::Share;
-use fx_exchange::{ScaledRows, exchange};
+use fx_exchange::{Budget, ScaledRows, exchange};
 use fx_num::{Dyadic, Memory};
 use fx_reach::{Ahead, Chain, Costs, Linear, Pool, find_closing, room, times_of, wanted_length};
 use std::alloc::Global;
@@ -242,7 +242,7 @@ impl<'a> Building<'a> {
     }
 
     /// The shares of all rows that wait for an exchange.
-    fn exchanged(&self, chains: &[Chain]) -> Result<Vec<Vec<Share>>, Memory> {
+    fn exchanged(&self, chains: &[Chain], budget: &mut Budget) -> Result<Vec<Vec<Share>>, Memory> {
         let scaled = ScaledRows::of(self.alloc, &self.pool)?;
         let mut shares = Vec::new(self.alloc);
         for end in &self.ends {
@@ -250,7 +250,7 @@ impl<'a> Building<'a> {
                 Some(chain) => chain.ahead.rows.row(end.time),
                 None => &[],
             };
-            shares.push(exchange(self.alloc, &scaled, row)?.shares)?;
+            shares.push(exchange(self.alloc, &scaled, row, budget)?.shares)?;
         }
         Ok(shares)
     }
@@ -272,6 +272,7 @@ pub fn build(
     linear: &Linear,
     costs: &Costs,
     is_growing: bool,
+    budget: &mut Budget,
 ) -> Result<Option<Pool>, Memory> {
     let lengths = wanted_lengths(alloc, chains, costs)?;
     let places = ROWS
@@ -283,6 +284,6 @@ pub fn build(
     if !building.put_chains(chains, &lengths, most, is_growing)? {
         return Ok(None);
     }
-    let shares = building.exchanged(chains)?;
+    let shares = building.exchanged(chains, budget)?;
     Ok(Some(building.finished(shares)))
 }

@@ -16,4 +16,4 @@ mod propose;
 mod system;
 mod tries;
 
-pub use propose::{Proposal, propose_rows};
+pub use propose::{Proposal, propose_rows, propose_rows_within};

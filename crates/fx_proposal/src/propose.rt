@@ -5,6 +5,7 @@ use crate::ends::Ends;
 use crate::system::System;
 use crate::tries::{best_try, put_bounds};
 use fx_cert::{Row, Share, Side};
+use fx_exchange::Budget;
 use fx_expr::Items;
 use fx_interval::Interval;
 use fx_num::{Dyadic, Memory, left_fits};
@@ -111,12 +112,13 @@ fn found(
     t: &Transition,
     linear: Linear,
     starts: Option<&[Interval]>,
+    budget: &mut Budget,
 ) -> Result<Option<Proposal>, Memory> {
     let Some(mut chains) = unit_chains(alloc, &linear)? else {
         return Ok(None);
     };
     add_output_chains(alloc, t, &linear, &mut chains)?;
-    let Some(solved) = best_try(alloc, &linear, &chains, starts)? else {
+    let Some(solved) = best_try(alloc, &linear, &chains, starts, budget)? else {
         return Ok(None);
     };
     let rows = rows_of(alloc, &solved.pool, &solved.system, &solved.bounds)?;
@@ -138,6 +140,18 @@ pub fn propose_rows(
     starts: Option<&[Interval]>,
     before: Option<Proposal>,
 ) -> Result<Option<Proposal>, Memory> {
+    propose_rows_within(alloc, t, side, starts, before, &mut Budget::whole())
+}
+
+/// The same, with no more work for exchanges than the budget allows.
+pub fn propose_rows_within(
+    alloc: Global,
+    t: &Transition,
+    side: &Side,
+    starts: Option<&[Interval]>,
+    before: Option<Proposal>,
+    budget: &mut Budget,
+) -> Result<Option<Proposal>, Memory> {
     let Some(linear) = Linear::of(alloc, t, side)? else {
         return Ok(None);
     };
@@ -146,5 +160,5 @@ pub fn propose_rows(
             return Ok(Some(proposal));
         }
     }
-    found(alloc, t, linear, starts)
+    found(alloc, t, linear, starts, budget)
 }

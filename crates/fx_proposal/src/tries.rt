@@ -4,7 +4,7 @@
 use crate::build::build;
 use crate::ends::Ends;
 use crate::system::System;
-use fx_exchange::{ScaledRows, exchange};
+use fx_exchange::{Budget, ScaledRows, exchange};
 use fx_interval::Interval;
 use fx_num::{Memory, left_fits};
 use fx_reach::{Chain, Costs, Linear, Pool};
@@ -98,7 +98,12 @@ fn unit_quality(pool: &Pool, chains: &[Chain]) -> i128 {
 }
 
 /// How good the bounds of all are, of outputs by an exchange.
-fn quality(alloc: Global, pool: &Pool, chains: &[Chain]) -> Result<i128, Memory> {
+fn quality(
+    alloc: Global,
+    pool: &Pool,
+    chains: &[Chain],
+    budget: &mut Budget,
+) -> Result<i128, Memory> {
     let mut worst = unit_quality(pool, chains);
     if chains.len() == pool.rows.states {
         return Ok(worst);
@@ -106,7 +111,7 @@ fn quality(alloc: Global, pool: &Pool, chains: &[Chain]) -> Result<i128, Memory>
     let scaled = ScaledRows::of(alloc, pool)?;
     for chain in chains {
         if chain.state.is_none() {
-            let found = exchange(alloc, &scaled, chain.ahead.rows.row(0))?;
+            let found = exchange(alloc, &scaled, chain.ahead.rows.row(0), budget)?;
             worst = ratio(found.cost, chain.ahead.rows.width(0)).max(worst);
         }
     }
@@ -129,9 +134,10 @@ fn tried(
     chains: &[Chain],
     one: Try,
     starts: Option<&[Interval]>,
+    budget: &mut Budget,
 ) -> Result<Option<Solved>, Memory> {
     let costs = Costs::of(alloc, chains, one.shift)?;
-    let Some(mut pool) = build(alloc, chains, linear, &costs, one.is_growing)? else {
+    let Some(mut pool) = build(alloc, chains, linear, &costs, one.is_growing, budget)? else {
         return Ok(None);
     };
     let Some(system) = System::of(alloc, linear, &pool, starts)? else {
@@ -143,7 +149,7 @@ fn tried(
     if put_bounds(&mut pool, &system, &bounds).is_none() {
         return Ok(None);
     }
-    let quality = quality(alloc, &pool, chains)?;
+    let quality = quality(alloc, &pool, chains, budget)?;
     Ok(Some(Solved {
         pool,
         system,
@@ -180,16 +186,20 @@ fn used<'a>(chains: &'a [Chain], states: usize, one: Try) -> &'a [Chain] {
     }
 }
 
-/// The best of the tries.
+/// The best of the tries. Where no work is left for exchanges, the others are left out.
 pub fn best_try(
     alloc: Global,
     linear: &Linear,
     chains: &[Chain],
     starts: Option<&[Interval]>,
+    budget: &mut Budget,
 ) -> Result<Option<Solved>, Memory> {
     let mut best = None;
     for one in &TRIES {
         let one = *one;
+        if budget.is_spent() && one.shift < 8 {
+            return Ok(best);
+        }
         // without chains of outputs a try with them is one without
         if !one.with_outputs || chains.len() > linear.states || one.shift != 3 {
             if let Some(solved) = tried(
@@ -198,6 +208,7 @@ pub fn best_try(
                 used(chains, linear.states, one),
                 one,
                 starts,
+                budget,
             )? {
                 let is_enough = is_enough(&solved, one);
                 let solved = better(best, solved);

@@ -11,5 +11,6 @@ mod synthesis;
 
 pub use fault::SynthFault;
 pub use fx_moves::draw;
+pub use fx_wanted::Round;
 pub use fx_weight::Outside;
 pub use synthesis::synthesise;

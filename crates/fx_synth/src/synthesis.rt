@@ -5,6 +5,7 @@ ghost use Rattle.fx_inequalities.specs.Rewriting.{Rewriting};
 ghost use Rattle.fx_rules.specs.SingleSteps.{single_steps};
 ghost use Rattle.fx_checker.specs.Answers.{IsOffered};
 ghost use Rattle.fx_attempts.specs.Turns.{IsBestAfter, SuitsIfAny};
+ghost use Rattle.fx_wanted.specs.Asked.{tries_limit};
 ghost use Rattle.fx_synth.specs.Synthesis.{Explains, IsSynthesised};
 
 use crate::fault::SynthFault;
@@ -14,6 +15,7 @@ use fx_expr::Function;
 use fx_feedback::certify_states;
 use fx_num::{Dyadic, Memory};
 use fx_search::search;
+use fx_wanted::{Round, Wanted};
 use fx_weight::find_outside;
 use std::alloc::Global;
 
@@ -21,18 +23,17 @@ use std::alloc::Global;
 fn found(
     alloc: Global,
     function: &Function,
-    width: u32,
+    wanted: Wanted,
     seed: u64,
-    tries: u32,
     held: &[Dyadic],
 ) -> Result<Option<Certified>, Memory>
-    requires width { Contains widths width }
-    ensures { IfOk result (IsOffered width function.now) }
+    requires width { Contains widths wanted.width }
+    ensures { IfOk result (IsOffered wanted function.now) }
 {
     if function.states.len() > 0 {
-        certify_states(alloc, function, width)
+        certify_states(alloc, function, wanted)
     } else {
-        search(alloc, function, width, seed, tries, held)
+        search(alloc, function, wanted, seed, held)
     }
 }
 
@@ -40,16 +41,15 @@ fn found(
 fn candidate_to(
     alloc: Global,
     function: &Function,
-    width: u32,
+    wanted: Wanted,
     seed: u64,
-    tries: u32,
     answer: &Option<Certified>,
 ) -> Result<Option<Certified>, Memory>
-    requires width { Contains widths width }
-    ensures { IfOk result (IsOffered width function.now) }
+    requires width { Contains widths wanted.width }
+    ensures { IfOk result (IsOffered wanted function.now) }
 {
     let held = bounds_of(alloc, answer)?;
-    let candidate = found(alloc, function, width, seed, tries, &held)?;
+    let candidate = found(alloc, function, wanted, seed, &held)?;
     Ok(candidate)
 }
 
@@ -57,16 +57,15 @@ fn candidate_to(
 fn searched(
     alloc: Global,
     function: &Function,
-    width: u32,
+    wanted: Wanted,
     seed: u64,
-    tries: u32,
     answer: Option<Certified>,
 ) -> Result<Option<Certified>, Memory>
-    requires width { Contains widths width }
-    requires suits { SuitsIfAny width function.now answer }
-    ensures { (steps : List Rewriting) → IsBestAfter width function.now steps answer → IfOk result (IsBestAfter width function.now steps) }
+    requires width { Contains widths wanted.width }
+    requires suits { SuitsIfAny wanted function.now answer }
+    ensures { (steps : List Rewriting) → IsBestAfter wanted function.now steps answer → IfOk result (IsBestAfter wanted function.now steps) }
 {
-    let candidate = candidate_to(alloc, function, width, seed, tries, &answer)?;
+    let candidate = candidate_to(alloc, function, wanted, seed, &answer)?;
     Ok(taken(answer, candidate))
 }
 
@@ -74,21 +73,20 @@ fn searched(
 fn best_answer(
     alloc: Global,
     function: &Function,
-    width: u32,
+    wanted: Wanted,
     seed: u64,
-    tries: u32,
     first: Option<Certified>,
 ) -> Result<Option<Certified>, Memory>
-    requires width { Contains widths width }
-    requires suits { SuitsIfAny width function.now first }
-    ensures { IfOk result (IsBestAfter width function.now (take tries (single_steps function.now))) }
+    requires width { Contains widths wanted.width }
+    requires suits { SuitsIfAny wanted function.now first }
+    ensures { IfOk result (IsBestAfter wanted function.now (take wanted.tries (single_steps function.now))) }
 {
-    let answer = tried(alloc, function, width, tries, first)?;
-    let best = searched(alloc, function, width, seed, tries, answer)?;
+    let answer = tried(alloc, function, wanted, first)?;
+    let best = searched(alloc, function, wanted, seed, answer)?;
     Ok(best)
 }
 
-/// A certified program of this width for the function.
+/// A certified program of this width and rounding for the function.
 ///
 /// Where the plain plan serves the function, or else the calm plan, it is the first answer. The plain attempt and those after each of the first
 /// `tries` single steps follow in their order, and then what a search finds in as many tries, with the choices that the seed
@@ -99,15 +97,21 @@ pub fn synthesise(
     width: u32,
     seed: u64,
     tries: u32,
+    round: Round,
 ) -> Result<Certified, SynthFault>
     requires width { Contains widths width }
-    requires tries { tries ≤ 100000 }
-    ensures found { IfOk result (IsSynthesised width tries function.now) }
-    ensures not_found { IfErr result (Explains width tries function.now) }
+    requires tries { tries ≤ tries_limit }
+    ensures found { IfOk result (IsSynthesised (record { width = width; tries = tries; round = round }) function.now) }
+    ensures not_found { IfErr result (Explains (record { width = width; tries = tries; round = round }) function.now) }
 {
+    let wanted = Wanted {
+        width,
+        tries,
+        round,
+    };
     let outside = find_outside(alloc, function, width)?;
-    let first = first_answer(alloc, function, width, outside)?;
-    match best_answer(alloc, function, width, seed, tries, first)? {
+    let first = first_answer(alloc, function, wanted, outside)?;
+    match best_answer(alloc, function, wanted, seed, first)? {
         Some(certified) => Ok(certified),
         None => match outside {
             Some(outside) => Err(SynthFault::NotFound { outside }),

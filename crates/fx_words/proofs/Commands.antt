@@ -99,11 +99,11 @@ migrate-is-one = record {
 synth-is-one : IsCommand (codes "synth")
 unfolding walk_fault walked defaults_fault
 synth-is-one = record {
-  options = (codes "width", true) ∷ (codes "function", false) ∷ (codes "seed", false) ∷ (codes "tries", false) ∷ [];
-  apart = (refl, (refl, (refl, (refl, tt))));
+  options = (codes "width", true) ∷ (codes "function", false) ∷ (codes "seed", false) ∷ (codes "tries", false) ∷ (codes "round", false) ∷ [];
+  apart = (refl, (refl, (refl, (refl, (refl, tt)))));
   known = refl;
   faults = λ rest. ap₂ by_walk (stopped-walk (walk_from nothing_held) (codes "synth") [] rest) (sym (walk_stopped [] commands (walk_from nothing_held) (codes "synth") [] rest))
-      ∙ nil-or_else (faults_from (codes "synth") (options_rules ((codes "width", true) ∷ (codes "function", false) ∷ (codes "seed", false) ∷ (codes "tries", false) ∷ [])) (walk_at [] settled_now 1 false) rest) [] ∙ and-true _;
+      ∙ nil-or_else (faults_from (codes "synth") (options_rules ((codes "width", true) ∷ (codes "function", false) ∷ (codes "seed", false) ∷ (codes "tries", false) ∷ (codes "round", false) ∷ [])) (walk_at [] settled_now 1 false) rest) [] ∙ and-true _;
   rows = λ rest. ap (λ w. entered (built fixd_app) w.stopped) (sym (walk_stopped [] commands (walk_from nothing_held) (codes "synth") [] rest));
   wants = no-synthesis;
 }

@@ -2,9 +2,12 @@
 use Rattle.std.proofs.Common.{◌≡◌, ℕ, Bool, true, false, not, ◌||◌, List, [], ◌∷◌, Option, Some, None, option_map, codes, refl, ap, ◌∙◌}
 use Rattle.std.specs.Prelude.{if◌then◌else◌, find}
 use Rattle.std.specs.Str.{bytes_eq}
-use Rattle.fx_words.specs.Command.{command_given, synthesis_of, tries_limit}
+use Rattle.fx_wanted.specs.Asked.{tries_limit}
+use Rattle.fx_wanted.specs.declared.wanted.Wanted.{Wanted}
+use Rattle.fx_words.specs.Command.{command_given, synthesis_of, wanted_of}
 use Rattle.fx_words.specs.Grammar.{Bytes, Entry, has_entry, value_named}
 use Rattle.fx_words.specs.Numbers.{number_or, width_given}
+use Rattle.fx_words.specs.Rounding.{round_given}
 use Rattle.fx_words.proofs.Pending.{has_required}
 use Rattle.fx_words.proofs.Options.{options_rules}
 
@@ -22,21 +25,23 @@ no-file ps e = value-is-none (codes "file") ps (by_file (has_entry (codes "file"
   by_file true e = absurd (cc)
   by_file false e = refl
 
-without-file : (w : Option ℕ) (f : Option Bytes) (s t : Option ℕ) → synthesis_of w f s t None ≡ None
-without-file None f s t = refl
-without-file (Some w) f None t = refl
-without-file (Some w) f (Some s) None = refl
-without-file (Some w) f (Some s) (Some t) = refl
+without-file : (w : Option Wanted) (f : Option Bytes) (s : Option ℕ) → synthesis_of w f s None ≡ None
+without-file None f s = refl
+without-file (Some w) f None = refl
+without-file (Some w) f (Some s) = refl
 
-pub no-synthesis : (ps : List Entry) → has_required (options_rules ((codes "width", true) ∷ (codes "function", false) ∷ (codes "seed", false) ∷ (codes "tries", false) ∷ [])) ps ≡ false
+pub no-synthesis : (ps : List Entry) → has_required (options_rules ((codes "width", true) ∷ (codes "function", false) ∷ (codes "seed", false) ∷ (codes "tries", false) ∷ (codes "round", false) ∷ [])) ps ≡ false
     → command_given (codes "synth") (value_named ps) ≡ None
 no-synthesis ps e = by_names (has_entry (codes "width") ps) refl (has_entry (codes "file") ps) refl e where
+  seed : Option ℕ
+  seed = number_or 0 18446744073709551615 (value_named ps (codes "seed"))
+
+  wanted : Option Bytes → Option Wanted
+  wanted w = wanted_of (width_given w) (number_or 200 tries_limit (value_named ps (codes "tries"))) (round_given (value_named ps (codes "round")))
+
   by_names : (w : Bool) → has_entry (codes "width") ps ≡ w → (f : Bool) → has_entry (codes "file") ps ≡ f → not (not w || (not f || false)) ≡ false → command_given (codes "synth") (value_named ps) ≡ None
   by_names true g true h e = absurd (cc)
-  by_names false g f h e =
-      ap (λ w. synthesis_of (width_given w) (value_named ps (codes "function")) (number_or 0 18446744073709551615 (value_named ps (codes "seed"))) (number_or 200 tries_limit (value_named ps (codes "tries")))
-      (value_named ps (codes "file"))) (value-is-none (codes "width") ps g)
+  by_names false g f h e = ap (λ w. synthesis_of (wanted w) (value_named ps (codes "function")) seed (value_named ps (codes "file"))) (value-is-none (codes "width") ps g)
   by_names true g false h e =
-      ap (λ file. synthesis_of (width_given (value_named ps (codes "width"))) (value_named ps (codes "function")) (number_or 0 18446744073709551615 (value_named ps (codes "seed")))
-      (number_or 200 tries_limit (value_named ps (codes "tries"))) file) (value-is-none (codes "file") ps h)
-      ∙ without-file (width_given (value_named ps (codes "width"))) (value_named ps (codes "function")) (number_or 0 18446744073709551615 (value_named ps (codes "seed"))) (number_or 200 tries_limit (value_named ps (codes "tries")))
+      ap (λ file. synthesis_of (wanted (value_named ps (codes "width"))) (value_named ps (codes "function")) seed file) (value-is-none (codes "file") ps h)
+      ∙ without-file (wanted (value_named ps (codes "width"))) (value_named ps (codes "function")) seed

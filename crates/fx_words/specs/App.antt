@@ -22,8 +22,8 @@ file_app name = with_rule (new_app name) file_rule
 
 abbrev pub synth_app : App
 synth_app =
-    with_rule (with_rule (with_rule (with_rule (with_rule (new_app (codes "synth"))
-    (required_option_rule (codes "width"))) (option_rule (codes "function"))) (option_rule (codes "seed"))) (option_rule (codes "tries"))) file_rule
+    with_rule (with_rule (with_rule (with_rule (with_rule (with_rule (new_app (codes "synth"))
+    (required_option_rule (codes "width"))) (option_rule (codes "function"))) (option_rule (codes "seed"))) (option_rule (codes "tries"))) (option_rule (codes "round"))) file_rule
 
 -- the words without the program's name, which begin with a command's
 abbrev pub top_app : App

@@ -1,17 +1,19 @@
 -- The command that the words are.
-use Rattle.std.specs.Prelude.{ℕ, ◌-◌, ◌^◌, ◌≤◌, Contains, List, [], ◌∷◌, map, codes, string_bytes, String, Option, Some, None, option_map, option_and_then, if◌then◌else◌}
+use Rattle.std.specs.Prelude.{ℕ, ◌-◌, ◌^◌, ◌≤◌, List, [], ◌∷◌, map, codes, string_bytes, String, Option, Some, None, option_map, option_and_then, if◌then◌else◌}
 use Rattle.std.specs.Str.{bytes_eq}
 use Rattle.std.specs.declared.alloc.Global.{Global}
-use Rattle.fx_model.specs.LawfulProgram.{widths}
+use Rattle.fx_program.specs.declared.code.Round.{Round}
+use Rattle.fx_wanted.specs.Asked.{IsLawfulWanted, tries_limit}
+use Rattle.fx_wanted.specs.declared.wanted.Wanted.{Wanted}
 use Rattle.fx_words.specs.Grammar.{Bytes, entries_in, once, value_named, have_values}
 use Rattle.fx_words.specs.Numbers.{demo_number, number_or, width_given}
+use Rattle.fx_words.specs.Rounding.{round_given}
 
 -- what a synthesis is asked for
 pub record Synthesis : Type 0 where
-  pub width : ℕ
+  pub wanted : Wanted
   pub function : Option Bytes
   pub seed : ℕ
-  pub tries : ℕ
   pub file : Bytes
 
 -- what is to be done
@@ -27,28 +29,25 @@ pub data Command : Type 0 where
 abbrev pub texts : List (String Global) → List Bytes
 texts words = map (λ w. string_bytes w) words
 
--- the most tries that can be asked for
-abbrev pub tries_limit : ℕ
-tries_limit = 100000
-
 abbrev pub synth_options : List Bytes
-synth_options = codes "width" ∷ codes "function" ∷ codes "seed" ∷ codes "tries" ∷ []
+synth_options = codes "width" ∷ codes "function" ∷ codes "seed" ∷ codes "tries" ∷ codes "round" ∷ []
 
--- a synthesis, where nothing is wrong or missing
-abbrev pub synthesis_of : Option ℕ → Option Bytes → Option ℕ → Option ℕ → Option Bytes → Option Command
-synthesis_of (Some width) function (Some seed) (Some tries) (Some file) =
-    Some (Synth (record { width = width; function = function; seed = seed; tries = tries; file = file }))
-synthesis_of width function seed tries file = None
+-- what is asked of a synthesis, where nothing is wrong or missing
+abbrev pub wanted_of : Option ℕ → Option ℕ → Option Round → Option Wanted
+wanted_of (Some width) (Some tries) (Some round) = Some (record { width = width; tries = tries; round = round })
+wanted_of width tries round = None
 
--- the same from what is given under each name
+-- a synthesis, likewise
+abbrev pub synthesis_of : Option Wanted → Option Bytes → Option ℕ → Option Bytes → Option Command
+synthesis_of (Some wanted) function (Some seed) (Some file) = Some (Synth (record { wanted = wanted; function = function; seed = seed; file = file }))
+synthesis_of wanted function seed file = None
+
+-- both from what is given under each name
+abbrev pub wanted_given : (Bytes → Option Bytes) → Option Wanted
+wanted_given given = wanted_of (width_given (given (codes "width"))) (number_or 200 tries_limit (given (codes "tries"))) (round_given (given (codes "round")))
+
 abbrev pub synthesis_given : (Bytes → Option Bytes) → Option Command
-synthesis_given given =
-    synthesis_of
-    (width_given (given (codes "width")))
-    (given (codes "function"))
-    (number_or 0 (2 ^ 64 - 1) (given (codes "seed")))
-    (number_or 200 tries_limit (given (codes "tries")))
-    (given (codes "file"))
+synthesis_given given = synthesis_of (wanted_given given) (given (codes "function")) (number_or 0 (2 ^ 64 - 1) (given (codes "seed"))) (given (codes "file"))
 
 -- a demonstration of this number
 abbrev pub demo_given : Option Bytes → Option Command
@@ -82,7 +81,7 @@ lawful_command word options given = if have_values options given then command_gi
 
 -- a synthesis is at one of the widths, with at most so many tries; a demonstration has a number from 1 to 500
 abbrev pub IsLawfulCommand : Command → Type 0
-IsLawfulCommand (Synth s) = Contains widths s.width × (s.tries ≤ tries_limit)
+IsLawfulCommand (Synth s) = IsLawfulWanted s.wanted
 IsLawfulCommand (Demo n) = (1 ≤ n) × (n ≤ 500)
 IsLawfulCommand command = Unit {0}
 

@@ -11,7 +11,7 @@ use Rattle.fx_words.specs.declared.command.WordFault.{WordFault}
 use Rattle.fx_words.specs.declared.command.WordFault.TheVariants.{Usage, Memory}
 
 abbrev pub synthesis_view : Synthesis → words.Synthesis
-synthesis_view s = record { width = s.width; function = option_copied s.function; seed = s.seed; tries = s.tries; file = s.file.now }
+synthesis_view s = record { wanted = s.wanted; function = option_copied s.function; seed = s.seed; file = s.file.now }
 
 -- the command that the words are
 abbrev pub command_view : Command → words.Command

@@ -9,6 +9,7 @@ use crate::found::command_in;
 use crate::settings::fixd;
 use clap::ArgMatches;
 use clap::error::ErrorKind;
+use fx_wanted::Wanted;
 use std::alloc::Global;
 
 /// What is to be done, with the name of FILE or the number of a demonstration.
@@ -31,14 +32,12 @@ pub enum Command<'a> {
 /// What a synthesis is asked for.
 #[derive(Clone, Copy, Debug, PartialEq, Eq)]
 pub struct Synthesis<'a> {
-    /// Bits of a word.
-    pub width: u32,
+    /// The width, the tries and the way to round.
+    pub wanted: Wanted,
     /// The name of the function, where it is given.
     pub function: Option<&'a str>,
     /// Where the random choices of the attempts begin.
     pub seed: u64,
-    /// How many attempts are made at most.
-    pub tries: u32,
     /// The name of the source's file.
     pub file: &'a str,
 }

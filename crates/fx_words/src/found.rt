@@ -3,16 +3,16 @@ ghost use Rattle.std.specs.Prelude.{◌≡◌, IfSome, option_map, codes, true};
 ghost use Rattle.std.specs.Option.{option_copied, option_map_or};
 ghost use Rattle.clap.specs.Words.{first_of, found_of, rows_of, subcommand_rows_of};
 ghost use Rattle.fx_words.specs.Command as words;
-ghost use Rattle.fx_words.specs.Command.{IsLawfulCommand, demo_given, lawful_command, synth_options};
+ghost use Rattle.fx_wanted.specs.Asked.{IsLawfulWanted};
+ghost use Rattle.fx_words.specs.Command.{IsLawfulCommand, demo_given, lawful_command, synth_options, wanted_given};
 ghost use Rattle.fx_words.specs.CommandView.{command_found, command_view};
 ghost use Rattle.fx_words.specs.Grammar.{is_value, have_values};
 
 use crate::command::{Command, Synthesis};
 use crate::number::{demo_number, is_value, number_or, width_given};
+use crate::round::round_given;
 use clap::ArgMatches;
-
-/// The most tries that can be asked for.
-const TRIES_LIMIT: u64 = 100_000;
+use fx_wanted::{TRIES_LIMIT, Wanted};
 
 // The text that stands under a name.
 fn text_of<'a>(matches: &ArgMatches<'a>, name: &str) -> Option<&'a str>
@@ -39,6 +39,7 @@ fn have_values(matches: &ArgMatches) -> bool
         && has_value(matches, "function")
         && has_value(matches, "seed")
         && has_value(matches, "tries")
+        && has_value(matches, "round")
 }
 
 fn run_in<'a>(matches: &ArgMatches<'a>) -> Option<Command<'a>>
@@ -81,6 +82,21 @@ fn migrate_in<'a>(matches: &ArgMatches<'a>) -> Option<Command<'a>>
     }
 }
 
+// What is asked of a synthesis.
+fn wanted_in(matches: &ArgMatches) -> Option<Wanted>
+    ensures wanted { result ≡ wanted_given (λ name. first_of name (rows_of (found_of matches.now))) }
+    ensures lawful { IfSome result IsLawfulWanted }
+{
+    let width = width_given(text_of(matches, "width"))?;
+    let tries = number_or(text_of(matches, "tries"), 200, u64::from(TRIES_LIMIT))? as u32;
+    let round = round_given(text_of(matches, "round"))?;
+    Some(Wanted {
+        width,
+        tries,
+        round,
+    })
+}
+
 fn synth_in<'a>(matches: &ArgMatches<'a>) -> Option<Command<'a>>
     ensures command { option_map command_view result ≡ lawful_command (codes "synth") synth_options (λ name. first_of name (rows_of (found_of matches.now))) }
     ensures lawful { IfSome result (λ c. IsLawfulCommand (command_view c)) }
@@ -88,16 +104,14 @@ fn synth_in<'a>(matches: &ArgMatches<'a>) -> Option<Command<'a>>
     if !have_values(matches) {
         return None;
     }
-    let width = width_given(text_of(matches, "width"))?;
+    let wanted = wanted_in(matches)?;
     let function = text_of(matches, "function");
     let seed = number_or(text_of(matches, "seed"), 0, u64::MAX)?;
-    let tries = number_or(text_of(matches, "tries"), 200, TRIES_LIMIT)? as u32;
     let file = text_of(matches, "file")?;
     Some(Command::Synth(Synthesis {
-        width,
+        wanted,
         function,
         seed,
-        tries,
         file,
     }))
 }

@@ -12,6 +12,7 @@ mod command;
 mod found;
 mod law;
 mod number;
+mod round;
 mod settings;
 
 pub use command::{Command, Synthesis, WordFault, read_words};

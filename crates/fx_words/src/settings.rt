@@ -60,6 +60,7 @@ fn synth<'a>(alloc: Global) -> Result<Parser<'a>, AllocError>
     let command = with_argument(command, option(alloc, "function"))?;
     let command = with_argument(command, option(alloc, "seed"))?;
     let command = with_argument(command, option(alloc, "tries"))?;
+    let command = with_argument(command, option(alloc, "round"))?;
     with_argument(command, file(alloc))
 }
 

@@ -2,6 +2,7 @@ use Rattle.std.proofs.Common.{◌∙◌, ap, sym, subst, refl, arith}
 use Rattle.std.specs.Prelude.{Ok}
 use Rattle.fx_weight.specs.PlainClass.{outside_of}
 use Rattle.fx_synth.specs.Synthesis.{IsSynthesised}
+use Rattle.fx_demo.specs.Demonstration.{demo_wanted}
 use Rattle.fx_demo.proofs.demo.program_of.Goals as goal
 
 pub synthesise-requires-clause-width : goal.synthesise-requires-clause-width
@@ -15,5 +16,5 @@ returns-in-Ok c =
       program = c.certified.ensures.certified.program;
       certificate = c.certified.ensures.certified.certificate;
       accepted = c.certified.ensures.certified.accepted;
-      synthesised = subst (λ fn. IsSynthesised 32 200 fn c.in-Ok.certified) (sym s.function_is) s;
+      synthesised = subst (λ fn. IsSynthesised demo_wanted fn c.in-Ok.certified) (sym s.function_is) s;
     }

@@ -8,11 +8,11 @@ use Rattle.fx_synth.proofs.synthesis.synthesise.Goals as goal
 
 pub returns-in-Some-clause-found : goal.returns-in-Some-clause-found
 returns-in-Some-clause-found c =
-    let n = c.args.width in let fn = c.args.function.now in
-    found n c.args.tries fn c.in-Some.certified (subst (IsBestAfter n fn (take c.args.tries (single_steps fn))) c.in-Some.is c.in_ok-certified.ensures)
+    let w = c.wanted in let fn = c.args.function.now in
+    found w fn c.in-Some.certified (subst (IsBestAfter w fn (take c.args.tries (single_steps fn))) c.in-Some.is c.in_ok-certified.ensures)
 
 pub returns-in-Some-outside-clause-not_found : goal.returns-in-Some-outside-clause-not_found
 returns-in-Some-outside-clause-not_found c =
-    let n = c.args.width in let fn = c.args.function.now in
-    not_found n c.args.tries fn (outside_view c.in-Some-outside.outside) (subst (IsBestAfter n fn (take c.args.tries (single_steps fn))) c.in-None.is c.in_ok-certified.ensures)
+    let w = c.wanted in let fn = c.args.function.now in
+    not_found w fn (outside_view c.in-Some-outside.outside) (subst (IsBestAfter w fn (take c.args.tries (single_steps fn))) c.in-None.is c.in_ok-certified.ensures)
     (sym c.in_ok-outside.ensures.outside ∙ ap (option_map outside_view) c.in-Some-outside.is)

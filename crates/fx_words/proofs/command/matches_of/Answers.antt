@@ -1,6 +1,5 @@
 use Rattle.std.proofs.Common.{◌≡◌, ◌∙◌, [], ap, subst}
 use Rattle.clap.specs.Words.{fault_of, is_simple, is_simple_and_free, subcommand_of}
-use Rattle.fx_words.specs.App.{fixd_app}
 use Rattle.fx_words.specs.Command.{texts}
 use Rattle.fx_words.proofs.command.matches_of.Goals as goal
 

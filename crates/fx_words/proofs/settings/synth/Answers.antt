@@ -13,4 +13,5 @@ returns-clause-app c =
     c.in_ok-command-2.ensures.app ∙ ap₂ with_rule one c.option.ensures.rule in
     let three = c.in_ok-command-3.ensures.app ∙ ap₂ with_rule two c.option-2.ensures.rule in
     let four = c.in_ok-command-4.ensures.app ∙ ap₂ with_rule three c.option-3.ensures.rule in
-    IfOk-weaker c.with_argument-5.result _ (λ r. app_of r ≡ synth_app) (λ r e. e ∙ ap₂ with_rule four c.file.ensures.rule) c.with_argument-5.ensures.app
+    let five = c.in_ok-command-5.ensures.app ∙ ap₂ with_rule four c.option-4.ensures.rule in
+    IfOk-weaker c.with_argument-6.result _ (λ r. app_of r ≡ synth_app) (λ r e. e ∙ ap₂ with_rule five c.file.ensures.rule) c.with_argument-6.ensures.app
