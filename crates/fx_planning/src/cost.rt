@@ -14,8 +14,6 @@ use fx_span::{Real, Span};
 pub struct Goal<'a> {
     /// The bounds of the other plan, one for each output. Where there is none, 1 stands for it.
     pub references: &'a [Real],
-    /// Whether no bound may be above the other plan's.
-    pub is_held: bool,
 }
 
 /// What is paid for a plan, or for none.
@@ -89,9 +87,6 @@ pub fn cost_of(setting: &Setting<'_>, outputs: &[Span]) -> Cost {
         if let Some(demand) = demands.get(j) {
             let range = setting.ranges.span(first.saturating_add(j));
             excess = excess.max(demand_excess(*demand, range, *error, size));
-        }
-        if setting.goal.is_held {
-            excess = excess.max(ratio);
         }
     }
     Cost::Planned {

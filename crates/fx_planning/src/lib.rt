@@ -29,6 +29,6 @@ mod plan;
 mod setting;
 mod tune;
 
-pub use cost::{Cost, Goal};
+pub use cost::{Cost, Goal, bound};
 pub use error::Errors;
 pub use plan::{Plan, find_plan, find_plan_in, move_word};

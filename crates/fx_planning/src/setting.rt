@@ -66,10 +66,7 @@ impl<'a> Setting<'a> {
             uses: &[],
             boxes: &[],
             wanted,
-            goal: Goal {
-                references: &[],
-                is_held: false,
-            },
+            goal: Goal { references: &[] },
         }
     }
 }

@@ -8,7 +8,7 @@ use crate::task::Task;
 use fx_expr::Function;
 use fx_flat::{Node, Nodes, flatten};
 use fx_num::Memory;
-use fx_planning::{Cost, Plan, find_plan};
+use fx_planning::{Cost, Plan, bound, find_plan};
 use fx_points::{Magnitude, NodeFacts, PointFault, choose_points};
 use fx_ranges::{Failed, Ranges, find_ranges};
 use fx_span::{Grids, Real, Scaled, Span, input_error};
@@ -22,17 +22,6 @@ const TURNS: u32 = 8;
 pub struct Placed {
     pub points: Vec<i32>,
     pub plan: Plan,
-}
-
-/// About the bound that an error gives, or none where it isn't known.
-fn bound(error: Option<Span>) -> Real {
-    let Some(error) = error else {
-        return Real::INFINITE;
-    };
-    match i128::try_from(error.size()) {
-        Ok(m) => Real::of(m, error.e),
-        Err(_) => Real::INFINITE,
-    }
 }
 
 /// A function's nodes with all that was found for them.
@@ -60,7 +49,10 @@ impl Attempt {
     pub fn bounds(&self, alloc: Global) -> Result<Vec<Real>, Memory> {
         let mut bounds = Vec::new(alloc);
         for j in 0..self.outputs() {
-            bounds.push(bound(self.output(j)))?;
+            bounds.push(match self.output(j) {
+                Some(error) => bound(error),
+                None => Real::INFINITE,
+            })?;
         }
         Ok(bounds)
     }

@@ -38,11 +38,10 @@ impl<'a> Task<'a> {
         affordable(self.source.nodes(), self.wanted.tries)
     }
 
-    /// What bounds are measured by. None is held: on the way one output may lose to another.
+    /// What bounds are measured by.
     pub fn goal(self) -> Goal<'a> {
         Goal {
             references: self.references,
-            is_held: false,
         }
     }
 }
