@@ -68,7 +68,7 @@ fn is_best(attempt: &Attempt, best: &Option<Polished>) -> bool {
 }
 
 /// The polished attempt of a draft on grids, if there is an attempt. So many plans may be looked at; the others are left.
-pub fn polished(
+pub fn polished_attempt(
     alloc: Global,
     task: Task<'_>,
     draft: &Draft,
@@ -94,7 +94,7 @@ pub fn polish_trial(
     best: &mut Option<Polished>,
     plans: &mut u32,
 ) -> Result<(), Memory> {
-    let Some(attempt) = polished(alloc, task, &trial.draft, Grids::FINE, plans)? else {
+    let Some(attempt) = polished_attempt(alloc, task, &trial.draft, Grids::FINE, plans)? else {
         return Ok(());
     };
     if is_best(&attempt, best) {
