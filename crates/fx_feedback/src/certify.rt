@@ -52,8 +52,8 @@ fn is_better(own: &Certified, other: &Certified) -> bool {
 
 /// The program with the better bounds, and the first one where neither is better.
 fn better(task: Task<'_>, found: Certified, other: Certified) -> Certified
-    requires found { IsAnswerFor task.entry.wanted task.entry.source.now found }
-    requires other { IsAnswerFor task.entry.wanted task.entry.source.now other }
+    requires found { IsAnswerFor task.wanted task.source.now found }
+    requires other { IsAnswerFor task.wanted task.source.now other }
     ensures { IsAnswerFor task.entry.wanted task.entry.source.now result }
 {
     if is_better(&other, &found) {
@@ -67,8 +67,8 @@ fn better(task: Task<'_>, found: Certified, other: Certified) -> Certified
 
 /// The same where there may be no other one.
 fn better_of(task: Task<'_>, found: Certified, other: Option<Certified>) -> Certified
-    requires found { IsAnswerFor task.entry.wanted task.entry.source.now found }
-    requires other { IsOffered task.entry.wanted task.entry.source.now other }
+    requires found { IsAnswerFor task.wanted task.source.now found }
+    requires other { IsOffered task.wanted task.source.now other }
     ensures { IsAnswerFor task.entry.wanted task.entry.source.now result }
 {
     match other {
