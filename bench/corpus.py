@@ -47,8 +47,8 @@ def corpus(only=None):
     return found
 
 
-def bundle_path(folder, source, width):
-    return os.path.join(folder, f"{source.name}.{width}.bundle")
+def bundle_path(folder, source, width, rounding="floor"):
+    return os.path.join(folder, f"{source.name}.{width}.{'' if rounding == 'floor' else rounding + '.'}bundle")
 
 
 def bundle_kept(source, width, folder):
@@ -60,13 +60,13 @@ def bundle_kept(source, width, folder):
         return path if source.text in file.read() else None
 
 
-def bundle_made(fixd, source, width, folder, limit):
+def bundle_made(fixd, source, width, folder, limit, rounding="floor"):
     """Puts the bundle of a source in the folder. Returns its file, or None where none is found in so many seconds, and the seconds."""
-    path = bundle_path(folder, source, width)
+    path = bundle_path(folder, source, width, rounding)
     if os.path.exists(path):
         os.remove(path)
     try:
-        text, seconds = fixd.synthesised(source.path, source.name, width, TRIES, timeout=limit)
+        text, seconds = fixd.synthesised(source.path, source.name, width, TRIES, rounding, timeout=limit)
     except subprocess.TimeoutExpired:
         return None, float(limit)
     if text is None:

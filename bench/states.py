@@ -9,6 +9,8 @@ how far its certificate is from the least that holds:
 - *error / limit*: the certified bound of an output over the worst error that the roundings of this very program can add up to, each
   rounding taken as a source of its own (bench/programs.py says exactly what is counted). The worst output.
 
+- *nearest*: whether a bundle that rounds to the nearest is found, and its bounds over those of the one that rounds down, their mean.
+
 1 means that no certificate of that program can be narrower, if roundings are looked at one by one. Of a nonlinear source no limits are
 known. A source whose comment begins with `not found` has no bound and must end so; all others count. With --bundles the bundles are
 kept as NAME.WIDTH.bundle, and with --write the tables go to docs/states.md. Outside the gate: it takes some minutes, and seconds depend
@@ -34,6 +36,8 @@ class Measured:
     seconds: float
     range_ratio: float = None
     error_ratio: float = None
+    found_nearest: bool = False
+    nearest_ratio: float = None
 
 
 def width_of(ends):
@@ -85,13 +89,21 @@ def ratios(fixd, source, path):
             worst((bound, max(-limit[0], limit[1])) for bound, limit in errors))
 
 
+def nearest_over(fixd, nearest, floor):
+    """Returns the mean of the quotients of two bundles' bounds, or None where one of both isn't there."""
+    if nearest is None or floor is None:
+        return None
+    pairs = list(zip(fixd.bounds_of(nearest), fixd.bounds_of(floor)))
+    return float(sum(own / other if other else Fraction(1) for own, other in pairs) / len(pairs))
+
+
 def measured(fixd, source, width, options, folder):
     path, seconds = bundle_made(fixd, source, width, folder, options.limit)
-    if path is None:
-        return Measured(False, seconds)
-    if source.mark == "not found":
+    nearest, _ = bundle_made(fixd, source, width, folder, options.limit, "nearest")
+    if (path or nearest) and source.mark == "not found":
         sys.exit(f"{source.name}: a bundle is found, and no state of it is bounded")
-    return Measured(True, seconds, *(ratios(fixd, source, path) if source.linear else (None, None)))
+    known = ratios(fixd, source, path) if path and source.linear else (None, None)
+    return Measured(path is not None, seconds, *known, nearest is not None, nearest_over(fixd, nearest, path))
 
 
 # ---- tables
@@ -111,15 +123,17 @@ def width_line(width, column):
     found = [at for at in column if at.found]
     ranges = [at.range_ratio for at in found if at.range_ratio is not None]
     errors = [at.error_ratio for at in found if at.error_ratio is not None]
+    nearest = [at.nearest_ratio for at in column if at.nearest_ratio is not None]
+    count = sum(at.found_nearest for at in column)
     seconds = summed([at.seconds for at in column], max, 2)
-    return f"| {width} | {len(found)} of {len(column)} | {summed(ranges, max)} | {summed(errors, max)} | {seconds} |"
+    return f"| {width} | {len(found)} of {len(column)} | {summed(ranges, max)} | {summed(errors, max)} | {seconds} | {count} | {summed(nearest, max)} |"
 
 
 def tables(rows, widths):
     """Returns the table of widths and that of sources."""
     bounded = [row for source, row in rows if source.mark != "not found"]
-    lines = ["| width | found | range / limit: median, worst | error / limit: median, worst | seconds: median, worst |"]
-    lines += ["|---|---|---|---|---|"]
+    lines = ["| width | found | range / limit: median, worst | error / limit: median, worst | seconds: median, worst | nearest: found | bound / that at floor: median, worst |"]
+    lines += ["|---|---|---|---|---|---|---|"]
     lines += [width_line(width, [row[k] for row in bounded]) for k, width in enumerate(widths)] if bounded else []
     lines += ["", f"| source | kind | states | found at | range / limit at {', '.join(map(str, widths))} | error / limit | longest, s |"]
     lines += ["|---|---|---|---|---|---|---|"] + [source_line(source, row, widths) for source, row in rows]

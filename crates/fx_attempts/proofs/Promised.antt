@@ -5,7 +5,12 @@ use Rattle.std.specs.Option.{option_map}
 use Rattle.fx_model.specs.Function.{Function}
 use Rattle.fx_weight.specs.PlainClass.{Outside, outside_of, output_power}
 use Rattle.fx_calm_numbers.specs.Calm.{is_calm, numbers_of, IsCalm}
+use Rattle.fx_model.specs.Machine.{Program}
+use Rattle.fx_inequalities.specs.Certificate.{Certificate}
+use Rattle.fx_wanted.specs.Asked.{rounding_of}
 use Rattle.fx_wanted.specs.declared.wanted.Wanted.{Wanted}
+use Rattle.fx_calm_plan.specs.CalmPlan.{calm_program, calm_certificate}
+use Rattle.fx_calm_plan.specs.Laws.{IsCalmPlan}
 use Rattle.fx_checker.specs.Answers.{IsAnswerFor}
 use Rattle.fx_checker.specs.CertifiedView.{Accepted}
 use Rattle.fx_attempts.specs.Bounds.{powers_by, promised_powers, AreWithinPowers}
@@ -51,6 +56,17 @@ module _ (w : Wanted) (fn : Function) where
       → IfSome o (λ a. IsCalm w.width fn) → (o ≡ None → IsCalm w.width fn → ⊥) → SuitsIfAny w fn o
   calm_suits_first None reason outside own within calm uncalm = unpromised reason outside (uncalm refl)
   calm_suits_first (Some a) reason outside own within calm uncalm = calm_suits a reason outside calm own within
+
+-- ---- the calm plan, certified
+module _ (w : Wanted) (fn : Function) (plan : IsCalmPlan w.width (rounding_of w) fn) where
+  -- it answers what is wanted, and keeps what is promised
+  pub calm_plan_answers : (a : Accepted) (p : Program) (cert : Certificate) → a ≡ record { function = fn; program = p; certificate = cert } → p ≡ calm_program w.width (rounding_of w) fn →
+      cert ≡ calm_certificate w.width fn → IsAnswerFor w fn a × AreWithinPowers fn a.program a.certificate (λ j. (numbers_of w.width fn).z)
+  calm_plan_answers a p cert is program certificate =
+      let same : a ≡ record { function = fn; program = calm_program w.width (rounding_of w) fn; certificate = calm_certificate w.width fn } =
+      is ∙ (λ i. record { function = fn; program = program i; certificate = certificate i }) in
+      subst (λ (x : Accepted). IsAnswerFor w fn x × AreWithinPowers fn x.program x.certificate (λ j. (numbers_of w.width fn).z)) (sym same)
+      (record { function_is = refl; named = refl; width_is = refl; rounded = plan.rounded }, plan.bounds)
 
 -- what a value is seen as, where there is one
 pub view_of_some : {A B : Type 0} (f : A → B) (o : Option A) (seen : Option B) → option_map f o ≡ seen → is_some o ≡ true → (b : B) × (seen ≡ Some b)

@@ -169,11 +169,10 @@ pub fn certified(
 {
     for grids in [Grids::FINE, Grids::COARSE, Grids::COARSEST] {
         let mut own = budget.half();
-        let found = attempted(alloc, Task { grids, ..task }, &mut own)?;
-        if found.is_some() {
-            return Ok(found);
+        match attempted(alloc, Task { grids, ..task }, &mut own)? {
+            Some(found) => return Ok(Some(found)),
+            None => budget.give_back(own),
         }
-        budget.give_back(own);
     }
     Ok(None)
 }

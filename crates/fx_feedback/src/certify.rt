@@ -5,7 +5,7 @@
 
 ghost use Rattle.std.specs.Prelude.{Contains, IfOk};
 ghost use Rattle.fx_model.specs.LawfulProgram.{widths};
-ghost use Rattle.fx_checker.specs.Answers.{IsOffered};
+ghost use Rattle.fx_checker.specs.Answers.{IsAnswerFor, IsOffered};
 
 use crate::attempt::certified;
 use crate::task::Task;
@@ -50,22 +50,48 @@ fn is_better(own: &Certified, other: &Certified) -> bool {
     is_some
 }
 
-/// What was found, or what the cleaned function gives where that is better. It is looked for where nothing was found, and
-/// where a quotient was turned.
-fn or_cleaned(
+/// The program with the better bounds, and the first one where neither is better.
+fn better(task: Task<'_>, found: Certified, other: Certified) -> Certified
+    requires found { IsAnswerFor task.wanted task.source.now found }
+    requires other { IsAnswerFor task.wanted task.source.now other }
+    ensures { IsAnswerFor task.entry.wanted task.entry.source.now result }
+{
+    if is_better(&other, &found) {
+        drop(found);
+        other
+    } else {
+        drop(other);
+        found
+    }
+}
+
+/// The same where there may be no other one.
+fn better_of(task: Task<'_>, found: Certified, other: Option<Certified>) -> Certified
+    requires found { IsAnswerFor task.wanted task.source.now found }
+    requires other { IsOffered task.wanted task.source.now other }
+    ensures { IsAnswerFor task.entry.wanted task.entry.source.now result }
+{
+    match other {
+        Some(other) => better(task, found, other),
+        None => found,
+    }
+}
+
+/// What the cleaned function gives. It is looked for where a quotient was turned, and where nothing was found and cleaning
+/// changed something.
+fn certified_cleaned(
     alloc: Global,
     task: Task<'_>,
-    found: Option<Certified>,
+    is_found: bool,
     budget: &mut Budget,
 ) -> Result<Option<Certified>, Memory>
-    requires found { IsOffered task.entry.wanted task.entry.source.now found }
     ensures { IfOk result (IsOffered task.entry.wanted task.entry.source.now) }
 {
     let draft = cleaned(alloc, task.source)?;
     let nodes = flatten(alloc, &draft.function)?;
     let is_turned = quotients(&nodes) < quotients(task.nodes);
-    if draft.steps.is_empty() || (found.is_some() && !is_turned) {
-        return Ok(found);
+    if draft.steps.is_empty() || (is_found && !is_turned) {
+        return Ok(None);
     }
     let turned = Task {
         steps: &draft.steps,
@@ -73,17 +99,23 @@ fn or_cleaned(
         nodes: &nodes,
         ..task
     };
-    let other = certified(alloc, turned, budget)?;
-    match found {
-        Some(found) => match other {
-            Some(other) => if is_better(&other, &found) {
-                Ok(Some(other))
-            } else {
-                Ok(Some(found))
-            },
-            None => Ok(Some(found)),
-        },
-        None => Ok(other),
+    let certified = certified(alloc, turned, budget)?;
+    Ok(certified)
+}
+
+/// What the function as it stands gives, or the cleaned one where that is better.
+fn best(alloc: Global, task: Task<'_>, budget: &mut Budget) -> Result<Option<Certified>, Memory>
+    ensures { IfOk result (IsOffered task.entry.wanted task.entry.source.now) }
+{
+    match certified(alloc, task, budget)? {
+        Some(found) => {
+            let other = certified_cleaned(alloc, task, true, budget)?;
+            Ok(Some(better_of(task, found, other)))
+        }
+        None => {
+            let other = certified_cleaned(alloc, task, false, budget)?;
+            Ok(other)
+        }
     }
 }
 
@@ -106,7 +138,6 @@ pub fn certify_states(
         wanted,
         grids: Grids::FINE,
     };
-    let found = certified(alloc, task, &mut budget)?;
-    let best = or_cleaned(alloc, task, found, &mut budget)?;
-    Ok(best)
+    let found = best(alloc, task, &mut budget)?;
+    Ok(found)
 }

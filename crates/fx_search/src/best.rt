@@ -59,8 +59,16 @@ fn is_better(attempt: &Attempt, other: &Attempt) -> bool {
     own.is_below(others) || (own == others && has_smaller_bounds(attempt, other))
 }
 
+/// Whether an attempt is better than the best so far, if there is one.
+fn is_best(attempt: &Attempt, best: &Option<Polished>) -> bool {
+    match best {
+        Some(other) => is_better(attempt, &other.attempt),
+        None => true,
+    }
+}
+
 /// The polished attempt of a draft on grids, if there is an attempt. So many plans may be looked at; the others are left.
-pub fn polished(
+pub fn polished_attempt(
     alloc: Global,
     task: Task<'_>,
     draft: &Draft,
@@ -86,14 +94,10 @@ pub fn polish_trial(
     best: &mut Option<Polished>,
     plans: &mut u32,
 ) -> Result<(), Memory> {
-    let Some(attempt) = polished(alloc, task, &trial.draft, Grids::FINE, plans)? else {
+    let Some(attempt) = polished_attempt(alloc, task, &trial.draft, Grids::FINE, plans)? else {
         return Ok(());
     };
-    let is_new = match best {
-        Some(other) => is_better(&attempt, &other.attempt),
-        None => true,
-    };
-    if is_new {
+    if is_best(&attempt, best) {
         let draft = trial.draft.copy(alloc)?;
         *best = Some(Polished { draft, attempt });
     }

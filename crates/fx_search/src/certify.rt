@@ -6,7 +6,7 @@ ghost use Rattle.std.specs.Prelude.{IfOk};
 ghost use Rattle.fx_checker.specs.Answers.{IsOffered};
 
 use crate::attempt::Attempt;
-use crate::best::{Polished, polished};
+use crate::best::{Polished, polished_attempt};
 use crate::task::Task;
 use fx_checker::{Certified, offered};
 use fx_moves::Draft;
@@ -49,7 +49,7 @@ fn certified_on(
     ensures { IfOk result (IsOffered task.entry.wanted task.entry.source.now) }
 {
     let mut left = plans;
-    match polished(alloc, task, draft, grids, &mut left)? {
+    match polished_attempt(alloc, task, draft, grids, &mut left)? {
         Some(attempt) => {
             let certified = judged_after(alloc, task, &draft.steps, &attempt)?;
             Ok(certified)
@@ -70,8 +70,8 @@ pub fn certified_as(
     match judged_after(alloc, task, &found.draft.steps, &found.attempt)? {
         Some(certified) => Ok(Some(certified)),
         None => {
-            let certified = certified(alloc, task, &found.draft, plans)?;
-            Ok(certified)
+            let other = certified(alloc, task, &found.draft, plans)?;
+            Ok(other)
         }
     }
 }

@@ -22,6 +22,9 @@ use std::alloc::Global;
 /// So many plans are looked at in polishing, and two more for each try so far.
 const PLANS: u32 = 64;
 
+/// All plans of a mark have at most this part of the work of all tries.
+const POLISH_PART: u32 = 4;
+
 /// Whether the best drafts are polished after so many tries: after 1, 2 and 5, and ten times as many, and so on.
 fn is_mark(tries: u32) -> bool {
     let mut first = tries;
@@ -37,7 +40,8 @@ fn is_mark(tries: u32) -> bool {
 /// found then is found at the next mark too.
 fn plans_after(nodes: u32, tries: u32) -> u32 {
     if is_mark(tries) {
-        affordable(nodes, tries.saturating_mul(2).saturating_add(PLANS))
+        let plans = tries.saturating_mul(2).saturating_add(PLANS);
+        affordable(nodes.saturating_mul(POLISH_PART), plans)
     } else {
         0
     }
@@ -114,12 +118,16 @@ fn suited(
     }
 }
 
-/// What the source as it stands gives, for want of a program by any steps.
-fn unstepped(alloc: Global, task: Task<'_>, held: &[Dyadic]) -> Result<Option<Certified>, Memory>
+/// The same of a draft.
+fn suited_draft(
+    alloc: Global,
+    task: Task<'_>,
+    draft: &Draft,
+    held: &[Dyadic],
+) -> Result<Option<Certified>, Memory>
     ensures { IfOk result (IsOffered task.entry.wanted task.entry.source.now) }
 {
-    let source = Draft::new(alloc, task.source)?;
-    let Some(found) = certified(alloc, task, &source, PLANS)? else {
+    let Some(found) = certified(alloc, task, draft, PLANS)? else {
         return Ok(None);
     };
     if keeps(&found, held) {
@@ -127,6 +135,15 @@ fn unstepped(alloc: Global, task: Task<'_>, held: &[Dyadic]) -> Result<Option<Ce
     } else {
         Ok(None)
     }
+}
+
+/// What the source as it stands gives, for want of a program by any steps.
+fn unstepped(alloc: Global, task: Task<'_>, held: &[Dyadic]) -> Result<Option<Certified>, Memory>
+    ensures { IfOk result (IsOffered task.entry.wanted task.entry.source.now) }
+{
+    let source = Draft::new(alloc, task.source)?;
+    let found = suited_draft(alloc, task, &source, held)?;
+    Ok(found)
 }
 
 /// What comes of the best polished attempt, or else of the source as it stands.
@@ -141,8 +158,8 @@ fn best_of(
     match suited(alloc, task, found, held)? {
         Some(certified) => Ok(Some(certified)),
         None => {
-            let certified = unstepped(alloc, task, held)?;
-            Ok(certified)
+            let other = unstepped(alloc, task, held)?;
+            Ok(other)
         }
     }
 }
@@ -158,12 +175,12 @@ fn best(
 {
     match best_attempt(alloc, task, seed)? {
         Some(found) => {
-            let certified = best_of(alloc, task, &found, held)?;
-            Ok(certified)
+            let kept = best_of(alloc, task, &found, held)?;
+            Ok(kept)
         }
         None => {
-            let certified = unstepped(alloc, task, held)?;
-            Ok(certified)
+            let other = unstepped(alloc, task, held)?;
+            Ok(other)
         }
     }
 }
