@@ -12,13 +12,16 @@ use fx_flat::Nodes;
 use fx_interval::{Interval, outward};
 use fx_num::{Dyadic, Memory, dle};
 use fx_ranges::Ranges;
-use fx_reach::lowest;
+use fx_reach::{lowest, magnitude};
 use fx_span::Span;
 use fx_writing::range_lines;
 use std::alloc::Global;
 
-/// How many places behind its point an error has.
+/// How many places behind its point an error has,
 const ERROR_PLACES: i32 = 16;
+
+/// and how many bits at most.
+const ERROR_BITS: i32 = 60;
 
 /// Where the inputs lie, and rows of the states, which are scaled once for all nodes.
 #[derive(Clone, Copy, Debug)]
@@ -51,9 +54,11 @@ fn in_lowest_terms(d: Dyadic) -> Dyadic {
     lowest(d.m, d.e)
 }
 
-/// An error on the grid of its point, outward.
+/// An error on the grid of its point, outward, or on a coarser one, since no text has a longer mantissa than 62 bits.
 fn on_grid(x: Interval, point: i32) -> Interval {
-    let e = point.saturating_add(ERROR_PLACES).clamp(0, 90);
+    let fine = point.saturating_add(ERROR_PLACES);
+    let few = ERROR_BITS.saturating_sub(magnitude(x).unwrap_or(0));
+    let e = fine.min(few).clamp(0, 90);
     let wider = outward(x, e.unsigned_abs());
     Interval {
         lo: in_lowest_terms(wider.lo),
