@@ -53,6 +53,7 @@ module _ (n : ℕ) (fn : Function) (some : Contains widths n) (narrow : IsNarrow
     where
       by : (q a m f p y : ℕ) (v : ℤ) → v ≡ pos y -ℤ pos f → m + 6 ≤ p → p + 2 ≤ f → q + 3 ≤ m → a + p + 5 + y ≤ m + f → m + f ≤ 61 → HasPlace (record { q = q; a = a; m = m; f = f; p = p; v = v; z = c.z })
       by q a m f p y v e o l s x w = record {
+        some = omega (arith, s);
         point = omega (arith, s, w);
         few = omega (arith, l, s, w);
         states = omega (arith, s, w);

@@ -26,8 +26,9 @@ pub record IsShort (b : model.Bound) : Type 0 where
   pub r : b.r ≤ 2 ^ 61
   pub e : b.e ≤ 2 ^ 61
 
--- states and their errors are at most 2^61 units, as those of a calm function
+-- a product drops something, and states and their errors are at most 2^61 units, as those of a calm function
 pub record HasPlace (c : numbers.Numbers) : Type 0 where
+  pub some : 1 ≤ c.f
   pub point : c.f ≤ 58
   pub few : c.p ≤ 60
   pub states : c.q + 2 + c.f ≤ 61

@@ -3,7 +3,7 @@
 ghost use Rattle.std.specs.Prelude.{◌≡◌, map, All, Contains, IfOk, OnOk, IfErr};
 ghost use Rattle.fx_model.specs.LawfulProgram.{widths, IsLawfulProgram};
 ghost use Rattle.fx_model.specs.Nodes.{nodes_of};
-ghost use Rattle.fx_program.specs.CodeView.{code_of};
+ghost use Rattle.fx_program.specs.CodeView.{round_of, code_of};
 ghost use Rattle.fx_cert.specs.CertificateView.{certificate_of};
 ghost use Rattle.fx_calm_numbers.specs.Calm.{numbers_of, IsCalm};
 ghost use Rattle.fx_calm_plan.specs.CalmPlan.{calm_code, calm_program, calm_certificate, bounds_of};
@@ -23,7 +23,7 @@ use fx_cert::Certificate;
 use fx_expr::{Function, Items};
 use fx_flat::flatten;
 use fx_num::Memory;
-use fx_program::{Code, Program};
+use fx_program::{Code, Program, Round};
 use fx_weight::{input_count, output_count};
 use std::alloc::Global;
 
@@ -32,18 +32,20 @@ fn program(
     alloc: Global,
     function: &Function,
     width: u32,
+    round: Round,
     codes: Vec<Code>,
 ) -> Result<Program, Memory>
-    requires lawful { IsLawfulProgram (calm_program width function.now) }
-    requires codes { map code_of codes.items ≡ map (calm_code function.now (numbers_of width function.now).f) (nodes_of function.now) }
-    ensures { IfOk result (λ p. p ≡ calm_program width function.now) }
+    requires lawful { IsLawfulProgram (calm_program width (round_of round) function.now) }
+    requires codes { map code_of codes.items ≡ map (calm_code (round_of round) function.now (numbers_of width function.now).f) (nodes_of function.now) }
+    ensures { IfOk result (λ p. p ≡ calm_program width (round_of round) function.now) }
 {
     function.keeps();
     let name = function.name.copy(alloc)?;
     let inputs = input_count(function);
     let states = state_count(function);
     let outputs = output_count(function);
-    Program::new(alloc, 1, width, name, inputs, states, outputs, codes)
+    let version = round.first_version();
+    Program::new(alloc, version, width, name, inputs, states, outputs, codes)
 }
 
 /// The certificate of these bounds.
@@ -82,38 +84,40 @@ fn plan_of(
     function: &Function,
     width: u32,
     c: Numbers,
+    round: Round,
 ) -> Result<(Program, Certificate), Memory>
     requires width { Contains widths width }
     requires calm { IsCalm width function.now }
     requires numbers { numbers_view c ≡ numbers_of width function.now }
-    ensures program { IfOk result (λ r. r.0 ≡ calm_program width function.now) }
+    ensures program { IfOk result (λ r. r.0 ≡ calm_program width (round_of round) function.now) }
     ensures certificate { IfOk result (λ r. certificate_of r.1 ≡ calm_certificate width function.now) }
     ensures narrow { OnOk result (IsNarrowFunction function.now) }
 {
     let nodes = flatten(alloc, function)?;
     narrow_function(function, nodes.list.as_slice());
     let bs = bounds(alloc, nodes.list.as_slice(), function, c)?;
-    let codes = codes(alloc, nodes.list.as_slice(), function, c.f)?;
-    let program = program(alloc, function, width, codes)?;
+    let codes = codes(alloc, nodes.list.as_slice(), function, c.f, round)?;
+    let program = program(alloc, function, width, round, codes)?;
     let certificate = certificate(alloc, function, c, &bs)?;
     Ok((program, certificate))
 }
 
-/// The calm plan of a function that is calm at a width.
+/// The calm plan of a function that is calm at a width, with the rounding asked for.
 pub fn calm_plan(
     alloc: Global,
     function: &Function,
     width: u32,
+    round: Round,
 ) -> Result<(Program, Certificate), CalmFault>
     requires { Contains widths width }
-    ensures program { IfOk result (λ r. r.0 ≡ calm_program width function.now) }
+    ensures program { IfOk result (λ r. r.0 ≡ calm_program width (round_of round) function.now) }
     ensures certificate { IfOk result (λ r. certificate_of r.1 ≡ calm_certificate width function.now) }
     ensures calm { OnOk result (IsCalm width function.now) }
     ensures narrow { OnOk result (IsNarrowFunction function.now) }
     ensures not_calm { IfErr result (λ e. e ≡ fault.NotCalm → IsCalm width function.now → ⊥) }
 {
     match find_numbers(alloc, function, width)? {
-        Some(c) => Ok(plan_of(alloc, function, width, c)?),
+        Some(c) => Ok(plan_of(alloc, function, width, c, round)?),
         None => Err(CalmFault::NotCalm),
     }
 }

@@ -1,5 +1,5 @@
 -- A text can spell the calm program and the calm certificate.
-use Rattle.std.proofs.Common.{◌≡◌, ℕ, zero, suc, ◌+◌, ◌-◌, ◌^◌, ◌<◌, ◌≤◌, List, [], ◌∷◌, ◌++◌, length, map, drop, get_or, ℤ, pos, refl, sym, subst, ◌∙◌, arith, pow_pos, pow-add}
+use Rattle.std.proofs.Common.{◌≡◌, ℕ, zero, suc, ◌+◌, ◌-◌, ◌^◌, ◌<◌, ◌≤◌, List, [], ◌∷◌, ◌++◌, length, map, drop, ℤ, pos, refl, sym, subst, ◌∙◌, arith, pow_pos, pow-add}
 use Rattle.std.specs.Prelude.{All, Contains}
 use Rattle.std.proofs.lemmas.Int.{ints}
 use Rattle.std.proofs.lemmas.List.{length-map}
@@ -7,14 +7,15 @@ use Rattle.std.proofs.lemmas.List.Elements.{All-nil, All-cons, All-head, All-tai
 use Rattle.fx_rational.specs.Dyadic.{IsWritten, zero_dyadic}
 use Rattle.fx_rational.specs.Interval.{Interval, IsWrittenInterval}
 use Rattle.fx_model.specs.Function.{Function, outputs}
-use Rattle.fx_model.specs.Machine.{Floor, IsWord, points_of}
-use Rattle.fx_model.specs.LawfulProgram.{IsPoint, IsShift, IsCopyShift, IsLawfulCode, IsPlaced, AreLawful, IsCopy, IsOfVersion, widths, HasLawfulCounts, IsLawfulProgram}
+use Rattle.fx_model.specs.Machine.{Round, Floor, IsWord, points_of}
+use Rattle.fx_model.specs.LawfulProgram.{IsPoint, IsShift, IsCopyShift, IsLawfulCode, IsPlaced, AreLawful, IsCopy, widths, HasLawfulCounts, IsLawfulProgram}
 use Rattle.fx_model.specs.Nodes.{Node, Input, State, Const, Neg, Add, Sub, Mul, Div, Copy, nodes_of}
 use Rattle.fx_model.proofs.Roots.{IsCopyNode}
 use Rattle.fx_model.proofs.Wide.{is_word_from}
 use Rattle.fx_inequalities.specs.Accepted.{start_of, no_state}
 use Rattle.fx_inequalities.specs.LawfulCertificate.{zeros, unit_vector, AreUnitRows, AreWrittenRows, IsWrittenRow, AreWrittenLines, IsWrittenStep, IsWrittenBox, IsLawfulCertificate}
 use Rattle.fx_flat.specs.InPlace.{IsInPlace}
+use Rattle.fx_program.proofs.Rounded.{has_version, rounded_are_of_version}
 use Rattle.fx_cert.proofs.Units.{unit_length}
 use Rattle.fx_sizes.specs.Powers.{magnitude}
 use Rattle.fx_sizes.proofs.Pairs.{ArePairs}
@@ -31,6 +32,7 @@ use Rattle.fx_calm_plan.proofs.Flattened.{IsLimited}
 use Rattle.fx_calm_plan.proofs.Folded.{IsNodeBound}
 use Rattle.fx_calm_plan.proofs.Limited.{u, spare, space, whole_nodes, limited}
 use Rattle.fx_calm_plan.proofs.NodeClaims.{IsSpacious, limit_few}
+use Rattle.fx_calm_plan.proofs.Roundings.{shift_rounds, program_rounds}
 use Rattle.fx_calm_plan.proofs.Rows.{unit_rows_long}
 use Rattle.fx_calm_plan.proofs.Units.{units_written}
 use Rattle.fx_calm_plan.proofs.Values.{word_up_to}
@@ -91,112 +93,96 @@ lines_written f v r e j (x ∷ xs) few h =
     let own = h 0 x (omega arith) in
     ((units_written f x.r few own.0, units_written f x.e few own.1, tt), lines_written f v r e (j + 1) xs few (λ s d lt. h (suc s) d (omega (arith, lt))))
 
--- ---- what rounds down is of the first version
-first_code : (fn : Function) (f : ℕ) (node : Node) → IsOfVersion 1 (calm_code fn f node)
-first_code fn f (Input j) = tt
-first_code fn f (State j) = tt
-first_code fn f (Const x) = tt
-first_code fn f (Neg a) = tt
-first_code fn f (Add a b) = tt
-first_code fn f (Sub a b) = tt
-first_code fn f (Mul a b) = omega arith
-first_code fn f (Div a b) = tt
-first_code fn f (Copy a) = omega arith
-
-first_codes : (fn : Function) (f : ℕ) (nodes : List Node) → All (IsOfVersion 1) (map (calm_code fn f) nodes)
-first_codes fn f nodes = All-map (IsOfVersion 1) (calm_code fn f) nodes (λ k d lt. first_code fn f (get_or nodes k d))
-
 -- ---- copies
-copy_code : (fn : Function) (f : ℕ) (node : Node) → IsCopyNode node → IsCopy (calm_code fn f node)
-copy_code fn f (Input j) h = absurd h
-copy_code fn f (State j) h = absurd h
-copy_code fn f (Const x) h = absurd h
-copy_code fn f (Neg a) h = absurd h
-copy_code fn f (Add a b) h = absurd h
-copy_code fn f (Sub a b) h = absurd h
-copy_code fn f (Mul a b) h = absurd h
-copy_code fn f (Div a b) h = absurd h
-copy_code fn f (Copy a) h = tt
+copy_code : (r : Round) (fn : Function) (f : ℕ) (node : Node) → IsCopyNode node → IsCopy (calm_code r fn f node)
+copy_code r fn f (Input j) h = absurd h
+copy_code r fn f (State j) h = absurd h
+copy_code r fn f (Const x) h = absurd h
+copy_code r fn f (Neg a) h = absurd h
+copy_code r fn f (Add a b) h = absurd h
+copy_code r fn f (Sub a b) h = absurd h
+copy_code r fn f (Mul a b) h = absurd h
+copy_code r fn f (Div a b) h = absurd h
+copy_code r fn f (Copy a) h = tt
 
-copy_codes : (fn : Function) (f : ℕ) (nodes : List Node) → All IsCopyNode nodes → All IsCopy (map (calm_code fn f) nodes)
-copy_codes fn f [] h = All-nil IsCopy
-copy_codes fn f (node ∷ nodes) h = All-cons IsCopy (calm_code fn f node) (map (calm_code fn f) nodes) (copy_code fn f node (h 0 node (omega arith))) (copy_codes fn f nodes (λ j d lt. h (suc j) d (omega (arith, lt))))
+copy_codes : (r : Round) (fn : Function) (f : ℕ) (nodes : List Node) → All IsCopyNode nodes → All IsCopy (map (calm_code r fn f) nodes)
+copy_codes r fn f [] h = All-nil IsCopy
+copy_codes r fn f (node ∷ nodes) h = All-cons IsCopy (calm_code r fn f node) (map (calm_code r fn f) nodes) (copy_code r fn f node (h 0 node (omega arith))) (copy_codes r fn f nodes (λ j d lt. h (suc j) d (omega (arith, lt))))
 
 -- behind the first codes
-drop_codes : (fn : Function) (f d : ℕ) (before rest : List Node) → d ≡ length before → All IsCopyNode rest → All IsCopy (drop d (map (calm_code fn f) (before ++ rest)))
-drop_codes fn f zero [] rest e h = copy_codes fn f rest h
-drop_codes fn f zero (node ∷ before) rest e h = absurd (omega (arith, e))
-drop_codes fn f (suc d) [] rest e h = absurd (omega (arith, e))
-drop_codes fn f (suc d) (node ∷ before) rest e h = drop_codes fn f d before rest (omega (arith, e)) h
+drop_codes : (r : Round) (fn : Function) (f d : ℕ) (before rest : List Node) → d ≡ length before → All IsCopyNode rest → All IsCopy (drop d (map (calm_code r fn f) (before ++ rest)))
+drop_codes r fn f zero [] rest e h = copy_codes r fn f rest h
+drop_codes r fn f zero (node ∷ before) rest e h = absurd (omega (arith, e))
+drop_codes r fn f (suc d) [] rest e h = absurd (omega (arith, e))
+drop_codes r fn f (suc d) (node ∷ before) rest e h = drop_codes r fn f d before rest (omega (arith, e)) h
 
 -- ---- a calm function at a width
 module _ (n : ℕ) (fn : Function) (some_width : Contains widths n) (narrow : IsNarrowFunction fn) (calm : IsCalm n fn) where
   spacious : IsSpacious n (c n fn some_width narrow calm)
   spacious = space n fn some_width narrow calm
 
-  code_lawful : (j : ℕ) (node : Node) (x : Bound) → IsNodeBound (length fn.states) (numbers_of n fn) fn.inputs (bounds n fn some_width narrow calm) j node x → IsUndivided node →
-      IsLawfulCode n j (calm_code fn (numbers_of n fn).f node) × IsPlaced (length fn.inputs) (length fn.states) j (calm_code fn (numbers_of n fn).f node)
-  code_lawful j node x h w = by node h.ordered w (subst (IsLimited (numbers_of n fn)) (h.at ∙ h.is) (limited n fn some_width narrow calm j h.below))
-    where
-      f : ℕ
-      f = (numbers_of n fn).f
+  -- ---- the program, however it rounds
+  module _ (r : Round) where
+    code_lawful : (j : ℕ) (node : Node) (x : Bound) → IsNodeBound (length fn.states) (numbers_of n fn) fn.inputs (bounds n fn some_width narrow calm) j node x → IsUndivided node →
+        IsLawfulCode n j (calm_code r fn (numbers_of n fn).f node) × IsPlaced (length fn.inputs) (length fn.states) j (calm_code r fn (numbers_of n fn).f node)
+    code_lawful j node x h w = by node h.ordered w (subst (IsLimited (numbers_of n fn)) (h.at ∙ h.is) (limited n fn some_width narrow calm j h.below))
+      where
+        by : (node : Node) → IsInPlace (length fn.inputs) (length fn.states) j node → IsUndivided node → IsLimited (numbers_of n fn) (node_bound (numbers_of n fn) fn.inputs (bounds n fn some_width narrow calm) node) →
+            IsLawfulCode n j (calm_code r fn (numbers_of n fn).f node) × IsPlaced (length fn.inputs) (length fn.states) j (calm_code r fn (numbers_of n fn).f node)
+        by (Input m) o w l = (tt, o)
+        by (State m) o w l = (word_fits n (numbers_of n fn) _ _ spacious (start_limited n fn some_width narrow calm m o.1) (word_up_to (start_of fn m) _ (numbers_of n fn).f (units_above (numbers_of n fn).f (magnitude (start_of fn m)) (magnitude_nonneg (start_of fn m)))), o)
+        by (Const v) o w l = (word_fits n (numbers_of n fn) _ _ spacious l.r (word_up_to v _ (numbers_of n fn).f (units_above (numbers_of n fn).f (magnitude v) (magnitude_nonneg v))), o)
+        by (Neg a) o w l = (o.1, o.0)
+        by (Add a b) o w l = ((o.1, o.2, no_shift n, no_shift n), o.0)
+        by (Sub a b) o w l = ((o.1, o.2, no_shift n, no_shift n), o.0)
+        by (Mul a b) o w l = ((o.1, o.2, let s = spacious.width in omega (arith, s), shift_rounds r (numbers_of n fn).f spacious.some), o.0)
+        by (Div a b) o w l = absurd w
+        by (Copy a) o w l = ((o.1, no_copy_shift n), o.0)
 
-      by : (node : Node) → IsInPlace (length fn.inputs) (length fn.states) j node → IsUndivided node → IsLimited (numbers_of n fn) (node_bound (numbers_of n fn) fn.inputs (bounds n fn some_width narrow calm) node) →
-          IsLawfulCode n j (calm_code fn (numbers_of n fn).f node) × IsPlaced (length fn.inputs) (length fn.states) j (calm_code fn (numbers_of n fn).f node)
-      by (Input m) o w l = (tt, o)
-      by (State m) o w l = (word_fits n (numbers_of n fn) _ _ spacious (start_limited n fn some_width narrow calm m o.1) (word_up_to (start_of fn m) _ (numbers_of n fn).f (units_above (numbers_of n fn).f (magnitude (start_of fn m)) (magnitude_nonneg (start_of fn m)))), o)
-      by (Const v) o w l = (word_fits n (numbers_of n fn) _ _ spacious l.r (word_up_to v _ (numbers_of n fn).f (units_above (numbers_of n fn).f (magnitude v) (magnitude_nonneg v))), o)
-      by (Neg a) o w l = (o.1, o.0)
-      by (Add a b) o w l = ((o.1, o.2, no_shift n, no_shift n), o.0)
-      by (Sub a b) o w l = ((o.1, o.2, no_shift n, no_shift n), o.0)
-      by (Mul a b) o w l = ((o.1, o.2, let s = spacious.width in omega (arith, s), omega arith), o.0)
-      by (Div a b) o w l = absurd w
-      by (Copy a) o w l = ((o.1, no_copy_shift n), o.0)
+    codes_lawful : (j : ℕ) (nodes : List Node) (xs : List Bound) → ArePairs (IsNodeBound (length fn.states) (numbers_of n fn) fn.inputs (bounds n fn some_width narrow calm)) j nodes xs → All IsUndivided nodes →
+        AreLawful n (length fn.inputs) (length fn.states) j (map (calm_code r fn (numbers_of n fn).f) nodes)
+    codes_lawful j [] [] h w = tt
+    codes_lawful j (node ∷ nodes) (x ∷ xs) h w = (code_lawful j node x h.0 (All-head IsUndivided node nodes w), codes_lawful (j + 1) nodes xs h.1 (All-tail IsUndivided node nodes w))
+    codes_lawful j [] (x ∷ xs) h w = absurd h
+    codes_lawful j (node ∷ nodes) [] h w = absurd h
 
-  codes_lawful : (j : ℕ) (nodes : List Node) (xs : List Bound) → ArePairs (IsNodeBound (length fn.states) (numbers_of n fn) fn.inputs (bounds n fn some_width narrow calm)) j nodes xs → All IsUndivided nodes →
-      AreLawful n (length fn.inputs) (length fn.states) j (map (calm_code fn (numbers_of n fn).f) nodes)
-  codes_lawful j [] [] h w = tt
-  codes_lawful j (node ∷ nodes) (x ∷ xs) h w = (code_lawful j node x h.0 (All-head IsUndivided node nodes w), codes_lawful (j + 1) nodes xs h.1 (All-tail IsUndivided node nodes w))
-  codes_lawful j [] (x ∷ xs) h w = absurd h
-  codes_lawful j (node ∷ nodes) [] h w = absurd h
+    codes_long : length (codes n fn some_width narrow calm r) ≡ length (nodes_of fn)
+    codes_long = length-map (nodes_of fn) (calm_code r fn (numbers_of n fn).f)
 
-  codes_long : length (codes n fn some_width narrow calm) ≡ length (nodes_of fn)
-  codes_long = length-map (nodes_of fn) (calm_code fn (numbers_of n fn).f)
+    counts : HasLawfulCounts (calm_program n r fn)
+    counts =
+        let l = codes_long in let t = counted n fn some_width narrow calm in let e = (list n fn some_width narrow calm).enough in let sizes = narrow.lawful.sizes in
+        let nodes = sizes.nodes in record {
+          some_input = sizes.some_input;
+          inputs = sizes.inputs;
+          states = sizes.states;
+          some_output = sizes.some_output;
+          outputs = sizes.outputs;
+          enough = omega (arith, l, t, e);
+          codes = omega (arith, l, nodes);
+        }
 
-  counts : HasLawfulCounts (calm_program n fn)
-  counts =
-      let l = codes_long in let t = counted n fn some_width narrow calm in let e = (list n fn some_width narrow calm).enough in let sizes = narrow.lawful.sizes in
-      let nodes = sizes.nodes in record {
-        some_input = sizes.some_input;
-        inputs = sizes.inputs;
-        states = sizes.states;
-        some_output = sizes.some_output;
-        outputs = sizes.outputs;
-        enough = omega (arith, l, t, e);
-        codes = omega (arith, l, nodes);
-      }
+    points : All IsPoint (points_of (codes n fn some_width narrow calm r))
+    points =
+        let h = pointed n fn some_width narrow calm r in
+        All-from_get_or IsPoint (points_of (codes n fn some_width narrow calm r)) (pos 0) (λ a lt. subst IsPoint (sym (h.points a lt)) (let s = spacious.point in record { low = omega (arith, ints); high = omega (arith, ints, s) }))
 
-  points : All IsPoint (points_of (codes n fn some_width narrow calm))
-  points =
-      let h = pointed n fn some_width narrow calm in
-      All-from_get_or IsPoint (points_of (codes n fn some_width narrow calm)) (pos 0) (λ a lt. subst IsPoint (sym (h.points a lt)) (let s = spacious.point in record { low = omega (arith, ints); high = omega (arith, ints, s) }))
+    copies : All IsCopy (drop (length (codes n fn some_width narrow calm r) - (outputs fn + length fn.states)) (codes n fn some_width narrow calm r))
+    copies =
+        let l = list n fn some_width narrow calm in let a = codes_long in let t = counted n fn some_width narrow calm in
+        subst (λ (nodes : List Node). All IsCopy (drop (length (codes n fn some_width narrow calm r) - (outputs fn + length fn.states)) (map (calm_code r fn (numbers_of n fn).f) nodes))) (sym l.is)
+        (drop_codes r fn (numbers_of n fn).f (length (codes n fn some_width narrow calm r) - (outputs fn + length fn.states)) l.before l.copies (omega (arith, a, t)) l.are_copies)
 
-  copies : All IsCopy (drop (length (codes n fn some_width narrow calm) - (outputs fn + length fn.states)) (codes n fn some_width narrow calm))
-  copies =
-      let l = list n fn some_width narrow calm in let a = codes_long in let t = counted n fn some_width narrow calm in
-      subst (λ (nodes : List Node). All IsCopy (drop (length (codes n fn some_width narrow calm) - (outputs fn + length fn.states)) (map (calm_code fn (numbers_of n fn).f) nodes))) (sym l.is)
-      (drop_codes fn (numbers_of n fn).f (length (codes n fn some_width narrow calm) - (outputs fn + length fn.states)) l.before l.copies (omega (arith, a, t)) l.are_copies)
-
-  pub program_lawful : IsLawfulProgram (calm_program n fn)
-  program_lawful = record {
-    version = (0, omega arith, refl);
-    width = some_width;
-    counts = counts;
-    codes = codes_lawful 0 (nodes_of fn) (bounds n fn some_width narrow calm) (pairs n fn some_width narrow calm) (whole_nodes n fn some_width narrow calm);
-    points = points;
-    copies = copies;
-    of_version = first_codes fn (numbers_of n fn).f (nodes_of fn);
-  }
+    pub program_lawful : IsLawfulProgram (calm_program n r fn)
+    program_lawful = record {
+      version = has_version r;
+      width = some_width;
+      counts = counts;
+      codes = codes_lawful 0 (nodes_of fn) (bounds n fn some_width narrow calm) (pairs n fn some_width narrow calm) (whole_nodes n fn some_width narrow calm);
+      points = points;
+      copies = copies;
+      of_version = rounded_are_of_version r n (codes n fn some_width narrow calm r) (program_rounds n r fn spacious.some).codes;
+    }
 
   -- ---- the certificate
   small_written : (r : ℕ) → r ≤ 2 ^ ((numbers_of n fn).m + (numbers_of n fn).f) → IsWrittenInterval (units (numbers_of n fn).f r)

@@ -1,3 +1,4 @@
+mod Worked
 pub mod Units
 pub mod Values
 pub mod Folded
@@ -8,5 +9,6 @@ pub mod Rows
 pub mod Limited
 pub mod Points
 pub mod Whole
+pub mod Roundings
 pub mod Lawful
 pub mod Planned

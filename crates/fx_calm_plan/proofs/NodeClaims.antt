@@ -7,8 +7,10 @@ use Rattle.fx_rational.proofs.Quotient.{above_nonneg}
 use Rattle.fx_rational.proofs.Powers.{power, power_above, unit_above}
 use Rattle.fx_model.specs.Function as function
 use Rattle.fx_model.specs.Function.{Function}
+use Rattle.fx_model.specs.Machine.{Round}
 use Rattle.fx_inequalities.specs.Formula.{Sum, Difference, span, zero_span, span_sum, span_difference, span_product, loss_at, unit_at, word_at}
 use Rattle.fx_inequalities.specs.Claim.{BelowFraction, AboveFraction, inside}
+use Rattle.fx_inequalities.specs.OperationSpans.{product_error}
 use Rattle.fx_sizes.specs.Narrow.{IsNarrowNumber, IsNarrowInput}
 use Rattle.fx_sizes.specs.Powers.{magnitude}
 use Rattle.fx_sizes.proofs.Claims.{AreMet, below_above_met, over_fits, narrow_negative}
@@ -22,7 +24,7 @@ use Rattle.fx_calm_numbers.proofs.Factors.{IsRoomyInput, naturals_le}
 use Rattle.fx_calm_numbers.proofs.Rounded.{units_above, shifted_above}
 use Rattle.fx_calm_plan.specs.CalmPlan.{units}
 use Rattle.fx_calm_plan.proofs.Flattened.{IsLimited}
-use Rattle.fx_calm_plan.proofs.Units.{small_units, inside_units, inside_units_at, small_unit, small_loss}
+use Rattle.fx_calm_plan.proofs.Units.{small_units, inside_units, inside_units_at, small_unit, small_rounding}
 use Rattle.fx_calm_plan.proofs.Values.{below_end, above_end, error_end, word_up_to, word_low, word_high, units_value, to_units}
 
 -- words of n bits hold 2^(m + f) four times
@@ -90,20 +92,20 @@ module _ (n : ℕ) (c : Numbers) (space : IsSpacious n c) where
       inside_units_at {E = c.f + c.f} {m = a * b} (shifted_up c.f (a * b)) _ (omega arith) (few l) (subst (λ (k : ℕ). a * b ≤ shifted_up c.f (a * b) * 2 ^ k) (sym e) s)
       (span_products (fewer (product_few a b p q)) (small_units c.f a (few p)) (small_units c.f b (few q)))
 
-  pub product_error_inside : (ra rb ea eb : ℕ) → ra ≤ 2 ^ (c.m + c.f) → rb ≤ 2 ^ (c.m + c.f) → ea ≤ 2 ^ (c.m + c.f) → eb ≤ 2 ^ (c.m + c.f) → shifted_up c.f (ra * eb + rb * ea + ea * eb) + 1 ≤ 2 ^ (c.m + c.f) →
-      AreMet (inside (span_sum (span_sum (span_sum (span_product (span (units c.f ra)) (span (units c.f eb))) (span_product (span (units c.f rb)) (span (units c.f ea)))) (span_product (span (units c.f ea)) (span (units c.f eb)))) (loss_at (pos c.f) (pos c.f)))
+  pub product_error_inside : (r : Round) (ra rb ea eb : ℕ) → ra ≤ 2 ^ (c.m + c.f) → rb ≤ 2 ^ (c.m + c.f) → ea ≤ 2 ^ (c.m + c.f) → eb ≤ 2 ^ (c.m + c.f) → shifted_up c.f (ra * eb + rb * ea + ea * eb) + 1 ≤ 2 ^ (c.m + c.f) →
+      AreMet (inside (product_error r (pos c.f) c.f (span (units c.f ra)) (span (units c.f rb)) (span (units c.f ea)) (span (units c.f eb)))
       (span (units c.f (shifted_up c.f (ra * eb + rb * ea + ea * eb) + 1))))
-  product_error_inside ra rb ea eb p q r t l =
+  product_error_inside r ra rb ea eb pa pb qa qb l =
       let x = ra * eb + rb * ea + ea * eb in
-      let s = shifted_above c.f x in let e = twice_less c.f in
-      let one = product_few ra eb p t in let two = product_few rb ea q r in let three = product_few ea eb r t in
+      let s = shifted_above c.f x in let e = twice_less c.f in let some = space.some in
+      let one = product_few ra eb pa qb in let two = product_few rb ea pb qa in let three = product_few ea eb qa qb in
       let u = power_more {a = (c.f + c.f) - c.f} {b = 61} (let h = space.point in omega (arith, h)) in
       let up : (shifted_up c.f x + 1) * 2 ^ c.f ≡ shifted_up c.f x * 2 ^ c.f + 2 ^ c.f = omega arith in
       let unit : 2 ^ ((c.f + c.f) - c.f) ≡ 2 ^ c.f = ap (λ (k : ℕ). 2 ^ k) e in
       inside_units_at {E = c.f + c.f} {m = x + 2 ^ ((c.f + c.f) - c.f)} (shifted_up c.f x + 1) _ (omega arith) (few l)
       (subst (λ (k : ℕ). x + 2 ^ ((c.f + c.f) - c.f) ≤ (shifted_up c.f x + 1) * k) (sym unit) (omega (arith, s, up, unit)))
-      (span_sums (omega (arith, one, two, three, u)) (span_sums (omega (arith, one, two, three)) (span_sums (omega (arith, one, two)) (span_products (fewer one) (small_units c.f ra (few p)) (small_units c.f eb (few t))) (span_products (fewer two) (small_units c.f rb (few q)) (small_units c.f ea (few r)))) (span_products (fewer three) (small_units c.f ea (few r)) (small_units c.f eb (few t))))
-      (small_loss c.f (c.f + c.f) c.f (omega arith) twice_few))
+      (span_sums (omega (arith, one, two, three, u)) (span_sums (omega (arith, one, two, three)) (span_sums (omega (arith, one, two)) (span_products (fewer one) (small_units c.f ra (few pa)) (small_units c.f eb (few qb))) (span_products (fewer two) (small_units c.f rb (few pb)) (small_units c.f ea (few qa)))) (span_products (fewer three) (small_units c.f ea (few qa)) (small_units c.f eb (few qb))))
+      (small_rounding r c.f (c.f + c.f) c.f (omega (arith, some)) twice_few))
 
   -- ---- literals and inputs
   narrow_few : {r : ℕ} → r ≤ 2 ^ (c.m + c.f) → r ≤ 2 ^ 62

@@ -8,12 +8,14 @@ use Rattle.std.proofs.lemmas.Bool.{eq-eqb}
 use Rattle.fx_rational.specs.Interval.{Interval}
 use Rattle.fx_model.specs.Tree.{at}
 use Rattle.fx_model.specs.Function.{Function}
+use Rattle.fx_model.specs.Machine.{Round}
 use Rattle.fx_model.specs.Nodes.{Node, Input, State, Const, Neg, Add, Sub, Mul, Div, Copy}
 use Rattle.fx_inequalities.specs.Formula.{Span, span, zero_span, span_sum, span_difference, span_product, loss_at}
 use Rattle.fx_inequalities.specs.Claim.{Claim, inside}
 use Rattle.fx_inequalities.specs.Certificate.{Certificate, NodeLine, no_line, no_row}
 use Rattle.fx_inequalities.specs.Affine.{range_at, error_at}
 use Rattle.fx_inequalities.specs.Condition.{first_fault_of}
+use Rattle.fx_inequalities.specs.OperationSpans.{product_error}
 use Rattle.fx_inequalities.specs.NodeConditions.{no_input, same_shape, same_point, state_point, shape_conditions, node_conditions, divisor_claims, plain_range_claims, plain_error_claims, word_claims}
 use Rattle.fx_flat.specs.InPlace.{IsInPlace}
 use Rattle.fx_sizes.specs.Narrow.{IsNarrowInput, IsNarrowNode}
@@ -62,8 +64,8 @@ pub record HasBounds (fn : Function) (c : Numbers) (bs : List Bound) (cert : Cer
 abbrev range_of_product : Span → Span → Span → List Claim
 range_of_product a b g = inside (span_product a b) g
 
-abbrev error_of_product : Span → Span → Span → Span → Span → Span → List Claim
-error_of_product ga ha gb hb loss h = inside (span_sum (span_sum (span_sum (span_product ga hb) (span_product gb ha)) (span_product ha hb)) loss) h
+abbrev error_of_product : Round → ℕ → Span → Span → Span → Span → Span → List Claim
+error_of_product r f ga ha gb hb h = inside (product_error r (pos f) f ga gb ha hb) h
 
 module _ (n : ℕ) (fn : Function) (c : Numbers) (bs : List Bound) (cert : Certificate) (space : IsSpacious n c) (has : HasBounds fn c bs cert) (limited : (a : ℕ) → a < length bs → IsLimited c (at no_bound bs a))
     (narrow : All IsNarrowInput fn.inputs) (roomy : (k : ℕ) → k < length fn.inputs → IsRoomyInput c (at no_input fn.inputs k)) (k : ℕ) (long : k < length bs) where
@@ -100,27 +102,27 @@ module _ (n : ℕ) (fn : Function) (c : Numbers) (bs : List Bound) (cert : Certi
   range_met (Div a b) o w l = absurd w.1
   range_met (Copy a) o w l = subst (λ (s : Span). AreMet (inside s (range_of c.f (at no_bound bs a)))) (sym (range_is a o.1)) (same_inside n c space (at no_bound bs a).r l.r)
 
-  error_met : (node : Node) → IsInPlace (length fn.inputs) (length fn.states) k node → IsNarrowNode node × IsUndivided node → IsLimited c (node_bound c fn.inputs bs node) →
-      (let x = node_bound c fn.inputs bs node in AreMet (plain_error_claims fn cert node (calm_code fn c.f node) (pos c.f) (range_of c.f x) (error_of c.f x)))
-  error_met (Input j) o w l = input_error n c space (at no_input fn.inputs j) (narrow j no_input o.1) (roomy j o.1) l.e
-  error_met (State j) o w l = subst (λ (i : Interval). AreMet (inside (span i) (error_of c.f (state_bound c)))) (sym (has.error_rows j o.1)) (same_inside n c space (state_bound c).e l.e)
-  error_met (Const x) o w l = const_error n c space x w.0 l
-  error_met (Neg a) o w l = subst (λ (s : Span). AreMet (inside (span_difference zero_span s) (error_of c.f (at no_bound bs a)))) (sym (error_is a o.1)) (turned_inside n c space (at no_bound bs a).e l.e)
-  error_met (Add a b) o w l =
+  error_met : (r : Round) (node : Node) → IsInPlace (length fn.inputs) (length fn.states) k node → IsNarrowNode node × IsUndivided node → IsLimited c (node_bound c fn.inputs bs node) →
+      (let x = node_bound c fn.inputs bs node in AreMet (plain_error_claims fn cert node (calm_code r fn c.f node) (pos c.f) (range_of c.f x) (error_of c.f x)))
+  error_met r (Input j) o w l = input_error n c space (at no_input fn.inputs j) (narrow j no_input o.1) (roomy j o.1) l.e
+  error_met r (State j) o w l = subst (λ (i : Interval). AreMet (inside (span i) (error_of c.f (state_bound c)))) (sym (has.error_rows j o.1)) (same_inside n c space (state_bound c).e l.e)
+  error_met r (Const x) o w l = const_error n c space x w.0 l
+  error_met r (Neg a) o w l = subst (λ (s : Span). AreMet (inside (span_difference zero_span s) (error_of c.f (at no_bound bs a)))) (sym (error_is a o.1)) (turned_inside n c space (at no_bound bs a).e l.e)
+  error_met r (Add a b) o w l =
       let x = at no_bound bs a in let y = at no_bound bs b in let z = loss_at (pos c.f) (pos 0) in
       subst (λ (h : Span). AreMet (inside (span_sum (span_sum (span_sum h (error_at cert.lines b)) z) z) (error_of c.f (sum_bound x y)))) (sym (error_is a o.1))
       (subst (λ (h : Span). AreMet (inside (span_sum (span_sum (span_sum (error_of c.f x) h) z) z) (error_of c.f (sum_bound x y)))) (sym (error_is b o.2)) (sum_error_inside n c space x.e y.e l.e))
-  error_met (Sub a b) o w l =
+  error_met r (Sub a b) o w l =
       let x = at no_bound bs a in let y = at no_bound bs b in let z = loss_at (pos c.f) (pos 0) in
       subst (λ (h : Span). AreMet (inside (span_difference (span_sum (span_difference h (error_at cert.lines b)) z) z) (error_of c.f (sum_bound x y)))) (sym (error_is a o.1))
       (subst (λ (h : Span). AreMet (inside (span_difference (span_sum (span_difference (error_of c.f x) h) z) z) (error_of c.f (sum_bound x y)))) (sym (error_is b o.2)) (difference_error_inside n c space x.e y.e l.e))
-  error_met (Mul a b) o w l =
+  error_met r (Mul a b) o w l =
       let x = at no_bound bs a in let y = at no_bound bs b in let z = product_bound c.f x y in
-      subst (λ (m : NodeLine). AreMet (error_of_product (span m.range) (span m.error) (range_at cert.lines b) (error_at cert.lines b) (loss_at (pos c.f) (pos c.f)) (error_of c.f z))) (sym (line_at a o.1))
-      (subst (λ (m : NodeLine). AreMet (error_of_product (range_of c.f x) (error_of c.f x) (span m.range) (span m.error) (loss_at (pos c.f) (pos c.f)) (error_of c.f z))) (sym (line_at b o.2))
-      (product_error_inside n c space x.r y.r x.e y.e (before a o.1).r (before b o.2).r (before a o.1).e (before b o.2).e l.e))
-  error_met (Div a b) o w l = absurd w.1
-  error_met (Copy a) o w l = subst (λ (s : Span). AreMet (inside (span_sum s (loss_at (pos c.f) (pos 0))) (error_of c.f (at no_bound bs a)))) (sym (error_is a o.1)) (copied_inside n c space (at no_bound bs a).e l.e)
+      subst (λ (m : NodeLine). AreMet (error_of_product r c.f (span m.range) (span m.error) (range_at cert.lines b) (error_at cert.lines b) (error_of c.f z))) (sym (line_at a o.1))
+      (subst (λ (m : NodeLine). AreMet (error_of_product r c.f (range_of c.f x) (error_of c.f x) (span m.range) (span m.error) (error_of c.f z))) (sym (line_at b o.2))
+      (product_error_inside n c space r x.r y.r x.e y.e (before a o.1).r (before b o.2).r (before a o.1).e (before b o.2).e l.e))
+  error_met r (Div a b) o w l = absurd w.1
+  error_met r (Copy a) o w l = subst (λ (s : Span). AreMet (inside (span_sum s (loss_at (pos c.f) (pos 0))) (error_of c.f (at no_bound bs a)))) (sym (error_is a o.1)) (copied_inside n c space (at no_bound bs a).e l.e)
 
 -- ---- all conditions of one node
 no_divisor : (cert : Certificate) (node : Node) → IsUndivided node → divisor_claims cert.lines node ≡ []
@@ -135,43 +137,43 @@ no_divisor cert (Div a b) m = absurd m
 no_divisor cert (Copy a) m = refl
 
 -- Form, Divisor, Range, Error and WordTooSmall
-pub node_faults : (n : ℕ) (fn : Function) (c : Numbers) (bs : List Bound) (cert : Certificate) (ps : List ℤ) (k : ℕ) (node : Node) (x : Bound) → IsSpacious n c → HasBounds fn c bs cert → ((a : ℕ) → a < length bs → IsLimited c (at no_bound bs a)) →
+pub node_faults : (n : ℕ) (r : Round) (fn : Function) (c : Numbers) (bs : List Bound) (cert : Certificate) (ps : List ℤ) (k : ℕ) (node : Node) (x : Bound) → IsSpacious n c → HasBounds fn c bs cert → ((a : ℕ) → a < length bs → IsLimited c (at no_bound bs a)) →
     All IsNarrowInput fn.inputs → ((k : ℕ) → k < length fn.inputs → IsRoomyInput c (at no_input fn.inputs k)) → at (pos 0) ps k ≡ pos c.f → IsNodeBound (length fn.states) c fn.inputs bs k node x → IsNarrowNode node → IsUndivided node →
-    first_fault_of (node_conditions fn n ps cert k node (calm_code fn c.f node)) ≡ None
-node_faults n fn c bs cert ps k node x space has limited narrow roomy point h w whole =
+    first_fault_of (node_conditions fn n ps cert k node (calm_code r fn c.f node)) ≡ None
+node_faults n r fn c bs cert ps k node x space has limited narrow roomy point h w whole =
     let l : at no_line cert.lines k ≡ calm_line c.f x = ap (λ (ls : List NodeLine). at no_line ls k) has.lines ∙ get_or-map (calm_line c.f) bs k no_bound no_line h.below ∙ ap (calm_line c.f) h.at in
     let own : IsLimited c x = subst (IsLimited c) h.at (limited k h.below) in
     let fine = subst (IsLimited c) h.is own in
     let range = range_met n fn c bs cert space has limited narrow roomy k h.below node h.ordered (w, whole) fine in
-    let error = error_met n fn c bs cert space has limited narrow roomy k h.below node h.ordered (w, whole) fine in
+    let error = error_met n fn c bs cert space has limited narrow roomy k h.below r node h.ordered (w, whole) fine in
     let no_div : AreMet (divisor_claims cert.lines node) = subst AreMet (sym (no_divisor cert node whole)) none_met in
     let back = sym h.is in
-    node_met n fn cert ps k node (calm_code fn c.f node) (calm_line c.f x) (pos c.f) l refl point no_div (subst (λ (y : Bound). AreMet (plain_range_claims fn cert node (range_of c.f y))) back range)
-    (subst (λ (y : Bound). AreMet (plain_error_claims fn cert node (calm_code fn c.f node) (pos c.f) (range_of c.f y) (error_of c.f y))) back error) (word_met n c x space own)
+    node_met n fn cert ps k node (calm_code r fn c.f node) (calm_line c.f x) (pos c.f) l refl point no_div (subst (λ (y : Bound). AreMet (plain_range_claims fn cert node (range_of c.f y))) back range)
+    (subst (λ (y : Bound). AreMet (plain_error_claims fn cert node (calm_code r fn c.f node) (pos c.f) (range_of c.f y) (error_of c.f y))) back error) (word_met n c x space own)
 
 -- ---- Shape and Shift
-shaped : (fn : Function) (f : ℕ) (node : Node) → same_shape node (calm_code fn f node) ≡ true
-shaped fn f (Input j) = eq-eqb j j refl
-shaped fn f (State j) = eq-eqb j j refl
-shaped fn f (Const c) = refl
-shaped fn f (Neg a) = eq-eqb a a refl
-shaped fn f (Add a b) = let p = eq-eqb a a refl in let q = eq-eqb b b refl in rw (p, q) refl
-shaped fn f (Sub a b) = let p = eq-eqb a a refl in let q = eq-eqb b b refl in rw (p, q) refl
-shaped fn f (Mul a b) = let p = eq-eqb a a refl in let q = eq-eqb b b refl in rw (p, q) refl
-shaped fn f (Div a b) = let p = eq-eqb a a refl in let q = eq-eqb b b refl in rw (p, q) refl
-shaped fn f (Copy a) = eq-eqb a a refl
+shaped : (r : Round) (fn : Function) (f : ℕ) (node : Node) → same_shape node (calm_code r fn f node) ≡ true
+shaped r fn f (Input j) = eq-eqb j j refl
+shaped r fn f (State j) = eq-eqb j j refl
+shaped r fn f (Const c) = refl
+shaped r fn f (Neg a) = eq-eqb a a refl
+shaped r fn f (Add a b) = let p = eq-eqb a a refl in let q = eq-eqb b b refl in rw (p, q) refl
+shaped r fn f (Sub a b) = let p = eq-eqb a a refl in let q = eq-eqb b b refl in rw (p, q) refl
+shaped r fn f (Mul a b) = let p = eq-eqb a a refl in let q = eq-eqb b b refl in rw (p, q) refl
+shaped r fn f (Div a b) = let p = eq-eqb a a refl in let q = eq-eqb b b refl in rw (p, q) refl
+shaped r fn f (Copy a) = eq-eqb a a refl
 
 -- all points are f
-pointed : (fn : Function) (i s f k : ℕ) (ps : List ℤ) (node : Node) → IsInPlace i s k node → ((a : ℕ) → a < k → at (pos 0) ps a ≡ pos f) → same_point ps (calm_code fn f node) ≡ true
-pointed fn i s f k ps (Input j) o e = refl
-pointed fn i s f k ps (State j) o e = refl
-pointed fn i s f k ps (Const c) o e = refl
-pointed fn i s f k ps (Neg a) o e = refl
-pointed fn i s f k ps (Add a b) o e = same_whole _ _ (ap (λ (z : ℤ). z -ℤ pos 0) (e a o.1 ∙ sym (e b o.2)))
-pointed fn i s f k ps (Sub a b) o e = same_whole _ _ (ap (λ (z : ℤ). z -ℤ pos 0) (e a o.1 ∙ sym (e b o.2)))
-pointed fn i s f k ps (Mul a b) o e = refl
-pointed fn i s f k ps (Div a b) o e = refl
-pointed fn i s f k ps (Copy a) o e = refl
+pointed : (r : Round) (fn : Function) (i s f k : ℕ) (ps : List ℤ) (node : Node) → IsInPlace i s k node → ((a : ℕ) → a < k → at (pos 0) ps a ≡ pos f) → same_point ps (calm_code r fn f node) ≡ true
+pointed r fn i s f k ps (Input j) o e = refl
+pointed r fn i s f k ps (State j) o e = refl
+pointed r fn i s f k ps (Const c) o e = refl
+pointed r fn i s f k ps (Neg a) o e = refl
+pointed r fn i s f k ps (Add a b) o e = same_whole _ _ (ap (λ (z : ℤ). z -ℤ pos 0) (e a o.1 ∙ sym (e b o.2)))
+pointed r fn i s f k ps (Sub a b) o e = same_whole _ _ (ap (λ (z : ℤ). z -ℤ pos 0) (e a o.1 ∙ sym (e b o.2)))
+pointed r fn i s f k ps (Mul a b) o e = refl
+pointed r fn i s f k ps (Div a b) o e = refl
+pointed r fn i s f k ps (Copy a) o e = refl
 
 states_pointed : (i next k f : ℕ) (ps : List ℤ) → at (pos 0) ps k ≡ pos f → (next ≤ k → at (pos 0) ps (i + (k - next)) ≡ pos f) → state_point i next ps k ≡ true
 states_pointed i next k f ps p q = by (ltb k next) refl
@@ -183,7 +185,7 @@ states_pointed i next k f ps p q = by (ltb k next) refl
     by true e = refl
     by false e = same_whole _ _ (p ∙ sym (q (behind e)))
 
-pub shape_faults : (fn : Function) (i s next f k : ℕ) (ps : List ℤ) (node : Node) → IsInPlace i s k node → ((a : ℕ) → a ≤ k → at (pos 0) ps a ≡ pos f) → (next ≤ k → i + (k - next) ≤ k) →
-    first_fault_of (shape_conditions i next ps k node (calm_code fn f node)) ≡ None
-shape_faults fn i s next f k ps node o e within =
-    shape_met i next k ps node (calm_code fn f node) (shaped fn f node) (pointed fn i s f k ps node o (λ a l. e a (omega (arith, l)))) (states_pointed i next k f ps (e k (omega arith)) (λ l. e (i + (k - next)) (within l)))
+pub shape_faults : (r : Round) (fn : Function) (i s next f k : ℕ) (ps : List ℤ) (node : Node) → IsInPlace i s k node → ((a : ℕ) → a ≤ k → at (pos 0) ps a ≡ pos f) → (next ≤ k → i + (k - next) ≤ k) →
+    first_fault_of (shape_conditions i next ps k node (calm_code r fn f node)) ≡ None
+shape_faults r fn i s next f k ps node o e within =
+    shape_met i next k ps node (calm_code r fn f node) (shaped r fn f node) (pointed r fn i s f k ps node o (λ a l. e a (omega (arith, l)))) (states_pointed i next k f ps (e k (omega arith)) (λ l. e (i + (k - next)) (within l)))

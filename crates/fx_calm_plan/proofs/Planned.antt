@@ -14,7 +14,7 @@ use Rattle.fx_model.specs.Tree as tree
 use Rattle.fx_model.specs.Tree.{at}
 use Rattle.fx_model.specs.Function as function
 use Rattle.fx_model.specs.Function.{Function, free, outputs}
-use Rattle.fx_model.specs.Machine.{points_of}
+use Rattle.fx_model.specs.Machine.{Round, points_of}
 use Rattle.fx_model.specs.LawfulProgram.{widths}
 use Rattle.fx_model.specs.Nodes.{nodes_of}
 use Rattle.fx_inequalities.specs.Formula.{Num, formula_value, span}
@@ -40,7 +40,8 @@ use Rattle.fx_calm_numbers.proofs.TreeBound.{tree_bound}
 use Rattle.fx_calm_plan.specs.CalmPlan.{calm_code, calm_program, units, calm_certificate}
 use Rattle.fx_calm_plan.specs.Laws.{IsNarrowFunction, IsCalmPlan, CalmLaw}
 use Rattle.fx_calm_plan.proofs.Lawful.{program_lawful, certificate_lawful}
-use Rattle.fx_calm_plan.proofs.Limited.{width, u, spare, front, copy_bound, bounds_long, output_error}
+use Rattle.fx_calm_plan.proofs.Limited.{width, u, spare, space, front, copy_bound, bounds_long, output_error}
+use Rattle.fx_calm_plan.proofs.Roundings.{program_rounds}
 use Rattle.fx_calm_plan.proofs.Units.{small_units}
 use Rattle.fx_calm_plan.proofs.Values.{units_value, minus_units_value}
 use Rattle.fx_calm_plan.proofs.Whole.{k, bounds, long, line_at, claims_none, counts_met, shapes_met, nodes_met, starts_met, start_rows_met, start_error_rows_met, rows_met, error_rows_met}
@@ -89,25 +90,25 @@ within_z z e f l h = record {
 }
 
 -- ---- a calm function at a width
-module _ (n : ℕ) (fn : Function) (some_width : Contains widths n) (narrow : IsNarrowFunction fn) (calm : IsCalm n fn) where
+module _ (n : ℕ) (r : Round) (fn : Function) (some_width : Contains widths n) (narrow : IsNarrowFunction fn) (calm : IsCalm n fn) where
   -- the copy of output j
-  output_place : (j : ℕ) → j < outputs fn → (output_code (calm_program n fn) j ≡ length (front n fn some_width narrow calm) + j) × (output_code (calm_program n fn) j < length (bounds n fn some_width narrow calm))
+  output_place : (j : ℕ) → j < outputs fn → (output_code (calm_program n r fn) j ≡ length (front n fn some_width narrow calm) + j) × (output_code (calm_program n r fn) j < length (bounds n fn some_width narrow calm))
   output_place j lt =
-      let m = length-map (nodes_of fn) (calm_code fn (numbers_of n fn).f) in let l = long n fn some_width narrow calm in let b = bounds_long n fn some_width narrow calm in let r = narrow.lawful.valid.all_results in
-      (omega (arith, m, l, b, r, lt), omega (arith, m, l, b, r, lt))
+      let m = length-map (nodes_of fn) (calm_code r fn (numbers_of n fn).f) in let l = long n fn some_width narrow calm in let b = bounds_long n fn some_width narrow calm in let results = narrow.lawful.valid.all_results in
+      (omega (arith, m, l, b, results, lt), omega (arith, m, l, b, results, lt))
 
-  output_bound : (j : ℕ) → j < outputs fn → at no_bound (bounds n fn some_width narrow calm) (output_code (calm_program n fn) j) ≡ tree_bound (numbers_of n fn) fn.inputs (get_or fn.results j (tree.Input 0))
+  output_bound : (j : ℕ) → j < outputs fn → at no_bound (bounds n fn some_width narrow calm) (output_code (calm_program n r fn) j) ≡ tree_bound (numbers_of n fn) fn.inputs (get_or fn.results j (tree.Input 0))
   output_bound j lt =
-      let r = narrow.lawful.valid.all_results in
-      ap (at no_bound (bounds n fn some_width narrow calm)) (output_place j lt).0 ∙ copy_bound n fn some_width narrow calm j (tree.Input 0) (omega (arith, r, lt))
+      let results = narrow.lawful.valid.all_results in
+      ap (at no_bound (bounds n fn some_width narrow calm)) (output_place j lt).0 ∙ copy_bound n fn some_width narrow calm j (tree.Input 0) (omega (arith, results, lt))
 
   -- its error in units
   error_of : (j : ℕ) → ℕ
   error_of j = (tree_bound (numbers_of n fn) fn.inputs (get_or fn.results j (tree.Input 0))).e
 
-  output_line : (j : ℕ) → j < outputs fn → (at no_line (calm_certificate n fn).lines (output_code (calm_program n fn) j)).error ≡ units (numbers_of n fn).f (error_of j)
+  output_line : (j : ℕ) → j < outputs fn → (at no_line (calm_certificate n fn).lines (output_code (calm_program n r fn) j)).error ≡ units (numbers_of n fn).f (error_of j)
   unfolding error_of
-  output_line j lt = ap (λ (l : NodeLine). l.error) (line_at n fn some_width narrow calm (output_code (calm_program n fn) j) (output_place j lt).1) ∙ ap (λ (b : Bound). units (numbers_of n fn).f b.e) (output_bound j lt)
+  output_line j lt = ap (λ (l : NodeLine). l.error) (line_at n fn some_width narrow calm (output_code (calm_program n r fn) j) (output_place j lt).1) ∙ ap (λ (b : Bound). units (numbers_of n fn).f b.e) (output_bound j lt)
 
   z_is : (numbers_of n fn).z ≡ pos ((numbers_of n fn).a + (numbers_of n fn).p + 5 + u n fn some_width narrow calm) -ℤ pos (numbers_of n fn).f
   z_is = moved ((numbers_of n fn).a + (numbers_of n fn).p + 5) (u n fn some_width narrow calm) (numbers_of n fn).f
@@ -127,17 +128,17 @@ module _ (n : ℕ) (fn : Function) (some_width : Contains widths n) (narrow : Is
   error_within : (j : ℕ) → j < outputs fn → AtMost (times (whole (pos (error_of j))) (unit (pos (numbers_of n fn).f))) (power_value (numbers_of n fn).z)
   error_within j lt = within_power (numbers_of n fn).z (error_of j) ((numbers_of n fn).a + (numbers_of n fn).p + 5 + u n fn some_width narrow calm) (numbers_of n fn).f (error_few j lt) z_is
 
-  demands_met : (j : ℕ) → j < outputs fn → (let ls = (calm_certificate n fn).lines in let o = output_code (calm_program n fn) j in AreMet (demand_claims (at free fn.demands j) (range_at ls o) (error_at ls o)))
+  demands_met : (j : ℕ) → j < outputs fn → (let ls = (calm_certificate n fn).lines in let o = output_code (calm_program n r fn) j in AreMet (demand_claims (at free fn.demands j) (range_at ls o) (error_at ls o)))
   demands_met j lt =
-      let ls = (calm_certificate n fn).lines in let o = output_code (calm_program n fn) j in let c = numbers_of n fn in
+      let ls = (calm_certificate n fn).lines in let o = output_code (calm_program n r fn) j in let c = numbers_of n fn in
       subst (λ (h : Interval). AreMet (demand_claims (at free fn.demands j) (range_at ls o) (span h))) (sym (output_line j lt))
       (demand_met c.f (error_of j) c.z (range_at ls o) (span (units c.f (error_of j))) (at free fn.demands j) (within_z c.z (error_of j) c.f (error_short j lt) (error_within j lt)) (narrow.demands j free lt)
       (all_at (λ (d : function.Demand). allows d c.z) fn.demands j free (demands n fn (width n fn some_width narrow calm) calm) lt))
 
   -- ---- all conditions
-  accepted : (rewrite : Rewrites) → IsAccepted rewrite fn (calm_program n fn) (calm_certificate n fn)
+  accepted : (rewrite : Rewrites) → IsAccepted rewrite fn (calm_program n r fn) (calm_certificate n fn)
   accepted rewrite =
-      let q = calm_program n fn in let ct = calm_certificate n fn in let states = length fn.states in
+      let q = calm_program n r fn in let ct = calm_certificate n fn in let states = length fn.states in
       let nodes = each_node (node_conditions fn n (points_of q.codes) ct) 0 (nodes_of fn) q.codes in
       let starts = each_claims condition.Start OfStart states (start_claims fn q ct) in
       let start_rows = each_claims condition.Start OfRow (length ct.rows) (start_row_claims states (rows_of states ct.rows) (λ s. span (at no_box ct.starts s).range)) in
@@ -145,25 +146,25 @@ module _ (n : ℕ) (fn : Function) (some_width : Contains widths n) (narrow : Is
       let rows = each_claims condition.Row OfRow (length ct.rows) (row_claims fn q ct (rows_of states ct.rows) ct.rows (range_at ct.lines) (λ a. a.rest)) in
       let errors = each_claims condition.ErrorRow OfErrorRow (length ct.error_rows) (row_claims fn q ct (rows_of states ct.error_rows) ct.error_rows (error_at ct.lines) (λ a. a.error_rest)) in
       none_append (record { kind = condition.Counts; part = OfProgram; index = 0; test = counts_agree fn q ct; claims = [] } ∷ []) (conditions_of fn q ct ++ demand_conditions fn q ct)
-      (one_none (record { kind = condition.Counts; part = OfProgram; index = 0; test = counts_agree fn q ct; claims = [] }) (faultless condition.Counts OfProgram 0 (counts_agree fn q ct) [] (counts_met n fn some_width narrow calm) none_met))
+      (one_none (record { kind = condition.Counts; part = OfProgram; index = 0; test = counts_agree fn q ct; claims = [] }) (faultless condition.Counts OfProgram 0 (counts_agree fn q ct) [] (counts_met n fn some_width narrow calm r) none_met))
       (none_append (conditions_of fn q ct) (demand_conditions fn q ct)
-      (none_append (all_shape_conditions fn q) (nodes ++ (starts ++ (start_rows ++ (start_errors ++ (rows ++ errors))))) (shapes_met n fn some_width narrow calm)
-      (none_append nodes (starts ++ (start_rows ++ (start_errors ++ (rows ++ errors)))) (nodes_met n fn some_width narrow calm)
-      (none_append starts (start_rows ++ (start_errors ++ (rows ++ errors))) (claims_none condition.Start OfStart states (start_claims fn q ct) (starts_met n fn some_width narrow calm))
+      (none_append (all_shape_conditions fn q) (nodes ++ (starts ++ (start_rows ++ (start_errors ++ (rows ++ errors))))) (shapes_met n fn some_width narrow calm r)
+      (none_append nodes (starts ++ (start_rows ++ (start_errors ++ (rows ++ errors)))) (nodes_met n fn some_width narrow calm r)
+      (none_append starts (start_rows ++ (start_errors ++ (rows ++ errors))) (claims_none condition.Start OfStart states (start_claims fn q ct) (starts_met n fn some_width narrow calm r))
       (none_append start_rows (start_errors ++ (rows ++ errors)) (claims_none condition.Start OfRow (length ct.rows) _ (start_rows_met n fn some_width narrow calm))
       (none_append start_errors (rows ++ errors) (claims_none condition.Start OfErrorRow (length ct.error_rows) _ (start_error_rows_met n fn some_width narrow calm))
-      (none_append rows errors (claims_none condition.Row OfRow (length ct.rows) _ (rows_met n fn some_width narrow calm))
-      (claims_none condition.ErrorRow OfErrorRow (length ct.error_rows) _ (error_rows_met n fn some_width narrow calm))))))))
+      (none_append rows errors (claims_none condition.Row OfRow (length ct.rows) _ (rows_met n fn some_width narrow calm r))
+      (claims_none condition.ErrorRow OfErrorRow (length ct.error_rows) _ (error_rows_met n fn some_width narrow calm r))))))))
       (indexes_none (outputs fn) (λ j. record { kind = condition.Demand; part = OfOutput; index = j + 1; test = true; claims = demand_claims (at free fn.demands j) (range_at ct.lines (output_code q j)) (error_at ct.lines (output_code q j)) })
       (λ j lt. faultless condition.Demand OfOutput (j + 1) true (demand_claims (at free fn.demands j) (range_at ct.lines (output_code q j)) (error_at ct.lines (output_code q j))) refl (demands_met j lt))))
 
-  bounds_within : (j : ℕ) → j < outputs fn → AtMost (certified_bound (calm_program n fn) (calm_certificate n fn) j) (power_value (numbers_of n fn).z)
+  bounds_within : (j : ℕ) → j < outputs fn → AtMost (certified_bound (calm_program n r fn) (calm_certificate n fn) j) (power_value (numbers_of n fn).z)
   bounds_within j lt =
       subst (λ (h : Interval). AtMost (dyadic_value (if is_dyadic_at_most (negated h.lo) h.hi then h.hi else negated h.lo)) (power_value (numbers_of n fn).z)) (sym (output_line j lt))
       (greater_end (power_value (numbers_of n fn).z) (error_of j) (numbers_of n fn).f (error_within j lt))
 
-  pub plan : IsCalmPlan n fn
-  plan = record { accepted = accepted; program = program_lawful n fn some_width narrow calm; certificate = certificate_lawful n fn some_width narrow calm; bounds = bounds_within }
+  pub plan : IsCalmPlan n r fn
+  plan = record { accepted = accepted; program = program_lawful n fn some_width narrow calm r; certificate = certificate_lawful n fn some_width narrow calm; rounded = program_rounds n r fn (space n fn some_width narrow calm).some; bounds = bounds_within }
 
 pub plan_is : CalmLaw
-plan_is n fn some_width narrow calm = plan n fn some_width narrow calm
+plan_is n r fn some_width narrow calm = plan n r fn some_width narrow calm

@@ -1,19 +1,21 @@
 -- Whole numbers of units 2^-f as written dyadics: their mantissas at an exponent, what lies inside, and what a text can spell.
-use Rattle.std.proofs.Common.{◌≡◌, ℕ, zero, suc, ◌-◌, ◌*◌, ◌^◌, ◌<◌, ◌≤◌, Bool, true, false, if◌then◌else◌, ℤ, pos, negsuc, ◌*ℤ◌, neg_ℤ, ◌≤ℤ◌, refl, sym, ap, subst, ◌∙◌, arith, pow-add, pow_pos}
+use Rattle.std.proofs.Common.{◌≡◌, ℕ, zero, suc, ◌+◌, ◌-◌, ◌*◌, ◌^◌, ◌<◌, ◌≤◌, Bool, true, false, if◌then◌else◌, ℤ, pos, negsuc, ◌*ℤ◌, neg_ℤ, ◌≤ℤ◌, refl, sym, ap, subst, ◌∙◌, arith, pow-add, pow_pos}
 use Rattle.std.specs.Prelude.{unsigned_abs}
 use Rattle.std.proofs.Math.Nat.{le-mul_of_pos_right}
 use Rattle.std.proofs.lemmas.Int.{ints}
 use Rattle.fx_algebra.proofs.Integers.{neg_ℤ-*ℤ, *ℤ_assoc}
+use Rattle.fx_model.specs.Machine.{Round, Floor, Nearest}
 use Rattle.fx_rational.specs.Rational.{floor_div}
 use Rattle.fx_rational.specs.Dyadic.{Dyadic, aligned, IsWritten}
 use Rattle.fx_rational.specs.Interval.{IsWrittenInterval}
 use Rattle.fx_rational.proofs.Lowest.{size-neg_ℤ}
 use Rattle.fx_inequalities.specs.Formula.{Num, formed, Span, span, unit_at, loss_at}
 use Rattle.fx_inequalities.specs.Claim.{inside}
+use Rattle.fx_inequalities.specs.OperationSpans.{rounding_loss}
 use Rattle.fx_rounding.specs.Grid.{is_even, lowest_dyadic}
 use Rattle.fx_rounding.proofs.Grids.{half_of, lowest_dyadic_is}
 use Rattle.fx_sizes.proofs.Claims.{AreMet, inside_met, le_formed, number_formed}
-use Rattle.fx_sizes.proofs.Powers.{power_small}
+use Rattle.fx_sizes.proofs.Powers.{power_small, power_more}
 use Rattle.fx_sizes.proofs.Sizes.{IsUpTo, IsSmall, IsSmallSpan, small_number, within_pos, aligned_up, small_zero, zero_interval_small}
 use Rattle.fx_calm_plan.specs.CalmPlan.{units}
 
@@ -90,6 +92,15 @@ small_loss f E (suc s) up few = record {
   lo = small_number (record { m = negsuc 0; e = f }) E (2 ^ (E - f)) up (record { low = omega (arith, ints); high = omega (arith, ints) }) (power_small (omega (arith, few)));
   hi = small_zero E (2 ^ (E - f)) (power_small (omega (arith, few)));
 }
+
+-- half a unit to either side lies within a unit
+pub small_rounding : (r : Round) (f E s : ℕ) → f < E → E ≤ 126 → IsSmallSpan E (2 ^ (E - f)) (rounding_loss r (pos f) (pos s))
+small_rounding Floor f E s up few = small_loss f E s (omega (arith, up)) few
+small_rounding Nearest f E s up few =
+    let half = power_more {a = E - (f + 1)} {b = E - f} (omega arith) in let whole = power_small {k = E - f} (omega (arith, few)) in record {
+      lo = small_number (record { m = negsuc 0; e = f + 1 }) E (2 ^ (E - f)) (omega (arith, up)) (record { low = omega (arith, ints, half); high = omega (arith, ints) }) whole;
+      hi = small_number (record { m = pos 1; e = f + 1 }) E (2 ^ (E - f)) (omega (arith, up)) (record { low = omega (arith, ints); high = omega (arith, ints, half) }) whole;
+    }
 
 -- ---- a text can spell them
 mantissa_few : (d : Dyadic) (e r : ℕ) → d.e ≤ e → unsigned_abs (aligned d e) ≡ r → unsigned_abs d.m ≤ r

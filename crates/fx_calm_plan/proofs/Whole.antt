@@ -12,7 +12,7 @@ use Rattle.fx_rational.proofs.Powers.{power_above}
 use Rattle.fx_model.specs.Tree as tree
 use Rattle.fx_model.specs.Tree.{Tree, at}
 use Rattle.fx_model.specs.Function.{Function, outputs}
-use Rattle.fx_model.specs.Machine.{Code, Program, points_of, start_words}
+use Rattle.fx_model.specs.Machine.{Round, Code, Program, points_of, start_words}
 use Rattle.fx_model.specs.LawfulProgram.{widths}
 use Rattle.fx_model.specs.Nodes.{Node, inputs_from, states_from, nodes_of}
 use Rattle.fx_model.proofs.Exact.{nodes_go}
@@ -102,14 +102,8 @@ module _ (n : ℕ) (fn : Function) (some_width : Contains widths n) (narrow : Is
   abbrev pub k : ℕ
   k = length fn.states
 
-  abbrev pub p : Program
-  p = calm_program n fn
-
   abbrev pub cert : Certificate
   cert = calm_certificate n fn
-
-  abbrev pub codes : List Code
-  codes = map (calm_code fn c.f) (nodes_of fn)
 
   abbrev pub bounds : List Bound
   bounds = bs n fn some_width narrow calm
@@ -123,48 +117,19 @@ module _ (n : ℕ) (fn : Function) (some_width : Contains widths n) (narrow : Is
   pub long : length (nodes_of fn) ≡ length bounds
   long = pairs_length (IsNodeBound k c fn.inputs bounds) 0 (nodes_of fn) bounds pairs
 
-  pub pointed : IsPointed c.f (length (nodes_of fn)) (points_of codes)
-  pointed = all_points fn i k c.f (nodes_of fn) list.ordered (whole_nodes n fn some_width narrow calm)
+  pub counted : length (nodes_of fn) ≡ length list.before + (outputs fn + k)
+  counted = ap length list.is ∙ length-append list.before list.copies ∙ ap (λ (m : ℕ). length list.before + m) list.count
 
   few : {r : ℕ} → r ≤ 2 ^ (c.m + c.f) → r < 2 ^ 126
   few l = let m = limit_few n c (space n fn some_width narrow calm) in omega (arith, l, m)
 
-  -- ---- nodes
+  -- ---- the certificate
   has : HasBounds fn c bounds cert
   has = record {
     lines = refl;
     rows = λ j lt. ap (λ r. r.bound) (unit_row_at k 0 k j (units c.f (state_bound c).r) lt);
     error_rows = λ j lt. ap (λ r. r.bound) (unit_row_at k 0 k j (units c.f (state_bound c).e) lt);
   }
-
-  point_at : (a : ℕ) → a < length bounds → at (pos 0) (points_of codes) a ≡ pos c.f
-  point_at a lt = let l = long in let q = pointed.long in pointed.points a (omega (arith, lt, l, q))
-
-  pub nodes_met : first_fault_of (each_node (node_conditions fn n (points_of codes) cert) 0 (nodes_of fn) codes) ≡ None
-  nodes_met = nodes_none (IsNodeBound k c fn.inputs bounds) (node_conditions fn n (points_of codes) cert) (calm_code fn c.f)
-      (λ j node x h w q. node_faults n fn c bounds cert (points_of codes) j node x (space n fn some_width narrow calm) has (limited n fn some_width narrow calm) narrow.inputs (roomy n fn some_width narrow calm) (point_at j h.below) h w q)
-      0 (nodes_of fn) bounds pairs narrow.literals (whole_nodes n fn some_width narrow calm)
-
-  pub counted : length (nodes_of fn) ≡ length list.before + (outputs fn + k)
-  counted = ap length list.is ∙ length-append list.before list.copies ∙ ap (λ (m : ℕ). length list.before + m) list.count
-
-  pub shapes_met : first_fault_of (all_shape_conditions fn p) ≡ None
-  shapes_met =
-      let next = length (nodes_of fn) - k in
-      let same = same_count (length (nodes_of fn)) (length codes) (sym (length-map (nodes_of fn) (calm_code fn c.f))) in
-      let cnt = counted in let enough = list.enough in
-      none_append (each_node (shape_conditions i next (points_of codes)) 0 (nodes_of fn) codes)
-      (record { kind = condition.Shape; part = OfNode; index = min (length (nodes_of fn)) (length codes); test = length (nodes_of fn) == length codes; claims = [] } ∷ [])
-      (nodes_none (IsNodeBound k c fn.inputs bounds) (shape_conditions i next (points_of codes)) (calm_code fn c.f)
-      (λ j node x h w q. (let below = h.below in shape_faults fn i k next c.f j (points_of codes) node h.ordered (λ a le. point_at a (omega (arith, le, below))) (λ le. omega (arith, le, cnt, enough))))
-      0 (nodes_of fn) bounds pairs narrow.literals (whole_nodes n fn some_width narrow calm))
-      (one_none (record { kind = condition.Shape; part = OfNode; index = min (length (nodes_of fn)) (length codes); test = length (nodes_of fn) == length codes; claims = [] }) (faultless condition.Shape OfNode (min (length (nodes_of fn)) (length codes)) (length (nodes_of fn) == length codes) [] same none_met))
-
-  pub counts_met : counts_agree fn p cert ≡ true
-  counts_met =
-      let lines = same_count (length cert.lines) (length codes) (let l = length-map bounds (calm_line c.f) in let m = length-map (nodes_of fn) (calm_code fn c.f) in let s = long in omega (arith, l, m, s)) in
-      let a = same_name fn.name in let b = same_count i i refl in let d = same_count k k refl in let e = same_count (outputs fn) (outputs fn) refl in
-      rw (a, b, d, e, lines) refl
 
   -- ---- starts
   start_box : (j : ℕ) → j < k → at no_box cert.starts j ≡ calm_start c.f (at no_state fn.states j)
@@ -179,37 +144,6 @@ module _ (n : ℕ) (fn : Function) (some_width : Contains widths n) (narrow : Is
 
   narrow_start : (j : ℕ) → j < k → IsNarrowNumber (start_of fn j)
   narrow_start j lt = narrow.states j no_state lt
-
-  word_is : (j : ℕ) → j < k → at (pos 0) (start_words codes) j ≡ start_word fn c.f j
-  word_is j lt =
-      let g = nodes_go i fn.temps fn.results [] [] (inputs_from 0 i ++ states_from 0 k) in
-      start_word_at fn c.f i k j (nodes_of fn) g.more g.is lt
-
-  start_point : (j : ℕ) → j < k → at (pos 0) (points_of codes) (i + j) ≡ pos c.f
-  start_point j lt = point_at (i + j) (let l = long in let cnt = counted in let e = list.enough in omega (arith, l, cnt, e, lt))
-
-  pub starts_met : (j : ℕ) → j < k → AreMet (start_claims fn p cert j)
-  starts_met j lt =
-      let x = start_of fn j in let r = units_up c.f (magnitude x) in
-      let sp = space n fn some_width narrow calm in
-      let above = units_above c.f (magnitude x) (magnitude_nonneg x) in let l = start_limited j lt in let fw = few l in let fl = limit_few n c sp in
-      let word = small_word_at (start_word fn c.f j) c.f r (omega (arith, fw)) (word_up_to x r c.f above) in
-      let one = small_units c.f 1 (omega arith) in
-      let nx = narrow_start j lt in
-      let box : AreMet (BelowFraction (span (units c.f r)).lo x ∷ AboveFraction x (span (units c.f r)).hi ∷ []) = ends_met n c sp r x x l nx nx above above in
-      let error : AreMet (BelowFraction (Difference (word_at (start_word fn c.f j) (pos c.f)) (span (units c.f 1)).hi) x ∷ AboveFraction x (Difference (word_at (start_word fn c.f j) (pos c.f)) (span (units c.f 1)).lo) ∷ []) =
-      below_above_met (Difference (word_at (start_word fn c.f j) (pos c.f)) (span (units c.f 1)).hi) (Difference (word_at (start_word fn c.f j) (pos c.f)) (span (units c.f 1)).lo) x x
-      (over_fits x (omega (arith, l, fl)) (small_difference (omega (arith, fw)) word one.hi) nx) (over_fits x (omega (arith, l, fl)) (small_difference (omega (arith, fw)) word one.lo) nx) (word_low x c.f) (word_high x c.f) in
-      let four = four_met _ _ _ _ box error in
-      let word_same = word_is j lt in let point_same = start_point j lt in let box_same = start_box j lt in
-      subst (λ (b : StartBox). AreMet (claims_at b (at (pos 0) (start_words codes) j) (at (pos 0) (points_of codes) (i + j)) x)) (sym box_same)
-      (subst (λ (w : ℤ). AreMet (claims_at (calm_start c.f (at no_state fn.states j)) w (at (pos 0) (points_of codes) (i + j)) x)) (sym word_same)
-      (subst (λ (f : ℤ). AreMet (claims_at (calm_start c.f (at no_state fn.states j)) (start_word fn c.f j) f x)) (sym point_same) four))
-    where
-      -- the definition's four, at a box, a word and a point
-      claims_at : StartBox → ℤ → ℤ → Rational → List Claim
-      claims_at box w f x =
-          BelowFraction (span box.range).lo x ∷ AboveFraction x (span box.range).hi ∷ BelowFraction (Difference (word_at w f) (span box.error).hi) x ∷ AboveFraction x (Difference (word_at w f) (span box.error).lo) ∷ []
 
   box_few : (state_bound c).r < 2 ^ 126
   box_few = let s = (spare n fn some_width narrow calm).states in few (power_more {a = c.q + 2 + c.f} {b = c.m + c.f} (omega (arith, s)))
@@ -252,50 +186,121 @@ module _ (n : ℕ) (fn : Function) (some_width : Contains widths n) (narrow : Is
       (λ s ls. subst (λ (b : StartBox). IsSmallSpan c.f 1 (span b.error)) (sym (start_box s ls)) (small_units c.f 1 (omega arith)))
       (power_more {a = 0} {b = error_box c} (omega arith))
 
-  -- ---- rows
+  -- ---- lines
   -- the bound of a node, or none
   limited_any : (a : ℕ) → IsLimited c (at no_bound bounds a)
   limited_any a = ⊎_elim (λ (lt : a < length bounds). limited n fn some_width narrow calm a lt) (λ (past : length bounds ≤ a). subst (IsLimited c) (sym (get_or_past bounds a no_bound past)) (record { r = omega arith; e = omega arith })) (cases_lt a (length bounds))
 
-  -- the copy of next state j
-  next_place : (j : ℕ) → j < k → (next_code p j ≡ length (front n fn some_width narrow calm) + (outputs fn + j)) × (next_code p j < length bounds)
-  next_place j lt =
-      let m = length-map (nodes_of fn) (calm_code fn c.f) in let l = long in let b = bounds_long n fn some_width narrow calm in let r = narrow.lawful.valid.all_results in
-      (omega (arith, m, l, b, r, lt), omega (arith, m, l, b, r, lt))
-
-  next_bound : (j : ℕ) → j < k → at no_bound bounds (next_code p j) ≡ tree_bound c fn.inputs (get_or fn.results (outputs fn + j) (tree.Input 0))
-  next_bound j lt =
-      let r = narrow.lawful.valid.all_results in
-      ap (at no_bound bounds) (next_place j lt).0 ∙ copy_bound n fn some_width narrow calm (outputs fn + j) (tree.Input 0) (omega (arith, r, lt))
+  input_below : (j : ℕ) → j < i → j < length bounds
+  input_below j lt = let f = front_long n fn some_width narrow calm in let b = bounds_long n fn some_width narrow calm in omega (arith, f, b, lt)
 
   pub line_at : (a : ℕ) → a < length bounds → at no_line cert.lines a ≡ calm_line c.f (at no_bound bounds a)
   line_at a lt = get_or-map (calm_line c.f) bounds a no_bound no_line lt
 
-  next_form : (j : ℕ) → j < k → affine_at (variables fn) cert.lines (next_code p j) ≡ of_line (calm_line c.f (at no_bound bounds (next_code p j))) None
-  next_form j lt =
-      let q = next_place j lt in let f = front_long n fn some_width narrow calm in let e = q.0 in
-      plain_form (variables fn) (next_code p j) c.f cert.lines (at no_bound bounds (next_code p j)) (omega (arith, e, f)) (line_at (next_code p j) q.1)
+  -- ---- with the program, however it rounds
+  module _ (r : Round) where
+    abbrev pub p : Program
+    p = calm_program n r fn
 
-  no_coefs : (j s : ℕ) → s < k → IsSmall 0 0 ((affine_at (variables fn) cert.lines (next_code p s)).coef j)
-  no_coefs j s lt = subst (λ (a : Affine). IsSmall 0 0 (a.coef j)) (sym (next_form s lt)) (small_zero 0 0 (omega arith))
+    abbrev pub codes : List Code
+    codes = map (calm_code r fn c.f) (nodes_of fn)
 
-  input_below : (j : ℕ) → j < i → j < length bounds
-  input_below j lt = let f = front_long n fn some_width narrow calm in let b = bounds_long n fn some_width narrow calm in omega (arith, f, b, lt)
+    pub pointed : IsPointed c.f (length (nodes_of fn)) (points_of codes)
+    pointed = all_points r fn i k c.f (nodes_of fn) list.ordered (whole_nodes n fn some_width narrow calm)
 
-  pub rows_met : (j : ℕ) → j < length cert.rows → AreMet (row_claims fn p cert (rows_of k cert.rows) cert.rows (range_at cert.lines) (λ a. a.rest) j)
-  rows_met j lt =
-      let l = row_below j no_bound lt in
-      row_met c.f k (state_bound c).r box_few i j (λ s. affine_at (variables fn) cert.lines (next_code p s)) (λ a. a.rest) (range_at cert.lines) (λ s. (at no_bound bounds (next_code p s)).r) (λ s. (at no_bound bounds s).r) l (λ s. few (limited_any (next_code p s)).r)
-      (λ s ls. subst (λ (a : Affine). IsSmallSpan c.f (at no_bound bounds (next_code p s)).r a.rest) (sym (next_form s ls)) (small_units c.f _ (let f = few (limited_any (next_code p s)).r in omega (arith, f))))
-      no_coefs
-      (λ s ls. subst (λ (m : NodeLine). IsSmallSpan c.f (at no_bound bounds s).r (span m.range)) (sym (line_at s (input_below s ls))) (small_units c.f _ (let f = few (limited_any s).r in omega (arith, f))))
-      (subst (λ (b : Bound). b.r ≤ 2 ^ (c.q + 2 + c.f)) (sym (next_bound j l)) (next_range n fn some_width narrow calm j (tree.Input 0) l))
+    point_at : (a : ℕ) → a < length bounds → at (pos 0) (points_of codes) a ≡ pos c.f
+    point_at a lt = let l = long in let q = pointed.long in pointed.points a (omega (arith, lt, l, q))
 
-  pub error_rows_met : (j : ℕ) → j < length cert.error_rows → AreMet (row_claims fn p cert (rows_of k cert.error_rows) cert.error_rows (error_at cert.lines) (λ a. a.error_rest) j)
-  error_rows_met j lt =
-      let l = error_row_below j lt in let b = box_is c (u n fn some_width narrow calm) (spare n fn some_width narrow calm) in
-      row_met c.f k (state_bound c).e error_box_few i j (λ s. affine_at (variables fn) cert.lines (next_code p s)) (λ a. a.error_rest) (error_at cert.lines) (λ s. (at no_bound bounds (next_code p s)).e) (λ s. (at no_bound bounds s).e) l (λ s. few (limited_any (next_code p s)).e)
-      (λ s ls. subst (λ (a : Affine). IsSmallSpan c.f (at no_bound bounds (next_code p s)).e a.error_rest) (sym (next_form s ls)) (small_units c.f _ (let f = few (limited_any (next_code p s)).e in omega (arith, f))))
-      no_coefs
-      (λ s ls. subst (λ (m : NodeLine). IsSmallSpan c.f (at no_bound bounds s).e (span m.error)) (sym (line_at s (input_below s ls))) (small_units c.f _ (let f = few (limited_any s).e in omega (arith, f))))
-      (subst (λ (b : Bound). b.e ≤ 2 ^ error_box c) (sym (next_bound j l)) (subst (λ (m : ℕ). (tree_bound c fn.inputs (get_or fn.results (outputs fn + j) (tree.Input 0))).e ≤ 2 ^ m) (sym b) (next_error n fn some_width narrow calm j (tree.Input 0) l)))
+    -- ---- nodes
+    pub nodes_met : first_fault_of (each_node (node_conditions fn n (points_of codes) cert) 0 (nodes_of fn) codes) ≡ None
+    nodes_met = nodes_none (IsNodeBound k c fn.inputs bounds) (node_conditions fn n (points_of codes) cert) (calm_code r fn c.f)
+        (λ j node x h w q. node_faults n r fn c bounds cert (points_of codes) j node x (space n fn some_width narrow calm) has (limited n fn some_width narrow calm) narrow.inputs (roomy n fn some_width narrow calm) (point_at j h.below) h w q)
+        0 (nodes_of fn) bounds pairs narrow.literals (whole_nodes n fn some_width narrow calm)
+
+    pub shapes_met : first_fault_of (all_shape_conditions fn p) ≡ None
+    shapes_met =
+        let next = length (nodes_of fn) - k in
+        let same = same_count (length (nodes_of fn)) (length codes) (sym (length-map (nodes_of fn) (calm_code r fn c.f))) in
+        let cnt = counted in let enough = list.enough in
+        none_append (each_node (shape_conditions i next (points_of codes)) 0 (nodes_of fn) codes)
+        (record { kind = condition.Shape; part = OfNode; index = min (length (nodes_of fn)) (length codes); test = length (nodes_of fn) == length codes; claims = [] } ∷ [])
+        (nodes_none (IsNodeBound k c fn.inputs bounds) (shape_conditions i next (points_of codes)) (calm_code r fn c.f)
+        (λ j node x h w q. (let below = h.below in shape_faults r fn i k next c.f j (points_of codes) node h.ordered (λ a le. point_at a (omega (arith, le, below))) (λ le. omega (arith, le, cnt, enough))))
+        0 (nodes_of fn) bounds pairs narrow.literals (whole_nodes n fn some_width narrow calm))
+        (one_none (record { kind = condition.Shape; part = OfNode; index = min (length (nodes_of fn)) (length codes); test = length (nodes_of fn) == length codes; claims = [] }) (faultless condition.Shape OfNode (min (length (nodes_of fn)) (length codes)) (length (nodes_of fn) == length codes) [] same none_met))
+
+    pub counts_met : counts_agree fn p cert ≡ true
+    counts_met =
+        let lines = same_count (length cert.lines) (length codes) (let l = length-map bounds (calm_line c.f) in let m = length-map (nodes_of fn) (calm_code r fn c.f) in let s = long in omega (arith, l, m, s)) in
+        let a = same_name fn.name in let b = same_count i i refl in let d = same_count k k refl in let e = same_count (outputs fn) (outputs fn) refl in
+        rw (a, b, d, e, lines) refl
+
+    -- ---- starts
+    word_is : (j : ℕ) → j < k → at (pos 0) (start_words codes) j ≡ start_word fn c.f j
+    word_is j lt =
+        let g = nodes_go i fn.temps fn.results [] [] (inputs_from 0 i ++ states_from 0 k) in
+        start_word_at r fn c.f i k j (nodes_of fn) g.more g.is lt
+
+    start_point : (j : ℕ) → j < k → at (pos 0) (points_of codes) (i + j) ≡ pos c.f
+    start_point j lt = point_at (i + j) (let l = long in let cnt = counted in let e = list.enough in omega (arith, l, cnt, e, lt))
+
+    pub starts_met : (j : ℕ) → j < k → AreMet (start_claims fn p cert j)
+    starts_met j lt =
+        let x = start_of fn j in let size = units_up c.f (magnitude x) in
+        let sp = space n fn some_width narrow calm in
+        let above = units_above c.f (magnitude x) (magnitude_nonneg x) in let l = start_limited j lt in let fw = few l in let fl = limit_few n c sp in
+        let word = small_word_at (start_word fn c.f j) c.f size (omega (arith, fw)) (word_up_to x size c.f above) in
+        let one = small_units c.f 1 (omega arith) in
+        let nx = narrow_start j lt in
+        let box : AreMet (BelowFraction (span (units c.f size)).lo x ∷ AboveFraction x (span (units c.f size)).hi ∷ []) = ends_met n c sp size x x l nx nx above above in
+        let error : AreMet (BelowFraction (Difference (word_at (start_word fn c.f j) (pos c.f)) (span (units c.f 1)).hi) x ∷ AboveFraction x (Difference (word_at (start_word fn c.f j) (pos c.f)) (span (units c.f 1)).lo) ∷ []) =
+        below_above_met (Difference (word_at (start_word fn c.f j) (pos c.f)) (span (units c.f 1)).hi) (Difference (word_at (start_word fn c.f j) (pos c.f)) (span (units c.f 1)).lo) x x
+        (over_fits x (omega (arith, l, fl)) (small_difference (omega (arith, fw)) word one.hi) nx) (over_fits x (omega (arith, l, fl)) (small_difference (omega (arith, fw)) word one.lo) nx) (word_low x c.f) (word_high x c.f) in
+        let four = four_met _ _ _ _ box error in
+        let word_same = word_is j lt in let point_same = start_point j lt in let box_same = start_box j lt in
+        subst (λ (b : StartBox). AreMet (claims_at b (at (pos 0) (start_words codes) j) (at (pos 0) (points_of codes) (i + j)) x)) (sym box_same)
+        (subst (λ (w : ℤ). AreMet (claims_at (calm_start c.f (at no_state fn.states j)) w (at (pos 0) (points_of codes) (i + j)) x)) (sym word_same)
+        (subst (λ (f : ℤ). AreMet (claims_at (calm_start c.f (at no_state fn.states j)) (start_word fn c.f j) f x)) (sym point_same) four))
+      where
+        -- the definition's four, at a box, a word and a point
+        claims_at : StartBox → ℤ → ℤ → Rational → List Claim
+        claims_at box w f x =
+            BelowFraction (span box.range).lo x ∷ AboveFraction x (span box.range).hi ∷ BelowFraction (Difference (word_at w f) (span box.error).hi) x ∷ AboveFraction x (Difference (word_at w f) (span box.error).lo) ∷ []
+
+    -- ---- rows
+    -- the copy of next state j
+    next_place : (j : ℕ) → j < k → (next_code p j ≡ length (front n fn some_width narrow calm) + (outputs fn + j)) × (next_code p j < length bounds)
+    next_place j lt =
+        let m = length-map (nodes_of fn) (calm_code r fn c.f) in let l = long in let b = bounds_long n fn some_width narrow calm in let results = narrow.lawful.valid.all_results in
+        (omega (arith, m, l, b, results, lt), omega (arith, m, l, b, results, lt))
+
+    next_bound : (j : ℕ) → j < k → at no_bound bounds (next_code p j) ≡ tree_bound c fn.inputs (get_or fn.results (outputs fn + j) (tree.Input 0))
+    next_bound j lt =
+        let results = narrow.lawful.valid.all_results in
+        ap (at no_bound bounds) (next_place j lt).0 ∙ copy_bound n fn some_width narrow calm (outputs fn + j) (tree.Input 0) (omega (arith, results, lt))
+
+    next_form : (j : ℕ) → j < k → affine_at (variables fn) cert.lines (next_code p j) ≡ of_line (calm_line c.f (at no_bound bounds (next_code p j))) None
+    next_form j lt =
+        let q = next_place j lt in let f = front_long n fn some_width narrow calm in let e = q.0 in
+        plain_form (variables fn) (next_code p j) c.f cert.lines (at no_bound bounds (next_code p j)) (omega (arith, e, f)) (line_at (next_code p j) q.1)
+
+    no_coefs : (j s : ℕ) → s < k → IsSmall 0 0 ((affine_at (variables fn) cert.lines (next_code p s)).coef j)
+    no_coefs j s lt = subst (λ (a : Affine). IsSmall 0 0 (a.coef j)) (sym (next_form s lt)) (small_zero 0 0 (omega arith))
+
+    pub rows_met : (j : ℕ) → j < length cert.rows → AreMet (row_claims fn p cert (rows_of k cert.rows) cert.rows (range_at cert.lines) (λ a. a.rest) j)
+    rows_met j lt =
+        let l = row_below j no_bound lt in
+        row_met c.f k (state_bound c).r box_few i j (λ s. affine_at (variables fn) cert.lines (next_code p s)) (λ a. a.rest) (range_at cert.lines) (λ s. (at no_bound bounds (next_code p s)).r) (λ s. (at no_bound bounds s).r) l (λ s. few (limited_any (next_code p s)).r)
+        (λ s ls. subst (λ (a : Affine). IsSmallSpan c.f (at no_bound bounds (next_code p s)).r a.rest) (sym (next_form s ls)) (small_units c.f _ (let f = few (limited_any (next_code p s)).r in omega (arith, f))))
+        no_coefs
+        (λ s ls. subst (λ (m : NodeLine). IsSmallSpan c.f (at no_bound bounds s).r (span m.range)) (sym (line_at s (input_below s ls))) (small_units c.f _ (let f = few (limited_any s).r in omega (arith, f))))
+        (subst (λ (b : Bound). b.r ≤ 2 ^ (c.q + 2 + c.f)) (sym (next_bound j l)) (next_range n fn some_width narrow calm j (tree.Input 0) l))
+
+    pub error_rows_met : (j : ℕ) → j < length cert.error_rows → AreMet (row_claims fn p cert (rows_of k cert.error_rows) cert.error_rows (error_at cert.lines) (λ a. a.error_rest) j)
+    error_rows_met j lt =
+        let l = error_row_below j lt in let b = box_is c (u n fn some_width narrow calm) (spare n fn some_width narrow calm) in
+        row_met c.f k (state_bound c).e error_box_few i j (λ s. affine_at (variables fn) cert.lines (next_code p s)) (λ a. a.error_rest) (error_at cert.lines) (λ s. (at no_bound bounds (next_code p s)).e) (λ s. (at no_bound bounds s).e) l (λ s. few (limited_any (next_code p s)).e)
+        (λ s ls. subst (λ (a : Affine). IsSmallSpan c.f (at no_bound bounds (next_code p s)).e a.error_rest) (sym (next_form s ls)) (small_units c.f _ (let f = few (limited_any (next_code p s)).e in omega (arith, f))))
+        no_coefs
+        (λ s ls. subst (λ (m : NodeLine). IsSmallSpan c.f (at no_bound bounds s).e (span m.error)) (sym (line_at s (input_below s ls))) (small_units c.f _ (let f = few (limited_any s).e in omega (arith, f))))
+        (subst (λ (b : Bound). b.e ≤ 2 ^ error_box c) (sym (next_bound j l)) (subst (λ (m : ℕ). (tree_bound c fn.inputs (get_or fn.results (outputs fn + j) (tree.Input 0))).e ≤ 2 ^ m) (sym b) (next_error n fn some_width narrow calm j (tree.Input 0) l)))

@@ -6,7 +6,8 @@ use Rattle.fx_model.specs.Tree.{at}
 use Rattle.fx_model.specs.Function as function
 use Rattle.fx_model.specs.Function.{Function, outputs}
 use Rattle.fx_model.specs.Machine as machine
-use Rattle.fx_model.specs.Machine.{Code, Program}
+use Rattle.fx_model.specs.LawfulProgram.{first_version}
+use Rattle.fx_model.specs.Machine.{Round, Code, Program}
 use Rattle.fx_model.specs.Nodes.{Node, Input, State, Const, Neg, Add, Sub, Mul, Div, Copy, nodes_of}
 use Rattle.fx_inequalities.specs.NodeConditions.{no_input}
 use Rattle.fx_inequalities.specs.Accepted.{start_of}
@@ -40,21 +41,21 @@ abbrev pub bounds_of : Numbers → Function → List Bound
 bounds_of c fn = bounds_after c fn.inputs (nodes_of fn) []
 
 -- ---- the program
--- all points are f, so that products alone are shifted. Quotients have no code
-abbrev pub calm_code : Function → ℕ → Node → Code
-calm_code fn f (Input k) = machine.Input k (pos f)
-calm_code fn f (State k) = machine.State k (pos f) (floor (scaled (start_of fn k) (pos f)))
-calm_code fn f (Const x) = machine.Const (floor (scaled x (pos f))) (pos f)
-calm_code fn f (Neg a) = machine.Neg a
-calm_code fn f (Add a b) = machine.Add a b (pos 0) (pos 0)
-calm_code fn f (Sub a b) = machine.Sub a b (pos 0) (pos 0)
-calm_code fn f (Mul a b) = machine.Mul machine.Floor a b f
-calm_code fn f (Div a b) = machine.Div a b 0
-calm_code fn f (Copy a) = machine.Copy machine.Floor a (pos 0)
+-- all points are f, so that products alone are shifted, and rounded as is wanted. Quotients have no code
+abbrev pub calm_code : Round → Function → ℕ → Node → Code
+calm_code r fn f (Input k) = machine.Input k (pos f)
+calm_code r fn f (State k) = machine.State k (pos f) (floor (scaled (start_of fn k) (pos f)))
+calm_code r fn f (Const x) = machine.Const (floor (scaled x (pos f))) (pos f)
+calm_code r fn f (Neg a) = machine.Neg a
+calm_code r fn f (Add a b) = machine.Add a b (pos 0) (pos 0)
+calm_code r fn f (Sub a b) = machine.Sub a b (pos 0) (pos 0)
+calm_code r fn f (Mul a b) = machine.Mul r a b f
+calm_code r fn f (Div a b) = machine.Div a b 0
+calm_code r fn f (Copy a) = machine.Copy machine.Floor a (pos 0)
 
-abbrev pub calm_program : ℕ → Function → Program
-calm_program n fn = let c = numbers_of n fn in
-    record { version = 1; width = n; name = fn.name; inputs = length fn.inputs; states = length fn.states; outputs = outputs fn; codes = map (calm_code fn c.f) (nodes_of fn) }
+abbrev pub calm_program : ℕ → Round → Function → Program
+calm_program n r fn = let c = numbers_of n fn in
+    record { version = first_version r; width = n; name = fn.name; inputs = length fn.inputs; states = length fn.states; outputs = outputs fn; codes = map (calm_code r fn c.f) (nodes_of fn) }
 
 -- ---- the certificate
 -- from -r to r units, each end in its one spelling
@@ -73,7 +74,7 @@ abbrev pub unit_rows : ℕ → Interval → ℕ → ℕ → List Row
 unit_rows states bound i zero = []
 unit_rows states bound i (suc k) = record { coefs = unit_vector states i; bound = bound; shares = [] } ∷ unit_rows states bound (i + 1) k
 
--- without steps, forms and shares
+-- without steps, forms and shares, and the same however the program rounds: what is lost to the nearest lies within the unit down
 abbrev pub calm_certificate : ℕ → Function → Certificate
 calm_certificate n fn = let c = numbers_of n fn in let b = state_bound c in let k = length fn.states in record {
   inputs = length fn.inputs;

@@ -2,6 +2,7 @@ use Rattle.std.proofs.Common.{◌∙◌, List, ap, sym, subst}
 use Rattle.std.specs.Prelude.{All}
 use Rattle.fx_model.specs.Nodes.{Node, nodes_of}
 use Rattle.fx_flat.specs.NodeOf.{nodes_in}
+use Rattle.fx_program.specs.CodeView.{round_of}
 use Rattle.fx_calm_numbers.specs.Calm.{Numbers}
 use Rattle.fx_calm_plan.specs.CalmPlan.{bounds_of}
 use Rattle.fx_calm_plan.proofs.Planned.{plan_is}
@@ -16,6 +17,9 @@ pub bounds-requires-clause-short : goal.bounds-requires-clause-short
 bounds-requires-clause-short c =
     subst (λ (n : Numbers). All IsShort (bounds_of n c.args.function.now)) (sym c.requires.numbers) (short c.args.width c.args.function.now c.requires.width c.narrow_function.ensures c.requires.calm)
 
+pub codes-requires-clause-some : goal.codes-requires-clause-some
+codes-requires-clause-some c = (subst HasPlace (sym c.requires.numbers) (place c.args.width c.args.function.now c.requires.width c.narrow_function.ensures c.requires.calm)).some
+
 pub codes-requires-clause-point : goal.codes-requires-clause-point
 codes-requires-clause-point c = (subst HasPlace (sym c.requires.numbers) (place c.args.width c.args.function.now c.requires.width c.narrow_function.ensures c.requires.calm)).point
 
@@ -25,7 +29,7 @@ codes-requires-clause-words c =
     (subst (λ (n : Numbers). All (HasWord c.args.function.now n.f) (nodes_of c.args.function.now)) (sym c.requires.numbers) (words c.args.width c.args.function.now c.requires.width c.narrow_function.ensures c.requires.calm))
 
 pub program-requires-clause-lawful : goal.program-requires-clause-lawful
-program-requires-clause-lawful c = (plan_is c.args.width c.args.function.now c.requires.width c.narrow_function.ensures c.requires.calm).program
+program-requires-clause-lawful c = (plan_is c.args.width (round_of c.args.round) c.args.function.now c.requires.width c.narrow_function.ensures c.requires.calm).program
 
 pub certificate-requires-clause-place : goal.certificate-requires-clause-place
 certificate-requires-clause-place c = subst HasPlace (sym c.requires.numbers) (place c.args.width c.args.function.now c.requires.width c.narrow_function.ensures c.requires.calm)
