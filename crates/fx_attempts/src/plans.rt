@@ -43,7 +43,11 @@ fn plain_answer(alloc: Global, function: &Function, wanted: Wanted) -> Result<Ce
 }
 
 // The calm plan, certified, where the function is calm.
-fn calm_answer(alloc: Global, function: &Function, wanted: Wanted) -> Result<Option<Certified>, Memory>
+fn calm_answer(
+    alloc: Global,
+    function: &Function,
+    wanted: Wanted,
+) -> Result<Option<Certified>, Memory>
     requires width { Contains widths wanted.width }
     ensures answer { IfOk result (λ o. IfSome o (IsAnswerFor wanted function.now)) }
     ensures bounded { IfOk result (λ o. IfSome o (λ a. AreWithinPowers function.now a.program a.certificate (λ j. (numbers_of wanted.width function.now).z))) }
