@@ -1,5 +1,5 @@
 -- What a run over lines has done so far. No clause of a public call rests on this.
-use Rattle.std.specs.Prelude.{ℕ, ◌≡◌, ◌+◌, ◌≤◌, ◌==◌, ◌⊎◌, take, nat_lt, List, [], ◌∷◌, ◌++◌, length, Bool, true, false, Option, Some, None, Result, Ok, Err}
+use Rattle.std.specs.Prelude.{ℕ, ◌≡◌, ◌+◌, ◌≤◌, ◌==◌, ◌⊎◌, take, nat_lt, List, [], ◌∷◌, ◌++◌, length, position, Bool, true, false, Option, Some, None, Result, Ok, Err}
 use Rattle.std.specs.Io.KnownBytes.{Consumes, Appends, IsAtEnd}
 use Rattle.std.specs.Str.Lines.{lines}
 use Rattle.fx_base.specs.Text.{text_at, lines_in}
@@ -7,17 +7,16 @@ use Rattle.fx_base.specs.LineSteps.{LinesState, TakesLine}
 use Rattle.fx_base.specs.Calls.{AppendsFront}
 use Rattle.fx_base.specs.declared.lines.LineStep.{LineStep}
 use Rattle.fx_base.specs.declared.lines.LineStep.TheVariants.{Line, End}
-use Rattle.fx_filter.specs.Outcome.{Outcome, behind_lines, stopped_lines}
-use Rattle.fx_rows.specs.Faults.{row_fault_of}
-use Rattle.fx_rows.specs.declared.fault.RowFault.{RowFault}
+use Rattle.fx_filter.specs.Outcome.{Outcome, behind_lines, behind_text, stopped_lines}
 use Rattle.fx_filter.specs.Promise.{AreWholeLines}
+use Rattle.fx_filter.specs.Rooms.{HasRoom}
 use Rattle.fx_filter.specs.declared.fault.RunFault.{RunFault}
 use Rattle.fx_filter.specs.declared.fault.RunFault.TheVariants as fault
 use Rattle.fx_filter.specs.declared.printer.Stop.{Stop}
 use Rattle.fx_filter.specs.declared.printer.Stop.TheVariants.{Bad, Memory}
 
 -- the bytes of the lines that were answered, and those lines
-pub record Ran (first now : List (List ℕ) → Outcome) (r : LinesState) (left left' before after : Option (List ℕ)) (page : List ℕ) (count bound : ℕ) : Type 0 where
+pub record Ran {T : Type 0} (first now : List (List ℕ) → Outcome T) (r : LinesState) (left left' before after : Option (List ℕ)) (page : List ℕ) (count bound : ℕ) : Type 0 where
   pub front : List ℕ
   pub done : List (List ℕ)
   pub sent : List ℕ
@@ -43,12 +42,16 @@ pub record Ran (first now : List (List ℕ) → Outcome) (r : LinesState) (left 
   pub early_text : sent ≡ (first (lines_in early)).text ++ extra
   pub prompt : length late + length r.held ≤ 131072
 
+-- what is printed is to be written: no whole line is held, or there is no room for what the next one prints
+abbrev pub GoesOut : LinesState → List ℕ → Type 0
+GoesOut r page = (position (λ b. b == 10) r.held ≡ None) ⊎ (HasRoom page → ⊥)
+
 -- all is written, or a part of it where that isn't asked for
 abbrev pub IsFlushed : Bool → Option (List ℕ) → Option (List ℕ) → List ℕ → List ℕ → Type 0
 IsFlushed must before after old new = ((new ≡ []) × Appends before after old) ⊎ ((must ≡ false) × (new ≡ old) × (after ≡ before))
 
 -- the next line was asked for: what was printed before is written or kept, and these bytes more were taken
-pub record Asked (o now : List (List ℕ) → Outcome) (r : LinesState) (left left1 left2 before mid : Option (List ℕ)) (page more : List ℕ) (count bound : ℕ) : Type 0 where
+pub record Asked {T : Type 0} (o now : List (List ℕ) → Outcome T) (r : LinesState) (left left1 left2 before mid : Option (List ℕ)) (page more : List ℕ) (count bound : ℕ) : Type 0 where
   pub ran : Ran o now r left left1 before mid page count bound
   pub took : Consumes left1 left2 more
   pub near : r.is_ended ≡ false → length ran.late + (length r.held + length more) ≤ 131072
@@ -73,7 +76,7 @@ HasStepped Line r r' left page more = HasLine r r' left more
 HasStepped End r r' left page more = HasNoLine r r' left page more
 
 -- what asking for a line gives
-pub record IsAsked (o now : List (List ℕ) → Outcome) (r r' : LinesState) (left left1 left2 before mid : Option (List ℕ)) (page : List ℕ) (count bound : ℕ) (step : LineStep) : Type 0 where
+pub record IsAsked {T : Type 0} (o now : List (List ℕ) → Outcome T) (r r' : LinesState) (left left1 left2 before mid : Option (List ℕ)) (page : List ℕ) (count bound : ℕ) (step : LineStep) : Type 0 where
   pub more : List ℕ
   pub asked : Asked o now r left left1 left2 before mid page more count bound
   pub sum : r'.taken ≡ r.taken + length more
@@ -86,16 +89,16 @@ pub record IsAsked (o now : List (List ℕ) → Outcome) (r r' : LinesState) (le
 abbrev pub IsShown : LinesState → List ℕ → Type 0
 IsShown r whole = (r.line ≡ take 65537 whole) × (r.is_ready ≡ nat_lt (length whole) 65537)
 
--- what a bad line comes to, told of the lines that it may be
-abbrev pub IsBadLine : (List (List ℕ) → Outcome) → LinesState → RowFault → Type 0
-IsBadLine now r f = (whole : List ℕ) (rest : List (List ℕ)) → IsShown r whole → now (whole ∷ rest) ≡ stopped_lines (row_fault_of f)
+-- what a bad line comes to behind what was held back, told of the lines that it may be
+abbrev pub IsBadLine : {T F : Type 0} → (F → T) → (List (List ℕ) → Outcome T) → LinesState → List ℕ → F → Type 0
+IsBadLine told now r text f = (whole : List ℕ) (rest : List (List ℕ)) → IsShown r whole → now (whole ∷ rest) ≡ behind_text text (stopped_lines (told f))
 
 -- how the run ends at a line that stops it: what was printed before is written, or the write fails
-abbrev pub StopsAs : Stop → ℕ → Option (List ℕ) → Option (List ℕ) → List ℕ → RunFault → Type 0
+abbrev pub StopsAs : {F : Type 0} → Stop F → ℕ → Option (List ℕ) → Option (List ℕ) → List ℕ → RunFault F → Type 0
 StopsAs (Bad f) number before after page g = ((g ≡ fault.Row number f) × Appends before after page) ⊎ ((g ≡ fault.WriteFault) × AppendsFront before after page)
 StopsAs Memory number before after page g = (g ≡ fault.Memory) × (after ≡ before)
 
 -- how it ends where no line is left: with the number of rows, or with what is missing
-abbrev pub EndsAs : Outcome → ℕ → ℕ → Result ℕ RunFault → Type 0
-EndsAs o number count (Ok n) = (o.bad ≡ None) × (n ≡ count)
-EndsAs o number count (Err g) = (f : RowFault) × (g ≡ fault.Row (number + 1) f) × (o.bad ≡ Some (0, row_fault_of f))
+abbrev pub EndsAs : {T F : Type 0} → (F → T) → Outcome T → ℕ → ℕ → Result ℕ (RunFault F) → Type 0
+EndsAs told o number count (Ok n) = (o.bad ≡ None) × (n ≡ count)
+EndsAs {F = F} told o number count (Err g) = (f : F) × (g ≡ fault.Row (number + 1) f) × (o.bad ≡ Some (0, told f))

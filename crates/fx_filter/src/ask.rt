@@ -2,17 +2,17 @@
 //!
 //! Each says what it keeps of a run that stands, so that the loop only passes it on.
 //! The trap: a write that fails comes before the read, so it leaves the source untouched.
-ghost use Rattle.std.specs.Prelude.{◌≡◌, ◌≢◌, ◌+◌, ◌-◌, ◌^◌, ◌<◌, ◌≤◌, ◌==◌, ◌++◌, ◌∷◌, [], ℕ, List, Option, None, true, not, length, position, IsTrue, IfOk, IfErr, OnOk, OnErr, IsErrOf, MatchResult};
+ghost use Rattle.std.specs.Prelude.{◌≡◌, ◌≢◌, ◌⊎◌, ◌+◌, ◌-◌, ◌^◌, ◌<◌, ◌≤◌, ◌==◌, ◌++◌, ◌∷◌, [], ℕ, List, Option, None, true, not, length, position, IsTrue, IfOk, IfErr, OnOk, OnErr, IsErrOf, MatchResult};
 ghost use Rattle.fx_base.specs.Causes.{Rose, HasCause};
 ghost use Rattle.fx_base.specs.Calls.{AppendsFront};
 ghost use Rattle.fx_base.specs.Moments.{HoldsEachTime};
 ghost use Rattle.fx_filter.specs.Rooms.{HasRoom};
-ghost use Rattle.fx_filter.specs.Outcome.{Outcome, behind_lines, one, IfBad};
+ghost use Rattle.fx_filter.specs.Outcome.{Outcome, behind_lines, behind_text, one, IfBad};
 ghost use Rattle.fx_filter.specs.Promise.{Grows, IsAnswered, IsFailed};
-ghost use Rattle.fx_filter.specs.Running.{Ran, IsFlushed, IsAsked, EndsAs, IsBadLine, StopsAs};
+ghost use Rattle.fx_filter.specs.Running.{Ran, IsFlushed, IsAsked, EndsAs, GoesOut, IsBadLine, StopsAs};
 ghost use Rattle.fx_filter.specs.declared.fault.RunFault.TheVariants.{ReadFault, WriteFault};
 
-use crate::fault::{LINE_TOO_LONG, RunFault};
+use crate::fault::RunFault;
 use crate::page::Page;
 use crate::printer::{Printer, Stop};
 use fx_base::{Failed, LineFault, LineStep, Lines, Sink, Source};
@@ -31,22 +31,22 @@ fn flush<K: Sink>(page: &mut Page, must: bool, sink: &mut K) -> Result<(), Faile
 }
 
 /// Asks for the next line. What is printed so far is written before, where the bytes that were taken don't hold it whole.
-pub(crate) fn ask<S: Source<K>, K: Sink>(
+pub(crate) fn ask<F, S: Source<K>, K: Sink>(
     lines: &mut Lines,
     page: &mut Page,
     source: &mut S,
     sink: &mut K,
-) -> Result<LineStep, RunFault>
+) -> Result<LineStep, RunFault<F>>
     requires ready { IsTrue lines.old.is_ready }
     requires limit { lines.old.limit < 2 ^ 64 - 1 }
     ensures written { position (λ b. b == 10) lines.old.held ≡ None → result ≢ Err WriteFault → page.new ≡ [] }
     ensures untouched { IsErrOf result WriteFault → (source.new ≡ source.old) × (lines.new ≡ lines.old) }
-    ensures asked { (o now : List (List ℕ) → Outcome) (left before : Option (List ℕ)) (count : ℕ) → (now []).text ≡ []
+    ensures asked { {T : Type 0} (told : F → T) (o now : List (List ℕ) → Outcome T) (left before : Option (List ℕ)) (count : ℕ) → (GoesOut lines.old page.old → (now []).text ≡ [])
         → Ran o now lines.old left (S.left source.old) before (K.taken sink.old) page.old count lines.old.limit
         → MatchResult result
         (λ step. IsAsked o now lines.old lines.new left (S.left source.old) (S.left source.new) before (K.taken sink.new) page.new count lines.old.limit step)
-        (λ fault. IsFailed o left (S.left source.new) before (K.taken sink.new) lines.old.limit fault) }
-    ensures prompt { (o now : List (List ℕ) → Outcome) (left before : Option (List ℕ)) (count : ℕ) → (now []).text ≡ []
+        (λ fault. IsFailed told o left (S.left source.new) before (K.taken sink.new) lines.old.limit fault) }
+    ensures prompt { {T : Type 0} (o now : List (List ℕ) → Outcome T) (left before : Option (List ℕ)) (count : ℕ) → (GoesOut lines.old page.old → (now []).text ≡ [])
         → Ran o now lines.old left (S.left source.old) before (K.taken sink.old) page.old count lines.old.limit
         → HoldsEachTime (IsAnswered o left before) (S.asked source.old) (S.asked source.new) }
     ensures room { OnOk result (HasRoom page.new) }
@@ -66,28 +66,49 @@ pub(crate) fn ask<S: Source<K>, K: Sink>(
     }
 }
 
+/// Has a printer append what it holds back where a read may follow.
+pub(crate) fn settle_before<P: Printer>(lines: &Lines, printer: &mut P, page: &mut Page)
+    requires can { P.can_take printer.old }
+    requires held { P.is_settled printer.old ⊎ HasRoom page.old }
+    ensures can { P.can_take printer.new }
+    ensures settled { GoesOut lines.now page.new → P.is_settled printer.new }
+    ensures put { (text : List ℕ) × (page.new ≡ page.old ++ text)
+        × ((rest : List (List ℕ)) → P.outcome printer.old rest ≡ behind_text text (P.outcome printer.new rest)) }
+{
+    if !lines.holds_line() {
+        printer.settle(page);
+    }
+}
+
 /// Gives the line last answered to a printer.
 pub(crate) fn take_line<P: Printer>(
     lines: &Lines,
     printer: &mut P,
     page: &mut Page,
-) -> Result<bool, Stop>
+) -> Result<bool, Stop<P::Flaw>>
     requires can { P.can_take printer.old }
     requires room { HasRoom page.old }
     ensures can { OnOk result (P.can_take printer.new) }
+    ensures held { OnOk result (P.is_settled printer.new ⊎ HasRoom page.new) }
     ensures ready { OnOk result (lines.now.is_ready ≡ true) }
     ensures taken { IfOk result (λ is_row. (text : List ℕ) × (page.new ≡ page.old ++ text)
         × ((rest : List (List ℕ)) → P.outcome printer.old (lines.now.line ∷ rest) ≡ behind_lines 1 text (one is_row) (P.outcome printer.new rest))) }
-    ensures bad { IfErr result (IfBad (λ fault. (page.new ≡ page.old) × IsBadLine (P.outcome printer.old) lines.now fault)) }
+    ensures bad { IfErr result (IfBad (λ fault. (text : List ℕ) × (page.new ≡ page.old ++ text) × IsBadLine P.told (P.outcome printer.old) lines.now text fault)) }
 {
     if !lines.ready() {
-        return Err(Stop::Bad(LINE_TOO_LONG));
+        printer.settle(page);
+        return Err(Stop::Bad(printer.too_long()));
     }
     printer.take(lines.line(), page)
 }
 
 /// The end of the run at the line of this number, which stops it: what is printed before a bad line is written.
-pub(crate) fn stop_at<K: Sink>(number: u64, stop: Stop, page: &mut Page, sink: &mut K) -> RunFault
+pub(crate) fn stop_at<F, K: Sink>(
+    number: u64,
+    stop: Stop<F>,
+    page: &mut Page,
+    sink: &mut K,
+) -> RunFault<F>
     ensures stops { StopsAs stop number (K.taken sink.old) (K.taken sink.new) page.old result }
     ensures write_fault { result ≡ WriteFault → Rose (K.faults sink.old) (K.faults sink.new) }
     ensures later_sink { K.faults sink.old ≤ K.faults sink.new }
@@ -105,9 +126,13 @@ pub(crate) fn stop_at<K: Sink>(number: u64, stop: Stop, page: &mut Page, sink: &
 }
 
 /// The end of the run behind the line of this number, where no line is left.
-pub(crate) fn end_at<P: Printer>(number: u64, printer: &P, count: u64) -> Result<u64, RunFault>
+pub(crate) fn end_at<P: Printer>(
+    number: u64,
+    printer: &P,
+    count: u64,
+) -> Result<u64, RunFault<P::Flaw>>
     requires { number < 2 ^ 64 - 1 }
-    ensures { EndsAs (P.outcome printer.now []) number count result }
+    ensures { EndsAs P.told (P.outcome printer.now []) number count result }
 {
     match printer.end() {
         None => Ok(count),

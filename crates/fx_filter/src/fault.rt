@@ -3,11 +3,11 @@ use fx_rows::{RowFault, RowKind};
 use std::error::Error;
 use std::fmt;
 
-/// Why a run over rows ended before the input did.
+/// Why a run over rows ended before the input did, where `F` is what may be wrong with a line.
 #[derive(Clone, Copy, Debug, PartialEq, Eq)]
-pub enum RunFault {
+pub enum RunFault<F> {
     /// The line of this number, from 1, is bad, or it is where the header is missed. All rows before it are printed.
-    Row { line: u64, fault: RowFault },
+    Row { line: u64, fault: F },
     /// A read failed. The rows of the lines that were taken whole are printed.
     ReadFault,
     /// A write failed.
@@ -18,10 +18,10 @@ pub enum RunFault {
     Memory,
 }
 
-impl fmt::Display for RunFault {
+impl<F: fmt::Display> fmt::Display for RunFault<F> {
     fn fmt<W: fmt::Write>(&self, f: &mut fmt::Formatter<W>) -> fmt::Result {
         match self {
-            RunFault::Row { line, fault } => write!(f, "{} at line {line}", fault.kind),
+            RunFault::Row { line, fault } => write!(f, "{fault} at line {line}"),
             RunFault::ReadFault => f.write_str("read fault"),
             RunFault::WriteFault => f.write_str("write fault"),
             RunFault::TooLong => f.write_str("over the limit"),
@@ -30,7 +30,7 @@ impl fmt::Display for RunFault {
     }
 }
 
-impl Error for RunFault {}
+impl<F: fmt::Display + fmt::Debug> Error for RunFault<F> {}
 
 // A line of more bytes than a line may have.
 pub(crate) const LINE_TOO_LONG: RowFault = RowFault {

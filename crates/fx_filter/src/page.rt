@@ -8,7 +8,7 @@ ghost use Rattle.fx_model.specs.LawfulProgram.{IsPoint};
 ghost use Rattle.fx_model.specs.WordText.{decimal_text};
 ghost use Rattle.fx_base.specs.Causes.{HasCause};
 ghost use Rattle.fx_base.specs.Calls.{AppendsFront};
-ghost use Rattle.fx_filter.specs.Rooms.{HasRoom};
+ghost use Rattle.fx_filter.specs.Rooms.{HasRoom, page_room};
 
 use fx_base::{Failed, Memory, Sink, put_all};
 use fx_fraction::decimal_text;
@@ -16,10 +16,10 @@ use std::alloc::Global;
 use std::marker::Model;
 
 // In bytes: few calls of the system for a long page.
-const BLOCK: usize = 65_536;
+const BLOCK: usize = 196_608;
 
-// What a line may print: 64 fields of 128 bytes, and a byte behind each.
-const LINE: usize = 8_256;
+// What taking a line may print: sixteen lines of 64 fields of 128 bytes, with a byte behind each.
+const LINES: usize = 132_096;
 
 /// Writes the decimal text of a word into the front, and gives its length.
 fn put_text(free: &mut [u8], word: i64, point: i32) -> usize
@@ -56,12 +56,13 @@ pub struct Page {
 
 impl Model for Page {
     ghost use Rattle.std.specs.Prelude.{◌≡◌, ◌≤◌, ℕ, List, length, take};
+    ghost use Rattle.fx_filter.specs.Rooms.{page_room};
 
     ghost Value = { List ℕ };
 
     ghost view = { λ p. take p.used p.block.items };
 
-    ghost invariant = { λ p. (p.used ≤ 65536) × (length p.block.items ≡ 65536) };
+    ghost invariant = { λ p. (p.used ≤ page_room) × (length p.block.items ≡ page_room) };
 }
 
 impl Page {
@@ -77,7 +78,7 @@ impl Page {
 
     /// Appends bytes.
     pub fn put(&mut self, bytes: &[u8])
-        requires { length self.old + length bytes.now ≤ 65536 }
+        requires { length self.old + length bytes.now ≤ page_room }
         ensures { self.new ≡ self.old ++ bytes.now }
     {
         let end = self.used + bytes.len();
@@ -88,18 +89,18 @@ impl Page {
     /// Appends the decimal text of `word / 2^point`, which is written where it stays.
     pub fn put_decimal(&mut self, word: i64, point: i32)
         requires point { IsPoint point }
-        requires room { length self.old + 128 ≤ 65536 }
+        requires room { length self.old + 128 ≤ page_room }
         ensures written { self.new ≡ self.old ++ decimal_text word point }
         ensures short { length self.new ≤ length self.old + 128 }
     {
         self.used = put_text_at(&mut self.block, self.used, word, point);
     }
 
-    /// Whether there is room for what a line may print.
+    /// Whether there is room for what taking a line may print.
     pub fn has_room(&self) -> bool
         ensures { IsTrue result ↔ HasRoom self.now }
     {
-        BLOCK - self.used >= LINE
+        BLOCK - self.used >= LINES
     }
 
     /// Writes all. Where that fails, the page stays as it was.

@@ -19,12 +19,12 @@ ghost use Rattle.fx_rows.specs.ReadRows.{read_rows};
 ghost use Rattle.fx_rows.specs.Faults.{row_fault_of};
 ghost use Rattle.fx_rows.specs.declared.fault.RowKind.TheVariants as kind;
 ghost use Rattle.fx_filter.specs.Rooms.{HasRoom};
-ghost use Rattle.fx_filter.specs.Outcome.{Outcome, behind_lines, one, stopped_lines, IfBad};
+ghost use Rattle.fx_filter.specs.Outcome.{Outcome, behind_lines, one, behind_text, stopped_lines, IfBad};
 ghost use Rattle.fx_filter.specs.Printed.{lines_outcome, outcome_of};
 ghost use Rattle.fx_filter.specs.Promise.{Grows, IsAnswered, IsDone, IsDue};
 ghost use Rattle.fx_filter.specs.declared.printer.Stop.TheVariants as stop;
 
-use crate::fault::{NO_HEADER, RunFault};
+use crate::fault::{LINE_TOO_LONG, NO_HEADER, RunFault};
 use crate::page::Page;
 use crate::printer::{Printer, Stop};
 use crate::run::run_lines;
@@ -43,10 +43,13 @@ pub trait RowStep {
     // Whether it may take a row.
     ghost can_run: { Self → Type 0 };
 
+    // Whether no row is held back.
+    ghost is_settled: { Self → Type 0 };
+
     // What stands before the rows.
     ghost head: { Self → List ℕ };
 
-    // What is printed of these rows, if they are the next ones.
+    // What is printed of the rows that are held back, and of these, if they are the next ones.
     ghost printed: { Self → List (List rational.Decimal) → List ℕ };
 
     /// The function that the rows are for.
@@ -59,7 +62,7 @@ pub trait RowStep {
         requires room { HasRoom page.old }
         ensures { page.new ≡ page.old ++ head self.now };
 
-    /// Carries out the next row, and appends what is printed of it.
+    /// Takes the next row, and appends what is printed now.
     fn put_row(&mut self, row: &[Decimal], page: &mut Page)
         requires can { can_run self.old }
         requires room { HasRoom page.old }
@@ -67,11 +70,23 @@ pub trait RowStep {
         ensures can { can_run self.new }
         ensures put { (text : List ℕ) × (page.new ≡ page.old ++ text)
             × ((rest : List (List rational.Decimal)) → printed self.old (row.now ∷ rest) ≡ text ++ printed self.new rest) }
+        ensures held { is_settled self.new ⊎ (page.new ≡ page.old) }
         ensures function { meaning self.new ≡ meaning self.old }
         ensures before { head self.new ≡ head self.old };
 
-    // Nothing is printed of no rows.
-    ghost none: { (s : Self) → printed s [] ≡ [] };
+    /// Carries out the rows that are held back, and appends what is printed of them.
+    fn settle(&mut self, page: &mut Page)
+        requires can { can_run self.old }
+        requires room { is_settled self.old ⊎ HasRoom page.old }
+        ensures can { can_run self.new }
+        ensures settled { is_settled self.new }
+        ensures put { (text : List ℕ) × (page.new ≡ page.old ++ text)
+            × ((rest : List (List rational.Decimal)) → printed self.old rest ≡ text ++ printed self.new rest) }
+        ensures function { meaning self.new ≡ meaning self.old }
+        ensures before { head self.new ≡ head self.old };
+
+    // Where none is held back nothing is printed of no rows.
+    ghost none: { (s : Self) → is_settled s → printed s [] ≡ [] };
 }
 
 // The header and the rows as they come.
@@ -84,7 +99,7 @@ struct RowPrinter<M> {
 }
 
 // Want of memory is no fault of the line.
-fn stop_of(fault: RowFault) -> Stop
+fn stop_of(fault: RowFault) -> Stop<RowFault>
     ensures { (fault.kind ≡ kind.Memory × result ≡ stop.Memory) ⊎ (fault.kind ≢ kind.Memory × result ≡ stop.Bad fault) }
 {
     if fault.kind == RowKind::Memory {
@@ -100,7 +115,7 @@ fn take_header<M: RowStep>(
     line: &[u8],
     step: &M,
     page: &mut Page,
-) -> Result<Option<RowReader>, Stop>
+) -> Result<Option<RowReader>, Stop<RowFault>>
     requires can { M.can_run step.now }
     requires room { HasRoom page.old }
     ensures serves { IfOk result (λ o. IfSome o (λ r. Serves r (M.meaning step.now))) }
@@ -131,7 +146,7 @@ fn take_row<M: RowStep>(
     step: &mut M,
     row: &mut Vec<Decimal>,
     page: &mut Page,
-) -> Result<bool, Stop>
+) -> Result<bool, Stop<RowFault>>
     requires serves { Serves reader.now (M.meaning step.old) }
     requires can { M.can_run step.old }
     requires room { HasRoom page.old }
@@ -168,7 +183,7 @@ impl<M: RowStep + Drop> Printer for RowPrinter<M> {
 
     ghost outcome = { λ s ls. lines_outcome (M.meaning s.step) (M.head s.step) (M.printed s.step) (option_map reader_columns s.reader) ls };
 
-    fn take(&mut self, line: &[u8], page: &mut Page) -> Result<bool, Stop> {
+    fn take(&mut self, line: &[u8], page: &mut Page) -> Result<bool, Stop<RowFault>> {
         match &self.reader {
             None => match take_header(self.alloc, line, &self.step, page) {
                 Ok(reader) => {
@@ -208,12 +223,13 @@ pub fn run_steps<M: RowStep + Drop, S: Source<K>, K: Sink>(
     source: &mut S,
     sink: &mut K,
     limit: u64,
-) -> Result<u64, RunFault>
+) -> Result<u64, RunFault<RowFault>>
     requires limit { limit < 2 ^ 64 - 1 }
     requires can { M.can_run step }
+    requires settled { M.is_settled step }
     ensures done { IfOk result (λ n. IfSome (S.left source.old) (λ all. IsDone (outcome_of (M.head step) (M.printed step) (read_rows (M.meaning step) all)) n (K.taken sink.old) (K.taken sink.new))) }
     ensures end { OnOk result (IsAtEnd (S.left source.new)) }
-    ensures due { IfErr result (IsDue (lines_outcome (M.meaning step) (M.head step) (M.printed step) None) (S.left source.old) (S.left source.new) (K.taken sink.old) (K.taken sink.new)) }
+    ensures due { IfErr result (IsDue row_fault_of (lines_outcome (M.meaning step) (M.head step) (M.printed step) None) (S.left source.old) (S.left source.new) (K.taken sink.old) (K.taken sink.new)) }
     ensures prompt { HoldsEachTime (IsAnswered (lines_outcome (M.meaning step) (M.head step) (M.printed step) None) (S.left source.old) (K.taken sink.old)) (S.asked source.old) (S.asked source.new) }
     ensures taken { (taken : List ℕ) × Consumes (S.left source.old) (S.left source.new) taken × (IsErrOf result RunFault.TooLong ↔ (limit < length taken)) }
     ensures grown { Grows (K.taken sink.old) (K.taken sink.new) }

@@ -7,7 +7,7 @@ ghost use Rattle.fx_base.specs.Text.{lines_in};
 ghost use Rattle.fx_filter.specs.Outcome.{one};
 ghost use Rattle.fx_filter.specs.Promise.{Grows, IsAnswered, IsDone, IsDue};
 
-use crate::ask::{ask, end_at, stop_at, take_line};
+use crate::ask::{ask, end_at, settle_before, stop_at, take_line};
 use crate::fault::RunFault;
 use crate::page::Page;
 use crate::printer::Printer;
@@ -28,12 +28,13 @@ pub fn run_lines<P: Printer, S: Source<K>, K: Sink>(
     source: &mut S,
     sink: &mut K,
     limit: u64,
-) -> Result<u64, RunFault>
+) -> Result<u64, RunFault<P::Flaw>>
     requires limit { limit < 2 ^ 64 - 1 }
     requires can { P.can_take printer.old }
+    requires settled { P.is_settled printer.old }
     ensures done { IfOk result (λ n. IfSome (S.left source.old) (λ all. IsDone (P.outcome printer.old (lines_in all)) n (K.taken sink.old) (K.taken sink.new))) }
     ensures end { OnOk result (IsAtEnd (S.left source.new)) }
-    ensures due { IfErr result (IsDue (P.outcome printer.old) (S.left source.old) (S.left source.new) (K.taken sink.old) (K.taken sink.new)) }
+    ensures due { IfErr result (IsDue P.told (P.outcome printer.old) (S.left source.old) (S.left source.new) (K.taken sink.old) (K.taken sink.new)) }
     ensures prompt { HoldsEachTime (IsAnswered (P.outcome printer.old) (S.left source.old) (K.taken sink.old)) (S.asked source.old) (S.asked source.new) }
     ensures taken { (taken : List ℕ) × Consumes (S.left source.old) (S.left source.new) taken × (IsErrOf result RunFault.TooLong ↔ (limit < length taken)) }
     ensures grown { Grows (K.taken sink.old) (K.taken sink.new) }
@@ -50,6 +51,7 @@ pub fn run_lines<P: Printer, S: Source<K>, K: Sink>(
     };
     let mut count = 0;
     'lines: loop {
+        settle_before(&lines, printer, &mut page);
         match ask(&mut lines, &mut page, source, sink) {
             Ok(LineStep::Line) => match take_line(&lines, printer, &mut page) {
                 Ok(is_row) => count += one(is_row),

@@ -18,7 +18,7 @@ abbrev pub bad_here : RowFlaw → Given
 bad_here f = record { rows = []; bad = Some (0, f) }
 
 -- the place of a bad line, where so many more lines stand before it
-abbrev pub moved_down : ℕ → Option (ℕ × RowFlaw) → Option (ℕ × RowFlaw)
+abbrev pub moved_down : {T : Type 0} → ℕ → Option (ℕ × T) → Option (ℕ × T)
 moved_down k None = None
 moved_down k (Some p) = Some (k + p.0, p.1)
 

@@ -46,6 +46,12 @@ pub struct RowFault {
     pub input: u32,
 }
 
+impl fmt::Display for RowFault {
+    fn fmt<W: fmt::Write>(&self, f: &mut fmt::Formatter<W>) -> fmt::Result {
+        self.kind.fmt(f)
+    }
+}
+
 /// Want of memory.
 pub(crate) const MEMORY: RowFault = RowFault {
     kind: RowKind::Memory,
