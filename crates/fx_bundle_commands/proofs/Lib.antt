@@ -2,3 +2,4 @@ pub mod Accepting
 mod Shown
 mod Consumed
 mod Migrated
+pub mod RowsEnds

@@ -6,7 +6,7 @@ use Rattle.fx_weight.specs.OutsideView.{outside_view}
 use Rattle.fx_expr.specs.Parts.{input_of}
 use Rattle.fx_ends.specs.Ends as ends
 use Rattle.fx_ends.specs.declared.end.End.{End}
-use Rattle.fx_ends.specs.declared.end.End.TheVariants.{Done, Usage, ReadFault, WriteFault, NoMemory, OverLimit, Rejected, Misread, BadBundle, NotFound, BadRow}
+use Rattle.fx_ends.specs.declared.end.End.TheVariants.{Done, Usage, ReadFault, WriteFault, NoMemory, OverLimit, Rejected, Misread, BadBundle, NotFound, BadRow, BadUnit}
 
 -- the definition's end
 abbrev pub end_of : End → ends.End
@@ -21,3 +21,4 @@ end_of (Misread fault) = ends.Misread fault
 end_of (BadBundle fault) = ends.BadBundle fault
 end_of (NotFound outside) = ends.NotFound (outside_view outside)
 end_of (BadRow inputs line fault) = ends.BadRow (map input_of inputs.now) line (rows.row_fault_of fault)
+end_of (BadUnit line kind) = ends.BadUnit line kind

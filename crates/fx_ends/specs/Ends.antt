@@ -11,9 +11,10 @@ use Rattle.fx_text.specs.declared.fault.TextFault.{TextFault}
 use Rattle.fx_rows.specs.Faults as rows
 use Rattle.fx_weight.specs.PlainClass.{Outside, Node, Demand}
 use Rattle.fx_rows.specs.declared.fault.RowKind.{RowKind}
+use Rattle.fx_rows.specs.declared.unit.UnitKind.{UnitKind}
 use Rattle.fx_rows.specs.declared.fault.RowKind.TheVariants.{LineTooLong, StrayReturn}
 use Rattle.fx_judging.specs.PartNames.{part_name}
-use Rattle.fx_ends.specs.KindTexts.{condition_text, source_text, bundle_kind_text, row_text}
+use Rattle.fx_ends.specs.KindTexts.{condition_text, source_text, bundle_kind_text, row_text, unit_text}
 
 -- the inputs are those of the function whose rows were read
 pub data End : Type 0 where
@@ -23,6 +24,7 @@ pub data End : Type 0 where
   BadBundle : (fault : TextFault) → End
   NotFound : (outside : Outside) → End
   BadRow : (inputs : List Input) (line : ℕ) (fault : rows.RowFlaw) → End
+  BadUnit : (line : ℕ) (kind : UnitKind) → End
 
 -- its status
 abbrev pub status_of : End → ℕ
@@ -32,6 +34,7 @@ status_of Usage = 2
 status_of (Misread fault) = 3
 status_of (BadBundle fault) = 4
 status_of (BadRow inputs line fault) = 5
+status_of (BadUnit line kind) = 5
 status_of ReadFault = 6
 status_of WriteFault = 7
 status_of NoMemory = 8
@@ -61,6 +64,7 @@ reason Usage = Some (codes "usage: synth, check, run, show or demo" ∷ [])
 reason (Misread fault) = Some (codes "source: " ∷ source_text fault.kind ∷ codes " at byte " ∷ decimal fault.at ∷ [])
 reason (BadBundle fault) = Some (codes "bundle: " ∷ bundle_kind_text fault.kind ∷ codes " at line " ∷ decimal fault.line ∷ [])
 reason (BadRow inputs line fault) = Some (row_reason (row_text fault.kind) line (column_text inputs fault.input fault.kind))
+reason (BadUnit line kind) = Some (row_reason (unit_text kind) line [])
 reason (NotFound outside) = Some (codes "not found: " ∷ outside_text outside)
 reason ReadFault = Some (codes "read fault" ∷ [])
 reason WriteFault = Some (codes "write fault" ∷ [])

@@ -15,13 +15,13 @@ ghost use Rattle.fx_ends.specs.Ends.{end_line, status_of};
 ghost use Rattle.fx_ends.specs.EndView.{end_of};
 ghost use Rattle.fx_ends.specs.Notes.{AreNotes};
 
-use crate::kind::{bundle_text, condition_text, row_text, source_text};
+use crate::kind::{bundle_text, condition_text, row_text, source_text, unit_text};
 use crate::notes::note_line;
 use fx_base::{Sink, Status};
 use fx_expr::Input;
 use fx_judging::ConditionFault;
 use fx_lexer::SourceFault;
-use fx_rows::{RowFault, RowKind};
+use fx_rows::{RowFault, RowKind, UnitKind};
 use fx_text::TextFault;
 use fx_weight::Outside;
 use itoa::Buffer;
@@ -55,6 +55,8 @@ pub enum End<'a> {
         line: u64,
         fault: RowFault,
     },
+    /// The unit of a line of the input is missing or wrong.
+    BadUnit { line: u64, kind: UnitKind },
 }
 
 // The name of an input. Empty where there is no such input.
@@ -120,7 +122,7 @@ fn note_bundle<N: Sink>(fault: TextFault, notes: &mut N)
     );
 }
 
-// Of a fault of a line as a whole.
+// Of a fault of a line as a whole, or of its unit.
 fn note_whole_line<N: Sink>(kind: &str, line: u64, notes: &mut N)
     ensures { AreNotes (N.taken notes.old) (N.taken notes.new) (N.faults notes.old) (N.faults notes.new) (Some (ends.note_text (ends.row_reason kind.now line []))) }
 {
@@ -211,6 +213,7 @@ impl<'a> End<'a> {
             End::BadBundle(_) => Status::BUNDLE,
             End::NotFound(_) => Status::NOT_FOUND,
             End::BadRow { .. } => Status::ROW,
+            End::BadUnit { .. } => Status::ROW,
         }
     }
 
@@ -234,6 +237,7 @@ impl<'a> End<'a> {
                 line,
                 fault,
             } => note_row(inputs, *line, *fault, notes),
+            End::BadUnit { line, kind } => note_whole_line(unit_text(*kind), *line, notes),
         }
     }
 

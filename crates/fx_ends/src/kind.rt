@@ -1,11 +1,11 @@
 //! How faults are called on the notes.
 ghost use Rattle.std.specs.Prelude.{◌≡◌};
 ghost use Rattle.fx_judging.specs.FaultView.{kind_of};
-ghost use Rattle.fx_ends.specs.KindTexts.{condition_text, source_text, bundle_kind_text, row_text};
+ghost use Rattle.fx_ends.specs.KindTexts.{condition_text, source_text, bundle_kind_text, row_text, unit_text};
 
 use fx_judging::ConditionKind;
 use fx_lexer::SourceKind;
-use fx_rows::RowKind;
+use fx_rows::{RowKind, UnitKind};
 use fx_text::TextKind;
 
 /// What a condition asks.
@@ -83,5 +83,16 @@ pub fn row_text(kind: RowKind) -> &'static str
         RowKind::LineTooLong => "LineTooLong",
         RowKind::StrayReturn => "StrayReturn",
         RowKind::Memory => "Memory",
+    }
+}
+
+/// What is wrong with the unit of a line.
+pub fn unit_text(kind: UnitKind) -> &'static str
+    ensures { result.now ≡ unit_text kind }
+{
+    match kind {
+        UnitKind::NoUnitColumn => "NoUnitColumn",
+        UnitKind::UnitTwice => "UnitTwice",
+        UnitKind::BadUnit => "BadUnit",
     }
 }

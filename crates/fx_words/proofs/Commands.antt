@@ -12,13 +12,13 @@ use Rattle.clap.specs.Kinds.{Kinds, or_else}
 use Rattle.clap.specs.Faults.{fault_of, walk_fault, turn_fault, step_fault, word_fault, other_fault, flag_word_fault, flags_fault, bundle_fault, bundle_step_fault, settle_fault, check_fault, defaults_fault, entered_fault}
 use Rattle.fx_words.specs.App.{fixd_app}
 use Rattle.fx_words.specs.Command as words
-use Rattle.fx_words.specs.Command.{command_given, demo_given, options_of, synth_options}
+use Rattle.fx_words.specs.Command.{command_given, demo_given, node_options, options_of, synth_options}
 use Rattle.fx_words.specs.Grammar.{Bytes, Entry, ends_options, is_dashed, value_named}
 use Rattle.fx_words.proofs.Booleans.{and-true}
 use Rattle.fx_words.proofs.Pending.{faults_from, has_required, is_nil, nil-or_else, settled_now, walk_at}
 use Rattle.fx_words.proofs.OneWord.{HasFirstFlag, nil-first, no-nil, plain-met, short-met}
 use Rattle.fx_words.proofs.Options.{AreApart, option_names, options_rules}
-use Rattle.fx_words.proofs.Missing.{no-file, no-synthesis}
+use Rattle.fx_words.proofs.Missing.{no-file, no-node, no-synthesis}
 
 -- ---- the top
 
@@ -94,6 +94,18 @@ migrate-is-one = record {
       ∙ nil-or_else (faults_from (codes "migrate") (options_rules []) (walk_at [] settled_now 1 false) rest) [] ∙ and-true _;
   rows = λ rest. ap (λ w. entered (built fixd_app) w.stopped) (sym (walk_stopped [] commands (walk_from nothing_held) (codes "migrate") [] rest));
   wants = λ ps e. ap (option_map words.Migrate) (no-file ps e);
+}
+
+node-is-one : IsCommand (codes "node")
+unfolding walk_fault walked defaults_fault
+node-is-one = record {
+  options = (codes "units", true) ∷ [];
+  apart = (refl, tt);
+  known = refl;
+  faults = λ rest. ap₂ by_walk (stopped-walk (walk_from nothing_held) (codes "node") [] rest) (sym (walk_stopped [] commands (walk_from nothing_held) (codes "node") [] rest))
+      ∙ nil-or_else (faults_from (codes "node") (options_rules ((codes "units", true) ∷ [])) (walk_at [] settled_now 1 false) rest) [] ∙ and-true _;
+  rows = λ rest. ap (λ w. entered (built fixd_app) w.stopped) (sym (walk_stopped [] commands (walk_from nothing_held) (codes "node") [] rest));
+  wants = no-node;
 }
 
 synth-is-one : IsCommand (codes "synth")
@@ -174,28 +186,30 @@ other-way xs ys e = by_other (bytes_eq ys xs) refl where
   by_other true f = sym ((bytes_eq-Decides xs ys).1 (sym ((bytes_eq-Decides ys xs).0 f))) ∙ e
   by_other false f = refl
 
-not-met : (r c v m s d : Bool) → r ≡ false → c ≡ false → v ≡ false → m ≡ false → s ≡ false → d ≡ false
+not-met : (r c v m u s d : Bool) → r ≡ false → c ≡ false → v ≡ false → m ≡ false → u ≡ false → s ≡ false → d ≡ false
     → option_map (λ (p : Bytes × List Bytes). p.0)
     (if r || false then Some (codes "run", []) else if c || false then Some (codes "check", []) else if v || false then Some (codes "show", []) else if m || false then Some (codes "migrate", [])
-    else if s || false then Some (codes "synth", []) else if d || false then Some (codes "demo", []) else None)
+    else if u || false then Some (codes "node", []) else if s || false then Some (codes "synth", []) else if d || false then Some (codes "demo", []) else None)
     ≡ None
-not-met true c v m s d e f h j g i = absurd (cc)
-not-met false true v m s d e f h j g i = absurd (cc)
-not-met false false true m s d e f h j g i = absurd (cc)
-not-met false false false true s d e f h j g i = absurd (cc)
-not-met false false false false true d e f h j g i = absurd (cc)
-not-met false false false false false true e f h j g i = absurd (cc)
-not-met false false false false false false e f h j g i = refl
+not-met true c v m u s d e f h j k g i = absurd (cc)
+not-met false true v m u s d e f h j k g i = absurd (cc)
+not-met false false true m u s d e f h j k g i = absurd (cc)
+not-met false false false true u s d e f h j k g i = absurd (cc)
+not-met false false false false true s d e f h j k g i = absurd (cc)
+not-met false false false false false true d e f h j k g i = absurd (cc)
+not-met false false false false false false true e f h j k g i = absurd (cc)
+not-met false false false false false false false e f h j k g i = refl
 
-not-known : (r c v m s d : Bool) → r ≡ false → c ≡ false → v ≡ false → m ≡ false → s ≡ false → d ≡ false →
-    (if r then Some [] else if c then Some [] else if v then Some [] else if m then Some [] else if s then Some synth_options else if d then Some [] else None) ≡ None
-not-known true c v m s d e f h j g i = absurd (cc)
-not-known false true v m s d e f h j g i = absurd (cc)
-not-known false false true m s d e f h j g i = absurd (cc)
-not-known false false false true s d e f h j g i = absurd (cc)
-not-known false false false false true d e f h j g i = absurd (cc)
-not-known false false false false false true e f h j g i = absurd (cc)
-not-known false false false false false false e f h j g i = refl
+not-known : (r c v m u s d : Bool) → r ≡ false → c ≡ false → v ≡ false → m ≡ false → u ≡ false → s ≡ false → d ≡ false
+    → (if r then Some [] else if c then Some [] else if v then Some [] else if m then Some [] else if u then Some node_options else if s then Some synth_options else if d then Some [] else None) ≡ None
+not-known true c v m u s d e f h j k g i = absurd (cc)
+not-known false true v m u s d e f h j k g i = absurd (cc)
+not-known false false true m u s d e f h j k g i = absurd (cc)
+not-known false false false true u s d e f h j k g i = absurd (cc)
+not-known false false false false true s d e f h j k g i = absurd (cc)
+not-known false false false false false true d e f h j k g i = absurd (cc)
+not-known false false false false false false true e f h j k g i = absurd (cc)
+not-known false false false false false false false e f h j k g i = refl
 
 -- a word is this command's name, or what it is shown to be otherwise
 or-another : (word name : Bytes) → IsCommand name → (bytes_eq word name ≡ false → IsCommand word ⊎ IsNone word) → IsCommand word ⊎ IsNone word
@@ -206,10 +220,15 @@ or-another word name is otherwise = by_name (bytes_eq word name) refl where
 
 pub which-command : (word : Bytes) → IsCommand word ⊎ IsNone word
 which-command word =
-    or-another word (codes "run") run-is-one (λ e. or-another word (codes "check") check-is-one (λ f. or-another word (codes "show") show-is-one (λ h.
-    or-another word (codes "migrate") migrate-is-one (λ j. or-another word (codes "synth") synth-is-one (λ g. or-another word (codes "demo") demo-is-one (λ i.
+    or-another word (codes "run") run-is-one (λ e.
+    or-another word (codes "check") check-is-one (λ f.
+    or-another word (codes "show") show-is-one (λ h.
+    or-another word (codes "migrate") migrate-is-one (λ j.
+    or-another word (codes "node") node-is-one (λ k.
+    or-another word (codes "synth") synth-is-one (λ g.
+    or-another word (codes "demo") demo-is-one (λ i.
     inr (record {
-      met = not-met _ _ _ _ _ _ (other-way word (codes "run") e) (other-way word (codes "check") f) (other-way word (codes "show") h) (other-way word (codes "migrate") j)
-          (other-way word (codes "synth") g) (other-way word (codes "demo") i);
-      unknown = not-known _ _ _ _ _ _ e f h j g i;
-    })))))))
+      met = not-met _ _ _ _ _ _ _ (other-way word (codes "run") e) (other-way word (codes "check") f) (other-way word (codes "show") h) (other-way word (codes "migrate") j)
+          (other-way word (codes "node") k) (other-way word (codes "synth") g) (other-way word (codes "demo") i);
+      unknown = not-known _ _ _ _ _ _ _ e f h j k g i;
+    }))))))))

@@ -4,9 +4,9 @@ use Rattle.std.specs.Prelude.{if◌then◌else◌, find}
 use Rattle.std.specs.Str.{bytes_eq}
 use Rattle.fx_wanted.specs.Asked.{tries_limit}
 use Rattle.fx_wanted.specs.declared.wanted.Wanted.{Wanted}
-use Rattle.fx_words.specs.Command.{command_given, synthesis_of, wanted_of}
+use Rattle.fx_words.specs.Command.{command_given, node_of, synthesis_of, wanted_of}
 use Rattle.fx_words.specs.Grammar.{Bytes, Entry, has_entry, value_named}
-use Rattle.fx_words.specs.Numbers.{number_or, width_given}
+use Rattle.fx_words.specs.Numbers.{number_or, units_given, width_given}
 use Rattle.fx_words.specs.Rounding.{round_given}
 use Rattle.fx_words.proofs.Pending.{has_required}
 use Rattle.fx_words.proofs.Options.{options_rules}
@@ -24,6 +24,18 @@ no-file ps e = value-is-none (codes "file") ps (by_file (has_entry (codes "file"
   by_file : (f : Bool) → not (not f || false) ≡ false → f ≡ false
   by_file true e = absurd (cc)
   by_file false e = refl
+
+no-units : (units : Option ℕ) → node_of units None ≡ None
+no-units None = refl
+no-units (Some units) = refl
+
+pub no-node : (ps : List Entry) → has_required (options_rules ((codes "units", true) ∷ [])) ps ≡ false → command_given (codes "node") (value_named ps) ≡ None
+no-node ps e = by_names (has_entry (codes "units") ps) refl (has_entry (codes "file") ps) refl e where
+  by_names : (u : Bool) → has_entry (codes "units") ps ≡ u → (f : Bool) → has_entry (codes "file") ps ≡ f → not (not u || (not f || false)) ≡ false → command_given (codes "node") (value_named ps) ≡ None
+  by_names true g true h e = absurd (cc)
+  by_names false g f h e = ap (λ units. node_of (units_given units) (value_named ps (codes "file"))) (value-is-none (codes "units") ps g)
+  by_names true g false h e =
+      ap (λ file. node_of (units_given (value_named ps (codes "units"))) file) (value-is-none (codes "file") ps h) ∙ no-units (units_given (value_named ps (codes "units")))
 
 without-file : (w : Option Wanted) (f : Option Bytes) (s : Option ℕ) → synthesis_of w f s None ≡ None
 without-file None f s = refl

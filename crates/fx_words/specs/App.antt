@@ -20,6 +20,10 @@ file_rule = record (new_rule (codes "file")) { action = Some Set; required = tru
 abbrev pub file_app : Bytes → App
 file_app name = with_rule (new_app name) file_rule
 
+-- the rows of many units
+abbrev pub node_app : App
+node_app = with_rule (with_rule (new_app (codes "node")) (required_option_rule (codes "units"))) file_rule
+
 abbrev pub synth_app : App
 synth_app =
     with_rule (with_rule (with_rule (with_rule (with_rule (with_rule (new_app (codes "synth"))
@@ -43,5 +47,9 @@ bundles_app =
     with_subcommand (with_subcommand (with_subcommand (with_subcommand top_app (file_app (codes "run")).top)
     (file_app (codes "check")).top) (file_app (codes "show")).top) (file_app (codes "migrate")).top
 
+-- and `node`
+abbrev pub rows_app : App
+rows_app = with_subcommand bundles_app node_app.top
+
 abbrev pub fixd_app : App
-fixd_app = with_subcommand (with_subcommand bundles_app synth_app.top) (file_app (codes "demo")).top
+fixd_app = with_subcommand (with_subcommand rows_app synth_app.top) (file_app (codes "demo")).top

@@ -6,7 +6,7 @@ use Rattle.fx_program.specs.declared.code.Round.{Round}
 use Rattle.fx_wanted.specs.Asked.{IsLawfulWanted, tries_limit}
 use Rattle.fx_wanted.specs.declared.wanted.Wanted.{Wanted}
 use Rattle.fx_words.specs.Grammar.{Bytes, entries_in, once, value_named, have_values}
-use Rattle.fx_words.specs.Numbers.{demo_number, number_or, width_given}
+use Rattle.fx_words.specs.Numbers.{demo_number, number_or, units_given, width_given}
 use Rattle.fx_words.specs.Rounding.{round_given}
 
 -- what a synthesis is asked for
@@ -22,12 +22,16 @@ pub data Command : Type 0 where
   Check : (file : Bytes) → Command
   Show : (file : Bytes) → Command
   Migrate : (file : Bytes) → Command
+  Node : (units : ℕ) (file : Bytes) → Command
   Synth : Synthesis → Command
   Demo : (n : ℕ) → Command
 
 -- each word as its bytes
 abbrev pub texts : List (String Global) → List Bytes
 texts words = map (λ w. string_bytes w) words
+
+abbrev pub node_options : List Bytes
+node_options = codes "units" ∷ []
 
 abbrev pub synth_options : List Bytes
 synth_options = codes "width" ∷ codes "function" ∷ codes "seed" ∷ codes "tries" ∷ codes "round" ∷ []
@@ -49,6 +53,14 @@ wanted_given given = wanted_of (width_given (given (codes "width"))) (number_or 
 abbrev pub synthesis_given : (Bytes → Option Bytes) → Option Command
 synthesis_given given = synthesis_of (wanted_given given) (given (codes "function")) (number_or 0 (2 ^ 64 - 1) (given (codes "seed"))) (given (codes "file"))
 
+-- a run of so many units, where neither the number nor the file is missing or wrong
+abbrev pub node_of : Option ℕ → Option Bytes → Option Command
+node_of (Some units) (Some file) = Some (Node units file)
+node_of units file = None
+
+abbrev pub node_given : (Bytes → Option Bytes) → Option Command
+node_given given = node_of (units_given (given (codes "units"))) (given (codes "file"))
+
 -- a demonstration of this number
 abbrev pub demo_given : Option Bytes → Option Command
 demo_given text = option_map Demo (option_and_then demo_number text)
@@ -60,6 +72,7 @@ options_of word =
     else if bytes_eq word (codes "check") then Some []
     else if bytes_eq word (codes "show") then Some []
     else if bytes_eq word (codes "migrate") then Some []
+    else if bytes_eq word (codes "node") then Some node_options
     else if bytes_eq word (codes "synth") then Some synth_options
     else if bytes_eq word (codes "demo") then Some []
     else None
@@ -71,6 +84,7 @@ command_given word given =
     else if bytes_eq word (codes "check") then option_map Check (given (codes "file"))
     else if bytes_eq word (codes "show") then option_map Show (given (codes "file"))
     else if bytes_eq word (codes "migrate") then option_map Migrate (given (codes "file"))
+    else if bytes_eq word (codes "node") then node_given given
     else if bytes_eq word (codes "synth") then synthesis_given given
     else if bytes_eq word (codes "demo") then demo_given (given (codes "file"))
     else None
@@ -79,9 +93,11 @@ command_given word given =
 abbrev pub lawful_command : Bytes → List Bytes → (Bytes → Option Bytes) → Option Command
 lawful_command word options given = if have_values options given then command_given word given else None
 
--- a synthesis is at one of the widths, with at most so many tries; a demonstration has a number from 1 to 500
+-- a synthesis is at one of the widths, with at most so many tries; a run has from 1 to 1,024 units, and a demonstration a number
+-- from 1 to 500
 abbrev pub IsLawfulCommand : Command → Type 0
 IsLawfulCommand (Synth s) = IsLawfulWanted s.wanted
+IsLawfulCommand (Node units file) = (1 ≤ units) × (units ≤ 1024)
 IsLawfulCommand (Demo n) = (1 ≤ n) × (n ≤ 500)
 IsLawfulCommand command = Unit {0}
 

@@ -18,12 +18,17 @@ abbrev pub number_or : ℕ → ℕ → Option (List ℕ) → Option ℕ
 number_or other limit None = Some other
 number_or other limit (Some text) = number_up_to limit text
 
--- the number of a demonstration, which isn't 0
+-- a number that isn't 0
 abbrev pub one_or_more : ℕ → Option ℕ
 one_or_more n = if nat_le 1 n then Some n else None
 
+-- the number of a demonstration
 abbrev pub demo_number : List ℕ → Option ℕ
 demo_number text = option_and_then one_or_more (number_up_to 500 text)
+
+-- the number of units of an option, which has to be given
+abbrev pub units_given : Option (List ℕ) → Option ℕ
+units_given text = option_and_then one_or_more (option_and_then (number_up_to 1024) text)
 
 -- the number, if words have that width
 abbrev pub one_of_widths : ℕ → Option ℕ

@@ -23,6 +23,13 @@ pub enum Command<'a> {
     Show(&'a str),
     /// Writes the bundle as one of the second version.
     Migrate(&'a str),
+    /// Runs the rows of so many units.
+    Node {
+        /// How many.
+        units: u32,
+        /// The name of FILE.
+        file: &'a str,
+    },
     /// Makes a bundle of a source.
     Synth(Synthesis<'a>),
     /// Synthesises and runs the source of this number.

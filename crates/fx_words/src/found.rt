@@ -4,12 +4,12 @@ ghost use Rattle.std.specs.Option.{option_copied, option_map_or};
 ghost use Rattle.clap.specs.Words.{first_of, found_of, rows_of, subcommand_rows_of};
 ghost use Rattle.fx_words.specs.Command as words;
 ghost use Rattle.fx_wanted.specs.Asked.{IsLawfulWanted};
-ghost use Rattle.fx_words.specs.Command.{IsLawfulCommand, demo_given, lawful_command, synth_options, wanted_given};
+ghost use Rattle.fx_words.specs.Command.{IsLawfulCommand, demo_given, lawful_command, node_options, synth_options, wanted_given};
 ghost use Rattle.fx_words.specs.CommandView.{command_found, command_view};
 ghost use Rattle.fx_words.specs.Grammar.{is_value, have_values};
 
 use crate::command::{Command, Synthesis};
-use crate::number::{demo_number, is_value, number_or, width_given};
+use crate::number::{demo_number, is_value, number_or, units_given, width_given};
 use crate::round::round_given;
 use clap::ArgMatches;
 use fx_wanted::{TRIES_LIMIT, Wanted};
@@ -82,6 +82,18 @@ fn migrate_in<'a>(matches: &ArgMatches<'a>) -> Option<Command<'a>>
     }
 }
 
+fn node_in<'a>(matches: &ArgMatches<'a>) -> Option<Command<'a>>
+    ensures command { option_map command_view result ≡ lawful_command (codes "node") node_options (λ name. first_of name (rows_of (found_of matches.now))) }
+    ensures lawful { IfSome result (λ c. IsLawfulCommand (command_view c)) }
+{
+    if !has_value(matches, "units") {
+        return None;
+    }
+    let units = units_given(text_of(matches, "units"))?;
+    let file = text_of(matches, "file")?;
+    Some(Command::Node { units, file })
+}
+
 // What is asked of a synthesis.
 fn wanted_in(matches: &ArgMatches) -> Option<Wanted>
     ensures wanted { result ≡ wanted_given (λ name. first_of name (rows_of (found_of matches.now))) }
@@ -135,6 +147,7 @@ pub fn command_in<'a>(matches: &ArgMatches<'a>) -> Option<Command<'a>>
         "check" => check_in(found),
         "show" => show_in(found),
         "migrate" => migrate_in(found),
+        "node" => node_in(found),
         "synth" => synth_in(found),
         "demo" => demo_in(found),
         _ => None,

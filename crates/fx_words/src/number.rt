@@ -5,7 +5,7 @@ ghost use Rattle.std.specs.List.{list_all, list_any};
 ghost use Rattle.std.specs.Option.{option_copied};
 ghost use Rattle.fx_model.specs.LawfulProgram.{widths};
 ghost use Rattle.fx_words.specs.Grammar.{is_value};
-ghost use Rattle.fx_words.specs.Numbers.{demo_number, is_numeral, number_up_to, number_or, width_given};
+ghost use Rattle.fx_words.specs.Numbers.{demo_number, is_numeral, number_up_to, number_or, units_given, width_given};
 
 /// Whether an option may have this value.
 pub fn is_value(text: &str) -> bool
@@ -73,6 +73,19 @@ pub fn demo_number(text: &str) -> Option<u32>
     ensures limited { IfSome result (λ n. (1 ≤ n) × (n ≤ 500)) }
 {
     let number = number_up_to(text, 500)?;
+    if number >= 1 {
+        Some(number as u32)
+    } else {
+        None
+    }
+}
+
+/// The number of units of an option.
+pub fn units_given(text: Option<&str>) -> Option<u32>
+    ensures units { result ≡ units_given (option_copied text.entry) }
+    ensures limited { IfSome result (λ n. (1 ≤ n) × (n ≤ 1024)) }
+{
+    let number = number_up_to(text?, 1_024)?;
     if number >= 1 {
         Some(number as u32)
     } else {

@@ -3,7 +3,7 @@ ghost use Rattle.std.specs.Prelude.{◌≡◌, IfOk, false, codes};
 ghost use Rattle.clap.specs.Words.{app_of, rule_of};
 ghost use Rattle.clap.specs.declared.builder.command.Command.TheViews.{out-Command};
 ghost use Rattle.clap.specs.Simple.{with_rule, with_subcommand};
-ghost use Rattle.fx_words.specs.App.{file_rule, option_rule, required_option_rule, file_app, synth_app, top_app, bundles_app, fixd_app};
+ghost use Rattle.fx_words.specs.App.{file_rule, option_rule, required_option_rule, file_app, node_app, synth_app, top_app, bundles_app, rows_app, fixd_app};
 
 use clap::{Arg, ArgAction, Command as Parser};
 use std::alloc::{AllocError, Global};
@@ -49,6 +49,15 @@ fn with_argument<'a>(command: Parser<'a>, arg: Arg<'a>) -> Result<Parser<'a>, Al
     ensures own { IfOk result (λ c. (out-Command c).has_globals ≡ false) }
 {
     command.arg(arg)
+}
+
+fn node<'a>(alloc: Global) -> Result<Parser<'a>, AllocError>
+    ensures app { IfOk result (λ c. app_of c ≡ node_app) }
+    ensures own { IfOk result (λ c. (out-Command c).has_globals ≡ false) }
+{
+    let command = Parser::new(alloc, "node");
+    let command = with_argument(command, required_option(alloc, "units"))?;
+    with_argument(command, file(alloc))
 }
 
 fn synth<'a>(alloc: Global) -> Result<Parser<'a>, AllocError>
@@ -106,11 +115,20 @@ fn on_bundles<'a>(alloc: Global) -> Result<Parser<'a>, AllocError>
     with_file_command(alloc, line, "migrate")
 }
 
+// The same, and the rows of many units.
+fn on_rows<'a>(alloc: Global) -> Result<Parser<'a>, AllocError>
+    ensures { IfOk result (λ c. app_of c ≡ rows_app) }
+{
+    let line = on_bundles(alloc)?;
+    let node = node(alloc)?;
+    with_command(line, node)
+}
+
 /// The whole command line.
 pub fn fixd<'a>(alloc: Global) -> Result<Parser<'a>, AllocError>
     ensures { IfOk result (λ c. app_of c ≡ fixd_app) }
 {
-    let line = on_bundles(alloc)?;
+    let line = on_rows(alloc)?;
     let synth = synth(alloc)?;
     let line = with_command(line, synth)?;
     with_file_command(alloc, line, "demo")

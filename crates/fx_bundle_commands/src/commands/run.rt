@@ -11,22 +11,22 @@ ghost use Rattle.fx_ends.specs.EndView.{end_of};
 ghost use Rattle.fx_ends.specs.Notes.{AreNotes};
 ghost use Rattle.fx_bundle_commands.specs.Opening.{IsOpen};
 ghost use Rattle.fx_bundle_commands.specs.OpeningView.{IsQuiet, with_source};
-ghost use Rattle.fx_bundle_commands.specs.commands.Run.{HasAnswered, RunEnds, Runs};
+ghost use Rattle.fx_bundle_commands.specs.commands.Rows.{HasAnswered};
+ghost use Rattle.fx_bundle_commands.specs.commands.Run.{RunEnds, Runs};
 
 use crate::open::open;
 use fx_base::{Shelf, Sink, Source, Status};
 use fx_checker::Certified;
 use fx_ends::End;
 use fx_expr::Input;
-use fx_filter::RunFault;
-use fx_run::run_rows;
+use fx_run::{RunFault, run_rows};
 use std::alloc::Global;
 
-// In bytes: the longest input of rows.
-const ROWS_LIMIT: u64 = 1_099_511_627_776;
+/// In bytes: the longest input of rows.
+pub(crate) const ROWS_LIMIT: u64 = 1_099_511_627_776;
 
-// The inputs of a certified function.
-fn inputs_of(certified: &Certified) -> &[Input]
+/// The inputs of a certified function.
+pub(crate) fn inputs_of(certified: &Certified) -> &[Input]
     ensures { map input_of result.now ≡ certified.now.function.inputs }
 {
     certified.function().inputs.as_slice()
@@ -77,7 +77,7 @@ pub fn run_file<H: Shelf, S: Source<K>, K: Sink, N: Sink>(
         (record { left = S.left input.old; read_faults = S.faults input.old; taken = K.taken output.old; write_faults = K.faults output.old })
         (record { left = S.left input.new; read_faults = S.faults input.new; taken = K.taken output.new; write_faults = K.faults output.new })
         name.now end × (IsQuiet end → (input.new ≡ input.old) × (output.new ≡ output.old)) }
-    ensures prompt { HoldsEachTime (HasAnswered (H.papers shelf.old) name.now (S.left input.old) (K.taken output.old)) (S.asked input.old) (S.asked input.new) }
+    ensures prompt { HoldsEachTime (HasAnswered run_outcome (H.papers shelf.old) name.now (S.left input.old) (K.taken output.old)) (S.asked input.old) (S.asked input.new) }
     ensures untouched { IsOpen (H.papers shelf.old) name.now ⊎ ((input.new ≡ input.old) × (output.new ≡ output.old)) }
     ensures consumed { (taken : List ℕ) × Consumes (S.left input.old) (S.left input.new) taken }
     ensures appended { Grows (K.taken output.old) (K.taken output.new) }

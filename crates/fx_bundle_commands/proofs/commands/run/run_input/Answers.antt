@@ -1,30 +1,21 @@
-use Rattle.std.proofs.Common.{◌≡◌, ◌≢◌, ◌↔◌, ◌<◌, Err, List, ℕ, Option, length, refl, sym, ap, subst}
-use Rattle.std.specs.Io.KnownBytes.{Consumes}
-use Rattle.fx_model.specs.Limits.{rows_limit}
+use Rattle.std.proofs.Common.{◌≡◌, Err, List, ℕ, Option, refl, sym, ap, subst}
 use Rattle.fx_filter.specs.Outcome.{Outcome}
 use Rattle.fx_filter.specs.Promise.{IsDue}
 use Rattle.fx_filter.specs.declared.fault.RunFault.{RunFault}
 use Rattle.fx_run.specs.Printed.{run_outcome}
-use Rattle.fx_rows.specs.Faults.{row_fault_of}
+use Rattle.fx_rows.specs.Faults.{RowFlaw, row_fault_of}
+use Rattle.fx_rows.specs.declared.fault.RowFault.{RowFault}
 use Rattle.fx_bundle_commands.specs.OpeningView.{with_source}
 use Rattle.fx_bundle_commands.specs.Outside.{Streams}
 use Rattle.fx_ends.specs.Ends as ends
 use Rattle.fx_ends.specs.Ends.{End}
-use Rattle.fx_bundle_commands.specs.commands.Run.{RowsEnd, Takes, all_run, bad_row, unread, unwritten, long, no_memory}
+use Rattle.fx_bundle_commands.specs.commands.Rows.{RowsEnd, all_run, bad_line, unread, unwritten, long, no_memory}
+use Rattle.fx_bundle_commands.proofs.RowsEnds.{taken_at, taken_short}
 use Rattle.fx_bundle_commands.proofs.commands.run.run_input.Goals as goal
 
-due_of : (o : List (List ℕ) → Outcome) (left left' before after : Option (List ℕ)) (fault named : RunFault) → fault ≡ named → IsDue o left left' before after fault → IsDue o left left' before after named
-due_of o left left' before after fault named is due = subst (IsDue o left left' before after) is due
-
--- what was taken, where this end and the fault of too many bytes come together
-taken_at : (old new : Streams) (end : End) (IsLong : Type 0) → (end ≡ ends.OverLimit → IsLong) → (IsLong → end ≡ ends.OverLimit) →
-    ((taken : List ℕ) × Consumes old.left new.left taken × (IsLong ↔ (rows_limit < length taken))) → Takes old new end
-taken_at old new end IsLong to from t = record { bytes = t.0; front = t.1; over = (λ e. t.2.0 (to e), λ more. from (t.2.1 more)) }
-
--- an end other than that, of a fault other than that
-taken_short : (old new : Streams) (end : End) (IsLong : Type 0) → (end ≢ ends.OverLimit) → (IsLong → ⊥) →
-    ((taken : List ℕ) × Consumes old.left new.left taken × (IsLong ↔ (rows_limit < length taken))) → Takes old new end
-taken_short old new end IsLong other short t = taken_at old new end IsLong (λ e. absurd (other e)) (λ long. absurd (short long)) t
+due_of : (o : List (List ℕ) → Outcome RowFlaw) (left left' before after : Option (List ℕ)) (fault named : RunFault RowFault) → fault ≡ named → IsDue row_fault_of o left left' before after fault
+    → IsDue row_fault_of o left left' before after named
+due_of o left left' before after fault named is due = subst (IsDue row_fault_of o left left' before after) is due
 
 pub returns-in-Ok-clause-ended : goal.returns-in-Ok-clause-ended
 returns-in-Ok-clause-ended g c = λ source. let r = c.in-Ok.ensures in record { law = r.honest; taken = taken_short _ _ _ _ (λ e. absurd cc) (λ e. absurd cc) r.taken; rows = all_run _ r.done r.end }
@@ -34,12 +25,12 @@ returns-in-Err-Row-clause-ended g c = λ source.
     let r = c.in-Err-Row.ensures in let a = c.args.certified.now in
     let old : Streams = record { left = g.S.Source.left c.args.input.now; read_faults = g.S.Source.faults c.args.input.now; taken = g.K.Sink.taken c.args.output.now; write_faults = g.K.Sink.faults c.args.output.now } in
     let new : Streams = record { left = g.S.Source.left c.run_rows.new.source; read_faults = g.S.Source.faults c.run_rows.new.source; taken = g.K.Sink.taken c.run_rows.new.sink; write_faults = g.K.Sink.faults c.run_rows.new.sink } in
-    let row : RowsEnd old new (with_source a source) a.function (ends.BadRow a.function.inputs c.in-Err-Row.line (row_fault_of c.in-Err-Row.fault)) =
-    bad_row c.in-Err-Row.line c.in-Err-Row.fault (due_of (run_outcome a.function a.program) _ _ _ _ _ _ c.in-Err-Row.field-0-is c.in-Err-Row.ensures.due) in
+    let row : RowsEnd (run_outcome a.function a.program) (ends.BadRow a.function.inputs) old new (ends.BadRow a.function.inputs c.in-Err-Row.line (row_fault_of c.in-Err-Row.fault)) =
+    bad_line c.in-Err-Row.line (row_fault_of c.in-Err-Row.fault) (due_of (run_outcome a.function a.program) _ _ _ _ _ _ c.in-Err-Row.field-0-is c.in-Err-Row.ensures.due) in
     record {
       law = r.honest;
       taken = taken_short _ _ _ _ (λ e. absurd cc) (λ e. let is = c.in-Err-Row.field-0-is in absurd cc) r.taken;
-      rows = subst (λ inputs. RowsEnd old new (with_source a source) a.function (ends.BadRow inputs c.in-Err-Row.line (row_fault_of c.in-Err-Row.fault))) (sym c.inputs_of.ensures) row;
+      rows = subst (λ inputs. RowsEnd (run_outcome a.function a.program) (ends.BadRow a.function.inputs) old new (ends.BadRow inputs c.in-Err-Row.line (row_fault_of c.in-Err-Row.fault))) (sym c.inputs_of.ensures) row;
     }
 
 pub returns-in-Err-ReadFault-clause-ended : goal.returns-in-Err-ReadFault-clause-ended

@@ -1,0 +1,89 @@
+//! `node --units M FILE`: the rows of many units through an accepted bundle's program, each unit by itself.
+ghost use Rattle.std.specs.Prelude.{◌≡◌, ◌⊎◌, ◌≤◌, ℕ, List, map};
+ghost use Rattle.std.specs.Io.KnownBytes.{Consumes};
+ghost use Rattle.fx_expr.specs.Parts.{input_of};
+ghost use Rattle.fx_base.specs.Moments.{HoldsEachTime};
+ghost use Rattle.fx_filter.specs.Promise.{Grows, IsAnswered};
+ghost use Rattle.fx_node.specs.NodePage.{node_outcome};
+ghost use Rattle.fx_ends.specs.Ends as ends;
+ghost use Rattle.fx_ends.specs.Ends.{end_line, status_of};
+ghost use Rattle.fx_ends.specs.EndView.{end_of};
+ghost use Rattle.fx_ends.specs.Notes.{AreNotes};
+ghost use Rattle.fx_bundle_commands.specs.Opening.{IsOpen};
+ghost use Rattle.fx_bundle_commands.specs.OpeningView.{IsQuiet, with_source};
+ghost use Rattle.fx_bundle_commands.specs.commands.Rows.{HasAnswered};
+ghost use Rattle.fx_bundle_commands.specs.commands.Node.{NodeEnds, RunsUnits};
+
+use crate::commands::run::{ROWS_LIMIT, inputs_of};
+use crate::open::open;
+use fx_base::{Shelf, Sink, Source, Status};
+use fx_checker::Certified;
+use fx_ends::End;
+use fx_node::{NodeFault, run_node};
+use std::alloc::Global;
+
+// Runs the rows of the input.
+fn run_units<'a, S: Source<K>, K: Sink>(
+    alloc: Global,
+    certified: &'a Certified,
+    units: u32,
+    input: &mut S,
+    output: &mut K,
+) -> End<'a>
+    requires some { 1 ≤ units }
+    requires few { units ≤ 1024 }
+    ensures ended { (source : List ℕ) → RunsUnits units
+        (record { left = S.left input.old; read_faults = S.faults input.old; taken = K.taken output.old; write_faults = K.faults output.old })
+        (record { left = S.left input.new; read_faults = S.faults input.new; taken = K.taken output.new; write_faults = K.faults output.new })
+        (with_source certified.now source) certified.now.function (end_of result) }
+    ensures loud { IsQuiet (end_of result) → ⊥ }
+    ensures prompt { HoldsEachTime (IsAnswered (node_outcome certified.now.function certified.now.program units) (S.left input.old) (K.taken output.old)) (S.asked input.old) (S.asked input.new) }
+    ensures consumed { (taken : List ℕ) × Consumes (S.left input.old) (S.left input.new) taken }
+    ensures appended { Grows (K.taken output.old) (K.taken output.new) }
+{
+    match run_node(alloc, certified, units, input, output, ROWS_LIMIT) {
+        Ok(_) => End::Done,
+        Err(NodeFault::Row { line, fault }) => End::BadRow {
+            inputs: inputs_of(certified),
+            line,
+            fault,
+        },
+        Err(NodeFault::Unit { line, kind }) => End::BadUnit { line, kind },
+        Err(NodeFault::ReadFault) => End::ReadFault,
+        Err(NodeFault::WriteFault) => End::WriteFault,
+        Err(NodeFault::TooLong) => End::OverLimit,
+        Err(NodeFault::Memory) => End::NoMemory,
+    }
+}
+
+/// Runs the rows of so many units through the bundle in the file of this name, and prints a line for each.
+pub fn node_file<H: Shelf, S: Source<K>, K: Sink, N: Sink>(
+    alloc: Global,
+    shelf: &mut H,
+    units: u32,
+    name: &str,
+    input: &mut S,
+    output: &mut K,
+    notes: &mut N,
+) -> Status
+    requires some { 1 ≤ units }
+    requires few { units ≤ 1024 }
+    ensures ended { (end : ends.End) × (result ≡ status_of end) ×
+        AreNotes (N.taken notes.old) (N.taken notes.new) (N.faults notes.old) (N.faults notes.new) (end_line end) ×
+        NodeEnds (H.papers shelf.old) (H.faults shelf.old) (H.faults shelf.new)
+        (record { left = S.left input.old; read_faults = S.faults input.old; taken = K.taken output.old; write_faults = K.faults output.old })
+        (record { left = S.left input.new; read_faults = S.faults input.new; taken = K.taken output.new; write_faults = K.faults output.new })
+        units name.now end × (IsQuiet end → (input.new ≡ input.old) × (output.new ≡ output.old)) }
+    ensures prompt { HoldsEachTime (HasAnswered (λ fn p. node_outcome fn p units) (H.papers shelf.old) name.now (S.left input.old) (K.taken output.old)) (S.asked input.old) (S.asked input.new) }
+    ensures untouched { IsOpen (H.papers shelf.old) name.now ⊎ ((input.new ≡ input.old) × (output.new ≡ output.old)) }
+    ensures consumed { (taken : List ℕ) × Consumes (S.left input.old) (S.left input.new) taken }
+    ensures appended { Grows (K.taken output.old) (K.taken output.new) }
+{
+    match open(alloc, shelf, name) {
+        Err(end) => end.finish(notes),
+        Ok(opened) => {
+            let end = run_units(alloc, &opened.certified, units, input, output);
+            end.finish(notes)
+        }
+    }
+}
