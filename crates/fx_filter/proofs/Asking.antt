@@ -13,7 +13,7 @@ use Rattle.fx_base.specs.declared.answers.LineFault.{LineFault}
 use Rattle.fx_base.specs.declared.answers.LineFault.TheVariants as line
 use Rattle.fx_filter.specs.Outcome.{Outcome}
 use Rattle.fx_filter.specs.Promise.{IsFailed}
-use Rattle.fx_filter.specs.Running.{Asked, IsAsked, IsFlushed, Ran}
+use Rattle.fx_filter.specs.Running.{Asked, IsAsked, IsFlushed, IsUrgent, Ran}
 use Rattle.fx_filter.specs.declared.fault.RunFault.TheVariants.{ReadFault, TooLong}
 use Rattle.fx_filter.proofs.Exits.{cut-here, read-failed}
 use Rattle.fx_filter.proofs.Turns.{all-written, asked-of, on-err, on-ok, right-of, total, up-to}
@@ -33,10 +33,11 @@ pub record Turn (r r' : LinesState) (left1 left2 : Option (List ℕ)) (more : Li
   pub within : OnOk result (r'.taken ≤ r.limit)
   pub limit : r'.limit ≡ r.limit
   pub lazy : held ≡ true → (r'.taken ≡ r.taken) × (result ≡ Ok Line)
+  pub unheld : held ≡ false → position (λ b. b == 10) r.held ≡ None
   pub after_end : r.is_ended ≡ true → (left2 ≡ left1) × (r'.taken ≡ r.taken) × (result ≡ Ok End)
 
-module _ (o now : List (List ℕ) → Outcome) (r r' : LinesState) (left left1 left2 before after mid : Option (List ℕ)) (page page' more : List ℕ) (count : ℕ) (held : Bool) (result : Result LineStep LineFault)
-    (none : (now []).text ≡ []) (ran : Ran o now r left left1 before after page count r.limit) (small : r.limit < 18446744073709551615)
+module _ {T F : Type 0} (told : F → T) (o now : List (List ℕ) → Outcome T) (r r' : LinesState) (left left1 left2 before after mid : Option (List ℕ)) (page page' more : List ℕ) (count : ℕ) (held : Bool) (result : Result LineStep LineFault)
+    (none : IsUrgent (not held) page → (now []).text ≡ []) (ran : Ran o now r left left1 before after page count r.limit) (small : r.limit < 18446744073709551615)
     (flush : IsFlushed (not held) after mid page page') (t : Turn r r' left1 left2 more held result) where
   asked : Asked o now r left left1 left2 before mid page' more count r.limit
   asked =
@@ -48,6 +49,9 @@ module _ (o now : List (List ℕ) → Outcome) (r r' : LinesState) (left left1 l
 
   written : (result ≡ Ok Line → ⊥) → page' ≡ []
   written other = all-written after mid page page' held flush (λ e. other (t.lazy e).1)
+
+  nothing-held : (result ≡ Ok Line → ⊥) → held ≡ false
+  nothing-held other = false_from_ne_true held (λ e. other (t.lazy e).1)
 
   within : (step : LineStep) → result ≡ Ok step → r'.taken ≤ r.limit
   within step e = on-ok result (ap is_err e) t.within
@@ -88,19 +92,20 @@ module _ (o now : List (List ℕ) → Outcome) (r r' : LinesState) (left left1 l
       none = t.none e;
       end = at_end e;
       number = t.number (λ f. let z = sym e ∙ f in absurd cc);
+      unheld = t.unheld (nothing-held (λ f. let z = sym e ∙ f in absurd cc));
     };
   }
 
-  pub failed : result ≡ Err line.ReadFault → position (λ b. b == 10) r'.held ≡ None → (r.limit < r'.taken → ⊥) → IsFailed o left left2 before mid r.limit ReadFault
+  pub failed : result ≡ Err line.ReadFault → position (λ b. b == 10) r'.held ≡ None → (r.limit < r'.taken → ⊥) → IsFailed told o left left2 before mid r.limit ReadFault
   failed e nowhere not_over =
       let kept : r'.held ≡ r.held ++ more = on-err result (ap is_err e) t.kept in
       let under : r'.taken ≤ r.limit = omega (arith, not_over) in (
-        read-failed o now r left left1 left2 before mid page' more count r.limit none asked.ran (written (λ f. let z = sym e ∙ f in absurd cc)) (unended (λ f. let z = sym e ∙ f in absurd cc)) t.took
+        read-failed told o now r left left1 left2 before mid page' more count r.limit (none (inl (ap not (nothing-held (λ f. let z = sym e ∙ f in absurd cc))))) asked.ran (written (λ f. let z = sym e ∙ f in absurd cc)) (unended (λ f. let z = sym e ∙ f in absurd cc)) t.took
             (subst (λ h. position (λ b. b == 10) h ≡ None) kept nowhere),
         up-to o now r left left1 left2 before mid page' more count r.limit ReadFault asked.ran t.took (let sum : r'.taken ≡ r.taken + length more = summed under in omega arith) (λ f. absurd cc),
       )
 
-  pub over : r.limit < r'.taken → IsFailed o left left2 before mid r.limit TooLong
+  pub over : r.limit < r'.taken → IsFailed told o left left2 before mid r.limit TooLong
   over more_than =
       let all = total o now r left left1 left2 before mid page' more count r.limit asked.ran t.took in
       let size : length all.0 ≡ r.taken + length more = all.2 in

@@ -1,26 +1,24 @@
 -- Each time that the source is asked, what is printed of the lines so far is written.
-use Rattle.std.proofs.Common.{◌≡◌, ℕ, ◌+◌, Bool, true, false, not, List, [], ◌++◌, Option, length, refl, sym, subst, ◌∙◌}
-use Rattle.std.specs.Prelude.{◌==◌, None, position}
-use Rattle.std.specs.Io.KnownBytes.{Consumes}
+use Rattle.std.proofs.Common.{◌≡◌, ℕ, Bool, true, false, not, List, [], Option, refl, sym, ap, subst, ◌∙◌, inl}
 use Rattle.fx_base.specs.LineSteps.{LinesState}
 use Rattle.fx_base.specs.Moments.{Moment, HoldsEachTime, IsSought}
 use Rattle.fx_base.proofs.Noting.{noted_as, same_noted}
 use Rattle.fx_filter.specs.Outcome.{Outcome}
 use Rattle.fx_filter.specs.Promise.{IsAnswered, PrintsWholeLines}
-use Rattle.fx_filter.specs.Running.{IsFlushed, Ran}
-use Rattle.fx_filter.proofs.Exits.{read-failed}
+use Rattle.fx_filter.specs.Running.{IsFlushed, IsUrgent, Ran}
+use Rattle.fx_filter.proofs.Exits.{lines-printed}
 use Rattle.fx_filter.proofs.Steps.{flushed}
 use Rattle.fx_filter.proofs.Turns.{all-written}
 
-module _ (o now : List (List ℕ) → Outcome) (r : LinesState) (left left1 before after mid : Option (List ℕ)) (page page' : List ℕ) (count bound : ℕ) (held : Bool)
-    (none : (now []).text ≡ []) (ran : Ran o now r left left1 before after page count bound) (flush : IsFlushed (not held) after mid page page') where
+module _ {T : Type 0} (o now : List (List ℕ) → Outcome T) (r : LinesState) (left left1 before after mid : Option (List ℕ)) (page page' : List ℕ) (count bound : ℕ) (held : Bool)
+    (none : IsUrgent (not held) page → (now []).text ≡ []) (ran : Ran o now r left left1 before after page count bound) (flush : IsFlushed (not held) after mid page page') where
   -- at a read behind a flush, where the input hasn't ended
   at_read : held ≡ false → r.is_ended ≡ false → (m : Moment) → IsSought r.held left1 mid m → IsAnswered o left before m
   at_read unheld unended m sought =
       let fresh = flushed o now r left left1 before after mid page page' count bound (not held) none ran flush in
       let empty : page' ≡ [] = all-written after mid page page' held flush (λ e. let z : true ≡ false = sym e ∙ unheld in absurd cc) in
       subst (λ t. PrintsWholeLines o left m.left before t) (sym sought.3)
-      (read-failed o now r left left1 m.left before mid page' sought.0 count bound none fresh.ran empty unended sought.1 sought.2).1
+      (lines-printed o now r left left1 m.left before mid page' sought.0 count bound (none (inl (ap not unheld))) fresh.ran empty unended sought.1 sought.2)
 
   -- where a line is held, or the input has ended, the source isn't asked
   pub answered : (was is : List Moment) (ended : Bool) → r.is_ended ≡ ended → (held ≡ true → is ≡ was) → (r.is_ended ≡ true → is ≡ was)

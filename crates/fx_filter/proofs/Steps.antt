@@ -9,17 +9,17 @@ use Rattle.std.proofs.Common.{inl, inr}
 use borrow.Author.Tests.{ltb-true}
 use Rattle.fx_base.specs.Text.{text_at, lines_in}
 use Rattle.fx_base.specs.LineSteps.{LinesState, IsFirstLine, EndsLine, TakesLine}
-use Rattle.fx_filter.specs.Outcome.{Outcome, behind_lines}
+use Rattle.fx_filter.specs.Outcome.{Outcome, behind_lines, behind_text}
 use Rattle.fx_filter.specs.Promise.{AreWholeLines}
-use Rattle.fx_filter.specs.Running.{Ran, IsFlushed}
-use Rattle.fx_filter.proofs.Outcomes.{behind-twice, behind-same, behind-nothing}
+use Rattle.fx_filter.specs.Running.{Ran, IsFlushed, IsUrgent}
+use Rattle.fx_filter.proofs.Outcomes.{behind-held, behind-twice, behind-same, behind-nothing}
 
 -- no line is left in nothing
 pub nothing-left : (is_first : Bool) → lines (text_at is_first []) ≡ []
 nothing-left true = refl
 nothing-left false = refl
 
-pub start : (o : List (List ℕ) → Outcome) (left before : Option (List ℕ)) (bound : ℕ) → (o []).text ≡ []
+pub start : {T : Type 0} (o : List (List ℕ) → Outcome T) (left before : Option (List ℕ)) (bound : ℕ) → (o []).text ≡ []
     → Ran o o (record { line = []; held = []; number = 0; taken = 0; limit = bound; is_ready = true; is_ended = false }) left left before before [] 0 bound
 start o left before bound none = record {
   front = [];
@@ -48,25 +48,25 @@ start o left before bound none = record {
 }
 
 -- the lines that were answered are those of their bytes
-pub lines-front : (o now : List (List ℕ) → Outcome) (r : LinesState) (left left' before after : Option (List ℕ)) (page : List ℕ) (count bound : ℕ)
+pub lines-front : {T : Type 0} (o now : List (List ℕ) → Outcome T) (r : LinesState) (left left' before after : Option (List ℕ)) (page : List ℕ) (count bound : ℕ)
     → (ran : Ran o now r left left' before after page count bound) → lines_in ran.front ≡ ran.done
 lines-front o now r left left' before after page count bound ran =
     ap lines_in (sym (append-nil ran.front)) ∙ ran.cuts [] (λ _. refl) ∙ ap (λ t. ran.done ++ t) (nothing-left (r.number == 0)) ∙ append-nil ran.done
 
 -- their text
-pub text-front : (o now : List (List ℕ) → Outcome) (r : LinesState) (left left' before after : Option (List ℕ)) (page : List ℕ) (count bound : ℕ) → (now []).text ≡ []
+pub text-front : {T : Type 0} (o now : List (List ℕ) → Outcome T) (r : LinesState) (left left' before after : Option (List ℕ)) (page : List ℕ) (count bound : ℕ) → (now []).text ≡ []
     → (ran : Ran o now r left left' before after page count bound) → (o (lines_in ran.front)).text ≡ ran.sent ++ page
-text-front o now r left left' before after page count bound none ran =
+text-front {T = T} o now r left left' before after page count bound none ran =
     ap (λ t. (o t).text) (lines-front o now r left left' before after page count bound ran ∙ sym (append-nil ran.done))
-    ∙ ap (λ (x : Outcome). x.text) (ran.printed []) ∙ ap (λ t. (ran.sent ++ page) ++ t) none ∙ append-nil (ran.sent ++ page)
+    ∙ ap (λ (x : Outcome T). x.text) (ran.printed []) ∙ ap (λ t. (ran.sent ++ page) ++ t) none ∙ append-nil (ran.sent ++ page)
 
 -- all text is written
-pub record Fresh (o now : List (List ℕ) → Outcome) (r : LinesState) (left left' before after : Option (List ℕ)) (page : List ℕ) (count bound : ℕ) (must : Bool) : Type 0 where
+pub record Fresh {T : Type 0} (o now : List (List ℕ) → Outcome T) (r : LinesState) (left left' before after : Option (List ℕ)) (page : List ℕ) (count bound : ℕ) (must : Bool) : Type 0 where
   pub ran : Ran o now r left left' before after page count bound
   pub empty : must ≡ true → page ≡ []
   pub late : must ≡ true → r.is_ended ≡ false → ran.late ≡ []
 
-written-by : (o now : List (List ℕ) → Outcome) (r : LinesState) (left left' before after after' : Option (List ℕ)) (page : List ℕ) (count bound : ℕ) (must : Bool) (is_ended : Bool)
+written-by : {T : Type 0} (o now : List (List ℕ) → Outcome T) (r : LinesState) (left left' before after after' : Option (List ℕ)) (page : List ℕ) (count bound : ℕ) (must : Bool) (is_ended : Bool)
     → r.is_ended ≡ is_ended → (now []).text ≡ [] → Ran o now r left left' before after page count bound → Appends after after' page
     → Fresh o now r left left' before after' [] count bound must
 written-by o now r left left' before after after' page count bound must true e none ran put = record {
@@ -129,23 +129,56 @@ written-by o now r left left' before after after' page count bound must false e 
 }
 
 -- a flush, or none
-pub flushed : (o now : List (List ℕ) → Outcome) (r : LinesState) (left left' before after after' : Option (List ℕ)) (page page' : List ℕ) (count bound : ℕ) (must : Bool)
-    → (now []).text ≡ [] → Ran o now r left left' before after page count bound → IsFlushed must after after' page page'
+pub flushed : {T : Type 0} (o now : List (List ℕ) → Outcome T) (r : LinesState) (left left' before after after' : Option (List ℕ)) (page page' : List ℕ) (count bound : ℕ) (must : Bool)
+    → (IsUrgent must page → (now []).text ≡ []) → Ran o now r left left' before after page count bound → IsFlushed must after after' page page'
     → Fresh o now r left left' before after' page' count bound must
 flushed o now r left left' before after after' page page' count bound must none ran (inl done) =
-    subst (λ p. Fresh o now r left left' before after' p count bound must) (sym done.0)
-    (written-by o now r left left' before after after' page count bound must r.is_ended refl none ran done.1)
+    subst (λ p. Fresh o now r left left' before after' p count bound must) (sym done.1)
+    (written-by o now r left left' before after after' page count bound must r.is_ended refl (none done.0) ran done.2)
 flushed o now r left left' before after after' page page' count bound must none ran (inr kept) =
     subst (λ p. Fresh o now r left left' before after' p count bound must) (sym kept.1)
     (subst (λ a. Fresh o now r left left' before a page count bound must) (sym kept.2)
     (record { ran = ran; empty = λ e. absurd (cc); late = λ e _. absurd (cc) }))
+
+-- what was held back is printed
+pub put-out : {T : Type 0} (o now now' : List (List ℕ) → Outcome T) (r : LinesState) (left left' before after : Option (List ℕ)) (page page' : List ℕ) (count bound : ℕ)
+    → Ran o now r left left' before after page count bound
+    → (text : List ℕ) × (page' ≡ page ++ text) × ((rest : List (List ℕ)) → now rest ≡ behind_text text (now' rest))
+    → Ran o now' r left left' before after page' count bound
+put-out o now now' r left left' before after page page' count bound ran put = subst (λ p. Ran o now' r left left' before after p count bound) (sym put.1) (record {
+  front = ran.front;
+  done = ran.done;
+  sent = ran.sent;
+  taken = ran.taken;
+  size = ran.size;
+  cuts = ran.cuts;
+  whole = ran.whole;
+  ended = ran.ended;
+  printed = λ rest. ran.printed rest ∙ ap (behind_lines (length ran.done) (ran.sent ++ page) count) (put.2 rest)
+      ∙ behind-held (length ran.done) (ran.sent ++ page) put.0 count (now' rest)
+      ∙ behind-same _ _ _ _ _ _ (now' rest) refl (append_assoc ran.sent page put.0) refl;
+  written = ran.written;
+  number = ran.number;
+  counts = ran.counts;
+  limit = ran.limit;
+  within = ran.within;
+  ready = ran.ready;
+  few = ran.few;
+  early = ran.early;
+  late = ran.late;
+  parts = ran.parts;
+  early_whole = ran.early_whole;
+  extra = ran.extra;
+  early_text = ran.early_text;
+  prompt = ran.prompt;
+})
 
 -- the bytes of a line behind others
 fed-behind : (front raw : List ℕ) → EndsLine raw → AreWholeLines (front ++ raw)
 fed-behind front raw fed = inr (front ++ fed.0, ap (λ t. front ++ t) fed.1 ∙ sym (append_assoc front fed.0 (10 ∷ [])))
 
 -- a line was taken
-pub stepped : (o now now' : List (List ℕ) → Outcome) (r r' : LinesState) (left left1 left2 before after : Option (List ℕ)) (page text more : List ℕ) (count n bound : ℕ)
+pub stepped : {T : Type 0} (o now now' : List (List ℕ) → Outcome T) (r r' : LinesState) (left left1 left2 before after : Option (List ℕ)) (page text more : List ℕ) (count n bound : ℕ)
     → (ran : Ran o now r left left1 before after page count bound) → r.is_ended ≡ false → Consumes left1 left2 more → TakesLine r r' more
     → r'.taken ≡ r.taken + length more → r'.number + length r'.held ≤ r'.taken → r'.limit ≡ r.limit → r'.taken ≤ bound → r'.is_ready ≡ true
     → (r'.is_ended ≡ true → IsAtEnd left2) → length ran.late + (length r.held + length more) ≤ 131072

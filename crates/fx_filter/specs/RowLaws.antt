@@ -7,7 +7,7 @@ use Rattle.fx_rational.specs.Decimal.{Decimal}
 use Rattle.fx_model.specs.Function.{Function}
 use Rattle.fx_model.specs.Limits.{line_limit}
 use Rattle.fx_fields.specs.Line.{line_fields, is_return}
-use Rattle.fx_rows.specs.Faults.{at_input}
+use Rattle.fx_rows.specs.Faults.{RowFlaw, at_input}
 use Rattle.fx_rows.specs.Header.{header_of_fields, column_names}
 use Rattle.fx_rows.specs.Values.{row_of_fields, stopped as row_stopped}
 use Rattle.fx_rows.specs.declared.fault.RowKind.TheVariants.{LineTooLong, StrayReturn}
@@ -41,5 +41,5 @@ long_stops f head page e (Some columns) line rest h =
     ap (λ x. lines_outcome_by page (after_row x (rows_from f columns rest))) (long_row f columns line (nat_lt line_limit (length line)) (lt-ltb line_limit (length line) h))
     ∙ ap (λ t. record { text = t; rows = 0; bad = Some (0, too_long) }) e
   where
-    lines_outcome_by : (List (List Decimal) → List ℕ) → Given → Outcome
+    lines_outcome_by : (List (List Decimal) → List ℕ) → Given → Outcome RowFlaw
     lines_outcome_by page g = record { text = page g.rows; rows = length g.rows; bad = g.bad }

@@ -46,9 +46,13 @@ pub record Ran {T : Type 0} (first now : List (List ℕ) → Outcome T) (r : Lin
 abbrev pub GoesOut : LinesState → List ℕ → Type 0
 GoesOut r page = (position (λ b. b == 10) r.held ≡ None) ⊎ (HasRoom page → ⊥)
 
--- all is written, or a part of it where that isn't asked for
+-- why text is written: it has to be, or there is no room for what the next line prints
+abbrev pub IsUrgent : Bool → List ℕ → Type 0
+IsUrgent must page = (must ≡ true) ⊎ (HasRoom page → ⊥)
+
+-- all is written with reason, or nothing where that isn't asked for
 abbrev pub IsFlushed : Bool → Option (List ℕ) → Option (List ℕ) → List ℕ → List ℕ → Type 0
-IsFlushed must before after old new = ((new ≡ []) × Appends before after old) ⊎ ((must ≡ false) × (new ≡ old) × (after ≡ before))
+IsFlushed must before after old new = (IsUrgent must old × (new ≡ []) × Appends before after old) ⊎ ((must ≡ false) × (new ≡ old) × (after ≡ before))
 
 -- the next line was asked for: what was printed before is written or kept, and these bytes more were taken
 pub record Asked {T : Type 0} (o now : List (List ℕ) → Outcome T) (r : LinesState) (left left1 left2 before mid : Option (List ℕ)) (page more : List ℕ) (count bound : ℕ) : Type 0 where
@@ -70,6 +74,7 @@ pub record HasNoLine (r r' : LinesState) (left : Option (List ℕ)) (page more :
   pub none : text_at (r.number == 0) (r.held ++ more) ≡ []
   pub end : IsAtEnd left
   pub number : r'.number ≡ r.number
+  pub unheld : position (λ b. b == 10) r.held ≡ None
 
 abbrev pub HasStepped : LineStep → LinesState → LinesState → Option (List ℕ) → List ℕ → List ℕ → Type 0
 HasStepped Line r r' left page more = HasLine r r' left more

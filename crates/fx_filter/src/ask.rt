@@ -31,22 +31,22 @@ fn flush<K: Sink>(page: &mut Page, must: bool, sink: &mut K) -> Result<(), Faile
 }
 
 /// Asks for the next line. What is printed so far is written before, where the bytes that were taken don't hold it whole.
-pub(crate) fn ask<F, S: Source<K>, K: Sink>(
+pub(crate) fn ask<P: Printer, S: Source<K>, K: Sink>(
     lines: &mut Lines,
     page: &mut Page,
     source: &mut S,
     sink: &mut K,
-) -> Result<LineStep, RunFault<F>>
+) -> Result<LineStep, RunFault<P::Flaw>>
     requires ready { IsTrue lines.old.is_ready }
     requires limit { lines.old.limit < 2 ^ 64 - 1 }
     ensures written { position (λ b. b == 10) lines.old.held ≡ None → result ≢ Err WriteFault → page.new ≡ [] }
     ensures untouched { IsErrOf result WriteFault → (source.new ≡ source.old) × (lines.new ≡ lines.old) }
-    ensures asked { {T : Type 0} (told : F → T) (o now : List (List ℕ) → Outcome T) (left before : Option (List ℕ)) (count : ℕ) → (GoesOut lines.old page.old → (now []).text ≡ [])
+    ensures asked { (o now : List (List ℕ) → Outcome P.Told) (left before : Option (List ℕ)) (count : ℕ) → (GoesOut lines.old page.old → (now []).text ≡ [])
         → Ran o now lines.old left (S.left source.old) before (K.taken sink.old) page.old count lines.old.limit
         → MatchResult result
         (λ step. IsAsked o now lines.old lines.new left (S.left source.old) (S.left source.new) before (K.taken sink.new) page.new count lines.old.limit step)
-        (λ fault. IsFailed told o left (S.left source.new) before (K.taken sink.new) lines.old.limit fault) }
-    ensures prompt { {T : Type 0} (o now : List (List ℕ) → Outcome T) (left before : Option (List ℕ)) (count : ℕ) → (GoesOut lines.old page.old → (now []).text ≡ [])
+        (λ fault. IsFailed P.told o left (S.left source.new) before (K.taken sink.new) lines.old.limit fault) }
+    ensures prompt { (o now : List (List ℕ) → Outcome P.Told) (left before : Option (List ℕ)) (count : ℕ) → (GoesOut lines.old page.old → (now []).text ≡ [])
         → Ran o now lines.old left (S.left source.old) before (K.taken sink.old) page.old count lines.old.limit
         → HoldsEachTime (IsAnswered o left before) (S.asked source.old) (S.asked source.new) }
     ensures room { OnOk result (HasRoom page.new) }
@@ -68,6 +68,7 @@ pub(crate) fn ask<F, S: Source<K>, K: Sink>(
 
 /// Has a printer append what it holds back where a read may follow.
 pub(crate) fn settle_before<P: Printer>(lines: &Lines, printer: &mut P, page: &mut Page)
+    requires ready { IsTrue lines.now.is_ready }
     requires can { P.can_take printer.old }
     requires held { P.is_settled printer.old ⊎ HasRoom page.old }
     ensures can { P.can_take printer.new }
@@ -103,7 +104,7 @@ pub(crate) fn take_line<P: Printer>(
 }
 
 /// The end of the run at the line of this number, which stops it: what is printed before a bad line is written.
-pub(crate) fn stop_at<F, K: Sink>(
+pub(crate) fn stop_at<F: Drop, K: Sink>(
     number: u64,
     stop: Stop<F>,
     page: &mut Page,

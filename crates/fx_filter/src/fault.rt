@@ -30,7 +30,7 @@ impl<F: fmt::Display> fmt::Display for RunFault<F> {
     }
 }
 
-impl<F: fmt::Display + fmt::Debug> Error for RunFault<F> {}
+impl<F: fmt::Display + fmt::Debug + Drop> Error for RunFault<F> {}
 
 // A line of more bytes than a line may have.
 pub(crate) const LINE_TOO_LONG: RowFault = RowFault {

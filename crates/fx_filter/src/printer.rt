@@ -22,7 +22,7 @@ pub enum Stop<F> {
 /// A printer of lines, which has seen some. What it will print is a matter of what it holds back and of the lines to come.
 pub trait Printer {
     /// What may be wrong with a line.
-    type Flaw;
+    type Flaw: Drop;
 
     // What definitions call that.
     ghost Told: { Type 0 };

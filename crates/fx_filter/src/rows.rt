@@ -152,13 +152,14 @@ fn take_row<M: RowStep>(
     requires room { HasRoom page.old }
     requires row_room { length (M.meaning step.old).inputs ≤ vec_capacity row.old }
     ensures can { OnOk result (M.can_run step.new) }
+    ensures held { OnOk result (M.is_settled step.new ⊎ (page.new ≡ page.old)) }
     ensures function { OnOk result (M.meaning step.new ≡ M.meaning step.old) }
     ensures row_room { vec_capacity row.old ≤ vec_capacity row.new }
     ensures taken { IfOk result (λ is_row. (text : List ℕ) × (page.new ≡ page.old ++ text)
         × ((rest : List (List ℕ)) → lines_outcome (M.meaning step.old) (M.head step.old) (M.printed step.old) (Some (reader_columns reader.now)) (line.now ∷ rest)
         ≡ behind_lines 1 text (one is_row) (lines_outcome (M.meaning step.new) (M.head step.new) (M.printed step.new) (Some (reader_columns reader.now)) rest))) }
-    ensures bad { IfErr result (IfBad (λ fault. (page.new ≡ page.old)
-        × ((rest : List (List ℕ)) → lines_outcome (M.meaning step.old) (M.head step.old) (M.printed step.old) (Some (reader_columns reader.now)) (line.now ∷ rest) ≡ stopped_lines (row_fault_of fault)))) }
+    ensures bad { IfErr result (IfBad (λ fault. (text : List ℕ) × (page.new ≡ page.old ++ text)
+        × ((rest : List (List ℕ)) → lines_outcome (M.meaning step.old) (M.head step.old) (M.printed step.old) (Some (reader_columns reader.now)) (line.now ∷ rest) ≡ behind_text text (stopped_lines (row_fault_of fault))))) }
     ensures memory { list_any is_special line.now ≡ false → result ≢ Err stop.Memory }
 {
     match reader.read(alloc, line, step.function(), row) {
@@ -167,19 +168,31 @@ fn take_row<M: RowStep>(
             step.put_row(row, page);
             Ok(true)
         }
-        Err(fault) => Err(stop_of(fault)),
+        Err(fault) => {
+            step.settle(page);
+            Err(stop_of(fault))
+        }
     }
 }
 
 impl<M: RowStep + Drop> Printer for RowPrinter<M> {
-    ghost use Rattle.std.specs.Prelude.{length, option_map, IfSome, ◌≤◌};
+    ghost use Rattle.std.specs.Prelude.{length, option_map, MatchOption, ◌≤◌};
     ghost use Rattle.std.specs.Vec.{vec_capacity};
+    ghost use Rattle.fx_rows.specs.Faults.{RowFlaw, row_fault_of};
     ghost use Rattle.fx_rows.specs.Ranges.{reader_columns, Serves};
     ghost use Rattle.fx_filter.specs.Printed.{lines_outcome};
-    ghost use Rattle.fx_filter.specs.RowLaws.{nothing_printed, long_stops};
+    ghost use Rattle.fx_filter.specs.RowLaws.{nothing_printed};
 
-    ghost can_take = { λ s. M.can_run s.step × IfSome s.reader (λ r. Serves r (M.meaning s.step))
+    type Flaw = RowFault;
+
+    ghost Told = { RowFlaw };
+
+    ghost told = { row_fault_of };
+
+    ghost can_take = { λ s. M.can_run s.step × MatchOption s.reader (M.is_settled s.step) (λ r. Serves r (M.meaning s.step))
         × (length (M.meaning s.step).inputs ≤ vec_capacity s.row) };
+
+    ghost is_settled = { λ s. M.is_settled s.step };
 
     ghost outcome = { λ s ls. lines_outcome (M.meaning s.step) (M.head s.step) (M.printed s.step) (option_map reader_columns s.reader) ls };
 
@@ -203,6 +216,14 @@ impl<M: RowStep + Drop> Printer for RowPrinter<M> {
         }
     }
 
+    fn settle(&mut self, page: &mut Page) {
+        self.step.settle(page);
+    }
+
+    fn too_long(&self) -> RowFault {
+        LINE_TOO_LONG
+    }
+
     fn end(&self) -> Option<RowFault> {
         if self.reader.is_some() {
             None
@@ -211,9 +232,7 @@ impl<M: RowStep + Drop> Printer for RowPrinter<M> {
         }
     }
 
-    ghost none = { λ s. nothing_printed (M.meaning s.step) (M.head s.step) (M.printed s.step) (M.none s.step) (option_map reader_columns s.reader) };
-
-    ghost long = { λ s line rest h. long_stops (M.meaning s.step) (M.head s.step) (M.printed s.step) (M.none s.step) (option_map reader_columns s.reader) line rest h };
+    ghost none = { λ s settled. nothing_printed (M.meaning s.step) (M.head s.step) (M.printed s.step) (M.none s.step settled) (option_map reader_columns s.reader) };
 }
 
 /// Runs the rows of a source, and writes their page before each read that might wait. Gives the number of rows.

@@ -52,7 +52,7 @@ pub fn run_lines<P: Printer, S: Source<K>, K: Sink>(
     let mut count = 0;
     'lines: loop {
         settle_before(&lines, printer, &mut page);
-        match ask(&mut lines, &mut page, source, sink) {
+        match ask::<P, S, K>(&mut lines, &mut page, source, sink) {
             Ok(LineStep::Line) => match take_line(&lines, printer, &mut page) {
                 Ok(is_row) => count += one(is_row),
                 Err(stop) => return Err(stop_at(lines.number(), stop, &mut page, sink)),

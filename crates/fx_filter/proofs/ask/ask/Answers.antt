@@ -6,7 +6,7 @@ use Rattle.fx_filter.specs.Promise.{IsAnswered}
 use Rattle.fx_filter.specs.Running.{IsFlushed}
 use Rattle.fx_filter.specs.declared.fault.RunFault.TheVariants.{WriteFault}
 use Rattle.fx_filter.proofs.Exits.{write-failed}
-use Rattle.fx_filter.proofs.Turns.{on-ok, on-err, up-to}
+use Rattle.fx_filter.proofs.Turns.{on-ok, on-err, unheld, up-to, urgent}
 use Rattle.fx_filter.proofs.Grown.{flushed_grows}
 use Rattle.fx_filter.proofs.Prompt.{answered}
 use Rattle.fx_filter.proofs.Asking.{Turn, gave, failed, over}
@@ -19,7 +19,7 @@ returns-then-is_err-clause-asked g c = λ o now left before count none ran.
     let r = c.args.lines.now in
     let after = g.K.Sink.taken c.args.sink.now in
     let within = ran.within in (
-      write-failed o now r left left1 left1 before after mid c.args.page.now [] count r.limit ran (Consumes-nil left1) (omega (arith, ran.prompt))
+      write-failed g.P.Printer.told o now r left left1 left1 before after mid c.args.page.now [] count r.limit ran (Consumes-nil left1) (omega (arith, ran.prompt))
           (on-err c.flush.result (sym c.is_err.ensures.value ∙ c.if-is_err.true) c.flush.ensures.front),
       up-to o now r left left1 left1 before after c.args.page.now [] count r.limit WriteFault ran (Consumes-nil left1) (omega arith) (λ e. absurd cc),
     )
@@ -50,9 +50,10 @@ returns-in-Ok-clause-asked g c = λ o now left before count none ran.
       within = c.next_line.ensures.within;
       limit = c.next_line.ensures.limit;
       lazy = λ e. let l = c.next_line.ensures.lazy (c.holds_line.ensures.0 e) in (l.1, l.2);
+      unheld = unheld c.holds_line.result _ c.holds_line.ensures;
       after_end = λ e. let l = c.next_line.ensures.after_end e in (ap g.S.Source.left l.0, l.1, l.2);
     } in
-    gave o now r r' left left1 left2 before after mid c.args.page.now page' m.0 count held c.next_line.result none ran c.requires.limit flush turn c.in-Ok.step c.in-Ok.is
+    gave g.P.Printer.told o now r r' left left1 left2 before after mid c.args.page.now page' m.0 count held c.next_line.result (urgent held r c.args.page.now c.holds_line.ensures none) ran c.requires.limit flush turn c.in-Ok.step c.in-Ok.is
 
 pub returns-in-Err-ReadFault-clause-asked : goal.returns-in-Err-ReadFault-clause-asked
 returns-in-Err-ReadFault-clause-asked g c = λ o now left before count none ran.
@@ -80,10 +81,11 @@ returns-in-Err-ReadFault-clause-asked g c = λ o now left before count none ran.
       within = c.next_line.ensures.within;
       limit = c.next_line.ensures.limit;
       lazy = λ e. let l = c.next_line.ensures.lazy (c.holds_line.ensures.0 e) in (l.1, l.2);
+      unheld = unheld c.holds_line.result _ c.holds_line.ensures;
       after_end = λ e. let l = c.next_line.ensures.after_end e in (ap g.S.Source.left l.0, l.1, l.2);
     } in
     let fault : c.next_line.result ≡ Err line.ReadFault = c.in-Err-ReadFault.is ∙ ap Err c.in-Err-ReadFault.field-0-is in
-    failed o now r r' left left1 left2 before after mid c.args.page.now page' m.0 count held c.next_line.result none ran c.requires.limit flush turn fault (c.next_line.ensures.read_fault fault).1
+    failed g.P.Printer.told o now r r' left left1 left2 before after mid c.args.page.now page' m.0 count held c.next_line.result (urgent held r c.args.page.now c.holds_line.ensures none) ran c.requires.limit flush turn fault (c.next_line.ensures.read_fault fault).1
     (λ h. let z = sym fault ∙ c.next_line.ensures.too_long.1 h in absurd cc)
 
 pub returns-in-Err-TooLong-clause-asked : goal.returns-in-Err-TooLong-clause-asked
@@ -112,10 +114,11 @@ returns-in-Err-TooLong-clause-asked g c = λ o now left before count none ran.
       within = c.next_line.ensures.within;
       limit = c.next_line.ensures.limit;
       lazy = λ e. let l = c.next_line.ensures.lazy (c.holds_line.ensures.0 e) in (l.1, l.2);
+      unheld = unheld c.holds_line.result _ c.holds_line.ensures;
       after_end = λ e. let l = c.next_line.ensures.after_end e in (ap g.S.Source.left l.0, l.1, l.2);
     } in
     let fault : c.next_line.result ≡ Err line.TooLong = c.in-Err-TooLong.is ∙ ap Err c.in-Err-TooLong.field-0-is in
-    over o now r r' left left1 left2 before after mid c.args.page.now page' m.0 count held c.next_line.result none ran c.requires.limit flush turn (c.next_line.ensures.too_long.0 fault)
+    over g.P.Printer.told o now r r' left left1 left2 before after mid c.args.page.now page' m.0 count held c.next_line.result (urgent held r c.args.page.now c.holds_line.ensures none) ran c.requires.limit flush turn (c.next_line.ensures.too_long.0 fault)
 
 pub returns-then-is_err-clause-grown : goal.returns-then-is_err-clause-grown
 returns-then-is_err-clause-grown g c = flushed_grows (not c.holds_line.result) _ _ c.args.page.now c.flush.new.page c.flush.result c.flush.ensures.all c.flush.ensures.front
@@ -135,20 +138,20 @@ returns-then-is_err-clause-prompt g c = λ o now left before count none ran. non
 pub returns-in-Ok-clause-prompt : goal.returns-in-Ok-clause-prompt
 returns-in-Ok-clause-prompt g c = λ o now left before count none ran.
     answered o now c.args.lines.now left (g.S.Source.left c.args.source.now) before (g.K.Sink.taken c.args.sink.now) (g.K.Sink.taken c.flush.new.sink) c.args.page.now c.flush.new.page count c.args.lines.now.limit
-    c.holds_line.result none ran (on-ok c.flush.result (sym c.is_err.ensures.value ∙ c.if-is_err.false) c.flush.ensures.all)
+    c.holds_line.result (urgent c.holds_line.result c.args.lines.now c.args.page.now c.holds_line.ensures none) ran (on-ok c.flush.result (sym c.is_err.ensures.value ∙ c.if-is_err.false) c.flush.ensures.all)
     _ _ c.args.lines.now.is_ended refl
     (λ e. ap g.S.Source.asked (c.next_line.ensures.lazy (c.holds_line.ensures.0 e)).0) (λ e. ap g.S.Source.asked (c.next_line.ensures.after_end e).0) c.next_line.ensures.sought
 
 pub returns-in-Err-ReadFault-clause-prompt : goal.returns-in-Err-ReadFault-clause-prompt
 returns-in-Err-ReadFault-clause-prompt g c = λ o now left before count none ran.
     answered o now c.args.lines.now left (g.S.Source.left c.args.source.now) before (g.K.Sink.taken c.args.sink.now) (g.K.Sink.taken c.flush.new.sink) c.args.page.now c.flush.new.page count c.args.lines.now.limit
-    c.holds_line.result none ran (on-ok c.flush.result (sym c.is_err.ensures.value ∙ c.if-is_err.false) c.flush.ensures.all)
+    c.holds_line.result (urgent c.holds_line.result c.args.lines.now c.args.page.now c.holds_line.ensures none) ran (on-ok c.flush.result (sym c.is_err.ensures.value ∙ c.if-is_err.false) c.flush.ensures.all)
     _ _ c.args.lines.now.is_ended refl
     (λ e. ap g.S.Source.asked (c.next_line.ensures.lazy (c.holds_line.ensures.0 e)).0) (λ e. ap g.S.Source.asked (c.next_line.ensures.after_end e).0) c.next_line.ensures.sought
 
 pub returns-in-Err-TooLong-clause-prompt : goal.returns-in-Err-TooLong-clause-prompt
 returns-in-Err-TooLong-clause-prompt g c = λ o now left before count none ran.
     answered o now c.args.lines.now left (g.S.Source.left c.args.source.now) before (g.K.Sink.taken c.args.sink.now) (g.K.Sink.taken c.flush.new.sink) c.args.page.now c.flush.new.page count c.args.lines.now.limit
-    c.holds_line.result none ran (on-ok c.flush.result (sym c.is_err.ensures.value ∙ c.if-is_err.false) c.flush.ensures.all)
+    c.holds_line.result (urgent c.holds_line.result c.args.lines.now c.args.page.now c.holds_line.ensures none) ran (on-ok c.flush.result (sym c.is_err.ensures.value ∙ c.if-is_err.false) c.flush.ensures.all)
     _ _ c.args.lines.now.is_ended refl
     (λ e. ap g.S.Source.asked (c.next_line.ensures.lazy (c.holds_line.ensures.0 e)).0) (λ e. ap g.S.Source.asked (c.next_line.ensures.after_end e).0) c.next_line.ensures.sought

@@ -1,6 +1,7 @@
-use Rattle.std.proofs.Common.{◌≡◌, ◌-◌, ◌≤◌}
+use Rattle.std.proofs.Common.{◌≡◌, ◌⊎◌, ◌-◌, ◌≤◌}
 use Rattle.fx_base.specs.Moments.{HoldsEachTime}
 use Rattle.fx_filter.specs.Promise.{Grows, IsAnswered}
+use Rattle.fx_filter.specs.Rooms.{HasRoom}
 use Rattle.fx_filter.specs.Running.{Ran}
 use Rattle.fx_filter.proofs.run.run_lines.Given as goal
 
@@ -10,6 +11,7 @@ invariant-lines g l = record {
       (g.K.Sink.taken l.initial.sink) (g.K.Sink.taken l.sink) l.page l.count l.lines.limit;
   bound : l.lines.limit ≡ l.limit;
   can : g.P.Printer.can_take l.printer;
+  held : g.P.Printer.is_settled l.printer ⊎ HasRoom l.page;
   grown : Grows (g.K.Sink.taken l.initial.sink) (g.K.Sink.taken l.sink);
   prompt : HoldsEachTime (IsAnswered (g.P.Printer.outcome l.initial.printer) (g.S.Source.left l.initial.source) (g.K.Sink.taken l.initial.sink)) (g.S.Source.asked l.initial.source) (g.S.Source.asked l.source);
   later : g.S.Source.faults l.initial.source ≤ g.S.Source.faults l.source;
