@@ -7,3 +7,4 @@ pub mod Taken
 pub mod InRange
 pub mod GivenInRange
 pub mod Numbers
+pub mod Units

@@ -6,3 +6,4 @@ pub mod Ranges
 pub mod Values
 pub mod Results
 pub mod ReadRows
+pub mod UnitColumn

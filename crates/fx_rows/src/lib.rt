@@ -5,14 +5,18 @@
 #![tactic(auto)]
 
 mod blanks;
+mod column;
 mod columns;
 mod fault;
 mod law;
 mod reader;
 mod row;
+mod unit;
 
+pub use column::{Column, find_column};
 pub use columns::{Columns, read_header};
 pub use fault::{RowFault, RowKind};
 pub use law::rows_in_range_law;
 pub use reader::RowReader;
 pub use row::read_row;
+pub use unit::{UnitKind, read_unit};

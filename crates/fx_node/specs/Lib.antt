@@ -1,0 +1,4 @@
+pub mod Events
+pub mod NodePage
+pub mod Faults
+pub mod Units

@@ -1,0 +1,17 @@
+//! Many units of one certified program: rows of all of them come interleaved, and each has a state of its own.
+//!
+//! One event is one row of one unit. What is printed for a unit is what the program's run over that unit's rows alone prints,
+//! and every clause of a run over rows holds of each unit. The order of reads and writes is `fx_filter`'s.
+#![tactic(auto)]
+
+mod fault;
+mod law;
+mod node;
+mod printer;
+mod run;
+
+pub use fault::NodeFault;
+pub use fx_rows::UnitKind;
+pub use law::{unit_run_law, units_apart_law, units_law};
+pub use node::Node;
+pub use run::run_node;
