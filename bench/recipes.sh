@@ -8,6 +8,7 @@ program=$(realpath "${1:-build/fixd}")
 [ -x "$program" ] || { echo "recipes: build it first: make run" >&2; exit 1; }
 folder=$(mktemp -d)
 trap 'rm -rf "$folder"' EXIT
+average=$PWD/examples/average
 cp examples/smooth/smooth.fixd examples/smooth/smooth.csv "$folder"
 cd "$folder"
 mkdir bin && ln -s "$program" bin/fixd && PATH="$folder/bin:$PATH"
@@ -27,6 +28,15 @@ fixd run smooth.bundle < all.csv | tail -n +2 > whole.out
 # a pipe: each answer comes before the next row is there
 (head -2 all.csv; sleep 1; sed -n 3p all.csv) | fixd run smooth.bundle | tail -n +2 > pipe.out
 head -2 whole.out | same "a pipe" - pipe.out
+
+# many units
+cp "$average"/average.bundle "$average"/motors.csv .
+fixd node --units 2 average.bundle < motors.csv > motors.out
+printf 'unit,out1\n0,0.5\n1,0.5\n0,0.75\n1,0.25\n' | same "many units" - motors.out
+printf 'name,u\nleft,1\nright,1\nleft,1\nright,0\n' > named.csv
+awk -F, -v OFS=, 'NR == 1 { print "unit,u"; next }
+    !($1 in unit) { unit[$1] = count++; print unit[$1], $1 > "units.csv" } { print unit[$1], $2; fflush() }' named.csv | same "units by names" - motors.csv
+printf '0,left\n1,right\n' | same "the table of names" - units.csv
 
 # parts by split
 head -1 all.csv > header

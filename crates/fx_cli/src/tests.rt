@@ -55,8 +55,9 @@ pub(crate) fn call<S: Source<BytesOut>>(
 
 // a command's words, and how the output begins
 #[rattlefmt::skip]
-static CALLS: [(&[&str], &str); 5] = [
+static CALLS: [(&[&str], &str); 6] = [
     (&["run", "a"], "out1\n0.7998046875\n"),
+    (&["node", "--units", "1", "a"], "unit,out1\n0,0.7998046875\n"),
     (&["check", "a"], "accepted\nout1 1/2^12\n"),
     (&["show", "a"], "0 in 12 0 1 -1/2^12 0\n"),
     (&["synth", "--width", "16", "--tries", "0", "b"], "fixd bundle 1\nsource 64\n"),
@@ -68,7 +69,7 @@ fn there_is_memory(rt: HostRuntime) -> Result<(), Fail> {
     let alloc = rt.alloc();
     for &(words, page) in &CALLS {
         for piece in [1, 2, 4_096] {
-            let mut input = BytesIn::new(b"x\n0.3\n".to_vec(alloc)?, piece, Vec::new(alloc));
+            let mut input = BytesIn::new(b"x,unit\n0.3,0\n".to_vec(alloc)?, piece, Vec::new(alloc));
             let answer = call(alloc, words, &mut input, 0)?;
             assert!(rt;
                 answer.status == Status::DONE
