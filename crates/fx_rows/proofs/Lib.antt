@@ -7,3 +7,5 @@ pub mod Taken
 pub mod InRange
 pub mod GivenInRange
 pub mod Numbers
+pub mod Passed
+pub mod Placed

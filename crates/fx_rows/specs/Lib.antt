@@ -5,4 +5,6 @@ pub mod Header
 pub mod Ranges
 pub mod Values
 pub mod Results
+pub mod Passing
+pub mod Ordered
 pub mod ReadRows

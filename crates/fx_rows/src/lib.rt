@@ -8,8 +8,11 @@ mod blanks;
 mod columns;
 mod fault;
 mod law;
+mod order;
+mod quick;
 mod reader;
 mod row;
+mod skip;
 
 pub use columns::{Columns, read_header};
 pub use fault::{RowFault, RowKind};
