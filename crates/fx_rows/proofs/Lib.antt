@@ -8,3 +8,5 @@ pub mod InRange
 pub mod GivenInRange
 pub mod Numbers
 pub mod Units
+pub mod Passed
+pub mod Placed

@@ -118,7 +118,7 @@ special_spares = spares_by is_special (λ c lo hi. rw (higher 34 c (omega arith)
 return_spares : Spares is_return
 return_spares = spares_by is_return (λ c lo hi. higher 13 c (omega arith)) refl
 
-comma_spares : Spares (λ b. b == 44)
+pub comma_spares : Spares (λ b. b == 44)
 comma_spares = spares_by (λ b. b == 44) (λ c lo hi. higher 44 c (omega arith)) refl
 
 mark_spares : Spares (λ b. b == 0xEF)
@@ -151,6 +151,10 @@ module _ (line : List ℕ) (d : Decimal) (read : Ok d ≡ decimal_of line) where
   without_none : without_blanks line ≡ line
   without_none = sym (kept_whole line (no_blank 0) (no_blank (length line - 1)))
 
+  -- as a field it is the value of an input that may be given it
+  pub number_value : (x : Input) → is_given x (decimal_value d) ≡ true → Ok d ≡ field_value x (Some line)
+  number_value x t = in_range x d (decimal_of (without_blanks line)) (read ∙ ap decimal_of (sym without_none)) t
+
   one_field : line_fields line ≡ plain_fields line → line_fields line ≡ Some (line ∷ [])
   unfolding decimal_of numeral_of
   one_field e = e ∙ by line read ∙ ap Some (slice_split_none (λ b. b == 44) line (number_spared (λ b. b == 44) comma_spares line d read))
@@ -164,6 +168,5 @@ module _ (line : List ℕ) (d : Decimal) (read : Ok d ≡ decimal_of line) where
       → row_of_fields (x ∷ []) (0 ∷ []) (line_fields line) ≡ Some (record { values = d ∷ []; fault = None })
   unfolding values_from field_at
   one_value x t e =
-      let v : Ok d ≡ field_value x (Some line) = in_range x d (decimal_of (without_blanks line)) (read ∙ ap decimal_of (sym without_none)) t in
       ap (row_of_fields (x ∷ []) (0 ∷ [])) (one_field e)
-      ∙ ap (λ (r : Result Decimal RowKind). Some (after_value 0 r (record { values = []; fault = None }))) (sym v)
+      ∙ ap (λ (r : Result Decimal RowKind). Some (after_value 0 r (record { values = []; fault = None }))) (sym (number_value x t))

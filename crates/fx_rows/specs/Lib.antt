@@ -5,5 +5,7 @@ pub mod Header
 pub mod Ranges
 pub mod Values
 pub mod Results
+pub mod Passing
+pub mod Ordered
 pub mod ReadRows
 pub mod UnitColumn

@@ -9,8 +9,11 @@ mod column;
 mod columns;
 mod fault;
 mod law;
+mod order;
+mod quick;
 mod reader;
 mod row;
+mod skip;
 mod unit;
 
 pub use column::{Column, find_column};

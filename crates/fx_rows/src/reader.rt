@@ -7,6 +7,7 @@ ghost use Rattle.fx_rows.specs.Header.{columns_of, HasPlaces};
 ghost use Rattle.fx_rows.specs.Ranges.{reader_columns, AreRangesOf, Serves};
 
 use crate::columns::Columns;
+use crate::order::Order;
 use fx_expr::{Function, Input, Items};
 use fx_fraction::Range;
 use fx_num::Memory;
@@ -19,6 +20,8 @@ pub struct RowReader {
     pub(crate) places: Items<u32>,
     // Which values each input may be given.
     pub(crate) ranges: Items<Range>,
+    // The inputs in the order of their columns, where the quick way may be tried.
+    pub(crate) order: Order,
 }
 
 /// The ranges of the inputs.
@@ -39,10 +42,13 @@ impl RowReader {
         ensures columns { IfOk result (λ r. reader_columns r ≡ columns_of columns) }
         ensures serves { IfOk result (λ r. Serves r function.now) }
     {
+        function.keeps();
         let ranges = ranges_of(alloc, function.inputs.as_slice())?;
+        let order = Order::of(alloc, columns.places.as_slice())?;
         Ok(RowReader {
             places: columns.places,
             ranges,
+            order,
         })
     }
 }

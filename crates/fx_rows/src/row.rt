@@ -18,6 +18,8 @@ ghost use Rattle.fx_rows.specs.Values.{field_value, values_from, row_of, row_of_
 use crate::blanks::trimmed;
 use crate::columns::Columns;
 use crate::fault::{LINE_LIMIT, MEMORY, RowFault, RowKind, line_fault};
+use crate::order::Order;
+use crate::quick::read_quick;
 use crate::reader::{RowReader, ranges_of};
 use fx_expr::Function;
 use fx_fields::{Fields, Pieces, piece_from, plain_text, record_of, unmarked_line_law};
@@ -248,6 +250,7 @@ fn read_one(line: &[u8], places: &[u32], ranges: &[Range], row: &mut Vec<Decimal
 fn read_by(
     alloc: Global,
     line: &[u8],
+    order: &Order,
     places: &[u32],
     ranges: &[Range],
     row: &mut Vec<Decimal>,
@@ -259,6 +262,9 @@ fn read_by(
     ensures kept { vec_capacity row.old ≤ vec_capacity row.new }
     ensures in_range { (f : model.Function) → AreRangesOf f.inputs ranges.now → IfOk result (λ b. IsTrue b → IsInRange f.inputs (map decimal_value row.new.items)) }
 {
+    if read_quick(line, order, places, ranges, row) {
+        return Ok(true);
+    }
     row.clear();
     if read_one(line, places, ranges, row) {
         return Ok(true);
@@ -289,6 +295,7 @@ impl RowReader {
         read_by(
             alloc,
             line,
+            &self.order,
             self.places.as_slice(),
             self.ranges.as_slice(),
             row,
@@ -314,6 +321,7 @@ pub fn read_row(
         Ok(ranges) => read_by(
             alloc,
             line,
+            &Order::none(alloc, 0),
             columns.places.as_slice(),
             ranges.as_slice(),
             row,

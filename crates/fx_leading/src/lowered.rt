@@ -1,0 +1,43 @@
+//! A decimal in the fewest places.
+ghost use Rattle.std.specs.Prelude.{◌≡◌, ◌^◌, ◌<◌, ◌≤◌, IfSome, Ok};
+ghost use Rattle.fx_fraction.specs.DecimalOf.{trimmed, within_limits};
+ghost use Rattle.fx_fraction.specs.Numeral.{signed};
+
+use fx_fraction::Decimal;
+
+// A decimal's whole number is below this.
+const LIMIT: u64 = 1 << 62;
+
+// The number of a size and a sign.
+#[inline]
+fn signed(is_negative: bool, size: u64) -> i64
+    requires { size < 2 ^ 62 }
+    ensures { result ≡ signed is_negative size }
+{
+    if is_negative {
+        -(size as i64)
+    } else {
+        size as i64
+    }
+}
+
+/// The decimal of a number and its places. None where none has that value.
+#[inline]
+pub(crate) fn lowered(is_negative: bool, size: u64, places: u8) -> Option<Decimal>
+    requires { places ≤ 18 }
+    ensures { IfSome result (λ d. within_limits is_negative (trimmed size places) ≡ Ok d) }
+{
+    let mut front = size;
+    let mut left = places;
+    while left > 0 && front % 10 == 0 {
+        front /= 10;
+        left -= 1;
+    }
+    if front >= LIMIT {
+        return None;
+    }
+    Some(Decimal {
+        a: signed(is_negative, front),
+        b: left,
+    })
+}
