@@ -13,7 +13,7 @@ from sources import functions_of
 
 HERE = os.path.dirname(os.path.abspath(__file__))
 FOLDER = os.path.join(HERE, "../examples/states")
-PAGE = os.path.join(HERE, "../docs/states.md")
+PAGE = os.path.join(HERE, "../docs/measures.md")
 TRIES = 200
 
 
@@ -91,7 +91,7 @@ def parser_of(description):
     parser.add_argument("--only", type=lambda text: text.split(","))
     parser.add_argument("--bundles", help="a folder in which the bundles are kept")
     parser.add_argument("--limit", type=float, default=600, help="the seconds after which a search counts as not found")
-    parser.add_argument("--write", action="store_true", help="put what is printed into docs/states.md")
+    parser.add_argument("--write", action="store_true", help="put what is printed into docs/measures.md")
     return parser
 
 

@@ -17,7 +17,7 @@ further from the exact output than its bound. The table has for each width:
 - *losses at most / bound*: what these rows' sum could be at most, were each rounding as great as its shift allows and each input at the end
   that counts, whatever the others are. Inputs can't bring more than this, but for what starts and rows further back add.
 
-With --write the table goes to docs/states.md. Outside the gate; it takes some minutes.
+With --write the table goes to docs/measures.md. Outside the gate; it takes some minutes.
 """
 import os
 import random

@@ -13,7 +13,7 @@ how far its certificate is from the least that holds:
 
 1 means that no certificate of that program can be narrower, if roundings are looked at one by one. Of a nonlinear source no limits are
 known. A source whose comment begins with `not found` has no bound and must end so; all others count. With --bundles the bundles are
-kept as NAME.WIDTH.bundle, and with --write the tables go to docs/states.md. Outside the gate: it takes some minutes, and seconds depend
+kept as NAME.WIDTH.bundle, and with --write the tables go to docs/measures.md. Outside the gate: it takes some minutes, and seconds depend
 on the machine.
 """
 import os

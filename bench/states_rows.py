@@ -19,7 +19,7 @@ done in whole numbers at 2^-200, and what that loses has to be below 2^-60 of th
 
 The script ends with an error where a number is further off than its bound. Its table has, for each width, the greatest error seen over
 the bound, and the width of the exact outputs that were seen over that of the certified range; the worst output. With --write it goes to
-docs/states.md. Outside the gate; it takes some minutes.
+docs/measures.md. Outside the gate; it takes some minutes.
 """
 import math
 import os
