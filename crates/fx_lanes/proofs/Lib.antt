@@ -6,3 +6,4 @@ pub mod Products
 pub mod Sixteen
 pub mod Arms
 pub mod Places
+pub mod Filled

@@ -6,15 +6,18 @@
 #![tactic(auto)]
 
 mod code;
+mod lane_by_lane;
 mod narrow;
 mod rows;
 mod run;
 mod side_by_side;
 mod step;
 mod vectors;
+mod wide;
 
 pub use narrow::NarrowLanes;
 pub use rows::put_at;
 pub use run::run_lanes;
 pub use side_by_side::SideBySide;
 pub use step::{LaneRegisters, step_lanes};
+pub use wide::WideLanes;

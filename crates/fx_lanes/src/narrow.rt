@@ -4,7 +4,6 @@
 //! of its word. The trap: what lies on the way to a word is kept modulo 2^32, so that nothing but a word may be read from it.
 
 ghost use Rattle.fx_lanes.specs.WordsSideBySide.{IsNarrow};
-ghost use Rattle.std.proofs.Common.{arith};
 
 use crate::side_by_side::SideBySide;
 use crate::vectors::{Numbers32, Numbers64};
@@ -34,8 +33,6 @@ impl<const B: u32> SideBySide<B> for NarrowLanes<B> {
     ghost HasRoom = { IsNarrow B };
 
     ghost words = { λ v. v };
-
-    ghost room_is_width = { λ h. record { least = h.least; most = Prim.omega arith } };
 
     #[inline]
     fn splat(value: i64) -> NarrowLanes<B> {

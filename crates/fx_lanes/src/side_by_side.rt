@@ -6,7 +6,7 @@ ghost use Rattle.std.specs.Prelude.{◌≡◌, ◌≤◌, ◌*◌, ◌-◌, ◌<
 ghost use Rattle.fx_model.specs.LawfulProgram.{IsShift};
 ghost use Rattle.fx_model.specs.Machine.{Floor, Nearest, IsWord};
 ghost use Rattle.fx_model.specs.Tree.{at};
-ghost use Rattle.fx_word.specs.Words.{IsWidth, IsSomeWord};
+ghost use Rattle.fx_word.specs.Words.{IsSomeWord};
 ghost use Rattle.fx_lanes.specs.WordsSideBySide.{AreLanes, added, subtracted, multiplied, divided, copied};
 
 use fx_word::Word;
@@ -97,7 +97,4 @@ pub trait SideBySide<const B: u32>: Copy {
     /// What is always so: there are sixteen words.
     fn keeps(&self)
         ensures { AreLanes B (words self.now) };
-
-    // such a width is one of the machine's
-    ghost room_is_width: { HasRoom → IsWidth B };
 }

@@ -182,6 +182,14 @@ impl Numbers64 {
         }
     }
 
+    /// The numbers.
+    #[inline]
+    pub(crate) fn array(self) -> [i64; 16]
+        ensures { result ≡ self }
+    {
+        self.lanes.to_array()
+    }
+
     /// The same number in each lane.
     #[inline]
     pub(crate) fn all(x: i64) -> Numbers64
