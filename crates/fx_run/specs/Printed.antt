@@ -8,6 +8,7 @@ use Rattle.fx_model.specs.Page.{page}
 use Rattle.fx_model.specs.Rows.{AreTrueOf}
 use Rattle.fx_inequalities.specs.Certificate.{Certificate}
 use Rattle.fx_sound.specs.Soundness.{AllBounded, AllInEnds}
+use Rattle.fx_rows.specs.Faults.{RowFlaw}
 use Rattle.fx_rows.specs.ReadRows.{Read, lines_read}
 use Rattle.fx_filter.specs.Outcome.{Outcome}
 
@@ -25,7 +26,7 @@ abbrev pub printed : Program → Read → List ℕ
 printed p r = if r.has_header then run_page p (machine_run p (given_values r.given.rows)) else []
 
 -- what comes of lines: their page, how many rows, and the first bad line
-abbrev pub run_outcome : Function → Program → List (List ℕ) → Outcome
+abbrev pub run_outcome : Function → Program → List (List ℕ) → Outcome RowFlaw
 run_outcome f p ls =
     let r = lines_read f ls in record { text = printed p r; rows = length r.given.rows; bad = r.given.bad }
 

@@ -10,6 +10,6 @@ mod run;
 mod step;
 mod words;
 
-pub use fx_filter::RunFault;
 pub use law::rows_law;
-pub use run::run_rows;
+pub use run::{RunFault, run_rows};
+pub use words::{put_header, put_words};

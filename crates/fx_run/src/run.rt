@@ -6,6 +6,7 @@ ghost use Rattle.fx_base.specs.Moments.{HoldsEachTime};
 ghost use Rattle.fx_base.specs.Text.{lines_in};
 ghost use Rattle.fx_model.specs.LawfulProgram.{widths};
 ghost use Rattle.fx_model.specs.Machine.{start_words};
+ghost use Rattle.fx_rows.specs.Faults.{row_fault_of};
 ghost use Rattle.fx_filter.specs.Promise.{Grows, IsAnswered, IsDone, IsDue};
 ghost use Rattle.fx_filter.specs.declared.fault.RunFault.TheVariants.{ReadFault, WriteFault, TooLong};
 ghost use Rattle.fx_run.specs.Printed.{RowsLaw, run_outcome};
@@ -15,10 +16,14 @@ use crate::law::rows_law;
 use crate::step::CertifiedStep;
 use fx_base::{Memory, Sink, Source};
 use fx_checker::Certified;
-use fx_filter::{RunFault, run_steps};
+use fx_filter::run_steps;
 use fx_machine::Registers;
+use fx_rows::RowFault;
 use fx_word::widths;
 use std::alloc::Global;
+
+/// Why a run over the rows of an input ended before the input did.
+pub type RunFault = fx_filter::RunFault<RowFault>;
 
 // A certified program before its first row.
 fn first_step<'a, const B: u32>(
@@ -54,7 +59,7 @@ fn run_at<const B: u32, S: Source<K>, K: Sink>(
         IfOk result (λ n. IfSome (S.left source.old) (λ all. IsDone (o (lines_in all)) n (K.taken sink.old) (K.taken sink.new))) }
     ensures end { OnOk result (IsAtEnd (S.left source.new)) }
     ensures due { let o = run_outcome certified.now.function certified.now.program in
-        IfErr result (IsDue o (S.left source.old) (S.left source.new) (K.taken sink.old) (K.taken sink.new)) }
+        IfErr result (IsDue row_fault_of o (S.left source.old) (S.left source.new) (K.taken sink.old) (K.taken sink.new)) }
     ensures prompt { HoldsEachTime (IsAnswered (run_outcome certified.now.function certified.now.program) (S.left source.old) (K.taken sink.old)) (S.asked source.old) (S.asked source.new) }
     ensures taken { (taken : List ℕ) × Consumes (S.left source.old) (S.left source.new) taken × (IsErrOf result TooLong ↔ (limit < length taken)) }
     ensures grown { Grows (K.taken sink.old) (K.taken sink.new) }
@@ -96,7 +101,7 @@ pub fn run_rows<S: Source<K>, K: Sink>(
         IfOk result (λ n. IfSome (S.left source.old) (λ all. IsDone (o (lines_in all)) n (K.taken sink.old) (K.taken sink.new))) }
     ensures end { OnOk result (IsAtEnd (S.left source.new)) }
     ensures due { let o = run_outcome certified.now.function certified.now.program in
-        IfErr result (IsDue o (S.left source.old) (S.left source.new) (K.taken sink.old) (K.taken sink.new)) }
+        IfErr result (IsDue row_fault_of o (S.left source.old) (S.left source.new) (K.taken sink.old) (K.taken sink.new)) }
     ensures prompt { HoldsEachTime (IsAnswered (run_outcome certified.now.function certified.now.program) (S.left source.old) (K.taken sink.old)) (S.asked source.old) (S.asked source.new) }
     ensures taken { (taken : List ℕ) × Consumes (S.left source.old) (S.left source.new) taken × (IsErrOf result TooLong ↔ (limit < length taken)) }
     ensures honest { RowsLaw certified.now.function certified.now.program certified.now.certificate }

@@ -25,12 +25,15 @@ pub(crate) struct CertifiedStep<'a, const B: u32> {
 }
 
 impl<'a, const B: u32> RowStep for CertifiedStep<'a, B> {
+    ghost use Rattle.std.specs.Prelude.{⊤};
     ghost use Rattle.fx_model.specs.Page.{line_of, names_from};
     ghost use Rattle.fx_run.specs.Steps.{CanStep, lines_from, nothing_from};
 
     ghost meaning = { λ s. s.certified.now.function };
 
     ghost can_run = { λ s. CanStep s.certified.now B s.registers };
+
+    ghost is_settled = { λ _. ⊤ };
 
     ghost head = { λ s. line_of (names_from 1 s.certified.now.program.outputs) };
 
@@ -49,5 +52,8 @@ impl<'a, const B: u32> RowStep for CertifiedStep<'a, B> {
         put_words::<B>(page, self.certified.program(), &self.registers);
     }
 
-    ghost none = { λ s. nothing_from s.certified.now.program s.registers.states };
+    // Each row is printed at once.
+    fn settle(&mut self, _page: &mut Page) {}
+
+    ghost none = { λ s _. nothing_from s.certified.now.program s.registers.states };
 }

@@ -5,7 +5,7 @@ ghost use Rattle.fx_model.specs.LawfulProgram.{IsLawfulProgram, IsPoint};
 ghost use Rattle.fx_model.specs.Page.{line_of, names_from, word_texts};
 ghost use Rattle.fx_model.specs.WordText.{decimal_text};
 ghost use Rattle.fx_machine.specs.Steps.{step_taken};
-ghost use Rattle.fx_filter.specs.Rooms.{HasRoom, page_room};
+ghost use Rattle.fx_filter.specs.Rooms.{HasLineRoom, line_room, page_room};
 ghost use Rattle.fx_run.specs.Lines.{mark};
 
 use fx_filter::Page;
@@ -52,7 +52,7 @@ fn put_word(page: &mut Page, word: i64, point: i32, is_last: bool)
 fn put_names(page: &mut Page, count: u32)
     requires some { 1 ≤ count }
     requires few { count ≤ 64 }
-    requires room { HasRoom page.old }
+    requires room { HasLineRoom page.old }
     ensures { page.new ≡ page.old ++ line_of (names_from 1 count) }
 {
     for j in 0..count {
@@ -69,18 +69,19 @@ fn output_count(program: &Program) -> u32
 }
 
 /// Puts the header of a program's outputs.
-pub(crate) fn put_header(page: &mut Page, program: &Program)
-    requires room { HasRoom page.old }
+pub fn put_header(page: &mut Page, program: &Program)
+    requires room { HasLineRoom page.old }
     ensures { page.new ≡ page.old ++ line_of (names_from 1 program.now.outputs) }
 {
     put_names(page, output_count(program));
 }
 
 /// Puts the line of a step's outputs.
-pub(crate) fn put_words<const B: u32>(page: &mut Page, program: &Program, registers: &Registers<B>)
+pub fn put_words<const B: u32>(page: &mut Page, program: &Program, registers: &Registers<B>)
     requires words { length registers.now.words ≡ length program.now.codes }
-    requires room { HasRoom page.old }
-    ensures { page.new ≡ page.old ++ line_of (word_texts (step_taken program.now registers.now.words).outputs (output_points program.now)) }
+    requires room { HasLineRoom page.old }
+    ensures line { page.new ≡ page.old ++ line_of (word_texts (step_taken program.now registers.now.words).outputs (output_points program.now)) }
+    ensures short { length page.new ≤ length page.old + line_room }
 {
     let count = output_count(program);
     for j in 0..count {

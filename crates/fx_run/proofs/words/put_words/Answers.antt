@@ -45,8 +45,8 @@ loop-j-preserved g c =
       short = omega (arith, c.loop-j.invariant.short, c.put_word.ensures.short);
     }
 
-pub returns : goal.returns
-returns g c =
+pub returns-clause-line : goal.returns-clause-line
+returns-clause-line g c =
     let p = c.args.program.now in let ws = c.args.registers.now.words in
     let all = word_texts (step_taken p ws).outputs (output_points p) in
     let count : c.output_count-count.result ≡ p.outputs = c.output_count-count.ensures.value in

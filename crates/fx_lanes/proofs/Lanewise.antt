@@ -1,0 +1,99 @@
+-- What the machine's operations give of words side by side, where a vector of w bits holds words of n.
+use Rattle.std.proofs.Common.{◌≡◌, ℕ, List, [], ◌∷◌, length, map, All, refl, sym, ap, ap₂, subst, ◌∙◌, arith, pos, ℤ, ◌+ℤ◌, ◌-ℤ◌, neg_ℤ, FitsSigned}
+use Rattle.std.specs.Prelude.{replicate}
+use Rattle.std.specs.Int.{Width, int_wrap}
+use Rattle.std.specs.Simd.Lanes.{zip2}
+use Rattle.std.proofs.lemmas.Int.{ints, int_wrap-add_left, int_wrap-add_right, int_wrap-sub_right, int_wrap_fits}
+use Rattle.std.proofs.lemmas.Simd.{zip2_splat_left, length-zip2}
+use Rattle.std.proofs.lemmas.List.{length-map}
+use Rattle.std.proofs.lemmas.List.Elements.{All-head, All-tail, All-replicate}
+use Rattle.fx_model.specs.Machine.{Floor, Nearest, IsWord, shifted, rounded}
+use Rattle.fx_lanes.specs.WordsSideBySide.{AreLanes, added, subtracted, copied}
+
+-- a vector holds these words, sixteen of n bits
+pub record Gives (n : ℕ) (held ws : List ℤ) : Type 0 where
+  pub is : held ≡ ws
+  pub are : AreLanes n held
+
+pub gives : (n : ℕ) (held ws : List ℤ) → held ≡ ws → length ws ≡ 16 → All (IsWord n) ws → Gives n held ws
+gives n held ws e many h = record { is = e; are = subst (AreLanes n) (sym e) (record { many = many; words = h }) }
+
+pub same_word : (n : ℕ) (held : List ℤ) (v : ℤ) → held ≡ replicate 16 v → IsWord n v → Gives n held (replicate 16 v)
+same_word n held v e h = gives n held (replicate 16 v) e refl (All-replicate (IsWord n) 16 v h)
+
+-- ---- that there are sixteen
+pub both_many : {Z : Type 0} (f : ℤ → ℤ → Z) (xs vs ys us : List ℤ) → xs ≡ vs → ys ≡ us → length xs ≡ 16 → length ys ≡ 16 → length (zip2 f vs us) ≡ 16
+both_many f xs vs ys us e k a b = ap₂ (λ zs ts. length (zip2 f zs ts)) (sym e) (sym k) ∙ length-zip2 f xs ys (a ∙ sym b) ∙ a
+
+pub each_many : (f : ℤ → ℤ) (xs vs : List ℤ) → xs ≡ vs → length xs ≡ 16 → length (map f vs) ≡ 16
+each_many f xs vs e a = ap (λ zs. length (map f zs)) (sym e) ∙ length-map xs f ∙ a
+
+-- ---- operations that are made modulo 2^w
+module _ (n : ℕ) (w : Width) (fit : (v : ℤ) → IsWord n v → FitsSigned w v) where
+  wrapped_word : (v : ℤ) → IsWord n v → int_wrap w v ≡ v
+  wrapped_word v h = int_wrap_fits w v (fit v h)
+
+  wrapped_sum : (x y : ℤ) → int_wrap w (int_wrap w x +ℤ int_wrap w y) ≡ int_wrap w (x +ℤ y)
+  wrapped_sum x y = int_wrap-add_left w x (int_wrap w y) ∙ int_wrap-add_right w x y
+
+  wrapped_difference : (x y : ℤ) → int_wrap w (int_wrap w x -ℤ int_wrap w y) ≡ int_wrap w (x -ℤ y)
+  wrapped_difference x y = int_wrap-sub_right w (int_wrap w x) y ∙ int_wrap-add_left w x (neg_ℤ y)
+
+  sums_of_shifted : (sa sb : ℤ) (xs ys : List ℤ) → All (IsWord n) (added sa sb xs ys)
+      → zip2 (λ x y. int_wrap w (x +ℤ y)) (map (λ x. int_wrap w (shifted x sa)) xs) (map (λ y. int_wrap w (shifted y sb)) ys) ≡ added sa sb xs ys
+  sums_of_shifted sa sb [] ys h = refl
+  sums_of_shifted sa sb (x ∷ xs) [] h = refl
+  sums_of_shifted sa sb (x ∷ xs) (y ∷ ys) h =
+      ap₂ ◌∷◌ (wrapped_sum (shifted x sa) (shifted y sb) ∙ wrapped_word _ (All-head (IsWord n) (shifted x sa +ℤ shifted y sb) (added sa sb xs ys) h))
+      (sums_of_shifted sa sb xs ys (All-tail (IsWord n) (shifted x sa +ℤ shifted y sb) (added sa sb xs ys) h))
+
+  differences_of_shifted : (sa sb : ℤ) (xs ys : List ℤ) → All (IsWord n) (subtracted sa sb xs ys)
+      → zip2 (λ x y. int_wrap w (x -ℤ y)) (map (λ x. int_wrap w (shifted x sa)) xs) (map (λ y. int_wrap w (shifted y sb)) ys) ≡ subtracted sa sb xs ys
+  differences_of_shifted sa sb [] ys h = refl
+  differences_of_shifted sa sb (x ∷ xs) [] h = refl
+  differences_of_shifted sa sb (x ∷ xs) (y ∷ ys) h =
+      ap₂ ◌∷◌ (wrapped_difference (shifted x sa) (shifted y sb) ∙ wrapped_word _ (All-head (IsWord n) (shifted x sa -ℤ shifted y sb) (subtracted sa sb xs ys) h))
+      (differences_of_shifted sa sb xs ys (All-tail (IsWord n) (shifted x sa -ℤ shifted y sb) (subtracted sa sb xs ys) h))
+
+  copies_of : (s : ℤ) (xs : List ℤ) → All (IsWord n) (copied Floor s xs) → map (λ x. int_wrap w (shifted x s)) xs ≡ copied Floor s xs
+  copies_of s [] h = refl
+  copies_of s (x ∷ xs) h =
+      ap₂ ◌∷◌ (wrapped_word _ (All-head (IsWord n) (shifted x s) (copied Floor s xs) h)) (copies_of s xs (All-tail (IsWord n) (shifted x s) (copied Floor s xs) h))
+
+  opposites : (ys : List ℤ) → All (IsWord n) (map neg_ℤ ys) → map (λ y. int_wrap w (pos 0 -ℤ y)) ys ≡ map neg_ℤ ys
+  opposites [] h = refl
+  opposites (y ∷ ys) h =
+      let e : pos 0 -ℤ y ≡ neg_ℤ y = omega (arith, ints) in
+      ap₂ ◌∷◌ (ap (int_wrap w) e ∙ wrapped_word _ (All-head (IsWord n) (neg_ℤ y) (map neg_ℤ ys) h)) (opposites ys (All-tail (IsWord n) (neg_ℤ y) (map neg_ℤ ys) h))
+
+  -- the same of vectors that are shown to be these; s and t are sa and sb as they are passed
+  pub added_is : (sa sb s t : ℤ) → s ≡ sa → t ≡ sb → (xs vs ys us u v r : List ℤ) → xs ≡ vs → ys ≡ us → length xs ≡ 16 → length ys ≡ 16
+      → u ≡ map (λ x. int_wrap w (shifted x s)) xs → v ≡ map (λ y. int_wrap w (shifted y t)) ys → r ≡ zip2 (λ x y. int_wrap w (x +ℤ y)) u v
+      → All (IsWord n) (added sa sb vs us) → Gives n r (added sa sb vs us)
+  added_is sa sb s t es et xs vs ys us u v r e k a b eu ev er h = gives n r (added sa sb vs us)
+      (er ∙ ap₂ (zip2 (λ x y. int_wrap w (x +ℤ y))) (eu ∙ ap₂ (λ d zs. map (λ x. int_wrap w (shifted x d)) zs) es e) (ev ∙ ap₂ (λ d zs. map (λ x. int_wrap w (shifted x d)) zs) et k) ∙ sums_of_shifted sa sb vs us h)
+      (both_many (λ x y. shifted x sa +ℤ shifted y sb) xs vs ys us e k a b) h
+
+  pub subtracted_is : (sa sb s t : ℤ) → s ≡ sa → t ≡ sb → (xs vs ys us u v r : List ℤ) → xs ≡ vs → ys ≡ us → length xs ≡ 16 → length ys ≡ 16
+      → u ≡ map (λ x. int_wrap w (shifted x s)) xs → v ≡ map (λ y. int_wrap w (shifted y t)) ys → r ≡ zip2 (λ x y. int_wrap w (x -ℤ y)) u v
+      → All (IsWord n) (subtracted sa sb vs us) → Gives n r (subtracted sa sb vs us)
+  subtracted_is sa sb s t es et xs vs ys us u v r e k a b eu ev er h = gives n r (subtracted sa sb vs us)
+      (er ∙ ap₂ (zip2 (λ x y. int_wrap w (x -ℤ y))) (eu ∙ ap₂ (λ d zs. map (λ x. int_wrap w (shifted x d)) zs) es e) (ev ∙ ap₂ (λ d zs. map (λ x. int_wrap w (shifted x d)) zs) et k) ∙ differences_of_shifted sa sb vs us h)
+      (both_many (λ x y. shifted x sa -ℤ shifted y sb) xs vs ys us e k a b) h
+
+  pub copied_is : (s t : ℤ) → t ≡ s → (xs vs r : List ℤ) → xs ≡ vs → length xs ≡ 16 → r ≡ map (λ x. int_wrap w (shifted x t)) xs
+      → All (IsWord n) (copied Floor s vs) → Gives n r (copied Floor s vs)
+  copied_is s t et xs vs r e a er h = gives n r (copied Floor s vs)
+      (er ∙ ap₂ (λ d zs. map (λ x. int_wrap w (shifted x d)) zs) et e ∙ copies_of s vs h) (each_many (λ x. shifted x s) xs vs e a) h
+
+  pub negated_is : (xs vs z r : List ℤ) → xs ≡ vs → length xs ≡ 16 → z ≡ replicate 16 (pos 0) → r ≡ zip2 (λ x y. int_wrap w (x -ℤ y)) z xs
+      → All (IsWord n) (map neg_ℤ vs) → Gives n r (map neg_ℤ vs)
+  negated_is xs vs z r e a ez er h = gives n r (map neg_ℤ vs)
+      (er ∙ ap (λ zs. zip2 (λ x y. int_wrap w (x -ℤ y)) zs xs) ez ∙ zip2_splat_left (λ x y. int_wrap w (x -ℤ y)) (pos 0) 16 xs a ∙ ap (map (λ y. int_wrap w (pos 0 -ℤ y))) e ∙ opposites vs h)
+      (each_many neg_ℤ xs vs e a) h
+
+-- ---- to the nearest
+pub nearest_is : (n s : ℕ) (xs vs r : List ℤ) → xs ≡ vs → length xs ≡ 16 → r ≡ map (λ x. rounded Nearest x (pos s)) xs
+    → All (IsWord n) (copied Nearest (pos s) vs) → Gives n r (copied Nearest (pos s) vs)
+nearest_is n s xs vs r e a er h = gives n r (copied Nearest (pos s) vs)
+    (er ∙ ap (map (λ x. rounded Nearest x (pos s))) e) (each_many (λ x. rounded Nearest x (pos s)) xs vs e a) h

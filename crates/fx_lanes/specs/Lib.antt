@@ -1,0 +1,2 @@
+pub mod WordsSideBySide
+pub mod RowsSideBySide
