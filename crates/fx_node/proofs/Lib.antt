@@ -1,0 +1,7 @@
+pub mod Runs
+pub mod Apart
+pub mod Printed
+pub mod Given
+pub mod Taken
+pub mod Ends
+pub mod Start

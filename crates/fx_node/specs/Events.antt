@@ -4,7 +4,7 @@ use Rattle.fx_rational.specs.Decimal.{Decimal}
 use Rattle.fx_model.specs.Function.{Function}
 use Rattle.fx_rows.specs.Faults.{RowFlaw, at_input}
 use Rattle.fx_rows.specs.Header.{header_of}
-use Rattle.fx_rows.specs.ReadRows.{moved_down}
+use Rattle.fx_rows.specs.ReadRows.{AreInRange, moved_down}
 use Rattle.fx_rows.specs.UnitColumn.{column_of, unit_of}
 use Rattle.fx_rows.specs.Values.{Values, row_of}
 use Rattle.fx_rows.specs.declared.column.Column.{Column}
@@ -96,3 +96,7 @@ after_header f units (Ok (Some columns)) ls more = record { has_header = true; g
 abbrev pub events_read : Function → ℕ → List (List ℕ) → ReadEvents
 events_read f units [] = record { has_header = false; given = flawed_here (InRow (at_input MissingColumn 0)) }
 events_read f units (l ∷ ls) = after_header f units (node_header_of f l) ls (events_read f units ls)
+
+-- each row of each unit has a value in range for each input
+abbrev pub EventsInRangeLaw : Type 0
+EventsInRangeLaw = (f : Function) (units : ℕ) (ls : List (List ℕ)) (u : ℕ) → AreInRange f (rows_of (events_read f units ls).given.events u)

@@ -21,3 +21,11 @@ run_fault_of fault.ReadFault = run.ReadFault
 run_fault_of fault.WriteFault = run.WriteFault
 run_fault_of fault.TooLong = run.TooLong
 run_fault_of fault.Memory = run.Memory
+
+-- the end of a run over lines, its flaw told as definitions tell it
+abbrev pub told_fault : RunFault Flaw → RunFault LineFlaw
+told_fault (run.Row line row_flaw) = run.Row line (flaw_of row_flaw)
+told_fault run.ReadFault = run.ReadFault
+told_fault run.WriteFault = run.WriteFault
+told_fault run.TooLong = run.TooLong
+told_fault run.Memory = run.Memory

@@ -1,4 +1,5 @@
 //! What certification is worth for each of many units, and that units stand apart.
+ghost use Rattle.fx_node.specs.Events.{EventsInRangeLaw};
 ghost use Rattle.fx_node.specs.NodePage.{UnitRunLaw, UnitsApartLaw, UnitsLaw};
 
 use fx_checker::Certified;
@@ -13,6 +14,7 @@ pub fn units_law(certified: &Certified)
     certified.certified();
     certified.function().keeps();
     in_range_law();
+    events_in_range_law();
     run_law();
     bound_law();
 }
@@ -25,4 +27,9 @@ pub fn units_apart_law()
 /// The lines of a unit are those of the program's one run over its rows, as if no other unit were there.
 pub fn unit_run_law()
     ensures { UnitRunLaw }
+{}
+
+/// Each row of each unit has a value in range for each input of the function.
+pub fn events_in_range_law()
+    ensures { EventsInRangeLaw }
 {}

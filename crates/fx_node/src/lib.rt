@@ -12,6 +12,6 @@ mod run;
 
 pub use fault::NodeFault;
 pub use fx_rows::UnitKind;
-pub use law::{unit_run_law, units_apart_law, units_law};
+pub use law::{events_in_range_law, unit_run_law, units_apart_law, units_law};
 pub use node::Node;
 pub use run::run_node;

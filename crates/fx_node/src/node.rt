@@ -1,7 +1,7 @@
 //! A certified program with the registers of each of its units.
 //!
 //! All registers are made at once, before the first row, so that a turn takes no memory and refuses nothing.
-ghost use Rattle.std.specs.Prelude.{◌≡◌, ◌<◌, ◌≤◌, ◌++◌, ◌∷◌, ℕ, List, pos, length, map, IfOk};
+ghost use Rattle.std.specs.Prelude.{◌≡◌, ◌<◌, ◌≤◌, ◌++◌, ◌∷◌, ℕ, List, pos, length, map, replicate, IfOk};
 ghost use Rattle.std.specs.Fmt.{decimal};
 ghost use Rattle.fx_rational.specs.Rational.{Rational};
 ghost use Rattle.fx_rational.specs.Decimal.{decimal_value};
@@ -13,17 +13,35 @@ ghost use Rattle.fx_sound.specs.Soundness.{StepIsNear};
 ghost use Rattle.fx_machine.specs.Steps.{step_taken};
 ghost use Rattle.fx_filter.specs.Rooms.{HasRoom};
 ghost use Rattle.fx_node.specs.NodePage.{node_head, unit_line};
-ghost use Rattle.fx_node.specs.Units.{first_units, registers_of, IsTurned};
+ghost use Rattle.fx_node.specs.Units.{first_registers, first_units, registers_of, IsTurned};
 
-use fx_base::Memory;
 use fx_checker::{Certified, certified_step};
 use fx_filter::Page;
 use fx_fraction::Decimal;
 use fx_machine::Registers;
+use fx_num::Memory;
+use fx_program::Program;
 use fx_run::{put_header, put_words};
 use itoa::Buffer;
 use std::alloc::Global;
 use std::marker::Model;
+
+// Registers for so many units, before their first rows.
+fn first_registers<const B: u32>(
+    alloc: Global,
+    program: &Program,
+    units: u32,
+) -> Result<Vec<Registers<B>>, Memory>
+    requires { program.now.width ≡ B }
+    ensures { IfOk result (λ registers. registers.items ≡ replicate units (first_registers program.now)) }
+{
+    let mut registers = Vec::with_capacity(alloc, units as usize)?;
+    for _ in 0..units {
+        let first = Registers::<B>::new(alloc, program)?;
+        registers.push(first)?;
+    }
+    Ok(registers)
+}
 
 /// A certified program with a state for each of several units.
 #[derive(Drop)]
@@ -58,8 +76,12 @@ impl<'a, const B: u32> Node<'a, B> {
         requires few { units ≤ 1024 }
         ensures { IfOk result (λ node. node ≡ first_units certified.now units) }
     {
-        let _ = (alloc, certified, units);
-        Err(Memory)
+        certified.certified();
+        let registers = first_registers::<B>(alloc, certified.program(), units)?;
+        Ok(Node {
+            certified,
+            registers,
+        })
     }
 
     /// Steps one unit on its next row, and leaves all others as they are.

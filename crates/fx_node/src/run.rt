@@ -1,20 +1,117 @@
 //! The run of a certified program's units over a source and a sink.
-ghost use Rattle.std.specs.Prelude.{◌≡◌, ◌-◌, ◌^◌, ◌<◌, ◌≤◌, ◌↔◌, ℕ, List, length, Contains, IfOk, IfErr, OnOk, IsErrOf, IfSome};
+ghost use Rattle.std.specs.Prelude.{◌≡◌, ◌-◌, ◌^◌, ◌<◌, ◌≤◌, ◌↔◌, ℕ, List, length, Contains, IfOk, IfErr, OnOk, IsErrOf, IfSome, None};
+ghost use Rattle.std.specs.Vec.{vec_capacity};
 ghost use Rattle.std.specs.Io.KnownBytes.{Consumes, IsAtEnd};
 ghost use Rattle.fx_base.specs.Causes.{Rose};
 ghost use Rattle.fx_base.specs.Moments.{HoldsEachTime};
 ghost use Rattle.fx_base.specs.Text.{lines_in};
 ghost use Rattle.fx_model.specs.LawfulProgram.{widths};
 ghost use Rattle.fx_filter.specs.Promise.{Grows, IsAnswered, IsDone, IsDue};
-ghost use Rattle.fx_node.specs.Faults.{run_fault_of};
+ghost use Rattle.fx_node.specs.Faults.{run_fault_of, told_fault};
 ghost use Rattle.fx_node.specs.NodePage.{UnitsLaw, node_outcome};
+ghost use Rattle.fx_node.specs.Units.{first_units};
 ghost use Rattle.fx_node.specs.declared.fault.NodeFault.TheVariants.{ReadFault, WriteFault, TooLong};
 
-use crate::fault::NodeFault;
+use crate::fault::{Flaw, NodeFault};
 use crate::law::units_law;
+use crate::node::Node;
+use crate::printer::NodePrinter;
 use fx_base::{Sink, Source};
 use fx_checker::Certified;
+use fx_filter::{RunFault, run_lines};
+use fx_num::Memory;
+use fx_word::widths;
 use std::alloc::Global;
+
+// A program's units before their first rows. All room is made here.
+fn first_printer<'a, const B: u32>(
+    alloc: Global,
+    certified: &'a Certified,
+    units: u32,
+) -> Result<NodePrinter<'a, B>, Memory>
+    requires width { certified.now.program.width ≡ B }
+    requires some { 1 ≤ units }
+    requires few { units ≤ 1024 }
+    ensures node { IfOk result (λ s. s.node ≡ first_units certified.now units) }
+    ensures units { IfOk result (λ s. s.units ≡ units) }
+    ensures before { IfOk result (λ s. s.reader ≡ None) }
+    ensures room { IfOk result (λ s. length certified.now.function.inputs ≤ vec_capacity s.row) }
+{
+    let row = Vec::with_capacity(alloc, certified.function().inputs.len())?;
+    let node = Node::<B>::new(alloc, certified, units)?;
+    Ok(NodePrinter {
+        node,
+        units,
+        reader: None,
+        row,
+        alloc,
+    })
+}
+
+// The end of a run over lines as that of a run over events.
+fn node_fault(fault: RunFault<Flaw>) -> NodeFault
+    ensures { run_fault_of result ≡ told_fault fault }
+{
+    match fault {
+        RunFault::Row {
+            line,
+            fault: Flaw::Row(fault),
+        } => NodeFault::Row { line, fault },
+        RunFault::Row {
+            line,
+            fault: Flaw::Unit(kind),
+        } => NodeFault::Unit { line, kind },
+        RunFault::ReadFault => NodeFault::ReadFault,
+        RunFault::WriteFault => NodeFault::WriteFault,
+        RunFault::TooLong => NodeFault::TooLong,
+        RunFault::Memory => NodeFault::Memory,
+    }
+}
+
+// `run_node` at the program's width.
+fn run_at<const B: u32, S: Source<K>, K: Sink>(
+    alloc: Global,
+    certified: &Certified,
+    units: u32,
+    source: &mut S,
+    sink: &mut K,
+    limit: u64,
+) -> Result<u64, NodeFault>
+    requires width { certified.now.program.width ≡ B }
+    requires some { 1 ≤ units }
+    requires few { units ≤ 1024 }
+    requires limit { limit < 2 ^ 64 - 1 }
+    ensures done { let o = node_outcome certified.now.function certified.now.program units in
+        IfOk result (λ n. IfSome (S.left source.old) (λ all. IsDone (o (lines_in all)) n (K.taken sink.old) (K.taken sink.new))) }
+    ensures end { OnOk result (IsAtEnd (S.left source.new)) }
+    ensures due { let o = node_outcome certified.now.function certified.now.program units in
+        IfErr result (λ e. IsDue (λ flaw. flaw) o (S.left source.old) (S.left source.new) (K.taken sink.old) (K.taken sink.new) (run_fault_of e)) }
+    ensures prompt { HoldsEachTime (IsAnswered (node_outcome certified.now.function certified.now.program units) (S.left source.old) (K.taken sink.old)) (S.asked source.old) (S.asked source.new) }
+    ensures taken { (taken : List ℕ) × Consumes (S.left source.old) (S.left source.new) taken × (IsErrOf result TooLong ↔ (limit < length taken)) }
+    ensures grown { Grows (K.taken sink.old) (K.taken sink.new) }
+    ensures read_fault { IsErrOf result ReadFault → Rose (S.faults source.old) (S.faults source.new) }
+    ensures write_fault { IsErrOf result WriteFault → Rose (K.faults sink.old) (K.faults sink.new) }
+    ensures later { S.faults source.old ≤ S.faults source.new }
+    ensures later_sink { K.faults sink.old ≤ K.faults sink.new }
+{
+    units_law(certified);
+    let Ok(mut printer) = first_printer::<B>(alloc, certified, units) else {
+        return Err(NodeFault::Memory);
+    };
+    match run_lines(alloc, &mut printer, source, sink, limit) {
+        Ok(count) => Ok(count),
+        Err(fault) => Err(node_fault(fault)),
+    }
+}
+
+// The width of a certified program, which is one of the eight.
+fn width_of(certified: &Certified) -> u32
+    ensures value { result ≡ certified.now.program.width }
+    ensures lawful { Contains widths result }
+{
+    certified.certified();
+    certified.program().width
+}
 
 /// Runs rows of many units, as they come from a source, through a certified program, and writes their page. Gives the
 /// number of rows.
@@ -48,6 +145,9 @@ pub fn run_node<S: Source<K>, K: Sink>(
     ensures later_sink { K.faults sink.old ≤ K.faults sink.new }
 {
     units_law(certified);
-    let _ = (alloc, units, source, sink, limit);
-    Err(NodeFault::Memory)
+    widths!(
+        width_of(certified),
+        run_at::<S, K>(alloc, certified, units, source, sink, limit),
+        unreachable!()
+    )
 }

@@ -30,7 +30,7 @@ good_choice f true u a b o h = λ e. absurd cc
 good_choice f false true a b o h = λ e. absurd cc
 good_choice f false false a b o h = h
 
-good_row : (f : Function) (columns line : List ℕ) → length columns ≡ length f.inputs → IsGood f (row_of f columns line)
+pub good_row : (f : Function) (columns line : List ℕ) → length columns ≡ length f.inputs → IsGood f (row_of f columns line)
 good_row f columns line many =
     good_choice f (nat_lt line_limit (length line)) (list_any is_return line) (at_input LineTooLong 0) (at_input StrayReturn 0) _ (good_fields f columns (line_fields line) many)
 
@@ -48,7 +48,7 @@ good_rows f columns [] many = All-nil (λ row. IsInRange f.inputs (map decimal_v
 good_rows f columns (l ∷ ls) many = good_after f (row_of f columns l) (rows_from f columns ls) (good_row f columns l many) (good_rows f columns ls many)
 
 -- a header has a column for each input
-chosen_header : (t u : Bool) (a b : RowFlaw) (r : Result (Option (List ℕ)) RowFlaw) (columns : List ℕ) → (if t then Err a else if u then Err b else r) ≡ Ok (Some columns) → r ≡ Ok (Some columns)
+pub chosen_header : (t u : Bool) (a b : RowFlaw) (r : Result (Option (List ℕ)) RowFlaw) (columns : List ℕ) → (if t then Err a else if u then Err b else r) ≡ Ok (Some columns) → r ≡ Ok (Some columns)
 chosen_header true u a b r columns e = absurd cc
 chosen_header false true a b r columns e = absurd cc
 chosen_header false false a b r columns e = e
@@ -61,7 +61,7 @@ many_fields : (f : Function) (o : Option (List (List ℕ))) (columns : List ℕ)
 many_fields f None columns e = absurd cc
 many_fields f (Some fields) columns e = as-many-inputs f.inputs (map without_blanks fields) columns (columns_in (columns_from 0 (column_names f) (map without_blanks fields)) columns e)
 
-many_columns : (f : Function) (line columns : List ℕ) → header_of f line ≡ Ok (Some columns) → length columns ≡ length f.inputs
+pub many_columns : (f : Function) (line columns : List ℕ) → header_of f line ≡ Ok (Some columns) → length columns ≡ length f.inputs
 many_columns f line columns e =
     many_fields f (line_fields line) columns (chosen_header (nat_lt line_limit (length line)) (list_any is_return line) (at_input LineTooLong 0) (at_input StrayReturn 0) _ columns e)
 
