@@ -1,5 +1,5 @@
 -- The lines of a unit by its own rows alone.
-use Rattle.std.proofs.Common.{◌≡◌, ℕ, ℤ, List, [], ◌∷◌, ◌++◌, map, length, Bool, true, false, Option, Some, None, cond, refl, ap, sym, ◌∙◌, append-nil}
+use Rattle.std.proofs.Common.{◌≡◌, ℕ, ℤ, List, [], ◌∷◌, ◌++◌, map, Bool, true, false, Option, Some, cond, refl, ap, sym, ◌∙◌, append-nil}
 use Rattle.std.specs.Prelude.{◌==◌, filter}
 use Rattle.std.proofs.lemmas.List.{map-append}
 use Rattle.std.proofs.lemmas.List.Elements.{filter-append}
@@ -11,8 +11,8 @@ use Rattle.fx_model.specs.Function.{Run, Step, run_of}
 use Rattle.fx_model.specs.Machine.{Program, machine_run, machine_step, start_words}
 use Rattle.fx_run.specs.Printed.{given_values}
 use Rattle.fx_node.specs.Events.{Event, rows_of}
-use Rattle.fx_node.specs.NodePage.{UnitLine, UnitRunLaw, UnitsApartLaw, event_line, last_outputs, lines_behind, lines_of_unit, unit_line}
-use Rattle.fx_node.proofs.Runs.{first_step, joined, last_more, run_more}
+use Rattle.fx_node.specs.NodePage.{UnitLine, UnitRunLaw, UnitsApartLaw, event_line, last_outputs, lines_behind, unit_line}
+use Rattle.fx_node.proofs.Runs.{first_step, last_more, run_more}
 
 -- ---- a unit's rows
 own_row : Event → Bool → List (List Decimal)
@@ -57,11 +57,11 @@ by_own_rows p u before (e ∷ es) = by (by_own_rows p u (before ++ e ∷ []) es)
         let own = same_unit e.unit u t in
         let next = rows_own before e u t in
         let line : event_line p before e ≡ unit_line p u (last_outputs (machine_run p (given_values (rows_of before u ++ e.row ∷ [])))) =
-            ap (λ v. unit_line p v (last_outputs (machine_run p (given_values (rows_of (before ++ e ∷ []) v))))) own
-            ∙ ap (λ rows. unit_line p u (last_outputs (machine_run p (given_values rows)))) next in
+        ap (λ v. unit_line p v (last_outputs (machine_run p (given_values (rows_of (before ++ e ∷ []) v))))) own
+        ∙ ap (λ rows. unit_line p u (last_outputs (machine_run p (given_values rows)))) next in
         ap (λ t. t ∷ texts_of u (lines_behind p (before ++ e ∷ []) es)) line
         ∙ ap (λ ts. unit_line p u (last_outputs (machine_run p (given_values (rows_of before u ++ e.row ∷ [])))) ∷ ts)
-          (later ∙ ap (λ rows. own_lines p u rows (rows_of es u)) next)
+        (later ∙ ap (λ rows. own_lines p u rows (rows_of es u)) next)
     by later false t = later ∙ ap (λ rows. own_lines p u rows (rows_of es u)) (rows_other before e u t)
 
 pub apart : UnitsApartLaw

@@ -5,3 +5,4 @@ pub mod Given
 pub mod Taken
 pub mod Ends
 pub mod Start
+pub mod Lines

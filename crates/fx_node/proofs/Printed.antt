@@ -1,19 +1,18 @@
 -- What is printed by the units' state words is the page of their runs.
-use Rattle.std.proofs.Common.{◌≡◌, ◌≢◌, ◌<◌, ℕ, ℤ, List, [], ◌∷◌, ◌++◌, map, length, get_or, set, replicate, Bool, true, false, Option, Some, None, cond, refl, ap, sym, subst, ◌∙◌, arith}
-use Rattle.std.specs.Prelude.{◌==◌, All, filter, if◌then◌else◌}
+use Rattle.std.proofs.Common.{◌≡◌, ◌≢◌, ◌<◌, ℕ, ℤ, List, [], ◌∷◌, ◌++◌, map, length, get_or, set, Bool, true, false, Some, cond, refl, ap, sym, subst, ◌∙◌, arith}
+use Rattle.std.specs.Prelude.{◌==◌, All, filter}
 use Rattle.std.specs.List.{concat}
-use Rattle.std.proofs.lemmas.List.{get_or-set_same, get_or-set_other, get_or-replicate, length-set, length-replicate, length-map, map-set}
+use Rattle.std.proofs.lemmas.List.{get_or-set_same, get_or-set_other, length-set}
 use Rattle.std.proofs.lemmas.List.Elements.{All-head, All-tail}
 use Rattle.std.proofs.lemmas.Bool.Decides.{nat_tests}
-use Rattle.std.proofs.Math.ListN.{get_or-map}
-use Rattle.fx_rational.specs.Decimal.{Decimal, decimal_value}
+use Rattle.fx_rational.specs.Decimal.{decimal_value}
 use Rattle.fx_model.specs.Function.{Run, Step, run_of}
 use Rattle.fx_model.specs.Machine.{Program, machine_run, machine_step, start_words}
 use Rattle.fx_run.specs.Printed.{given_values}
 use Rattle.fx_node.specs.Events.{Event, rows_of}
 use Rattle.fx_node.specs.NodePage.{UnitLine, event_line, last_outputs, lines_behind, unit_line}
 use Rattle.fx_node.specs.Steps.{line_then, lines_from}
-use Rattle.fx_node.proofs.Runs.{first_step, run_more}
+use Rattle.fx_node.proofs.Runs.{first_step}
 use Rattle.fx_node.proofs.Apart.{last_of, outputs_more, rows_other, rows_own, same_unit}
 
 -- the run over a unit's rows before came to its state words
@@ -50,7 +49,7 @@ record EventStep (p : Program) (e : Event) (es : List Event) (zs : List (List �
 event_step : (p : Program) (e : Event) (es : List Event) (zs : List (List ℤ)) → GoesOn p (e ∷ es) zs e.unit → EventStep p e es zs
 event_step p e es zs h =
     let f = first_step (machine_step p (map decimal_value e.row) (get_or zs e.unit [])) (λ s. run_of (machine_step p) (given_values (rows_of es e.unit)) s.next) h.run
-        (ap (λ rows. run_of (machine_step p) (given_values rows) (get_or zs e.unit [])) (sym (first_own e es e.unit (is_itself e.unit))) ∙ h.on) in
+    (ap (λ rows. run_of (machine_step p) (given_values rows) (get_or zs e.unit [])) (sym (first_own e es e.unit (is_itself e.unit))) ∙ h.on) in
     record { made = f.made; later = f.later; steps = f.steps; on = f.goes_on }
 
 module _ (p : Program) (before : List Event) (e : Event) (es : List Event) (zs : List (List ℤ)) (lt : e.unit < length zs) (s : EventStep p e es zs) where
@@ -113,7 +112,7 @@ texts ls = concat (map (λ (l : UnitLine). l.text) ls)
 -- the lines by the units' state words are the lines of their runs
 lines_are : (p : Program) (before es : List Event) (zs : List (List ℤ)) → All (λ (e : Event). e.unit < length zs) es → ((u : ℕ) → u < length zs → HasRun p before zs u)
     → ((u : ℕ) → u < length zs → GoesOn p es zs u) → lines_from p es zs ≡ texts (lines_behind p before es)
-unfolding lines_from texts
+unfolding lines_from texts next
 lines_are p before [] zs units runs on = refl
 lines_are p before (e ∷ es) zs units runs on =
     let lt = All-head (λ (e : Event). e.unit < length zs) e es units in
@@ -121,7 +120,7 @@ lines_are p before (e ∷ es) zs units runs on =
     let zs' = set zs e.unit s.made.next in
     let many : length zs' ≡ length zs = length-set zs e.unit s.made.next in
     let later = lines_are p (before ++ e ∷ []) es zs' (subst (λ n. All (λ (e : Event). e.unit < n) es) (sym many) (All-tail (λ (e : Event). e.unit < length zs) e es units))
-        (λ u below. has_run p before e es zs lt s runs u (rw many at below)) (λ u below. goes_on p before e es zs lt s on u (rw many at below)) in
+    (λ u below. has_run p before e es zs lt s runs u (rw many at below)) (λ u below. goes_on p before e es zs lt s on u (rw many at below)) in
     ap (line_then p e.unit (λ s. lines_from p es (set zs e.unit s.next))) s.steps
     ∙ ap (λ t. t ++ lines_from p es zs') (sym (line_is p before e es zs lt s (runs e.unit lt)))
     ∙ ap (λ t. event_line p before e ++ t) later

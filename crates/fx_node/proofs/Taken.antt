@@ -6,17 +6,17 @@ use Rattle.std.proofs.lemmas.Bool.{lt-ltb}
 use Rattle.std.proofs.lemmas.List.{get_or-set_same, length-set, map-set}
 use Rattle.std.proofs.Math.ListN.{get_or-map}
 use Rattle.fx_rational.specs.Decimal.{Decimal, decimal_value}
-use Rattle.fx_model.specs.Function.{Function, Step}
+use Rattle.fx_model.specs.Function.{Function}
 use Rattle.fx_model.specs.Limits.{line_limit}
-use Rattle.fx_model.specs.Machine.{Program, machine_step}
+use Rattle.fx_model.specs.Machine.{machine_step}
 use Rattle.fx_machine.specs.Registers.{Contents}
 use Rattle.fx_machine.specs.Steps.{step_taken}
 use Rattle.fx_fields.specs.Line.{is_return, line_fields}
-use Rattle.fx_rows.specs.Faults.{RowFlaw, at_input}
+use Rattle.fx_rows.specs.Faults.{at_input}
 use Rattle.fx_rows.specs.Header.{column_names, header_of_fields}
 use Rattle.fx_rows.specs.ReadRows.{moved_down}
 use Rattle.fx_rows.specs.UnitColumn.{column_of, unit_of}
-use Rattle.fx_rows.specs.Values.{Values, row_of, row_of_fields, stopped}
+use Rattle.fx_rows.specs.Values.{row_of, row_of_fields, stopped}
 use Rattle.fx_rows.specs.declared.fault.RowKind.TheVariants.{LineTooLong, StrayReturn}
 use Rattle.fx_filter.specs.Outcome.{Outcome, behind_lines, behind_text, stopped_lines}
 use Rattle.fx_filter.proofs.Outcomes.{outcome-same}
@@ -49,8 +49,8 @@ given_outcome node g = record { text = lines_from node.accepted.program g.events
 
 -- how a line reads
 abbrev pub ReadsAs : Units → NodeColumns → List ℕ → (GivenEvents → GivenEvents) → Type 0
-ReadsAs node columns line then =
-    (more : GivenEvents) → after_line (row_of node.accepted.function columns.inputs line) (unit_of (length node.registers) columns.unit line) more ≡ then more
+ReadsAs node columns line how =
+    (more : GivenEvents) → after_line (row_of node.accepted.function columns.inputs line) (unit_of (length node.registers) columns.unit line) more ≡ how more
 
 -- the line that is printed for a unit
 abbrev pub printed_line : Units → ℕ → List ℕ
@@ -67,9 +67,18 @@ row_taken old new columns u row line lt t reads rest =
     let made : Units = record { accepted = old.accepted; registers = set old.registers u t.made } in
     subst (λ (node : Units). units_outcome old (Some columns) (line ∷ rest) ≡ behind_lines 1 (printed_line node u) 1 (units_outcome node (Some columns) rest)) (sym t.alone)
     (ap (given_outcome old) (reads more)
-      ∙ outcome-same _ (printed_line made u ++ lines_from old.accepted.program more.events (states_of made)) _ (1 + length more.events) _ (moved_down 1 more.bad)
-        (turned_line old u row t.made lt t.stepped.step t.stepped.states more.events) (omega arith) refl
-      ∙ ap (λ k. behind_lines 1 (printed_line made u) 1 (given_outcome made (events_from f k columns rest))) many)
+    ∙ outcome-same _ (printed_line made u ++ lines_from old.accepted.program more.events (states_of made)) _ (1 + length more.events) _ (moved_down 1 more.bad)
+    (turned_line old u row t.made lt t.stepped.step t.stepped.states more.events) (omega arith) refl
+    ∙ ap (λ k. behind_lines 1 (printed_line made u) 1 (given_outcome made (events_from f k columns rest))) many)
+
+-- the same of a row as the code has it
+pub event_taken : (old new : Units) (columns : NodeColumns) (f : Function) (n u : ℕ) (row row' : List Decimal) (line : List ℕ) → f ≡ old.accepted.function → length old.registers ≡ n → row' ≡ row → u < n
+    → IsTurned u (map decimal_value row') old new → ((more : GivenEvents) → after_line (row_of f columns.inputs line) (unit_of n columns.unit line) more ≡ event_then row (Some u) more) → (rest : List (List ℕ))
+    → units_outcome old (Some columns) (line ∷ rest) ≡ behind_lines 1 (printed_line new u) 1 (units_outcome new (Some columns) rest)
+event_taken old new columns f n u row row' line same many row_same lt t reads =
+    row_taken old new columns u row line (rw (sym many) at lt) (subst (λ (r : List Decimal). IsTurned u (map decimal_value r) old new) row_same t)
+    (λ more. ap (λ (f : Function). after_line (row_of f columns.inputs line) (unit_of (length old.registers) columns.unit line) more) (sym same)
+    ∙ ap (λ n. after_line (row_of f columns.inputs line) (unit_of n columns.unit line) more) many ∙ reads more)
 
 pub line_skipped : (node : Units) (columns : NodeColumns) (row : List Decimal) (line : List ℕ) → ReadsAs node columns line (event_then row None) → (rest : List (List ℕ))
     → units_outcome node (Some columns) (line ∷ rest) ≡ behind_lines 1 [] 0 (units_outcome node (Some columns) rest)

@@ -1,4 +1,5 @@
 -- What is wrong with a line as the code tells it, and why a run over events ended as the same of any lines.
+use Rattle.std.specs.Prelude.{ℕ, ◌≡◌, Result, Ok, Err}
 use Rattle.fx_rows.specs.Faults.{row_fault_of}
 use Rattle.fx_filter.specs.declared.fault.RunFault.{RunFault}
 use Rattle.fx_filter.specs.declared.fault.RunFault.TheVariants as run
@@ -29,3 +30,9 @@ told_fault run.ReadFault = run.ReadFault
 told_fault run.WriteFault = run.WriteFault
 told_fault run.TooLong = run.TooLong
 told_fault run.Memory = run.Memory
+
+-- a run over lines and one over events ended alike
+abbrev pub IsToldAs : Result ℕ (RunFault Flaw) → Result ℕ NodeFault → Type 0
+IsToldAs (Ok n) (Ok m) = m ≡ n
+IsToldAs (Err f) (Err e) = run_fault_of e ≡ told_fault f
+IsToldAs _ _ = ⊥

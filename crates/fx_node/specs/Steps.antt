@@ -1,9 +1,9 @@
 -- What is printed of events by the state words of the units. No clause of a public call rests on this.
-use Rattle.std.specs.Prelude.{ℕ, ◌≡◌, ◌<◌, ℤ, List, [], ◌∷◌, ◌++◌, All, length, map, slice_index_or, slice_set, Option, Some, None, if◌then◌else◌, refl}
+use Rattle.std.specs.Prelude.{ℕ, ◌≡◌, ℤ, List, [], ◌∷◌, ◌++◌, length, map, slice_index_or, slice_set, Option, Some, None, if◌then◌else◌, refl}
 use Rattle.fx_rational.specs.Decimal.{Decimal, decimal_value}
 use Rattle.fx_model.specs.Function.{Function, Step}
 use Rattle.fx_model.specs.Machine.{Program, machine_step}
-use Rattle.fx_rows.specs.Ranges.{reader_columns, Serves}
+use Rattle.fx_rows.specs.Ranges.{reader_columns}
 use Rattle.fx_filter.specs.Outcome.{Outcome}
 use Rattle.fx_rows.specs.ReadRows.{moved_down}
 use Rattle.fx_node.specs.Events.{Event, GivenEvents, LineFlaw, NodeColumns, behind_line, event, events_from, events_read}

@@ -1,5 +1,5 @@
 -- What contracts see of a node: what is certified, and the registers of each unit.
-use Rattle.std.specs.Prelude.{ℕ, ◌≡◌, ℤ, pos, List, [], All, length, map, replicate, slice_index_or, slice_set, Some}
+use Rattle.std.specs.Prelude.{ℕ, ◌≡◌, pos, List, [], All, length, replicate, slice_index_or, slice_set, Some}
 use Rattle.fx_rational.specs.Rational.{Rational}
 use Rattle.fx_model.specs.Machine.{Program, machine_step, start_words, words_of}
 use Rattle.fx_machine.specs.Registers.{Contents}

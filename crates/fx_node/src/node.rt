@@ -1,7 +1,7 @@
 //! A certified program with the registers of each of its units.
 //!
 //! All registers are made at once, before the first row, so that a turn takes no memory and refuses nothing.
-ghost use Rattle.std.specs.Prelude.{◌≡◌, ◌<◌, ◌≤◌, ◌++◌, ◌∷◌, ℕ, List, pos, length, map, replicate, IfOk};
+ghost use Rattle.std.specs.Prelude.{◌≡◌, ◌<◌, ◌≤◌, ◌++◌, ◌∷◌, [], ℕ, List, pos, length, map, replicate, IfOk};
 ghost use Rattle.std.specs.Fmt.{decimal};
 ghost use Rattle.fx_rational.specs.Rational.{Rational};
 ghost use Rattle.fx_rational.specs.Decimal.{decimal_value};
@@ -11,7 +11,7 @@ ghost use Rattle.fx_model.specs.Tree.{at};
 ghost use Rattle.fx_inequalities.specs.Near.{IsNear};
 ghost use Rattle.fx_sound.specs.Soundness.{StepIsNear};
 ghost use Rattle.fx_machine.specs.Steps.{step_taken};
-ghost use Rattle.fx_filter.specs.Rooms.{HasRoom};
+ghost use Rattle.fx_filter.specs.Rooms.{HasLineRoom, HasRoom};
 ghost use Rattle.fx_node.specs.NodePage.{node_head, unit_line};
 ghost use Rattle.fx_node.specs.Units.{first_registers, first_units, registers_of, IsTurned};
 
@@ -26,7 +26,15 @@ use itoa::Buffer;
 use std::alloc::Global;
 use std::marker::Model;
 
-// Registers for so many units, before their first rows.
+// The registers of one unit before its first row.
+fn first_of<const B: u32>(alloc: Global, program: &Program) -> Result<Registers<B>, Memory>
+    requires { program.now.width ≡ B }
+    ensures { IfOk result (λ registers. registers ≡ first_registers program.now) }
+{
+    Registers::<B>::new(alloc, program)
+}
+
+// The registers of so many units.
 fn first_registers<const B: u32>(
     alloc: Global,
     program: &Program,
@@ -37,10 +45,41 @@ fn first_registers<const B: u32>(
 {
     let mut registers = Vec::with_capacity(alloc, units as usize)?;
     for _ in 0..units {
-        let first = Registers::<B>::new(alloc, program)?;
-        registers.push(first)?;
+        registers.push(first_of::<B>(alloc, program)?)?;
     }
     Ok(registers)
+}
+
+// Puts the header of the page of units.
+fn put_names(page: &mut Page, program: &Program)
+    requires room { HasRoom page.old }
+    ensures { page.new ≡ page.old ++ node_head program.now }
+{
+    program.keeps();
+    page.put(b"unit,");
+    put_header(page, program);
+}
+
+// Puts the number of a unit, and a comma.
+fn put_number(page: &mut Page, unit: u32)
+    requires room { HasRoom page.old }
+    ensures written { page.new ≡ page.old ++ (decimal unit ++ 44 ∷ []) }
+    ensures room { HasLineRoom page.new }
+{
+    let mut buffer = Buffer::new();
+    page.put(buffer.format(unit).as_bytes());
+    page.put(b",");
+}
+
+// Puts the number of a unit, and the last outputs among its words.
+fn put_unit<const B: u32>(page: &mut Page, program: &Program, unit: u32, registers: &Registers<B>)
+    requires words { length registers.now.words ≡ length program.now.codes }
+    requires room { HasRoom page.old }
+    ensures { page.new ≡ page.old ++ unit_line program.now unit (step_taken program.now registers.now.words).outputs }
+{
+    program.keeps();
+    put_number(page, unit);
+    put_words::<B>(page, program, registers);
 }
 
 /// A certified program with a state for each of several units.
@@ -66,11 +105,7 @@ impl<'a, const B: u32> Model for Node<'a, B> {
 
 impl<'a, const B: u32> Node<'a, B> {
     /// So many units before their first rows. All room is made here.
-    pub fn new(
-        alloc: Global,
-        certified: &'a Certified,
-        units: u32,
-    ) -> Result<Node<'a, B>, Memory>
+    pub fn new(alloc: Global, certified: &'a Certified, units: u32) -> Result<Node<'a, B>, Memory>
         requires width { certified.now.program.width ≡ B }
         requires some { 1 ≤ units }
         requires few { units ≤ 1024 }
@@ -118,8 +153,7 @@ impl<'a, const B: u32> Node<'a, B> {
         requires room { HasRoom page.old }
         ensures { page.new ≡ page.old ++ node_head self.now.accepted.program }
     {
-        page.put(b"unit,");
-        put_header(page, self.certified.program());
+        put_names(page, self.certified.program());
     }
 
     // Puts the line of a unit's last outputs.
@@ -128,9 +162,11 @@ impl<'a, const B: u32> Node<'a, B> {
         requires room { HasRoom page.old }
         ensures { page.new ≡ page.old ++ unit_line self.now.accepted.program unit (step_taken self.now.accepted.program (registers_of self.now unit).words).outputs }
     {
-        let mut buffer = Buffer::new();
-        page.put(buffer.format(unit).as_bytes());
-        page.put(b",");
-        put_words::<B>(page, self.certified.program(), &self.registers[unit as usize]);
+        put_unit::<B>(
+            page,
+            self.certified.program(),
+            unit,
+            &self.registers[unit as usize],
+        );
     }
 }

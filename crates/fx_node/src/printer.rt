@@ -27,7 +27,9 @@ use fx_expr::Function;
 use fx_filter::{Page, Printer, Stop};
 use fx_fraction::Decimal;
 use fx_num::Memory;
-use fx_rows::{Column, RowFault, RowKind, RowReader, UnitKind, find_column, read_header, read_unit};
+use fx_rows::{
+    Column, RowFault, RowKind, RowReader, UnitKind, find_column, read_header, read_unit,
+};
 use std::alloc::Global;
 
 // The name of the units' column.
@@ -142,6 +144,7 @@ fn read_event(
 }
 
 // The header of a line, if it isn't blank. The page's header is appended.
+#[tactic(auto, unfolding(crate::specs::Steps::lines_from))]
 fn take_header<'a, const B: u32>(
     alloc: Global,
     line: &[u8],
@@ -166,6 +169,7 @@ fn take_header<'a, const B: u32>(
 }
 
 // The row of a line, and whether it is one. Its unit takes a turn, and its line is appended.
+#[tactic(auto, unfolding(crate::specs::Steps::lines_from))]
 fn take_event<'a, const B: u32>(
     alloc: Global,
     line: &[u8],

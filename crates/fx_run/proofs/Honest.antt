@@ -17,6 +17,7 @@ use Rattle.fx_filter.specs.Printed.{lines_outcome, page_of}
 use Rattle.fx_checker.specs.CertifiedView.{Accepted}
 use Rattle.fx_run.specs.Printed.{IsWithinBounds, RowsLaw, given_values, printed, run_outcome, run_page}
 use Rattle.fx_run.specs.Steps.{lines_from, line_then, step_line}
+use Rattle.fx_run.proofs.HonestRun.{honest_run}
 
 -- ---- the law
 -- what certification says of the rows of any lines
