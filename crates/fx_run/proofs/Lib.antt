@@ -1,3 +1,4 @@
 pub mod Fields
 pub mod Honest
 pub mod Told
+pub mod Blocks
