@@ -5,6 +5,9 @@
 //! the soundness theorem's; here the two meet.
 #![tactic(auto)]
 
+mod block;
+mod held;
+mod lanes;
 mod law;
 mod run;
 mod step;
@@ -12,4 +15,4 @@ mod words;
 
 pub use law::rows_law;
 pub use run::{RunFault, run_rows};
-pub use words::{put_header, put_words};
+pub use words::{StepWords, put_header, put_words};

@@ -12,11 +12,13 @@ ghost use Rattle.fx_filter.specs.declared.fault.RunFault.TheVariants.{ReadFault,
 ghost use Rattle.fx_run.specs.Printed.{RowsLaw, run_outcome};
 ghost use Rattle.fx_run.specs.Steps.{CanStep};
 
+use crate::held::HeldStep;
 use crate::law::rows_law;
 use crate::step::CertifiedStep;
 use fx_base::{Memory, Sink, Source};
 use fx_checker::Certified;
 use fx_filter::run_steps;
+use fx_lanes::{NarrowLanes, SideBySide, WideLanes};
 use fx_machine::Registers;
 use fx_rows::RowFault;
 use fx_word::widths;
@@ -45,8 +47,8 @@ fn first_step<'a, const B: u32>(
     }
 }
 
-// `run_rows` at the program's width.
-fn run_at<const B: u32, S: Source<K>, K: Sink>(
+// `run_rows` of a program that may have states, at its width: row by row.
+fn run_in_turn<const B: u32, S: Source<K>, K: Sink>(
     alloc: Global,
     certified: &Certified,
     source: &mut S,
@@ -73,6 +75,79 @@ fn run_at<const B: u32, S: Source<K>, K: Sink>(
         return Err(RunFault::Memory);
     };
     run_steps(alloc, step, source, sink, limit)
+}
+
+// `run_rows` of a program without states, at its width.
+fn run_held<const B: u32, L: SideBySide<B>, S: Source<K>, K: Sink>(
+    alloc: Global,
+    certified: &Certified,
+    source: &mut S,
+    sink: &mut K,
+    limit: u64,
+) -> Result<u64, RunFault>
+    requires width { certified.now.program.width ≡ B }
+    requires lane_room { L.HasRoom }
+    requires states { certified.now.program.states ≡ 0 }
+    requires limit { limit < 2 ^ 64 - 1 }
+    ensures done { let o = run_outcome certified.now.function certified.now.program in
+        IfOk result (λ n. IfSome (S.left source.old) (λ all. IsDone (o (lines_in all)) n (K.taken sink.old) (K.taken sink.new))) }
+    ensures end { OnOk result (IsAtEnd (S.left source.new)) }
+    ensures due { let o = run_outcome certified.now.function certified.now.program in
+        IfErr result (IsDue row_fault_of o (S.left source.old) (S.left source.new) (K.taken sink.old) (K.taken sink.new)) }
+    ensures prompt { HoldsEachTime (IsAnswered (run_outcome certified.now.function certified.now.program) (S.left source.old) (K.taken sink.old)) (S.asked source.old) (S.asked source.new) }
+    ensures taken { (taken : List ℕ) × Consumes (S.left source.old) (S.left source.new) taken × (IsErrOf result TooLong ↔ (limit < length taken)) }
+    ensures grown { Grows (K.taken sink.old) (K.taken sink.new) }
+    ensures read_fault { IsErrOf result ReadFault → Rose (S.faults source.old) (S.faults source.new) }
+    ensures write_fault { IsErrOf result WriteFault → Rose (K.faults sink.old) (K.faults sink.new) }
+    ensures later { S.faults source.old ≤ S.faults source.new }
+    ensures later_sink { K.faults sink.old ≤ K.faults sink.new }
+{
+    rows_law(certified);
+    let Ok(step) = HeldStep::<B, L>::new(alloc, certified) else {
+        return Err(RunFault::Memory);
+    };
+    run_steps(alloc, step, source, sink, limit)
+}
+
+// The width of a certified program is from 8 to 64.
+fn width_law(certified: &Certified)
+    ensures least { 8 ≤ certified.now.program.width }
+    ensures most { certified.now.program.width ≤ 64 }
+{
+    certified.program().keeps();
+}
+
+// `run_rows` at the program's width.
+fn run_at<const B: u32, S: Source<K>, K: Sink>(
+    alloc: Global,
+    certified: &Certified,
+    source: &mut S,
+    sink: &mut K,
+    limit: u64,
+) -> Result<u64, RunFault>
+    requires width { certified.now.program.width ≡ B }
+    requires limit { limit < 2 ^ 64 - 1 }
+    ensures done { let o = run_outcome certified.now.function certified.now.program in
+        IfOk result (λ n. IfSome (S.left source.old) (λ all. IsDone (o (lines_in all)) n (K.taken sink.old) (K.taken sink.new))) }
+    ensures end { OnOk result (IsAtEnd (S.left source.new)) }
+    ensures due { let o = run_outcome certified.now.function certified.now.program in
+        IfErr result (IsDue row_fault_of o (S.left source.old) (S.left source.new) (K.taken sink.old) (K.taken sink.new)) }
+    ensures prompt { HoldsEachTime (IsAnswered (run_outcome certified.now.function certified.now.program) (S.left source.old) (K.taken sink.old)) (S.asked source.old) (S.asked source.new) }
+    ensures taken { (taken : List ℕ) × Consumes (S.left source.old) (S.left source.new) taken × (IsErrOf result TooLong ↔ (limit < length taken)) }
+    ensures grown { Grows (K.taken sink.old) (K.taken sink.new) }
+    ensures read_fault { IsErrOf result ReadFault → Rose (S.faults source.old) (S.faults source.new) }
+    ensures write_fault { IsErrOf result WriteFault → Rose (K.faults sink.old) (K.faults sink.new) }
+    ensures later { S.faults source.old ≤ S.faults source.new }
+    ensures later_sink { K.faults sink.old ≤ K.faults sink.new }
+{
+    width_law(certified);
+    if certified.program().states > 0 {
+        run_in_turn::<B, S, K>(alloc, certified, source, sink, limit)
+    } else if B <= 32 {
+        run_held::<B, NarrowLanes<B>, S, K>(alloc, certified, source, sink, limit)
+    } else {
+        run_held::<B, WideLanes<B>, S, K>(alloc, certified, source, sink, limit)
+    }
 }
 
 // The width of a certified program, which is one of the eight.

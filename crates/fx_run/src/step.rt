@@ -1,14 +1,16 @@
 //! A certified program as what a row does: the machine's step, and the line of its outputs.
 //!
 //! The state is carried in the registers from row to row, and no word of it is ever put back to its start.
-ghost use Rattle.std.specs.Prelude.{◌≡◌, ◌+◌, ◌++◌, ◌∷◌, [], List, map, length};
+ghost use Rattle.std.specs.Prelude.{◌≡◌, ◌+◌, ◌≤◌, ◌++◌, ◌∷◌, [], List, map, length, Some};
 ghost use Rattle.fx_rational.specs.Decimal.{decimal_value};
 ghost use Rattle.fx_rational.specs.Decimal as rational;
-ghost use Rattle.fx_model.specs.Machine.{output_points};
+ghost use Rattle.fx_model.specs.Machine.{machine_step, output_points};
 ghost use Rattle.fx_model.specs.Page.{line_of, names_from};
 ghost use Rattle.fx_model.specs.Rows.{IsInRange};
-ghost use Rattle.fx_filter.specs.Rooms.{HasRoom};
-ghost use Rattle.fx_run.specs.Steps.{CanStep, lines_from};
+ghost use Rattle.fx_machine.specs.Steps.{step_taken};
+ghost use Rattle.fx_checker.specs.CertifiedView.{IsStepReady};
+ghost use Rattle.fx_filter.specs.Rooms.{HasLineRoom, HasRoom, line_room};
+ghost use Rattle.fx_run.specs.Steps.{CanStep, lines_from, step_line};
 
 use crate::words::{put_header, put_words};
 use fx_checker::{Certified, certified_step};
@@ -16,6 +18,27 @@ use fx_expr::Function;
 use fx_filter::{Page, RowStep};
 use fx_fraction::Decimal;
 use fx_machine::Registers;
+
+/// Carries out a row, and puts its line.
+pub(crate) fn run_row<const B: u32>(
+    certified: &Certified,
+    registers: &mut Registers<B>,
+    row: &[Decimal],
+    page: &mut Page,
+)
+    requires width { certified.now.program.width ≡ B }
+    requires in_range { IsInRange certified.now.function.inputs (map decimal_value row.now) }
+    requires ready { IsStepReady certified.now registers.old.words registers.old.states }
+    requires room { HasLineRoom page.old }
+    ensures step { machine_step certified.now.program (map decimal_value row.now) registers.old.states ≡ Some (step_taken certified.now.program registers.new.words) }
+    ensures states { registers.new.states ≡ (step_taken certified.now.program registers.new.words).next }
+    ensures ready { IsStepReady certified.now registers.new.words registers.new.states }
+    ensures line { page.new ≡ page.old ++ step_line certified.now.program (step_taken certified.now.program registers.new.words) }
+    ensures short { length page.new ≤ length page.old + line_room }
+{
+    certified_step::<B>(certified, registers, row);
+    put_words(page, certified.program(), &*registers);
+}
 
 /// A certified program with its registers.
 #[derive(Drop)]
@@ -48,8 +71,7 @@ impl<'a, const B: u32> RowStep for CertifiedStep<'a, B> {
     }
 
     fn put_row(&mut self, row: &[Decimal], page: &mut Page) {
-        certified_step::<B>(self.certified, &mut self.registers, row);
-        put_words::<B>(page, self.certified.program(), &self.registers);
+        run_row::<B>(self.certified, &mut self.registers, row, page);
     }
 
     // Each row is printed at once.

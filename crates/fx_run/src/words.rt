@@ -1,14 +1,17 @@
 //! The header and the line of a step's outputs, put on a page field by field.
-ghost use Rattle.std.specs.Prelude.{◌≡◌, ◌+◌, ◌*◌, ◌≤◌, ◌<◌, [], ◌∷◌, ◌++◌, length, codes, decimal};
+ghost use Rattle.std.specs.Prelude.{◌≡◌, ◌+◌, ◌*◌, ◌≤◌, ◌<◌, ℤ, List, pos, [], ◌∷◌, ◌++◌, length, codes, decimal};
 ghost use Rattle.fx_model.specs.Machine.{output_points};
 ghost use Rattle.fx_model.specs.LawfulProgram.{IsLawfulProgram, IsPoint};
 ghost use Rattle.fx_model.specs.Page.{line_of, names_from, word_texts};
 ghost use Rattle.fx_model.specs.WordText.{decimal_text};
 ghost use Rattle.fx_machine.specs.Steps.{step_taken};
 ghost use Rattle.fx_filter.specs.Rooms.{HasLineRoom, line_room, page_room};
+ghost use Rattle.fx_lanes.specs.RowsSideBySide.{lane};
+ghost use Rattle.fx_model.specs.Tree.{at};
 ghost use Rattle.fx_run.specs.Lines.{mark};
 
 use fx_filter::Page;
+use fx_lanes::{LaneRegisters, SideBySide};
 use fx_machine::Registers;
 use fx_program::Program;
 use itoa::Buffer;
@@ -76,16 +79,54 @@ pub fn put_header(page: &mut Page, program: &Program)
     put_names(page, output_count(program));
 }
 
+/// The words of a step.
+pub trait StepWords {
+    ghost words: { Self → List ℤ };
+
+    /// The word of output `j`, and its point.
+    fn output_at(&self, program: &Program, j: u32) -> (i64, i32)
+        requires words { length (words self.now) ≡ length program.now.codes }
+        requires within { j < program.now.outputs }
+        ensures word { result.0 ≡ at (pos 0) (step_taken program.now (words self.now)).outputs j }
+        ensures point { result.1 ≡ at (pos 0) (output_points program.now) j };
+}
+
+impl<const B: u32> StepWords for Registers<B> {
+    ghost words = { λ r. r.words };
+
+    fn output_at(&self, program: &Program, j: u32) -> (i64, i32) {
+        self.output(program, j)
+    }
+}
+
+/// One of sixteen rows that went through a program side by side.
+#[derive(Drop)]
+pub(crate) struct Lane<'a, const B: u32, L: SideBySide<B>> {
+    pub(crate) registers: &'a LaneRegisters<B, L>,
+    pub(crate) k: usize,
+    ghost within: { k < 16 },
+}
+
+impl<'a, const B: u32, L: SideBySide<B>> StepWords for Lane<'a, B, L> {
+    ghost use Rattle.fx_lanes.specs.RowsSideBySide.{lane};
+
+    ghost words = { λ l. lane l.k l.registers.now };
+
+    fn output_at(&self, program: &Program, j: u32) -> (i64, i32) {
+        self.registers.output(program, j, self.k)
+    }
+}
+
 /// Puts the line of a step's outputs.
-pub fn put_words<const B: u32>(page: &mut Page, program: &Program, registers: &Registers<B>)
-    requires words { length registers.now.words ≡ length program.now.codes }
+pub fn put_words<W: StepWords>(page: &mut Page, program: &Program, step: &W)
+    requires words { length (W.words step.now) ≡ length program.now.codes }
     requires room { HasLineRoom page.old }
-    ensures line { page.new ≡ page.old ++ line_of (word_texts (step_taken program.now registers.now.words).outputs (output_points program.now)) }
+    ensures line { page.new ≡ page.old ++ line_of (word_texts (step_taken program.now (W.words step.now)).outputs (output_points program.now)) }
     ensures short { length page.new ≤ length page.old + line_room }
 {
     let count = output_count(program);
     for j in 0..count {
-        let (word, point) = registers.output(program, j);
+        let (word, point) = step.output_at(program, j);
         put_word(page, word, point, j + 1 == count);
     }
 }

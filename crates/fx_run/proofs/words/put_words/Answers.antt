@@ -12,7 +12,7 @@ use Rattle.fx_run.proofs.words.put_words.Goals as goal
 
 pub loop-j-init : goal.loop-j-init
 loop-j-init g c =
-    let p = c.args.program.now in let ws = c.args.registers.now.words in
+    let p = c.args.program.now in let ws = g.W.StepWords.words c.args.step.now in
     let lawful = c.output_count-count.ensures.lawful in let some = lawful.counts.some_output in
     let many = fields_length p ws lawful c.requires.words in
     record {
@@ -24,20 +24,20 @@ pub put_word-requires-clause-point : goal.put_word-requires-clause-point
 put_word-requires-clause-point g c =
     let p = c.args.program.now in
     let lt : c.loop-j.j < p.outputs = grind (arith, nat_tests, c.loop-j-test.true, c.output_count-count.ensures.value) in
-    let f : to_z w32 (of_z w32 c.output-word.result.1) ≡ at (pos 0) (output_points p) c.loop-j.j = search (rules, c.output-word.ensures.point) in
+    let f : to_z w32 (of_z w32 c.output_at-word.result.1) ≡ at (pos 0) (output_points p) c.loop-j.j = search (rules, c.output_at-word.ensures.point) in
     subst IsPoint (sym f) (point_at p c.loop-j.j c.output_count-count.ensures.lawful lt)
 
 pub loop-j-preserved : goal.loop-j-preserved
 loop-j-preserved g c =
-    let p = c.args.program.now in let ws = c.args.registers.now.words in let j = c.loop-j.j in
+    let p = c.args.program.now in let ws = g.W.StepWords.words c.args.step.now in let j = c.loop-j.j in
     let lawful = c.output_count-count.ensures.lawful in
     let all = word_texts (step_taken p ws).outputs (output_points p) in
     let count : c.output_count-count.result ≡ p.outputs = c.output_count-count.ensures.value in
     let lt : j < p.outputs = grind (arith, nat_tests, c.loop-j-test.true, count) in
     let below : j < c.output_count-count.result = omega (arith, lt, count) in
-    let f : to_z w32 (of_z w32 c.output-word.result.1) ≡ at (pos 0) (output_points p) j = search (rules, c.output-word.ensures.point) in
-    let w : to_z w64 (of_z w64 c.output-word.result.0) ≡ at (pos 0) (step_taken p ws).outputs j = search (rules, c.output-word.ensures.word) in
-    let text = field_at p ws j lawful c.requires.words lt ∙ ap (λ (x : ℤ). decimal_text x (at (pos 0) (output_points p) j)) (sym w) ∙ ap (decimal_text (to_z w64 (of_z w64 c.output-word.result.0))) (sym f) in
+    let f : to_z w32 (of_z w32 c.output_at-word.result.1) ≡ at (pos 0) (output_points p) j = search (rules, c.output_at-word.ensures.point) in
+    let w : to_z w64 (of_z w64 c.output_at-word.result.0) ≡ at (pos 0) (step_taken p ws).outputs j = search (rules, c.output_at-word.ensures.word) in
+    let text = field_at p ws j lawful c.requires.words lt ∙ ap (λ (x : ℤ). decimal_text x (at (pos 0) (output_points p) j)) (sym w) ∙ ap (decimal_text (to_z w64 (of_z w64 c.output_at-word.result.0))) (sym f) in
     record {
       line = ap (λ t. t ++ rest_of_line (drop (j + 1) all)) c.put_word.ensures.written
           ∙ field_put all c.output_count-count.result j _ c.loop-j.page c.args.page.now (fields_length p ws lawful c.requires.words ∙ sym count) below
@@ -47,7 +47,7 @@ loop-j-preserved g c =
 
 pub returns-clause-line : goal.returns-clause-line
 returns-clause-line g c =
-    let p = c.args.program.now in let ws = c.args.registers.now.words in
+    let p = c.args.program.now in let ws = g.W.StepWords.words c.args.step.now in
     let all = word_texts (step_taken p ws).outputs (output_points p) in
     let count : c.output_count-count.result ≡ p.outputs = c.output_count-count.ensures.value in
     let end : c.loop-j.j ≡ p.outputs = grind (arith, nat_tests, c.loop-j-test.false, c.loop-j.auto.j-end, count) in

@@ -6,7 +6,7 @@ use Rattle.fx_run.specs.Printed.{run_outcome}
 use Rattle.fx_run.specs.Steps.{lines_from}
 use Rattle.fx_run.proofs.Honest.{outcome_is}
 use Rattle.fx_run.proofs.Told.{done-told, due-told, prompt-told}
-use Rattle.fx_run.proofs.run.run_at.Goals as goal
+use Rattle.fx_run.proofs.run.run_in_turn.Goals as goal
 
 pub returns-clause-done : goal.returns-clause-done
 returns-clause-done g c =
