@@ -16,7 +16,7 @@ use Rattle.fx_checker.specs.CertifiedView.{Accepted}
 use Rattle.fx_checker.proofs.Ready.{states_are}
 use Rattle.fx_filter.specs.Printed.{lines_outcome}
 use Rattle.fx_lanes.specs.RowsSideBySide.{row_at}
-use Rattle.fx_run.specs.Blocks.{AreInRange, ArePut, first_rows}
+use Rattle.fx_run.specs.Blocks.{IsBlockInRange, ArePut, first_rows}
 use Rattle.fx_run.specs.Steps.{lines_from, step_line}
 use Rattle.fx_run.specs.Printed.{RowsLaw, run_outcome}
 use Rattle.fx_run.proofs.Honest.{line_next, outcome_is}
@@ -35,8 +35,8 @@ row_behind n k xs ys row put same =
     ap (λ m. first_rows n m ys) one ∙ ap (λ rs. rs ++ row_at n k ys ∷ []) (same_first n k ys xs same) ∙ ap (λ r. first_rows n k xs ++ r ∷ []) put
 
 -- all are in range where one was put that is
-pub put_in_range : (is : List Input) (n k : ℕ) (xs ys row : List Decimal) → IsInRange is (map decimal_value row) → AreInRange is n xs → row_at n k ys ≡ row
-    → ((j : ℕ) → j < 16 → (j ≡ k → ⊥) → row_at n j ys ≡ row_at n j xs) → AreInRange is n ys
+pub put_in_range : (is : List Input) (n k : ℕ) (xs ys row : List Decimal) → IsInRange is (map decimal_value row) → IsBlockInRange is n xs → row_at n k ys ≡ row
+    → ((j : ℕ) → j < 16 → (j ≡ k → ⊥) → row_at n j ys ≡ row_at n j xs) → IsBlockInRange is n ys
 put_in_range is n k xs ys row good all put others = λ j lt. elim (cases_order j k) [
   | inl e ↦ subst (λ r. IsInRange is (map decimal_value r)) (sym (ap (λ i. row_at n i ys) e ∙ put)) good
   | inr o ↦ subst (λ r. IsInRange is (map decimal_value r)) (sym (others j lt (λ e. elim o [ inl below ↦ absurd (omega arith) | inr above ↦ absurd (omega arith) ]))) (all j lt)

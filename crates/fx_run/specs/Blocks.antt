@@ -11,8 +11,8 @@ use Rattle.fx_machine.specs.Registers.{Contents}
 use Rattle.fx_run.specs.Steps.{CanStep, lines_from, nothing_from}
 
 -- each of sixteen rows of n numbers is in range
-abbrev pub AreInRange : List Input → ℕ → List Decimal → Type 0
-AreInRange is n rows = (k : ℕ) → k < 16 → IsInRange is (map decimal_value (row_at n k rows))
+abbrev pub IsBlockInRange : List Input → ℕ → List Decimal → Type 0
+IsBlockInRange is n rows = (k : ℕ) → k < 16 → IsInRange is (map decimal_value (row_at n k rows))
 
 -- the first rows of n numbers each
 abbrev pub first_rows : ℕ → ℕ → List Decimal → List (List Decimal)
@@ -30,7 +30,7 @@ pub record HoldsRows (a : Accepted) (made : List (List ℤ)) (rows : List Decima
   pub many : length rows ≡ 16 * a.program.inputs
   pub few : held ≤ 15
   pub begun : (held ≡ 0) ⊎ (filled ≡ true)
-  pub in_range : filled ≡ true → AreInRange a.function.inputs a.program.inputs rows
+  pub in_range : filled ≡ true → IsBlockInRange a.function.inputs a.program.inputs rows
 
 -- such a program of this width, with room for its words in lanes, may take a row
 pub record CanHold (Room : Type 0) (a : Accepted) (bits : ℕ) (r : Contents) (made : List (List ℤ)) (rows : List Decimal) (held : ℕ) (filled : Bool) : Type 0 where

@@ -7,7 +7,7 @@ ghost use Rattle.fx_rational.specs.Decimal.{decimal_value};
 ghost use Rattle.fx_model.specs.Function.{Input};
 ghost use Rattle.fx_model.specs.Rows.{IsInRange};
 ghost use Rattle.fx_lanes.specs.RowsSideBySide.{row_at};
-ghost use Rattle.fx_run.specs.Blocks.{AreInRange, first_rows};
+ghost use Rattle.fx_run.specs.Blocks.{IsBlockInRange, first_rows};
 
 use fx_fraction::Decimal;
 use fx_lanes::put_at;
@@ -32,8 +32,8 @@ pub(crate) fn put_behind(rows: &mut [Decimal], k: usize, filled: bool, row: &[De
     requires filled { (k ≡ 0) ⊎ IsTrue filled }
     ensures same { length rows.new ≡ length rows.old }
     ensures rows { first_rows (length row.now) (k + 1) rows.new ≡ first_rows (length row.now) k rows.old ++ row.now ∷ [] }
-    ensures in_range { (is : List Input) → IsInRange is (map decimal_value row.now) → (IsTrue filled → AreInRange is (length row.now) rows.old)
-        → AreInRange is (length row.now) rows.new }
+    ensures in_range { (is : List Input) → IsInRange is (map decimal_value row.now) → (IsTrue filled → IsBlockInRange is (length row.now) rows.old)
+        → IsBlockInRange is (length row.now) rows.new }
 {
     if filled {
         put_at(rows, k, row);

@@ -9,7 +9,7 @@ ghost use Rattle.fx_model.specs.Rows.{IsInRange};
 ghost use Rattle.fx_filter.specs.Rooms.{HasRoom};
 ghost use Rattle.fx_checker.specs.CertifiedView.{IsStepReady};
 ghost use Rattle.fx_lanes.specs.RowsSideBySide.{row_at};
-ghost use Rattle.fx_run.specs.Blocks.{AreInRange, ArePut, CanHold, first_rows};
+ghost use Rattle.fx_run.specs.Blocks.{IsBlockInRange, ArePut, CanHold, first_rows};
 
 use crate::block::put_behind;
 use crate::lanes::certified_lanes;
@@ -84,7 +84,7 @@ fn put_in_turn<const B: u32>(
     requires ready { IsStepReady certified.now registers.old.words registers.old.states }
     requires none { registers.old.states ≡ [] }
     requires many { length rows.now ≡ 16 * certified.now.program.inputs }
-    requires in_range { AreInRange certified.now.function.inputs certified.now.program.inputs rows.now }
+    requires in_range { IsBlockInRange certified.now.function.inputs certified.now.program.inputs rows.now }
     requires few { count ≤ 16 }
     requires room { HasRoom page.old }
     ensures ready { IsStepReady certified.now registers.new.words registers.new.states }
@@ -110,7 +110,7 @@ fn put_side_by_side<const B: u32, L: SideBySide<B>>(
     requires states { certified.now.program.states ≡ 0 }
     requires words { length lanes.old ≡ length certified.now.program.codes }
     requires many { length rows.now ≡ 16 * certified.now.program.inputs }
-    requires in_range { AreInRange certified.now.function.inputs certified.now.program.inputs rows.now }
+    requires in_range { IsBlockInRange certified.now.function.inputs certified.now.program.inputs rows.now }
     requires few { count ≤ 16 }
     requires room { HasRoom page.old }
     ensures words { length lanes.new ≡ length certified.now.program.codes }

@@ -4,7 +4,7 @@ ghost use Rattle.fx_rational.specs.Decimal.{decimal_value};
 ghost use Rattle.fx_model.specs.Machine.{machine_step};
 ghost use Rattle.fx_machine.specs.Steps.{step_taken};
 ghost use Rattle.fx_lanes.specs.RowsSideBySide.{row_at, lane};
-ghost use Rattle.fx_run.specs.Blocks.{AreInRange};
+ghost use Rattle.fx_run.specs.Blocks.{IsBlockInRange};
 
 use fx_checker::Certified;
 use fx_fraction::Decimal;
@@ -23,7 +23,7 @@ pub(crate) fn certified_lanes<const B: u32, L: SideBySide<B>>(
     requires states { certified.now.program.states ≡ 0 }
     requires words { length registers.old ≡ length certified.now.program.codes }
     requires many { length rows.now ≡ 16 * certified.now.program.inputs }
-    requires in_range { AreInRange certified.now.function.inputs certified.now.program.inputs rows.now }
+    requires in_range { IsBlockInRange certified.now.function.inputs certified.now.program.inputs rows.now }
     ensures sizes { length registers.new ≡ length certified.now.program.codes }
     ensures step { (k : ℕ) → k < 16 → machine_step certified.now.program (map decimal_value (row_at certified.now.program.inputs k rows.now)) []
         ≡ Some (step_taken certified.now.program (lane k registers.new)) }
