@@ -79,7 +79,7 @@ fn put_unit<const B: u32>(page: &mut Page, program: &Program, unit: u32, registe
 {
     program.keeps();
     put_number(page, unit);
-    put_words::<B>(page, program, registers);
+    put_words(page, program, registers);
 }
 
 /// A certified program with a state for each of several units.
