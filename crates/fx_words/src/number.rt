@@ -86,11 +86,10 @@ pub fn units_given(text: Option<&str>) -> Option<u32>
     ensures limited { IfSome result (λ n. (1 ≤ n) × (n ≤ 1024)) }
 {
     let number = number_up_to(text?, 1_024)?;
-    if number >= 1 {
-        Some(number as u32)
-    } else {
-        None
+    if number == 0 {
+        return None;
     }
+    Some(number as u32)
 }
 
 // Whether words have that width.
