@@ -25,7 +25,7 @@ def bundle_parts(data):
 
 
 def field(lines, name):
-    return next(line.split(" ", 1)[1] for line in lines if line.startswith(name + " "))
+    return next(line[len(name) + 1:] for line in lines if line.startswith(name + " "))
 
 
 def as_decimal(bound):
