@@ -1,8 +1,8 @@
 #!/usr/bin/env python3
 """Measures `build/fixd` on long rows and long bundles beside the C programs of make.py and peers.py: more.py [--instructions] [PART ..]
 
-A part is `codes`, `filter`, `columns`, `check` or `read`; without one, all are measured. Each figure is the least of five runs, in seconds of
-the processor (of user and system), which other work on the machine disturbs less than seconds of the clock; with --instructions
+A part is `codes`, `filter`, `columns`, `check` or `read`; without one, all are measured. Each figure is the least of five runs, or of fifteen
+that take turns with the C program's, in seconds of the processor (of user and system), which other work on the machine disturbs less than seconds of the clock; with --instructions
 valgrind counts what is executed. Outputs and answers are compared with the C program's. Outside the gate: figures depend on
 the machine.
 """
@@ -35,6 +35,12 @@ def seconds(command, rows, out, times=5):
         best = used if best is None else min(best, used)
         clock = taken if clock is None else min(clock, taken)
     return best, clock
+
+
+def beside(measure, ours, theirs, rows, out, other, times=15):
+    """The least of so many runs of two programs that take turns, so that a machine that slows down slows both."""
+    pairs = [(measure(ours, rows, out, 1), measure(theirs, rows, other, 1)) for _ in range(times)]
+    return min(a for a, _ in pairs), min(b for _, b in pairs)
 
 
 def piped(command, rows, out, times=5):
@@ -81,13 +87,13 @@ def stream(name, ours, theirs, rows, count, folder):
         a, b = instructions(ours, few, out), instructions(theirs, few, other)
         print(f"{name}: {a / 20000:.0f} and {b / 20000:.0f} instructions a row")
         return
-    (a, clock), (b, other_clock) = seconds(ours, rows, out), seconds(theirs, rows, other)
+    (a, clock), (b, other_clock) = beside(seconds, ours, theirs, rows, out, other)
     if not same(out, other):
         raise SystemExit(f"bench: the outputs differ at {name}")
     print(f"{name}, {count} rows: fixd {a:.3f} s, {count / a:.0f} rows/s (clock {clock:.3f} s, {resident(ours, rows, out)} KiB resident); "
           f"C {b:.3f} s, {count / b:.0f} rows/s (clock {other_clock:.3f} s, {resident(theirs, rows, other)} KiB); fixd / C {b / a:.2f}")
-    a, b = piped(ours, rows, out), piped(theirs, rows, other)
-    print(f"{name}, {count} rows from a pipe: fixd {a:.3f} s, {count / a:.0f} rows/s; C {b:.3f} s, {count / b:.0f} rows/s")
+    a, b = beside(piped, ours, theirs, rows, out, other)
+    print(f"{name}, {count} rows from a pipe: fixd {a:.3f} s, {count / a:.0f} rows/s; C {b:.3f} s, {count / b:.0f} rows/s; fixd / C {b / a:.2f}")
 
 
 def compiled(folder, *names):

@@ -47,9 +47,18 @@ def runs(folder):
     quoted = os.path.join(folder, "quoted.csv")
     with open(quoted, "w", encoding="utf-8") as file:
         file.write('"a note","u"\n"one, two","0.5"\n,-1\n')
+    units = os.path.join(folder, "units.csv")
+    with open(units, "w", encoding="utf-8") as file:
+        file.write('"unit","u"\n1,1\n"0","0.5"\n1,-1\n')
+    many = os.path.join(folder, "many.csv")
+    with open(many, "w", encoding="utf-8") as file:
+        file.write("x\n" + "0.3\n0.75\n" * 20)
     return [
         ("run", ["run", average], rows),
         ("quoted", ["run", average], quoted),
+        ("many", ["run", example("half/half.bundle")], many),
+        ("node", ["node", "--units", "1024", average], example("average/motors.csv")),
+        ("units", ["node", "--units", "2", average], units),
         ("check", ["check", average], os.devnull),
         ("show", ["show", average], os.devnull),
         ("half", ["synth", "--width", "16", half], os.devnull),

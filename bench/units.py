@@ -3,7 +3,7 @@
 
 With --interleavings N it tests: N inputs, each of rows of three units in a random order, and of each unit the lines of `node` are those of
 `run` on its rows alone; a difference ends the script with 1. Without, it measures: rows a second of `node` with 1, 32 and 1,024 units in a
-random order, and of `run` on the same rows, where the column of units is one that it doesn't need: the least of five runs, in seconds of
+random order, and of `run` on the same rows, where the column of units is one that it doesn't need: the least of nine runs that take turns, in seconds of
 the processor. Outside the gate: it needs a built program, and figures depend on the machine.
 """
 import argparse
@@ -42,16 +42,12 @@ def interleaved(program, count, draw):
 
 
 def seconds(words, rows, out):
-    """The least seconds of the processor of five runs."""
-    best = None
-    for _ in range(5):
-        with open(rows, "rb") as source, open(out, "wb") as sink:
-            before = resource.getrusage(resource.RUSAGE_CHILDREN)
-            subprocess.run(words, stdin=source, stdout=sink, check=True)
-            after = resource.getrusage(resource.RUSAGE_CHILDREN)
-        used = after.ru_utime - before.ru_utime + after.ru_stime - before.ru_stime
-        best = used if best is None else min(best, used)
-    return best
+    """The seconds of the processor of a run."""
+    with open(rows, "rb") as source, open(out, "wb") as sink:
+        before = resource.getrusage(resource.RUSAGE_CHILDREN)
+        subprocess.run(words, stdin=source, stdout=sink, check=True)
+        after = resource.getrusage(resource.RUSAGE_CHILDREN)
+    return after.ru_utime - before.ru_utime + after.ru_stime - before.ru_stime
 
 
 def measured(program, draw):
@@ -63,8 +59,8 @@ def measured(program, draw):
             with open(rows, "w", encoding="utf-8") as file:
                 file.write("unit,u\n")
                 file.writelines(some[k % 100003] for k in range(ROWS))
-            node = seconds([program, "node", "--units", str(units), AVERAGE], rows, out)
-            run = seconds([program, "run", AVERAGE], rows, out)
+            pairs = [(seconds([program, "node", "--units", str(units), AVERAGE], rows, out), seconds([program, "run", AVERAGE], rows, out)) for _ in range(9)]
+            node, run = min(a for a, _ in pairs), min(b for _, b in pairs)
             print(f"{units} units: node {ROWS / node:.0f} rows/s, run {ROWS / run:.0f} rows/s, node / run {run / node:.2f}")
 
 
