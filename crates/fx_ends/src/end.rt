@@ -56,7 +56,10 @@ pub enum End<'a> {
         fault: RowFault,
     },
     /// The unit of a line of the input is missing or wrong.
-    BadUnit { line: u64, kind: UnitKind },
+    BadUnit {
+        line: u64,
+        kind: UnitKind,
+    },
 }
 
 // The name of an input. Empty where there is no such input.

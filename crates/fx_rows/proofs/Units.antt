@@ -96,5 +96,5 @@ short-choice false u a b r columns e = refl
 pub header-short : (f : Function) (line columns : List ℕ) → header_of f line ≡ Ok (Some columns) → length line ≤ line_limit
 header-short f line columns e =
     let short : nat_lt line_limit (length line) ≡ false =
-        short-choice (nat_lt line_limit (length line)) (list_any is_return line) (at_input LineTooLong 0) (at_input StrayReturn 0) (header_of_fields (column_names f) (line_fields line)) columns e in
+    short-choice (nat_lt line_limit (length line)) (list_any is_return line) (at_input LineTooLong 0) (at_input StrayReturn 0) (header_of_fields (column_names f) (line_fields line)) columns e in
     grind (arith, nat_tests)
