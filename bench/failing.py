@@ -1,7 +1,7 @@
 #!/usr/bin/env python3
 """Lets each call of a device fail in turn, all of them short: failing.py [PROGRAM]
 
-Each run reads FILE and input, and writes output and line, in pieces of two bytes; `failing.c` then makes one call fail, for each number in
+Each run reads FILE and input, and writes output and line, in pieces of two bytes, or of so many that rows are held back between two reads; `failing.c` then makes one call fail, for each number in
 turn, by an error of the system. Tested is that the run ends
 
 - with 6 exactly where the call was a read of the input or of FILE, or opened FILE; printed is then what the whole lines that were taken give;
@@ -33,9 +33,11 @@ ERRORS = {
 }
 # the words of each run, and its input
 RUNS = [
-    (["run", HALF], b"x\n0.3\n1\n"), (["run", AVERAGE], b"u\r\n1\n\n-.5\n0.25"), (["check", HALF], b""), (["show", AVERAGE], b""),
-    (["synth", "--width", "16", "--tries", "0", SOURCE], b""), (["demo", "1"], b""),
-    (["run", HALF], b"x\n0.3\n2\n"), (["check"], b""), (["check", SOURCE], b""), (["synth", "--width", "16", HALF], b""),
+    (["run", HALF], b"x\n0.3\n1\n", 2), (["run", AVERAGE], b"u\r\n1\n\n-.5\n0.25", 2), (["check", HALF], b"", 2), (["show", AVERAGE], b"", 2),
+    (["run", HALF], b"x\n" + b"0.3\n0.75\n" * 20, 31), (["run", HALF], b"x\n" + b"0.3\n0.75\n" * 20 + b"2\n0\n", 97),
+    (["node", "--units", "2", AVERAGE], b"unit,u\n1,1\n0,1\n1,-.5\n", 2), (["node", "--units", "2", AVERAGE], b"unit,u\n1,1\n0,1\n2,1\n", 5),
+    (["synth", "--width", "16", "--tries", "0", SOURCE], b"", 2), (["demo", "1"], b"", 2),
+    (["run", HALF], b"x\n0.3\n2\n", 2), (["check"], b"", 2), (["check", SOURCE], b"", 2), (["synth", "--width", "16", HALF], b"", 2),
 ]
 
 
@@ -47,14 +49,14 @@ class Failing:
         self.library, self.rows = os.path.join(folder, "failing.so"), os.path.join(folder, "rows")
         subprocess.run(["cc", "-shared", "-fPIC", "-O1", "-o", self.library, os.path.join(HERE, "failing.c")], check=True)
 
-    def settings(self, kind, at, error):
-        return {"FAIL_CALL": kind, "FAIL_AT": str(at), "FAIL_WITH": str(error), "FAIL_PIECE": "2"}
+    def settings(self, piece, kind, at, error):
+        return {"FAIL_CALL": kind, "FAIL_AT": str(at), "FAIL_WITH": str(error), "FAIL_PIECE": str(piece)}
 
-    def call(self, words, data, kind="", at=0, error=0):
+    def call(self, words, data, piece, kind="", at=0, error=0):
         """Status, output and line of a run."""
         with open(self.rows, "wb") as file:
             file.write(data)
-        settings = {"ASAN_OPTIONS": "verify_asan_link_order=0", **os.environ, **self.settings(kind, at, error), "LD_PRELOAD": self.library, "FAIL_REPORT": self.report}
+        settings = {"ASAN_OPTIONS": "verify_asan_link_order=0", **os.environ, **self.settings(piece, kind, at, error), "LD_PRELOAD": self.library, "FAIL_REPORT": self.report}
         with open(self.rows, "rb") as source:
             ran = subprocess.run([self.program, *words], stdin=source, capture_output=True, env=settings, timeout=600)
         return ran.returncode, ran.stdout, ran.stderr
@@ -65,20 +67,20 @@ class Failing:
             return dict(zip(KINDS, (int(word) for word in file.read().split())))
 
 
-def is_due(whole, data, kind, at, error, seen):
+def is_due(whole, data, piece, kind, at, error, seen):
     """Whether a run in which this call failed ended as it has to; `whole` is the run in which none does."""
     status, output, line = seen
     if kind == "note":
-        return (status, output) == whole[:2] and whole[2].startswith(line) and len(line) <= 2 * at
+        return (status, output) == whole[:2] and whole[2].startswith(line) and len(line) <= piece * at
     if kind == "open" and error == errno.EINTR:
         return seen == whole
     if kind == "write":
-        return status == 7 and line == LINES[7] and whole[1].startswith(output) and at - 1 <= len(output) <= 2 * at - 2
+        return status == 7 and line == LINES[7] and whole[1].startswith(output) and at - 1 <= len(output) <= piece * (at - 1)
     if status != 6 or line != LINES[6]:
         return False
     if kind != "read":
         return output == b""
-    taken = [text for text in data[: 2 * at - 2].split(b"\n")[:-1] if text.strip()]
+    taken = [text for text in data[: piece * (at - 1)].split(b"\n")[:-1] if text.strip()]
     return output == b"".join(whole[1].splitlines(keepends=True)[: len(taken)])
 
 
@@ -87,19 +89,19 @@ def numbers(count, every):
     return range(1, count + 2) if every else sorted({1, 2, 1 + count // 3, 1 + count // 2, count, count + 1} - {0})
 
 
-def fail(failing, words, data):
+def fail(failing, words, data, piece):
     """Lets each call of a run fail; prints its line of the table and gives the count of faults."""
-    whole = failing.call(words, data)
+    whole = failing.call(words, data, piece)
     counts = failing.counts()
     tried = faults = 0
     for kind in KINDS:
         for error in ERRORS[kind]:
             for at in numbers(counts[kind], error == ERRORS[kind][0]):
-                seen = failing.call(words, data, kind, at, error)
-                right = seen == whole if at > counts[kind] else is_due(whole, data, kind, at, error, seen)
+                seen = failing.call(words, data, piece, kind, at, error)
+                right = seen == whole if at > counts[kind] else is_due(whole, data, piece, kind, at, error, seen)
                 tried, faults = tried + 1, faults + (not right)
                 if not right:
-                    front = " ".join(f"{name}={value}" for name, value in failing.settings(kind, at, error).items())
+                    front = " ".join(f"{name}={value}" for name, value in failing.settings(piece, kind, at, error).items())
                     print(f"FAULT: {seen}: LD_PRELOAD=./failing.so {front} {failing.program} {' '.join(words)} with the input {data!r}")
     told = " | ".join(f"{counts[kind]:,}" for kind in KINDS)
     shown = " ".join(os.path.basename(word) for word in words)
@@ -112,7 +114,7 @@ def main():
     print("| run | status | reads | writes | writes of the line | FILE opened | reads of FILE | runs with a failure | faults |\n|---|---|---|---|---|---|---|---|---|")
     with tempfile.TemporaryDirectory() as folder:
         failing = Failing(os.path.abspath(program), folder)
-        faults = sum(fail(failing, words, data) for words, data in RUNS)
+        faults = sum(fail(failing, words, data, piece) for words, data, piece in RUNS)
     sys.exit(1 if faults else 0)
 
 
