@@ -24,7 +24,7 @@ use fx_analysis::plain_attempt;
 use fx_cert::print_bundle;
 use fx_expr::Function;
 use fx_parser::parse;
-use fx_reader::read_bundle;
+use fx_cert_reader::read_bundle;
 use fx_rewrite::{SingleSteps, apply};
 use fx_step::Step;
 use std::alloc::Global;

@@ -26,7 +26,7 @@ use Rattle.fx_checker.specs.declared.fault.CheckFault.{CheckFault}
 use Rattle.fx_checker.specs.declared.fault.CheckKind.{CheckKind}
 use Rattle.fx_checker.specs.declared.fault.CheckKind.TheVariants.{Counts, Step, Shape, Shift, Range, Divisor, Error, WordTooSmall, Form, Start, Row, ErrorRow, Demand, Beyond, Memory}
 use Rattle.fx_cert.specs.BundleView.{Parts}
-use Rattle.fx_reader.specs.BundleReading.{bundle_in}
+use Rattle.fx_cert_reader.specs.BundleReading.{bundle_in}
 use Rattle.fx_ends.specs.Ends as ends
 use Rattle.fx_ends.specs.Ends.{End}
 use Rattle.fx_bundle_commands.specs.Opening.{Spells, meaning_of, OpeningEnds}

@@ -17,13 +17,13 @@ ghost use Rattle.fx_bundle_commands.specs.OpeningView.{IsOpened, IsReadAs, Readi
 
 use fx_base::{InFault, Shelf, read_file};
 use fx_cert::Bundle;
+use fx_cert_reader::{bundle_text_law, read_bundle};
 use fx_checker::{Certified, CheckFault, CheckKind, check};
 use fx_ends::End;
 use fx_expr::Items;
 use fx_judging::{ConditionFault, ConditionKind};
 use fx_lexer::{SourceFault, SourceKind};
 use fx_parser::parse;
-use fx_reader::{bundle_text_law, read_bundle};
 use fx_text::{TextFault, TextKind};
 use std::alloc::Global;
 

@@ -4,7 +4,7 @@ ghost use Rattle.std.specs.Prelude.{◌≡◌, unsigned_abs, ◌+◌, ◌^◌, �
 ghost use Rattle.fx_model.specs.Tree.{at};
 ghost use Rattle.fx_inequalities.specs.Accepted.{no_state, start_of};
 ghost use Rattle.fx_inequalities.specs.LawfulCertificate.{unit_vector};
-ghost use Rattle.fx_rounding.specs.Grid.{lowest_dyadic};
+ghost use Rattle.fx_grid.specs.Grid.{lowest_dyadic};
 ghost use Rattle.fx_sizes.specs.Powers.{magnitude};
 ghost use Rattle.fx_cert.specs.CertificateView.{line_view, row_view, rows_in, box_of, boxes_in};
 ghost use Rattle.fx_calm_numbers.specs.Bounds.{units_up};
@@ -15,9 +15,9 @@ use crate::bound::Bound;
 use fx_calmness::{start_at, state_count, units};
 use fx_cert::{NodeLine, Row, StartBox, unit_vector};
 use fx_expr::{Function, Items};
+use fx_grid::up_quotient;
 use fx_interval::Interval;
 use fx_num::{Dyadic, Memory};
-use fx_rounding::up_quotient;
 use std::alloc::Global;
 
 /// `m / 2^f` in lowest terms.

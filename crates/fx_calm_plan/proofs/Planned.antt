@@ -25,7 +25,7 @@ use Rattle.fx_inequalities.specs.Condition.{Condition, OfProgram, OfStart, OfRow
 use Rattle.fx_inequalities.specs.NodeConditions.{node_conditions}
 use Rattle.fx_inequalities.specs.Rewriting.{Rewrites}
 use Rattle.fx_inequalities.specs.Accepted.{output_code, counts_agree, each_node, all_shape_conditions, start_claims, start_row_claims, row_claims, demand_claims, each_claims, conditions_of, demand_conditions, IsAccepted, certified_bound}
-use Rattle.fx_rounding.specs.Grid.{lowest_dyadic}
+use Rattle.fx_grid.specs.Grid.{lowest_dyadic}
 use Rattle.fx_sizes.specs.Demands.{allows}
 use Rattle.fx_sizes.specs.Powers.{power_value}
 use Rattle.fx_sizes.proofs.Claims.{AreMet, none_met}

@@ -12,8 +12,8 @@ use Rattle.fx_rational.proofs.Lowest.{size-neg_ℤ}
 use Rattle.fx_inequalities.specs.Formula.{Num, formed, Span, span, unit_at, loss_at}
 use Rattle.fx_inequalities.specs.Claim.{inside}
 use Rattle.fx_inequalities.specs.OperationSpans.{rounding_loss}
-use Rattle.fx_rounding.specs.Grid.{is_even, lowest_dyadic}
-use Rattle.fx_rounding.proofs.Grids.{half_of, lowest_dyadic_is}
+use Rattle.fx_grid.specs.Grid.{is_even, lowest_dyadic}
+use Rattle.fx_grid.proofs.Grids.{half_of, lowest_dyadic_is}
 use Rattle.fx_sizes.proofs.Claims.{AreMet, inside_met, le_formed, number_formed}
 use Rattle.fx_sizes.proofs.Powers.{power_small, power_more}
 use Rattle.fx_sizes.proofs.Sizes.{IsUpTo, IsSmall, IsSmallSpan, small_number, within_pos, aligned_up, small_zero, zero_interval_small}

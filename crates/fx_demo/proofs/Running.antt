@@ -4,7 +4,7 @@ use Rattle.fx_base.specs.Text.{lines_in}
 use Rattle.fx_model.specs.Function.{Function}
 use Rattle.fx_model.specs.Machine.{machine_run}
 use Rattle.fx_checker.specs.CertifiedView.{Accepted}
-use Rattle.fx_filter.specs.Promise.{IsDone}
+use Rattle.fx_stream.specs.Promise.{IsDone}
 use Rattle.fx_rows.specs.Faults.{RowFlaw}
 use Rattle.fx_rows.specs.Header.{header_of}
 use Rattle.fx_rows.specs.ReadRows.{Read, after_header, lines_read, moved_down}

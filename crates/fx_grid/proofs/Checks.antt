@@ -11,7 +11,7 @@ use Rattle.fx_inequalities.specs.Claim.{Claim, fits, fits_over}
 use Rattle.fx_grid.specs.declared.fault.Why.{Why}
 use Rattle.fx_grid.specs.declared.fault.Why.TheVariants.{Beyond}
 use Rattle.fx_grid.specs.Narrow.{Bounds, narrow, narrowest}
-use Rattle.fx_rounding.specs.Grid.{is_small}
+use Rattle.fx_grid.specs.Grid.{is_small}
 use Rattle.fx_grid.specs.Narrowed.{IsIfSmall, if_fitting}
 use Rattle.fx_judging.specs.Judging.{Forms}
 use Rattle.fx_grid.proofs.Settled.{narrowest_long}

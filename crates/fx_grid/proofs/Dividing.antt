@@ -28,16 +28,16 @@ use Rattle.fx_judging.proofs.Shorts.{short_sum, short_difference}
 use Rattle.fx_grid.specs.declared.fault.Why.{Why}
 use Rattle.fx_grid.specs.declared.fault.Why.TheVariants.{Zero, Beyond}
 use Rattle.fx_grid.specs.Narrow.{Bounds, ratio, positive_bounds, quotient_bounds, is_apart, narrow, unit_value, widened}
-use Rattle.fx_rounding.specs.Grid.{lowest_dyadic, grid_down, grid_up, error_grid}
-use Rattle.fx_rounding.specs.Wide.{units_below}
+use Rattle.fx_grid.specs.Grid.{lowest_dyadic, grid_down, grid_up, error_grid}
+use Rattle.fx_grid.specs.Wide.{units_below}
 use Rattle.fx_grid.specs.Dividing.{lesser_divisor, greater_divisor, around_quotient, unit_quotient, cleared_quotient}
-use Rattle.fx_rounding.proofs.Ends.{turned}
+use Rattle.fx_grid.proofs.Ends.{turned}
 use Rattle.fx_grid.proofs.Exacts.{grid_few}
-use Rattle.fx_rounding.proofs.Grids.{grid_down_is, grid_up_is}
+use Rattle.fx_grid.proofs.Grids.{grid_down_is, grid_up_is}
 use Rattle.fx_grid.proofs.Ratios.{forms_value, above_value, ratio_same}
 use Rattle.fx_grid.proofs.Settled.{narrowest_beyond}
 use Rattle.fx_grid.proofs.Signs.{zero_less, below_above}
-use Rattle.fx_rounding.proofs.Spelling.{down_same, up_same}
+use Rattle.fx_grid.proofs.Spelling.{down_same, up_same}
 use Rattle.fx_grid.proofs.UnitEnds.{exact_down, exact_up, lesser_of, greater_of, falls, rises}
 
 -- ---- the ends as the code forms them

@@ -4,11 +4,11 @@ use Rattle.fx_rational.specs.Rational.{Rational, bottom, over, minus, negative, 
 use Rattle.fx_rational.proofs.Lowest.{lowest_is}
 use Rattle.fx_rational.proofs.Laws.{equal_trans, equal_refl, minus_same, negative_same}
 use Rattle.fx_inequalities.specs.Formula.{formula_value, word_at}
-use Rattle.fx_rounding.specs.Grid.{lowest_dyadic, grid_down, grid_up}
+use Rattle.fx_grid.specs.Grid.{lowest_dyadic, grid_down, grid_up}
 use Rattle.fx_grid.specs.Narrow.{unit_value}
 use Rattle.fx_grid.specs.Exact.{scaled_top, scaled_bottom, unit_bottom}
 use Rattle.fx_grid.proofs.Exacts.{over_down, over_up, literal_word, literal_value, input_value, unit_some}
-use Rattle.fx_rounding.proofs.Spelling.{down_same, up_same}
+use Rattle.fx_grid.proofs.Spelling.{down_same, up_same}
 
 module _ (c : Rational) (f : ℤ) (e r : ℕ) (left : pos r ≡ scaled_top c f -ℤ floor_div (scaled_top c f) (scaled_bottom c f) *ℤ pos (scaled_bottom c f)) where
   same : Equal (over (neg_ℤ (pos r)) (unit_bottom c f)) (minus (formula_value (word_at (floor (scaled c f)) f)) c)

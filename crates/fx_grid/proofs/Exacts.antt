@@ -12,7 +12,7 @@ use Rattle.fx_rational.proofs.Lowest.{suc_pred}
 use Rattle.fx_model.specs.LawfulProgram.{IsPoint}
 use Rattle.fx_inequalities.specs.Formula.{formula_value, word_at}
 use Rattle.fx_bounds.proofs.Words.{word_at_is, unit_at_is}
-use Rattle.fx_rounding.specs.Grid.{lowest_dyadic, grid_down, grid_up, error_grid}
+use Rattle.fx_grid.specs.Grid.{lowest_dyadic, grid_down, grid_up, error_grid}
 use Rattle.fx_grid.specs.Narrow.{unit_value}
 use Rattle.fx_grid.specs.Exact.{scaled_top, scaled_bottom, unit_bottom}
 

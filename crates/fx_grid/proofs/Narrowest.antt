@@ -6,11 +6,11 @@ use Rattle.fx_inequalities.specs.Formula.{formula_value, span}
 use Rattle.fx_inequalities.specs.Claim.{Claim, fits, holds}
 use Rattle.fx_bounds.proofs.Claims.{both_left, both_right}
 use Rattle.fx_grid.specs.Narrow.{Bounds, narrow, narrowest}
-use Rattle.fx_rounding.specs.Grid.{is_small}
+use Rattle.fx_grid.specs.Grid.{is_small}
 use Rattle.fx_grid.specs.declared.fault.Why.{Why}
 use Rattle.fx_grid.specs.declared.fault.Why.TheVariants.{Beyond}
 use Rattle.fx_grid.specs.Laws.{Covers, IsNarrowestOf, NarrowLaw}
-use Rattle.fx_rounding.proofs.Grids.{grid_down_is, grid_up_is}
+use Rattle.fx_grid.proofs.Grids.{grid_down_is, grid_up_is}
 use Rattle.fx_grid.proofs.Quotients.{Around}
 use Rattle.fx_grid.proofs.Shorts.{short_small}
 

@@ -18,15 +18,15 @@ use Rattle.fx_inequalities.specs.Claim.{BelowFraction, AboveFraction, fits}
 use Rattle.fx_inequalities.specs.NodeConditions.{positive_quotient_claims}
 use Rattle.fx_inequalities.proofs.Formed.{formed_is}
 use Rattle.fx_bounds.proofs.Claims.{both_left, both_right}
-use Rattle.fx_rounding.specs.Grid.{lowest_dyadic, grid_down, grid_up, is_small}
+use Rattle.fx_grid.specs.Grid.{lowest_dyadic, grid_down, grid_up, is_small}
 use Rattle.fx_grid.specs.Narrow.{ratio, lesser_value, greater_value, positive_bounds, narrow, narrowest}
 use Rattle.fx_judging.specs.Judging.{FormsSpan}
 use Rattle.fx_grid.specs.Narrowed.{IsIfSmall, answer_of}
 use Rattle.fx_grid.proofs.Quotients.{ratio_back}
-use Rattle.fx_rounding.proofs.Grids.{grid_down_is, grid_up_is}
-use Rattle.fx_rounding.proofs.Spelling.{same_spelling, down_same, up_same}
+use Rattle.fx_grid.proofs.Grids.{grid_down_is, grid_up_is}
+use Rattle.fx_grid.proofs.Spelling.{same_spelling, down_same, up_same}
 use Rattle.fx_grid.proofs.Settled.{end_fits, kept_answer}
-use Rattle.fx_rounding.proofs.Lefts.{small_fits}
+use Rattle.fx_grid.proofs.Lefts.{small_fits}
 use Rattle.fx_grid.proofs.Shorts.{short_small}
 
 -- ---- the lesser and the greater of two, first or last rounded

@@ -8,13 +8,13 @@ use Rattle.fx_inequalities.specs.Claim.{Claim, fits, inside}
 use Rattle.fx_inequalities.proofs.Formed.{formed_is}
 use Rattle.fx_bounds.proofs.Claims.{both_left, both_right}
 use Rattle.fx_grid.specs.Narrow.{Bounds, narrow, span_bounds, narrowest}
-use Rattle.fx_rounding.specs.Grid.{is_small, grid_down, grid_up}
+use Rattle.fx_grid.specs.Grid.{is_small, grid_down, grid_up}
 use Rattle.fx_judging.specs.Judging.{FormsSpan}
 use Rattle.fx_grid.specs.Narrowed.{bounds_of, IsIfSmall, answer_of}
 use Rattle.fx_grid.specs.declared.fault.Why.{Why}
 use Rattle.fx_grid.specs.declared.fault.Why.TheVariants.{Beyond}
-use Rattle.fx_rounding.proofs.Lefts.{small_fits}
-use Rattle.fx_rounding.proofs.Spelling.{down_same, up_same}
+use Rattle.fx_grid.proofs.Lefts.{small_fits}
+use Rattle.fx_grid.proofs.Spelling.{down_same, up_same}
 use Rattle.fx_grid.proofs.Shorts.{short_small}
 
 pub end_fits : (d : Dyadic) → is_small d ≡ true → fits_128 d.m ≡ true

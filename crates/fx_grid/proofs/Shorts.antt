@@ -12,9 +12,9 @@ use Rattle.fx_judging.specs.Judging.{FormsSpan}
 use Rattle.fx_judging.specs.Places.{IsShortSpan}
 use Rattle.fx_judging.proofs.Judged.{both_again, plus_forms, times_forms}
 use Rattle.fx_grid.specs.Narrowed.{HasFewPlaces}
-use Rattle.fx_rounding.specs.Grid.{is_small}
+use Rattle.fx_grid.specs.Grid.{is_small}
 use Rattle.fx_grid.specs.Short.{has_short_ends, is_near, has_few_places, has_short_sum, has_short_product}
-use Rattle.fx_rounding.proofs.Lefts.{left_small, sized_fits}
+use Rattle.fx_grid.proofs.Lefts.{left_small, sized_fits}
 
 -- ---- what the tests say
 pub short_small : (d : Dyadic) → is_small d ≡ true → unsigned_abs d.m < 2 ^ 62

@@ -9,14 +9,14 @@ use Rattle.fx_rational.proofs.Lowest.{size-neg_ℤ}
 use Rattle.fx_inequalities.specs.Formula.{span, formula_value, formed, formula_fits, zero_span, span_difference}
 use Rattle.fx_inequalities.specs.NodeConditions.{positive_quotient_claims}
 use Rattle.fx_bounds.proofs.Claims.{both_left, both_right}
-use Rattle.fx_rounding.specs.Grid.{is_small}
+use Rattle.fx_grid.specs.Grid.{is_small}
 use Rattle.fx_grid.specs.Narrow.{narrowest, positive_bounds}
 use Rattle.fx_judging.specs.Judging.{FormsSpan}
 use Rattle.fx_grid.specs.Narrowed.{IsPlainEnd, IsPlainInterval, plain_quotient}
 use Rattle.fx_grid.specs.declared.fault.Why.{Why}
 use Rattle.fx_grid.specs.declared.fault.Why.TheVariants.{Zero}
 use Rattle.fx_grid.proofs.Settled.{end_fits}
-use Rattle.fx_rounding.proofs.Lefts.{small_fits}
+use Rattle.fx_grid.proofs.Lefts.{small_fits}
 use Rattle.fx_grid.proofs.Shorts.{short_small}
 
 -- ---- by the signs of the divisor's ends

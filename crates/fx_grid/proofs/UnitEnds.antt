@@ -10,15 +10,15 @@ use Rattle.fx_rational.specs.Rational.{Rational, bottom, over, plus, minus, nega
 use Rattle.fx_rational.proofs.Ring.{by_quotes, quotes}
 use Rattle.fx_rational.proofs.Laws.{equal_sym, le_refl, le_trans, le_of_equal, le_antisym, Nonneg, nonneg_from, nonneg_top, nonneg_times, gap, ordered}
 use Rattle.fx_rational.proofs.Quotient.{Above}
-use Rattle.fx_rounding.specs.Grid.{lowest_dyadic, grid_down, grid_up, error_grid}
+use Rattle.fx_grid.specs.Grid.{lowest_dyadic, grid_down, grid_up, error_grid}
 use Rattle.fx_grid.specs.Narrow.{ratio, lesser_value, greater_value, unit_value}
 use Rattle.fx_grid.specs.Exact.{scaled_top, scaled_bottom, unit_bottom}
-use Rattle.fx_rounding.specs.Wide.{units_below}
-use Rattle.fx_rounding.proofs.Ends.{floor_only, turned, trimmed_neg}
+use Rattle.fx_grid.specs.Wide.{units_below}
+use Rattle.fx_grid.proofs.Ends.{floor_only, turned, trimmed_neg}
 use Rattle.fx_grid.proofs.Exacts.{over_down, unit_some, input_value}
-use Rattle.fx_rounding.proofs.LongDivision.{left_of, left_is, cancelled}
+use Rattle.fx_grid.proofs.LongDivision.{left_of, left_is, cancelled}
 use Rattle.fx_grid.proofs.Quotients.{below_lesser, above_greater, below_ratio, above_ratio, ratio_back}
-use Rattle.fx_rounding.proofs.Spelling.{down_same}
+use Rattle.fx_grid.proofs.Spelling.{down_same}
 
 -- ---- less a unit
 move : (q d r u : ℤ) → (q *ℤ d +ℤ r) -ℤ u *ℤ d ≡ (q -ℤ u) *ℤ d +ℤ r

@@ -11,7 +11,7 @@ use Rattle.fx_inequalities.specs.NodeConditions.{quotient_claims}
 use Rattle.fx_grid.specs.declared.fault.Why.{Why}
 use Rattle.fx_grid.specs.declared.fault.Why.TheVariants.{Zero, Beyond}
 use Rattle.fx_grid.specs.Narrow.{Bounds, quotient_bounds, is_apart, narrowest, widened}
-use Rattle.fx_rounding.specs.Grid.{error_grid}
+use Rattle.fx_grid.specs.Grid.{error_grid}
 
 -- the end of a divisor above zero that gives the lesser quotient of a, and the one that gives the greater
 abbrev pub lesser_divisor : Dyadic → Interval → Dyadic

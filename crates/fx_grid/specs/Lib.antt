@@ -1,3 +1,6 @@
+pub mod Grid
+pub mod Wide
+pub mod Places
 pub mod Narrow
 pub mod Laws
 pub mod Narrowed

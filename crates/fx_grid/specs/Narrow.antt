@@ -5,7 +5,7 @@ use Rattle.fx_rational.specs.Rational.{Rational, bottom, over, plus, minus, is_a
 use Rattle.fx_rational.specs.Interval.{Interval}
 use Rattle.fx_inequalities.specs.Formula.{Span, formula_value, unit_at, zero_span, span_difference}
 use Rattle.fx_inequalities.specs.Claim.{Claim, fits}
-use Rattle.fx_rounding.specs.Grid.{grid_down, grid_up, is_small}
+use Rattle.fx_grid.specs.Grid.{grid_down, grid_up, is_small}
 use Rattle.fx_grid.specs.declared.fault.Why.{Why}
 use Rattle.fx_grid.specs.declared.fault.Why.TheVariants.{Beyond}
 

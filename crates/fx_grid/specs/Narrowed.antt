@@ -5,7 +5,7 @@ use Rattle.fx_rational.specs.Interval.{Interval}
 use Rattle.fx_inequalities.specs.Formula.{span}
 use Rattle.fx_inequalities.specs.NodeConditions.{quotient_claims}
 use Rattle.fx_grid.specs.Narrow.{Bounds, is_apart, quotient_bounds, narrowest}
-use Rattle.fx_rounding.specs.Grid.{is_small}
+use Rattle.fx_grid.specs.Grid.{is_small}
 use Rattle.fx_grid.specs.declared.fault.Why.{Why}
 use Rattle.fx_grid.specs.declared.fault.Why.TheVariants.{Zero, Beyond}
 

@@ -2,7 +2,7 @@
 use Rattle.std.specs.Prelude.{◌+◌, nat_le, Bool, ◌&&◌}
 use Rattle.fx_rational.specs.Dyadic.{Dyadic}
 use Rattle.fx_rational.specs.Interval.{Interval}
-use Rattle.fx_rounding.specs.Grid.{is_small}
+use Rattle.fx_grid.specs.Grid.{is_small}
 
 -- mantissas of 62 bits at both ends
 abbrev pub has_short_ends : Interval → Bool

@@ -12,20 +12,23 @@ ghost use Rattle.fx_inequalities.specs.OperationSpans as spans;
 ghost use Rattle.fx_judging.specs.Judging.{FormsSpan};
 ghost use Rattle.fx_judging.specs.Places.{IsShortSpan};
 ghost use Rattle.fx_grid.specs.Narrow.{Bounds, ratio, narrow, positive_bounds, unit_value, widened};
-ghost use Rattle.fx_rounding.specs.Grid.{lowest_dyadic, grid_down, grid_up, error_grid};
+ghost use Rattle.fx_grid.specs.Grid.{lowest_dyadic, grid_down, grid_up, error_grid};
 ghost use Rattle.fx_grid.specs.Narrowed.{IsIfSmall, HasFewPlaces};
-ghost use Rattle.fx_rounding.specs.Wide.{IsEnd, units_below};
+ghost use Rattle.fx_grid.specs.Wide.{IsEnd, units_below};
 ghost use Rattle.fx_grid.specs.Dividing as dividing;
 
 use crate::fault::Why;
+use crate::grid::{exponent, mantissa};
+use crate::number::negate;
+use crate::parts::quotient_less;
 use crate::quotient::{both_above, both_below, high, is_below, low};
 use crate::settle::ends;
+use crate::wide::opposite;
 use fx_interval::{Interval, greatest, least};
 use fx_judging::{
     Judgement, clear, difference, interval, minus, number, plus, quotient, sum, times, unit, zero,
 };
 use fx_num::Dyadic;
-use fx_rounding::{exponent, mantissa, negate, opposite, quotient_less};
 
 /// Whether it stays a number of 128 bits with the other sign.
 fn is_turnable(m: i128) -> bool

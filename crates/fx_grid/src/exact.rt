@@ -9,21 +9,20 @@ ghost use Rattle.fx_expr.specs.Parts.{input_of};
 ghost use Rattle.fx_grid.specs.Narrow.{Bounds, narrow, narrowest, single, unit_value};
 ghost use Rattle.fx_grid.specs.Narrowed.{IsIfSmall, if_fitting};
 ghost use Rattle.fx_judging.specs.Judging.{Forms};
-ghost use Rattle.fx_rounding.specs.Grid.{error_grid};
+ghost use Rattle.fx_grid.specs.Grid.{error_grid};
 ghost use Rattle.fx_grid.specs.Exact.{scaled_top, scaled_bottom, unit_bottom};
 
 use crate::fault::Why;
+use crate::number::{denominator, left, negate, numerator, whole};
+use crate::place::{Place, grid as error_grid, split};
 use crate::quotient::{high, low};
 use crate::settle::ends;
+use crate::wide::{rest, signed, wide_down, wide_up};
 use fx_expr::Input;
 use fx_fraction::{Fraction, dyadic_le, fneg, to_fraction};
 use fx_interval::Interval;
 use fx_judging::{difference, number, reduced, sum, unit};
 use fx_num::{Dyadic, left_fits, raised};
-use fx_rounding::{
-    Place, denominator, error_grid, left, negate, numerator, rest, signed, split, whole, wide_down,
-    wide_up,
-};
 
 /// The numerator of `c * 2^f`.
 fn top_of(c: Fraction, f: i32) -> i128

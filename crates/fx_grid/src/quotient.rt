@@ -6,19 +6,20 @@ ghost use Rattle.fx_rational.specs.Dyadic.{dyadic, dyadic_value, least, greatest
 ghost use Rattle.fx_inequalities.specs.Formula.{Num, Span, span};
 ghost use Rattle.fx_inequalities.specs.Claim.{BelowFraction, AboveFraction};
 ghost use Rattle.fx_inequalities.specs.NodeConditions.{positive_quotient_claims};
-ghost use Rattle.fx_rounding.specs.Grid.{grid_down, grid_up};
+ghost use Rattle.fx_grid.specs.Grid.{grid_down, grid_up};
 ghost use Rattle.fx_grid.specs.Narrow.{ratio, narrowest, positive_bounds};
 ghost use Rattle.fx_judging.specs.Judging.{FormsSpan};
 ghost use Rattle.fx_grid.specs.Narrowed.{IsPlainEnd, IsPlainInterval, plain_quotient};
 
 use crate::fault::Why;
+use crate::grid::exponent;
+use crate::number::{
+    denominator, down_fraction, down_quotient, left, negate, up_fraction, up_quotient,
+};
 use crate::settle::{answer, keep};
 use fx_fraction::Fraction;
 use fx_interval::{Interval, greatest, least};
 use fx_num::Dyadic;
-use fx_rounding::{
-    denominator, down_fraction, down_quotient, exponent, left, negate, up_fraction, up_quotient,
-};
 
 /// The narrowest on grid `e` from one fraction to another.
 pub fn between(lo: Fraction, hi: Fraction, e: u32) -> Result<Interval, Why>

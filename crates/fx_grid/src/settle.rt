@@ -7,12 +7,12 @@ ghost use Rattle.fx_inequalities.specs.Claim.{inside};
 ghost use Rattle.fx_grid.specs.Narrow.{narrow, span_bounds, narrowest};
 ghost use Rattle.fx_judging.specs.Judging.{FormsSpan};
 ghost use Rattle.fx_grid.specs.Narrowed.{IsIfSmall, answer_of, bounds_of};
-ghost use Rattle.fx_rounding.specs.Wide.{IsEnd};
+ghost use Rattle.fx_grid.specs.Wide.{IsEnd};
 
 use crate::fault::Why;
+use crate::grid::{down, is_small, up};
 use fx_interval::Interval;
 use fx_num::Dyadic;
-use fx_rounding::{down, is_small, up};
 
 /// The interval, where its mantissas have at most 62 bits.
 pub fn keep(x: Interval) -> Option<Interval>

@@ -9,12 +9,13 @@ ghost use Rattle.fx_rational.specs.Interval.{interval_sum, interval_product};
 ghost use Rattle.fx_inequalities.specs.Formula.{Span, span_sum, span_product};
 ghost use Rattle.fx_judging.specs.Judging.{FormsSpan};
 ghost use Rattle.fx_judging.specs.Places.{IsShortSpan};
-ghost use Rattle.fx_rounding.specs.Grid.{is_small};
+ghost use Rattle.fx_grid.specs.Grid.{is_small};
 ghost use Rattle.fx_grid.specs.Short.{has_short_ends, is_near, has_few_places, has_short_sum, has_short_product};
 
+use crate::grid::is_small;
+use crate::number::left;
 use fx_interval::{Interval, greatest, least};
 use fx_num::Dyadic;
-use fx_rounding::{is_small, left};
 
 /// Whether both ends have mantissas of at most 62 bits.
 fn has_short_ends(x: Interval) -> bool

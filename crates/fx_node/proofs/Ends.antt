@@ -2,10 +2,10 @@
 use Rattle.std.proofs.Common.{◌≡◌, ◌<◌, ℕ, List, length, Option, refl, ap, sym, subst, ◌∙◌}
 use Rattle.std.specs.Prelude.{◌↔◌, Result, Ok, Err, IfOk, IfErr, OnOk, IsErrOf}
 use Rattle.std.specs.Io.KnownBytes.{Consumes}
-use Rattle.fx_filter.specs.Outcome.{Outcome}
-use Rattle.fx_filter.specs.Promise.{IsDue}
-use Rattle.fx_filter.specs.declared.fault.RunFault.{RunFault}
-use Rattle.fx_filter.specs.declared.fault.RunFault.TheVariants as run
+use Rattle.fx_stream.specs.Outcome.{Outcome}
+use Rattle.fx_stream.specs.Promise.{IsDue}
+use Rattle.fx_stream.specs.declared.fault.RunFault.{RunFault}
+use Rattle.fx_stream.specs.declared.fault.RunFault.TheVariants as run
 use Rattle.fx_node.specs.Events.{LineFlaw}
 use Rattle.fx_node.specs.Faults.{IsToldAs, flaw_of, run_fault_of, told_fault}
 use Rattle.fx_node.specs.declared.fault.Flaw.{Flaw}

@@ -6,7 +6,7 @@ use Rattle.std.proofs.Math.ListN.{get_or-map}
 use Rattle.fx_model.specs.Machine.{start_words}
 use Rattle.fx_machine.specs.Registers.{Contents}
 use Rattle.fx_checker.specs.CertifiedView.{Accepted}
-use Rattle.fx_filter.specs.Outcome.{Outcome}
+use Rattle.fx_stream.specs.Outcome.{Outcome}
 use Rattle.fx_node.specs.Events.{LineFlaw, ReadEvents, events_read}
 use Rattle.fx_node.specs.NodePage.{UnitsLaw, node_head, node_outcome}
 use Rattle.fx_node.specs.Steps.{lines_from, node_columns, states_of, units_outcome}

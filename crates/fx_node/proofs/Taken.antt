@@ -18,8 +18,8 @@ use Rattle.fx_rows.specs.ReadRows.{moved_down}
 use Rattle.fx_rows.specs.UnitColumn.{column_of, unit_of}
 use Rattle.fx_rows.specs.Values.{row_of, row_of_fields, stopped}
 use Rattle.fx_rows.specs.declared.fault.RowKind.TheVariants.{LineTooLong, StrayReturn}
-use Rattle.fx_filter.specs.Outcome.{Outcome, behind_lines, behind_text, stopped_lines}
-use Rattle.fx_filter.proofs.Outcomes.{outcome-same}
+use Rattle.fx_stream.specs.Outcome.{Outcome, behind_lines, behind_text, stopped_lines}
+use Rattle.fx_stream.proofs.Outcomes.{outcome-same}
 use Rattle.fx_node.specs.Events.{Event, GivenEvents, LineFlaw, InRow, NodeColumns, ReadEvents, after_header, after_line, event, events_from, events_read, flawed_here, node_header_of, with_inputs}
 use Rattle.fx_node.specs.NodePage.{node_head, unit_line}
 use Rattle.fx_node.specs.Steps.{event_then, line_then, lines_from, states_of, units_outcome}

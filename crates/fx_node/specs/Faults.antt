@@ -1,8 +1,8 @@
 -- What is wrong with a line as the code tells it, and why a run over events ended as the same of any lines.
 use Rattle.std.specs.Prelude.{ℕ, ◌≡◌, Result, Ok, Err}
 use Rattle.fx_rows.specs.Faults.{row_fault_of}
-use Rattle.fx_filter.specs.declared.fault.RunFault.{RunFault}
-use Rattle.fx_filter.specs.declared.fault.RunFault.TheVariants as run
+use Rattle.fx_stream.specs.declared.fault.RunFault.{RunFault}
+use Rattle.fx_stream.specs.declared.fault.RunFault.TheVariants as run
 use Rattle.fx_node.specs.Events.{LineFlaw, InRow, InUnit}
 use Rattle.fx_node.specs.declared.fault.Flaw.{Flaw}
 use Rattle.fx_node.specs.declared.fault.Flaw.TheVariants as flaw

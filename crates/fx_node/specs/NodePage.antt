@@ -6,7 +6,7 @@ use Rattle.fx_model.specs.Function.{Function, Run}
 use Rattle.fx_model.specs.Machine.{Program, machine_run, output_points}
 use Rattle.fx_model.specs.Page.{line_of, names_from, word_texts}
 use Rattle.fx_inequalities.specs.Certificate.{Certificate}
-use Rattle.fx_filter.specs.Outcome.{Outcome}
+use Rattle.fx_stream.specs.Outcome.{Outcome}
 use Rattle.fx_run.specs.Printed.{IsHonestRun, given_values}
 use Rattle.fx_node.specs.Events.{Event, LineFlaw, ReadEvents, events_read, rows_of}
 

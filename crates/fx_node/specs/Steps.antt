@@ -4,7 +4,7 @@ use Rattle.fx_rational.specs.Decimal.{Decimal, decimal_value}
 use Rattle.fx_model.specs.Function.{Function, Step}
 use Rattle.fx_model.specs.Machine.{Program, machine_step}
 use Rattle.fx_rows.specs.Ranges.{reader_columns}
-use Rattle.fx_filter.specs.Outcome.{Outcome}
+use Rattle.fx_stream.specs.Outcome.{Outcome}
 use Rattle.fx_rows.specs.ReadRows.{moved_down}
 use Rattle.fx_node.specs.Events.{Event, GivenEvents, LineFlaw, NodeColumns, behind_line, event, events_from, events_read}
 use Rattle.fx_node.specs.NodePage.{node_head, unit_line}

@@ -13,9 +13,9 @@ ghost use Rattle.fx_rows.specs.Ranges.{Serves};
 ghost use Rattle.fx_rows.specs.UnitColumn.{column_of, unit_of};
 ghost use Rattle.fx_rows.specs.Values.{row_of};
 ghost use Rattle.fx_rows.specs.declared.fault.RowKind.TheVariants as kind;
-ghost use Rattle.fx_filter.specs.Rooms.{HasRoom};
-ghost use Rattle.fx_filter.specs.Outcome.{behind_lines, behind_text, one, stopped_lines, IfBad};
-ghost use Rattle.fx_filter.specs.declared.printer.Stop.TheVariants as stop;
+ghost use Rattle.fx_stream.specs.Rooms.{HasRoom};
+ghost use Rattle.fx_stream.specs.Outcome.{behind_lines, behind_text, one, stopped_lines, IfBad};
+ghost use Rattle.fx_stream.specs.declared.printer.Stop.TheVariants as stop;
 ghost use Rattle.fx_node.specs.Events.{GivenEvents, after_line, flawed_here, node_header_of, with_unit};
 ghost use Rattle.fx_node.specs.Faults.{flaw_of};
 ghost use Rattle.fx_node.specs.Steps.{event_then, node_columns, units_outcome};
@@ -24,12 +24,12 @@ ghost use Rattle.fx_node.specs.declared.fault.Flaw.TheVariants as flaw;
 use crate::fault::Flaw;
 use crate::node::Node;
 use fx_expr::Function;
-use fx_filter::{Page, Printer, Stop};
 use fx_fraction::Decimal;
 use fx_num::Memory;
 use fx_rows::{
     Column, RowFault, RowKind, RowReader, UnitKind, find_column, read_header, read_unit,
 };
+use fx_stream::{Page, Printer, Stop};
 use std::alloc::Global;
 
 // The name of the units' column.

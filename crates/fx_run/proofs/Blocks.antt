@@ -14,7 +14,7 @@ use Rattle.fx_rules.specs.Steps.{rewrite}
 use Rattle.fx_sound.specs.Soundness.{IsCertified}
 use Rattle.fx_checker.specs.CertifiedView.{Accepted}
 use Rattle.fx_checker.proofs.Ready.{states_are}
-use Rattle.fx_filter.specs.Printed.{lines_outcome}
+use Rattle.fx_stream.specs.Printed.{lines_outcome}
 use Rattle.fx_lanes.specs.RowsSideBySide.{row_at}
 use Rattle.fx_run.specs.Blocks.{IsBlockInRange, ArePut, first_rows}
 use Rattle.fx_run.specs.Steps.{lines_from, step_line}

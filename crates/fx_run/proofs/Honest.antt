@@ -13,7 +13,7 @@ use Rattle.fx_inequalities.specs.Certificate.{Certificate}
 use Rattle.fx_inequalities.specs.Rewriting.{Rewrites}
 use Rattle.fx_sound.specs.Soundness.{AllAlike, BoundLaw, IsCertified, RunLaw, RunsAgree}
 use Rattle.fx_rows.specs.ReadRows.{Read, RowsInRangeLaw, lines_read}
-use Rattle.fx_filter.specs.Printed.{lines_outcome, page_of}
+use Rattle.fx_stream.specs.Printed.{lines_outcome, page_of}
 use Rattle.fx_checker.specs.CertifiedView.{Accepted}
 use Rattle.fx_run.specs.Printed.{IsWithinBounds, RowsLaw, given_values, printed, run_outcome, run_page}
 use Rattle.fx_run.specs.Steps.{lines_from, line_then, step_line}

@@ -5,10 +5,10 @@ use Rattle.std.specs.Io.KnownBytes.{Appends}
 use Rattle.fx_base.specs.Moments.{Moment, HoldsEachTime}
 use Rattle.fx_base.specs.Text.{lines_in}
 use Rattle.fx_base.proofs.Noting.{noted_as}
-use Rattle.fx_filter.specs.Outcome.{Outcome}
-use Rattle.fx_filter.specs.Promise.{IsAnswered, IsBadAt, IsDone, IsDue, PrintsFront, PrintsWholeLines}
-use Rattle.fx_filter.specs.declared.fault.RunFault.{RunFault}
-use Rattle.fx_filter.specs.declared.fault.RunFault.TheVariants.{Row, ReadFault, WriteFault, TooLong, Memory}
+use Rattle.fx_stream.specs.Outcome.{Outcome}
+use Rattle.fx_stream.specs.Promise.{IsAnswered, IsBadAt, IsDone, IsDue, PrintsFront, PrintsWholeLines}
+use Rattle.fx_stream.specs.declared.fault.RunFault.{RunFault}
+use Rattle.fx_stream.specs.declared.fault.RunFault.TheVariants.{Row, ReadFault, WriteFault, TooLong, Memory}
 
 known : (left : Option (List ℕ)) (P Q : List ℕ → Type 0) → ((all : List ℕ) → P all → Q all) → IfSome left P → IfSome left Q
 known None P Q f h = tt

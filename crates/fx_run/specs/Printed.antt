@@ -10,7 +10,7 @@ use Rattle.fx_inequalities.specs.Certificate.{Certificate}
 use Rattle.fx_sound.specs.Soundness.{AllBounded, AllInEnds}
 use Rattle.fx_rows.specs.Faults.{RowFlaw}
 use Rattle.fx_rows.specs.ReadRows.{Read, lines_read}
-use Rattle.fx_filter.specs.Outcome.{Outcome}
+use Rattle.fx_stream.specs.Outcome.{Outcome}
 
 -- the given rows as rationals
 abbrev pub given_values : List (List Decimal) → List (List Rational)

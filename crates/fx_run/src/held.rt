@@ -6,7 +6,7 @@ ghost use Rattle.std.specs.Prelude.{◌≡◌, ◌⊎◌, ◌≤◌, ◌<◌, �
 ghost use Rattle.fx_rational.specs.Decimal.{decimal_value};
 ghost use Rattle.fx_model.specs.Machine.{start_words};
 ghost use Rattle.fx_model.specs.Rows.{IsInRange};
-ghost use Rattle.fx_filter.specs.Rooms.{HasRoom};
+ghost use Rattle.fx_stream.specs.Rooms.{HasRoom};
 ghost use Rattle.fx_checker.specs.CertifiedView.{IsStepReady};
 ghost use Rattle.fx_lanes.specs.RowsSideBySide.{row_at};
 ghost use Rattle.fx_run.specs.Blocks.{IsBlockInRange, ArePut, CanHold, first_rows};
@@ -17,11 +17,11 @@ use crate::step::run_row;
 use crate::words::{Lane, put_header, put_words};
 use fx_checker::Certified;
 use fx_expr::Function;
-use fx_filter::{Page, RowStep};
 use fx_fraction::Decimal;
 use fx_lanes::{LaneRegisters, SideBySide};
 use fx_machine::Registers;
 use fx_num::Memory;
+use fx_stream::{Page, RowStep};
 use std::alloc::Global;
 
 // Fewer rows than these are quicker one after the other.

@@ -7,8 +7,8 @@ ghost use Rattle.fx_base.specs.Text.{lines_in};
 ghost use Rattle.fx_model.specs.LawfulProgram.{widths};
 ghost use Rattle.fx_model.specs.Machine.{start_words};
 ghost use Rattle.fx_rows.specs.Faults.{row_fault_of};
-ghost use Rattle.fx_filter.specs.Promise.{Grows, IsAnswered, IsDone, IsDue};
-ghost use Rattle.fx_filter.specs.declared.fault.RunFault.TheVariants.{ReadFault, WriteFault, TooLong};
+ghost use Rattle.fx_stream.specs.Promise.{Grows, IsAnswered, IsDone, IsDue};
+ghost use Rattle.fx_stream.specs.declared.fault.RunFault.TheVariants.{ReadFault, WriteFault, TooLong};
 ghost use Rattle.fx_run.specs.Printed.{RowsLaw, run_outcome};
 ghost use Rattle.fx_run.specs.Steps.{CanStep};
 
@@ -17,15 +17,15 @@ use crate::law::rows_law;
 use crate::step::CertifiedStep;
 use fx_base::{Memory, Sink, Source};
 use fx_checker::Certified;
-use fx_filter::run_steps;
 use fx_lanes::{NarrowLanes, SideBySide, WideLanes};
 use fx_machine::Registers;
 use fx_rows::RowFault;
+use fx_stream::run_steps;
 use fx_word::widths;
 use std::alloc::Global;
 
 /// Why a run over the rows of an input ended before the input did.
-pub type RunFault = fx_filter::RunFault<RowFault>;
+pub type RunFault = fx_stream::RunFault<RowFault>;
 
 // A certified program before its first row.
 fn first_step<'a, const B: u32>(

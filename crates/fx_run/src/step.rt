@@ -9,15 +9,15 @@ ghost use Rattle.fx_model.specs.Page.{line_of, names_from};
 ghost use Rattle.fx_model.specs.Rows.{IsInRange};
 ghost use Rattle.fx_machine.specs.Steps.{step_taken};
 ghost use Rattle.fx_checker.specs.CertifiedView.{IsStepReady};
-ghost use Rattle.fx_filter.specs.Rooms.{HasLineRoom, HasRoom, line_room};
+ghost use Rattle.fx_stream.specs.Rooms.{HasLineRoom, HasRoom, line_room};
 ghost use Rattle.fx_run.specs.Steps.{CanStep, lines_from, step_line};
 
 use crate::words::{put_header, put_words};
 use fx_checker::{Certified, certified_step};
 use fx_expr::Function;
-use fx_filter::{Page, RowStep};
 use fx_fraction::Decimal;
 use fx_machine::Registers;
+use fx_stream::{Page, RowStep};
 
 /// Carries out a row, and puts its line.
 pub(crate) fn run_row<const B: u32>(

@@ -5,15 +5,15 @@ ghost use Rattle.fx_model.specs.LawfulProgram.{IsLawfulProgram, IsPoint};
 ghost use Rattle.fx_model.specs.Page.{line_of, names_from, word_texts};
 ghost use Rattle.fx_model.specs.WordText.{decimal_text};
 ghost use Rattle.fx_machine.specs.Steps.{step_taken};
-ghost use Rattle.fx_filter.specs.Rooms.{HasLineRoom, line_room, page_room};
+ghost use Rattle.fx_stream.specs.Rooms.{HasLineRoom, line_room, page_room};
 ghost use Rattle.fx_lanes.specs.RowsSideBySide.{lane};
 ghost use Rattle.fx_model.specs.Tree.{at};
 ghost use Rattle.fx_run.specs.Lines.{mark};
 
-use fx_filter::Page;
 use fx_lanes::{LaneRegisters, SideBySide};
 use fx_machine::Registers;
 use fx_program::Program;
+use fx_stream::Page;
 use itoa::Buffer;
 
 // Puts the byte behind a field: a comma, or a line feed behind the last.

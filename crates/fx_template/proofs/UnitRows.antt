@@ -13,8 +13,8 @@ use Rattle.fx_bounds.proofs.Claims.{both_right}
 use Rattle.fx_judging.specs.Places.{IsShort}
 use Rattle.fx_conditions.specs.Limits.{AreShortRows, IsShortRow}
 use Rattle.fx_cert.specs.declared.side.Side.{Side}
-use Rattle.fx_sharing.specs.KeptRows.{kept_row}
-use Rattle.fx_rounding.specs.Grid.{is_small}
+use Rattle.fx_row_conditions.specs.KeptRows.{kept_row}
+use Rattle.fx_grid.specs.Grid.{is_small}
 use Rattle.fx_cert.proofs.Units.{unit_length}
 use Rattle.fx_template.specs.Listed.{first_untrue}
 use Rattle.fx_template.specs.Transitions.{Transition}

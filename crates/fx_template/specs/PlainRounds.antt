@@ -10,8 +10,8 @@ use Rattle.fx_inequalities.specs.Certificate.{Row, no_line, zero_interval}
 use Rattle.fx_inequalities.specs.LawfulCertificate.{unit_vector}
 use Rattle.fx_cert.specs.declared.side.Side.{Side}
 use Rattle.fx_cert.specs.declared.side.Side.TheVariants.{Value, Error}
-use Rattle.fx_sharing.specs.KeptRows.{kept_row, next_row}
-use Rattle.fx_rounding.specs.Grid.{is_small, error_grid}
+use Rattle.fx_row_conditions.specs.KeptRows.{kept_row, next_row}
+use Rattle.fx_grid.specs.Grid.{is_small, error_grid}
 use Rattle.fx_grid.specs.Narrow.{narrowest, span_bounds}
 use Rattle.fx_grid.specs.declared.fault.Why.{Why}
 use Rattle.fx_template.specs.Listed.{each_below, first_untrue, or_else, tabulate}

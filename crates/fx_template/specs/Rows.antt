@@ -5,7 +5,7 @@ use Rattle.fx_rational.specs.Interval.{IsWrittenInterval}
 use Rattle.fx_model.specs.Limits.{row_limit}
 use Rattle.fx_inequalities.specs.Certificate.{Row}
 use Rattle.fx_inequalities.specs.LawfulCertificate.{AreShares, AreUnitRows, AreWrittenRows}
-use Rattle.fx_sharing.specs.KeptRows.{kept_row}
+use Rattle.fx_row_conditions.specs.KeptRows.{kept_row}
 use Rattle.fx_cert.specs.declared.side.Side.{Side}
 use Rattle.fx_template.specs.Transitions.{Transition}
 use Rattle.fx_template.specs.PlainRounds.{are_met}

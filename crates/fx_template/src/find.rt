@@ -23,7 +23,7 @@ use fx_flat::Nodes;
 use fx_num::Memory;
 use fx_proposal::propose_rows;
 use fx_reach::Transition;
-use fx_sharing::row_judgement;
+use fx_row_conditions::row_judgement;
 use std::alloc::Global;
 
 /// Whether one step keeps each of these rows.

@@ -9,9 +9,9 @@ ghost use Rattle.fx_cert.specs.CertificateView.{row_view, rows_in, shares_of};
 ghost use Rattle.fx_template.specs.Rows.{AreCountedRows, AreWrittenBounds, IsCountedRow};
 
 use fx_cert::{Row, Share, unit_coef};
+use fx_grid::is_small;
 use fx_interval::Interval;
 use fx_num::Dyadic;
-use fx_rounding::is_small;
 
 /// Whether a text can spell it.
 fn is_written(d: Dyadic) -> bool

@@ -14,12 +14,11 @@ ghost use Rattle.fx_template.specs.RoundView.{AreShortBoth, AreShortBounds, boun
 
 use crate::unit::{bound_at, unit_rows};
 use fx_cert::{Row, Side, error_at, range_at};
-use fx_grid::{Why, narrowest_round};
+use fx_grid::{Why, error_grid, narrowest_round};
 use fx_interval::{Interval, greatest, least};
 use fx_judging::interval;
 use fx_reach::Transition;
-use fx_rounding::error_grid;
-use fx_sharing::row_bound_of;
+use fx_row_conditions::row_bound_of;
 use std::alloc::{AllocError, Global};
 
 /// The bounds of the unit rows and of the unit error rows.

@@ -2,7 +2,7 @@
 
 ghost use Rattle.std.specs.Prelude.{◌≡◌, ◌+◌, ◌<◌, ◌&&◌, List};
 ghost use Rattle.fx_inequalities.specs.Claim.{Claim};
-ghost use Rattle.fx_rounding.specs.Grid.{is_small};
+ghost use Rattle.fx_grid.specs.Grid.{is_small};
 ghost use Rattle.fx_judging.specs.Judging.{judged};
 ghost use Rattle.fx_cert.specs.CertificateView.{rows_in};
 ghost use Rattle.fx_conditions.specs.Limits.{AreShortRows};
@@ -14,11 +14,11 @@ ghost use Rattle.fx_template.specs.RoundView.{bounds_in};
 use crate::round::Bounds;
 use crate::unit::bound_at;
 use fx_cert::{Row, Side};
+use fx_grid::is_small;
 use fx_interval::Interval;
 use fx_judging::Judgement;
 use fx_reach::Transition;
-use fx_rounding::is_small;
-use fx_sharing::row_judgement;
+use fx_row_conditions::row_judgement;
 
 /// Whether comparisons fit and are true.
 pub fn is_met(judgement: Judgement) -> bool

@@ -1,6 +1,6 @@
 //! `check FILE`: the bounds of an accepted bundle.
 ghost use Rattle.std.specs.Prelude.{◌≡◌, ℕ, List, Option};
-ghost use Rattle.fx_filter.specs.Promise.{Grows};
+ghost use Rattle.fx_stream.specs.Promise.{Grows};
 ghost use Rattle.fx_ends.specs.EndView.{end_of};
 ghost use Rattle.fx_bundle_commands.specs.OpeningView.{IsSilent};
 ghost use Rattle.fx_bundle_commands.specs.commands.Check.{CheckEnds};

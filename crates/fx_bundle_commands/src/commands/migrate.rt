@@ -3,7 +3,7 @@
 //! What is written is the text of the bundle with another version and all else as it was, so that it is accepted too. The trap:
 //! the text is made whole before anything is written, so where memory lacks nothing is written.
 ghost use Rattle.std.specs.Prelude.{◌≡◌, ◌≤◌, ℕ, List, Option, IfOk, length};
-ghost use Rattle.fx_filter.specs.Promise.{Grows};
+ghost use Rattle.fx_stream.specs.Promise.{Grows};
 ghost use Rattle.fx_model.specs.Limits.{source_limit};
 ghost use Rattle.fx_cert.specs.BundleView.{IsLawfulBundle, text_of};
 ghost use Rattle.fx_ends.specs.EndView.{end_of};

@@ -3,7 +3,7 @@ ghost use Rattle.std.specs.Prelude.{◌≡◌, ◌⊎◌, ℕ, List, map};
 ghost use Rattle.std.specs.Io.KnownBytes.{Consumes};
 ghost use Rattle.fx_expr.specs.Parts.{input_of};
 ghost use Rattle.fx_base.specs.Moments.{HoldsEachTime};
-ghost use Rattle.fx_filter.specs.Promise.{Grows, IsAnswered};
+ghost use Rattle.fx_stream.specs.Promise.{Grows, IsAnswered};
 ghost use Rattle.fx_run.specs.Printed.{run_outcome};
 ghost use Rattle.fx_ends.specs.Ends as ends;
 ghost use Rattle.fx_ends.specs.Ends.{end_line, status_of};

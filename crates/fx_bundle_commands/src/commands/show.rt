@@ -3,7 +3,7 @@ ghost use Rattle.std.specs.Prelude.{◌≡◌, ◌++◌, ℕ, List, Option, OnOk
 ghost use Rattle.std.specs.Io.KnownBytes.{Appends};
 ghost use Rattle.fx_base.specs.Calls.{AppendsFront};
 ghost use Rattle.fx_base.specs.Causes.{HasCause};
-ghost use Rattle.fx_filter.specs.Promise.{Grows};
+ghost use Rattle.fx_stream.specs.Promise.{Grows};
 ghost use Rattle.fx_ends.specs.EndView.{end_of};
 ghost use Rattle.fx_listing.specs.Listing.{numbered_lines};
 ghost use Rattle.fx_bundle_commands.specs.OpeningView.{IsSilent, with_source};

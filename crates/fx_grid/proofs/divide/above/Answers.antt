@@ -2,9 +2,9 @@ use Rattle.std.proofs.Common.{◌≡◌, ◌∙◌, ◌*◌, ◌^◌, ◌<◌, �
 use Rattle.std.specs.Int.{w32, w128}
 use Rattle.std.proofs.lemmas.Int.{to_z-of_z}
 use Rattle.fx_rational.specs.Rational.{floor_div}
-use Rattle.fx_rounding.specs.Grid.{lowest_dyadic, error_grid}
-use Rattle.fx_rounding.specs.Wide.{IsEnd, units_below}
-use Rattle.fx_rounding.proofs.Casts.{back}
+use Rattle.fx_grid.specs.Grid.{lowest_dyadic, error_grid}
+use Rattle.fx_grid.specs.Wide.{IsEnd, units_below}
+use Rattle.fx_grid.proofs.Casts.{back}
 use Rattle.fx_grid.proofs.Dividing.{above_end, turned_floor}
 use Rattle.fx_grid.proofs.divide.above.Goals as goal
 

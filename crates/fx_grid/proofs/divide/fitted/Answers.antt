@@ -11,7 +11,7 @@ use Rattle.fx_judging.specs.Judging.{FormsSpan}
 use Rattle.fx_grid.specs.declared.fault.Why.{Why}
 use Rattle.fx_grid.specs.Narrow.{narrow}
 use Rattle.fx_grid.specs.Narrowed.{IsIfSmall}
-use Rattle.fx_rounding.specs.Grid.{error_grid}
+use Rattle.fx_grid.specs.Grid.{error_grid}
 use Rattle.fx_grid.proofs.Dividing.{without_short, beyond_fits, other_fits}
 use Rattle.fx_grid.proofs.Settled.{narrowest_some, narrowest_beyond}
 use Rattle.fx_grid.proofs.divide.fitted.Goals as goal

@@ -3,9 +3,9 @@ use Rattle.std.specs.Int.{w32}
 use Rattle.std.proofs.lemmas.Int.{to_z-of_z}
 use Rattle.fx_rational.specs.Rational.{minus, plus}
 use Rattle.fx_rational.specs.Dyadic.{Dyadic, dyadic_value}
-use Rattle.fx_rounding.specs.Grid.{grid_down, grid_up, error_grid}
+use Rattle.fx_grid.specs.Grid.{grid_down, grid_up, error_grid}
 use Rattle.fx_grid.specs.Narrow.{ratio, narrow, positive_bounds, unit_value, widened}
-use Rattle.fx_rounding.specs.Wide.{IsEnd}
+use Rattle.fx_grid.specs.Wide.{IsEnd}
 use Rattle.fx_grid.specs.Dividing.{lesser_divisor, greater_divisor}
 use Rattle.fx_grid.proofs.Dividing.{low_end, high_end}
 use Rattle.fx_grid.proofs.divide.unit_ends.Goals as goal

@@ -3,7 +3,7 @@ use Rattle.std.specs.Int.{w32, w128}
 use Rattle.std.proofs.lemmas.Int.{to_z-of_z}
 use Rattle.fx_rational.specs.Rational.{floor_div}
 use Rattle.fx_grid.specs.Exact.{scaled_top, scaled_bottom}
-use Rattle.fx_rounding.proofs.Casts.{back}
+use Rattle.fx_grid.proofs.Casts.{back}
 use Rattle.fx_grid.proofs.Exacts.{literal_word}
 use Rattle.fx_grid.proofs.exact.floor_at.Goals as goal
 

@@ -4,11 +4,11 @@ use Rattle.std.proofs.lemmas.Int.{to_z-of_z}
 use Rattle.fx_rational.specs.Rational.{floor_div, ceil_div, minus, negative, lowest}
 use Rattle.fx_inequalities.specs.Formula.{unit_at}
 use Rattle.fx_judging.specs.Judging.{Forms}
-use Rattle.fx_rounding.specs.Grid.{lowest_dyadic, error_grid}
+use Rattle.fx_grid.specs.Grid.{lowest_dyadic, error_grid}
 use Rattle.fx_grid.specs.Narrow.{narrow, unit_value}
 use Rattle.fx_grid.specs.Exact.{scaled_top, scaled_bottom, unit_bottom}
-use Rattle.fx_rounding.specs.Wide.{IsEnd}
-use Rattle.fx_rounding.proofs.Casts.{back}
+use Rattle.fx_grid.specs.Wide.{IsEnd}
+use Rattle.fx_grid.proofs.Casts.{back}
 use Rattle.fx_judging.proofs.LowestTerms.{lowest_negative}
 use Rattle.fx_grid.proofs.ExactEnds.{input_down, input_up}
 use Rattle.fx_grid.proofs.exact.input_error.Goals as goal

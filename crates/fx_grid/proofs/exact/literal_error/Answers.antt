@@ -3,12 +3,12 @@ use Rattle.std.specs.Int.{w32, w128}
 use Rattle.std.proofs.lemmas.Int.{to_z-of_z}
 use Rattle.fx_rational.specs.Rational.{floor, floor_div, ceil_div, scaled, minus}
 use Rattle.fx_inequalities.specs.Formula.{formula_value, word_at}
-use Rattle.fx_rounding.specs.Grid.{lowest_dyadic, error_grid}
+use Rattle.fx_grid.specs.Grid.{lowest_dyadic, error_grid}
 use Rattle.fx_grid.specs.Narrow.{narrow, single}
 use Rattle.fx_judging.specs.Judging.{Forms}
 use Rattle.fx_grid.specs.Exact.{scaled_top, scaled_bottom, unit_bottom}
-use Rattle.fx_rounding.specs.Wide.{IsEnd}
-use Rattle.fx_rounding.proofs.Casts.{back}
+use Rattle.fx_grid.specs.Wide.{IsEnd}
+use Rattle.fx_grid.proofs.Casts.{back}
 use Rattle.fx_grid.proofs.Exacts.{literal_word}
 use Rattle.fx_grid.proofs.ExactEnds.{literal_down, literal_up}
 use Rattle.fx_grid.proofs.exact.literal_error.Goals as goal

@@ -1,7 +1,7 @@
 use Rattle.std.proofs.Common.{◌∙◌, ◌^◌, pos, ℤ, ◌*ℤ◌, FitsSigned, rules, ap, sym}
 use Rattle.std.specs.Int.{w128}
 use Rattle.fx_rational.specs.Dyadic.{fits_128}
-use Rattle.fx_rounding.proofs.Casts.{back}
+use Rattle.fx_grid.proofs.Casts.{back}
 use Rattle.fx_grid.proofs.Checks.{raised_some, raised_none}
 use Rattle.fx_grid.proofs.exact.raised_word.Goals as goal
 

@@ -1,6 +1,6 @@
 use Rattle.std.proofs.Common.{◌∙◌, subst, ap₂}
 use Rattle.fx_rational.specs.Dyadic.{Dyadic, dyadic_value, least, greatest}
-use Rattle.fx_rounding.specs.Grid.{grid_down, grid_up}
+use Rattle.fx_grid.specs.Grid.{grid_down, grid_up}
 use Rattle.fx_grid.specs.Narrow.{ratio}
 use Rattle.fx_grid.specs.Narrowed.{IsIfSmall}
 use Rattle.fx_grid.proofs.Ratios.{quotient_answer}

@@ -1,8 +1,8 @@
 use Rattle.std.proofs.Common.{◌∙◌, ℕ, ℤ, FitsSigned, rules, ap₂}
 use Rattle.std.specs.Int.{w128}
 use Rattle.fx_rational.specs.Rational.{floor_div}
-use Rattle.fx_rounding.specs.Grid.{lowest_dyadic}
-use Rattle.fx_rounding.proofs.Casts.{back}
+use Rattle.fx_grid.specs.Grid.{lowest_dyadic}
+use Rattle.fx_grid.proofs.Casts.{back}
 use Rattle.fx_grid.proofs.Ratios.{bottom_some, ratio_down_is}
 use Rattle.fx_grid.proofs.quotient.ratio_down.Goals as goal
 

@@ -1,7 +1,7 @@
 use Rattle.std.proofs.Common.{◌∙◌, ◌<◌, ◌^◌, ◌*ℤ◌, pos, subst, sym, ap, ap₂, ℕ, ℤ, FitsSigned, rules}
 use Rattle.std.specs.Prelude.{unsigned_abs}
 use Rattle.std.specs.Int.{w128}
-use Rattle.fx_rounding.proofs.Casts.{back}
+use Rattle.fx_grid.proofs.Casts.{back}
 use Rattle.fx_grid.proofs.Ratios.{bottom_some}
 use Rattle.fx_grid.proofs.quotient.ratio_parts.Goals as goal
 

@@ -1,7 +1,7 @@
 use Rattle.std.proofs.Common.{◌*ℤ◌, ◌∙◌, ℤ, to_z, of_z, ap₂}
 use Rattle.std.specs.Int.{w128}
 use Rattle.std.proofs.lemmas.Int.{fits_signed_from_abs}
-use Rattle.fx_rounding.proofs.Casts.{back}
+use Rattle.fx_grid.proofs.Casts.{back}
 use Rattle.fx_grid.proofs.Shorts.{product_few}
 use Rattle.fx_grid.proofs.short.multiply.Goals as goal
 

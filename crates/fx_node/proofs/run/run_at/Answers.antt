@@ -1,7 +1,7 @@
 use Rattle.std.specs.Prelude.{IfSome}
 use Rattle.std.specs.Io.KnownBytes.{IsAtEnd}
 use Rattle.fx_base.specs.Text.{lines_in}
-use Rattle.fx_filter.specs.Promise.{IsDone}
+use Rattle.fx_stream.specs.Promise.{IsDone}
 use Rattle.fx_node.specs.NodePage.{node_outcome}
 use Rattle.fx_node.proofs.Ends.{done_told, due_told, end_told, read_fault_told, taken_told, write_fault_told}
 use Rattle.fx_node.proofs.run.run_at.Goals as goal

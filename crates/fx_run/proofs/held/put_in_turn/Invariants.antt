@@ -1,5 +1,5 @@
 use Rattle.std.proofs.Common.{◌≡◌, ◌+◌, ◌*◌, ◌≤◌, [], length}
-use Rattle.fx_filter.specs.Rooms.{line_room}
+use Rattle.fx_stream.specs.Rooms.{line_room}
 use Rattle.fx_checker.specs.CertifiedView.{IsStepReady}
 use Rattle.fx_run.specs.Blocks.{ArePut, first_rows}
 use Rattle.fx_run.proofs.held.put_in_turn.Given as goal

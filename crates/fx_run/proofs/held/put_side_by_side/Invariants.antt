@@ -1,5 +1,5 @@
 use Rattle.std.proofs.Common.{◌+◌, ◌*◌, ◌≤◌, length}
-use Rattle.fx_filter.specs.Rooms.{line_room}
+use Rattle.fx_stream.specs.Rooms.{line_room}
 use Rattle.fx_run.specs.Blocks.{ArePut, first_rows}
 use Rattle.fx_run.proofs.held.put_side_by_side.Given as goal
 

@@ -1,5 +1,5 @@
 use Rattle.fx_model.specs.Page.{line_of, names_from}
-use Rattle.fx_filter.specs.Printed.{lines_outcome}
+use Rattle.fx_stream.specs.Printed.{lines_outcome}
 use Rattle.std.specs.Prelude.{None}
 use Rattle.fx_rows.specs.Faults.{row_fault_of}
 use Rattle.fx_run.specs.Printed.{run_outcome}

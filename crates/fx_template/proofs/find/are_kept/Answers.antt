@@ -2,7 +2,7 @@ use Rattle.std.proofs.Common.{◌≡◌, ◌∙◌, ℕ, true, inl, inr, subst, 
 use Rattle.std.proofs.lemmas.Bool.{cases_lt}
 use Rattle.fx_judging.specs.Judging.{judged}
 use Rattle.fx_cert.specs.CertificateView.{lines_view, rows_in}
-use Rattle.fx_sharing.specs.KeptRows.{kept_row}
+use Rattle.fx_row_conditions.specs.KeptRows.{kept_row}
 use Rattle.fx_template.specs.Transitions.{transition_in}
 use Rattle.fx_template.specs.PlainRounds.{are_met}
 use Rattle.fx_template.proofs.find.are_kept.Goals as goal

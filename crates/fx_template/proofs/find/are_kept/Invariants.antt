@@ -1,6 +1,6 @@
 use Rattle.std.proofs.Common.{◌≡◌, ℕ, ◌<◌, true}
 use Rattle.fx_cert.specs.CertificateView.{rows_in}
-use Rattle.fx_sharing.specs.KeptRows.{kept_row}
+use Rattle.fx_row_conditions.specs.KeptRows.{kept_row}
 use Rattle.fx_template.specs.Transitions.{transition_in}
 use Rattle.fx_template.specs.PlainRounds.{are_met}
 use Rattle.fx_template.proofs.find.are_kept.Given as goal

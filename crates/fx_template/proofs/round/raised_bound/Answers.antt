@@ -6,7 +6,7 @@ use Rattle.fx_inequalities.specs.Claim.{inside}
 use Rattle.fx_inequalities.specs.Certificate.{zero_interval}
 use Rattle.fx_judging.specs.Judging.{FormsSpan}
 use Rattle.fx_cert.specs.CertificateView.{lines_view, rows_in}
-use Rattle.fx_sharing.specs.KeptRows.{next_row}
+use Rattle.fx_row_conditions.specs.KeptRows.{next_row}
 use Rattle.fx_grid.specs.Narrow.{narrowest, span_bounds}
 use Rattle.fx_grid.specs.declared.fault.Why.{Why}
 use Rattle.fx_template.specs.Transitions.{transition_in}

@@ -2,8 +2,8 @@ use Rattle.std.proofs.Common.{◌∙◌, ◌&&◌, Bool, ap, sym}
 use Rattle.fx_rational.specs.Interval.{Interval}
 use Rattle.fx_judging.specs.Judging.{judged}
 use Rattle.fx_cert.specs.CertificateView.{lines_view}
-use Rattle.fx_sharing.specs.KeptRows.{kept_row}
-use Rattle.fx_rounding.specs.Grid.{is_small}
+use Rattle.fx_row_conditions.specs.KeptRows.{kept_row}
+use Rattle.fx_grid.specs.Grid.{is_small}
 use Rattle.fx_template.specs.Transitions.{transition_in}
 use Rattle.fx_template.specs.PlainRounds.{are_met, unit_rows}
 use Rattle.fx_template.proofs.stand.stands.Goals as goal

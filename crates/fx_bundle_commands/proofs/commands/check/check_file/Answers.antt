@@ -1,8 +1,8 @@
 use Rattle.std.proofs.Common.{refl}
-use Rattle.fx_filter.proofs.Grown.{none_grown}
+use Rattle.fx_stream.proofs.Grown.{none_grown}
 use Rattle.fx_bundle_commands.specs.Opening.{unopened, opened}
 use Rattle.fx_bundle_commands.specs.commands.Check.{reported, unwritten}
-use Rattle.fx_filter.proofs.Grown.{none_grown}
+use Rattle.fx_stream.proofs.Grown.{none_grown}
 use Rattle.fx_bundle_commands.specs.OpeningView.{with_source}
 use Rattle.fx_bundle_commands.proofs.commands.check.check_file.Goals as goal
 

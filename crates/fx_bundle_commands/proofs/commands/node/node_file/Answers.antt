@@ -1,6 +1,6 @@
 use Rattle.std.proofs.Common.{refl, inl, inr}
 use Rattle.fx_base.proofs.Noting.{none_noted, noted_as}
-use Rattle.fx_filter.proofs.Grown.{none_grown}
+use Rattle.fx_stream.proofs.Grown.{none_grown}
 use Rattle.fx_bundle_commands.proofs.Consumed.{none_taken}
 use Rattle.fx_ends.specs.EndView.{end_of}
 use Rattle.fx_bundle_commands.specs.Opening.{unopened, opened}

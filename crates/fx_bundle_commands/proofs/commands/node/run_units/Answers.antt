@@ -1,6 +1,6 @@
 use Rattle.std.proofs.Common.{◌≡◌, Err, List, ℕ, Option, refl, sym, ap, subst}
-use Rattle.fx_filter.specs.Outcome.{Outcome}
-use Rattle.fx_filter.specs.Promise.{IsDue}
+use Rattle.fx_stream.specs.Outcome.{Outcome}
+use Rattle.fx_stream.specs.Promise.{IsDue}
 use Rattle.fx_node.specs.Events.{LineFlaw, InRow, InUnit}
 use Rattle.fx_node.specs.Faults.{run_fault_of}
 use Rattle.fx_node.specs.NodePage.{node_outcome}

@@ -1,7 +1,7 @@
 use Rattle.std.proofs.Common.{◌≡◌, Err, List, ℕ, Option, refl, sym, ap, subst}
-use Rattle.fx_filter.specs.Outcome.{Outcome}
-use Rattle.fx_filter.specs.Promise.{IsDue}
-use Rattle.fx_filter.specs.declared.fault.RunFault.{RunFault}
+use Rattle.fx_stream.specs.Outcome.{Outcome}
+use Rattle.fx_stream.specs.Promise.{IsDue}
+use Rattle.fx_stream.specs.declared.fault.RunFault.{RunFault}
 use Rattle.fx_run.specs.Printed.{run_outcome}
 use Rattle.fx_rows.specs.Faults.{RowFlaw, row_fault_of}
 use Rattle.fx_rows.specs.declared.fault.RowFault.{RowFault}

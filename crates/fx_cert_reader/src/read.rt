@@ -1,0 +1,206 @@
+//! Reading a certificate line by line, in one pass.
+//!
+//! A bundle's certificate begins on some line of a longer text, so the reader is told that line's number and gives back
+//! the text behind the certificate. Lists grow as their lines come, whatever their count claims.
+
+ghost use Rattle.std.specs.Prelude.{◌≡◌, ◌≤◌, ◌<◌, ◌^◌, ◌+◌, ◌-◌, map, length, IfOk};
+ghost use Rattle.fx_model.specs.Limits.{input_limit, state_limit, node_limit, step_limit, row_limit};
+ghost use Rattle.fx_step.specs.StepView.{step_view};
+ghost use Rattle.fx_inequalities.specs.LawfulCertificate.{IsLawfulCertificate};
+ghost use Rattle.fx_text.specs.Reading.{ReadsAll};
+ghost use Rattle.fx_text.specs.Lines.{line_by, Gives};
+ghost use Rattle.fx_cert.specs.CertificateView.{rows_in, certificate_of};
+ghost use Rattle.fx_cert_reader.specs.CountsView.{certificate_sizes_of, row_counts_of, AreCertificateSizes, AreRowCounts};
+ghost use Rattle.fx_cert_reader.specs.LineReading.{certificate_headline_at, certificate_sizes_at, step_count_at, row_counts_at};
+ghost use Rattle.fx_cert_reader.specs.CertificateReading.{rows_at, steps_at, all_rows_at, certificate_at, certificate_lines, certificate_in};
+
+use crate::lines::{BoxLines, NodeLines, RowLines, StartLines, StepLines};
+use crate::read_line::{
+    RowCounts, Sizes, read_headline, read_row_counts, read_sizes, read_step_count,
+};
+use fx_cert::{Certificate, Row};
+use fx_expr::Items;
+use fx_step::Step;
+use fx_text::{TextFault, fields_at, read_lines, read_more_lines, text_ended};
+use std::alloc::Global;
+
+/// The first line, and the text behind it.
+#[tactic(auto, unfolding(fx_text::specs::Lines::line_by))]
+fn headline_line(line: u32, text: &[u8]) -> Result<&[u8], TextFault>
+    ensures { ReadsAll (λ rest. (tt, rest.now)) result (line_by certificate_headline_at line text.now) }
+{
+    let (mut fields, rest) = fields_at(line, text)?;
+    read_headline(&mut fields).map_err(|kind| TextFault::at(line, kind))?;
+    Ok(rest)
+}
+
+#[tactic(auto, unfolding(fx_text::specs::Lines::line_by))]
+fn sizes_line(line: u32, text: &[u8]) -> Result<(Sizes, &[u8]), TextFault>
+    ensures value { ReadsAll (λ x. (certificate_sizes_of x.0, x.1.now)) result (line_by certificate_sizes_at line text.now) }
+    ensures range { IfOk result (λ x. AreCertificateSizes (certificate_sizes_of x.0)) }
+{
+    let (mut fields, rest) = fields_at(line, text)?;
+    let sizes = read_sizes(&mut fields).map_err(|kind| TextFault::at(line, kind))?;
+    Ok((sizes, rest))
+}
+
+#[tactic(auto, unfolding(fx_text::specs::Lines::line_by))]
+fn step_count_line(line: u32, text: &[u8]) -> Result<(u32, &[u8]), TextFault>
+    ensures value { ReadsAll (λ x. (x.0, x.1.now)) result (line_by step_count_at line text.now) }
+    ensures range { IfOk result (λ x. x.0 ≤ step_limit) }
+{
+    let (mut fields, rest) = fields_at(line, text)?;
+    let count = read_step_count(&mut fields).map_err(|kind| TextFault::at(line, kind))?;
+    Ok((count, rest))
+}
+
+#[tactic(auto, unfolding(fx_text::specs::Lines::line_by))]
+fn row_counts_line(states: u32, line: u32, text: &[u8]) -> Result<(RowCounts, &[u8]), TextFault>
+    ensures value { ReadsAll (λ x. (row_counts_of x.0, x.1.now)) result (line_by (row_counts_at states) line text.now) }
+    ensures range { IfOk result (λ x. AreRowCounts states (row_counts_of x.0)) }
+{
+    let (mut fields, rest) = fields_at(line, text)?;
+    let counts = read_row_counts(states, &mut fields).map_err(|kind| TextFault::at(line, kind))?;
+    Ok((counts, rest))
+}
+
+/// So many rows: a box for each state, and the further ones.
+#[tactic(auto, unfolding(crate::specs::CertificateReading::rows_at))]
+fn rows_at<'a>(
+    alloc: Global,
+    first: u32,
+    states: u32,
+    end: u32,
+    text: &'a [u8],
+) -> Result<(Vec<Row>, &'a [u8]), TextFault>
+    requires first { first ≤ 2 ^ 29 + 2 ^ 16 }
+    requires few { states ≤ state_limit }
+    requires states { states ≤ end }
+    requires end { end ≤ row_limit }
+    ensures value { Gives (λ x. (rows_in x.0.items, x.1.now)) result (rows_at first states end text.now) }
+    ensures count { IfOk result (λ x. length x.0.items ≡ end) }
+{
+    let (boxes, rest) = read_lines(&BoxLines { states, end }, alloc, first, states, text)?;
+    let further = RowLines { states, end };
+    read_more_lines(&further, alloc, first + states, end - states, boxes, rest)
+}
+
+/// The count of steps, and the steps.
+#[tactic(auto, unfolding(crate::specs::CertificateReading::steps_at))]
+fn steps_at<'a>(
+    alloc: Global,
+    line: u32,
+    text: &'a [u8],
+) -> Result<(Vec<Step>, &'a [u8]), TextFault>
+    requires { line ≤ 2 ^ 29 + 2 }
+    ensures value { Gives (λ x. (map step_view x.0.items, x.1.now)) result (steps_at line text.now) }
+    ensures count { IfOk result (λ x. length x.0.items ≤ step_limit) }
+{
+    let (count, rest) = step_count_line(line, text)?;
+    read_lines(&StepLines { count }, alloc, line + 1, count, rest)
+}
+
+/// The counts of rows and error rows, and both. The counts are handed on to the readers of nodes.
+#[tactic(auto, unfolding(crate::specs::CertificateReading::all_rows_at))]
+fn all_rows_at<'a>(
+    alloc: Global,
+    line: u32,
+    states: u32,
+    text: &'a [u8],
+) -> Result<(Vec<Row>, Vec<Row>, &'a [u8]), TextFault>
+    requires line { line ≤ 2 ^ 29 + 2 ^ 15 }
+    requires states { states ≤ state_limit }
+    ensures value { Gives (λ x. ((rows_in x.0.items, rows_in x.1.items), x.2.now)) result (all_rows_at line states text.now) }
+    ensures rows { IfOk result (λ x. length x.0.items ≤ row_limit) }
+    ensures error_rows { IfOk result (λ x. length x.1.items ≤ row_limit) }
+{
+    let (counts, rest) = row_counts_line(states, line, text)?;
+    let RowCounts { rows, error_rows } = counts;
+    let (found, rest) = rows_at(alloc, line + 1, states, rows, rest)?;
+    let (found_errors, rest) = rows_at(alloc, line + 1 + rows, states, error_rows, rest)?;
+    Ok((found, found_errors, rest))
+}
+
+/// The parts of a certificate from line `line` on, and the text behind them.
+#[tactic(auto, unfolding(crate::specs::CertificateReading::certificate_at))]
+fn parts_at<'a>(
+    alloc: Global,
+    line: u32,
+    text: &'a [u8],
+) -> Result<(Certificate, &'a [u8]), TextFault>
+    requires { line ≤ 2 ^ 29 }
+    ensures { Gives (λ x. (certificate_of x.0, x.1.now)) result (certificate_at line text.now) }
+{
+    let rest = headline_line(line, text)?;
+    let (sizes, rest) = sizes_line(line + 1, rest)?;
+    let Sizes {
+        inputs,
+        states,
+        count,
+    } = sizes;
+    let (steps, rest) = steps_at(alloc, line + 2, rest)?;
+    let first = line + 3 + steps.len() as u32;
+    let (starts, rest) = read_lines(&StartLines { states }, alloc, first, states, rest)?;
+    let (rows, error_rows, rest) = all_rows_at(alloc, first + states, states, rest)?;
+    let counts = RowCounts {
+        rows: rows.len() as u32,
+        error_rows: error_rows.len() as u32,
+    };
+    let first = first + states + 1 + counts.rows + counts.error_rows;
+    let variables = inputs + states;
+    let nodes = NodeLines {
+        variables,
+        counts,
+        count,
+    };
+    let (lines, rest) = read_lines(&nodes, alloc, first, count, rest)?;
+    let certificate = Certificate {
+        inputs,
+        states,
+        steps: Items::from_vec(steps),
+        starts: Items::from_vec(starts),
+        rows: Items::from_vec(rows),
+        error_rows: Items::from_vec(error_rows),
+        lines: Items::from_vec(lines),
+    };
+    Ok((certificate, rest))
+}
+
+/// The certificate at the front of the text, whose first line has the number `line`, and the text behind it.
+pub fn certificate_at<'a>(
+    alloc: Global,
+    line: u32,
+    text: &'a [u8],
+) -> Result<(Certificate, &'a [u8]), TextFault>
+    requires { line ≤ 2 ^ 29 }
+    ensures value { Gives (λ x. (certificate_of x.0, x.1.now)) result (certificate_at line text.now) }
+    ensures lawful { IfOk result (λ x. IsLawfulCertificate (certificate_of x.0)) }
+{
+    let (certificate, rest) = parts_at(alloc, line, text)?;
+    Ok((certificate, rest))
+}
+
+/// How many lines its text has.
+pub fn certificate_lines(certificate: &Certificate) -> u32
+    requires { IsLawfulCertificate (certificate_of certificate.now) }
+    ensures lines { result ≡ certificate_lines (certificate_of certificate.now) }
+    ensures few { result ≤ 2 ^ 15 }
+{
+    let steps = certificate.steps.len() as u32;
+    let starts = certificate.starts.len() as u32;
+    let rows = certificate.rows.len() as u32;
+    let error_rows = certificate.error_rows.len() as u32;
+    let lines = certificate.lines.len() as u32;
+    4 + steps + starts + rows + error_rows + lines
+}
+
+/// The certificate that the text spells, or the first fault.
+#[tactic(auto, unfolding(crate::specs::CertificateReading::certificate_in))]
+pub fn read_certificate(alloc: Global, bytes: &[u8]) -> Result<Certificate, TextFault>
+    ensures value { Gives certificate_of result (certificate_in bytes.now) }
+    ensures lawful { IfOk result (λ c. IsLawfulCertificate (certificate_of c)) }
+{
+    let (certificate, rest) = certificate_at(alloc, 1, bytes)?;
+    text_ended(1 + certificate_lines(&certificate), rest)?;
+    Ok(certificate)
+}

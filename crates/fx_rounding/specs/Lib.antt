@@ -1,3 +1,0 @@
-pub mod Grid
-pub mod Wide
-pub mod Places
