@@ -8,11 +8,16 @@ use Rattle.fx_statements.specs.RustText.{rust_text}
 use Rattle.fx_statements.specs.RustMeaning.{Keeping, unchanged, wrapping, routine_step}
 use Rattle.fx_statements.specs.OfProgram.{routine_of, input_words}
 use Rattle.fx_statements.specs.Writable.{IsWritable}
-use Rattle.fx_statements.specs.Widths.{AreWithin}
+use Rattle.fx_statements.specs.Widths.{FitWidths}
 
 -- what the text of a program gives, row by row, each from the states that the one before it left
 abbrev pub text_run : Keeping → Program → List ℕ → List (List Rational) → Option (Run ℤ)
 text_run keep p ns rows = run_of (λ g z. routine_step keep (routine_of p ns) z (input_words p.codes g)) rows (start_words p.codes)
+
+-- it gives this run, in both readings: nothing panics, and no `as` and no `<<` changes a value
+pub record GivesRun (p : Program) (ns : List ℕ) (rows : List (List Rational)) (run : Run ℤ) : Type 0 where
+  pub careful : text_run unchanged p ns rows ≡ Some run
+  pub rust : text_run wrapping p ns rows ≡ Some run
 
 -- what a text does, from the states s and the inputs x: what its statements do
 pub record Does (keep : Keeping) (text : List ℕ) (s x : List ℤ) (d : Option (Step ℤ)) : Type 0 where
@@ -21,12 +26,12 @@ pub record Does (keep : Keeping) (text : List ℕ) (s x : List ℤ) (d : Option 
   pub written : text ≡ rust_text routine
   pub step : routine_step keep routine s x ≡ d
 
--- in both readings: nothing panics, and no `as` and no `<<` changes a value
+-- likewise in both readings
 pub record DoesInBoth (text : List ℕ) (s x : List ℤ) (d : Option (Step ℤ)) : Type 0 where
   pub careful : Does unchanged text s x d
   pub rust : Does wrapping text s x d
 
 -- the text does the machine's step wherever that isn't stuck and each word lies in its width
 abbrev pub DoesSteps : Program → List ℕ → List ℕ → Type 0
-DoesSteps p ns text = (g : List Rational) (z ws : List ℤ) → length z ≡ p.states → words_of p g z ≡ Some ws → AreWithin ns ws
+DoesSteps p ns text = (g : List Rational) (z ws : List ℤ) → length z ≡ p.states → words_of p g z ≡ Some ws → FitWidths ns ws
     → DoesInBoth text z (input_words p.codes g) (machine_step p g z)

@@ -13,11 +13,11 @@ pub record AreWidths (p : Program) (ns : List ℕ) : Type 0 where
   pub most : (k : ℕ) → k < length ns → at 0 ns k ≤ p.width
 
 -- each word lies in its width
-abbrev pub AreWithin : List ℕ → List ℤ → Type 0
-AreWithin ns ws = (k : ℕ) → k < length ws → IsWord (at 0 ns k) (at (pos 0) ws k)
+abbrev pub FitWidths : List ℕ → List ℤ → Type 0
+FitWidths ns ws = (k : ℕ) → k < length ws → IsWord (at 0 ns k) (at (pos 0) ws k)
 
 -- so at each row of the run from the states z
-abbrev pub AreRowsWithin : Program → List ℕ → List (List Rational) → List ℤ → Type 0
-AreRowsWithin p ns [] z = Unit {0}
-AreRowsWithin p ns (g ∷ rows) z = (ws : List ℤ) → words_of p g z ≡ Some ws →
-    AreWithin ns ws × ((d : Step ℤ) → machine_step p g z ≡ Some d → AreRowsWithin p ns rows d.next)
+abbrev pub RowsFitWidths : Program → List ℕ → List (List Rational) → List ℤ → Type 0
+RowsFitWidths p ns [] z = Unit {0}
+RowsFitWidths p ns (g ∷ rows) z = (ws : List ℤ) → words_of p g z ≡ Some ws →
+    FitWidths ns ws × ((d : Step ℤ) → machine_step p g z ≡ Some d → RowsFitWidths p ns rows d.next)
