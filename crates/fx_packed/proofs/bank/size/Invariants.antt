@@ -1,0 +1,6 @@
+use Rattle.std.proofs.Common.{◌≡◌}
+use Rattle.fx_packed.specs.Packed.{place_of}
+use Rattle.fx_packed.proofs.bank.size.Given as goal
+
+abbrev pub invariant-loop-k : goal.invariant-loop-k
+invariant-loop-k l = l.size ≡ place_of l.lengths l.k
