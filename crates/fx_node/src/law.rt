@@ -5,8 +5,9 @@ ghost use Rattle.fx_node.specs.NodePage.{UnitRunLaw, UnitsApartLaw, UnitsLaw};
 use fx_checker::Certified;
 use fx_model::in_range_law;
 use fx_sound::{bound_law, run_law};
+use fx_widths::own_width_law;
 
-/// On each unit's rows of any lines the machine isn't stuck, each printed value keeps the ends that the source demands of
+/// On each unit's rows of any lines the machine isn't stuck, each word lies in its least width, each printed value keeps the ends that the source demands of
 /// it, and for all rows that may be the true ones the exact run is there and each output is within its certified bound of it.
 pub fn units_law(certified: &Certified)
     ensures { UnitsLaw certified.now.function certified.now.program certified.now.certificate }
@@ -17,6 +18,7 @@ pub fn units_law(certified: &Certified)
     events_in_range_law();
     run_law();
     bound_law();
+    own_width_law();
 }
 
 /// The lines of a unit are a matter of its own rows, whatever stands between them.

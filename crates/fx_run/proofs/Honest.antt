@@ -12,6 +12,7 @@ use Rattle.fx_model.specs.Rows.{AreInputs, AreTrueOf, InRangeLaw, IsInRange}
 use Rattle.fx_inequalities.specs.Certificate.{Certificate}
 use Rattle.fx_inequalities.specs.Rewriting.{Rewrites}
 use Rattle.fx_sound.specs.Soundness.{AllAlike, BoundLaw, IsCertified, RunLaw, RunsAgree}
+use Rattle.fx_widths.specs.Laws.{OwnWidthsLaw}
 use Rattle.fx_rows.specs.ReadRows.{Read, RowsInRangeLaw, lines_read}
 use Rattle.fx_stream.specs.Printed.{lines_outcome, page_of}
 use Rattle.fx_checker.specs.CertifiedView.{Accepted}
@@ -21,9 +22,9 @@ use Rattle.fx_run.proofs.HonestRun.{honest_run}
 
 -- ---- the law
 -- what certification says of the rows of any lines
-pub honest : (rewrite : Rewrites) (f : Function) (p : Program) (cert : Certificate) → InRangeLaw → RowsInRangeLaw → RunLaw → BoundLaw → AreInputs f.inputs → IsCertified rewrite f p cert → RowsLaw f p cert
-honest rewrite f p cert in_range rows_in_range run_law bound_law inputs certified ls =
-    honest_run rewrite f p cert in_range run_law bound_law inputs certified (lines_read f ls).given.rows (rows_in_range f ls)
+pub honest : (rewrite : Rewrites) (f : Function) (p : Program) (cert : Certificate) → InRangeLaw → RowsInRangeLaw → RunLaw → BoundLaw → OwnWidthsLaw → AreInputs f.inputs → IsCertified rewrite f p cert → RowsLaw f p cert
+honest rewrite f p cert in_range rows_in_range run_law bound_law widths_law inputs certified ls =
+    honest_run rewrite f p cert in_range run_law bound_law widths_law inputs certified (lines_read f ls).given.rows (rows_in_range f ls)
 
 -- ---- the lines
 -- step by step the lines of a run are those of its outputs

@@ -10,6 +10,7 @@ use Rattle.fx_model.specs.Rows.{AreInputs, AreTrueOf, InRangeLaw, IsInRange}
 use Rattle.fx_inequalities.specs.Certificate.{Certificate}
 use Rattle.fx_inequalities.specs.Rewriting.{Rewrites}
 use Rattle.fx_sound.specs.Soundness.{AllAlike, BoundLaw, IsCertified, RunLaw, RunsAgree}
+use Rattle.fx_widths.specs.Laws.{OwnWidthsLaw}
 use Rattle.fx_rows.specs.ReadRows.{AreInRange}
 use Rattle.fx_run.specs.Printed.{IsHonestRun, IsWithinBounds, given_values}
 
@@ -35,15 +36,16 @@ within f p cert gs ts run law own agree = record {
 }
 
 -- what certification says of rows in range
-pub honest_run : (rewrite : Rewrites) (f : Function) (p : Program) (cert : Certificate) → InRangeLaw → RunLaw → BoundLaw → AreInputs f.inputs → IsCertified rewrite f p cert
+pub honest_run : (rewrite : Rewrites) (f : Function) (p : Program) (cert : Certificate) → InRangeLaw → RunLaw → BoundLaw → OwnWidthsLaw → AreInputs f.inputs → IsCertified rewrite f p cert
     → (rows : List (List Decimal)) → AreInRange f rows → IsHonestRun f p cert (given_values rows)
-honest_run rewrite f p cert in_range run_law bound_law inputs certified rows all =
+honest_run rewrite f p cert in_range run_law bound_law widths_law inputs certified rows all =
     let gs = given_values rows in
     let ts = true_rows f.inputs rows in_range inputs all in
     let first = run_law rewrite f p cert gs ts.0 certified ts.1 in
     record {
       run = first.run;
       own = first.not_stuck;
+      widths = widths_law rewrite f p cert gs ts.0 certified ts.1;
       ends = first.ends;
       bound = λ ts' true_ts. within f p cert gs ts' first.run bound_law first.not_stuck (run_law rewrite f p cert gs ts' certified true_ts);
     }

@@ -3,11 +3,13 @@ use Rattle.std.specs.Prelude.{ℕ, ◌≡◌, ℤ, List, [], length, map, Option
 use Rattle.fx_rational.specs.Rational.{Rational}
 use Rattle.fx_rational.specs.Decimal.{Decimal, decimal_value}
 use Rattle.fx_model.specs.Function.{Function, Run, exact_run}
-use Rattle.fx_model.specs.Machine.{Program, machine_run}
+use Rattle.fx_model.specs.Machine.{Program, machine_run, start_words}
 use Rattle.fx_model.specs.Page.{page}
 use Rattle.fx_model.specs.Rows.{AreTrueOf}
 use Rattle.fx_inequalities.specs.Certificate.{Certificate}
 use Rattle.fx_sound.specs.Soundness.{AllBounded, AllInEnds}
+use Rattle.fx_statements.specs.Widths.{RowsFitWidths}
+use Rattle.fx_widths.specs.LeastWidths.{least_widths}
 use Rattle.fx_rows.specs.Faults.{RowFlaw}
 use Rattle.fx_rows.specs.ReadRows.{Read, lines_read}
 use Rattle.fx_stream.specs.Outcome.{Outcome}
@@ -36,11 +38,12 @@ pub record IsWithinBounds (f : Function) (p : Program) (cert : Certificate) (run
   pub defined : exact_run f ts ≡ Some exact_made
   pub bounded : AllBounded p cert run.outputs exact_made.outputs
 
--- the machine isn't stuck on these rows, each printed value keeps the ends that the source demands of it, and for all rows that may be
--- the true ones the outputs keep their bounds
+-- the machine isn't stuck on these rows, each word lies in the least width that the certificate gives its code, each printed value
+-- keeps the ends that the source demands of it, and for all rows that may be the true ones the outputs keep their bounds
 pub record IsHonestRun (f : Function) (p : Program) (cert : Certificate) (gs : List (List Rational)) : Type 0 where
   pub run : Run ℤ
   pub own : machine_run p gs ≡ Some run
+  pub widths : RowsFitWidths p (least_widths p cert) gs (start_words p.codes)
   pub ends : AllInEnds f p run.outputs
   pub bound : (ts : List (List Rational)) → AreTrueOf f.inputs gs ts → IsWithinBounds f p cert run ts
 

@@ -1,0 +1,114 @@
+//! The run of what is certified over a source and a sink, each word in its own width.
+//!
+//! What is printed and when it is written is just what `run_rows` of `fx_run` prints and writes: the loop over the rows is the
+//! same, and the machine's codes are too.
+ghost use Rattle.std.specs.Prelude.{◌≡◌, ◌-◌, ◌^◌, ◌<◌, ◌≤◌, ◌+◌, ◌++◌, ◌↔◌, ℕ, List, length, map, IfOk, IfErr, OnOk, IsErrOf, IfSome, Some};
+ghost use Rattle.std.specs.Io.KnownBytes.{Consumes, IsAtEnd};
+ghost use Rattle.fx_base.specs.Causes.{Rose};
+ghost use Rattle.fx_base.specs.Moments.{HoldsEachTime};
+ghost use Rattle.fx_base.specs.Text.{lines_in};
+ghost use Rattle.fx_rational.specs.Decimal.{decimal_value};
+ghost use Rattle.fx_rational.specs.Decimal as rational;
+ghost use Rattle.fx_model.specs.Machine.{machine_step};
+ghost use Rattle.fx_model.specs.Rows.{IsInRange};
+ghost use Rattle.fx_machine.specs.Steps.{step_taken};
+ghost use Rattle.fx_rows.specs.Faults.{row_fault_of};
+ghost use Rattle.fx_stream.specs.Promise.{Grows, IsAnswered, IsDone, IsDue};
+ghost use Rattle.fx_stream.specs.Rooms.{HasLineRoom, HasRoom, line_room};
+ghost use Rattle.fx_stream.specs.declared.fault.RunFault.TheVariants.{ReadFault, WriteFault, TooLong};
+ghost use Rattle.fx_run.specs.Printed.{RowsLaw, run_outcome};
+ghost use Rattle.fx_run.specs.Steps.{lines_from, step_line};
+ghost use Rattle.fx_mixed.specs.Mixing.{IsTurned, carried, first_words, states_among};
+
+use crate::mixed::Mixed;
+use fx_base::{Sink, Source};
+use fx_checker::Certified;
+use fx_expr::Function;
+use fx_fraction::Decimal;
+use fx_rows::RowFault;
+use fx_run::{put_header, put_words, rows_law};
+use fx_stream::{Page, RowStep, run_steps};
+use std::alloc::Global;
+
+/// Why a run over the rows of an input ended before the input did.
+pub type MixedFault = fx_stream::RunFault<RowFault>;
+
+// Carries out a row, and puts its line.
+fn turn_row(mixed: &mut Mixed, row: &[Decimal], page: &mut Page)
+    requires in_range { IsInRange mixed.old.accepted.function.inputs (map decimal_value row.now) }
+    requires room { HasLineRoom page.old }
+    ensures accepted { mixed.new.accepted ≡ mixed.old.accepted }
+    ensures put { (text : List ℕ) × (page.new ≡ page.old ++ text)
+        × ((rest : List (List rational.Decimal)) → lines_from mixed.old.accepted.program (row.now ∷ rest) (states_among mixed.old.accepted.program mixed.old.words)
+        ≡ text ++ lines_from mixed.new.accepted.program rest (states_among mixed.new.accepted.program mixed.new.words)) }
+{
+    mixed.certified().certified();
+    mixed.turn(row);
+    put_words(page, mixed.certified().program(), &*mixed);
+}
+
+impl<'a> RowStep for Mixed<'a> {
+    ghost use Rattle.std.specs.Prelude.{⊤};
+    ghost use Rattle.fx_model.specs.Page.{line_of, names_from};
+    ghost use Rattle.fx_run.specs.Steps.{lines_from, nothing_from};
+    ghost use Rattle.fx_mixed.specs.Mixing.{states_among};
+
+    ghost meaning = { λ m. m.accepted.function };
+
+    ghost can_run = { λ _. ⊤ };
+
+    ghost is_settled = { λ _. ⊤ };
+
+    ghost head = { λ m. line_of (names_from 1 m.accepted.program.outputs) };
+
+    ghost printed = { λ m rows. lines_from m.accepted.program rows (states_among m.accepted.program m.words) };
+
+    fn function(&self) -> &Function {
+        self.certified().function()
+    }
+
+    fn put_head(&self, page: &mut Page) {
+        put_header(page, self.certified().program());
+    }
+
+    fn put_row(&mut self, row: &[Decimal], page: &mut Page) {
+        turn_row(self, row, page);
+    }
+
+    // Each row is printed at once.
+    fn settle(&mut self, _page: &mut Page) {}
+
+    ghost none = { λ m _. nothing_from m.accepted.program (states_among m.accepted.program m.words) };
+}
+
+/// Runs the rows of a source through what is certified, each word in its own width, and writes their page. Gives the number of rows.
+///
+/// The page, the order of reads and writes and every fault are those of `run_rows` of `fx_run`.
+pub fn run_mixed<S: Source<K>, K: Sink>(
+    alloc: Global,
+    certified: &Certified,
+    source: &mut S,
+    sink: &mut K,
+    limit: u64,
+) -> Result<u64, MixedFault>
+    requires limit { limit < 2 ^ 64 - 1 }
+    ensures done { let o = run_outcome certified.now.function certified.now.program in
+        IfOk result (λ n. IfSome (S.left source.old) (λ all. IsDone (o (lines_in all)) n (K.taken sink.old) (K.taken sink.new))) }
+    ensures end { OnOk result (IsAtEnd (S.left source.new)) }
+    ensures due { let o = run_outcome certified.now.function certified.now.program in
+        IfErr result (IsDue row_fault_of o (S.left source.old) (S.left source.new) (K.taken sink.old) (K.taken sink.new)) }
+    ensures prompt { HoldsEachTime (IsAnswered (run_outcome certified.now.function certified.now.program) (S.left source.old) (K.taken sink.old)) (S.asked source.old) (S.asked source.new) }
+    ensures taken { (taken : List ℕ) × Consumes (S.left source.old) (S.left source.new) taken × (IsErrOf result TooLong ↔ (limit < length taken)) }
+    ensures honest { RowsLaw certified.now.function certified.now.program certified.now.certificate }
+    ensures grown { Grows (K.taken sink.old) (K.taken sink.new) }
+    ensures read_fault { IsErrOf result ReadFault → Rose (S.faults source.old) (S.faults source.new) }
+    ensures write_fault { IsErrOf result WriteFault → Rose (K.faults sink.old) (K.faults sink.new) }
+    ensures later { S.faults source.old ≤ S.faults source.new }
+    ensures later_sink { K.faults sink.old ≤ K.faults sink.new }
+{
+    rows_law(certified);
+    let Ok(mixed) = Mixed::new(alloc, certified) else {
+        return Err(MixedFault::Memory);
+    };
+    run_steps(alloc, mixed, source, sink, limit)
+}
