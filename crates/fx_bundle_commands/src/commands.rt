@@ -4,10 +4,14 @@ mod check;
 mod migrate;
 mod node;
 mod run;
+mod rust;
 mod show;
+mod widths;
 
 pub use check::check_file;
 pub use migrate::migrate_file;
 pub use node::node_file;
-pub use run::run_file;
+pub use run::{Kept, run_file};
+pub use rust::rust_file;
 pub use show::show_file;
+pub use widths::widths_file;

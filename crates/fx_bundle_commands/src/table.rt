@@ -80,8 +80,8 @@ fn name_in(codes: &[Code], n: u32) -> &'static str
     }
 }
 
-// The same of a program.
-fn name_at(program: &Program, n: u32) -> &'static str
+/// The same of a program.
+pub(crate) fn name_at(program: &Program, n: u32) -> &'static str
     ensures { result.now ≡ at [] (map instruction_name program.now.codes) n }
 {
     name_in(program.codes.as_slice(), n)
@@ -109,8 +109,8 @@ fn put_code(out: &mut Vec<u8>, certified: &Certified, n: u32) -> Result<(), Allo
     Ok(())
 }
 
-// How many codes there are.
-fn codes_of(certified: &Certified) -> u32
+/// How many codes there are.
+pub(crate) fn codes_of(certified: &Certified) -> u32
     ensures { result ≡ length certified.now.program.codes }
 {
     certified.certified();

@@ -16,7 +16,6 @@ use Rattle.fx_bundle_commands.specs.Outside.{Streams}
 use Rattle.fx_ends.specs.Ends.{End, Done, WriteFault}
 use Rattle.fx_listing.specs.Listing.{numbered_lines}
 use Rattle.fx_bundle_commands.specs.Opening.{OpensThen}
-use Rattle.fx_bundle_commands.specs.Exact.{IsReady, OrNoMemory}
 
 -- m, or m/2^e, piece by piece; what a certificate writes is in lowest terms
 abbrev pub bound_pieces : Dyadic → List (List ℕ)
@@ -42,9 +41,3 @@ pub data ReportEnds (old new : Streams) (b : Parts) (fn : Function) : End → Ty
 -- all of it
 abbrev pub CheckEnds : Option Files → ℕ → ℕ → Streams → Streams → List ℕ → End → Type 0
 CheckEnds papers before after old new name = OpensThen papers before after name old new (ReportEnds old new)
-
--- ---- completeness
--- the report of an accepted bundle is printed where no write fails
-abbrev pub CheckCompletes : Option Files → ℕ → ℕ → Streams → Streams → List ℕ → (End → Type 0) → Type 0
-CheckCompletes papers before after old new name IsEnd =
-    (b : Parts) (fn : Function) → IsReady papers before after name b fn → ¬ Rose old.write_faults new.write_faults → OrNoMemory IsEnd Done

@@ -1,8 +1,5 @@
 -- What `migrate FILE` does: it writes an accepted bundle as one of the second version.
 use Rattle.std.specs.Prelude.{◌≡◌, ℕ, List, Option}
-use Rattle.std.specs.Io.KnownBytes.{Appends}
-use Rattle.fx_base.specs.Calls.{AppendsFront}
-use Rattle.fx_base.specs.Causes.{Rose}
 use Rattle.fx_base.specs.Shelf.{Files}
 use Rattle.fx_rational.specs.Rational.{Rational}
 use Rattle.fx_model.specs.Function.{Function}
@@ -10,10 +7,10 @@ use Rattle.fx_model.specs.Machine.{machine_run}
 use Rattle.fx_model.specs.Versions.{second_version}
 use Rattle.fx_inequalities.specs.Accepted.{certified_bound}
 use Rattle.fx_cert.specs.BundleView.{Parts, IsLawfulBundle, text_of}
-use Rattle.fx_ends.specs.Ends.{End, Done, WriteFault, NoMemory}
+use Rattle.fx_ends.specs.Ends.{End}
 use Rattle.fx_bundle_commands.specs.Outside.{Streams}
 use Rattle.fx_bundle_commands.specs.Opening.{IsAcceptedAs, OpensThen}
-use Rattle.fx_bundle_commands.specs.Exact.{IsReady, OrNoMemory}
+use Rattle.fx_bundle_commands.specs.commands.Texts.{PrintsText}
 
 -- the bundle with the second version of its program, and all else as it is
 abbrev pub migrated : Parts → Parts
@@ -29,17 +26,9 @@ pub record IsMigrated (b : Parts) (fn : Function) : Type 0 where
   pub itself : b.program.version ≡ 2 → migrated b ≡ b
 
 -- how the writing ends
-pub data MigrateEnds (old new : Streams) (b : Parts) (fn : Function) : End → Type 0 where
-  written : IsMigrated b fn → Appends old.taken new.taken (text_of (migrated b)) → MigrateEnds old new b fn Done
-  unwritten : Rose old.write_faults new.write_faults → AppendsFront old.taken new.taken (text_of (migrated b)) → MigrateEnds old new b fn WriteFault
-  no_memory : new.taken ≡ old.taken → MigrateEnds old new b fn NoMemory
+abbrev pub WritesMigrated : Streams → Streams → Parts → Function → End → Type 0
+WritesMigrated old new b fn = PrintsText (IsMigrated b fn) (text_of (migrated b)) old new
 
 -- all of it
 abbrev pub MigratedEnds : Option Files → ℕ → ℕ → Streams → Streams → List ℕ → End → Type 0
-MigratedEnds papers before after old new name = OpensThen papers before after name old new (MigrateEnds old new)
-
--- ---- completeness
--- the text of an accepted bundle is written where no write fails
-abbrev pub MigrateCompletes : Option Files → ℕ → ℕ → Streams → Streams → List ℕ → (End → Type 0) → Type 0
-MigrateCompletes papers before after old new name IsEnd =
-    (b : Parts) (fn : Function) → IsReady papers before after name b fn → ¬ Rose old.write_faults new.write_faults → OrNoMemory IsEnd Done
+MigratedEnds papers before after old new name = OpensThen papers before after name old new (WritesMigrated old new)

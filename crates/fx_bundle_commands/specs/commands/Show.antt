@@ -1,10 +1,7 @@
 -- What `show FILE` does: it prints the codes of an accepted bundle with what its certificate says of them, and its bounds.
-use Rattle.std.specs.Prelude.{◌≡◌, ℕ, ℤ, pos, List, Option, [], ◌∷◌, ◌++◌, length, map}
+use Rattle.std.specs.Prelude.{ℕ, ℤ, pos, List, Option, [], ◌∷◌, ◌++◌, length, map}
 use Rattle.std.specs.Fmt.{decimal, signed_decimal}
 use Rattle.std.specs.List.{concat}
-use Rattle.std.specs.Io.KnownBytes.{Appends}
-use Rattle.fx_base.specs.Calls.{AppendsFront}
-use Rattle.fx_base.specs.Causes.{Rose}
 use Rattle.fx_base.specs.Shelf.{Files}
 use Rattle.fx_rational.specs.Dyadic.{Dyadic}
 use Rattle.fx_model.specs.Function.{Function}
@@ -15,11 +12,11 @@ use Rattle.fx_model.specs.Tree.{at}
 use Rattle.fx_inequalities.specs.Certificate.{Certificate, NodeLine, no_line}
 use Rattle.fx_cert.specs.BundleView.{Parts}
 use Rattle.fx_bundle_commands.specs.Outside.{Streams}
-use Rattle.fx_ends.specs.Ends.{End, Done, WriteFault, NoMemory}
+use Rattle.fx_ends.specs.Ends.{End}
 use Rattle.fx_listing.specs.Listing.{numbered_lines}
 use Rattle.fx_bundle_commands.specs.Opening.{OpensThen}
-use Rattle.fx_bundle_commands.specs.Exact.{IsReady, OrNoMemory}
 use Rattle.fx_bundle_commands.specs.commands.Check.{bound_pieces, bound_lines}
+use Rattle.fx_bundle_commands.specs.commands.Texts.{TextEnds}
 
 -- the name of its instruction
 abbrev pub instruction_name : Code → List ℕ
@@ -43,17 +40,9 @@ abbrev pub table : Program → Certificate → List ℕ
 table p c = numbered_lines (shown_line p c) 0 (length p.codes) ++ bound_lines p c 0 p.outputs
 
 -- how the printing ends
-pub data ShowEnds (old new : Streams) (b : Parts) (fn : Function) : End → Type 0 where
-  shown : Appends old.taken new.taken (table b.program b.certificate) → ShowEnds old new b fn Done
-  unwritten : Rose old.write_faults new.write_faults → AppendsFront old.taken new.taken (table b.program b.certificate) → ShowEnds old new b fn WriteFault
-  no_memory : new.taken ≡ old.taken → ShowEnds old new b fn NoMemory
+abbrev pub PrintsTable : Streams → Streams → Parts → Function → End → Type 0
+PrintsTable old new b fn = TextEnds (table b.program b.certificate) old new
 
 -- all of it
 abbrev pub ShownEnds : Option Files → ℕ → ℕ → Streams → Streams → List ℕ → End → Type 0
-ShownEnds papers before after old new name = OpensThen papers before after name old new (ShowEnds old new)
-
--- ---- completeness
--- the table of an accepted bundle is printed where no write fails
-abbrev pub ShowCompletes : Option Files → ℕ → ℕ → Streams → Streams → List ℕ → (End → Type 0) → Type 0
-ShowCompletes papers before after old new name IsEnd =
-    (b : Parts) (fn : Function) → IsReady papers before after name b fn → ¬ Rose old.write_faults new.write_faults → OrNoMemory IsEnd Done
+ShownEnds papers before after old new name = OpensThen papers before after name old new (PrintsTable old new)

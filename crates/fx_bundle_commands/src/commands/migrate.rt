@@ -9,10 +9,11 @@ ghost use Rattle.fx_cert.specs.BundleView.{IsLawfulBundle, text_of};
 ghost use Rattle.fx_ends.specs.EndView.{end_of};
 ghost use Rattle.fx_bundle_commands.specs.Opening.{IsAcceptedAs};
 ghost use Rattle.fx_bundle_commands.specs.OpeningView.{IsSilent, with_source};
-ghost use Rattle.fx_bundle_commands.specs.commands.Migrate.{MigrateEnds, MigratedEnds, migrated};
+ghost use Rattle.fx_bundle_commands.specs.commands.Migrate.{MigratedEnds, WritesMigrated, migrated};
 
 use crate::open::{Opened, open};
-use fx_base::{Shelf, Sink, put_all};
+use crate::printing::print_text;
+use fx_base::{Shelf, Sink};
 use fx_cert::print_bundle;
 use fx_ends::End;
 use fx_num::Memory;
@@ -33,20 +34,14 @@ fn migrated_text(alloc: Global, opened: &Opened) -> Result<Vec<u8>, Memory>
 fn print_migrated<K: Sink>(alloc: Global, opened: &Opened, output: &mut K) -> End<'static>
     requires lawful { IsLawfulBundle (with_source opened.now.certified opened.now.source) }
     requires accepted { IsAcceptedAs (with_source opened.now.certified opened.now.source) opened.now.certified.function }
-    ensures ended { (left : Option (List ℕ)) (reads : ℕ) → MigrateEnds
+    ensures ended { (left : Option (List ℕ)) (reads : ℕ) → WritesMigrated
         (record { left = left; read_faults = reads; taken = K.taken output.old; write_faults = K.faults output.old })
         (record { left = left; read_faults = reads; taken = K.taken output.new; write_faults = K.faults output.new })
         (with_source opened.now.certified opened.now.source) opened.now.certified.function (end_of result) }
     ensures appended { Grows (K.taken output.old) (K.taken output.new) }
     ensures quiet { IsSilent (end_of result) → output.new ≡ output.old }
 {
-    let Ok(text) = migrated_text(alloc, opened) else {
-        return End::NoMemory;
-    };
-    match put_all(output, text.as_slice()) {
-        Ok(()) => End::Done,
-        Err(_) => End::WriteFault,
-    }
+    print_text(migrated_text(alloc, opened), output)
 }
 
 /// Writes the bundle in the file of this name as one of the second version.

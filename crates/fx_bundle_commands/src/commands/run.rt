@@ -1,10 +1,16 @@
-//! `run FILE`: the rows of the input through an accepted bundle's program.
-ghost use Rattle.std.specs.Prelude.{◌≡◌, ◌⊎◌, ℕ, List, map};
-ghost use Rattle.std.specs.Io.KnownBytes.{Consumes};
+//! `run FILE` and `mixed FILE`: the rows of the input through an accepted bundle's program.
+//!
+//! Both print the same, at the same times; `mixed` keeps each word in its own width.
+ghost use Rattle.std.specs.Prelude.{◌≡◌, ◌⊎◌, ◌-◌, ◌^◌, ◌<◌, ◌↔◌, ℕ, List, length, map, IfOk, IfErr, OnOk, IsErrOf, IfSome};
+ghost use Rattle.std.specs.Io.KnownBytes.{Consumes, IsAtEnd};
 ghost use Rattle.fx_expr.specs.Parts.{input_of};
 ghost use Rattle.fx_base.specs.Moments.{HoldsEachTime};
-ghost use Rattle.fx_stream.specs.Promise.{Grows, IsAnswered};
-ghost use Rattle.fx_run.specs.Printed.{run_outcome};
+ghost use Rattle.fx_base.specs.Causes.{Rose};
+ghost use Rattle.fx_base.specs.Text.{lines_in};
+ghost use Rattle.fx_rows.specs.Faults.{row_fault_of};
+ghost use Rattle.fx_stream.specs.Promise.{Grows, IsAnswered, IsDone, IsDue};
+ghost use Rattle.fx_stream.specs.declared.fault.RunFault.TheVariants.{ReadFault, WriteFault, TooLong};
+ghost use Rattle.fx_run.specs.Printed.{RowsLaw, run_outcome};
 ghost use Rattle.fx_ends.specs.Ends as ends;
 ghost use Rattle.fx_ends.specs.Ends.{end_line, status_of};
 ghost use Rattle.fx_ends.specs.EndView.{end_of};
@@ -19,6 +25,7 @@ use fx_base::{Shelf, Sink, Source, Status};
 use fx_checker::Certified;
 use fx_ends::End;
 use fx_expr::Input;
+use fx_mixed::run_mixed;
 use fx_run::{RunFault, run_rows};
 use std::alloc::Global;
 
@@ -32,10 +39,48 @@ pub(crate) fn inputs_of(certified: &Certified) -> &[Input]
     certified.function().inputs.as_slice()
 }
 
+/// How the words of a run are kept.
+#[derive(Clone, Copy, Debug, PartialEq, Eq)]
+pub enum Kept {
+    /// All in cells of one size: `run`.
+    Alike,
+    /// Each in its own width: `mixed`.
+    Apart,
+}
+
+// Runs the rows of a source. How the words are kept shows in nothing but in how fast it is.
+fn run_kept<S: Source<K>, K: Sink>(
+    alloc: Global,
+    certified: &Certified,
+    kept: Kept,
+    source: &mut S,
+    sink: &mut K,
+    limit: u64,
+) -> Result<u64, RunFault>
+    requires limit { limit < 2 ^ 64 - 1 }
+    ensures done { let o = run_outcome certified.now.function certified.now.program in
+        IfOk result (λ n. IfSome (S.left source.old) (λ all. IsDone (o (lines_in all)) n (K.taken sink.old) (K.taken sink.new))) }
+    ensures end { OnOk result (IsAtEnd (S.left source.new)) }
+    ensures due { let o = run_outcome certified.now.function certified.now.program in
+        IfErr result (IsDue row_fault_of o (S.left source.old) (S.left source.new) (K.taken sink.old) (K.taken sink.new)) }
+    ensures prompt { HoldsEachTime (IsAnswered (run_outcome certified.now.function certified.now.program) (S.left source.old) (K.taken sink.old)) (S.asked source.old) (S.asked source.new) }
+    ensures taken { (taken : List ℕ) × Consumes (S.left source.old) (S.left source.new) taken × (IsErrOf result TooLong ↔ (limit < length taken)) }
+    ensures honest { RowsLaw certified.now.function certified.now.program certified.now.certificate }
+    ensures grown { Grows (K.taken sink.old) (K.taken sink.new) }
+    ensures read_fault { IsErrOf result ReadFault → Rose (S.faults source.old) (S.faults source.new) }
+    ensures write_fault { IsErrOf result WriteFault → Rose (K.faults sink.old) (K.faults sink.new) }
+{
+    match kept {
+        Kept::Alike => run_rows(alloc, certified, source, sink, limit),
+        Kept::Apart => run_mixed(alloc, certified, source, sink, limit),
+    }
+}
+
 // Runs the rows of the input.
 fn run_input<'a, S: Source<K>, K: Sink>(
     alloc: Global,
     certified: &'a Certified,
+    kept: Kept,
     input: &mut S,
     output: &mut K,
 ) -> End<'a>
@@ -48,7 +93,7 @@ fn run_input<'a, S: Source<K>, K: Sink>(
     ensures consumed { (taken : List ℕ) × Consumes (S.left input.old) (S.left input.new) taken }
     ensures appended { Grows (K.taken output.old) (K.taken output.new) }
 {
-    match run_rows(alloc, certified, input, output, ROWS_LIMIT) {
+    match run_kept(alloc, certified, kept, input, output, ROWS_LIMIT) {
         Ok(_) => End::Done,
         Err(RunFault::Row { line, fault }) => End::BadRow {
             inputs: inputs_of(certified),
@@ -66,6 +111,7 @@ fn run_input<'a, S: Source<K>, K: Sink>(
 pub fn run_file<H: Shelf, S: Source<K>, K: Sink, N: Sink>(
     alloc: Global,
     shelf: &mut H,
+    kept: Kept,
     name: &str,
     input: &mut S,
     output: &mut K,
@@ -85,7 +131,7 @@ pub fn run_file<H: Shelf, S: Source<K>, K: Sink, N: Sink>(
     match open(alloc, shelf, name) {
         Err(end) => end.finish(notes),
         Ok(opened) => {
-            let end = run_input(alloc, &opened.certified, input, output);
+            let end = run_input(alloc, &opened.certified, kept, input, output);
             end.finish(notes)
         }
     }

@@ -8,7 +8,7 @@ ghost use Rattle.fx_ends.specs.EndView.{end_of};
 ghost use Rattle.fx_listing.specs.Listing.{numbered_lines};
 ghost use Rattle.fx_bundle_commands.specs.OpeningView.{IsSilent, with_source};
 ghost use Rattle.fx_bundle_commands.specs.commands.Check.{bound_lines};
-ghost use Rattle.fx_bundle_commands.specs.commands.Show.{ShowEnds, ShownEnds, shown_line, table};
+ghost use Rattle.fx_bundle_commands.specs.commands.Show.{PrintsTable, ShownEnds, shown_line, table};
 
 use crate::open::open;
 use crate::report::put_bounds;
@@ -31,7 +31,7 @@ fn put_table<K: Sink>(text: &[u8], certified: &Certified, output: &mut K) -> Res
 
 // Prints the table of an accepted bundle.
 fn print_table<K: Sink>(alloc: Global, certified: &Certified, output: &mut K) -> End<'static>
-    ensures ended { (source : List ℕ) (left : Option (List ℕ)) (reads : ℕ) → ShowEnds
+    ensures ended { (source : List ℕ) (left : Option (List ℕ)) (reads : ℕ) → PrintsTable
         (record { left = left; read_faults = reads; taken = K.taken output.old; write_faults = K.faults output.old })
         (record { left = left; read_faults = reads; taken = K.taken output.new; write_faults = K.faults output.new })
         (with_source certified.now source) certified.now.function (end_of result) }

@@ -6,11 +6,11 @@ use Rattle.fx_packed.proofs.bank.Bank.new.Goals as goal
 pub places-requires-clause-known : goal.places-requires-clause-known
 places-requires-clause-known c = subst AreKnown (sym c.as_slice.ensures.value) c.requires.known
 
-pub size-requires-clause-known : goal.size-requires-clause-known
-size-requires-clause-known c = subst AreKnown (sym c.as_slice-2.ensures.value) c.requires.known
+pub byte_count-requires-clause-known : goal.byte_count-requires-clause-known
+byte_count-requires-clause-known c = subst AreKnown (sym c.as_slice-2.ensures.value) c.requires.known
 
 pub returns-clause-words : goal.returns-clause-words
 returns-clause-words c =
     let ns = c.args.lengths.items in
-    let same : c.in-Ok-vec.bytes.items ≡ replicate c.size.result 0 = c.in-Ok-vec.ensures.items_if_clones_equal (λ byte e. e) in
-    ap (unpacked ns) (same ∙ ap (λ (n : ℕ). replicate n 0) (c.size.ensures.size ∙ ap size_of c.as_slice-2.ensures.value)) ∙ zeros_unpacked c.packed_law.ensures ns c.requires.known
+    let same : c.in-Ok-vec.bytes.items ≡ replicate c.byte_count.result 0 = c.in-Ok-vec.ensures.items_if_clones_equal (λ byte e. e) in
+    ap (unpacked ns) (same ∙ ap (λ (n : ℕ). replicate n 0) (c.byte_count.ensures.size ∙ ap size_of c.as_slice-2.ensures.value)) ∙ zeros_unpacked c.packed_law.ensures ns c.requires.known

@@ -1,7 +1,7 @@
 use Rattle.std.proofs.Common.{◌≡◌, ℕ, ◌+◌, ◌/◌, length, get_or, ap, sym, ◌∙◌, arith}
 use Rattle.fx_packed.specs.Packed.{place_of}
 use Rattle.fx_packed.proofs.Zeros.{place_next, place_small, place_last}
-use Rattle.fx_packed.proofs.bank.size.Goals as goal
+use Rattle.fx_packed.proofs.bank.byte_count.Goals as goal
 
 pub overflow_add-size : goal.overflow_add-size
 overflow_add-size c =

@@ -1,0 +1,10 @@
+use Rattle.std.proofs.Common.{◌≡◌, ◌-◌, ◌++◌, length}
+use Rattle.fx_listing.specs.Listing.{numbered_lines}
+use Rattle.fx_bundle_commands.specs.commands.Widths.{width_line}
+use Rattle.fx_bundle_commands.proofs.widths.put_codes.Given as goal
+
+-- what was appended, and the lines that are left, are all of them
+abbrev pub invariant-loop-n : goal.invariant-loop-n
+invariant-loop-n l =
+    let a = l.certified in let line = width_line a.program a.certificate in let m = length a.program.codes in
+    l.out.items ++ numbered_lines line l.n (m - l.n) ≡ l.fn.out.items ++ numbered_lines line 0 m

@@ -1,0 +1,36 @@
+//! `rust FILE`: the program of an accepted bundle as Rust text.
+ghost use Rattle.std.specs.Prelude.{◌≡◌, ℕ, List, Option};
+ghost use Rattle.fx_stream.specs.Promise.{Grows};
+ghost use Rattle.fx_ends.specs.EndView.{end_of};
+ghost use Rattle.fx_bundle_commands.specs.OpeningView.{IsSilent};
+ghost use Rattle.fx_bundle_commands.specs.commands.Rust.{RustEnds};
+
+use crate::open::open;
+use crate::printing::print_text;
+use fx_base::{Shelf, Sink};
+use fx_ends::End;
+use fx_mixed::{certified_text, text_law};
+use std::alloc::Global;
+
+/// Prints the program of the bundle in the file of this name as Rust text, at its least widths.
+pub fn rust_file<H: Shelf, K: Sink>(
+    alloc: Global,
+    shelf: &mut H,
+    name: &str,
+    output: &mut K,
+) -> End<'static>
+    ensures ended { (left : Option (List ℕ)) (reads : ℕ) → RustEnds (H.papers shelf.old) (H.faults shelf.old) (H.faults shelf.new)
+        (record { left = left; read_faults = reads; taken = K.taken output.old; write_faults = K.faults output.old })
+        (record { left = left; read_faults = reads; taken = K.taken output.new; write_faults = K.faults output.new })
+        name.now (end_of result) }
+    ensures appended { Grows (K.taken output.old) (K.taken output.new) }
+    ensures quiet { IsSilent (end_of result) → output.new ≡ output.old }
+{
+    match open(alloc, shelf, name) {
+        Err(end) => end,
+        Ok(opened) => {
+            text_law(&opened.certified);
+            print_text(certified_text(alloc, &opened.certified), output)
+        }
+    }
+}
