@@ -1,6 +1,6 @@
 use Rattle.fx_program.specs.CodeView.{round_of}
 use Rattle.fx_statements.specs.Statements.{Widened}
-use Rattle.fx_rust.proofs.Longer.{between}
+use Rattle.fx_rust.proofs.Appended.{between}
 use Rattle.fx_rust.proofs.value.put_lowered.Goals as goal
 
 pub returns : goal.returns

@@ -1,6 +1,6 @@
 use Rattle.fx_program.specs.CodeView.{round_of}
 use Rattle.fx_statements.specs.OfProgram.{product}
-use Rattle.fx_rust.proofs.Longer.{between}
+use Rattle.fx_rust.proofs.Appended.{between}
 use Rattle.fx_rust.proofs.value.put_rounded_product.Goals as goal
 
 pub returns : goal.returns
