@@ -1,4 +1,6 @@
 //! What a name stands for.
+//!
+//! Each expression of type i128 is written by one function, and in parentheses of its own.
 
 ghost use Rattle.std.specs.Prelude.{◌≡◌, ◌++◌, ◌∷◌, [], codes, decimal, OnOk};
 ghost use Rattle.fx_model.specs.Machine as machine;
