@@ -26,12 +26,12 @@ pub record Does (keep : Keeping) (text : List ℕ) (s x : List ℤ) (d : Option 
   pub written : text ≡ rust_text routine
   pub step : routine_step keep routine s x ≡ d
 
--- likewise in both readings
-pub record DoesInBoth (text : List ℕ) (s x : List ℤ) (d : Option (Step ℤ)) : Type 0 where
-  pub careful : Does unchanged text s x d
-  pub rust : Does wrapping text s x d
+-- in this reading the text does the machine's step wherever that isn't stuck and each word lies in its width
+abbrev pub DoesStepsIn : Keeping → Program → List ℕ → List ℕ → Type 0
+DoesStepsIn keep p ns text = (g : List Rational) (z ws : List ℤ) → length z ≡ p.states → words_of p g z ≡ Some ws → FitWidths ns ws
+    → Does keep text z (input_words p.codes g) (machine_step p g z)
 
--- the text does the machine's step wherever that isn't stuck and each word lies in its width
-abbrev pub DoesSteps : Program → List ℕ → List ℕ → Type 0
-DoesSteps p ns text = (g : List Rational) (z ws : List ℤ) → length z ≡ p.states → words_of p g z ≡ Some ws → FitWidths ns ws
-    → DoesInBoth text z (input_words p.codes g) (machine_step p g z)
+-- so in both: nothing panics, and no `as` and no `<<` changes a value
+pub record DoesSteps (p : Program) (ns text : List ℕ) : Type 0 where
+  pub careful : DoesStepsIn unchanged p ns text
+  pub rust : DoesStepsIn wrapping p ns text
