@@ -1,24 +1,25 @@
 -- The first word is a command's name, and what `clap` does behind it.
 use Rattle.std.proofs.Common.{zero, suc, ◌≢◌, ◌≡◌, ℕ, Bool, true, false, ◌||◌, List, [], ◌∷◌, ◌++◌, length, drop, Option, Some, None, option_map, codes, refl, ap, ap₂, ◌∙◌, sym, subst, inl, inr}
-use Rattle.std.specs.Prelude.{if◌then◌else◌, slice_get, is_some, ◌⊎◌}
+use Rattle.std.specs.Prelude.{if◌then◌else◌, find, fold, slice_get, is_some, ◌⊎◌}
 use Rattle.std.specs.Option.{option_map_or}
 use Rattle.std.specs.Str.{bytes_eq, chars}
 use Rattle.std.proofs.lemmas.Slice.Eq.{bytes_eq-Decides}
 use Rattle.clap.proofs.WalkLemmas.{walk_stopped}
 use Rattle.clap.specs.Lexer.{long_of}
-use Rattle.clap.specs.Walk.{walk_from, subcommand_met, word_met, subcommand_or_other, long_or_other, short_or_plain, trailing, settled, finished, Walk, Names, idle, walked, nothing_held, rows_after}
+use Rattle.clap.specs.Walk.{walk_from, subcommand_met, word_met, subcommand_or_other, long_or_other, short_or_plain, trailing, settled, finished, Walk, Names, answers_to, idle, walked, nothing_held, rows_after}
 use Rattle.clap.specs.Simple.{Shape, built, entered, names_of, subcommand_of}
 use Rattle.clap.specs.Kinds.{Kinds, or_else}
 use Rattle.clap.specs.Faults.{fault_of, walk_fault, turn_fault, step_fault, word_fault, other_fault, flag_word_fault, flags_fault, bundle_fault, bundle_step_fault, settle_fault, check_fault, defaults_fault, entered_fault}
 use Rattle.fx_arguments.specs.App.{fixd_app}
 use Rattle.fx_arguments.specs.Command as words
-use Rattle.fx_arguments.specs.Command.{command_given, demo_given, node_options, options_of, synth_options}
+use Rattle.fx_arguments.specs.Command.{Command, command_given, demo_given, on_file, options_of}
 use Rattle.fx_arguments.specs.Grammar.{Bytes, Entry, ends_options, is_dashed, value_named}
 use Rattle.fx_arguments.proofs.Booleans.{and-true}
 use Rattle.fx_arguments.proofs.Pending.{faults_from, has_required, is_nil, nil-or_else, settled_now, walk_at}
 use Rattle.fx_arguments.proofs.OneWord.{HasFirstFlag, nil-first, no-nil, plain-met, short-met}
 use Rattle.fx_arguments.proofs.Options.{AreApart, option_names, options_rules}
 use Rattle.fx_arguments.proofs.Missing.{no-file, no-node, no-synthesis}
+use Rattle.fx_arguments.proofs.OnFile.{made-of-file, no-options}
 
 -- ---- the top
 
@@ -48,89 +49,79 @@ pub record IsCommand (name : Bytes) : Type 0 where
   pub rows : (rest : List Bytes) → subcommand_of fixd_app (name ∷ rest) ≡ Some (name, rows_after (options_rules options) [] rest)
   pub wants : (ps : List Entry) → has_required (options_rules options) ps ≡ false → command_given name (value_named ps) ≡ None
 
+-- the walk has stopped at a command of this name, after these words
+abbrev stopped_at : Bytes → List Bytes → Walk
+stopped_at name seen = record (walk_from nothing_held) { stopped = Some (name, seen) }
+
+-- a command is one where the walk stops at its name, and what is entered there is made of its options and FILE
+module _ (name : Bytes) (options : List (Bytes × Bool))
+    (starts : (rest : List Bytes) → is_nil (fault_of fixd_app (name ∷ rest))
+    ≡ by_walk (walk_fault top commands (stopped_at name []) rest) (fold (walked [] commands) (stopped_at name []) rest))
+    (enters : (rest : List Bytes) → by_walk [] (stopped_at name rest)
+    ≡ is_nil (or_else (faults_from name (options_rules options) (walk_at [] settled_now 1 false) rest) []))
+    (stops : (rest : List Bytes) → subcommand_of fixd_app (name ∷ rest) ≡ entered (built fixd_app) (fold (walked [] commands) (stopped_at name []) rest).stopped)
+    (finds : (rest : List Bytes) → entered (built fixd_app) (Some (name, rest)) ≡ Some (name, rows_after (options_rules options) [] rest)) where
+  after-name : (rest : List Bytes) → fold (walked [] commands) (stopped_at name []) rest ≡ stopped_at name rest
+  after-name rest = sym (walk_stopped [] commands (walk_from nothing_held) name [] rest)
+
+  is-one : AreApart options → options_of name ≡ Some (option_names options)
+      → ((ps : List Entry) → has_required (options_rules options) ps ≡ false → command_given name (value_named ps) ≡ None) → IsCommand name
+  is-one apart known wants = record {
+    options = options;
+    apart = apart;
+    known = known;
+    faults = λ rest. starts rest ∙ ap₂ by_walk (stopped-walk (walk_from nothing_held) name [] rest) (after-name rest) ∙ enters rest
+        ∙ nil-or_else (faults_from name (options_rules options) (walk_at [] settled_now 1 false) rest) [] ∙ and-true _;
+    rows = λ rest. stops rest ∙ ap (λ (w : Walk). entered (built fixd_app) w.stopped) (after-name rest) ∙ finds rest;
+    wants = wants;
+  }
+
+-- without FILE there is none that takes it alone
+wants-file : (name : Bytes) (made : Bytes → Command) → on_file name ≡ Some made → (ps : List Entry)
+    → has_required (options_rules []) ps ≡ false → command_given name (value_named ps) ≡ None
+wants-file name made is ps e = made-of-file name made is (value_named ps) ∙ ap (option_map made) (no-file ps e)
+
 run-is-one : IsCommand (codes "run")
 unfolding walk_fault walked defaults_fault
-run-is-one = record {
-  options = [];
-  apart = tt;
-  known = refl;
-  faults = λ rest. ap₂ by_walk (stopped-walk (walk_from nothing_held) (codes "run") [] rest) (sym (walk_stopped [] commands (walk_from nothing_held) (codes "run") [] rest))
-      ∙ nil-or_else (faults_from (codes "run") (options_rules []) (walk_at [] settled_now 1 false) rest) [] ∙ and-true _;
-  rows = λ rest. ap (λ w. entered (built fixd_app) w.stopped) (sym (walk_stopped [] commands (walk_from nothing_held) (codes "run") [] rest));
-  wants = λ ps e. ap (option_map words.Run) (no-file ps e);
-}
+run-is-one = is-one (codes "run") [] (λ rest. refl) (λ rest. refl) (λ rest. refl) (λ rest. refl) tt refl (wants-file (codes "run") words.Run refl)
 
 check-is-one : IsCommand (codes "check")
 unfolding walk_fault walked defaults_fault
-check-is-one = record {
-  options = [];
-  apart = tt;
-  known = refl;
-  faults = λ rest. ap₂ by_walk (stopped-walk (walk_from nothing_held) (codes "check") [] rest) (sym (walk_stopped [] commands (walk_from nothing_held) (codes "check") [] rest))
-      ∙ nil-or_else (faults_from (codes "check") (options_rules []) (walk_at [] settled_now 1 false) rest) [] ∙ and-true _;
-  rows = λ rest. ap (λ w. entered (built fixd_app) w.stopped) (sym (walk_stopped [] commands (walk_from nothing_held) (codes "check") [] rest));
-  wants = λ ps e. ap (option_map words.Check) (no-file ps e);
-}
+check-is-one = is-one (codes "check") [] (λ rest. refl) (λ rest. refl) (λ rest. refl) (λ rest. refl) tt refl (wants-file (codes "check") words.Check refl)
 
 show-is-one : IsCommand (codes "show")
 unfolding walk_fault walked defaults_fault
-show-is-one = record {
-  options = [];
-  apart = tt;
-  known = refl;
-  faults = λ rest. ap₂ by_walk (stopped-walk (walk_from nothing_held) (codes "show") [] rest) (sym (walk_stopped [] commands (walk_from nothing_held) (codes "show") [] rest))
-      ∙ nil-or_else (faults_from (codes "show") (options_rules []) (walk_at [] settled_now 1 false) rest) [] ∙ and-true _;
-  rows = λ rest. ap (λ w. entered (built fixd_app) w.stopped) (sym (walk_stopped [] commands (walk_from nothing_held) (codes "show") [] rest));
-  wants = λ ps e. ap (option_map words.Show) (no-file ps e);
-}
+show-is-one = is-one (codes "show") [] (λ rest. refl) (λ rest. refl) (λ rest. refl) (λ rest. refl) tt refl (wants-file (codes "show") words.Show refl)
 
 migrate-is-one : IsCommand (codes "migrate")
 unfolding walk_fault walked defaults_fault
-migrate-is-one = record {
-  options = [];
-  apart = tt;
-  known = refl;
-  faults = λ rest. ap₂ by_walk (stopped-walk (walk_from nothing_held) (codes "migrate") [] rest) (sym (walk_stopped [] commands (walk_from nothing_held) (codes "migrate") [] rest))
-      ∙ nil-or_else (faults_from (codes "migrate") (options_rules []) (walk_at [] settled_now 1 false) rest) [] ∙ and-true _;
-  rows = λ rest. ap (λ w. entered (built fixd_app) w.stopped) (sym (walk_stopped [] commands (walk_from nothing_held) (codes "migrate") [] rest));
-  wants = λ ps e. ap (option_map words.Migrate) (no-file ps e);
-}
+migrate-is-one = is-one (codes "migrate") [] (λ rest. refl) (λ rest. refl) (λ rest. refl) (λ rest. refl) tt refl (wants-file (codes "migrate") words.Migrate refl)
+
+mixed-is-one : IsCommand (codes "mixed")
+unfolding walk_fault walked defaults_fault
+mixed-is-one = is-one (codes "mixed") [] (λ rest. refl) (λ rest. refl) (λ rest. refl) (λ rest. refl) tt refl (wants-file (codes "mixed") words.Mixed refl)
+
+widths-is-one : IsCommand (codes "widths")
+unfolding walk_fault walked defaults_fault
+widths-is-one = is-one (codes "widths") [] (λ rest. refl) (λ rest. refl) (λ rest. refl) (λ rest. refl) tt refl (wants-file (codes "widths") words.Widths refl)
+
+rust-is-one : IsCommand (codes "rust")
+unfolding walk_fault walked defaults_fault
+rust-is-one = is-one (codes "rust") [] (λ rest. refl) (λ rest. refl) (λ rest. refl) (λ rest. refl) tt refl (wants-file (codes "rust") words.Rust refl)
 
 node-is-one : IsCommand (codes "node")
 unfolding walk_fault walked defaults_fault
-node-is-one = record {
-  options = (codes "units", true) ∷ [];
-  apart = (refl, tt);
-  known = refl;
-  faults = λ rest. ap₂ by_walk (stopped-walk (walk_from nothing_held) (codes "node") [] rest) (sym (walk_stopped [] commands (walk_from nothing_held) (codes "node") [] rest))
-      ∙ nil-or_else (faults_from (codes "node") (options_rules ((codes "units", true) ∷ [])) (walk_at [] settled_now 1 false) rest) [] ∙ and-true _;
-  rows = λ rest. ap (λ w. entered (built fixd_app) w.stopped) (sym (walk_stopped [] commands (walk_from nothing_held) (codes "node") [] rest));
-  wants = no-node;
-}
+node-is-one = is-one (codes "node") ((codes "units", true) ∷ []) (λ rest. refl) (λ rest. refl) (λ rest. refl) (λ rest. refl) (refl, tt) refl no-node
 
 synth-is-one : IsCommand (codes "synth")
 unfolding walk_fault walked defaults_fault
-synth-is-one = record {
-  options = (codes "width", true) ∷ (codes "function", false) ∷ (codes "seed", false) ∷ (codes "tries", false) ∷ (codes "round", false) ∷ [];
-  apart = (refl, (refl, (refl, (refl, (refl, tt)))));
-  known = refl;
-  faults = λ rest. ap₂ by_walk (stopped-walk (walk_from nothing_held) (codes "synth") [] rest) (sym (walk_stopped [] commands (walk_from nothing_held) (codes "synth") [] rest))
-      ∙ nil-or_else (faults_from (codes "synth") (options_rules ((codes "width", true) ∷ (codes "function", false) ∷ (codes "seed", false) ∷ (codes "tries", false) ∷ (codes "round", false) ∷ [])) (walk_at [] settled_now 1 false) rest) [] ∙ and-true _;
-  rows = λ rest. ap (λ w. entered (built fixd_app) w.stopped) (sym (walk_stopped [] commands (walk_from nothing_held) (codes "synth") [] rest));
-  wants = no-synthesis;
-}
+synth-is-one =
+    is-one (codes "synth") ((codes "width", true) ∷ (codes "function", false) ∷ (codes "seed", false) ∷ (codes "tries", false) ∷ (codes "round", false) ∷ [])
+    (λ rest. refl) (λ rest. refl) (λ rest. refl) (λ rest. refl) (refl, (refl, (refl, (refl, (refl, tt))))) refl no-synthesis
 
 demo-is-one : IsCommand (codes "demo")
 unfolding walk_fault walked defaults_fault
-demo-is-one = record {
-  options = [];
-  apart = tt;
-  known = refl;
-  faults = λ rest. ap₂ by_walk (stopped-walk (walk_from nothing_held) (codes "demo") [] rest) (sym (walk_stopped [] commands (walk_from nothing_held) (codes "demo") [] rest))
-      ∙ nil-or_else (faults_from (codes "demo") (options_rules []) (walk_at [] settled_now 1 false) rest) [] ∙ and-true _;
-  rows = λ rest. ap (λ w. entered (built fixd_app) w.stopped) (sym (walk_stopped [] commands (walk_from nothing_held) (codes "demo") [] rest));
-  wants = λ ps e. ap demo_given (no-file ps e);
-}
+demo-is-one = is-one (codes "demo") [] (λ rest. refl) (λ rest. refl) (λ rest. refl) (λ rest. refl) tt refl (λ ps e. ap demo_given (no-file ps e))
 
 -- ---- a first word that is none
 
@@ -186,49 +177,54 @@ other-way xs ys e = by_other (bytes_eq ys xs) refl where
   by_other true f = sym ((bytes_eq-Decides xs ys).1 (sym ((bytes_eq-Decides ys xs).0 f))) ∙ e
   by_other false f = refl
 
-not-met : (r c v m u s d : Bool) → r ≡ false → c ≡ false → v ≡ false → m ≡ false → u ≡ false → s ≡ false → d ≡ false
-    → option_map (λ (p : Bytes × List Bytes). p.0)
-    (if r || false then Some (codes "run", []) else if c || false then Some (codes "check", []) else if v || false then Some (codes "show", []) else if m || false then Some (codes "migrate", [])
-    else if u || false then Some (codes "node", []) else if s || false then Some (codes "synth", []) else if d || false then Some (codes "demo", []) else None)
-    ≡ None
-not-met true c v m u s d e f h j k g i = absurd (cc)
-not-met false true v m u s d e f h j k g i = absurd (cc)
-not-met false false true m u s d e f h j k g i = absurd (cc)
-not-met false false false true u s d e f h j k g i = absurd (cc)
-not-met false false false false true s d e f h j k g i = absurd (cc)
-not-met false false false false false true d e f h j k g i = absurd (cc)
-not-met false false false false false false true e f h j k g i = absurd (cc)
-not-met false false false false false false false e f h j k g i = refl
+-- one that isn't there is not the first, nor among the others
+not-first : (A : Type 0) (b : Bool) (x : A) (others : Option A) → b ≡ false → others ≡ None → (if b then Some x else others) ≡ None
+not-first A true x others e none = absurd (cc)
+not-first A false x others e none = none
 
-not-known : (r c v m u s d : Bool) → r ≡ false → c ≡ false → v ≡ false → m ≡ false → u ≡ false → s ≡ false → d ≡ false
-    → (if r then Some [] else if c then Some [] else if v then Some [] else if m then Some [] else if u then Some node_options else if s then Some synth_options else if d then Some [] else None) ≡ None
-not-known true c v m u s d e f h j k g i = absurd (cc)
-not-known false true v m u s d e f h j k g i = absurd (cc)
-not-known false false true m u s d e f h j k g i = absurd (cc)
-not-known false false false true u s d e f h j k g i = absurd (cc)
-not-known false false false false true s d e f h j k g i = absurd (cc)
-not-known false false false false false true d e f h j k g i = absurd (cc)
-not-known false false false false false false true e f h j k g i = absurd (cc)
-not-known false false false false false false false e f h j k g i = refl
+-- the word isn't this name, as the grammar tests it and as `clap` does
+abbrev IsOther : Bytes → Bytes → Type 0
+IsOther word name = (bytes_eq word name ≡ false) × ((bytes_eq name word || false) ≡ false)
 
 -- a word is this command's name, or what it is shown to be otherwise
-or-another : (word name : Bytes) → IsCommand name → (bytes_eq word name ≡ false → IsCommand word ⊎ IsNone word) → IsCommand word ⊎ IsNone word
+or-another : (word name : Bytes) → IsCommand name → (IsOther word name → IsCommand word ⊎ IsNone word) → IsCommand word ⊎ IsNone word
 or-another word name is otherwise = by_name (bytes_eq word name) refl where
   by_name : (b : Bool) → bytes_eq word name ≡ b → IsCommand word ⊎ IsNone word
   by_name true e = inl (subst IsCommand (sym ((bytes_eq-Decides word name).0 e)) is)
-  by_name false e = otherwise e
+  by_name false e = otherwise (e, ap (λ b. b || false) (other-way word name e))
 
 pub which-command : (word : Bytes) → IsCommand word ⊎ IsNone word
 which-command word =
-    or-another word (codes "run") run-is-one (λ e.
-    or-another word (codes "check") check-is-one (λ f.
-    or-another word (codes "show") show-is-one (λ h.
-    or-another word (codes "migrate") migrate-is-one (λ j.
-    or-another word (codes "node") node-is-one (λ k.
-    or-another word (codes "synth") synth-is-one (λ g.
-    or-another word (codes "demo") demo-is-one (λ i.
+    or-another word (codes "run") run-is-one (λ no_run.
+    or-another word (codes "check") check-is-one (λ no_check.
+    or-another word (codes "show") show-is-one (λ no_show.
+    or-another word (codes "migrate") migrate-is-one (λ no_migrate.
+    or-another word (codes "mixed") mixed-is-one (λ no_mixed.
+    or-another word (codes "widths") widths-is-one (λ no_widths.
+    or-another word (codes "rust") rust-is-one (λ no_rust.
+    or-another word (codes "node") node-is-one (λ no_node.
+    or-another word (codes "synth") synth-is-one (λ no_synth.
+    or-another word (codes "demo") demo-is-one (λ no_demo.
+    let unmet : find (answers_to word) commands ≡ None =
+    not-first _ _ _ _ no_run.1 (
+    not-first _ _ _ _ no_check.1 (
+    not-first _ _ _ _ no_show.1 (
+    not-first _ _ _ _ no_migrate.1 (
+    not-first _ _ _ _ no_mixed.1 (
+    not-first _ _ _ _ no_widths.1 (
+    not-first _ _ _ _ no_rust.1 (
+    not-first _ _ _ _ no_node.1 (
+    not-first _ _ _ _ no_synth.1 (
+    not-first _ _ _ _ no_demo.1 refl))))))))) in
+    let not_on_file : on_file word ≡ None =
+    not-first _ _ _ _ no_run.0 (
+    not-first _ _ _ _ no_check.0 (
+    not-first _ _ _ _ no_show.0 (
+    not-first _ _ _ _ no_migrate.0 (
+    not-first _ _ _ _ no_mixed.0 (
+    not-first _ _ _ _ no_widths.0 (
+    not-first _ _ _ _ no_rust.0 refl)))))) in
     inr (record {
-      met = not-met _ _ _ _ _ _ _ (other-way word (codes "run") e) (other-way word (codes "check") f) (other-way word (codes "show") h) (other-way word (codes "migrate") j)
-          (other-way word (codes "node") k) (other-way word (codes "synth") g) (other-way word (codes "demo") i);
-      unknown = not-known _ _ _ _ _ _ _ e f h j k g i;
-    }))))))))
+      met = ap (option_map (λ (p : Bytes × List Bytes). p.0)) unmet;
+      unknown = no-options word no_node.0 no_synth.0 no_demo.0 ∙ ap (option_map (λ made. [])) not_on_file;
+    })))))))))))

@@ -5,6 +5,7 @@ mod AllWords
 mod FoundRows
 mod Options
 mod Missing
+mod OnFile
 mod Commands
 mod FirstFlags
 mod Reading

@@ -1,9 +1,10 @@
 -- Without options the entries are files.
 use Rattle.std.proofs.Common.{◌≡◌, ◌∙◌, Bool, true, false, List, [], ◌∷◌, map, Option, Some, None, option_map, codes, refl, ap}
-use Rattle.std.specs.Prelude.{if◌then◌else◌, option_and_then}
-use Rattle.fx_arguments.specs.Command.{Command, Run, Check, Show, Migrate, command_of}
+use Rattle.std.specs.Prelude.{IfSome, if◌then◌else◌, option_and_then}
+use Rattle.fx_arguments.specs.Command.{Command, command_of, lawful_command, on_file}
 use Rattle.fx_arguments.specs.Grammar.{Bytes, Entry, after_option, ends_options, entries_in, file_entry, is_dashed, once, option_parts, stand_once, value_named, with_entry}
 use Rattle.fx_arguments.specs.Plain.{files_among, one_file}
+use Rattle.fx_arguments.proofs.OnFile.{made-of-file, takes-no-options}
 
 no-option : (p : Option (Bytes × Option Bytes)) (next : Option Bytes → Option (List Entry)) → after_option [] p next ≡ None
 no-option None next = refl
@@ -39,14 +40,18 @@ taken : (made : Bytes → Command) (words : List Bytes)
 taken made words =
     ap (λ r. option_and_then (λ entries. option_map made (value_named entries (codes "file"))) (once r)) (entries-are-files words) ∙ file-given made (files_among words)
 
-pub run-takes-one-file : (words : List Bytes) → command_of (codes "run" ∷ words) ≡ option_map Run (one_file (files_among words))
-run-takes-one-file words = taken Run words
+-- a command of this name
+takes-one-file : (name : Bytes) (made : Bytes → Command) → on_file name ≡ Some made → (words : List Bytes)
+    → command_of (name ∷ words) ≡ option_map made (one_file (files_among words))
+takes-one-file name made is words =
+    ap (λ o. option_and_then (λ options. option_and_then (λ entries. lawful_command name options (value_named entries)) (once (entries_in options words None))) o) (takes-no-options name made is)
+    ∙ ap (λ (f : List Entry → Option Command). option_and_then f (once (entries_in [] words None))) (λ i entries. made-of-file name made is (value_named entries) i)
+    ∙ taken made words
 
-pub check-takes-one-file : (words : List Bytes) → command_of (codes "check" ∷ words) ≡ option_map Check (one_file (files_among words))
-check-takes-one-file words = taken Check words
-
-pub show-takes-one-file : (words : List Bytes) → command_of (codes "show" ∷ words) ≡ option_map Show (one_file (files_among words))
-show-takes-one-file words = taken Show words
-
-pub migrate-takes-one-file : (words : List Bytes) → command_of (codes "migrate" ∷ words) ≡ option_map Migrate (one_file (files_among words))
-migrate-takes-one-file words = taken Migrate words
+-- so of each name that is one's
+pub each-takes-one-file : (name : Bytes) (words : List Bytes)
+    → IfSome (on_file name) (λ made. command_of (name ∷ words) ≡ option_map made (one_file (files_among words)))
+each-takes-one-file name words = by_name (on_file name) refl where
+  by_name : (o : Option (Bytes → Command)) → on_file name ≡ o → IfSome o (λ made. command_of (name ∷ words) ≡ option_map made (one_file (files_among words)))
+  by_name None is = tt
+  by_name (Some made) is = takes-one-file name made is words

@@ -44,8 +44,9 @@ top_app = record (new_app (codes "fixd")) {
 -- those of a bundle in FILE
 abbrev pub bundles_app : App
 bundles_app =
-    with_subcommand (with_subcommand (with_subcommand (with_subcommand top_app (file_app (codes "run")).top)
-    (file_app (codes "check")).top) (file_app (codes "show")).top) (file_app (codes "migrate")).top
+    with_subcommand (with_subcommand (with_subcommand (with_subcommand (with_subcommand (with_subcommand (with_subcommand top_app (file_app (codes "run")).top)
+    (file_app (codes "check")).top) (file_app (codes "show")).top) (file_app (codes "migrate")).top)
+    (file_app (codes "mixed")).top) (file_app (codes "widths")).top) (file_app (codes "rust")).top
 
 -- and `node`
 abbrev pub rows_app : App

@@ -22,6 +22,9 @@ pub data Command : Type 0 where
   Check : (file : Bytes) → Command
   Show : (file : Bytes) → Command
   Migrate : (file : Bytes) → Command
+  Mixed : (file : Bytes) → Command
+  Widths : (file : Bytes) → Command
+  Rust : (file : Bytes) → Command
   Node : (units : ℕ) (file : Bytes) → Command
   Synth : Synthesis → Command
   Demo : (n : ℕ) → Command
@@ -65,29 +68,33 @@ node_given given = node_of (units_given (given (codes "units"))) (given (codes "
 abbrev pub demo_given : Option Bytes → Option Command
 demo_given text = option_map Demo (option_and_then demo_number text)
 
+-- the command of this name that takes FILE alone
+abbrev pub on_file : Bytes → Option (Bytes → Command)
+on_file word =
+    if bytes_eq word (codes "run") then Some Run
+    else if bytes_eq word (codes "check") then Some Check
+    else if bytes_eq word (codes "show") then Some Show
+    else if bytes_eq word (codes "migrate") then Some Migrate
+    else if bytes_eq word (codes "mixed") then Some Mixed
+    else if bytes_eq word (codes "widths") then Some Widths
+    else if bytes_eq word (codes "rust") then Some Rust
+    else None
+
 -- the options of the command of this name
 abbrev pub options_of : Bytes → Option (List Bytes)
 options_of word =
-    if bytes_eq word (codes "run") then Some []
-    else if bytes_eq word (codes "check") then Some []
-    else if bytes_eq word (codes "show") then Some []
-    else if bytes_eq word (codes "migrate") then Some []
-    else if bytes_eq word (codes "node") then Some node_options
+    if bytes_eq word (codes "node") then Some node_options
     else if bytes_eq word (codes "synth") then Some synth_options
     else if bytes_eq word (codes "demo") then Some []
-    else None
+    else option_map (λ made. []) (on_file word)
 
 -- the command of this name, from what is given under each name of an option and under `file`, where the number of `demo` stands too
 abbrev pub command_given : Bytes → (Bytes → Option Bytes) → Option Command
 command_given word given =
-    if bytes_eq word (codes "run") then option_map Run (given (codes "file"))
-    else if bytes_eq word (codes "check") then option_map Check (given (codes "file"))
-    else if bytes_eq word (codes "show") then option_map Show (given (codes "file"))
-    else if bytes_eq word (codes "migrate") then option_map Migrate (given (codes "file"))
-    else if bytes_eq word (codes "node") then node_given given
+    if bytes_eq word (codes "node") then node_given given
     else if bytes_eq word (codes "synth") then synthesis_given given
     else if bytes_eq word (codes "demo") then demo_given (given (codes "file"))
-    else None
+    else option_and_then (λ made. option_map made (given (codes "file"))) (on_file word)
 
 -- the same, where the value of each of these options is one
 abbrev pub lawful_command : Bytes → List Bytes → (Bytes → Option Bytes) → Option Command

@@ -23,6 +23,12 @@ pub enum Command<'a> {
     Show(&'a str),
     /// Writes the bundle as one of the second version.
     Migrate(&'a str),
+    /// Runs the rows of the input, each word in its own width.
+    Mixed(&'a str),
+    /// Prints the least width of each code.
+    Widths(&'a str),
+    /// Prints the program as Rust text.
+    Rust(&'a str),
     /// Runs the rows of so many units.
     Node {
         /// How many.

@@ -2,9 +2,8 @@
 ghost use Rattle.std.specs.Prelude.{◌≡◌, IfSome, option_map, codes, true};
 ghost use Rattle.std.specs.Option.{option_copied, option_map_or};
 ghost use Rattle.clap.specs.Words.{first_of, found_of, rows_of, subcommand_rows_of};
-ghost use Rattle.fx_arguments.specs.Command as words;
 ghost use Rattle.fx_wanted.specs.Asked.{IsLawfulWanted};
-ghost use Rattle.fx_arguments.specs.Command.{IsLawfulCommand, demo_given, lawful_command, node_options, synth_options, wanted_given};
+ghost use Rattle.fx_arguments.specs.Command.{IsLawfulCommand, demo_given, lawful_command, node_options, on_file, synth_options, wanted_given};
 ghost use Rattle.fx_arguments.specs.CommandView.{command_found, command_view};
 ghost use Rattle.fx_arguments.specs.Grammar.{is_value, have_values};
 
@@ -42,43 +41,20 @@ fn have_values(matches: &ArgMatches) -> bool
         && has_value(matches, "round")
 }
 
-fn run_in<'a>(matches: &ArgMatches<'a>) -> Option<Command<'a>>
-    ensures command { option_map command_view result ≡ option_map words.Run (first_of (codes "file") (rows_of (found_of matches.now))) }
+// The command of this name that takes FILE alone.
+fn on_file<'a>(name: &str, file: &'a str) -> Option<Command<'a>>
+    ensures command { option_map command_view result ≡ option_map (λ made. made file.now) (on_file name.now) }
     ensures lawful { IfSome result (λ c. IsLawfulCommand (command_view c)) }
 {
-    match text_of(matches, "file") {
-        Some(file) => Some(Command::Run(file)),
-        None => None,
-    }
-}
-
-fn check_in<'a>(matches: &ArgMatches<'a>) -> Option<Command<'a>>
-    ensures command { option_map command_view result ≡ option_map words.Check (first_of (codes "file") (rows_of (found_of matches.now))) }
-    ensures lawful { IfSome result (λ c. IsLawfulCommand (command_view c)) }
-{
-    match text_of(matches, "file") {
-        Some(file) => Some(Command::Check(file)),
-        None => None,
-    }
-}
-
-fn show_in<'a>(matches: &ArgMatches<'a>) -> Option<Command<'a>>
-    ensures command { option_map command_view result ≡ option_map words.Show (first_of (codes "file") (rows_of (found_of matches.now))) }
-    ensures lawful { IfSome result (λ c. IsLawfulCommand (command_view c)) }
-{
-    match text_of(matches, "file") {
-        Some(file) => Some(Command::Show(file)),
-        None => None,
-    }
-}
-
-fn migrate_in<'a>(matches: &ArgMatches<'a>) -> Option<Command<'a>>
-    ensures command { option_map command_view result ≡ option_map words.Migrate (first_of (codes "file") (rows_of (found_of matches.now))) }
-    ensures lawful { IfSome result (λ c. IsLawfulCommand (command_view c)) }
-{
-    match text_of(matches, "file") {
-        Some(file) => Some(Command::Migrate(file)),
-        None => None,
+    match name {
+        "run" => Some(Command::Run(file)),
+        "check" => Some(Command::Check(file)),
+        "show" => Some(Command::Show(file)),
+        "migrate" => Some(Command::Migrate(file)),
+        "mixed" => Some(Command::Mixed(file)),
+        "widths" => Some(Command::Widths(file)),
+        "rust" => Some(Command::Rust(file)),
+        _ => None,
     }
 }
 
@@ -143,13 +119,9 @@ pub fn command_in<'a>(matches: &ArgMatches<'a>) -> Option<Command<'a>>
 {
     let (name, found) = matches.subcommand()?;
     match name {
-        "run" => run_in(found),
-        "check" => check_in(found),
-        "show" => show_in(found),
-        "migrate" => migrate_in(found),
         "node" => node_in(found),
         "synth" => synth_in(found),
         "demo" => demo_in(found),
-        _ => None,
+        _ => on_file(name, text_of(found, "file")?),
     }
 }

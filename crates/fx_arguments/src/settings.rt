@@ -112,7 +112,10 @@ fn on_bundles<'a>(alloc: Global) -> Result<Parser<'a>, AllocError>
     let line = with_file_command(alloc, top(alloc), "run")?;
     let line = with_file_command(alloc, line, "check")?;
     let line = with_file_command(alloc, line, "show")?;
-    with_file_command(alloc, line, "migrate")
+    let line = with_file_command(alloc, line, "migrate")?;
+    let line = with_file_command(alloc, line, "mixed")?;
+    let line = with_file_command(alloc, line, "widths")?;
+    with_file_command(alloc, line, "rust")
 }
 
 // The same, and the rows of many units.
