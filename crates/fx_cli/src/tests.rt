@@ -55,11 +55,14 @@ pub(crate) fn call<S: Source<BytesOut>>(
 
 // a command's words, and how the output begins
 #[rattlefmt::skip]
-static CALLS: [(&[&str], &str); 6] = [
+static CALLS: [(&[&str], &str); 9] = [
     (&["run", "a"], "out1\n0.7998046875\n"),
+    (&["mixed", "a"], "out1\n0.7998046875\n"),
     (&["node", "--units", "1", "a"], "unit,out1\n0,0.7998046875\n"),
     (&["check", "a"], "accepted\nout1 1/2^12\n"),
     (&["show", "a"], "0 in 12 0 1 -1/2^12 0\n"),
+    (&["widths", "a"], "0 in 16\n1 const 16\n"),
+    (&["rust", "a"], "// f, width 16\npub fn step("),
     (&["synth", "--width", "16", "--tries", "0", "b"], "fixd bundle 1\nsource 64\n"),
     (&["demo", "1"], "demo 1 nodes 7 rows 1000 last "),
 ];
