@@ -15,7 +15,7 @@ from crates import LIST, TOP, listed
 PAGE = f"{TOP}/docs/layers.md"
 PART = re.compile(r"(<!-- drawn: ([^>]+) -->)(.*?)(<!-- end of drawn -->)", re.S)
 GROUP = re.compile(r"^# ([^:]+): (.+)$")
-WIDE, GAP = 104, 4
+WIDE, GAP = 66, 2
 
 
 def groups():
