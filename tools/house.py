@@ -9,6 +9,7 @@ and one entry for each crate, in the order of crates.txt.
 import os
 import re
 import sys
+import textwrap
 
 from crates import LIST, TOP, listed
 
@@ -95,7 +96,7 @@ def crates_alone(crates):
 def table(why, inside, direct):
     """Returns a group's sentence, and for each of its crates what it stands on directly."""
     rows = [f"| `{it}` | {', '.join(f'`{low}`' for low in direct[it]) or 'none of ours'} |" for it in inside]
-    return [why, "", "| crate | stands directly on |", "|---|---|", *rows]
+    return [*textwrap.wrap(why, 130), "", "| crate | stands directly on |", "|---|---|", *rows]
 
 
 def parts():
