@@ -9,6 +9,7 @@ import hashlib
 import os
 import subprocess
 import sys
+from decimal import ROUND_CEILING, Context, Decimal
 
 HERE = os.path.dirname(os.path.abspath(__file__))
 
@@ -29,10 +30,10 @@ def field(lines, name):
 
 
 def as_decimal(bound):
-    """Returns a bound `m/2^e` as a decimal of three digits, rounded up."""
+    """Returns a bound `m/2^e` as a decimal of three digits that isn't below it."""
     top, _, power = bound.partition("/2^")
-    value = int(top) / 2 ** int(power or 0)
-    return f"{value * 1.0005:.3g}"
+    exact = Context(prec=200).divide(Decimal(top), Decimal(2 ** int(power or 0)))
+    return f"{Context(prec=3, rounding=ROUND_CEILING).create_decimal(exact):g}"
 
 
 def commit():

@@ -33,8 +33,8 @@ HEAD = """# Gallery
 Made by `bench/gallery.py` with {rows:,} rows a function, random ones and corners of the ranges; {when}. For each example and width:
 how many nodes it has, the certified bound of the program as it is written (`--tries 0`) and of the one that `synth` finds
 (`--tries 200`), the greatest error seen of the latter, as a part of its bound, how long `synth` took, and Gappa's bound of the former
-program, which knows nothing of errors that inputs are given with{gappa}. In a picture the line above and below is the bound, and each stroke the greatest and least error that was
-seen where the first input had that value. Errors are those of the outputs against exact values; nothing rounds in the comparison.
+program, which knows nothing of errors that inputs are given with{gappa}. Errors are those of the outputs against exact values; nothing rounds in the
+comparison. Below the table each example stands with its picture; [examples](../examples/README.md) says where the published ones come from.
 
 | function | bits | nodes | bound as written | bound found | error seen | of the bound | seconds | Gappa |
 |---|---|---|---|---|---|---|---|---|
@@ -171,6 +171,41 @@ def gappa_bound(text):
     return short(max(abs(float(found[2] or found[1])), abs(float(found[4] or found[3]))))
 
 
+# ---- an example with its picture
+
+OVER_INPUT = ("{name} at {width} bits, over its first input `{first}`. The lines above and below are the certified bound, {bound}; each stroke goes from the least to "
+              "the greatest error that was seen where the input had that value. In all {seen} was seen, {part} of the bound.")
+OVER_TIME = ("{name} at {width} bits, row after row. The lines above and below are the certified bound, {bound}, which holds forever; the error seen was at most {seen}, {part} of it.")
+
+
+def shown_name(path, function):
+    """Returns the function's name, or where that is a letter its folder's."""
+    return function.name if len(function.name) > 1 else os.path.basename(os.path.dirname(path))
+
+
+def text_of(path, name):
+    """Returns a function's own lines in a source, with the comment that stands above it or, of a source in an object, above that."""
+    with open(path, encoding="utf-8") as file:
+        lines = file.read().splitlines()
+    start = next(n for n, line in enumerate(lines) if re.match(rf"\s*def {name}\(", line))
+    depth, end = 0, start
+    while end < len(lines):
+        depth += lines[end].count("{") - lines[end].count("}")
+        end += 1
+        if depth == 0:
+            break
+    indent = len(lines[start]) - len(lines[start].lstrip())
+    comments = [line.strip() for line in lines[:start] if line.strip().startswith("//")]
+    return comments[-1:] + [line[indent:] for line in lines[start:end]]
+
+
+def section(path, function, caption):
+    """Returns the part of the page that shows an example: its text, its picture, and what the picture shows."""
+    name, place = shown_name(path, function), os.path.relpath(path, ROOT)
+    source = "\n".join("    " + line for line in text_of(path, function.name))
+    return f"## {name}\n\n[{place}](../{place}):\n\n{source}\n\n![The errors of {name} between its bounds](gallery/{name}.svg)\n\n*{caption}*\n"
+
+
 # ---- the table
 
 class Gallery:
@@ -182,12 +217,13 @@ class Gallery:
         self.pictures = []
         self.has_gappa = shutil.which("gappa") is not None
 
-    def picture(self, name, text):
+    def picture(self, path, function, text, caption):
+        name = shown_name(path, function)
         place = os.path.join(os.path.dirname(self.options.out), "gallery")
         os.makedirs(place, exist_ok=True)
         with open(os.path.join(place, f"{name}.svg"), "w", encoding="utf-8") as file:
             file.write(text)
-        self.pictures.append(f"![{name}](gallery/{name}.svg)")
+        self.pictures.append(section(path, function, caption))
 
     def row(self, *fields):
         self.lines.append("| " + " | ".join(map(str, fields)) + " |")
@@ -210,6 +246,7 @@ class Gallery:
 
     def function(self, path, function):
         """The rows of the table of a function without state, and its picture at the least width at which there is a program."""
+        name = shown_name(path, function)
         trues, givens = zip(*rows_of(function, self.options.rows))
         exact = exact_outputs(function, trues)
         rows = os.path.join(self.folder, "rows.csv")
@@ -220,7 +257,7 @@ class Gallery:
             found, seconds = self.fixd.synthesised(path, function.name, width, 200)
             written = short(max(self.fixd.bounds_of(self.bundle_file(plain)))) if plain else "not found"
             if found is None:
-                self.row(f"`{function.name}`", width, "", written, "not found", "", "", f"{seconds:.2f}", "")
+                self.row(f"`{name}`", width, "", written, "not found", "", "", f"{seconds:.2f}", "")
                 continue
             bundle = self.bundle_file(found)
             bounds = self.fixd.bounds_of(bundle)
@@ -229,12 +266,14 @@ class Gallery:
             part = max(s / float(b) if b else 0.0 for s, b in zip(seen, bounds))
             nodes = int(re.search(r"^sizes \d+ \d+ \d+ (\d+)$", plain or found, re.M)[1])
             gappa = self.gappa(f"{function.name}.{width}", plain, function)
-            self.row(f"`{function.name}`", width, nodes, written, short(max(bounds)), short(max(seen)), f"{100 * part:.0f}%", f"{seconds:.2f}", gappa)
+            self.row(f"`{name}`", width, nodes, written, short(max(bounds)), short(max(seen)), f"{100 * part:.0f}%", f"{seconds:.2f}", gappa)
             if not is_drawn:
                 is_drawn = True
                 first = [float(row[0]) for row in trues]
-                title = f"{function.name}, {width} bits: error over {next(iter(function.inputs))}"
-                self.picture(function.name, error_over_input(title, first, [row[0] for row in errors], float(bounds[0])))
+                title = f"{name}, {width} bits: error over {next(iter(function.inputs))}"
+                part = f"{100 * seen[0] / float(bounds[0]) if bounds[0] else 0:.0f}%"
+                caption = OVER_INPUT.format(name=name, width=width, first=next(iter(function.inputs)), bound=short(bounds[0]), seen=short(seen[0]), part=part)
+                self.picture(path, function, error_over_input(title, first, [row[0] for row in errors], float(bounds[0])), caption)
 
     def filter(self, path, bundle, function):
         """A filter's row, by the bundle that stands beside its source, and its picture over time."""
@@ -249,9 +288,10 @@ class Gallery:
             text = file.read()
         width = re.search(r"^width (\d+)$", text, re.M)[1]
         nodes = re.search(r"^sizes \d+ \d+ \d+ (\d+)$", text, re.M)[1]
-        name = os.path.basename(os.path.dirname(path))
-        self.row(f"`{name}`, by hand", width, nodes, short(bound), "", short(seen), f"{100 * seen / float(bound):.0f}%", "", "")
-        self.picture(name, error_over_time(f"{name}, {width} bits: error over time", errors[:400], float(bound)))
+        name, part = shown_name(path, function), f"{100 * seen / float(bound):.0f}%"
+        self.row(f"`{name}`, by hand", width, nodes, short(bound), "", short(seen), part, "", "")
+        caption = OVER_TIME.format(name=name, width=width, bound=short(bound), seen=short(seen), part=part)
+        self.picture(path, function, error_over_time(f"{name}, {width} bits: error over time", errors[:400], float(bound)), caption)
 
     def example(self, path):
         with open(path, encoding="utf-8") as file:
@@ -270,7 +310,7 @@ class Gallery:
         gappa = "" if self.has_gappa else " (empty: `gappa` wasn't there)"
         head = HEAD.format(rows=self.options.rows, when=time.strftime("%Y-%m-%d"), gappa=gappa)
         with open(self.options.out, "w", encoding="utf-8") as file:
-            file.write(head + "\n".join(self.lines) + "\n\n" + "\n".join(self.pictures) + "\n")
+            file.write(head + "\n".join(self.lines) + "\n\n" + "\n".join(self.pictures))
 
 
 def main():

@@ -1,5 +1,5 @@
 #!/usr/bin/env bash
-# Tries the recipes of docs/recipes.md with build/fixd, in a folder of its own. GNU parallel is left out where it isn't installed.
+# Tries the recipes of docs/recipes.md with build/fixd, in a folder of its own. GNU parallel and Dask are left out where they aren't installed.
 # Outside the gate, which builds no program at a fixed place. bench/recipes.sh [PROGRAM]
 set -euo pipefail
 cd "$(dirname "$0")/.."
@@ -7,16 +7,20 @@ cd "$(dirname "$0")/.."
 program=$(realpath "${1:-build/fixd}")
 [ -x "$program" ] || { echo "recipes: build it first: make run" >&2; exit 1; }
 folder=$(mktemp -d)
-trap 'rm -rf "$folder"' EXIT
+started=()
+trap '[ ${#started[@]} = 0 ] || kill "${started[@]}" 2> /dev/null; rm -rf "$folder"' EXIT
 average=$PWD/examples/average
+bench=$PWD/bench
+pages=$PWD/docs
 cp examples/smooth/smooth.fixd examples/smooth/smooth.csv "$folder"
 cd "$folder"
 mkdir bin && ln -s "$program" bin/fixd && PATH="$folder/bin:$PATH"
 
-same() { cmp "$2" "$3" && echo "$1: as it should be"; }
+wrong() { echo "recipes: not so: $1" >&2; exit 1; }
+same() { cmp "$2" "$3" && echo "$1: as it should be" || wrong "$1"; }
 
 fixd synth --width 16 smooth.fixd > smooth.bundle
-[ "$(fixd check smooth.bundle | head -1)" = accepted ] && echo "synth and check: as they should be"
+[ "$(fixd check smooth.bundle | head -1)" = accepted ] && echo "synth and check: as they should be" || wrong "synth and check: as they should be"
 
 fixd migrate smooth.bundle > second.bundle
 fixd check second.bundle | same "migrate" - <(fixd check smooth.bundle)
@@ -55,6 +59,73 @@ else
   echo "parallel isn't installed: left out"
 fi
 
+# rows that may be bad: the two texts of the page as they stand there
+shown() { sed -n "/$1/,/$2/p" "$pages/recipes.md" | sed 's/^    //'; }
+shown "    cat > good.awk" "^    END\$" > make_filter.sh && bash make_filter.sh
+printf 'time,now,last,older\r\n1,0.5,0.25,0.5\r\n\r\n2,2,0,0\n3,x,0,0\n4,0,-1.5,0\n5,-0.5,1,1e-1\n' > log.csv
+awk -v ranges='now:-1:1 last:-1:1 older:-1:1' -f good.awk log.csv 2> dropped.line | fixd run smooth.bundle > good.out
+printf 'now,last,older\n0.5,0.25,0.5\n-0.5,1,1e-1\n' | fixd run smooth.bundle | same "rows that are good" - good.out
+[ "$(cat dropped.line)" = "3 rows dropped" ] && echo "rows that are bad: counted" || wrong "rows that are bad: counted"
+
+shown "    head -1 log.csv > header; from=2" "^    tail -n +2 part >> log.out" > restart.sh && bash restart.sh
+[ "$(wc -l < log.out)" = 5 ] && [ "$(grep -c . log.out)" = 2 ] && grep . log.out | same "on behind bad rows" - <(tail -n +2 good.out) || wrong "on behind bad rows"
+
+printf 'now,last,older\r\n0.5,0.25,0.5\r\n\r\n1,1,1\r\n' > log.csv
+sed 's/\r$//; /^$/d' log.csv > rows.csv
+fixd run smooth.bundle < rows.csv > out.csv && paste -d, rows.csv out.csv > both.csv
+[ "$(head -1 both.csv)" = now,last,older,out1 ] && [ "$(wc -l < both.csv)" = 3 ] && echo "answers beside rows: as they should be" || wrong "answers beside rows: as they should be"
+
+# numbers of other tools
+printf 'x\n1.2345678901234568e-05\n-0.12345678901234567\n12.345678901234567\n0.5\n' > floats.csv
+printf 'def f(x: Real): Real = {\n  require(-20 <= x && x <= 20 && x +/- 0.00000000000000005)\n  x + 0.5\n}\n' > floats.fixd
+fixd synth --width 32 floats.fixd > floats.bundle
+status=0; fixd run floats.bundle < floats.csv > /dev/null 2>&1 || status=$?
+[ "$status" = 5 ] && echo "long numbers: refused as they are" || wrong "long numbers: refused as they are"
+shown "    awk -F, -v OFS=, 'NR > 1 { for" "floats.csv\$" > cut.sh
+bash cut.sh > short.csv && fixd run floats.bundle < short.csv > floats.out && [ "$(wc -l < floats.out)" = 5 ] && echo "long numbers: cut" || wrong "long numbers: cut"
+
+# a function in two
+printf 'def divisor(x: Real): Real = { require(-5 <= x && x <= 5) 1 + 0.3 * x * x }\n' > first.fixd
+printf 'def f(d: Real): Real = { require(1 <= d && d <= 10 && d +/- 0.001) 1 / d }\n' > second.fixd
+fixd synth --width 24 first.fixd > first.bundle
+fixd synth --width 24 second.fixd > second.bundle
+printf 'x\r\n0.1\r\n\r\n-2.25\r\n3.3\r\n' > rows.csv
+shown "    sed 's.*rows.csv > whole.csv" "second.bundle\$" | tail -2 > split.sh && bash split.sh > split.out
+[ "$(wc -l < split.out)" = 4 ] && awk 'NR == 2 { if ($1 < 0.996 || $1 > 0.998) exit 1 }' split.out && echo "a function in two: as it should be" || wrong "a function in two: as it should be"
+
+# a demand that isn't met, and what was reached
+printf 'def f(x: Real): Real = {\n  require(0 <= x && x <= 1)\n  0.3 * x\n} ensuring(out => out +/- 0.0000001)\n' > tight.fixd
+status=0; fixd synth --width 16 tight.fixd > /dev/null 2> bad.line || status=$?
+[ "$status" = 9 ] && [ "$(cat bad.line)" = "fixd: not found: output 1" ] || wrong "a demand that isn't met"
+sed 's/ensuring *(.*)//' tight.fixd > free.fixd
+fixd synth --width 16 free.fixd > free.bundle && fixd check free.bundle | grep -q '^out1 [0-9]' && echo "what was reached: shown" || wrong "what was reached: shown"
+
+# a bound that is useless
+printf 'def ratio(z: Real): Real = { require(0 <= z && z <= 999) z / (z + 1) }\n' > ratio.fixd
+fixd synth --width 16 ratio.fixd > ratio.bundle
+shown "    .*fixd show ratio.bundle" "^    out1" | tail -n +2 | same "a useless bound" - <(fixd show ratio.bundle)
+sed -i 's:z / (z + 1):1 - 1 / (z + 1):' ratio.fixd && fixd synth --width 16 ratio.fixd > ratio.bundle
+[ "$(fixd check ratio.bundle | tail -1)" = "out1 1087555/2^26" ] && echo "a useless bound: mended" || wrong "a useless bound: mended"
+
+# a page of evidence
+"$bench/evidence.py" smooth.bundle "$program" > smooth.md && grep -q '^| out1 | 3/2^14 | 0.000184 |$' smooth.md && echo "a page of evidence: as it should be" || wrong "a page of evidence: as it should be"
+
+# a scheduler and two workers
+python=/usr/bin/python3
+if command -v dask-scheduler > /dev/null && "$python" -c 'import distributed' 2> /dev/null; then
+  address=tcp://127.0.0.1:8786
+  dask-scheduler --host 127.0.0.1 --port 8786 --no-dashboard > scheduler.log 2>&1 & started+=($!)
+  for worker in 1 2; do dask-worker "$address" --nthreads 1 --no-nanny --no-dashboard > "worker$worker.log" 2>&1 & started+=($!); done
+  "$python" "$bench/dask_rows.py" "$address" smooth.bundle all.csv --block 10000 > dask.out
+  same "rows by Dask" whole.out dask.out
+  { echo u; for n in $(seq 1 300); do echo "0.$((n % 7))"; done; } > monday.csv
+  { echo u; for n in $(seq 1 200); do echo "-0.$((n % 3))"; done; } > tuesday.csv
+  "$python" "$bench/dask_rows.py" "$address" average.bundle monday.csv tuesday.csv --block 100 > days.out
+  for day in monday tuesday; do fixd run average.bundle < "$day.csv" | tail -n +2; done | same "runs by Dask" - days.out
+else
+  echo "Dask isn't installed: left out"
+fi
+
 # a bundle in a repository
 count=$(sed -n 's/^source //p' smooth.bundle | head -1)
 tail -n +3 smooth.bundle | head -c "$count" | same "the bundle's source" - smooth.fixd
@@ -66,10 +137,10 @@ diff <(fixd show plain.bundle) <(fixd show smooth.bundle) > /dev/null && echo "t
 
 # statuses
 status=0; printf 'now,last,older\n0,0,0\n2,0,0\n' | fixd run smooth.bundle > bad.out 2> bad.line || status=$?
-[ "$status" = 5 ] && [ "$(cat bad.line)" = "fixd: row: OutOfRange at line 3 column now" ] && echo "a bad row: as it should be"
+[ "$status" = 5 ] && [ "$(cat bad.line)" = "fixd: row: OutOfRange at line 3 column now" ] && echo "a bad row: as it should be" || wrong "a bad row: as it should be"
 status=0; echo 'def f(x: Real, y: Real): Real = { require(1 <= x && x <= 2 && -1 <= y && y <= 1) x / y }' > q.fixd
 fixd synth --width 16 q.fixd 2> bad.line || status=$?
-[ "$status" = 9 ] && [ "$(cat bad.line)" = "fixd: not found: node 2" ] && echo "nothing found: as it should be"
+[ "$status" = 9 ] && [ "$(cat bad.line)" = "fixd: not found: node 2" ] && echo "nothing found: as it should be" || wrong "nothing found: as it should be"
 
 # where a fault stands
 at() {
@@ -80,4 +151,4 @@ at() {
 printf 'def f(x: Real): Real = {\n  require(0 <= x && x <= 1)\n  x + y\n}\n' > f.fixd
 fixd synth --width 16 f.fixd 2> bad.line || true
 [ "$(cat bad.line)" = "fixd: source: UnknownName at byte 59" ]
-[ "$(at f.fixd 59)" = "$(printf '  x + y\n      ^')" ] && echo "a caret: as it should be"
+[ "$(at f.fixd 59)" = "$(printf '  x + y\n      ^')" ] && echo "a caret: as it should be" || wrong "a caret: as it should be"
