@@ -1,5 +1,5 @@
 -- Words of a step with the next states' in the places of the states.
-use Rattle.std.proofs.Common.{◌≡◌, ℕ, zero, suc, ◌+◌, ◌-◌, ◌<◌, ◌≤◌, ℤ, pos, List, [], ◌∷◌, ◌++◌, length, get_or, take, drop, set, refl, sym, ap, ◌∙◌, arith, append_assoc, append-nil, take-append-drop, length-append, length-drop, length-take-le}
+use Rattle.std.proofs.Common.{◌≡◌, ℕ, ◌+◌, ◌-◌, ◌<◌, ◌≤◌, ℤ, pos, List, [], ◌∷◌, ◌++◌, length, take, drop, set, sym, ap, ◌∙◌, arith, append_assoc, append-nil, take-append-drop, length-append, length-drop, length-take-le}
 use Rattle.std.proofs.lemmas.List.{drop-drop, drop_at, drop_more, get_or-drop, set-append_right, take_all, take_at, take_more}
 use Rattle.std.proofs.Math.Seq.{drop-append-add, get_or-append-add}
 use Rattle.fx_model.specs.Tree.{at}
@@ -86,3 +86,19 @@ carried_outputs p ws counts many =
     ap (take p.outputs)
     (ap (λ (j : ℕ). drop j (carried p ws)) e ∙ drop-append-add (take p.inputs ws ++ next) (drop m ws) (first_copy p - m)
     ∙ drop-drop (first_copy p - m) m ws ∙ ap (λ (j : ℕ). drop j ws) back)
+
+-- the word at the copy of state k, where k states stand in their places
+pub copy_word : (p : Program) (old words : List ℤ) (k place : ℕ) → HasLawfulCounts p → length old ≡ length p.codes → k < p.states
+    → words ≡ with_next p.inputs k old (step_taken p old).next → place ≡ (length p.codes - p.states) + k → at (pos 0) words place ≡ at (pos 0) (step_taken p old).next k
+copy_word p old words k place counts many lt is here =
+    let enough = counts.enough in let n = next_counted p old counts many in
+    ap (λ ws. at (pos 0) ws place) is ∙ behind_next p.inputs k place old (step_taken p old).next (omega arith) (omega arith) (omega arith)
+    ∙ ap (at (pos 0) old) here ∙ sym (next_at p old k counts)
+
+-- and the next one
+pub copy_put : (p : Program) (old words : List ℤ) (k : ℕ) (w : ℤ) → HasLawfulCounts p → length old ≡ length p.codes → k < p.states
+    → words ≡ with_next p.inputs k old (step_taken p old).next → at (pos 0) (step_taken p old).next k ≡ w
+    → set words (p.inputs + k) w ≡ with_next p.inputs (k + 1) old (step_taken p old).next
+copy_put p old words k w counts many lt is same =
+    let enough = counts.enough in let n = next_counted p old counts many in
+    ap (λ ws. set ws (p.inputs + k) w) is ∙ with_more p.inputs k old (step_taken p old).next w (omega arith) (omega arith) same

@@ -1,11 +1,12 @@
 -- A turn over words that stand one behind the other: a code's word, the states, and the next states.
-use Rattle.std.proofs.Common.{◌≡◌, ◌⊎◌, ⊎_elim, ℕ, ◌+◌, ◌-◌, ◌<◌, ◌≤◌, ℤ, pos, List, [], ◌∷◌, ◌++◌, length, get_or, take, drop, set, Some, sym, ap, subst, ◌∙◌, arith, inl, inr, length-append}
+use Rattle.std.proofs.Common.{◌≡◌, ℕ, ◌+◌, ◌-◌, ◌<◌, ℤ, pos, List, [], ◌∷◌, ◌++◌, length, take, drop, set, Option, Some, None, refl, sym, ap, subst, ◌∙◌, arith, inl, inr, length-append}
+use Rattle.std.specs.Prelude.{IsSome}
 use Rattle.std.proofs.lemmas.List.{drop-set-add, drop-set-lt, get_or-drop, get_or-take, set-get_or, take-set-le}
 use Rattle.std.proofs.lemmas.Bool.{cases_lt}
 use Rattle.std.proofs.Math.Seq.{get_or-append_seam}
 use Rattle.fx_rational.specs.Rational.{Rational}
 use Rattle.fx_model.specs.Tree.{at}
-use Rattle.fx_model.specs.Machine.{Code, Const, kept, made, words_after}
+use Rattle.fx_model.specs.Machine.{Code, words_after}
 use Rattle.fx_model.specs.LawfulProgram.{IsPlaced}
 use Rattle.fx_machine.specs.Codes.{word_of}
 use Rattle.fx_machine.proofs.Codes.{one_more}
@@ -44,3 +45,8 @@ pub state_made : (n i s : ℕ) (c : Code) (g : List Rational) (z us : List ℤ) 
 unfolding word_of
 state_made n i s c g z us w m j many placed e lt here =
     state_read n i s c g z us w j (subst (λ (k : ℕ). IsPlaced i s k c) (sym many) placed) (many ∙ e) lt here
+
+-- what is there is some value
+pub some_there : {A : Type 0} (o : Option A) → IsSome o → (v : A) × (o ≡ Some v)
+some_there None h = absurd cc
+some_there (Some v) h = (v, refl)

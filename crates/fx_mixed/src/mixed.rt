@@ -14,7 +14,7 @@ ghost use Rattle.fx_program.specs.CodeView.{code_of};
 ghost use Rattle.fx_machine.specs.Steps.{step_taken};
 ghost use Rattle.fx_packed.specs.Packed.{packed};
 ghost use Rattle.fx_statements.specs.Widths.{FitWidths};
-ghost use Rattle.fx_mixed.specs.Mixing.{IsStored, IsTurned, first_word, first_words, states_among, widths_of};
+ghost use Rattle.fx_mixed.specs.Mixing.{IsMixed, IsStored, IsTurned, first_word, first_words, states_among, widths_of};
 
 use crate::turn::turn_at;
 use crate::widths::least_widths;
@@ -170,6 +170,13 @@ impl<'a> Mixed<'a> {
         ensures point { result.1 ≡ at (pos 0) (output_points self.now.accepted.program) j }
     {
         output_in(&self.bank, self.certified.program(), j)
+    }
+
+    // Each word lies in its own width, and the state words are near some exact state.
+    pub(crate) fn keeps(&self)
+        ensures { IsMixed self.now.accepted self.now.words }
+    {
+        self.bank.keeps();
     }
 
     // What is certified.

@@ -2,7 +2,7 @@
 //!
 //! What is printed and when it is written is just what `run_rows` of `fx_run` prints and writes: the loop over the rows is the
 //! same, and the machine's codes are too.
-ghost use Rattle.std.specs.Prelude.{◌≡◌, ◌-◌, ◌^◌, ◌<◌, ◌≤◌, ◌+◌, ◌++◌, ◌↔◌, ℕ, List, length, map, IfOk, IfErr, OnOk, IsErrOf, IfSome, Some};
+ghost use Rattle.std.specs.Prelude.{◌≡◌, ◌-◌, ◌^◌, ◌<◌, ◌≤◌, ◌++◌, ◌∷◌, ◌↔◌, ℕ, List, length, map, IfOk, IfErr, OnOk, IsErrOf, IfSome, Some};
 ghost use Rattle.std.specs.Io.KnownBytes.{Consumes, IsAtEnd};
 ghost use Rattle.fx_base.specs.Causes.{Rose};
 ghost use Rattle.fx_base.specs.Moments.{HoldsEachTime};
@@ -44,6 +44,7 @@ fn turn_row(mixed: &mut Mixed, row: &[Decimal], page: &mut Page)
 {
     mixed.certified().certified();
     mixed.turn(row);
+    mixed.keeps();
     put_words(page, mixed.certified().program(), &*mixed);
 }
 
@@ -106,6 +107,7 @@ pub fn run_mixed<S: Source<K>, K: Sink>(
     ensures later { S.faults source.old ≤ S.faults source.new }
     ensures later_sink { K.faults sink.old ≤ K.faults sink.new }
 {
+    certified.certified();
     rows_law(certified);
     let Ok(mixed) = Mixed::new(alloc, certified) else {
         return Err(MixedFault::Memory);

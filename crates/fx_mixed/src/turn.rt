@@ -46,6 +46,7 @@ fn turn_one<const B: u32>(
     requires fits { (w : ℤ) → word_of B (at (Const (pos 0) (pos 0)) (map code_of codes.now) n) (map decimal_value row.now) (take states (drop inputs bank.old.words)) (take n bank.old.words) ≡ Some w
         → IsWord (at 0 bank.old.widths n) w }
     ensures widths { bank.new.widths ≡ bank.old.widths }
+    ensures counted { length bank.new.words ≡ length bank.old.words }
     ensures words { All (IsWord B) bank.new.words }
     ensures states { take states (drop inputs bank.new.words) ≡ take states (drop inputs bank.old.words) }
     ensures goes_on { words_after B (map code_of (drop (n + 1) codes.now)) (map decimal_value row.now) (take states (drop inputs bank.old.words)) (take (n + 1) bank.new.words)
@@ -96,7 +97,7 @@ fn carry_states(program: &Program, bank: &mut Bank)
     bank.keeps();
     let inputs = program.inputs as usize;
     let states = program.states as usize;
-    let next = program.codes.len() - states;
+    let next = program.codes.as_slice().len() - states;
     for k in 0..states {
         let word = bank.word(next + k);
         bank.set_word(inputs + k, word);
@@ -120,4 +121,5 @@ pub(crate) fn turn_at<const B: u32>(certified: &Certified, row: &[Decimal], bank
     fx_machine::step_law();
     turn_codes::<B>(certified.program(), row, bank);
     carry_states(certified.program(), bank);
+    bank.keeps();
 }
