@@ -40,6 +40,7 @@ from sources import functions_of
 EXAMPLES = os.path.normpath(os.path.join(HERE, "..", "examples"))
 ROWS = 1000
 GROUP = 64
+SIZED = ("average", "mix", "nearest", "parallel")
 
 
 @dataclass
@@ -256,7 +257,7 @@ def words_given():
 def main():
     given = words_given()
     if given.size:
-        rust_sizes.table(given.fixd)
+        rust_sizes.table([(name, case_of(given.fixd, os.path.join(EXAMPLES, name, name + ".bundle"))) for name in SIZED])
         return
     folder, count = tempfile.mkdtemp(), Counter()
     try:
