@@ -78,7 +78,7 @@ fixd synth --width 24 "$average/average.fixd" > other.bundle
 fixd rust other.bundle > device/src/filter.rs
 fixd run other.bundle < device/tests/rows.csv > device/tests/rows.out
 sed '1,/^program$/d; /^certificate$/q' other.bundle | grep -E '^(in|st) ' > points
-output=$(fixd show other.bundle | awk '$2 ~ /^copy/ { print $3; exit }')
+output=$(fixd show other.bundle | awk '$2 ~ /^copy/ && !seen++ { print $3 }')
 sed -i "s/INPUT_POINT: u32 = .*;/INPUT_POINT: u32 = $(awk '$1 == "in" { print $3 }' points);/; s/OUTPUT_POINT: u32 = .*;/OUTPUT_POINT: u32 = $output;/
     s/START: \[i64; 1\] = .*;/START: [i64; 1] = [$(awk '$1 == "st" { print $4 }' points)];/" device/src/lib.rs
 if command -v cargo > /dev/null; then

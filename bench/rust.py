@@ -7,7 +7,8 @@ with the declared errors, among them, and stretches of one row that drive a stat
 
 - the text compiles as a library without std, and no warning comes but `unused_variables`;
 - it gives the words of `fixd run`, state carried from the start words, with overflow checks and with -O;
-- so does the C, compiled as C99 without a warning, under gcc's sanitizer of what C leaves undefined; and no word of an input is outside of its LEAST_WORDS and GREATEST_WORDS;
+- so does the C, compiled as C99 without a warning, under gcc's sanitizer of what C leaves undefined; and each word of an input lies from its LEAST_WORDS
+  to its GREATEST_WORDS;
 - with all words in 128 bits the text gives the same, and each word lies in its width of `fixd widths`;
 - `fixd mixed` prints what `fixd run` prints.
 
@@ -267,8 +268,8 @@ def main():
     except Failed as failed:
         raise SystemExit(f"rust: {failed}\nwhat was compiled is in {folder}") from failed
     shutil.rmtree(folder)
-    print(f"{count['bundles']} bundles, {count['with states']} with states, {count['codes']} codes, {count['rows']} rows: the text in Rust (checked, -O, and in words of 128 bits), "
-          f"its C and `mixed` give what `run` prints")
+    print(f"{count['bundles']} bundles, {count['with states']} with states, {count['codes']} codes, {count['rows']} rows:")
+    print("the text in Rust (checked, -O, and in words of 128 bits), its C and `mixed` give what `run` prints")
     print("warnings of rustc:", count["unused_variables"], "unused_variables, no other; the C of", count["in __int128"], "bundles needs __int128")
     for kind in ("in st const neg add sub mul mulr div copy copyr".split(), [f"in {bits} bits" for bits in WIDTHS]):
         print(", ".join(f"{count[name]} {name}" for name in kind))

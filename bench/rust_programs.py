@@ -37,7 +37,9 @@ fn main() {{
 """
 
 SEEN = """
-thread_local! { static SEEN: std::cell::RefCell<std::collections::BTreeMap<(usize, usize), (i128, i128)>> = const { std::cell::RefCell::new(std::collections::BTreeMap::new()) }; }
+use std::{cell::RefCell, collections::BTreeMap};
+
+thread_local! { static SEEN: RefCell<BTreeMap<(usize, usize), (i128, i128)>> = const { RefCell::new(BTreeMap::new()) }; }
 
 pub fn seen(text: usize, name: usize, word: i128) -> i128 {
     SEEN.with_borrow_mut(|all| {
@@ -136,8 +138,11 @@ def as_programs(cases, folder, words):
 
 def in_i128(text, place):
     """The text with each word of type `i128`, so that no `as` can change it, and each one noted."""
-    text = re.sub(r"let w(\d+): i\d+ = (.*);", lambda it: f"let w{it[1]}: i128 = crate::seen({place}, {it[1]}, {re.sub(r' as i(8|16|32|64)$', ' as i128', it[2])});", text)
-    return text
+    def noted(it):
+        value = re.sub(r" as i(8|16|32|64)$", " as i128", it[2])
+        return f"let w{it[1]}: i128 = crate::seen({place}, {it[1]}, {value});"
+
+    return re.sub(r"let w(\d+): i\d+ = (.*);", noted, text)
 
 
 def words_seen(cases, folder, words):

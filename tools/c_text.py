@@ -178,11 +178,13 @@ class Writer:
         else:
             text = f"({own}){self.value(made)}"
         note = f" /* {bits} bits */" if bits < int(made.type[1:]) else ""
-        unread = "" if any(at in other.operands for other in self.text.statements) or self.is_written(at) else f"\n    (void)w{at};"
+        unread = "" if self.is_read(at) else f"\n    (void)w{at};"
         return f"    const {own} w{at} = {text};{note}{unread}"
 
-    def is_written(self, at):
-        return at >= len(self.text.statements) - self.text.states - self.text.outputs
+    def is_read(self, at):
+        """Whether another name, an output or a next state takes this one."""
+        is_last = at >= len(self.text.statements) - self.text.states - self.text.outputs
+        return is_last or any(at in other.operands for other in self.text.statements)
 
     def prototype(self):
         state = f"int64_t state[{self.text.states}], " if self.text.states else ""
@@ -205,7 +207,8 @@ class Writer:
         for k, one in enumerate(self.given.inputs):
             low, high = one.words()
             off = f", given to within {decimal(one.err)}" if one.err else ""
-            lines.append(f" * input[{k}]   {one.name}, from {decimal(one.lo)} to {decimal(one.hi)}{off}: the floor of the value times 2^{one.point}, a word from {low} to {high}")
+            lines.append(f" * input[{k}]   {one.name}, from {decimal(one.lo)} to {decimal(one.hi)}{off}: "
+                         f"the floor of the value times 2^{one.point}, a word from {low} to {high}")
         for k, one in enumerate(self.given.states):
             lines.append(f" * state[{k}]   {one.name}, {decimal(one.start)} before the first step: the word {one.word} at point {one.point}")
         for j, one in enumerate(self.given.outputs):
@@ -226,7 +229,7 @@ class Writer:
         return lines + [f"#define {name}_{what} {{{', '.join(str(x) for x in row)}}}" for what, row in rows]
 
     def helpers(self):
-        """The shift of each size that is used. `>>` of what is below 0 would be left to the compiler; gcc and clang make one shift of this."""
+        """The shift of each size that is used. C leaves `>>` of what is below 0 to the compiler; of this form gcc and clang make one shift."""
         lines = []
         if any(bits_of(made, self.given.widths, self.text.width) == 128 for made in self.text.statements if made.operands):
             lines += [f"__extension__ typedef __int128 {self.prefix}_wide;", ""]

@@ -41,7 +41,8 @@ class Fault(Exception):
 
 @dataclass
 class Statement:
-    """What one name stands for. `operands` are numbers of earlier names; `shifts` divide by powers of two where they are above 0, and of `div` the one multiplies."""
+    """What one name stands for. `operands` are numbers of earlier names. A shift divides by a power of two, or multiplies where it is below 0;
+    that of `div` multiplies."""
     word: str
     type: str
     operands: list
