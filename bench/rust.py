@@ -129,7 +129,7 @@ def found_bundles(program, folder):
         for name in [function.name for function in functions]:
             for width in (16, 32, 64):
                 for rounding in ("floor", "nearest"):
-                    words = [program, "synth", "--width", str(width), "--round", rounding, "--tries", "20", "--function", name, path]
+                    words = [program, "synth", "--width", str(width), "--round", rounding, "--tries", "1", "--function", name, path]
                     ended = subprocess.run(words, capture_output=True)
                     if ended.returncode == 0:
                         yield put(folder, f"{name}.{width}.{rounding}", ended.stdout)
@@ -137,9 +137,9 @@ def found_bundles(program, folder):
                         raise SystemExit(f"rust: {' '.join(words)}: {ended.stderr.decode().strip()}")
 
 
-def drawn_bundles(program, folder, count):
+def drawn_bundles(program, folder, count, seed):
     """Yields so many bundles that are made at random and accepted."""
-    seed = made = 0
+    made = 0
     while made < count:
         width, version = WIDTHS[made % 8], 1 + made // 8 % 2
         text = random_bundles.bundle(random.Random(seed), width, version)
@@ -228,6 +228,7 @@ def counted(case):
     for made, bits in zip(text.statements, case.writer.given.widths):
         count[made.word] += 1
         count[f"in {bits} bits"] += 1
+        count["shifted to the left"] += made.word in ("add", "sub", "copy") and min(made.shifts) < 0
     count["in __int128"] += "__int128" in case.c_text("f")
     return count
 
@@ -237,7 +238,7 @@ def groups(program, folder, given):
     paths = example_bundles()
     if not given.no_synth:
         paths += found_bundles(program, folder)
-    paths += drawn_bundles(program, folder, given.count)
+    paths += drawn_bundles(program, folder, given.count, given.seed)
     for at in range(0, len(paths), GROUP):
         yield [case_of(program, path) for path in paths[at:at + GROUP]]
 
@@ -246,6 +247,7 @@ def words_given():
     parser = argparse.ArgumentParser(description=__doc__, formatter_class=argparse.RawDescriptionHelpFormatter)
     parser.add_argument("--fixd", default=program_of())
     parser.add_argument("--count", type=int, default=200)
+    parser.add_argument("--seed", type=int, default=0, help="where the draws of the random bundles begin")
     parser.add_argument("--no-synth", action="store_true")
     parser.add_argument("--size", action="store_true")
     given = parser.parse_args()
@@ -271,6 +273,7 @@ def main():
     print(f"{count['bundles']} bundles, {count['with states']} with states, {count['codes']} codes, {count['rows']} rows:")
     print("the text in Rust (checked, -O, and in words of 128 bits), its C and `mixed` give what `run` prints")
     print("warnings of rustc:", count["unused_variables"], "unused_variables, no other; the C of", count["in __int128"], "bundles needs __int128")
+    print(count["shifted to the left"], "sums, differences and copies shift to the left")
     for kind in ("in st const neg add sub mul mulr div copy copyr".split(), [f"in {bits} bits" for bits in WIDTHS]):
         print(", ".join(f"{count[name]} {name}" for name in kind))
 
