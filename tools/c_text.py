@@ -125,11 +125,13 @@ def bits_of(made, widths, width):
 
 
 class Writer:
-    """The C of one text. All names begin with `prefix`."""
+    """The C of one text. All names begin with `prefix`. `read` are the names that another one, an output or a next state takes."""
 
     def __init__(self, text, given, prefix):
         self.text, self.given, self.prefix = text, given, prefix
         self.floors = set()
+        last = len(text.statements) - text.states - text.outputs
+        self.read = {k for made in text.statements for k in made.operands} | set(range(last, len(text.statements)))
 
     def shifted(self, value, by, bits):
         """A value of so many bits, shifted to the right and rounded down."""
@@ -178,20 +180,15 @@ class Writer:
         else:
             text = f"({own}){self.value(made)}"
         note = f" /* {bits} bits */" if bits < int(made.type[1:]) else ""
-        unread = "" if self.is_read(at) else f"\n    (void)w{at};"
+        unread = "" if at in self.read else f"\n    (void)w{at};"
         return f"    const {own} w{at} = {text};{note}{unread}"
 
-    def is_read(self, at):
-        """Whether another name, an output or a next state takes this one."""
-        is_last = at >= len(self.text.statements) - self.text.states - self.text.outputs
-        return is_last or any(at in other.operands for other in self.text.statements)
-
-    def prototype(self):
+    def declaration(self):
         state = f"int64_t state[{self.text.states}], " if self.text.states else ""
         return f"void {self.prefix}_step({state}const int64_t input[{self.text.inputs}], int64_t output[{self.text.outputs}])"
 
     def body(self):
-        text, lines = self.text, [f"{self.prototype()} {{"]
+        text, lines = self.text, [f"{self.declaration()} {{"]
         lines += [self.statement(at) for at in range(len(text.statements))]
         first = len(text.statements) - text.states
         lines += [f"    state[{k}] = w{first + k};" for k in range(text.states)]
@@ -241,11 +238,11 @@ class Writer:
 
     def source(self):
         body = self.body()
-        return "\n".join([*self.head(), "#include <stdint.h>", "", *self.tables(), "", *self.helpers(), f"{self.prototype()};", "", *body, ""])
+        return "\n".join([*self.head(), "#include <stdint.h>", "", *self.tables(), "", *self.helpers(), f"{self.declaration()};", "", *body, ""])
 
     def header(self):
         guard = f"{self.prefix}_H"
-        return "\n".join([*self.head(), f"#ifndef {guard}", f"#define {guard}", "#include <stdint.h>", "", *self.tables(), "", f"{self.prototype()};", "", "#endif", ""])
+        return "\n".join([*self.head(), f"#ifndef {guard}", f"#define {guard}", "#include <stdint.h>", "", *self.tables(), "", f"{self.declaration()};", "", "#endif", ""])
 
 
 def literal(word):
