@@ -1,5 +1,6 @@
 #!/usr/bin/env bash
-# Tries the recipes of docs/recipes.md with build/fixd, in a folder of its own. GNU parallel and Dask are left out where they aren't installed.
+# Tries the recipes of docs/recipes.md with build/fixd, in a folder of its own. GNU parallel, Dask, cargo and gcc are left out where they
+# aren't installed.
 # Outside the gate, which builds no program at a fixed place. bench/recipes.sh [PROGRAM]
 set -euo pipefail
 cd "$(dirname "$0")/.."
@@ -12,6 +13,8 @@ trap '[ ${#started[@]} = 0 ] || kill "${started[@]}" 2> /dev/null; rm -rf "$fold
 average=$PWD/examples/average
 bench=$PWD/bench
 pages=$PWD/docs
+device=$PWD/examples/device
+tools=$PWD/tools
 cp examples/smooth/smooth.fixd examples/smooth/smooth.csv "$folder"
 cd "$folder"
 mkdir bin && ln -s "$program" bin/fixd && PATH="$folder/bin:$PATH"
@@ -134,6 +137,40 @@ fixd synth --width 16 smooth.fixd | same "made anew" - smooth.bundle
 # two bundles of one source
 fixd synth --width 16 --tries 0 smooth.fixd > plain.bundle
 diff <(fixd show plain.bundle) <(fixd show smooth.bundle) > /dev/null && echo "two bundles: alike" || echo "two bundles: compared"
+
+# on a device: the example's text and page are those of its bundle
+cp "$average"/average.bundle .
+fixd rust average.bundle | same "the device's text" - "$device/src/filter.rs"
+fixd run average.bundle < "$device/tests/rows.csv" | same "the device's page" - "$device/tests/rows.out"
+
+# the same from the source on, in a crate of its own: text, start word, points and page of another bundle
+mkdir device && (cd "$device" && cp -r Cargo.toml Cargo.lock src tests "$folder/device")
+fixd synth --width 24 "$average/average.fixd" > other.bundle
+fixd rust other.bundle > device/src/filter.rs
+fixd run other.bundle < device/tests/rows.csv > device/tests/rows.out
+sed '1,/^program$/d; /^certificate$/q' other.bundle | grep -E '^(in|st) ' > points
+output=$(fixd show other.bundle | awk '$2 ~ /^copy/ && !seen++ { print $3 }')
+sed -i "s/INPUT_POINT: u32 = .*;/INPUT_POINT: u32 = $(awk '$1 == "in" { print $3 }' points);/; s/OUTPUT_POINT: u32 = .*;/OUTPUT_POINT: u32 = $output;/
+    s/START: \[i64; 1\] = .*;/START: [i64; 1] = [$(awk '$1 == "st" { print $4 }' points)];/" device/src/lib.rs
+if command -v cargo > /dev/null; then
+  (cd device && cargo test --quiet --offline > ../cargo.log 2>&1) && echo "a crate by another bundle: as it should be" || wrong "a crate by another bundle"
+  cp "$average"/average.bundle . && cp -r "$device/src" "$device/tests" device
+  (cd device && cargo test --quiet --offline > ../cargo.log 2>&1) && echo "the device's crate: as it should be" || wrong "the device's crate"
+else
+  echo "cargo isn't installed: left out"
+fi
+
+# in C
+if command -v gcc > /dev/null; then
+  "$tools/rust-to-c" --fixd "$program" average.bundle > average.c
+  "$tools/rust-to-c" --fixd "$program" --header average.bundle > average.h
+  sed -n '/^    #include "average.h"$/,/^    END$/p' "$pages/recipes.md" | sed '$d; s/^    //' > main.c
+  gcc -std=c99 -Wall -Wextra -Werror -O2 average.c main.c -o average
+  awk -F, 'NR > 1 { word = int($2 * 4096); print word - (word > $2 * 4096) }' device/tests/rows.csv | ./average > words
+  fixd run average.bundle < device/tests/rows.csv | awk 'NR > 1 { print $1 * 4096 }' | same "in C" - words
+else
+  echo "gcc isn't installed: left out"
+fi
 
 # statuses
 status=0; printf 'now,last,older\n0,0,0\n2,0,0\n' | fixd run smooth.bundle > bad.out 2> bad.line || status=$?
