@@ -21,13 +21,13 @@ rust_of p c = rust_text (routine_of p (least_widths p c))
 
 -- it does the machine's step wherever that isn't stuck and each word lies in its width; so over all rows in range it gives the machine's
 -- run, which isn't stuck. Nothing in it panics, and no `as` and no `<<` changes a value
-pub record IsRustOf (b : Parts) (fn : Function) : Type 0 where
+pub record IsRustFor (b : Parts) (fn : Function) : Type 0 where
   pub steps : DoesSteps b.program (least_widths b.program b.certificate) (rust_of b.program b.certificate)
   pub runs : TextRunsLaw fn.inputs b.program b.certificate
 
 -- how the printing ends
 abbrev pub PrintsRust : Streams → Streams → Parts → Function → End → Type 0
-PrintsRust old new b fn = PrintsText (IsRustOf b fn) (rust_of b.program b.certificate) old new
+PrintsRust old new b fn = PrintsText (IsRustFor b fn) (rust_of b.program b.certificate) old new
 
 -- all of it
 abbrev pub RustEnds : Option Files → ℕ → ℕ → Streams → Streams → List ℕ → End → Type 0
