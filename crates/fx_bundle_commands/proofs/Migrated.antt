@@ -1,5 +1,5 @@
 -- A bundle of the second version is accepted where the bundle was.
-use Rattle.std.proofs.Common.{◌≡◌, ℕ, refl, sym}
+use Rattle.std.proofs.Common.{◌≡◌, refl, sym}
 use Rattle.fx_model.specs.Function.{Function}
 use Rattle.fx_model.specs.Machine.{Program}
 use Rattle.fx_model.specs.Versions.{second_version}

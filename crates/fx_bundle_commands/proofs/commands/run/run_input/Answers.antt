@@ -5,7 +5,6 @@ use Rattle.fx_stream.specs.declared.fault.RunFault.{RunFault}
 use Rattle.fx_run.specs.Printed.{run_outcome}
 use Rattle.fx_rows.specs.Faults.{RowFlaw, row_fault_of}
 use Rattle.fx_rows.specs.declared.fault.RowFault.{RowFault}
-use Rattle.fx_bundle_commands.specs.OpeningView.{with_source}
 use Rattle.fx_bundle_commands.specs.Outside.{Streams}
 use Rattle.fx_ends.specs.Ends as ends
 use Rattle.fx_ends.specs.Ends.{End}
