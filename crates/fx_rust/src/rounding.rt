@@ -15,14 +15,8 @@ pub fn open_rounded(out: &mut Vec<u8>, r: Round, s: u64) -> Result<(), AllocErro
     ensures { OnOk result (out.new.items ≡ out.old.items ++ opening (round_of r) s) }
 {
     match r {
-        Round::Floor => put(out, b"("),
-        Round::Nearest => {
-            if s == 0 {
-                put(out, b"(")
-            } else {
-                put(out, b"((")
-            }
-        }
+        Round::Nearest if s > 0 => put(out, b"(("),
+        _ => put(out, b"("),
     }
 }
 
@@ -50,14 +44,8 @@ pub fn close_rounded(out: &mut Vec<u8>, r: Round, s: u64) -> Result<(), AllocErr
     ensures { OnOk result (out.new.items ≡ out.old.items ++ closing (round_of r) s) }
 {
     match r {
-        Round::Floor => put_shift(out, s),
-        Round::Nearest => {
-            if s == 0 {
-                put_shift(out, s)
-            } else {
-                put_half(out, s)?;
-                put_shift(out, s)
-            }
-        }
+        Round::Nearest if s > 0 => put_half(out, s)?,
+        _ => {}
     }
+    put_shift(out, s)
 }
