@@ -30,8 +30,8 @@ fn flush<K: Sink>(page: &mut Page, must: bool, sink: &mut K) -> Result<(), Faile
     Ok(())
 }
 
-/// Asks for the next line. What is printed so far is written before, where the bytes that were taken don't hold it whole.
-pub(crate) fn ask<P: Printer, S: Source<K>, K: Sink>(
+// Reads on to the next line. What is printed so far is written before, where the bytes that were taken don't hold it whole.
+fn ask<P: Printer, S: Source<K>, K: Sink>(
     lines: &mut Lines,
     page: &mut Page,
     source: &mut S,
@@ -66,8 +66,8 @@ pub(crate) fn ask<P: Printer, S: Source<K>, K: Sink>(
     }
 }
 
-/// Has a printer append what it holds back where a read may follow.
-pub(crate) fn settle_before<P: Printer>(lines: &Lines, printer: &mut P, page: &mut Page)
+// Has a printer append what it holds back where a read may follow.
+fn settle_before<P: Printer>(lines: &Lines, printer: &mut P, page: &mut Page)
     requires ready { IsTrue lines.now.is_ready }
     requires can { P.can_take printer.old }
     requires held { P.is_settled printer.old ⊎ HasRoom page.old }
@@ -79,6 +79,39 @@ pub(crate) fn settle_before<P: Printer>(lines: &Lines, printer: &mut P, page: &m
     if !lines.holds_line() {
         printer.settle(page);
     }
+}
+
+/// Asks for the next line, behind what a printer holds back.
+pub(crate) fn next<P: Printer, S: Source<K>, K: Sink>(
+    lines: &mut Lines,
+    printer: &mut P,
+    page: &mut Page,
+    source: &mut S,
+    sink: &mut K,
+) -> Result<LineStep, RunFault<P::Flaw>>
+    requires ready { IsTrue lines.old.is_ready }
+    requires limit { lines.old.limit < 2 ^ 64 - 1 }
+    requires can { P.can_take printer.old }
+    requires held { P.is_settled printer.old ⊎ HasRoom page.old }
+    ensures can { P.can_take printer.new }
+    ensures settled { position (λ b. b == 10) lines.old.held ≡ None → P.is_settled printer.new }
+    ensures asked { (o : List (List ℕ) → Outcome P.Told) (left before : Option (List ℕ)) (count : ℕ)
+        → Ran o (P.outcome printer.old) lines.old left (S.left source.old) before (K.taken sink.old) page.old count lines.old.limit
+        → MatchResult result
+        (λ step. IsAsked o (P.outcome printer.new) lines.old lines.new left (S.left source.old) (S.left source.new) before (K.taken sink.new) page.new count lines.old.limit step)
+        (λ fault. IsFailed P.told o left (S.left source.new) before (K.taken sink.new) lines.old.limit fault) }
+    ensures prompt { (o : List (List ℕ) → Outcome P.Told) (left before : Option (List ℕ)) (count : ℕ)
+        → Ran o (P.outcome printer.old) lines.old left (S.left source.old) before (K.taken sink.old) page.old count lines.old.limit
+        → HoldsEachTime (IsAnswered o left before) (S.asked source.old) (S.asked source.new) }
+    ensures room { OnOk result (HasRoom page.new) }
+    ensures grown { Grows (K.taken sink.old) (K.taken sink.new) }
+    ensures read_fault { IsErrOf result ReadFault → Rose (S.faults source.old) (S.faults source.new) }
+    ensures write_fault { IsErrOf result WriteFault → Rose (K.faults sink.old) (K.faults sink.new) }
+    ensures later { S.faults source.old ≤ S.faults source.new }
+    ensures later_sink { K.faults sink.old ≤ K.faults sink.new }
+{
+    settle_before(lines, printer, page);
+    ask::<P, S, K>(lines, page, source, sink)
 }
 
 /// Gives the line last answered to a printer.

@@ -7,7 +7,7 @@ ghost use Rattle.fx_base.specs.Text.{lines_in};
 ghost use Rattle.fx_stream.specs.Outcome.{one};
 ghost use Rattle.fx_stream.specs.Promise.{Grows, IsAnswered, IsDone, IsDue};
 
-use crate::ask::{ask, end_at, settle_before, stop_at, take_line};
+use crate::ask::{end_at, next, stop_at, take_line};
 use crate::fault::RunFault;
 use crate::page::Page;
 use crate::printer::Printer;
@@ -51,8 +51,7 @@ pub fn run_lines<P: Printer, S: Source<K>, K: Sink>(
     };
     let mut count = 0;
     'lines: loop {
-        settle_before(&lines, printer, &mut page);
-        match ask::<P, S, K>(&mut lines, &mut page, source, sink) {
+        match next::<P, S, K>(&mut lines, printer, &mut page, source, sink) {
             Ok(LineStep::Line) => match take_line(&lines, printer, &mut page) {
                 Ok(is_row) => count += one(is_row),
                 Err(stop) => return Err(stop_at(lines.number(), stop, &mut page, sink)),

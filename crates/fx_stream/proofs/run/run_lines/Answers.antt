@@ -4,7 +4,7 @@ use Rattle.fx_stream.specs.Outcome.{one}
 use Rattle.fx_base.proofs.Noting.{none_noted, noted_on}
 use Rattle.fx_stream.specs.Promise.{IsAnswered, IsFailed, RunTakesUpTo}
 use Rattle.fx_stream.specs.Running.{EndsAs, HasNoLine, HasLine, IsAsked, Ran, StopsAs}
-use Rattle.fx_stream.proofs.Steps.{put-out, start, stepped}
+use Rattle.fx_stream.proofs.Steps.{start, stepped}
 use Rattle.fx_stream.proofs.Turns.{one-few}
 use Rattle.fx_stream.proofs.Grown.{none_grown, grown_on, stopped_grows}
 use Rattle.fx_stream.proofs.Exits.{IsOver, line-stopped, lines-ended, of-result}
@@ -30,29 +30,15 @@ lines-init g c =
     }
 
 -- a line came, and was taken
-line-came : (g : Over) (c : goal.After-one-count g) → IsAsked (g.P.Printer.outcome c.args.printer.now) (g.P.Printer.outcome c.settle_before.new.printer) c.lines.lines c.ask.new.lines
-    (g.S.Source.left c.args.source.now) (g.S.Source.left c.lines.source) (g.S.Source.left c.ask.new.source) (g.K.Sink.taken c.args.sink.now) (g.K.Sink.taken c.ask.new.sink)
-    c.ask.new.page c.lines.count c.lines.lines.limit Line
-line-came g c =
-    let o = g.P.Printer.outcome c.args.printer.now in
-    let was = g.P.Printer.outcome c.lines.printer in
-    let now = g.P.Printer.outcome c.settle_before.new.printer in
-    let r = c.lines.lines in
-    let r' = c.ask.new.lines in
-    let left = g.S.Source.left c.args.source.now in
-    let left1 = g.S.Source.left c.lines.source in
-    let left2 = g.S.Source.left c.ask.new.source in
-    let before = g.K.Sink.taken c.args.sink.now in
-    let after = g.K.Sink.taken c.lines.sink in
-    let mid = g.K.Sink.taken c.ask.new.sink in
-    let page = c.ask.new.page in
-    let count = c.lines.count in
-    subst (IsAsked o now r r' left left1 left2 before mid page count r.limit) c.in-Ok-Line.field-0-is (c.in-Ok-Line.ensures.asked o now left before count (λ out. (g.met.P.Printer.none c.settle_before.new.printer (c.settle_before.ensures.settled out)).0) (put-out o was now r left left1 before after c.lines.page c.settle_before.new.page count r.limit c.lines.invariant.ran c.settle_before.ensures.put))
+line-came : (g : Over) (c : goal.After-one-count g) → IsAsked (g.P.Printer.outcome c.args.printer.now) (g.P.Printer.outcome c.next.new.printer) c.lines.lines c.next.new.lines
+    (g.S.Source.left c.args.source.now) (g.S.Source.left c.lines.source) (g.S.Source.left c.next.new.source) (g.K.Sink.taken c.args.sink.now) (g.K.Sink.taken c.next.new.sink)
+    c.next.new.page c.lines.count c.lines.lines.limit Line
+line-came g c = subst (IsAsked _ _ _ _ _ _ _ _ _ _ _ _) c.in-Ok-Line.field-0-is (c.in-Ok-Line.ensures.asked _ _ _ _ c.lines.invariant.ran)
 
 pub lines-smaller : goal.lines-smaller
 lines-smaller g c =
     let a = line-came g c in
-    let line : HasLine c.lines.lines c.ask.new.lines (g.S.Source.left c.ask.new.source) a.more = a.stepped in
+    let line : HasLine c.lines.lines c.next.new.lines (g.S.Source.left c.next.new.source) a.more = a.stepped in
     let number = line.takes.number in
     let counts = line.counts c.in-Ok-take_line.ensures.ready in
     omega (arith, a.within, c.lines.invariant.bound)
@@ -60,15 +46,15 @@ lines-smaller g c =
 pub lines-preserved : goal.lines-preserved
 lines-preserved g c =
     let o = g.P.Printer.outcome c.args.printer.now in
-    let now = g.P.Printer.outcome c.settle_before.new.printer in
+    let now = g.P.Printer.outcome c.next.new.printer in
     let r = c.lines.lines in
-    let r' = c.ask.new.lines in
+    let r' = c.next.new.lines in
     let left = g.S.Source.left c.args.source.now in
     let left1 = g.S.Source.left c.lines.source in
-    let left2 = g.S.Source.left c.ask.new.source in
+    let left2 = g.S.Source.left c.next.new.source in
     let before = g.K.Sink.taken c.args.sink.now in
-    let mid = g.K.Sink.taken c.ask.new.sink in
-    let page = c.ask.new.page in
+    let mid = g.K.Sink.taken c.next.new.sink in
+    let page = c.next.new.page in
     let count = c.lines.count in
     let a = line-came g c in
     let line : HasLine r r' left2 a.more = a.stepped in
@@ -85,93 +71,69 @@ lines-preserved g c =
       bound = a.limit ∙ c.lines.invariant.bound;
       can = c.in-Ok-take_line.ensures.can;
       held = c.in-Ok-take_line.ensures.held;
-      grown = grown_on before (g.K.Sink.taken c.lines.sink) mid c.lines.invariant.grown c.ask.ensures.grown;
-      prompt = noted_on (IsAnswered o left before) _ _ _ c.lines.invariant.prompt (c.ask.ensures.prompt o now left before count (λ out. (g.met.P.Printer.none c.settle_before.new.printer (c.settle_before.ensures.settled out)).0) (put-out o (g.P.Printer.outcome c.lines.printer) now r left left1 before (g.K.Sink.taken c.lines.sink) c.lines.page c.settle_before.new.page count r.limit c.lines.invariant.ran c.settle_before.ensures.put));
-      later = omega (arith, c.lines.invariant.later, c.ask.ensures.later);
-      later_sink = omega (arith, c.lines.invariant.later_sink, c.ask.ensures.later_sink);
+      grown = grown_on before (g.K.Sink.taken c.lines.sink) mid c.lines.invariant.grown c.next.ensures.grown;
+      prompt = noted_on (IsAnswered o left before) _ _ _ c.lines.invariant.prompt (c.next.ensures.prompt o left before count c.lines.invariant.ran);
+      later = omega (arith, c.lines.invariant.later, c.next.ensures.later);
+      later_sink = omega (arith, c.lines.invariant.later_sink, c.next.ensures.later_sink);
     }
 
 -- a line came that stops the run
-line-stops : (g : Over) (c : goal.After-drop-page-inside-in-Err-take_line g) → IsFailed g.P.Printer.told (g.P.Printer.outcome c.args.printer.now) (g.S.Source.left c.args.source.now) (g.S.Source.left c.ask.new.source) (g.K.Sink.taken c.args.sink.now)
+line-stops : (g : Over) (c : goal.After-drop-page-inside-in-Err-take_line g) → IsFailed g.P.Printer.told (g.P.Printer.outcome c.args.printer.now) (g.S.Source.left c.args.source.now) (g.S.Source.left c.next.new.source) (g.K.Sink.taken c.args.sink.now)
     (g.K.Sink.taken c.stop_at.new.sink) c.lines.lines.limit c.stop_at.result
 line-stops g c =
-    let o = g.P.Printer.outcome c.args.printer.now in
-    let was = g.P.Printer.outcome c.lines.printer in
-    let now = g.P.Printer.outcome c.settle_before.new.printer in
     let r = c.lines.lines in
-    let r' = c.ask.new.lines in
-    let left = g.S.Source.left c.args.source.now in
-    let left1 = g.S.Source.left c.lines.source in
-    let left2 = g.S.Source.left c.ask.new.source in
-    let before = g.K.Sink.taken c.args.sink.now in
-    let after = g.K.Sink.taken c.lines.sink in
-    let mid = g.K.Sink.taken c.ask.new.sink in
-    let page = c.ask.new.page in
-    let count = c.lines.count in
-    let a : IsAsked o now r r' left left1 left2 before mid page count r.limit Line =
-    subst (IsAsked o now r r' left left1 left2 before mid page count r.limit) c.in-Ok-Line.field-0-is (c.in-Ok-Line.ensures.asked o now left before count (λ out. (g.met.P.Printer.none c.settle_before.new.printer (c.settle_before.ensures.settled out)).0) (put-out o was now r left left1 before after c.lines.page c.settle_before.new.page count r.limit c.lines.invariant.ran c.settle_before.ensures.put)) in
+    let r' = c.next.new.lines in
+    let left2 = g.S.Source.left c.next.new.source in
+    let mid = g.K.Sink.taken c.next.new.sink in
+    let last = g.K.Sink.taken c.stop_at.new.sink in
+    let a : IsAsked (g.P.Printer.outcome c.args.printer.now) (g.P.Printer.outcome c.next.new.printer) r r' (g.S.Source.left c.args.source.now) (g.S.Source.left c.lines.source) left2
+    (g.K.Sink.taken c.args.sink.now) mid c.next.new.page c.lines.count r.limit Line =
+    subst (IsAsked _ _ _ _ _ _ _ _ _ _ _ _) c.in-Ok-Line.field-0-is (c.in-Ok-Line.ensures.asked _ _ _ _ c.lines.invariant.ran) in
     let line : HasLine r r' left2 a.more = a.stepped in
     let within : r.taken + length a.more ≤ r.limit = omega (arith, a.sum, a.within) in
-    let last = g.K.Sink.taken c.stop_at.new.sink in
     let stop = c.in-Err-take_line.stop in
     let stops : StopsAs stop r'.number mid last c.take_line.new.page c.stop_at.result = subst (λ n. StopsAs stop n mid last c.take_line.new.page c.stop_at.result) c.number.ensures c.stop_at.ensures.stops in
-    line-stopped g.P.Printer.told o now r r' left left1 left2 before mid last page c.take_line.new.page a.more count r.limit stop c.stop_at.result a.asked line a.few within stops c.in-Err-take_line.ensures.bad
+    line-stopped g.P.Printer.told _ _ r r' _ _ left2 _ mid last c.next.new.page c.take_line.new.page a.more c.lines.count r.limit stop c.stop_at.result a.asked line a.few within stops c.in-Err-take_line.ensures.bad
 
 pub returns-in-Err-take_line-clause-due : goal.returns-in-Err-take_line-clause-due
 returns-in-Err-take_line-clause-due g c = (line-stops g c).0
 
 pub returns-in-Err-take_line-clause-taken : goal.returns-in-Err-take_line-clause-taken
 returns-in-Err-take_line-clause-taken g c =
-    of-result (g.S.Source.left c.args.source.now) (g.S.Source.left c.ask.new.source) c.args.limit c.stop_at.result
-    (subst (λ l. RunTakesUpTo (g.S.Source.left c.args.source.now) (g.S.Source.left c.ask.new.source) l c.stop_at.result) c.lines.invariant.bound (line-stops g c).1)
+    of-result (g.S.Source.left c.args.source.now) (g.S.Source.left c.next.new.source) c.args.limit c.stop_at.result
+    (subst (λ l. RunTakesUpTo (g.S.Source.left c.args.source.now) (g.S.Source.left c.next.new.source) l c.stop_at.result) c.lines.invariant.bound (line-stops g c).1)
 
 pub end_at-requires : goal.end_at-requires
 end_at-requires g c =
-    let o = g.P.Printer.outcome c.args.printer.now in
-    let was = g.P.Printer.outcome c.lines.printer in
-    let now = g.P.Printer.outcome c.settle_before.new.printer in
     let r = c.lines.lines in
-    let r' = c.ask.new.lines in
-    let left = g.S.Source.left c.args.source.now in
-    let left1 = g.S.Source.left c.lines.source in
-    let left2 = g.S.Source.left c.ask.new.source in
-    let before = g.K.Sink.taken c.args.sink.now in
-    let after = g.K.Sink.taken c.lines.sink in
-    let mid = g.K.Sink.taken c.ask.new.sink in
-    let page = c.ask.new.page in
-    let count = c.lines.count in
-    let a : IsAsked o now r r' left left1 left2 before mid page count r.limit End =
-    subst (IsAsked o now r r' left left1 left2 before mid page count r.limit) c.in-Ok-End.field-0-is (c.in-Ok-End.ensures.asked o now left before count (λ out. (g.met.P.Printer.none c.settle_before.new.printer (c.settle_before.ensures.settled out)).0) (put-out o was now r left left1 before after c.lines.page c.settle_before.new.page count r.limit c.lines.invariant.ran c.settle_before.ensures.put)) in
-    let over : HasNoLine r r' left2 page a.more = a.stepped in
+    let a : IsAsked (g.P.Printer.outcome c.args.printer.now) (g.P.Printer.outcome c.next.new.printer) r c.next.new.lines (g.S.Source.left c.args.source.now) (g.S.Source.left c.lines.source)
+    (g.S.Source.left c.next.new.source) (g.K.Sink.taken c.args.sink.now) (g.K.Sink.taken c.next.new.sink) c.next.new.page c.lines.count r.limit End =
+    subst (IsAsked _ _ _ _ _ _ _ _ _ _ _ _) c.in-Ok-End.field-0-is (c.in-Ok-End.ensures.asked _ _ _ _ c.lines.invariant.ran) in
+    let over : HasNoLine r c.next.new.lines (g.S.Source.left c.next.new.source) c.next.new.page a.more = a.stepped in
     let ran = c.lines.invariant.ran in
     omega (arith, c.number-in-Ok-End.ensures, over.number, ran.counts, ran.within, c.lines.invariant.bound, c.requires.limit)
 
 -- no line is left
-no-line : (g : Over) (c : goal.After-drop-page-inside-in-Ok-End g) → IsOver g.P.Printer.told (g.P.Printer.outcome c.args.printer.now) (g.S.Source.left c.args.source.now) (g.S.Source.left c.ask.new.source)
-    (g.K.Sink.taken c.args.sink.now) (g.K.Sink.taken c.ask.new.sink) c.args.limit c.end_at.result
+no-line : (g : Over) (c : goal.After-drop-page-inside-in-Ok-End g) → IsOver g.P.Printer.told (g.P.Printer.outcome c.args.printer.now) (g.S.Source.left c.args.source.now) (g.S.Source.left c.next.new.source)
+    (g.K.Sink.taken c.args.sink.now) (g.K.Sink.taken c.next.new.sink) c.args.limit c.end_at.result
 no-line g c =
-    let o = g.P.Printer.outcome c.args.printer.now in
-    let was = g.P.Printer.outcome c.lines.printer in
-    let now = g.P.Printer.outcome c.settle_before.new.printer in
+    let now = g.P.Printer.outcome c.next.new.printer in
     let r = c.lines.lines in
-    let r' = c.ask.new.lines in
+    let r' = c.next.new.lines in
     let left = g.S.Source.left c.args.source.now in
-    let left1 = g.S.Source.left c.lines.source in
-    let left2 = g.S.Source.left c.ask.new.source in
+    let left2 = g.S.Source.left c.next.new.source in
     let before = g.K.Sink.taken c.args.sink.now in
-    let after = g.K.Sink.taken c.lines.sink in
-    let mid = g.K.Sink.taken c.ask.new.sink in
-    let page = c.ask.new.page in
-    let count = c.lines.count in
-    let a : IsAsked o now r r' left left1 left2 before mid page count r.limit End =
-    subst (IsAsked o now r r' left left1 left2 before mid page count r.limit) c.in-Ok-End.field-0-is (c.in-Ok-End.ensures.asked o now left before count (λ out. (g.met.P.Printer.none c.settle_before.new.printer (c.settle_before.ensures.settled out)).0) (put-out o was now r left left1 before after c.lines.page c.settle_before.new.page count r.limit c.lines.invariant.ran c.settle_before.ensures.put)) in
-    let over : HasNoLine r r' left2 page a.more = a.stepped in
+    let mid = g.K.Sink.taken c.next.new.sink in
+    let o = g.P.Printer.outcome c.args.printer.now in
+    let a : IsAsked o now r r' left (g.S.Source.left c.lines.source) left2 before mid c.next.new.page c.lines.count r.limit End =
+    subst (IsAsked _ _ _ _ _ _ _ _ _ _ _ _) c.in-Ok-End.field-0-is (c.in-Ok-End.ensures.asked _ _ _ _ c.lines.invariant.ran) in
+    let over : HasNoLine r r' left2 c.next.new.page a.more = a.stepped in
     let within : r.taken + length a.more ≤ r.limit = omega (arith, a.sum, a.within) in
     let told = g.P.Printer.told in
-    let ends : EndsAs told (now []) r'.number count c.end_at.result = subst (λ n. EndsAs told (now []) n count c.end_at.result) c.number-in-Ok-End.ensures c.end_at.ensures in
-    let nothing = g.met.P.Printer.none c.settle_before.new.printer (c.settle_before.ensures.settled (inl over.unheld)) in
+    let ends : EndsAs told (now []) r'.number c.lines.count c.end_at.result = subst (λ n. EndsAs told (now []) n c.lines.count c.end_at.result) c.number-in-Ok-End.ensures c.end_at.ensures in
+    let nothing = g.met.P.Printer.none c.next.new.printer (c.next.ensures.settled over.unheld) in
     subst (λ l. IsOver told o left left2 before mid l c.end_at.result) c.lines.invariant.bound
-    (lines-ended told o now r r' left left1 left2 before mid page a.more count r.limit c.end_at.result nothing a.asked over within ends)
+    (lines-ended told o now r r' left _ left2 before mid c.next.new.page a.more c.lines.count r.limit c.end_at.result nothing a.asked over within ends)
 
 pub returns-in-Ok-End-clause-done : goal.returns-in-Ok-End-clause-done
 returns-in-Ok-End-clause-done g c = (no-line g c).done
@@ -186,77 +148,37 @@ pub returns-in-Ok-End-clause-taken : goal.returns-in-Ok-End-clause-taken
 returns-in-Ok-End-clause-taken g c = (no-line g c).taken
 
 -- asking failed
-asking-failed : (g : Over) (c : goal.After-drop-page-inside-in-Err g) → IsFailed g.P.Printer.told (g.P.Printer.outcome c.args.printer.now) (g.S.Source.left c.args.source.now) (g.S.Source.left c.ask.new.source) (g.K.Sink.taken c.args.sink.now)
-    (g.K.Sink.taken c.ask.new.sink) c.lines.lines.limit c.in-Err.fault
-asking-failed g c =
-    let o = g.P.Printer.outcome c.args.printer.now in
-    let was = g.P.Printer.outcome c.lines.printer in
-    let now = g.P.Printer.outcome c.settle_before.new.printer in
-    let r = c.lines.lines in
-    let left = g.S.Source.left c.args.source.now in
-    let left1 = g.S.Source.left c.lines.source in
-    let before = g.K.Sink.taken c.args.sink.now in
-    let after = g.K.Sink.taken c.lines.sink in
-    let count = c.lines.count in
-    c.in-Err.ensures.asked o now left before count (λ out. (g.met.P.Printer.none c.settle_before.new.printer (c.settle_before.ensures.settled out)).0) (put-out o was now r left left1 before after c.lines.page c.settle_before.new.page count r.limit c.lines.invariant.ran c.settle_before.ensures.put)
+asking-failed : (g : Over) (c : goal.After-drop-page-inside-in-Err g) → IsFailed g.P.Printer.told (g.P.Printer.outcome c.args.printer.now) (g.S.Source.left c.args.source.now) (g.S.Source.left c.next.new.source) (g.K.Sink.taken c.args.sink.now)
+    (g.K.Sink.taken c.next.new.sink) c.lines.lines.limit c.in-Err.fault
+asking-failed g c = c.in-Err.ensures.asked _ _ _ _ c.lines.invariant.ran
 
 pub returns-in-Err-clause-due : goal.returns-in-Err-clause-due
 returns-in-Err-clause-due g c = (asking-failed g c).0
 
 pub returns-in-Err-clause-taken : goal.returns-in-Err-clause-taken
 returns-in-Err-clause-taken g c =
-    of-result (g.S.Source.left c.args.source.now) (g.S.Source.left c.ask.new.source) c.args.limit c.in-Err.fault
-    (subst (λ l. RunTakesUpTo (g.S.Source.left c.args.source.now) (g.S.Source.left c.ask.new.source) l c.in-Err.fault) c.lines.invariant.bound (asking-failed g c).1)
+    of-result (g.S.Source.left c.args.source.now) (g.S.Source.left c.next.new.source) c.args.limit c.in-Err.fault
+    (subst (λ l. RunTakesUpTo (g.S.Source.left c.args.source.now) (g.S.Source.left c.next.new.source) l c.in-Err.fault) c.lines.invariant.bound (asking-failed g c).1)
 
 pub returns-in-Err-take_line-clause-grown : goal.returns-in-Err-take_line-clause-grown
 returns-in-Err-take_line-clause-grown g c =
     let before = g.K.Sink.taken c.args.sink.now in
-    let mid = g.K.Sink.taken c.ask.new.sink in
+    let mid = g.K.Sink.taken c.next.new.sink in
     let last = g.K.Sink.taken c.stop_at.new.sink in
-    grown_on before mid last (grown_on before (g.K.Sink.taken c.lines.sink) mid c.lines.invariant.grown c.ask.ensures.grown)
+    grown_on before mid last (grown_on before (g.K.Sink.taken c.lines.sink) mid c.lines.invariant.grown c.next.ensures.grown)
     (stopped_grows c.in-Err-take_line.stop _ mid last c.take_line.new.page c.stop_at.result c.stop_at.ensures.stops)
 
 pub returns-in-Ok-End-clause-grown : goal.returns-in-Ok-End-clause-grown
-returns-in-Ok-End-clause-grown g c = grown_on _ _ _ c.lines.invariant.grown c.ask.ensures.grown
+returns-in-Ok-End-clause-grown g c = grown_on _ _ _ c.lines.invariant.grown c.next.ensures.grown
 
 pub returns-in-Err-clause-grown : goal.returns-in-Err-clause-grown
-returns-in-Err-clause-grown g c = grown_on _ _ _ c.lines.invariant.grown c.ask.ensures.grown
+returns-in-Err-clause-grown g c = grown_on _ _ _ c.lines.invariant.grown c.next.ensures.grown
 
 pub returns-in-Err-take_line-clause-prompt : goal.returns-in-Err-take_line-clause-prompt
-returns-in-Err-take_line-clause-prompt g c =
-    let o = g.P.Printer.outcome c.args.printer.now in
-    let was = g.P.Printer.outcome c.lines.printer in
-    let now = g.P.Printer.outcome c.settle_before.new.printer in
-    let r = c.lines.lines in
-    let left = g.S.Source.left c.args.source.now in
-    let left1 = g.S.Source.left c.lines.source in
-    let before = g.K.Sink.taken c.args.sink.now in
-    let after = g.K.Sink.taken c.lines.sink in
-    let count = c.lines.count in
-    noted_on (IsAnswered o left before) _ _ _ c.lines.invariant.prompt (c.ask.ensures.prompt o now left before count (λ out. (g.met.P.Printer.none c.settle_before.new.printer (c.settle_before.ensures.settled out)).0) (put-out o was now r left left1 before after c.lines.page c.settle_before.new.page count r.limit c.lines.invariant.ran c.settle_before.ensures.put))
+returns-in-Err-take_line-clause-prompt g c = noted_on (IsAnswered _ _ _) _ _ _ c.lines.invariant.prompt (c.next.ensures.prompt _ _ _ _ c.lines.invariant.ran)
 
 pub returns-in-Ok-End-clause-prompt : goal.returns-in-Ok-End-clause-prompt
-returns-in-Ok-End-clause-prompt g c =
-    let o = g.P.Printer.outcome c.args.printer.now in
-    let was = g.P.Printer.outcome c.lines.printer in
-    let now = g.P.Printer.outcome c.settle_before.new.printer in
-    let r = c.lines.lines in
-    let left = g.S.Source.left c.args.source.now in
-    let left1 = g.S.Source.left c.lines.source in
-    let before = g.K.Sink.taken c.args.sink.now in
-    let after = g.K.Sink.taken c.lines.sink in
-    let count = c.lines.count in
-    noted_on (IsAnswered o left before) _ _ _ c.lines.invariant.prompt (c.ask.ensures.prompt o now left before count (λ out. (g.met.P.Printer.none c.settle_before.new.printer (c.settle_before.ensures.settled out)).0) (put-out o was now r left left1 before after c.lines.page c.settle_before.new.page count r.limit c.lines.invariant.ran c.settle_before.ensures.put))
+returns-in-Ok-End-clause-prompt g c = noted_on (IsAnswered _ _ _) _ _ _ c.lines.invariant.prompt (c.next.ensures.prompt _ _ _ _ c.lines.invariant.ran)
 
 pub returns-in-Err-clause-prompt : goal.returns-in-Err-clause-prompt
-returns-in-Err-clause-prompt g c =
-    let o = g.P.Printer.outcome c.args.printer.now in
-    let was = g.P.Printer.outcome c.lines.printer in
-    let now = g.P.Printer.outcome c.settle_before.new.printer in
-    let r = c.lines.lines in
-    let left = g.S.Source.left c.args.source.now in
-    let left1 = g.S.Source.left c.lines.source in
-    let before = g.K.Sink.taken c.args.sink.now in
-    let after = g.K.Sink.taken c.lines.sink in
-    let count = c.lines.count in
-    noted_on (IsAnswered o left before) _ _ _ c.lines.invariant.prompt (c.ask.ensures.prompt o now left before count (λ out. (g.met.P.Printer.none c.settle_before.new.printer (c.settle_before.ensures.settled out)).0) (put-out o was now r left left1 before after c.lines.page c.settle_before.new.page count r.limit c.lines.invariant.ran c.settle_before.ensures.put))
+returns-in-Err-clause-prompt g c = noted_on (IsAnswered _ _ _) _ _ _ c.lines.invariant.prompt (c.next.ensures.prompt _ _ _ _ c.lines.invariant.ran)
