@@ -7,6 +7,7 @@ use crate::attempt::{Chosen, Task, attempt, operands};
 use crate::facts::NodeFacts;
 use crate::fault::PointFault;
 use fx_flat::{Node, Nodes};
+use fx_num::{GREATEST_POINT, LEAST_POINT};
 use fx_program::Round;
 use std::alloc::Global;
 
@@ -40,7 +41,7 @@ fn range_caps(alloc: Global, facts: &[NodeFacts]) -> Result<Vec<i8>, PointFault>
 {
     let mut caps = Vec::new(alloc);
     for fact in facts {
-        caps.push(fact.cap.clamp(-65, 62) as i8)?;
+        caps.push(fact.cap.clamp(LEAST_POINT - 1, GREATEST_POINT) as i8)?;
     }
     Ok(caps)
 }
