@@ -11,6 +11,7 @@ ghost use Rattle.fx_ends.specs.EndView.{end_of};
 ghost use Rattle.fx_ends.specs.Notes.{AreNotes};
 ghost use Rattle.fx_bundle_commands.specs.Opening.{IsOpen};
 ghost use Rattle.fx_bundle_commands.specs.OpeningView.{IsQuiet, with_source};
+ghost use Rattle.fx_bundle_commands.specs.Outside.{streams};
 ghost use Rattle.fx_bundle_commands.specs.commands.Rows.{HasAnswered};
 ghost use Rattle.fx_bundle_commands.specs.commands.Node.{NodeEnds, RunsUnits};
 
@@ -33,8 +34,8 @@ fn run_units<'a, S: Source<K>, K: Sink>(
     requires some { 1 ≤ units }
     requires few { units ≤ 1024 }
     ensures ended { (source : List ℕ) → RunsUnits units
-        (record { left = S.left input.old; read_faults = S.faults input.old; taken = K.taken output.old; write_faults = K.faults output.old })
-        (record { left = S.left input.new; read_faults = S.faults input.new; taken = K.taken output.new; write_faults = K.faults output.new })
+        (streams (S.left input.old) (S.faults input.old) (K.taken output.old) (K.faults output.old))
+        (streams (S.left input.new) (S.faults input.new) (K.taken output.new) (K.faults output.new))
         (with_source certified.now source) certified.now.function (end_of result) }
     ensures loud { IsQuiet (end_of result) → ⊥ }
     ensures prompt { HoldsEachTime (IsAnswered (node_outcome certified.now.function certified.now.program units) (S.left input.old) (K.taken output.old)) (S.asked input.old) (S.asked input.new) }
@@ -71,8 +72,8 @@ pub fn node_file<H: Shelf, S: Source<K>, K: Sink, N: Sink>(
     ensures ended { (end : ends.End) × (result ≡ status_of end) ×
         AreNotes (N.taken notes.old) (N.taken notes.new) (N.faults notes.old) (N.faults notes.new) (end_line end) ×
         NodeEnds (H.papers shelf.old) (H.faults shelf.old) (H.faults shelf.new)
-        (record { left = S.left input.old; read_faults = S.faults input.old; taken = K.taken output.old; write_faults = K.faults output.old })
-        (record { left = S.left input.new; read_faults = S.faults input.new; taken = K.taken output.new; write_faults = K.faults output.new })
+        (streams (S.left input.old) (S.faults input.old) (K.taken output.old) (K.faults output.old))
+        (streams (S.left input.new) (S.faults input.new) (K.taken output.new) (K.faults output.new))
         units name.now end × (IsQuiet end → (input.new ≡ input.old) × (output.new ≡ output.old)) }
     ensures prompt { HoldsEachTime (HasAnswered (λ fn p. node_outcome fn p units) (H.papers shelf.old) name.now (S.left input.old) (K.taken output.old)) (S.asked input.old) (S.asked input.new) }
     ensures untouched { IsOpen (H.papers shelf.old) name.now ⊎ ((input.new ≡ input.old) × (output.new ≡ output.old)) }

@@ -6,7 +6,7 @@ use Rattle.fx_node.specs.Faults.{run_fault_of}
 use Rattle.fx_node.specs.NodePage.{node_outcome}
 use Rattle.fx_node.specs.declared.fault.NodeFault.{NodeFault}
 use Rattle.fx_rows.specs.Faults.{row_fault_of}
-use Rattle.fx_bundle_commands.specs.Outside.{Streams}
+use Rattle.fx_bundle_commands.specs.Outside.{Streams, streams}
 use Rattle.fx_bundle_commands.specs.commands.Node.{bad_end}
 use Rattle.fx_bundle_commands.specs.commands.Rows.{RowsEnd, all_run, bad_line, unread, unwritten, long, no_memory}
 use Rattle.fx_ends.specs.Ends as ends
@@ -23,8 +23,8 @@ returns-in-Ok-clause-ended g c = λ source. let r = c.in-Ok.ensures in record { 
 pub returns-in-Err-Row-clause-ended : goal.returns-in-Err-Row-clause-ended
 returns-in-Err-Row-clause-ended g c = λ source.
     let r = c.in-Err-Row.ensures in let a = c.args.certified.now in
-    let old : Streams = record { left = g.S.Source.left c.args.input.now; read_faults = g.S.Source.faults c.args.input.now; taken = g.K.Sink.taken c.args.output.now; write_faults = g.K.Sink.faults c.args.output.now } in
-    let new : Streams = record { left = g.S.Source.left c.run_node.new.source; read_faults = g.S.Source.faults c.run_node.new.source; taken = g.K.Sink.taken c.run_node.new.sink; write_faults = g.K.Sink.faults c.run_node.new.sink } in
+    let old : Streams = streams (g.S.Source.left c.args.input.now) (g.S.Source.faults c.args.input.now) (g.K.Sink.taken c.args.output.now) (g.K.Sink.faults c.args.output.now) in
+    let new : Streams = streams (g.S.Source.left c.run_node.new.source) (g.S.Source.faults c.run_node.new.source) (g.K.Sink.taken c.run_node.new.sink) (g.K.Sink.faults c.run_node.new.sink) in
     let o = node_outcome a.function a.program c.args.units in
     let row : RowsEnd o (bad_end a.function.inputs) old new (ends.BadRow a.function.inputs c.in-Err-Row.line (row_fault_of c.in-Err-Row.fault)) =
     bad_line c.in-Err-Row.line (InRow (row_fault_of c.in-Err-Row.fault)) (due_of o _ _ _ _ _ _ c.in-Err-Row.field-0-is r.due) in
