@@ -14,7 +14,7 @@ use Rattle.fx_listing.specs.Listing.{numbered_lines}
 use Rattle.fx_ends.specs.Ends.{End}
 use Rattle.fx_bundle_commands.specs.Outside.{Streams}
 use Rattle.fx_bundle_commands.specs.Opening.{OpensThen}
-use Rattle.fx_bundle_commands.specs.commands.Show.{instruction_name}
+use Rattle.fx_model.specs.ProgramText.{instruction_name}
 use Rattle.fx_bundle_commands.specs.commands.Texts.{TextEnds}
 
 -- the line N OP WIDTH of code n
