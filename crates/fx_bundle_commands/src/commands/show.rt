@@ -5,7 +5,7 @@ ghost use Rattle.fx_base.specs.Calls.{AppendsFront};
 ghost use Rattle.fx_base.specs.Causes.{HasCause};
 ghost use Rattle.fx_stream.specs.Promise.{Grows};
 ghost use Rattle.fx_ends.specs.EndView.{end_of};
-ghost use Rattle.fx_listing.specs.Listing.{numbered_lines};
+ghost use Rattle.fx_model.specs.LineText.{numbered_lines};
 ghost use Rattle.fx_bundle_commands.specs.OpeningView.{IsSilent, with_source};
 ghost use Rattle.fx_bundle_commands.specs.Outside.{streams};
 ghost use Rattle.fx_bundle_commands.specs.commands.Check.{bound_lines};
