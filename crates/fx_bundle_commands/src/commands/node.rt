@@ -4,6 +4,7 @@ ghost use Rattle.std.specs.Io.KnownBytes.{Consumes};
 ghost use Rattle.fx_expr.specs.Parts.{input_of};
 ghost use Rattle.fx_base.specs.Moments.{HoldsEachTime};
 ghost use Rattle.fx_stream.specs.Promise.{Grows, IsAnswered};
+ghost use Rattle.fx_node.specs.Faults.{flaw_of};
 ghost use Rattle.fx_node.specs.NodePage.{node_outcome};
 ghost use Rattle.fx_ends.specs.Ends as ends;
 ghost use Rattle.fx_ends.specs.Ends.{end_line, status_of};
@@ -13,15 +14,31 @@ ghost use Rattle.fx_bundle_commands.specs.Opening.{IsOpen};
 ghost use Rattle.fx_bundle_commands.specs.OpeningView.{IsQuiet, with_source};
 ghost use Rattle.fx_bundle_commands.specs.Outside.{streams};
 ghost use Rattle.fx_bundle_commands.specs.commands.Rows.{HasAnswered};
-ghost use Rattle.fx_bundle_commands.specs.commands.Node.{NodeEnds, RunsUnits};
+ghost use Rattle.fx_bundle_commands.specs.commands.Node.{NodeEnds, RunsUnits, bad_end};
 
 use crate::commands::run::{ROWS_LIMIT, inputs_of};
 use crate::open::open;
 use fx_base::{Shelf, Sink, Source, Status};
 use fx_checker::Certified;
 use fx_ends::End;
-use fx_node::{NodeFault, run_node};
+use fx_expr::Input;
+use fx_node::{Flaw, NodeFault, run_node};
 use std::alloc::Global;
+
+// Of a bad line, for the function with these inputs.
+fn end_of_line<'a>(inputs: &'a [Input], line: u64, flaw: Flaw) -> End<'a>
+    ensures value { end_of result ≡ bad_end (map input_of inputs.now) line (flaw_of flaw) }
+    ensures loud { IsQuiet (end_of result) → ⊥ }
+{
+    match flaw {
+        Flaw::Row(fault) => End::BadRow {
+            inputs,
+            line,
+            fault,
+        },
+        Flaw::Unit(kind) => End::BadUnit { line, kind },
+    }
+}
 
 // Runs the rows of the input.
 fn run_units<'a, S: Source<K>, K: Sink>(
@@ -44,12 +61,7 @@ fn run_units<'a, S: Source<K>, K: Sink>(
 {
     match run_node(alloc, certified, units, input, output, ROWS_LIMIT) {
         Ok(_) => End::Done,
-        Err(NodeFault::Row { line, fault }) => End::BadRow {
-            inputs: inputs_of(certified),
-            line,
-            fault,
-        },
-        Err(NodeFault::Unit { line, kind }) => End::BadUnit { line, kind },
+        Err(NodeFault::Row { line, fault }) => end_of_line(inputs_of(certified), line, fault),
         Err(NodeFault::ReadFault) => End::ReadFault,
         Err(NodeFault::WriteFault) => End::WriteFault,
         Err(NodeFault::TooLong) => End::OverLimit,
