@@ -11,8 +11,6 @@ use Rattle.fx_checker.specs.CertifiedView.{Accepted}
 use Rattle.fx_bundle_commands.specs.Outside.{IfFile}
 use Rattle.fx_bundle_commands.specs.Opening as opens
 use Rattle.fx_inequalities.specs.Accepted.{first_fault}
-use Rattle.fx_inequalities.specs.Condition as condition
-use Rattle.fx_inequalities.specs.Condition.{Fault, Kind}
 use Rattle.fx_rules.specs.Steps.{rewrite}
 use Rattle.fx_lexer.specs.Faults as source
 use Rattle.fx_lexer.specs.declared.fault.SourceFault.{SourceFault}
@@ -21,16 +19,16 @@ use Rattle.fx_text.specs.Faults as text
 use Rattle.fx_text.specs.declared.fault.TextFault.{TextFault}
 use Rattle.fx_text.specs.declared.fault.TextKind.TheVariants as texts
 use Rattle.fx_grammar.specs.Sources.{parsed}
-use Rattle.fx_checker.specs.Refusal.{IsRefusal, IsToldOf, kind_told}
+use Rattle.fx_judging.specs.FaultView.{condition_fault_of}
+use Rattle.fx_checker.specs.Refusal.{IsRefusal}
 use Rattle.fx_checker.specs.declared.fault.CheckFault.{CheckFault}
-use Rattle.fx_checker.specs.declared.fault.CheckKind.{CheckKind}
-use Rattle.fx_checker.specs.declared.fault.CheckKind.TheVariants.{Counts, Step, Shape, Shift, Range, Divisor, Error, WordTooSmall, Form, Start, Row, ErrorRow, Demand, Beyond, Memory}
+use Rattle.fx_checker.specs.declared.fault.CheckFault.TheVariants as checks
 use Rattle.fx_cert.specs.BundleView.{Parts}
 use Rattle.fx_cert_reader.specs.BundleReading.{bundle_in}
 use Rattle.fx_ends.specs.Ends as ends
 use Rattle.fx_ends.specs.Ends.{End}
 use Rattle.fx_bundle_commands.specs.Opening.{Spells, meaning_of, OpeningEnds}
-use Rattle.fx_bundle_commands.specs.OpeningView.{ReadingEnds, no_bundle, misread, rejected, IsRejection, IsReadAs, IsOpened, read_end}
+use Rattle.fx_bundle_commands.specs.OpeningView.{ReadingEnds, no_bundle, misread, rejected, IsReadAs, IsOpened, read_end, check_end}
 use Rattle.fx_bundle_commands.specs.OpeningView as opening
 
 -- want of memory ends it, wherever it comes
@@ -51,77 +49,13 @@ source_ends bytes b fault end spelled (inl e) given = memory_ends bytes end e
 source_ends bytes b fault end spelled (inr told) (inl read) = subst (ReadingEnds bytes) (sym told.0) (misread b fault spelled read)
 source_ends bytes b fault end spelled (inr told) (inr none) = absurd (told.1 (ap (λ f. f.kind) none))
 
--- ---- a checker's kind tells one condition's
-kind_back : CheckKind → Kind
-kind_back Counts = condition.Counts
-kind_back Step = condition.Step
-kind_back Shape = condition.Shape
-kind_back Shift = condition.Shift
-kind_back Range = condition.Range
-kind_back Divisor = condition.Divisor
-kind_back Error = condition.Error
-kind_back WordTooSmall = condition.WordTooSmall
-kind_back Form = condition.Form
-kind_back Start = condition.Start
-kind_back Row = condition.Row
-kind_back ErrorRow = condition.ErrorRow
-kind_back Demand = condition.Demand
-kind_back Beyond = condition.Beyond
-kind_back Memory = condition.Beyond
-
-back_is : (k : Kind) → kind_back (kind_told k) ≡ k
-unfolding kind_back
-back_is condition.Counts = refl
-back_is condition.Step = refl
-back_is condition.Shape = refl
-back_is condition.Shift = refl
-back_is condition.Range = refl
-back_is condition.Divisor = refl
-back_is condition.Error = refl
-back_is condition.WordTooSmall = refl
-back_is condition.Form = refl
-back_is condition.Start = refl
-back_is condition.Row = refl
-back_is condition.ErrorRow = refl
-back_is condition.Demand = refl
-back_is condition.Beyond = refl
-
-not_memory : (k : Kind) → Memory ≡ kind_told k → ⊥
-not_memory condition.Counts e = absurd cc
-not_memory condition.Step e = absurd cc
-not_memory condition.Shape e = absurd cc
-not_memory condition.Shift e = absurd cc
-not_memory condition.Range e = absurd cc
-not_memory condition.Divisor e = absurd cc
-not_memory condition.Error e = absurd cc
-not_memory condition.WordTooSmall e = absurd cc
-not_memory condition.Form e = absurd cc
-not_memory condition.Start e = absurd cc
-not_memory condition.Row e = absurd cc
-not_memory condition.ErrorRow e = absurd cc
-not_memory condition.Demand e = absurd cc
-not_memory condition.Beyond e = absurd cc
-
--- two faults that are told alike are one
-one_fault : (told : CheckFault) (a b : Fault) → IsToldOf told a → IsToldOf told b → a ≡ b
-one_fault told a b h k =
-    let kind : a.kind ≡ b.kind = sym (back_is a.kind) ∙ ap kind_back (sym h.kind ∙ k.kind) ∙ back_is b.kind in
-    let part : a.part ≡ b.part = sym h.part ∙ k.part in
-    let index : a.index ≡ b.index = sym h.index ∙ k.index in
-    λ i. record { kind = kind i; part = part i; index = index i }
-
--- the checker's fault is the first of the definitions
-first_told : (told : CheckFault) (found : Fault) (first : Option Fault) → IsToldOf told found → IsRefusal told first → first ≡ Some found
-first_told told found first h (inl none) = absurd (not_memory found.kind (sym (ap (λ (f : CheckFault). f.kind) none) ∙ h.kind))
-first_told told found None h (inr k) = absurd k
-first_told told found (Some f) h (inr k) = ap Some (one_fault told f found k h)
-
 -- a condition fails
-pub check_ends : (bytes : List ℕ) (b : Parts) (fn : Function) (told : CheckFault) (end : End) → Spells bytes b → meaning_of b ≡ Ok fn → IsRejection told end →
+pub check_ends : (bytes : List ℕ) (b : Parts) (fn : Function) (told : CheckFault) (end : End) → Spells bytes b → meaning_of b ≡ Ok fn → end ≡ check_end told →
     IsRefusal told (first_fault rewrite fn b.program b.certificate) → ReadingEnds bytes end
-check_ends bytes b fn told end spelled meant (inl e) refused = memory_ends bytes end e
-check_ends bytes b fn told end spelled meant (inr r) refused =
-    subst (ReadingEnds bytes) (sym r.1) (rejected b fn r.0 spelled meant (first_told told r.0 (first_fault rewrite fn b.program b.certificate) r.2 refused))
+check_ends bytes b fn checks.Memory end spelled meant is refused = memory_ends bytes end is
+check_ends bytes b fn (checks.Condition fault) end spelled meant is (inl none) = absurd cc
+check_ends bytes b fn (checks.Condition fault) end spelled meant is (inr first) =
+    subst (ReadingEnds bytes) (sym is) (rejected b fn (condition_fault_of fault) spelled meant (sym first))
 
 -- what was parsed is what the source means
 pub meant : (b : Parts) (source name : List ℕ) → source ≡ b.source → name ≡ b.program.name → parsed source (Some name) ≡ meaning_of b

@@ -1,5 +1,5 @@
 -- What the steps of opening FILE say to one another. No clause of a public call rests on this.
-use Rattle.std.specs.Prelude.{◌≡◌, ◌⊎◌, ℕ, List, Option, Some, Ok, Err}
+use Rattle.std.specs.Prelude.{◌≡◌, ℕ, List, Option, Some, Ok, Err}
 use Rattle.fx_base.specs.Shelf.{Files}
 use Rattle.fx_base.specs.declared.answers.InFault.{InFault}
 use Rattle.fx_base.specs.declared.answers.InFault.TheVariants as reads
@@ -10,8 +10,9 @@ use Rattle.fx_rules.specs.Steps.{rewrite}
 use Rattle.fx_lexer.specs.declared.fault.SourceFault.{SourceFault}
 use Rattle.fx_text.specs.declared.fault.TextFault.{TextFault}
 use Rattle.fx_checker.specs.CertifiedView.{Accepted}
-use Rattle.fx_checker.specs.Refusal.{IsToldOf}
+use Rattle.fx_judging.specs.FaultView.{condition_fault_of}
 use Rattle.fx_checker.specs.declared.fault.CheckFault.{CheckFault}
+use Rattle.fx_checker.specs.declared.fault.CheckFault.TheVariants as checks
 use Rattle.fx_cert.specs.BundleView.{Parts, IsLawfulBundle}
 use Rattle.fx_cert_reader.specs.BundleReading.{bundle_in}
 use Rattle.fx_ends.specs.Ends.{End, Done, Usage, NotFound, Rejected, Misread, BadBundle, ReadFault, WriteFault, OverLimit, NoMemory}
@@ -45,9 +46,10 @@ pub data ReadingEnds (bytes : List ℕ) : End → Type 0 where
   rejected : (b : Parts) (fn : Function) (fault : Fault) → Spells bytes b → meaning_of b ≡ Ok fn → first_fault rewrite fn b.program b.certificate ≡ Some fault → ReadingEnds bytes (Rejected fault)
   no_memory : ReadingEnds bytes NoMemory
 
--- the end that a checker's fault is: of the condition that it tells, or want of memory
-abbrev pub IsRejection : CheckFault → End → Type 0
-IsRejection fault end = (end ≡ NoMemory) ⊎ ((found : Fault) × (end ≡ Rejected found) × IsToldOf fault found)
+-- of a certificate that isn't accepted
+abbrev pub check_end : CheckFault → End
+check_end (checks.Condition fault) = Rejected (condition_fault_of fault)
+check_end checks.Memory = NoMemory
 
 -- an end at which a command that reads no rows has printed nothing
 abbrev pub IsSilent : End → Type 0

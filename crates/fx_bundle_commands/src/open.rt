@@ -2,26 +2,22 @@
 //!
 //! The file is read whole, its text is read as a bundle, the bundle's source as a function, and then all conditions are
 //! looked at; the first cause ends it. The trap: want of memory may come at any stage, and is no fault of the bundle.
-ghost use Rattle.std.specs.Prelude.{◌≡◌, ◌≢◌, ◌⊎◌, ◌≤◌, length, IfOk, IfErr, MatchOption, Some};
+ghost use Rattle.std.specs.Prelude.{◌≡◌, ◌≢◌, ◌⊎◌, ◌≤◌, length, IfOk, IfErr};
 ghost use Rattle.fx_base.specs.Shelf.{IfPaper};
 ghost use Rattle.fx_model.specs.Limits.{bundle_limit};
 ghost use Rattle.fx_text.specs.declared.fault.TextKind.TheVariants as texts;
 ghost use Rattle.fx_lexer.specs.declared.fault.SourceKind.TheVariants as sources;
-ghost use Rattle.fx_judging.specs.FaultView.{kind_of};
-ghost use Rattle.fx_checker.specs.Refusal.{kind_told};
-ghost use Rattle.fx_checker.specs.declared.fault.CheckKind.TheVariants as checks;
 ghost use Rattle.fx_ends.specs.Ends as ends;
 ghost use Rattle.fx_ends.specs.EndView.{end_of};
 ghost use Rattle.fx_bundle_commands.specs.Opening.{OpeningEnds};
-ghost use Rattle.fx_bundle_commands.specs.OpeningView.{IsOpened, IsReadAs, ReadingEnds, IsRejection, read_end};
+ghost use Rattle.fx_bundle_commands.specs.OpeningView.{IsOpened, IsReadAs, ReadingEnds, check_end, read_end};
 
 use fx_base::{InFault, Shelf, read_file};
 use fx_cert::Bundle;
 use fx_cert_reader::{bundle_text_law, read_bundle};
-use fx_checker::{Certified, CheckFault, CheckKind, check};
+use fx_checker::{Certified, CheckFault, check};
 use fx_ends::End;
 use fx_expr::Items;
-use fx_judging::{ConditionFault, ConditionKind};
 use fx_lexer::{SourceFault, SourceKind};
 use fx_parser::parse;
 use fx_text::{TextFault, TextKind};
@@ -61,40 +57,13 @@ pub fn end_of_source(fault: SourceFault) -> End<'static>
     }
 }
 
-// The condition of a checker's fault. None for want of memory.
-fn condition_of(kind: CheckKind) -> Option<ConditionKind>
-    ensures { MatchOption result (kind ≡ checks.Memory) (λ found. kind ≡ kind_told (kind_of found)) }
-{
-    Some(match kind {
-        CheckKind::Counts => ConditionKind::Counts,
-        CheckKind::Step => ConditionKind::Step,
-        CheckKind::Shape => ConditionKind::Shape,
-        CheckKind::Shift => ConditionKind::Shift,
-        CheckKind::Range => ConditionKind::Range,
-        CheckKind::Divisor => ConditionKind::Divisor,
-        CheckKind::Error => ConditionKind::Error,
-        CheckKind::WordTooSmall => ConditionKind::WordTooSmall,
-        CheckKind::Form => ConditionKind::Form,
-        CheckKind::Start => ConditionKind::Start,
-        CheckKind::Row => ConditionKind::Row,
-        CheckKind::ErrorRow => ConditionKind::ErrorRow,
-        CheckKind::Demand => ConditionKind::Demand,
-        CheckKind::Beyond => ConditionKind::Beyond,
-        CheckKind::Memory => return None,
-    })
-}
-
 // Of a bundle that isn't accepted.
 fn end_of_check(fault: CheckFault) -> End<'static>
-    ensures { IsRejection fault (end_of result) }
+    ensures { end_of result ≡ check_end fault }
 {
-    match condition_of(fault.kind) {
-        None => End::NoMemory,
-        Some(kind) => End::Rejected(ConditionFault {
-            kind,
-            part: fault.part,
-            index: fault.index,
-        }),
+    match fault {
+        CheckFault::Condition(fault) => End::Rejected(fault),
+        CheckFault::Memory => End::NoMemory,
     }
 }
 

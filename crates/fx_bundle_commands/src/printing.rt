@@ -3,6 +3,7 @@ ghost use Rattle.std.specs.Prelude.{◌≡◌, ℕ, List, Option, IfOk};
 ghost use Rattle.fx_stream.specs.Promise.{Grows};
 ghost use Rattle.fx_ends.specs.EndView.{end_of};
 ghost use Rattle.fx_bundle_commands.specs.OpeningView.{IsSilent};
+ghost use Rattle.fx_bundle_commands.specs.Outside.{streams};
 ghost use Rattle.fx_bundle_commands.specs.commands.Texts.{TextEnds};
 
 use fx_base::{Sink, put_all};
@@ -12,8 +13,8 @@ use fx_num::Memory;
 /// Writes a text. Where memory lacked for it, nothing is written.
 pub(crate) fn print_text<K: Sink>(made: Result<Vec<u8>, Memory>, output: &mut K) -> End<'static>
     ensures ended { (text : List ℕ) (left : Option (List ℕ)) (reads : ℕ) → IfOk made (λ t. t.items ≡ text) → TextEnds text
-        (record { left = left; read_faults = reads; taken = K.taken output.old; write_faults = K.faults output.old })
-        (record { left = left; read_faults = reads; taken = K.taken output.new; write_faults = K.faults output.new })
+        (streams left reads (K.taken output.old) (K.faults output.old))
+        (streams left reads (K.taken output.new) (K.faults output.new))
         (end_of result) }
     ensures appended { Grows (K.taken output.old) (K.taken output.new) }
     ensures quiet { IsSilent (end_of result) → output.new ≡ output.old }

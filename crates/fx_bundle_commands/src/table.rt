@@ -4,14 +4,14 @@
 //! The trap: a value prints as `m` alone where it has no binary places, as a bound does.
 ghost use Rattle.std.specs.Prelude.{◌≡◌, ◌++◌, ◌∷◌, [], ◌<◌, ◌≤◌, pos, length, map, OnOk, IfOk};
 ghost use Rattle.std.specs.Fmt.{decimal, signed_decimal};
-ghost use Rattle.fx_model.specs.LineText.{line_text};
+ghost use Rattle.fx_model.specs.LineText.{line_text, numbered_lines};
 ghost use Rattle.fx_model.specs.LawfulProgram.{IsLawfulProgram};
+ghost use Rattle.fx_model.specs.ProgramText.{instruction_name};
 ghost use Rattle.fx_model.specs.Tree.{at};
 ghost use Rattle.fx_inequalities.specs.Certificate.{no_line};
 ghost use Rattle.fx_program.specs.CodeView.{code_of};
 ghost use Rattle.fx_cert.specs.CertificateView.{line_view, lines_view};
-ghost use Rattle.fx_listing.specs.Listing.{numbered_lines};
-ghost use Rattle.fx_bundle_commands.specs.commands.Show.{instruction_name, value_text, shown_fields, shown_line};
+ghost use Rattle.fx_bundle_commands.specs.commands.Show.{value_text, shown_fields, shown_line};
 
 use fx_cert::NodeLine;
 use fx_checker::Certified;

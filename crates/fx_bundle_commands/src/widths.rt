@@ -1,10 +1,9 @@
 //! The lines that `widths FILE` prints of an accepted bundle: the least width of each code, and how many bytes all take.
 ghost use Rattle.std.specs.Prelude.{◌≡◌, ◌++◌, ◌∷◌, [], ◌<◌, length, OnOk, IfOk};
 ghost use Rattle.std.specs.Fmt.{decimal};
-ghost use Rattle.fx_model.specs.LineText.{line_text};
+ghost use Rattle.fx_model.specs.LineText.{line_text, numbered_lines};
 ghost use Rattle.fx_packed.specs.Packed.{size_of};
 ghost use Rattle.fx_widths.specs.LeastWidths.{least_widths};
-ghost use Rattle.fx_listing.specs.Listing.{numbered_lines};
 ghost use Rattle.fx_bundle_commands.specs.commands.Widths.{bytes_line, width_line, widths_text};
 
 use crate::table::{codes_of, name_at};

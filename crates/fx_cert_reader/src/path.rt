@@ -4,8 +4,8 @@ ghost use Rattle.std.specs.Prelude.{◌≡◌, ◌-◌, map, IfOk};
 ghost use Rattle.fx_text.specs.Lines.{GivesFields, GivesLine};
 ghost use Rattle.fx_cert_reader.specs.FieldReading.{are_turns, known_turns, known_path, path_at};
 
-use crate::limit::HEIGHT_LIMIT;
 use fx_expr::Items;
+use fx_num::HEIGHT_LIMIT;
 use fx_text::{Fields, TextKind};
 use std::alloc::{AllocError, Global};
 
@@ -37,7 +37,7 @@ fn known_turns(alloc: Global, text: &[u8]) -> Result<Items<u8>, TextKind>
     if !are_turns(text) {
         return Err(TextKind::BadLine);
     }
-    if text.len() > HEIGHT_LIMIT {
+    if text.len() > HEIGHT_LIMIT as usize {
         return Err(TextKind::OutOfRange);
     }
     let found = turns(alloc, text)?;

@@ -13,13 +13,12 @@ ghost use Rattle.fx_cert.specs.CertificateView.{box_of, row_view, form_view, lin
 ghost use Rattle.fx_cert_reader.specs.CountsView.{certificate_sizes_of, row_counts_of, AreCertificateSizes, AreRowCounts};
 ghost use Rattle.fx_cert_reader.specs.LineReading.{certificate_headline_at, certificate_sizes_at, step_count_at, step_at, start_at, row_counts_at, box_row_at, row_at, plain_at, form_at, formed_at, node_at};
 
-use crate::limit::{PLACE_END, ROW_LIMIT, RULE_COUNT, STEP_LIMIT};
 use crate::path::path;
 use crate::share::{shares, shares_if_any};
 use fx_cert::{Form, NodeLine, Row, StartBox, unit_vector};
 use fx_expr::Items;
 use fx_interval::Interval;
-use fx_program::{INPUT_LIMIT, NODE_LIMIT, STATE_LIMIT};
+use fx_num::{INPUT_LIMIT, NODE_LIMIT, PLACE_END, ROW_LIMIT, RULE_COUNT, STATE_LIMIT, STEP_LIMIT};
 use fx_step::Step;
 use fx_text::{
     Fields, TextKind, count, dyadic, dyadics, ended, interval as ends, place, small, word,

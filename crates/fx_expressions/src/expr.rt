@@ -14,10 +14,11 @@ ghost use Rattle.fx_grammar.specs.Expressions.{is_call, meant, named, closed, op
 ghost use Rattle.fx_grammar.specs.Operands as grammar;
 
 use crate::operand::{Context, Operand, joined, leaf, literal, negation};
-use fx_cursor::{HEIGHT_LIMIT, Parsed, behind, decimal, is_fresh, minus, peek, place, want, wrong};
+use fx_cursor::{Parsed, behind, decimal, is_fresh, minus, peek, place, want, wrong};
 use fx_expr::Expr;
 use fx_grammar::{Head, head_of};
 use fx_lexer::{SourceFault, SourceKind, Token};
+use fx_num::HEIGHT_LIMIT;
 
 fn is_call(tokens: &[Token<'_>]) -> bool
     ensures { result ≡ is_call (lexemes tokens.now) }

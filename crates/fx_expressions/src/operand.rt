@@ -8,11 +8,12 @@ ghost use Rattle.fx_expressions.specs.Views.{operand_of};
 ghost use Rattle.fx_expr.specs.TreeOf.{tree};
 ghost use Rattle.fx_grammar.specs.Operands.{operation, both, combined_operand, negation, negation_of, leaf, is_high, tree_or};
 
-use fx_cursor::{HEIGHT_LIMIT, NODE_LIMIT, Names};
+use fx_cursor::Names;
 use fx_expr::Expr;
 use fx_fraction::{Decimal, to_fraction};
 use fx_grammar::Head;
 use fx_lexer::SourceFault;
+use fx_num::{HEIGHT_LIMIT, NODE_LIMIT};
 use std::alloc::Global;
 
 /// The names of inputs, states and temps in a row, and where the text ends.

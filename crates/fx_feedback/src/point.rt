@@ -2,20 +2,17 @@
 
 use crate::task::Task;
 use fx_flat::{Node, Nodes};
-use fx_num::Memory;
+use fx_num::{GREATEST_POINT, LEAST_POINT, Memory};
 use fx_ranges::{Ranges, has_code, operands};
 use std::alloc::Global;
 
-/// The least point.
-const LEAST: i32 = -64;
-
 /// The greatest point of node `n` by its range, by its cap, and of a state by what comes next.
 fn cap_of(nodes: &Nodes, ranges: &Ranges, n: usize, width: u32, cap: i32) -> i32 {
-    let own = ranges.cap(n, width).unwrap_or(LEAST).min(cap);
+    let own = ranges.cap(n, width).unwrap_or(LEAST_POINT).min(cap);
     match nodes.list.as_slice().get(n) {
         Some(Node::State { k }) => {
             let next = first_next(nodes).saturating_add(*k as usize);
-            ranges.cap(next, width).unwrap_or(LEAST).min(own)
+            ranges.cap(next, width).unwrap_or(LEAST_POINT).min(own)
         }
         _ => own,
     }
@@ -79,7 +76,7 @@ pub fn greatest_points(
 ) -> Result<Option<Vec<i32>>, Memory> {
     let mut points = Vec::new(alloc);
     for n in 0..task.nodes.list.len() {
-        let cap = caps.get(n).copied().unwrap_or(62);
+        let cap = caps.get(n).copied().unwrap_or(GREATEST_POINT);
         match point_of(task, ranges, n, &points, cap) {
             Some(point) => points.push(point)?,
             None => return Ok(None),
@@ -99,8 +96,8 @@ pub fn caps_of_negated(
     let mut lowered = Vec::from_slice(alloc, caps)?;
     for n in (0..nodes.len()).rev() {
         if let Node::Neg { a } = &nodes[n] {
-            let own = lowered.get(n).copied().unwrap_or(LEAST);
-            let own = ranges.cap(n, width).unwrap_or(LEAST).min(own);
+            let own = lowered.get(n).copied().unwrap_or(LEAST_POINT);
+            let own = ranges.cap(n, width).unwrap_or(LEAST_POINT).min(own);
             if let Some(cap) = lowered.get_mut(*a as usize) {
                 *cap = (*cap).min(own);
             }

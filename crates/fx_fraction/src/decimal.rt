@@ -75,6 +75,7 @@ pub fn ten_to(places: u8) -> u64
 }
 
 /// The number of a size and a sign.
+#[inline]
 pub fn signed(is_negative: bool, size: u64) -> i64
     requires { size < 2 ^ 62 }
     ensures { result ≡ signed is_negative size }

@@ -23,7 +23,7 @@ mod text;
 
 pub use arithmetic::{fadd, fdiv, fmul, fneg, fsub, to_fraction};
 pub use comparison::{dyadic_ge, dyadic_le};
-pub use decimal::{Decimal, ten_to};
+pub use decimal::{Decimal, signed, ten_to};
 pub use fault::NumberFault;
 pub use fraction::Fraction;
 pub use quantised::quantise;

@@ -1,25 +1,11 @@
 //! A decimal in the fewest places.
-ghost use Rattle.std.specs.Prelude.{◌≡◌, ◌^◌, ◌<◌, ◌≤◌, IfSome, Ok};
+ghost use Rattle.std.specs.Prelude.{◌≡◌, ◌≤◌, IfSome, Ok};
 ghost use Rattle.fx_fraction.specs.DecimalOf.{trimmed, within_limits};
-ghost use Rattle.fx_fraction.specs.Numeral.{signed};
 
-use fx_fraction::Decimal;
+use fx_fraction::{Decimal, signed};
 
 // A decimal's whole number is below this.
 const LIMIT: u64 = 1 << 62;
-
-// The number of a size and a sign.
-#[inline]
-fn signed(is_negative: bool, size: u64) -> i64
-    requires { size < 2 ^ 62 }
-    ensures { result ≡ signed is_negative size }
-{
-    if is_negative {
-        -(size as i64)
-    } else {
-        size as i64
-    }
-}
 
 /// The decimal of a number and its places. None where none has that value.
 #[inline]

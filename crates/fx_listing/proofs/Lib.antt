@@ -1,3 +1,2 @@
-pub mod Listed
 mod Feeds
 mod Lengths

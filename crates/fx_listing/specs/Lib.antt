@@ -1,4 +1,3 @@
-pub mod Listing
 pub mod Source
 pub mod Rows
 pub mod LastLine

@@ -1,7 +1,7 @@
 -- The thousand rows of a demonstration, as the text of an input: hundredths from -1 to 1.
 use Rattle.std.specs.Prelude.{ℕ, ◌*◌, ◌%◌, ℤ, pos, ◌-ℤ◌, List, ◌++◌, codes}
 use Rattle.std.specs.Fmt.{signed_decimal}
-use Rattle.fx_listing.specs.Listing.{numbered_lines}
+use Rattle.fx_model.specs.LineText.{numbered_lines}
 
 -- how many hundredths stand in a row for this number
 abbrev pub hundredths : ℕ → ℤ

@@ -1,7 +1,7 @@
 -- The source of a demonstration, as text: temps of two inputs, and the sum of the first and the last.
 use Rattle.std.specs.Prelude.{ℕ, ◌+◌, ◌*◌, ◌/◌, ◌%◌, List, [], ◌∷◌, ◌++◌, codes}
 use Rattle.std.specs.Fmt.{decimal}
-use Rattle.fx_listing.specs.Listing.{numbered_lines}
+use Rattle.fx_model.specs.LineText.{numbered_lines}
 
 -- the two digits of a number below 100
 abbrev pub two_digits : ℕ → List ℕ

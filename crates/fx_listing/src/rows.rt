@@ -1,6 +1,6 @@
 //! The rows of a demonstration.
 ghost use Rattle.std.specs.Prelude.{◌≡◌, ◌++◌, ◌≤◌, OnOk, IfOk};
-ghost use Rattle.fx_listing.specs.Listing.{numbered_lines};
+ghost use Rattle.fx_model.specs.LineText.{numbered_lines};
 ghost use Rattle.fx_listing.specs.Rows.{demo_rows, hundredths, hundredths_text, row_line};
 
 use fx_num::Memory;

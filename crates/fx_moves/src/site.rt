@@ -2,11 +2,8 @@
 
 use crate::draft::{Site, places};
 use fx_expr::{Expr, Function, operand};
-use fx_num::Memory;
+use fx_num::{HEIGHT_LIMIT, Memory};
 use std::alloc::Global;
-
-/// No tree is higher.
-const HEIGHT_LIMIT: u32 = 200;
 
 /// How many operations a tree has.
 pub fn operations_in(e: &Expr) -> u32 {

@@ -3,6 +3,5 @@ pub mod Apart
 pub mod Printed
 pub mod Given
 pub mod Taken
-pub mod Ends
 pub mod Start
 pub mod Lines

@@ -10,8 +10,8 @@ mod node;
 mod printer;
 mod run;
 
-pub use fault::NodeFault;
+pub use fault::Flaw;
 pub use fx_rows::UnitKind;
 pub use law::{events_in_range_law, unit_run_law, units_apart_law, units_law};
 pub use node::Node;
-pub use run::run_node;
+pub use run::{NodeFault, run_node};

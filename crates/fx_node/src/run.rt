@@ -7,22 +7,24 @@ ghost use Rattle.fx_base.specs.Moments.{HoldsEachTime};
 ghost use Rattle.fx_base.specs.Text.{lines_in};
 ghost use Rattle.fx_model.specs.LawfulProgram.{widths};
 ghost use Rattle.fx_stream.specs.Promise.{Grows, IsAnswered, IsDone, IsDue};
-ghost use Rattle.fx_stream.specs.declared.fault.RunFault.TheVariants as run;
-ghost use Rattle.fx_node.specs.Faults.{IsToldAs, flaw_of, run_fault_of, told_fault};
+ghost use Rattle.fx_stream.specs.declared.fault.RunFault.TheVariants.{ReadFault, WriteFault, TooLong};
+ghost use Rattle.fx_node.specs.Faults.{flaw_of};
 ghost use Rattle.fx_node.specs.NodePage.{UnitsLaw, node_outcome};
 ghost use Rattle.fx_node.specs.Units.{first_units};
-ghost use Rattle.fx_node.specs.declared.fault.NodeFault.TheVariants.{ReadFault, WriteFault, TooLong};
 
-use crate::fault::{Flaw, NodeFault};
+use crate::fault::Flaw;
 use crate::law::units_law;
 use crate::node::Node;
 use crate::printer::NodePrinter;
 use fx_base::{Sink, Source};
 use fx_checker::Certified;
 use fx_num::Memory;
-use fx_stream::{RunFault, run_lines};
+use fx_stream::run_lines;
 use fx_word::widths;
 use std::alloc::Global;
+
+/// Why a run over the rows of many units ended before the input did.
+pub type NodeFault = fx_stream::RunFault<Flaw>;
 
 // A program's units before their first rows. All room is made here.
 fn first_printer<'a, const B: u32>(
@@ -49,69 +51,6 @@ fn first_printer<'a, const B: u32>(
     })
 }
 
-// What is told of a fault of a run over lines.
-fn node_fault(fault: RunFault<Flaw>) -> NodeFault
-    ensures { run_fault_of result ≡ told_fault fault }
-{
-    match fault {
-        RunFault::Row {
-            line,
-            fault: Flaw::Row(fault),
-        } => NodeFault::Row { line, fault },
-        RunFault::Row {
-            line,
-            fault: Flaw::Unit(kind),
-        } => NodeFault::Unit { line, kind },
-        RunFault::ReadFault => NodeFault::ReadFault,
-        RunFault::WriteFault => NodeFault::WriteFault,
-        RunFault::TooLong => NodeFault::TooLong,
-        RunFault::Memory => NodeFault::Memory,
-    }
-}
-
-// The end of a run over lines as that of a run over events.
-fn as_node(ended: Result<u64, RunFault<Flaw>>) -> Result<u64, NodeFault>
-    ensures { IsToldAs ended result }
-{
-    match ended {
-        Ok(count) => Ok(count),
-        Err(fault) => Err(node_fault(fault)),
-    }
-}
-
-// `run_node` at the program's width, as a run over lines.
-fn run_units<const B: u32, S: Source<K>, K: Sink>(
-    alloc: Global,
-    certified: &Certified,
-    units: u32,
-    source: &mut S,
-    sink: &mut K,
-    limit: u64,
-) -> Result<u64, RunFault<Flaw>>
-    requires width { certified.now.program.width ≡ B }
-    requires some { 1 ≤ units }
-    requires few { units ≤ 1024 }
-    requires limit { limit < 2 ^ 64 - 1 }
-    ensures done { let o = node_outcome certified.now.function certified.now.program units in
-        IfOk result (λ n. IfSome (S.left source.old) (λ all. IsDone (o (lines_in all)) n (K.taken sink.old) (K.taken sink.new))) }
-    ensures end { OnOk result (IsAtEnd (S.left source.new)) }
-    ensures due { let o = node_outcome certified.now.function certified.now.program units in
-        IfErr result (IsDue flaw_of o (S.left source.old) (S.left source.new) (K.taken sink.old) (K.taken sink.new)) }
-    ensures prompt { HoldsEachTime (IsAnswered (node_outcome certified.now.function certified.now.program units) (S.left source.old) (K.taken sink.old)) (S.asked source.old) (S.asked source.new) }
-    ensures taken { (taken : List ℕ) × Consumes (S.left source.old) (S.left source.new) taken × (IsErrOf result run.TooLong ↔ (limit < length taken)) }
-    ensures grown { Grows (K.taken sink.old) (K.taken sink.new) }
-    ensures read_fault { IsErrOf result run.ReadFault → Rose (S.faults source.old) (S.faults source.new) }
-    ensures write_fault { IsErrOf result run.WriteFault → Rose (K.faults sink.old) (K.faults sink.new) }
-    ensures later { S.faults source.old ≤ S.faults source.new }
-    ensures later_sink { K.faults sink.old ≤ K.faults sink.new }
-{
-    units_law(certified);
-    let Ok(mut printer) = first_printer::<B>(alloc, certified, units) else {
-        return Err(RunFault::Memory);
-    };
-    run_lines(alloc, &mut printer, source, sink, limit)
-}
-
 // `run_node` at the program's width.
 fn run_at<const B: u32, S: Source<K>, K: Sink>(
     alloc: Global,
@@ -129,7 +68,7 @@ fn run_at<const B: u32, S: Source<K>, K: Sink>(
         IfOk result (λ n. IfSome (S.left source.old) (λ all. IsDone (o (lines_in all)) n (K.taken sink.old) (K.taken sink.new))) }
     ensures end { OnOk result (IsAtEnd (S.left source.new)) }
     ensures due { let o = node_outcome certified.now.function certified.now.program units in
-        IfErr result (λ e. IsDue (λ flaw. flaw) o (S.left source.old) (S.left source.new) (K.taken sink.old) (K.taken sink.new) (run_fault_of e)) }
+        IfErr result (IsDue flaw_of o (S.left source.old) (S.left source.new) (K.taken sink.old) (K.taken sink.new)) }
     ensures prompt { HoldsEachTime (IsAnswered (node_outcome certified.now.function certified.now.program units) (S.left source.old) (K.taken sink.old)) (S.asked source.old) (S.asked source.new) }
     ensures taken { (taken : List ℕ) × Consumes (S.left source.old) (S.left source.new) taken × (IsErrOf result TooLong ↔ (limit < length taken)) }
     ensures grown { Grows (K.taken sink.old) (K.taken sink.new) }
@@ -138,7 +77,11 @@ fn run_at<const B: u32, S: Source<K>, K: Sink>(
     ensures later { S.faults source.old ≤ S.faults source.new }
     ensures later_sink { K.faults sink.old ≤ K.faults sink.new }
 {
-    as_node(run_units::<B, S, K>(alloc, certified, units, source, sink, limit))
+    units_law(certified);
+    let Ok(mut printer) = first_printer::<B>(alloc, certified, units) else {
+        return Err(NodeFault::Memory);
+    };
+    run_lines(alloc, &mut printer, source, sink, limit)
 }
 
 // The width of a certified program, which is one of the eight.
@@ -171,7 +114,7 @@ pub fn run_node<S: Source<K>, K: Sink>(
         IfOk result (λ n. IfSome (S.left source.old) (λ all. IsDone (o (lines_in all)) n (K.taken sink.old) (K.taken sink.new))) }
     ensures end { OnOk result (IsAtEnd (S.left source.new)) }
     ensures due { let o = node_outcome certified.now.function certified.now.program units in
-        IfErr result (λ e. IsDue (λ flaw. flaw) o (S.left source.old) (S.left source.new) (K.taken sink.old) (K.taken sink.new) (run_fault_of e)) }
+        IfErr result (IsDue flaw_of o (S.left source.old) (S.left source.new) (K.taken sink.old) (K.taken sink.new)) }
     ensures prompt { HoldsEachTime (IsAnswered (node_outcome certified.now.function certified.now.program units) (S.left source.old) (K.taken sink.old)) (S.asked source.old) (S.asked source.new) }
     ensures taken { (taken : List ℕ) × Consumes (S.left source.old) (S.left source.new) taken × (IsErrOf result TooLong ↔ (limit < length taken)) }
     ensures honest { UnitsLaw certified.now.function certified.now.program certified.now.certificate }

@@ -17,14 +17,18 @@ ghost use Rattle.fx_grammar.specs.Operands.{tree_or};
 ghost use Rattle.fx_grammar.specs.Bodies.{too_high, whole_at, typed_at, with_temp, val_at, vals_at, count_of, known_of, single_high, single_at, element_at, tuple_at, result_at};
 
 use fx_cursor::{
-    Items, NODE_LIMIT, Names, Parsed, TEMP_LIMIT, behind, free, listed, past_semicolon, peek,
-    place_at, real, repeated, want, with_name, wrong,
+    Items, Names, Parsed, behind, free, listed, past_semicolon, peek, place_at, real, repeated,
+    want, with_name, wrong,
 };
 use fx_expr::Expr;
 use fx_expressions::{Context, Operand, expression, is_high, tree_or};
 use fx_grammar::Head;
 use fx_lexer::{SourceFault, SourceKind, Token};
+use fx_num::{NODE_LIMIT, TEMP_LIMIT};
 use std::alloc::Global;
+
+// Lists count in `usize`.
+const TEMPS: usize = TEMP_LIMIT as usize;
 
 /// A temp and what it stands for.
 #[derive(Drop)]
@@ -171,7 +175,7 @@ fn val<'t, 'a>(
     ensures kept { IfOk result (λ x. (x.0.inputs ≡ body.entry.inputs) × (x.0.states ≡ body.entry.states)) }
 {
     let (token, rest) = want(end, Head::Name, tokens)?;
-    free(TEMP_LIMIT, body.temps.len(), &body.names, &token)?;
+    free(TEMPS, body.temps.len(), &body.names, &token)?;
     let rest = typed(end, rest)?;
     let (_, rest) = want(end, Head::Equals, rest)?;
     let (operand, rest) = whole(alloc, end, &body, rest)?;

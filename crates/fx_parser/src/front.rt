@@ -12,13 +12,21 @@ ghost use Rattle.fx_grammar.specs.Fronts.{param_at, declared_state, states_at, o
 ghost use Rattle.fx_grammar.specs.Functions.{new_name};
 
 use fx_cursor::{
-    INPUT_LIMIT, Items, Names, Numeral, OUTPUT_LIMIT, Parsed, STATE_LIMIT, behind, free, listed,
-    peek, place_at, real, signed, want, with_name,
+    Items, Names, Numeral, Parsed, behind, free, listed, peek, place_at, real, signed, want,
+    with_name,
 };
 use fx_grammar::Head;
 use fx_lexer::{SourceFault, SourceKind, Token};
+use fx_num::{INPUT_LIMIT, OUTPUT_LIMIT, STATE_LIMIT};
 use fx_requirements::{Named, no_subjects, with_subject};
 use std::alloc::Global;
+
+// The limits as lists count, in `usize`.
+const INPUTS: usize = INPUT_LIMIT as usize;
+
+const STATES: usize = STATE_LIMIT as usize;
+
+const OUTPUTS: usize = OUTPUT_LIMIT as usize;
 
 /// A state and its start.
 #[derive(Clone, Copy, Debug)]
@@ -45,7 +53,7 @@ fn param<'t, 'a>(end: u32, named: Named<'a>, tokens: &'t [Token<'a>]) -> Parsed<
     ensures same { IfOk result (λ x. IsNamed x.0) }
 {
     let (token, rest) = want(end, Head::Name, tokens)?;
-    free(INPUT_LIMIT, named.subjects.len(), &named.names, &token)?;
+    free(INPUTS, named.subjects.len(), &named.names, &token)?;
     let (_, rest) = want(end, Head::Colon, rest)?;
     let (_, rest) = real(end, rest)?;
     let named = with_subject(named, &token)?;
@@ -104,7 +112,7 @@ fn one_state<'t, 'a>(
 {
     let Declared { names, mut states } = declared;
     let (token, rest) = want(end, Head::Name, tokens)?;
-    free(STATE_LIMIT, states.len(), &names, &token)?;
+    free(STATES, states.len(), &names, &token)?;
     let (_, rest) = want(end, Head::Colon, rest)?;
     let (_, rest) = real(end, rest)?;
     let (_, rest) = want(end, Head::Equals, rest)?;
@@ -132,7 +140,7 @@ fn one_real<'t, 'a>(
     ensures shorter { IfOk result (λ x. (length x.1.now < length tokens.now) × (x.0 ≤ 96)) }
 {
     let (_, rest) = real(end, tokens)?;
-    if reals + 1 > states + OUTPUT_LIMIT {
+    if reals + 1 > states + OUTPUTS {
         return Err(SourceFault::at(first, SourceKind::TooMany));
     }
     Ok((reals + 1, rest))

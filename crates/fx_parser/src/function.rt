@@ -11,10 +11,11 @@ ghost use Rattle.fx_grammar.specs.Bodies.{count_of};
 
 use crate::body::{Body, Results, Temp, outcome, vals};
 use crate::front::{Declared, State, params, states, type_at};
-use fx_cursor::{NODE_LIMIT, Names, Parsed, behind, past_semicolon, peek, place, want, wrong};
+use fx_cursor::{Names, Parsed, behind, past_semicolon, peek, place, want, wrong};
 use fx_expr::Expr;
 use fx_grammar::Head;
 use fx_lexer::{SourceFault, SourceKind, Token};
+use fx_num::NODE_LIMIT;
 use fx_requirements::{Demanded, Named, Subject, first_place, maybe_ensuring, require};
 use std::alloc::Global;
 

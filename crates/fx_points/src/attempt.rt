@@ -1,6 +1,5 @@
 //! One pass from the inputs to the outputs and one back.
 ghost use Rattle.std.specs.Prelude.{◌≡◌, length, IfOk, IfErr};
-ghost use Rattle.fx_points.specs.declared.fault.PointFault.TheVariants as fault;
 ghost use Rattle.fx_points.specs.Faults.{BlamesOneOf};
 
 use crate::choice::Choice;
@@ -11,6 +10,7 @@ use crate::literal::literal;
 use crate::magnitude::Magnitude;
 use crate::operation::{Factor, Rates, Room, input, product, quotient, sum};
 use fx_flat::Node;
+use fx_num::Memory;
 use fx_program::Round;
 use std::alloc::Global;
 
@@ -122,9 +122,8 @@ fn entries(alloc: Global, task: Task, caps: &[i8]) -> Result<Vec<Entry>, PointFa
 }
 
 /// The cheapest point of each node.
-fn best_points(alloc: Global, entries: &[Entry]) -> Result<Vec<i8>, PointFault>
-    ensures each { IfOk result (λ points. length points.items ≡ length entries.now) }
-    ensures memory { IfErr result (λ e. e ≡ fault.Memory) }
+fn best_points(alloc: Global, entries: &[Entry]) -> Result<Vec<i8>, Memory>
+    ensures { IfOk result (λ points. length points.items ≡ length entries.now) }
 {
     let mut points = Vec::new(alloc);
     for entry in entries {

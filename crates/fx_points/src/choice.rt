@@ -2,6 +2,7 @@
 ghost use Rattle.std.specs.Prelude.{◌≤◌};
 
 use crate::magnitude::Magnitude;
+use fx_num::{GREATEST_POINT, LEAST_POINT};
 
 /// A point that a node may have.
 #[derive(Clone, Copy, Debug)]
@@ -51,7 +52,7 @@ pub fn cheaper(first: Option<Choice>, second: Option<Choice>) -> Option<Choice> 
 
 /// The point, if a word can have it.
 fn point_at(f: i32) -> Option<i8> {
-    if -64 <= f && f <= 62 {
+    if LEAST_POINT <= f && f <= GREATEST_POINT {
         Some(f as i8)
     } else {
         None

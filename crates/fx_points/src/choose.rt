@@ -7,6 +7,7 @@ use crate::attempt::{Chosen, Task, attempt, operands};
 use crate::facts::NodeFacts;
 use crate::fault::PointFault;
 use fx_flat::{Node, Nodes};
+use fx_num::{GREATEST_POINT, LEAST_POINT, Memory};
 use fx_program::Round;
 use std::alloc::Global;
 
@@ -21,9 +22,7 @@ fn count(uses: &mut [u32], operand: Option<u32>) {
 }
 
 /// How often each node is an operand.
-fn uses_of(alloc: Global, nodes: &[Node]) -> Result<Vec<u32>, PointFault>
-    ensures { IfErr result (λ e. e ≡ fault.Memory) }
-{
+fn uses_of(alloc: Global, nodes: &[Node]) -> Result<Vec<u32>, Memory> {
     let mut uses = vec![in alloc; 0u32; nodes.len()]?;
     for node in nodes {
         let (left, right) = operands(node);
@@ -34,13 +33,12 @@ fn uses_of(alloc: Global, nodes: &[Node]) -> Result<Vec<u32>, PointFault>
 }
 
 /// The greatest point of each node by its range.
-fn range_caps(alloc: Global, facts: &[NodeFacts]) -> Result<Vec<i8>, PointFault>
-    ensures each { IfOk result (λ caps. length caps.items ≡ length facts.now) }
-    ensures memory { IfErr result (λ e. e ≡ fault.Memory) }
+fn range_caps(alloc: Global, facts: &[NodeFacts]) -> Result<Vec<i8>, Memory>
+    ensures { IfOk result (λ caps. length caps.items ≡ length facts.now) }
 {
     let mut caps = Vec::new(alloc);
     for fact in facts {
-        caps.push(fact.cap.clamp(-65, 62) as i8)?;
+        caps.push(fact.cap.clamp(LEAST_POINT - 1, GREATEST_POINT) as i8)?;
     }
     Ok(caps)
 }
@@ -74,10 +72,8 @@ fn raise(finest: &mut [i8], operand: Option<u32>, point: i8) {
 }
 
 /// For each node the finest point of the sums that use it, and more than any point where something else does.
-fn finest_uses(alloc: Global, nodes: &[Node], points: &[i8]) -> Result<Vec<i8>, PointFault>
-    ensures { IfErr result (λ e. e ≡ fault.Memory) }
-{
-    let mut finest = vec![in alloc; -64i8; points.len()]?;
+fn finest_uses(alloc: Global, nodes: &[Node], points: &[i8]) -> Result<Vec<i8>, Memory> {
+    let mut finest = vec![in alloc; LEAST_POINT as i8; points.len()]?;
     for n in 0..points.len() {
         if let Some(node) = nodes.get(n) {
             let is_sum = matches!(node, Node::Add { .. } | Node::Sub { .. });
@@ -126,9 +122,8 @@ fn tried_again(alloc: Global, task: Task, caps: &[i8], first: Chosen) -> Result<
 }
 
 /// The points as whole numbers.
-fn widened(alloc: Global, points: &[i8]) -> Result<Vec<i32>, PointFault>
-    ensures each { IfOk result (λ wide. length wide.items ≡ length points.now) }
-    ensures memory { IfErr result (λ e. e ≡ fault.Memory) }
+fn widened(alloc: Global, points: &[i8]) -> Result<Vec<i32>, Memory>
+    ensures { IfOk result (λ wide. length wide.items ≡ length points.now) }
 {
     let mut wide = Vec::new(alloc);
     for point in points {

@@ -1,6 +1,6 @@
 //! Why a function has no points.
 use fx_num::Memory;
-use std::alloc::{AllocError, AllocFailed};
+use std::alloc::AllocFailed;
 use std::error::Error;
 use std::fmt;
 
@@ -31,17 +31,6 @@ impl From<Memory> for PointFault {
     ghost from_gives = { λ e f. f ≡ fault.Memory };
 
     fn from(_e: Memory) -> PointFault {
-        PointFault::Memory
-    }
-}
-
-impl From<AllocError> for PointFault {
-    ghost use Rattle.std.specs.Prelude.{◌≡◌};
-    ghost use Rattle.fx_points.specs.declared.fault.PointFault.TheVariants as fault;
-
-    ghost from_gives = { λ e f. f ≡ fault.Memory };
-
-    fn from(_e: AllocError) -> PointFault {
         PointFault::Memory
     }
 }

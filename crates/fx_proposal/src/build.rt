@@ -2,12 +2,12 @@
 
 use fx_cert::Share;
 use fx_exchange::{Budget, ScaledRows, exchange};
-use fx_num::{Dyadic, Memory};
+use fx_num::{Dyadic, Memory, ROW_LIMIT};
 use fx_reach::{Ahead, Chain, Costs, Linear, Pool, find_closing, room, times_of, wanted_length};
 use std::alloc::Global;
 
-/// How many rows a certificate has at most.
-const ROWS: usize = 512;
+/// How many rows a certificate has at most, as lists count.
+const ROWS: usize = ROW_LIMIT as usize;
 
 /// A row whose image isn't kept: it is taken apart by an exchange.
 #[derive(Clone, Copy, Debug)]

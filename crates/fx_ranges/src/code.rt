@@ -4,7 +4,7 @@ use crate::range::Failed;
 use fx_expr::Function;
 use fx_flat::Node;
 use fx_fraction::to_fraction;
-use fx_num::Memory;
+use fx_num::{GREATEST_POINT, LEAST_POINT, Memory};
 use fx_program::{Code, Round};
 use fx_span::{nearest, word_at};
 use std::alloc::Global;
@@ -106,10 +106,15 @@ fn code_of(
     })
 }
 
+/// Whether a code can have this point.
+fn is_point(f: i32) -> bool {
+    LEAST_POINT <= f && f <= GREATEST_POINT
+}
+
 /// Whether a node has a code at a point, after those of its operands.
 pub fn has_code(function: &Function, node: &Node, f: i32, points: &[i32], width: u32) -> bool {
     // which shifts there are doesn't depend on how they round
-    f >= -64 && f <= 62 && code_of(function, node, f, points, width, Round::Floor).is_some()
+    is_point(f) && code_of(function, node, f, points, width, Round::Floor).is_some()
 }
 
 /// The code of a node, where its point is one.
@@ -122,7 +127,7 @@ fn code_at(
     round: Round,
 ) -> Option<Code> {
     let f = points.get(n).copied()?;
-    if f < -64 || f > 62 {
+    if !is_point(f) {
         return None;
     }
     code_of(function, nodes.get(n)?, f, points, width, round)

@@ -7,7 +7,7 @@ use crate::form::{Form, centre, mix_of, operands, weighted, write_row};
 use crate::rows::Rows;
 use fx_expr::Function;
 use fx_flat::{Node, Nodes};
-use fx_num::Memory;
+use fx_num::{GREATEST_POINT, LEAST_POINT, Memory};
 use fx_span::{Grids, Scaled, Span, bits, fits_word, range_between, range_of};
 use std::alloc::Global;
 
@@ -109,15 +109,18 @@ impl Ranges {
     pub fn cap(&self, n: usize, width: u32) -> Option<i32> {
         let span = self.span(n)?;
         if span.size() == 0 {
-            return Some(62);
+            return Some(GREATEST_POINT);
         }
         let free = i64::from(width).saturating_add(i64::from(span.e));
         let highest = free.saturating_sub(i64::from(bits(span.size())));
-        let point = i32::try_from(highest.clamp(-64, 62)).ok()?;
+        let point = i32::try_from(highest.clamp(
+            i64::from(LEAST_POINT),
+            i64::from(GREATEST_POINT),
+        )).ok()?;
         if fits_word(span, point, width) {
             return Some(point);
         }
-        Some(point.saturating_sub(1).max(-64))
+        Some(point.saturating_sub(1).max(LEAST_POINT))
     }
 
     /// Whether a word at a point holds whatever of the node's range has such an error.

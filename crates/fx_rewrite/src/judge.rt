@@ -16,6 +16,7 @@ use crate::fault::StepFault;
 use crate::rule::measure;
 use fx_expr::{Expr, Function, at};
 use fx_fold::{Measure, Sizes};
+use fx_num::{HEIGHT_LIMIT, NODE_LIMIT};
 use fx_step::Step;
 
 /// The tree that a step speaks of.
@@ -30,14 +31,16 @@ pub fn find<'a>(function: &'a Function, place: u32, path: &[u8]) -> Option<&'a E
 fn is_low(depth: usize, height: u32) -> bool
     ensures { IsTrue result ↔ (depth + height ≤ 200) }
 {
-    depth <= 200 && depth as u32 <= 200 && height <= 200 - depth as u32
+    depth <= HEIGHT_LIMIT as usize
+        && depth as u32 <= HEIGHT_LIMIT
+        && height <= HEIGHT_LIMIT - depth as u32
 }
 
 /// Whether the nodes keep their limit with so many in place of others.
 fn is_small(nodes: u32, old: u32, new: u32) -> bool
     ensures { IsTrue result ↔ (nodes + new ≤ 4000 + old) }
 {
-    u64::from(nodes) + u64::from(new) <= 4000 + u64::from(old)
+    u64::from(nodes) + u64::from(new) <= u64::from(NODE_LIMIT) + u64::from(old)
 }
 
 /// Whether the limits are kept with a tree in place of `old`, by the sizes of both.

@@ -20,18 +20,18 @@ use fx_cert::{Form, NodeLine, Row, Share, Side, coef_at};
 use fx_conditions::{bound_of, scaled, scaled_number, side_of};
 use fx_interval::Interval;
 use fx_judging::{difference, number, plus, point, times};
-use fx_num::Dyadic;
+use fx_num::{Dyadic, INPUT_LIMIT, STATE_LIMIT};
 
-/// The most variables: 64 inputs and 32 states.
-pub const VARIABLES: usize = 96;
+/// The most variables: all inputs and states.
+pub const VARIABLES: usize = (INPUT_LIMIT + STATE_LIMIT) as usize;
 
 /// The coefficients of a form.
-pub fn form_coefs(form: &Form, variables: u32) -> [Option<Dyadic>; 96]
+pub fn form_coefs(form: &Form, variables: u32) -> [Option<Dyadic>; VARIABLES]
     requires form { IsShortForm (form_view form.now) }
     requires few { variables ≤ 96 }
     ensures { AreFormed result variables (λ j. Num (at zero_dyadic form.now.coefs j)) }
 {
-    let mut coefs: [Option<Dyadic>; 96] = [None; VARIABLES];
+    let mut coefs: [Option<Dyadic>; VARIABLES] = [None; VARIABLES];
     for j in 0..variables {
         coefs[j as usize] = number(coef_at(form.coefs.as_slice(), j));
     }
@@ -168,7 +168,7 @@ fn left_of(
 
 /// What so many times a row leave of the coefficients of the states, which stand behind the inputs'.
 fn take_row(
-    coefs: &mut [Option<Dyadic>; 96],
+    coefs: &mut [Option<Dyadic>; VARIABLES],
     inputs: u32,
     row: &[Dyadic],
     states: u32,
@@ -225,7 +225,7 @@ fn coefs_of(rows: &[Row], i: u32) -> &[Dyadic]
 
 /// What a share leaves of the coefficients of the states.
 fn take_share(
-    coefs: &mut [Option<Dyadic>; 96],
+    coefs: &mut [Option<Dyadic>; VARIABLES],
     inputs: u32,
     rows: &[Row],
     states: u32,
@@ -250,7 +250,7 @@ fn take_share(
 
 /// What the shares leave of them.
 fn take_shares(
-    coefs: &mut [Option<Dyadic>; 96],
+    coefs: &mut [Option<Dyadic>; VARIABLES],
     inputs: u32,
     rows: &[Row],
     states: u32,
@@ -310,7 +310,7 @@ fn with_states(
 /// the states' coefficients in their place.
 pub fn bound_by_rows(
     start: Option<Interval>,
-    coefs: &mut [Option<Dyadic>; 96],
+    coefs: &mut [Option<Dyadic>; VARIABLES],
     side: &Side,
     lines: &[NodeLine],
     inputs: u32,

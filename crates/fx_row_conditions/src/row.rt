@@ -84,14 +84,14 @@ fn row_coefs(
     variables: u32,
     next: u32,
     i: u32,
-) -> [Option<Dyadic>; 96]
+) -> [Option<Dyadic>; VARIABLES]
     requires lines { AreShortLines (lines_view lines.now) }
     requires rows { AreShortRows (rows_in rows.now) }
     requires few { next + states < 2 ^ 32 }
     requires variables { variables ≤ 96 }
     ensures { AreFormed result variables (λ j. sum_of states (λ s. Product ((rows_of states (rows_in rows.now)).coef i s) ((affine_at variables (lines_view lines.now) (next + s)).coef j))) }
 {
-    let mut coefs: [Option<Dyadic>; 96] = [None; VARIABLES];
+    let mut coefs: [Option<Dyadic>; VARIABLES] = [None; VARIABLES];
     for j in 0..variables {
         coefs[j as usize] = row_coefficient(rows, states, lines, variables, next, i, j);
     }

@@ -11,7 +11,10 @@ ghost use Rattle.fx_template.specs.Rows.{AreCountedRows, AreWrittenBounds, IsCou
 use fx_cert::{Row, Share, unit_coef};
 use fx_grid::is_small;
 use fx_interval::Interval;
-use fx_num::Dyadic;
+use fx_num::{Dyadic, ROW_LIMIT};
+
+/// How many rows a certificate has at most, as lists count.
+const ROWS: usize = ROW_LIMIT as usize;
 
 /// Whether a text can spell it.
 fn is_written(d: Dyadic) -> bool
@@ -91,7 +94,7 @@ pub fn are_rows(rows: &[Row], states: u32) -> bool
     ensures written { result ≡ true → AreWrittenBounds (rows_in rows.now) }
 {
     let count = rows.len();
-    if count < states as usize || count > 512 {
+    if count < states as usize || count > ROWS {
         return false;
     }
     for i in 0..count {

@@ -17,9 +17,10 @@ use fx_cert::{Row, Side, error_at, range_at};
 use fx_grid::{Why, error_grid, narrowest_round};
 use fx_interval::{Interval, greatest, least};
 use fx_judging::interval;
+use fx_num::Memory;
 use fx_reach::Transition;
 use fx_row_conditions::row_bound_of;
-use std::alloc::{AllocError, Global};
+use std::alloc::Global;
 
 /// The bounds of the unit rows and of the unit error rows.
 #[derive(Debug, Drop)]
@@ -63,7 +64,7 @@ fn state_bound(t: &Transition, side: &Side, i: u32) -> Interval
 }
 
 /// The bounds to begin with.
-fn first_bounds(alloc: Global, t: &Transition, side: &Side) -> Result<Vec<Interval>, AllocError>
+fn first_bounds(alloc: Global, t: &Transition, side: &Side) -> Result<Vec<Interval>, Memory>
     requires modest { IsModestTransition (transition_in t.now) }
     ensures { IfOk result (λ bs. bs.items ≡ first_bounds side.now (transition_in t.now)) }
 {
@@ -123,7 +124,7 @@ fn raised_bounds(
     t: &Transition,
     side: &Side,
     bounds: &[Interval],
-) -> Result<Option<Vec<Interval>>, AllocError>
+) -> Result<Option<Vec<Interval>>, Memory>
     requires modest { IsModestTransition (transition_in t.now) }
     requires short { AreShortBounds bounds.now }
     ensures { IfOk result (λ o. option_map (λ bs. bs.items) o ≡ raised_bounds side.now (transition_in t.now) bounds.now) }
@@ -140,11 +141,7 @@ fn raised_bounds(
 }
 
 /// The bounds after a round, where it is carried out.
-fn bounds_after(
-    alloc: Global,
-    t: &Transition,
-    bounds: &Bounds,
-) -> Result<Option<Bounds>, AllocError>
+fn bounds_after(alloc: Global, t: &Transition, bounds: &Bounds) -> Result<Option<Bounds>, Memory>
     requires modest { IsModestTransition (transition_in t.now) }
     requires short { AreShortBoth (bounds_in bounds.now) }
     ensures { IfOk result (λ o. option_map bounds_in o ≡ bounds_after (transition_in t.now) (bounds_in bounds.now)) }
@@ -161,7 +158,7 @@ fn bounds_after(
 }
 
 /// The bounds before any round.
-fn bounds_at_first(alloc: Global, t: &Transition) -> Result<Bounds, AllocError>
+fn bounds_at_first(alloc: Global, t: &Transition) -> Result<Bounds, Memory>
     requires modest { IsModestTransition (transition_in t.now) }
     ensures { IfOk result (λ b. bounds_in b ≡ bounds_at_first (transition_in t.now)) }
 {
@@ -172,7 +169,7 @@ fn bounds_at_first(alloc: Global, t: &Transition) -> Result<Bounds, AllocError>
 }
 
 /// The bounds after so many rounds, or before the first that isn't carried out.
-pub fn plain_rounds(alloc: Global, t: &Transition, rounds: u32) -> Result<Bounds, AllocError>
+pub fn plain_rounds(alloc: Global, t: &Transition, rounds: u32) -> Result<Bounds, Memory>
     requires modest { IsModestTransition (transition_in t.now) }
     ensures rounds { let s = transition_in t.now in IfOk result (λ b. bounds_in b ≡ plain_rounds rounds s (bounds_at_first s)) }
     ensures short { IfOk result (λ b. AreShortBounds b.rows.items) }

@@ -3,7 +3,6 @@
 use fx_cert::Row;
 use fx_expr::Items;
 use fx_num::Memory;
-use std::alloc::{AllocError, AllocFailed};
 use std::error::Error;
 use std::fmt;
 
@@ -44,28 +43,6 @@ impl From<Memory> for TemplateFault {
     ghost from_gives = { λ e f. f ≡ fault.Memory };
 
     fn from(_e: Memory) -> TemplateFault {
-        TemplateFault::Memory
-    }
-}
-
-impl From<AllocError> for TemplateFault {
-    ghost use Rattle.std.specs.Prelude.{◌≡◌};
-    ghost use Rattle.fx_template.specs.declared.template.TemplateFault.TheVariants as fault;
-
-    ghost from_gives = { λ e f. f ≡ fault.Memory };
-
-    fn from(_e: AllocError) -> TemplateFault {
-        TemplateFault::Memory
-    }
-}
-
-impl<T: Drop> From<AllocFailed<T>> for TemplateFault {
-    ghost use Rattle.std.specs.Prelude.{◌≡◌};
-    ghost use Rattle.fx_template.specs.declared.template.TemplateFault.TheVariants as fault;
-
-    ghost from_gives = { λ e f. f ≡ fault.Memory };
-
-    fn from(_e: AllocFailed<T>) -> TemplateFault {
         TemplateFault::Memory
     }
 }

@@ -12,7 +12,8 @@ ghost use Rattle.fx_template.specs.RoundView.{AreShortBounds};
 use fx_cert::{Row, unit_vector};
 use fx_expr::Items;
 use fx_interval::Interval;
-use std::alloc::{AllocError, Global};
+use fx_num::Memory;
+use std::alloc::Global;
 
 /// Bound `i` of a list, and 0 past its end.
 pub fn bound_at(bounds: &[Interval], i: u32) -> Interval
@@ -25,7 +26,7 @@ pub fn bound_at(bounds: &[Interval], i: u32) -> Interval
 }
 
 /// The unit row of state `i` among so many, with this bound and no shares.
-fn unit_row(alloc: Global, states: u32, bound: Interval, i: u32) -> Result<Row, AllocError>
+fn unit_row(alloc: Global, states: u32, bound: Interval, i: u32) -> Result<Row, Memory>
     requires { i < states }
     ensures { IfOk result (λ r. row_view r ≡ unit_row states bound i) }
 {
@@ -37,7 +38,7 @@ fn unit_row(alloc: Global, states: u32, bound: Interval, i: u32) -> Result<Row, 
 }
 
 /// The unit rows with these bounds.
-pub fn unit_rows(alloc: Global, states: u32, bounds: &[Interval]) -> Result<Vec<Row>, AllocError>
+pub fn unit_rows(alloc: Global, states: u32, bounds: &[Interval]) -> Result<Vec<Row>, Memory>
     requires { AreShortBounds bounds.now }
     ensures rows { IfOk result (λ rows. rows_in rows.items ≡ unit_rows states bounds.now) }
     ensures short { IfOk result (λ rows. AreShortRows (rows_in rows.items)) }

@@ -14,7 +14,7 @@ use Rattle.fx_inequalities.specs.Accepted.{bound_dyadic}
 use Rattle.fx_cert.specs.BundleView.{Parts}
 use Rattle.fx_bundle_commands.specs.Outside.{Streams}
 use Rattle.fx_ends.specs.Ends.{End, Done, WriteFault}
-use Rattle.fx_listing.specs.Listing.{numbered_lines}
+use Rattle.fx_model.specs.LineText.{numbered_lines}
 use Rattle.fx_bundle_commands.specs.Opening.{OpensThen}
 
 -- m, or m/2^e, piece by piece; what a certificate writes is in lowest terms

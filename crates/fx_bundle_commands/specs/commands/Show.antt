@@ -5,22 +5,17 @@ use Rattle.std.specs.List.{concat}
 use Rattle.fx_base.specs.Shelf.{Files}
 use Rattle.fx_rational.specs.Dyadic.{Dyadic}
 use Rattle.fx_model.specs.Function.{Function}
-use Rattle.fx_model.specs.LineText.{line_text}
+use Rattle.fx_model.specs.LineText.{line_text, numbered_lines}
 use Rattle.fx_model.specs.Machine.{Code, Program, points_of}
-use Rattle.fx_model.specs.ProgramText.{code_fields}
+use Rattle.fx_model.specs.ProgramText.{instruction_name}
 use Rattle.fx_model.specs.Tree.{at}
 use Rattle.fx_inequalities.specs.Certificate.{Certificate, NodeLine, no_line}
 use Rattle.fx_cert.specs.BundleView.{Parts}
 use Rattle.fx_bundle_commands.specs.Outside.{Streams}
 use Rattle.fx_ends.specs.Ends.{End}
-use Rattle.fx_listing.specs.Listing.{numbered_lines}
 use Rattle.fx_bundle_commands.specs.Opening.{OpensThen}
 use Rattle.fx_bundle_commands.specs.commands.Check.{bound_pieces, bound_lines}
 use Rattle.fx_bundle_commands.specs.commands.Texts.{TextEnds}
-
--- the name of its instruction
-abbrev pub instruction_name : Code → List ℕ
-instruction_name code = at [] (code_fields code) 0
 
 -- m, or m/2^e
 abbrev pub value_text : Dyadic → List ℕ

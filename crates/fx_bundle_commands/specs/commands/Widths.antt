@@ -3,18 +3,17 @@ use Rattle.std.specs.Prelude.{ℕ, List, Option, [], ◌∷◌, ◌++◌, codes,
 use Rattle.std.specs.Fmt.{decimal}
 use Rattle.fx_base.specs.Shelf.{Files}
 use Rattle.fx_model.specs.Function.{Function}
-use Rattle.fx_model.specs.LineText.{line_text}
+use Rattle.fx_model.specs.LineText.{line_text, numbered_lines}
 use Rattle.fx_model.specs.Machine.{Program}
 use Rattle.fx_model.specs.Tree.{at}
 use Rattle.fx_inequalities.specs.Certificate.{Certificate}
 use Rattle.fx_cert.specs.BundleView.{Parts}
 use Rattle.fx_packed.specs.Packed.{size_of}
 use Rattle.fx_widths.specs.LeastWidths.{least_width, least_widths}
-use Rattle.fx_listing.specs.Listing.{numbered_lines}
 use Rattle.fx_ends.specs.Ends.{End}
 use Rattle.fx_bundle_commands.specs.Outside.{Streams}
 use Rattle.fx_bundle_commands.specs.Opening.{OpensThen}
-use Rattle.fx_bundle_commands.specs.commands.Show.{instruction_name}
+use Rattle.fx_model.specs.ProgramText.{instruction_name}
 use Rattle.fx_bundle_commands.specs.commands.Texts.{TextEnds}
 
 -- the line N OP WIDTH of code n

@@ -3,6 +3,7 @@ ghost use Rattle.std.specs.Prelude.{◌≡◌, ℕ, List, Option};
 ghost use Rattle.fx_stream.specs.Promise.{Grows};
 ghost use Rattle.fx_ends.specs.EndView.{end_of};
 ghost use Rattle.fx_bundle_commands.specs.OpeningView.{IsSilent};
+ghost use Rattle.fx_bundle_commands.specs.Outside.{streams};
 ghost use Rattle.fx_bundle_commands.specs.commands.Check.{CheckEnds};
 
 use crate::open::open;
@@ -19,8 +20,8 @@ pub fn check_file<H: Shelf, K: Sink>(
     output: &mut K,
 ) -> End<'static>
     ensures ended { (left : Option (List ℕ)) (reads : ℕ) → CheckEnds (H.papers shelf.old) (H.faults shelf.old) (H.faults shelf.new)
-        (record { left = left; read_faults = reads; taken = K.taken output.old; write_faults = K.faults output.old })
-        (record { left = left; read_faults = reads; taken = K.taken output.new; write_faults = K.faults output.new })
+        (streams left reads (K.taken output.old) (K.faults output.old))
+        (streams left reads (K.taken output.new) (K.faults output.new))
         name.now (end_of result) }
     ensures appended { Grows (K.taken output.old) (K.taken output.new) }
     ensures quiet { IsSilent (end_of result) → output.new ≡ output.old }

@@ -9,6 +9,7 @@ ghost use Rattle.fx_cert.specs.BundleView.{IsLawfulBundle, text_of};
 ghost use Rattle.fx_ends.specs.EndView.{end_of};
 ghost use Rattle.fx_bundle_commands.specs.Opening.{IsAcceptedAs};
 ghost use Rattle.fx_bundle_commands.specs.OpeningView.{IsSilent, with_source};
+ghost use Rattle.fx_bundle_commands.specs.Outside.{streams};
 ghost use Rattle.fx_bundle_commands.specs.commands.Migrate.{MigratedEnds, WritesMigrated, migrated};
 
 use crate::open::{Opened, open};
@@ -35,8 +36,8 @@ fn print_migrated<K: Sink>(alloc: Global, opened: &Opened, output: &mut K) -> En
     requires lawful { IsLawfulBundle (with_source opened.now.certified opened.now.source) }
     requires accepted { IsAcceptedAs (with_source opened.now.certified opened.now.source) opened.now.certified.function }
     ensures ended { (left : Option (List ℕ)) (reads : ℕ) → WritesMigrated
-        (record { left = left; read_faults = reads; taken = K.taken output.old; write_faults = K.faults output.old })
-        (record { left = left; read_faults = reads; taken = K.taken output.new; write_faults = K.faults output.new })
+        (streams left reads (K.taken output.old) (K.faults output.old))
+        (streams left reads (K.taken output.new) (K.faults output.new))
         (with_source opened.now.certified opened.now.source) opened.now.certified.function (end_of result) }
     ensures appended { Grows (K.taken output.old) (K.taken output.new) }
     ensures quiet { IsSilent (end_of result) → output.new ≡ output.old }
@@ -52,8 +53,8 @@ pub fn migrate_file<H: Shelf, K: Sink>(
     output: &mut K,
 ) -> End<'static>
     ensures ended { (left : Option (List ℕ)) (reads : ℕ) → MigratedEnds (H.papers shelf.old) (H.faults shelf.old) (H.faults shelf.new)
-        (record { left = left; read_faults = reads; taken = K.taken output.old; write_faults = K.faults output.old })
-        (record { left = left; read_faults = reads; taken = K.taken output.new; write_faults = K.faults output.new })
+        (streams left reads (K.taken output.old) (K.faults output.old))
+        (streams left reads (K.taken output.new) (K.faults output.new))
         name.now (end_of result) }
     ensures appended { Grows (K.taken output.old) (K.taken output.new) }
     ensures quiet { IsSilent (end_of result) → output.new ≡ output.old }

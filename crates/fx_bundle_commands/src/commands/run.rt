@@ -17,6 +17,7 @@ ghost use Rattle.fx_ends.specs.EndView.{end_of};
 ghost use Rattle.fx_ends.specs.Notes.{AreNotes};
 ghost use Rattle.fx_bundle_commands.specs.Opening.{IsOpen};
 ghost use Rattle.fx_bundle_commands.specs.OpeningView.{IsQuiet, with_source};
+ghost use Rattle.fx_bundle_commands.specs.Outside.{streams};
 ghost use Rattle.fx_bundle_commands.specs.commands.Rows.{HasAnswered};
 ghost use Rattle.fx_bundle_commands.specs.commands.Run.{RunEnds, Runs};
 
@@ -85,8 +86,8 @@ fn run_input<'a, S: Source<K>, K: Sink>(
     output: &mut K,
 ) -> End<'a>
     ensures ended { (source : List ℕ) → Runs
-        (record { left = S.left input.old; read_faults = S.faults input.old; taken = K.taken output.old; write_faults = K.faults output.old })
-        (record { left = S.left input.new; read_faults = S.faults input.new; taken = K.taken output.new; write_faults = K.faults output.new })
+        (streams (S.left input.old) (S.faults input.old) (K.taken output.old) (K.faults output.old))
+        (streams (S.left input.new) (S.faults input.new) (K.taken output.new) (K.faults output.new))
         (with_source certified.now source) certified.now.function (end_of result) }
     ensures loud { IsQuiet (end_of result) → ⊥ }
     ensures prompt { HoldsEachTime (IsAnswered (run_outcome certified.now.function certified.now.program) (S.left input.old) (K.taken output.old)) (S.asked input.old) (S.asked input.new) }
@@ -120,8 +121,8 @@ pub fn run_file<H: Shelf, S: Source<K>, K: Sink, N: Sink>(
     ensures ended { (end : ends.End) × (result ≡ status_of end) ×
         AreNotes (N.taken notes.old) (N.taken notes.new) (N.faults notes.old) (N.faults notes.new) (end_line end) ×
         RunEnds (H.papers shelf.old) (H.faults shelf.old) (H.faults shelf.new)
-        (record { left = S.left input.old; read_faults = S.faults input.old; taken = K.taken output.old; write_faults = K.faults output.old })
-        (record { left = S.left input.new; read_faults = S.faults input.new; taken = K.taken output.new; write_faults = K.faults output.new })
+        (streams (S.left input.old) (S.faults input.old) (K.taken output.old) (K.faults output.old))
+        (streams (S.left input.new) (S.faults input.new) (K.taken output.new) (K.faults output.new))
         name.now end × (IsQuiet end → (input.new ≡ input.old) × (output.new ≡ output.old)) }
     ensures prompt { HoldsEachTime (HasAnswered run_outcome (H.papers shelf.old) name.now (S.left input.old) (K.taken output.old)) (S.asked input.old) (S.asked input.new) }
     ensures untouched { IsOpen (H.papers shelf.old) name.now ⊎ ((input.new ≡ input.old) × (output.new ≡ output.old)) }

@@ -5,8 +5,9 @@ ghost use Rattle.fx_base.specs.Calls.{AppendsFront};
 ghost use Rattle.fx_base.specs.Causes.{HasCause};
 ghost use Rattle.fx_stream.specs.Promise.{Grows};
 ghost use Rattle.fx_ends.specs.EndView.{end_of};
-ghost use Rattle.fx_listing.specs.Listing.{numbered_lines};
+ghost use Rattle.fx_model.specs.LineText.{numbered_lines};
 ghost use Rattle.fx_bundle_commands.specs.OpeningView.{IsSilent, with_source};
+ghost use Rattle.fx_bundle_commands.specs.Outside.{streams};
 ghost use Rattle.fx_bundle_commands.specs.commands.Check.{bound_lines};
 ghost use Rattle.fx_bundle_commands.specs.commands.Show.{PrintsTable, ShownEnds, shown_line, table};
 
@@ -32,8 +33,8 @@ fn put_table<K: Sink>(text: &[u8], certified: &Certified, output: &mut K) -> Res
 // Prints the table of an accepted bundle.
 fn print_table<K: Sink>(alloc: Global, certified: &Certified, output: &mut K) -> End<'static>
     ensures ended { (source : List ℕ) (left : Option (List ℕ)) (reads : ℕ) → PrintsTable
-        (record { left = left; read_faults = reads; taken = K.taken output.old; write_faults = K.faults output.old })
-        (record { left = left; read_faults = reads; taken = K.taken output.new; write_faults = K.faults output.new })
+        (streams left reads (K.taken output.old) (K.faults output.old))
+        (streams left reads (K.taken output.new) (K.faults output.new))
         (with_source certified.now source) certified.now.function (end_of result) }
     ensures appended { Grows (K.taken output.old) (K.taken output.new) }
     ensures quiet { IsSilent (end_of result) → output.new ≡ output.old }
@@ -55,8 +56,8 @@ pub fn show_file<H: Shelf, K: Sink>(
     output: &mut K,
 ) -> End<'static>
     ensures ended { (left : Option (List ℕ)) (reads : ℕ) → ShownEnds (H.papers shelf.old) (H.faults shelf.old) (H.faults shelf.new)
-        (record { left = left; read_faults = reads; taken = K.taken output.old; write_faults = K.faults output.old })
-        (record { left = left; read_faults = reads; taken = K.taken output.new; write_faults = K.faults output.new })
+        (streams left reads (K.taken output.old) (K.faults output.old))
+        (streams left reads (K.taken output.new) (K.faults output.new))
         name.now (end_of result) }
     ensures appended { Grows (K.taken output.old) (K.taken output.new) }
     ensures quiet { IsSilent (end_of result) → output.new ≡ output.old }

@@ -4,7 +4,7 @@ use Rattle.fx_base.specs.Calls.{AppendsFront}
 use Rattle.fx_ends.proofs.Noted.{front_more, front_behind, on_err}
 use Rattle.fx_inequalities.specs.Accepted.{bound_dyadic}
 use Rattle.fx_bundle_commands.specs.commands.Check.{bound_line}
-use Rattle.fx_listing.proofs.Listed.{next_line}
+use Rattle.fx_model.proofs.Listed.{next_line}
 use Rattle.fx_bundle_commands.proofs.report.put_bounds.Goals as goal
 
 pub returns-in_err-put_output-clause-front : goal.returns-in_err-put_output-clause-front

@@ -1,6 +1,6 @@
 use Rattle.std.proofs.Common.{◌∙◌, [], sym}
 use Rattle.fx_program.specs.CodeView.{code_of}
-use Rattle.fx_bundle_commands.specs.commands.Show.{instruction_name}
+use Rattle.fx_model.specs.ProgramText.{instruction_name}
 use Rattle.fx_bundle_commands.proofs.Shown.{at_twice}
 use Rattle.fx_bundle_commands.proofs.table.name_in.Goals as goal
 

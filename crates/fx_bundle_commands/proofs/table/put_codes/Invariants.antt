@@ -1,5 +1,5 @@
 use Rattle.std.proofs.Common.{◌≡◌, ◌-◌, ◌++◌, length}
-use Rattle.fx_listing.specs.Listing.{numbered_lines}
+use Rattle.fx_model.specs.LineText.{numbered_lines}
 use Rattle.fx_bundle_commands.specs.commands.Show.{shown_line}
 use Rattle.fx_bundle_commands.proofs.table.put_codes.Given as goal
 

@@ -1,7 +1,7 @@
 use Rattle.std.proofs.Common.{◌∙◌, ◌<◌, ◌+◌, ◌-◌, ◌++◌, length, ap, sym, subst, append_assoc}
-use Rattle.fx_listing.specs.Listing.{numbered_lines}
+use Rattle.fx_model.specs.LineText.{numbered_lines}
 use Rattle.fx_bundle_commands.specs.commands.Widths.{width_line}
-use Rattle.fx_listing.proofs.Listed.{next_line}
+use Rattle.fx_model.proofs.Listed.{next_line}
 use Rattle.fx_bundle_commands.proofs.widths.put_codes.Goals as goal
 
 pub loop-n-preserved : goal.loop-n-preserved

@@ -1,5 +1,5 @@
 use Rattle.std.proofs.Common.{◌≡◌, ◌-◌, ◌++◌}
-use Rattle.fx_listing.specs.Listing.{numbered_lines}
+use Rattle.fx_model.specs.LineText.{numbered_lines}
 use Rattle.fx_listing.specs.Rows.{row_line}
 use Rattle.fx_listing.proofs.rows.put_rows.Given as goal
 

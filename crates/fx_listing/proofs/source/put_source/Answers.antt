@@ -1,5 +1,5 @@
 use Rattle.std.proofs.Common.{◌∙◌, ◌++◌, ap, append_assoc}
-use Rattle.fx_listing.specs.Listing.{numbered_lines}
+use Rattle.fx_model.specs.LineText.{numbered_lines}
 use Rattle.fx_listing.specs.Source.{head_text, result_text, temp_line}
 use Rattle.fx_listing.proofs.source.put_source.Goals as goal
 

@@ -34,7 +34,7 @@ pub returns-clause-counted : goal.returns-clause-counted
 returns-clause-counted c = λ e.
     let xs = c.args.rows.now in let k = c.args.states in let same = sym (length-map xs row_view) in let all : c.loop-i.i ≡ length xs = omega arith in
     let each = subst (λ (n : ℕ). (j : ℕ) → j < n → IsCountedRow k (length xs) (at no_row (rows_in xs) j)) all c.loop-i.invariant.counted in
-    counted_all k (rows_in xs) (subst (λ (n : ℕ). k ≤ n) same c.if-count-states.false) (subst (λ (n : ℕ). n ≤ 512) same c.if-count-gt512.false)
+    counted_all k (rows_in xs) (subst (λ (n : ℕ). k ≤ n) same c.if-count-states.false) (subst (λ (n : ℕ). n ≤ 512) same c.if-count-gt-ROWS.false)
     (subst (λ (n : ℕ). (j : ℕ) → j < n → IsCountedRow k n (at no_row (rows_in xs) j)) same each)
     (subst (λ (n : ℕ). (j : ℕ) → j < n → j < k → (at no_row (rows_in xs) j).coefs ≡ unit_vector k j) (all ∙ same) c.loop-i.invariant.units)
 

@@ -5,7 +5,7 @@ use Rattle.fx_stream.specs.declared.fault.RunFault.{RunFault}
 use Rattle.fx_run.specs.Printed.{run_outcome}
 use Rattle.fx_rows.specs.Faults.{RowFlaw, row_fault_of}
 use Rattle.fx_rows.specs.declared.fault.RowFault.{RowFault}
-use Rattle.fx_bundle_commands.specs.Outside.{Streams}
+use Rattle.fx_bundle_commands.specs.Outside.{Streams, streams}
 use Rattle.fx_ends.specs.Ends as ends
 use Rattle.fx_ends.specs.Ends.{End}
 use Rattle.fx_bundle_commands.specs.commands.Rows.{RowsEnd, all_run, bad_line, unread, unwritten, long, no_memory}
@@ -22,8 +22,8 @@ returns-in-Ok-clause-ended g c = λ source. let r = c.in-Ok.ensures in record { 
 pub returns-in-Err-Row-clause-ended : goal.returns-in-Err-Row-clause-ended
 returns-in-Err-Row-clause-ended g c = λ source.
     let r = c.in-Err-Row.ensures in let a = c.args.certified.now in
-    let old : Streams = record { left = g.S.Source.left c.args.input.now; read_faults = g.S.Source.faults c.args.input.now; taken = g.K.Sink.taken c.args.output.now; write_faults = g.K.Sink.faults c.args.output.now } in
-    let new : Streams = record { left = g.S.Source.left c.run_kept.new.source; read_faults = g.S.Source.faults c.run_kept.new.source; taken = g.K.Sink.taken c.run_kept.new.sink; write_faults = g.K.Sink.faults c.run_kept.new.sink } in
+    let old : Streams = streams (g.S.Source.left c.args.input.now) (g.S.Source.faults c.args.input.now) (g.K.Sink.taken c.args.output.now) (g.K.Sink.faults c.args.output.now) in
+    let new : Streams = streams (g.S.Source.left c.run_kept.new.source) (g.S.Source.faults c.run_kept.new.source) (g.K.Sink.taken c.run_kept.new.sink) (g.K.Sink.faults c.run_kept.new.sink) in
     let row : RowsEnd (run_outcome a.function a.program) (ends.BadRow a.function.inputs) old new (ends.BadRow a.function.inputs c.in-Err-Row.line (row_fault_of c.in-Err-Row.fault)) =
     bad_line c.in-Err-Row.line (row_fault_of c.in-Err-Row.fault) (due_of (run_outcome a.function a.program) _ _ _ _ _ _ c.in-Err-Row.field-0-is c.in-Err-Row.ensures.due) in
     record {

@@ -1,6 +1,6 @@
 -- The lines of numbers, one after the other.
 use Rattle.std.proofs.Common.{◌≡◌, ◌<◌, ◌+◌, ◌-◌, ℕ, suc, List, ◌++◌, append-nil, refl, arith}
-use Rattle.fx_listing.specs.Listing.{numbered_lines}
+use Rattle.fx_model.specs.LineText.{numbered_lines}
 
 -- the line of number n, and those behind it
 pub next_line : (line : ℕ → List ℕ) (m n : ℕ) → n < m → numbered_lines line n (m - n) ≡ line n ++ numbered_lines line (n + 1) (m - (n + 1))
