@@ -51,6 +51,17 @@ impl Dyadic {
         }
     }
 
+    /// The same of any exponent. None where that is above 2^20.
+    pub fn checked(m: i128, e: u32) -> Option<Dyadic>
+        ensures { SomeIff result (e ≤ 2 ^ 20) (dyadic m e) }
+    {
+        if e <= 1 << 20 {
+            Some(Dyadic::new(m, e))
+        } else {
+            None
+        }
+    }
+
     /// What each dyadic keeps: a mantissa of 128 bits.
     pub fn keeps(&self)
         ensures { IsTrue (fits_128 self.now.m) }

@@ -6,10 +6,10 @@
 use crate::centre::centred;
 use crate::setting::Setting;
 use fx_fraction::Fraction;
-use fx_num::{Memory, left_fits};
+use fx_num::{Dyadic, Memory, left_fits};
 use fx_program::{Code, Kind, Round};
 use fx_ranges::{Failed, Form, mix_of, operands, weighted};
-use fx_span::{Scaled, Span, reading_error, unit_on, word_error};
+use fx_span::{Span, reading_error, unit_on, word_error};
 use std::alloc::Global;
 
 /// What the second pass says of all nodes.
@@ -235,7 +235,7 @@ fn cut_share(
         let exact = mix.of(ranges.coefficient(a, k)?, ranges.coefficient(b, k)?)?;
         let m = exact.checked_sub(left_fits(ranges.coefficient(n, k)?, places)?)?;
         if m != 0 {
-            sum = sum.plus(errors.span(k)?.scaled(Scaled { m, e: mix.e })?)?;
+            sum = sum.plus(errors.span(k)?.scaled(Dyadic::checked(m, mix.e)?)?)?;
         }
     }
     Some(sum)

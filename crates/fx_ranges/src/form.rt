@@ -5,8 +5,8 @@
 
 use crate::rows::Rows;
 use fx_flat::Node;
-use fx_num::{floor_shift, left_fits};
-use fx_span::{Grids, PLACE_LIMIT, Scaled, Span, bits, product};
+use fx_num::{Dyadic, floor_shift, left_fits};
+use fx_span::{Grids, PLACE_LIMIT, Span, bits, product};
 
 /// How many bits a coefficient has at most.
 const COEFFICIENT_BITS: u32 = 40;
@@ -22,8 +22,8 @@ pub struct Form {
     /// Where the value less the sum lies.
     pub rest: Span,
     /// Where a product's operands are centred.
-    pub centre_a: Scaled,
-    pub centre_b: Scaled,
+    pub centre_a: Dyadic,
+    pub centre_b: Dyadic,
     /// Whether coefficients were cut.
     pub is_cut: bool,
     /// Whether the form shows the range.
@@ -36,8 +36,8 @@ impl Form {
         Form {
             e: 0,
             rest,
-            centre_a: Scaled::ZERO,
-            centre_b: Scaled::ZERO,
+            centre_a: Dyadic::zero(),
+            centre_b: Dyadic::zero(),
             is_cut: false,
             shows_range: false,
         }
@@ -62,7 +62,7 @@ impl Mix {
     }
 
     /// One row by `s` and one by `t`, whose grids are `a` and `b`.
-    fn aligned(a: u32, s: Scaled, b: u32, t: Scaled) -> Option<Mix> {
+    fn aligned(a: u32, s: Dyadic, b: u32, t: Dyadic) -> Option<Mix> {
         let left = a.checked_add(s.e)?;
         let right = b.checked_add(t.e)?;
         let e = left.max(right);
@@ -89,11 +89,11 @@ pub fn operands(node: &Node) -> Option<(usize, usize)> {
 
 /// How an operation mixes its operands' rows, whose grids are `a` and `b`.
 pub fn mix_of(node: &Node, form: &Form, a: u32, b: u32) -> Option<Mix> {
-    let one = Scaled { m: 1, e: 0 };
-    let minus_one = Scaled { m: -1, e: 0 };
+    let one = Dyadic::new(1, 0);
+    let minus_one = Dyadic::new(-1, 0);
     match node {
-        Node::Neg { .. } => Mix::aligned(a, minus_one, b, Scaled::ZERO),
-        Node::Copy { .. } => Mix::aligned(a, one, b, Scaled::ZERO),
+        Node::Neg { .. } => Mix::aligned(a, minus_one, b, Dyadic::zero()),
+        Node::Copy { .. } => Mix::aligned(a, one, b, Dyadic::zero()),
         Node::Add { .. } => Mix::aligned(a, one, b, one),
         Node::Sub { .. } => Mix::aligned(a, one, b, minus_one),
         Node::Mul { .. } => Mix::aligned(a, form.centre_b, b, form.centre_a),
@@ -102,15 +102,12 @@ pub fn mix_of(node: &Node, form: &Form, a: u32, b: u32) -> Option<Mix> {
 }
 
 /// A number of at most 30 bits near the middle of a range.
-pub fn centre(range: Span) -> Option<Scaled> {
+pub fn centre(range: Span) -> Option<Dyadic> {
     let middle = floor_shift(range.lo.checked_add(range.hi)?, 1);
     let places = bits(middle.unsigned_abs())
         .saturating_sub(CENTRE_BITS)
         .min(range.e);
-    Some(Scaled {
-        m: floor_shift(middle, places),
-        e: range.e.saturating_sub(places),
-    })
+    Dyadic::checked(floor_shift(middle, places), range.e.saturating_sub(places))
 }
 
 /// A rest and the sum of the row's coefficients by what is said of each input.
@@ -118,7 +115,7 @@ pub fn weighted(row: &[i128], e: u32, rest: Span, inputs: &[Span]) -> Option<Spa
     let mut sum = rest;
     for (m, span) in row.iter().zip(inputs) {
         if *m != 0 {
-            sum = sum.plus(span.scaled(Scaled { m: *m, e })?)?;
+            sum = sum.plus(span.scaled(Dyadic::checked(*m, e)?)?)?;
         }
     }
     Some(sum)
@@ -152,7 +149,7 @@ fn cut_row(
         let off = m.checked_sub(left_fits(kept, places)?)?;
         if off != 0 {
             let span = inputs.get(k)?;
-            sum = sum.plus(span.scaled(Scaled { m: off, e })?)?;
+            sum = sum.plus(span.scaled(Dyadic::checked(off, e)?)?)?;
         }
         rows.put(n, k, kept)?;
     }

@@ -7,8 +7,8 @@ use crate::form::{Form, centre, mix_of, operands, weighted, write_row};
 use crate::rows::Rows;
 use fx_expr::Function;
 use fx_flat::{Node, Nodes};
-use fx_num::Memory;
-use fx_span::{Grids, Scaled, Span, bits, fits_word, range_between, range_of};
+use fx_num::{Dyadic, Memory};
+use fx_span::{Grids, Span, bits, fits_word, range_between, range_of};
 use std::alloc::Global;
 
 /// There is no plan: this node is the first for which the pass has nothing to say.
@@ -126,17 +126,17 @@ impl Ranges {
     }
 
     /// The greater end of the node's range without its sign.
-    pub fn size(&self, n: usize) -> Option<Scaled> {
+    pub fn size(&self, n: usize) -> Option<Dyadic> {
         let span = self.span(n)?;
         let m = i128::try_from(span.size()).ok()?;
-        Some(Scaled { m, e: span.e })
+        Dyadic::checked(m, span.e)
     }
 
     /// The lesser end of the node's range without its sign, which is the least size of a divisor.
-    pub fn least_size(&self, n: usize) -> Option<Scaled> {
+    pub fn least_size(&self, n: usize) -> Option<Dyadic> {
         let span = self.span(n)?;
         let m = i128::try_from(span.least_size()).ok()?;
-        Some(Scaled { m, e: span.e })
+        Dyadic::checked(m, span.e)
     }
 }
 

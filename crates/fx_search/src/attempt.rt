@@ -7,11 +7,11 @@ ghost use Rattle.std.specs.Prelude.{◌≡◌, length, IfOk};
 use crate::task::Task;
 use fx_expr::Function;
 use fx_flat::{Node, Nodes, flatten};
-use fx_num::Memory;
+use fx_num::{Dyadic, Memory};
 use fx_planning::{Cost, Plan, bound, find_plan};
 use fx_points::{Magnitude, NodeFacts, PointFault, choose_points};
 use fx_ranges::{Failed, Ranges, find_ranges};
-use fx_span::{Grids, Real, Scaled, Span, input_error};
+use fx_span::{Grids, Real, Span, input_error};
 use std::alloc::Global;
 
 /// So often points are chosen again, at most.
@@ -59,7 +59,7 @@ impl Attempt {
 }
 
 /// A size for ranking, where there is one.
-fn magnitude(size: Option<Scaled>) -> Magnitude {
+fn magnitude(size: Option<Dyadic>) -> Magnitude {
     let Some(size) = size else {
         return Magnitude::GREATEST;
     };
