@@ -70,6 +70,15 @@ impl Dyadic {
     }
 }
 
+/// `m / 2^e` in lowest terms, for guesses: an exponent that is still above 2^20 then becomes that.
+pub fn lowest(m: i128, e: u32) -> Dyadic {
+    let places = m.trailing_zeros().min(e);
+    Dyadic::new(
+        floor_shift(m, places),
+        e.saturating_sub(places).min(1 << 20),
+    )
+}
+
 /// `a + b`, both mantissas brought to the greater exponent. None where a mantissa leaves 128 bits, after that or in the sum.
 #[tactic(auto, unfolding(fx_rational::specs::Dyadic::sum_fits, fx_rational::specs::Dyadic::dyadic_sum))]
 pub fn dadd(a: Dyadic, b: Dyadic) -> Option<Dyadic>

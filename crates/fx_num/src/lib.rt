@@ -9,10 +9,10 @@
 mod dyadic;
 mod shift;
 
-pub use dyadic::{Dyadic, dadd, dle, dmul, dsub, round_down, round_up};
+pub use dyadic::{Dyadic, dadd, dle, dmul, dsub, lowest, round_down, round_up};
 pub use shift::{
-    add_fits, ceil_shift, floor_shift, left_fits, mul_fits, raised, short_two_to, signed_two_to,
-    two_to,
+    add_fits, bits, ceil_shift, floor_shift, left_fits, mul_fits, raised, short_two_to,
+    signed_two_to, two_to,
 };
 use std::alloc::{AllocError, AllocFailed};
 use std::error::Error;

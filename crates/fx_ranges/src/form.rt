@@ -5,8 +5,8 @@
 
 use crate::rows::Rows;
 use fx_flat::Node;
-use fx_num::{Dyadic, floor_shift, left_fits};
-use fx_span::{Grids, PLACE_LIMIT, Span, bits, product};
+use fx_num::{Dyadic, bits, floor_shift, left_fits};
+use fx_span::{Grids, PLACE_LIMIT, Span, product};
 
 /// How many bits a coefficient has at most.
 const COEFFICIENT_BITS: u32 = 40;

@@ -7,8 +7,8 @@ use crate::form::{Form, centre, mix_of, operands, weighted, write_row};
 use crate::rows::Rows;
 use fx_expr::Function;
 use fx_flat::{Node, Nodes};
-use fx_num::{Dyadic, Memory};
-use fx_span::{Grids, Span, bits, fits_word, range_between, range_of};
+use fx_num::{Dyadic, Memory, bits};
+use fx_span::{Grids, Span, fits_word, range_between, range_of};
 use std::alloc::Global;
 
 /// There is no plan: this node is the first for which the pass has nothing to say.

@@ -23,4 +23,4 @@ pub use literal::{
 };
 pub use real::Real;
 pub use real_span::RealSpan;
-pub use span::{Span, bits, product};
+pub use span::{Span, product};

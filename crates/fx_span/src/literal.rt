@@ -1,9 +1,9 @@
 //! Fractions and decimals on grids: their floors, the words of literals, and the errors of those words.
 
 use crate::grid::{Grids, PLACE_LIMIT};
-use crate::span::{Span, bits};
+use crate::span::Span;
 use fx_fraction::{Decimal, Fraction, to_fraction};
-use fx_num::{Dyadic, ceil_shift, floor_shift, left_fits};
+use fx_num::{Dyadic, bits, ceil_shift, floor_shift, left_fits};
 
 /// The floor of `top * 2^places / bottom`.
 ///

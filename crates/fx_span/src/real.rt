@@ -3,7 +3,7 @@
 //! A cost, or how an output moves with a node, only ranks choices: the last bits of it matter to no one. Whole numbers
 //! alone give the same ranking on every machine. Nothing here fails: an exponent stays at its type's end.
 
-use crate::span::bits;
+use fx_num::bits;
 
 /// How many bits a mantissa has.
 const MANTISSA_BITS: i64 = 32;

@@ -14,11 +14,6 @@ pub struct Span {
     pub e: u32,
 }
 
-/// How many bits a size has.
-pub fn bits(size: u128) -> u32 {
-    128_u32.saturating_sub(size.leading_zeros())
-}
-
 /// The product of two mantissas.
 pub fn product(a: i128, b: i128) -> Option<i128> {
     // most have 64 bits, whose product fits without a test
