@@ -12,7 +12,7 @@ mod names;
 mod numeral;
 mod steps;
 
-pub use items::{Items, listed, repeated, separated};
+pub use items::{Rule, listed, repeated, separated};
 pub use limits::{HEIGHT_LIMIT, INPUT_LIMIT, NODE_LIMIT, OUTPUT_LIMIT, STATE_LIMIT, TEMP_LIMIT};
 pub use names::{Names, free, no_names, place, with_name};
 pub use numeral::{Numeral, decimal, minus, numeral_value};
