@@ -20,8 +20,8 @@ use fx_interval::Interval;
 use fx_num::{Dyadic, Memory};
 use std::alloc::Global;
 
-/// `m / 2^f` in lowest terms.
-fn lowest(m: i128, f: u32) -> Dyadic
+/// `m` units `2^-f`, in lowest terms.
+fn whole_units(m: i128, f: u32) -> Dyadic
     requires point { f ≤ 58 }
     requires few { unsigned_abs m < 2 ^ 64 }
     ensures { result ≡ lowest_dyadic m f }
@@ -35,8 +35,8 @@ pub fn span(r: u64, f: u32) -> Interval
     ensures { result ≡ units f r }
 {
     Interval {
-        lo: lowest(-i128::from(r), f),
-        hi: lowest(i128::from(r), f),
+        lo: whole_units(-i128::from(r), f),
+        hi: whole_units(i128::from(r), f),
     }
 }
 

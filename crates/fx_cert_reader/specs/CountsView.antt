@@ -2,11 +2,11 @@
 use Rattle.std.specs.Prelude.{ℕ, ◌+◌, ◌≤◌}
 use Rattle.fx_model.specs.Limits.{input_limit, state_limit, node_limit, row_limit}
 use Rattle.fx_cert_reader.specs.LineReading as reading
-use Rattle.fx_cert_reader.specs.declared.read_line.Sizes.{Sizes}
+use Rattle.fx_cert_reader.specs.declared.read_line.CertificateSizes.{CertificateSizes}
 use Rattle.fx_cert_reader.specs.declared.read_line.RowCounts.{RowCounts}
 
 -- the counts of inputs, states and nodes
-abbrev pub certificate_sizes_of : Sizes → reading.CertificateSizes
+abbrev pub certificate_sizes_of : CertificateSizes → reading.CertificateSizes
 certificate_sizes_of s = record { inputs = s.inputs; states = s.states; count = s.count }
 
 -- those of rows and error rows

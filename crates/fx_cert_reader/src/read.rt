@@ -16,7 +16,7 @@ ghost use Rattle.fx_cert_reader.specs.CertificateReading.{rows_at, steps_at, all
 
 use crate::lines::{BoxLines, NodeLines, RowLines, StartLines, StepLines};
 use crate::read_line::{
-    RowCounts, Sizes, read_headline, read_row_counts, read_sizes, read_step_count,
+    CertificateSizes, RowCounts, read_headline, read_row_counts, read_sizes, read_step_count,
 };
 use fx_cert::{Certificate, Row};
 use fx_expr::Items;
@@ -35,7 +35,7 @@ fn headline_line(line: u32, text: &[u8]) -> Result<&[u8], TextFault>
 }
 
 #[tactic(auto, unfolding(fx_text::specs::Lines::line_by))]
-fn sizes_line(line: u32, text: &[u8]) -> Result<(Sizes, &[u8]), TextFault>
+fn sizes_line(line: u32, text: &[u8]) -> Result<(CertificateSizes, &[u8]), TextFault>
     ensures value { ReadsAll (λ x. (certificate_sizes_of x.0, x.1.now)) result (line_by certificate_sizes_at line text.now) }
     ensures range { IfOk result (λ x. AreCertificateSizes (certificate_sizes_of x.0)) }
 {
@@ -133,7 +133,7 @@ fn parts_at<'a>(
 {
     let rest = headline_line(line, text)?;
     let (sizes, rest) = sizes_line(line + 1, rest)?;
-    let Sizes {
+    let CertificateSizes {
         inputs,
         states,
         count,

@@ -27,7 +27,7 @@ use std::alloc::Global;
 
 /// The counts that the second line names.
 #[derive(Clone, Copy)]
-pub struct Sizes {
+pub struct CertificateSizes {
     pub inputs: u32,
     pub states: u32,
     pub count: u32,
@@ -53,7 +53,7 @@ pub fn read_headline(fields: &mut Fields<'_>) -> Result<(), TextKind>
 
 /// `sizes I K n`.
 #[tactic(auto, unfolding(crate::specs::LineReading::certificate_sizes_at))]
-pub fn read_sizes(fields: &mut Fields<'_>) -> Result<Sizes, TextKind>
+pub fn read_sizes(fields: &mut Fields<'_>) -> Result<CertificateSizes, TextKind>
     ensures value { ReadsAll certificate_sizes_of result (certificate_sizes_at fields.old) }
     ensures range { IfOk result (λ s. AreCertificateSizes (certificate_sizes_of s)) }
 {
@@ -62,7 +62,7 @@ pub fn read_sizes(fields: &mut Fields<'_>) -> Result<Sizes, TextKind>
     let states = count(fields, 0, STATE_LIMIT)?;
     let count = count(fields, inputs + states, NODE_LIMIT)?;
     ended(fields)?;
-    Ok(Sizes {
+    Ok(CertificateSizes {
         inputs,
         states,
         count,

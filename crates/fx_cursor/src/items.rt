@@ -13,7 +13,7 @@ use fx_grammar::Head;
 use fx_lexer::Token;
 
 /// A rule that reads one item behind those that were read.
-pub trait Items<'a> {
+pub trait Rule<'a> {
     /// What was read.
     type Kept: Drop;
 
@@ -46,7 +46,7 @@ fn begun<'t, 'a, K: Drop>(kept: K, tokens: &'t [Token<'a>]) -> Parsed<'t, 'a, K>
 }
 
 /// Items as long as the sign stands next, each behind it.
-pub fn repeated<'t, 'a, R: Items<'a>>(
+pub fn repeated<'t, 'a, R: Rule<'a>>(
     rule: &R,
     sign: Head,
     kept: R::Kept,
@@ -68,7 +68,7 @@ pub fn repeated<'t, 'a, R: Items<'a>>(
 
 /// Items with a sign between each two.
 #[tactic(auto, unfolding(fx_grammar::specs::Steps::separated))]
-pub fn separated<'t, 'a, R: Items<'a>>(
+pub fn separated<'t, 'a, R: Rule<'a>>(
     rule: &R,
     sign: Head,
     kept: R::Kept,
@@ -85,7 +85,7 @@ pub fn separated<'t, 'a, R: Items<'a>>(
 
 /// Items with a comma between each two, and the parenthesis that closes.
 #[tactic(auto, unfolding(fx_grammar::specs::Steps::listed))]
-pub fn listed<'t, 'a, R: Items<'a>>(
+pub fn listed<'t, 'a, R: Rule<'a>>(
     rule: &R,
     end: u32,
     kept: R::Kept,

@@ -11,7 +11,7 @@ mod names;
 mod numeral;
 mod steps;
 
-pub use items::{Items, listed, repeated, separated};
+pub use items::{Rule, listed, repeated, separated};
 pub use names::{Names, free, no_names, place, with_name};
 pub use numeral::{Numeral, decimal, minus, numeral_value};
 pub use steps::{

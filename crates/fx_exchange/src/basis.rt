@@ -5,8 +5,8 @@
 
 use crate::budget::Budget;
 use fx_cert::Share;
-use fx_num::{Memory, floor_shift, left_fits};
-use fx_reach::{PLACES, Pool, bits, product, quotient, share_of, unit_cost, unit_row};
+use fx_num::{Memory, bits, floor_shift, left_fits};
+use fx_reach::{PLACES, Pool, product, quotient, share_of, unit_cost, unit_row};
 use std::alloc::Global;
 
 /// How many binary places entries have.

@@ -2,8 +2,7 @@
 
 use fx_cert::Row;
 use fx_interval::Interval;
-use fx_num::{Memory, floor_shift, left_fits};
-use fx_reach::bits;
+use fx_num::{Memory, bits, floor_shift, left_fits};
 use fx_span::Span;
 use fx_writing::interval;
 use std::alloc::Global;

@@ -51,12 +51,32 @@ impl Dyadic {
         }
     }
 
+    /// The same of any exponent. None where that is above 2^20.
+    pub fn checked(m: i128, e: u32) -> Option<Dyadic>
+        ensures { SomeIff result (e ≤ 2 ^ 20) (dyadic m e) }
+    {
+        if e <= 1 << 20 {
+            Some(Dyadic::new(m, e))
+        } else {
+            None
+        }
+    }
+
     /// What each dyadic keeps: a mantissa of 128 bits.
     pub fn keeps(&self)
         ensures { IsTrue (fits_128 self.now.m) }
     {
         let _m = self.m;
     }
+}
+
+/// `m / 2^e` in lowest terms, for guesses: an exponent that is still above 2^20 then becomes that.
+pub fn lowest(m: i128, e: u32) -> Dyadic {
+    let places = m.trailing_zeros().min(e);
+    Dyadic::new(
+        floor_shift(m, places),
+        e.saturating_sub(places).min(1 << 20),
+    )
 }
 
 /// `a + b`, both mantissas brought to the greater exponent. None where a mantissa leaves 128 bits, after that or in the sum.

@@ -10,14 +10,14 @@ mod dyadic;
 mod limits;
 mod shift;
 
-pub use dyadic::{Dyadic, dadd, dle, dmul, dsub, round_down, round_up};
+pub use dyadic::{Dyadic, dadd, dle, dmul, dsub, lowest, round_down, round_up};
 pub use limits::{
     GREATEST_POINT, HEIGHT_LIMIT, INPUT_LIMIT, LEAST_POINT, NODE_LIMIT, OUTPUT_LIMIT, PLACE_END,
     ROW_LIMIT, RULE_COUNT, SOURCE_LIMIT, STATE_LIMIT, STEP_LIMIT, TEMP_LIMIT,
 };
 pub use shift::{
-    add_fits, ceil_shift, floor_shift, left_fits, mul_fits, raised, short_two_to, signed_two_to,
-    two_to,
+    add_fits, bits, ceil_shift, floor_shift, left_fits, mul_fits, raised, short_two_to,
+    signed_two_to, two_to,
 };
 use std::alloc::{AllocError, AllocFailed};
 use std::error::Error;

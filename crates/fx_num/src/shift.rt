@@ -77,6 +77,13 @@ pub fn left_fits(v: i128, s: u32) -> Option<i128>
     }
 }
 
+/// How many bits a size has.
+pub fn bits(size: u128) -> u32
+    ensures { result ≤ 128 }
+{
+    128_u32.saturating_sub(size.leading_zeros())
+}
+
 /// `2^s`.
 pub fn two_to(s: u32) -> u128
     requires { s ≤ 126 }

@@ -18,8 +18,8 @@ use Rattle.fx_parser.specs.declared.body.Temp.{Temp}
 use Rattle.fx_parser.specs.declared.body.Body.{Body}
 use Rattle.fx_parser.specs.declared.body.Results.{Results}
 use Rattle.fx_parser.specs.declared.function.Front.{Front}
-use Rattle.fx_parser.specs.declared.function.Draft.{Draft}
-use Rattle.fx_parser.specs.declared.source.Drafts.{Drafts}
+use Rattle.fx_parser.specs.declared.function.SourceFunction.{SourceFunction}
+use Rattle.fx_parser.specs.declared.source.SourceFunctions.{SourceFunctions}
 
 abbrev pub state_value : State → model.State
 state_value s = record { name = s.name.now; start = decimal_value (numeral_decimal s.start) }
@@ -43,8 +43,8 @@ results_value r = record { trees = map tree r.trees.items; nodes = r.nodes }
 abbrev pub front_value : Front → functions.Front
 front_value f = record { name = f.name.now; subjects = subjects_of f.subjects; declared = declared_of f.declared; reals = f.reals }
 
-abbrev pub draft_of : Draft → model.Function
-draft_of f = record {
+abbrev pub source_function_of : SourceFunction → model.Function
+source_function_of f = record {
   name = f.name.now;
   inputs = inputs_value f.inputs;
   states = map state_value f.states.items;
@@ -57,9 +57,9 @@ draft_of f = record {
 abbrev pub bounded : ℕ → ℕ → model.Function → Tokens → Parsed model.Function
 bounded word nodes f ts = if nat_lt node_limit nodes then Err (fault word TooMany) else Ok (f, ts)
 
-abbrev pub drafts_of : Drafts → List model.Function
-drafts_of d = map draft_of d.list.items
+abbrev pub source_functions_of : SourceFunctions → List model.Function
+source_functions_of d = map source_function_of d.list.items
 
 -- the set has their names
-abbrev pub AreNamed : Drafts → Type 0
-AreNamed d = d.names ≡ function_names (drafts_of d)
+abbrev pub AreNamed : SourceFunctions → Type 0
+AreNamed d = d.names ≡ function_names (source_functions_of d)

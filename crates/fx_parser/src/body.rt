@@ -17,7 +17,7 @@ ghost use Rattle.fx_grammar.specs.Operands.{tree_or};
 ghost use Rattle.fx_grammar.specs.Bodies.{too_high, whole_at, typed_at, with_temp, val_at, vals_at, count_of, known_of, single_high, single_at, element_at, tuple_at, result_at};
 
 use fx_cursor::{
-    Items, Names, Parsed, behind, free, listed, past_semicolon, peek, place_at, real, repeated,
+    Names, Parsed, Rule, behind, free, listed, past_semicolon, peek, place_at, real, repeated,
     want, with_name, wrong,
 };
 use fx_expr::Expr;
@@ -192,7 +192,7 @@ struct ValRule {
     states: u32,
 }
 
-impl<'a> Items<'a> for ValRule {
+impl<'a> Rule<'a> for ValRule {
     ghost use Rattle.std.specs.Prelude.{◌≡◌};
     ghost use Rattle.fx_grammar.specs.Bodies as bodies;
     ghost use Rattle.fx_grammar.specs.Bodies.{val_at};
@@ -343,7 +343,7 @@ struct ElementRule<'b> {
     body: &'b Body<'b>,
 }
 
-impl<'a, 'b> Items<'a> for ElementRule<'b> {
+impl<'a, 'b> Rule<'a> for ElementRule<'b> {
     ghost use Rattle.std.specs.Prelude.{◌<◌, ◌^◌, length};
     ghost use Rattle.fx_grammar.specs.Bodies as bodies;
     ghost use Rattle.fx_grammar.specs.Bodies.{element_at};

@@ -12,7 +12,7 @@ ghost use Rattle.fx_grammar.specs.Fronts.{param_at, declared_state, states_at, o
 ghost use Rattle.fx_grammar.specs.Functions.{new_name};
 
 use fx_cursor::{
-    Items, Names, Numeral, Parsed, behind, free, listed, peek, place_at, real, signed, want,
+    Names, Numeral, Parsed, Rule, behind, free, listed, peek, place_at, real, signed, want,
     with_name,
 };
 use fx_grammar::Head;
@@ -66,7 +66,7 @@ struct ParameterRule {
     end: u32,
 }
 
-impl<'a> Items<'a> for ParameterRule {
+impl<'a> Rule<'a> for ParameterRule {
     ghost use Rattle.std.specs.Prelude.{◌≤◌, length};
     ghost use Rattle.fx_grammar.specs.Ranges.{Subjects};
     ghost use Rattle.fx_grammar.specs.Fronts.{param_at};
@@ -154,7 +154,7 @@ struct RealRule {
     states: usize,
 }
 
-impl<'a> Items<'a> for RealRule {
+impl<'a> Rule<'a> for RealRule {
     ghost use Rattle.std.specs.Prelude.{ℕ, ◌≤◌};
     ghost use Rattle.fx_grammar.specs.Fronts.{one_real};
 
@@ -213,7 +213,7 @@ struct StateRule {
     end: u32,
 }
 
-impl<'a> Items<'a> for StateRule {
+impl<'a> Rule<'a> for StateRule {
     ghost use Rattle.std.specs.Prelude.{◌≤◌, ◌+◌, length};
     ghost use Rattle.fx_grammar.specs.Fronts as fronts;
     ghost use Rattle.fx_grammar.specs.Fronts.{declared_state};

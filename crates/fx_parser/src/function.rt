@@ -4,7 +4,7 @@ ghost use Rattle.fx_lexer.specs.Faults.{GivesParsed};
 ghost use Rattle.fx_cursor.specs.Texts.{all_texts};
 ghost use Rattle.fx_cursor.specs.Views.{lexemes};
 ghost use Rattle.fx_requirements.specs.Views.{subject_of, subjects_of};
-ghost use Rattle.fx_parser.specs.Views.{draft_of, front_value, body_value, results_value, HasBodyRoom, bounded};
+ghost use Rattle.fx_parser.specs.Views.{source_function_of, front_value, body_value, results_value, HasBodyRoom, bounded};
 ghost use Rattle.fx_grammar.specs.Steps.{has_name, name_place};
 ghost use Rattle.fx_grammar.specs.Functions.{front_at, body_of, require_word_at, body_at};
 ghost use Rattle.fx_grammar.specs.Bodies.{count_of};
@@ -21,7 +21,7 @@ use std::alloc::Global;
 
 /// A function of the source.
 #[derive(Drop)]
-pub struct Draft<'a> {
+pub struct SourceFunction<'a> {
     pub name: &'a str,
     pub inputs: Vec<Subject<'a>>,
     pub states: Vec<State<'a>>,
@@ -117,10 +117,10 @@ pub fn read_body<'t, 'a>(
     word: u32,
     front: Front<'a>,
     tokens: &'t [Token<'a>],
-) -> Parsed<'t, 'a, Draft<'a>>
+) -> Parsed<'t, 'a, SourceFunction<'a>>
     requires tokens { length tokens.now < 2 ^ 32 }
     requires few { (length front.subjects.items ≤ 64) × (length front.declared.states.items ≤ 32) × (length front.declared.names ≤ 96) × (length front.declared.states.items < front.reals) }
-    ensures value { GivesParsed (λ x. (draft_of x.0, lexemes x.1.now)) result (body_at end word (front_value front.entry) (lexemes tokens.now)) }
+    ensures value { GivesParsed (λ x. (source_function_of x.0, lexemes x.1.now)) result (body_at end word (front_value front.entry) (lexemes tokens.now)) }
     ensures shorter { IfOk result (λ x. length x.1.now ≤ length tokens.now) }
     ensures name { IfOk result (λ x. x.0.name.now ≡ front.entry.name.now) }
 {
@@ -142,7 +142,7 @@ pub fn read_body<'t, 'a>(
     let Results { trees, nodes } = results;
     let total = count + states.len() + trees.len() + nodes as usize;
     let Body { temps, .. } = known;
-    let draft = Draft {
+    let source_function = SourceFunction {
         name,
         inputs,
         states,
@@ -150,22 +150,22 @@ pub fn read_body<'t, 'a>(
         results: trees,
         demands,
     };
-    within_nodes(word, total, draft, rest)
+    within_nodes(word, total, source_function, rest)
 }
 
 /// The function, if it has no more than 4,000 nodes.
 fn within_nodes<'t, 'a>(
     word: u32,
     nodes: usize,
-    draft: Draft<'a>,
+    source_function: SourceFunction<'a>,
     rest: &'t [Token<'a>],
-) -> Parsed<'t, 'a, Draft<'a>>
-    ensures value { GivesParsed (λ x. (draft_of x.0, lexemes x.1.now)) result (bounded word nodes (draft_of draft.entry) (lexemes rest.now)) }
+) -> Parsed<'t, 'a, SourceFunction<'a>>
+    ensures value { GivesParsed (λ x. (source_function_of x.0, lexemes x.1.now)) result (bounded word nodes (source_function_of source_function.entry) (lexemes rest.now)) }
     ensures shorter { IfOk result (λ x. length x.1.now ≤ length rest.now) }
-    ensures name { IfOk result (λ x. x.0.name.now ≡ draft.entry.name.now) }
+    ensures name { IfOk result (λ x. x.0.name.now ≡ source_function.entry.name.now) }
 {
     if nodes > NODE_LIMIT as usize {
         return Err(SourceFault::at(word, SourceKind::TooMany));
     }
-    Ok((draft, rest))
+    Ok((source_function, rest))
 }

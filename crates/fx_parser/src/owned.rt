@@ -11,9 +11,9 @@ ghost use Rattle.fx_cursor.specs.Texts.{numeral_decimal};
 ghost use Rattle.fx_lexer.specs.Faults.{GivesParsed};
 ghost use Rattle.fx_parser.specs.LawfulNames.{IsLawfulAndNamed};
 ghost use Rattle.fx_requirements.specs.Views.{subject_of, demand_value};
-ghost use Rattle.fx_parser.specs.Views.{state_value, temp_value, draft_of};
+ghost use Rattle.fx_parser.specs.Views.{state_value, temp_value, source_function_of};
 
-use crate::function::Draft;
+use crate::function::SourceFunction;
 use crate::{body, front};
 use fx_cursor::{Numeral, numeral_value};
 use fx_expr::{Demand, Function, Input, Items, State, Temp};
@@ -97,18 +97,18 @@ fn owned_demands(alloc: Global, demands: &[Demanded<'_>]) -> Result<Vec<Demand>,
 }
 
 /// The function that was read.
-pub fn owned(alloc: Global, draft: Draft<'_>) -> Result<Function, SourceFault>
-    requires { IsLawfulAndNamed (draft_of draft) }
-    ensures { GivesParsed (λ f. f) result (Ok (draft_of draft.entry)) }
+pub fn owned(alloc: Global, source_function: SourceFunction<'_>) -> Result<Function, SourceFault>
+    requires { IsLawfulAndNamed (source_function_of source_function) }
+    ensures { GivesParsed (λ f. f) result (Ok (source_function_of source_function.entry)) }
 {
-    let Draft {
+    let SourceFunction {
         name,
         inputs,
         states,
         temps,
         results,
         demands,
-    } = draft;
+    } = source_function;
     let name = owned_name(alloc, name)?;
     let inputs = owned_inputs(alloc, &inputs)?;
     let states = owned_states(alloc, &states)?;

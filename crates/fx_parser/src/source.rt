@@ -2,12 +2,12 @@
 ghost use Rattle.std.specs.Prelude.{◌≡◌, ◌≤◌, ◌<◌, ◌^◌, length, IfOk, IsOk, []};
 ghost use Rattle.fx_lexer.specs.Faults.{GivesParsed};
 ghost use Rattle.fx_cursor.specs.Views.{lexemes};
-ghost use Rattle.fx_parser.specs.Views.{drafts_of, AreNamed};
+ghost use Rattle.fx_parser.specs.Views.{source_functions_of, AreNamed};
 ghost use Rattle.fx_grammar.specs.Sources.{dot_at, import_at, imports_at, one_def, defs_at, ended, object_at, source_of};
 
-use crate::function::{Draft, read_body, read_front};
+use crate::function::{SourceFunction, read_body, read_front};
 use fx_cursor::{
-    Items, Names, Parsed, behind, next_is, no_names, peek, place_at, repeated, separated, want,
+    Names, Parsed, Rule, behind, next_is, no_names, peek, place_at, repeated, separated, want,
     with_name, wrong,
 };
 use fx_grammar::Head;
@@ -32,7 +32,7 @@ struct DotRule {
     end: u32,
 }
 
-impl<'a> Items<'a> for DotRule {
+impl<'a> Rule<'a> for DotRule {
     ghost use Rattle.fx_grammar.specs.Sources.{dot_at};
 
     type Kept = ();
@@ -65,7 +65,7 @@ struct ImportRule {
     end: u32,
 }
 
-impl<'a> Items<'a> for ImportRule {
+impl<'a> Rule<'a> for ImportRule {
     ghost use Rattle.fx_grammar.specs.Sources.{import_at};
 
     type Kept = ();
@@ -95,9 +95,9 @@ fn imports<'t, 'a>(end: u32, tokens: &'t [Token<'a>]) -> Rest<'t, 'a>
 
 /// The functions so far, and the set of their names.
 #[derive(Drop)]
-pub struct Drafts<'a> {
+pub struct SourceFunctions<'a> {
     pub names: Names<'a>,
-    pub list: Vec<Draft<'a>>,
+    pub list: Vec<SourceFunction<'a>>,
 }
 
 /// One more function, from its word on.
@@ -105,79 +105,91 @@ pub struct Drafts<'a> {
 fn one_def<'t, 'a>(
     alloc: Global,
     end: u32,
-    drafts: Drafts<'a>,
+    source_functions: SourceFunctions<'a>,
     tokens: &'t [Token<'a>],
-) -> Parsed<'t, 'a, Drafts<'a>>
+) -> Parsed<'t, 'a, SourceFunctions<'a>>
     requires tokens { length tokens.now < 2 ^ 32 }
-    requires same { AreNamed drafts }
-    ensures value { GivesParsed (λ x. (drafts_of x.0, lexemes x.1.now)) result (one_def end (drafts_of drafts.entry) (lexemes tokens.now)) }
+    requires same { AreNamed source_functions }
+    ensures value { GivesParsed (λ x. (source_functions_of x.0, lexemes x.1.now)) result (one_def end (source_functions_of source_functions.entry) (lexemes tokens.now)) }
     ensures shorter { IfOk result (λ x. length x.1.now < length tokens.now) }
     ensures same { IfOk result (λ x. AreNamed x.0) }
 {
     let word = place_at(end, tokens);
-    let Drafts { names, mut list } = drafts;
+    let SourceFunctions { names, mut list } = source_functions;
     let (front, rest) = read_front(alloc, end, &names, behind(tokens))?;
     let name = front.name;
-    let (draft, rest) = read_body(alloc, end, word, front, rest)?;
+    let (source_function, rest) = read_body(alloc, end, word, front, rest)?;
     let names = with_name(names, name)?;
-    list.push(draft)?;
-    Ok((Drafts { names, list }, rest))
+    list.push(source_function)?;
+    Ok((SourceFunctions { names, list }, rest))
 }
 
-fn none_yet<'t, 'a>(alloc: Global, tokens: &'t [Token<'a>]) -> Parsed<'t, 'a, Drafts<'a>>
-    ensures value { IfOk result (λ x. (drafts_of x.0 ≡ []) × (x.1.now ≡ tokens.now)) }
+fn none_yet<'t, 'a>(alloc: Global, tokens: &'t [Token<'a>]) -> Parsed<'t, 'a, SourceFunctions<'a>>
+    ensures value { IfOk result (λ x. (source_functions_of x.0 ≡ []) × (x.1.now ≡ tokens.now)) }
     ensures same { IfOk result (λ x. AreNamed x.0) }
     ensures ok { IsOk result }
 {
-    let drafts = Drafts {
+    let source_functions = SourceFunctions {
         names: no_names(alloc),
         list: Vec::new(alloc),
     };
-    Ok((drafts, tokens))
+    Ok((source_functions, tokens))
 }
 
 /// All functions.
 #[tactic(auto, unfolding(fx_grammar::specs::Sources::defs_at))]
-fn defs<'t, 'a>(alloc: Global, end: u32, tokens: &'t [Token<'a>]) -> Parsed<'t, 'a, Drafts<'a>>
+fn defs<'t, 'a>(
+    alloc: Global,
+    end: u32,
+    tokens: &'t [Token<'a>],
+) -> Parsed<'t, 'a, SourceFunctions<'a>>
     requires { length tokens.now < 2 ^ 32 }
-    ensures value { GivesParsed (λ x. (drafts_of x.0, lexemes x.1.now)) result (defs_at end (lexemes tokens.now)) }
+    ensures value { GivesParsed (λ x. (source_functions_of x.0, lexemes x.1.now)) result (defs_at end (lexemes tokens.now)) }
     ensures shorter { IfOk result (λ x. length x.1.now ≤ length tokens.now) }
     ensures same { IfOk result (λ x. AreNamed x.0) }
 {
-    let (mut drafts, mut rest) = none_yet(alloc, tokens)?;
+    let (mut source_functions, mut rest) = none_yet(alloc, tokens)?;
     'items: while next_is(Head::Def, rest) {
-        let (more, after) = one_def(alloc, end, drafts, rest)?;
-        drafts = more;
+        let (more, after) = one_def(alloc, end, source_functions, rest)?;
+        source_functions = more;
         rest = after;
     }
-    Ok((drafts, rest))
+    Ok((source_functions, rest))
 }
 
 /// The object, behind its word.
 #[tactic(auto, unfolding(fx_grammar::specs::Sources::object_at))]
-fn object<'t, 'a>(alloc: Global, end: u32, tokens: &'t [Token<'a>]) -> Parsed<'t, 'a, Drafts<'a>>
+fn object<'t, 'a>(
+    alloc: Global,
+    end: u32,
+    tokens: &'t [Token<'a>],
+) -> Parsed<'t, 'a, SourceFunctions<'a>>
     requires { length tokens.now < 2 ^ 32 }
-    ensures value { GivesParsed (λ x. (drafts_of x.0, lexemes x.1.now)) result (object_at end (lexemes tokens.now)) }
+    ensures value { GivesParsed (λ x. (source_functions_of x.0, lexemes x.1.now)) result (object_at end (lexemes tokens.now)) }
     ensures shorter { IfOk result (λ x. length x.1.now ≤ length tokens.now) }
     ensures same { IfOk result (λ x. AreNamed x.0) }
 {
     let (_, rest) = want(end, Head::Name, tokens)?;
     let (_, rest) = want(end, Head::OpenBrace, rest)?;
     let rest = imports(end, rest)?;
-    let (drafts, rest) = defs(alloc, end, rest)?;
+    let (source_functions, rest) = defs(alloc, end, rest)?;
     let (_, rest) = want(end, Head::CloseBrace, rest)?;
-    Ok((drafts, rest))
+    Ok((source_functions, rest))
 }
 
-fn ended<'a>(end: u32, drafts: Drafts<'a>, tokens: &[Token<'_>]) -> Result<Drafts<'a>, SourceFault>
-    requires { AreNamed drafts }
-    ensures value { GivesParsed drafts_of result (ended end (drafts_of drafts.entry) (lexemes tokens.now)) }
+fn ended<'a>(
+    end: u32,
+    source_functions: SourceFunctions<'a>,
+    tokens: &[Token<'_>],
+) -> Result<SourceFunctions<'a>, SourceFault>
+    requires { AreNamed source_functions }
+    ensures value { GivesParsed source_functions_of result (ended end (source_functions_of source_functions.entry) (lexemes tokens.now)) }
     ensures same { IfOk result (λ more. AreNamed more) }
 {
     if !tokens.is_empty() {
         return Err(wrong(end, tokens));
     }
-    Ok(drafts)
+    Ok(source_functions)
 }
 
 /// All functions of a source.
@@ -186,16 +198,16 @@ pub fn functions_in<'a>(
     alloc: Global,
     end: u32,
     tokens: &[Token<'a>],
-) -> Result<Drafts<'a>, SourceFault>
+) -> Result<SourceFunctions<'a>, SourceFault>
     requires { length tokens.now < 2 ^ 32 }
-    ensures value { GivesParsed drafts_of result (source_of end (lexemes tokens.now)) }
-    ensures same { IfOk result (λ drafts. AreNamed drafts) }
+    ensures value { GivesParsed source_functions_of result (source_of end (lexemes tokens.now)) }
+    ensures same { IfOk result (λ source_functions. AreNamed source_functions) }
 {
     let rest = imports(end, tokens)?;
     if peek(rest) == Head::Object {
-        let (drafts, rest) = object(alloc, end, behind(rest))?;
-        return ended(end, drafts, rest);
+        let (source_functions, rest) = object(alloc, end, behind(rest))?;
+        return ended(end, source_functions, rest);
     }
-    let (drafts, rest) = defs(alloc, end, rest)?;
-    ended(end, drafts, rest)
+    let (source_functions, rest) = defs(alloc, end, rest)?;
+    ended(end, source_functions, rest)
 }

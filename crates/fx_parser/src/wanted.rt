@@ -6,44 +6,44 @@ ghost use Rattle.fx_lexer.specs.Faults.{GivesParsed};
 ghost use Rattle.fx_grammar.specs.Sources.{chosen, functions_of, parsed};
 ghost use Rattle.fx_parser.specs.LawfulNames.{IsLawfulAndNamed};
 ghost use Rattle.fx_parser.specs.Choice.{IsChoice, wanted_in};
-ghost use Rattle.fx_parser.specs.Views.{draft_of, drafts_of, AreNamed};
+ghost use Rattle.fx_parser.specs.Views.{source_function_of, source_functions_of, AreNamed};
 
-use crate::function::Draft;
+use crate::function::SourceFunction;
 use crate::owned::owned;
-use crate::source::{Drafts, functions_in};
+use crate::source::{SourceFunctions, functions_in};
 use fx_cursor::place;
 use fx_expr::Function;
 use fx_lexer::{SourceFault, SourceKind, tokens};
 use std::alloc::Global;
 
 /// The functions of a text.
-fn drafts<'a>(alloc: Global, text: &'a str) -> Result<Drafts<'a>, SourceFault>
+fn source_functions<'a>(alloc: Global, text: &'a str) -> Result<SourceFunctions<'a>, SourceFault>
     requires { length text.now < 2 ^ 32 }
-    ensures value { GivesParsed drafts_of result (functions_of text.now) }
-    ensures same { IfOk result (λ drafts. AreNamed drafts) }
+    ensures value { GivesParsed source_functions_of result (functions_of text.now) }
+    ensures same { IfOk result (λ source_functions. AreNamed source_functions) }
 {
     let tokens = tokens(alloc, text)?;
     functions_in(alloc, text.len() as u32, &tokens)
 }
 
 /// The number of the function of this name.
-fn by_name(drafts: &Drafts<'_>, name: &str) -> Result<usize, SourceKind>
-    requires { AreNamed drafts.now }
-    ensures within { IfOk result (λ k. k < length drafts.now.list.items) }
-    ensures value { IsChoice (Some name.now) (drafts_of drafts.now) result }
+fn by_name(source_functions: &SourceFunctions<'_>, name: &str) -> Result<usize, SourceKind>
+    requires { AreNamed source_functions.now }
+    ensures within { IfOk result (λ k. k < length source_functions.now.list.items) }
+    ensures value { IsChoice (Some name.now) (source_functions_of source_functions.now) result }
 {
-    match place(&drafts.names, name) {
+    match place(&source_functions.names, name) {
         Some(k) => Ok(k),
         None => Err(SourceKind::NoSuchFunction),
     }
 }
 
 /// The number of the only function.
-fn the_only(drafts: &Drafts<'_>) -> Result<usize, SourceKind>
-    ensures within { IfOk result (λ k. k < length drafts.now.list.items) }
-    ensures value { IsChoice None (drafts_of drafts.now) result }
+fn the_only(source_functions: &SourceFunctions<'_>) -> Result<usize, SourceKind>
+    ensures within { IfOk result (λ k. k < length source_functions.now.list.items) }
+    ensures value { IsChoice None (source_functions_of source_functions.now) result }
 {
-    let count = drafts.list.len();
+    let count = source_functions.list.len();
     if count == 0 {
         return Err(SourceKind::NoSuchFunction);
     }
@@ -54,25 +54,31 @@ fn the_only(drafts: &Drafts<'_>) -> Result<usize, SourceKind>
 }
 
 /// The number of the wanted function.
-fn number_of(drafts: &Drafts<'_>, name: Option<&str>) -> Result<usize, SourceKind>
-    requires { AreNamed drafts.now }
-    ensures within { IfOk result (λ k. k < length drafts.now.list.items) }
-    ensures value { IsChoice (option_map (λ n. n.now) name.entry) (drafts_of drafts.now) result }
+fn number_of(
+    source_functions: &SourceFunctions<'_>,
+    name: Option<&str>,
+) -> Result<usize, SourceKind>
+    requires { AreNamed source_functions.now }
+    ensures within { IfOk result (λ k. k < length source_functions.now.list.items) }
+    ensures value { IsChoice (option_map (λ n. n.now) name.entry) (source_functions_of source_functions.now) result }
 {
     match name {
-        Some(name) => by_name(drafts, name),
-        None => the_only(drafts),
+        Some(name) => by_name(source_functions, name),
+        None => the_only(source_functions),
     }
 }
 
 /// The wanted function.
-fn chosen<'a>(drafts: Drafts<'a>, name: Option<&str>) -> Result<Draft<'a>, SourceFault>
-    requires { AreNamed drafts }
-    ensures { GivesParsed draft_of result (chosen (option_map (λ n. n.now) name.entry) (drafts_of drafts.entry)) }
+fn chosen<'a>(
+    source_functions: SourceFunctions<'a>,
+    name: Option<&str>,
+) -> Result<SourceFunction<'a>, SourceFault>
+    requires { AreNamed source_functions }
+    ensures { GivesParsed source_function_of result (chosen (option_map (λ n. n.now) name.entry) (source_functions_of source_functions.entry)) }
 {
-    match number_of(&drafts, name) {
+    match number_of(&source_functions, name) {
         Ok(k) => {
-            let Drafts { mut list, .. } = drafts;
+            let SourceFunctions { mut list, .. } = source_functions;
             Ok(list.swap_remove(k))
         }
         Err(kind) => Err(SourceFault::at(0, kind)),
@@ -85,9 +91,9 @@ fn function_in(alloc: Global, text: &str, name: Option<&str>) -> Result<Function
     requires { length text.now < 2 ^ 32 }
     ensures { GivesParsed (λ f. f) result (wanted_in text.now (option_map (λ n. n.now) name.entry)) }
 {
-    let drafts = drafts(alloc, text)?;
-    let draft = chosen(drafts, name)?;
-    owned(alloc, draft)
+    let source_functions = source_functions(alloc, text)?;
+    let source_function = chosen(source_functions, name)?;
+    owned(alloc, source_function)
 }
 
 /// The wanted function of a source: the one of this name, or the only one. Memory where none was left, else the first

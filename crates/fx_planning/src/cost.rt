@@ -33,8 +33,8 @@ impl Cost {
             (Cost::Planned { .. }, Cost::Failed { .. }) => true,
             (Cost::Failed { .. }, Cost::Planned { .. }) => false,
             (Cost::Failed { left: a }, Cost::Failed { left: b }) => a < b,
-            (Cost::Planned { excess: a, mean: x }, Cost::Planned { excess: b, mean: y }) =>
-                a.is_below(b) || (a == b && x.is_below(y)),
+            (Cost::Planned { excess: a, mean: x }, Cost::Planned { excess: b, mean: y }) => a < b
+                || (a == b && x < y),
         }
     }
 }

@@ -62,8 +62,8 @@ pub fn end_excess(demand: Demand, range: Span, error: Span, bound: Real) -> Real
 
 /// The move of one literal that shifts an error by so much, up or down, if its slope by unit has a sign.
 fn push(node: usize, slope: RealSpan, ends: RealSpan, by: Real, is_up: bool) -> Option<Move> {
-    let is_rising = Real::ZERO.is_below(slope.lo);
-    if !is_rising && !slope.hi.is_below(Real::ZERO) {
+    let is_rising = Real::ZERO < slope.lo;
+    if !is_rising && slope.hi >= Real::ZERO {
         return None;
     }
     let least = if is_rising {

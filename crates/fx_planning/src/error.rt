@@ -6,10 +6,10 @@
 use crate::centre::centred;
 use crate::setting::Setting;
 use fx_fraction::Fraction;
-use fx_num::{Memory, left_fits};
+use fx_num::{Dyadic, Memory, left_fits};
 use fx_program::{Code, Kind, Round};
-use fx_ranges::{Failed, Form, mix_of, operands, weighted};
-use fx_span::{Scaled, Span, reading_error, unit_on, word_error};
+use fx_ranges::{Failed, RangeForm, mix_of, operands, weighted};
+use fx_span::{Span, reading_error, unit_on, word_error};
 use std::alloc::Global;
 
 /// What the second pass says of all nodes.
@@ -164,7 +164,7 @@ fn product_off(
     setting: &Setting<'_>,
     errors: &Errors,
     (a, b): (usize, usize),
-    form: &Form,
+    form: &RangeForm,
 ) -> Option<Span> {
     let x = setting.ranges.span(a)?.minus(Span::single(form.centre_a))?;
     let y = setting.ranges.span(b)?.minus(Span::single(form.centre_b))?;
@@ -180,7 +180,7 @@ fn product_error(
     setting: &Setting<'_>,
     errors: &Errors,
     (a, b): (usize, usize),
-    form: &Form,
+    form: &RangeForm,
     loss: Span,
 ) -> Option<Span> {
     let off = product_off(setting, errors, (a, b), form)?;
@@ -199,7 +199,7 @@ fn unrounded_error(
     match &code.kind() {
         Kind::Mul { r, a, b, s } => {
             let loss = shift_loss(*r, i64::from(*s), point)?;
-            let form = Form::of_rest(Span::ZERO);
+            let form = RangeForm::of_rest(Span::ZERO);
             product_off(setting, errors, (*a as usize, *b as usize), &form)?.plus(loss)
         }
         kind => linear_error(&errors.spans, kind, point),
@@ -222,7 +222,7 @@ fn cut_share(
     setting: &Setting<'_>,
     errors: &Errors,
     n: usize,
-    form: &Form,
+    form: &RangeForm,
     rest: Span,
 ) -> Option<Span> {
     let node = setting.nodes.get(n)?;
@@ -235,7 +235,7 @@ fn cut_share(
         let exact = mix.of(ranges.coefficient(a, k)?, ranges.coefficient(b, k)?)?;
         let m = exact.checked_sub(left_fits(ranges.coefficient(n, k)?, places)?)?;
         if m != 0 {
-            sum = sum.plus(errors.span(k)?.scaled(Scaled { m, e: mix.e })?)?;
+            sum = sum.plus(errors.span(k)?.scaled(Dyadic::checked(m, mix.e)?)?)?;
         }
     }
     Some(sum)
@@ -247,7 +247,7 @@ fn error_rest(
     errors: &Errors,
     n: usize,
     code: &Code,
-    form: &Form,
+    form: &RangeForm,
 ) -> Option<Span> {
     let point = setting.point(n)?;
     let rest = match &code.kind() {

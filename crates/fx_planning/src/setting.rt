@@ -4,10 +4,10 @@ use crate::cost::Goal;
 use fx_expr::Function;
 use fx_flat::{Node, Nodes};
 use fx_fraction::Fraction;
-use fx_num::Memory;
+use fx_num::{Memory, bits};
 use fx_program::Code;
 use fx_ranges::{Failed, Ranges, codes_of, operands};
-use fx_span::{Span, bits};
+use fx_span::Span;
 use fx_wanted::Wanted;
 use std::alloc::Global;
 

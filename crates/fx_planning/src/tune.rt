@@ -45,7 +45,7 @@ pub fn bound_after(ends: RealSpan, slope: RealSpan, units: i64) -> Real {
 /// The lesser of two moves, and the first of equals.
 pub fn lesser(best: Option<Move>, other: Move) -> Option<Move> {
     match best {
-        Some(first) => if other.bound.is_below(first.bound) {
+        Some(first) => if other.bound < first.bound {
             Some(other)
         } else {
             Some(first)
@@ -74,7 +74,7 @@ fn better(
     let mut found = best;
     for t in units..units.saturating_add(2) {
         let bound = bound_after(ends, slope, t);
-        if t != 0 && t.unsigned_abs() <= MOVE_LIMIT.unsigned_abs() && bound.is_below(limit) {
+        if t != 0 && t.unsigned_abs() <= MOVE_LIMIT.unsigned_abs() && bound < limit {
             found = lesser(
                 found,
                 Move {

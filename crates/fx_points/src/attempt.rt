@@ -7,11 +7,11 @@ use crate::entry::Entry;
 use crate::facts::NodeFacts;
 use crate::fault::PointFault;
 use crate::literal::literal;
-use crate::magnitude::Magnitude;
 use crate::operation::{Factor, Rates, Room, input, product, quotient, sum};
 use fx_flat::Node;
 use fx_num::Memory;
 use fx_program::Round;
+use fx_span::Real;
 use std::alloc::Global;
 
 /// What an attempt reads.
@@ -33,7 +33,7 @@ pub struct Task<'a> {
 #[derive(Drop)]
 pub struct Chosen {
     pub points: Vec<i8>,
-    pub cost: Magnitude,
+    pub cost: Real,
 }
 
 /// The operands of a node, the left one first.
@@ -60,10 +60,10 @@ fn quotient_entry(
     before: &[Entry],
     a: u32,
     b: u32,
-    size: Magnitude,
+    size: Real,
     room: Room,
 ) -> Option<Entry> {
-    let inverse = Magnitude::ONE.over(task.facts.get(b as usize)?.least);
+    let inverse = Real::ONE.over(task.facts.get(b as usize)?.least);
     let x = before.get(a as usize)?;
     let y = before.get(b as usize)?;
     Some(Entry::Listed(quotient(x, y, Rates { inverse, size }, room)))
@@ -145,8 +145,8 @@ fn set(points: &mut [i8], operand: Option<u32>, point: i8) {
 
 /// From the last node to the first, gives the operands the points that the node's own point asks for. Answers the summed
 /// cost of the outputs.
-fn hand_down(nodes: &[Node], entries: &[Entry], points: &mut [i8]) -> Magnitude {
-    let mut cost = Magnitude::ZERO;
+fn hand_down(nodes: &[Node], entries: &[Entry], points: &mut [i8]) -> Real {
+    let mut cost = Real::ZERO;
     for n in (0..points.len()).rev() {
         if let (Some(node), Some(entry)) = (nodes.get(n), entries.get(n)) {
             if let Some(choice) = entry.at(i32::from(points[n])) {

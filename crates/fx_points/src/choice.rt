@@ -1,8 +1,8 @@
 //! The points that a node may have.
 ghost use Rattle.std.specs.Prelude.{◌≤◌};
 
-use crate::magnitude::Magnitude;
 use fx_num::{GREATEST_POINT, LEAST_POINT};
+use fx_span::Real;
 
 /// A point that a node may have.
 #[derive(Clone, Copy, Debug)]
@@ -10,7 +10,7 @@ pub struct Choice {
     /// The point.
     pub point: i8,
     /// The least cost that leads there.
-    pub cost: Magnitude,
+    pub cost: Real,
     /// The point of the only or left operand then.
     pub left: i8,
     /// The point of the right operand then.
@@ -22,7 +22,7 @@ impl Choice {
     pub const POINTS: i32 = 8;
 
     /// A point, at which operands have the same.
-    pub fn alone(point: i8, cost: Magnitude) -> Choice {
+    pub fn alone(point: i8, cost: Real) -> Choice {
         Choice {
             point,
             cost,
@@ -71,7 +71,7 @@ impl Choices {
     /// None yet.
     pub fn new() -> Choices {
         Choices {
-            list: [Choice::alone(0, Magnitude::ZERO); 8],
+            list: [Choice::alone(0, Real::ZERO); 8],
             count: 0,
         }
     }

@@ -16,10 +16,8 @@ mod entry;
 mod facts;
 mod fault;
 mod literal;
-mod magnitude;
 mod operation;
 
 pub use choose::choose_points;
 pub use facts::NodeFacts;
 pub use fault::PointFault;
-pub use magnitude::Magnitude;

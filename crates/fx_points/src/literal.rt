@@ -3,9 +3,9 @@ ghost use Rattle.std.specs.Prelude.{◌<◌, ◌^◌};
 
 use crate::choice::{Choice, Choices};
 use crate::entry::{Entry, Exact};
-use crate::magnitude::Magnitude;
 use fx_fraction::Fraction;
 use fx_num::raised;
+use fx_span::Real;
 
 /// The numerator without its sign.
 fn top(c: Fraction) -> u64
@@ -36,15 +36,16 @@ fn exact_point(c: Fraction) -> Option<i8> {
 }
 
 /// How far the nearest word at a point is from a literal.
-fn nearest_miss(c: Fraction, f: i8) -> Magnitude {
+fn nearest_miss(c: Fraction, f: i8) -> Real {
     let whole = raised(top(c), u32::from(f.clamp(0, 64).unsigned_abs()));
     let unit = raised(bottom(c), u32::from(f.clamp(-64, 0).unsigned_abs()));
     if unit == 0 {
-        return Magnitude::GREATEST;
+        return Real::INFINITE;
     }
     let rest = whole % unit;
     let miss = rest.min(unit - rest);
-    Magnitude::new(miss, -i32::from(f)).over(Magnitude::new(unit, 0))
+    let share = Real::of(miss as i128, 0).over(Real::of(unit as i128, 0));
+    share.times(Real::power(-i32::from(f)))
 }
 
 /// The points of a literal.

@@ -4,8 +4,8 @@
 //! is left out.
 use crate::choice::{Choice, Choices, cheaper};
 use crate::entry::{Entry, Exact};
-use crate::magnitude::Magnitude;
 use fx_program::Round;
+use fx_span::Real;
 
 /// How far the points of a node may go.
 #[derive(Clone, Copy, Debug)]
@@ -19,17 +19,17 @@ pub struct Room {
 }
 
 /// What a floor at a point may lose.
-fn unit(f: i8) -> Magnitude {
-    Magnitude::power_of_two(-i32::from(f))
+fn unit(f: i8) -> Real {
+    Real::power(-i32::from(f))
 }
 
 /// What the nearest word at a point is off at most.
-fn half_unit(f: i8) -> Magnitude {
-    Magnitude::power_of_two(-1 - i32::from(f))
+fn half_unit(f: i8) -> Real {
+    Real::power(-1 - i32::from(f))
 }
 
 /// The points of an input, which is read with one floor and errs twice as far as it is given.
-pub fn input(error: Magnitude, cap: i8) -> Choices {
+pub fn input(error: Real, cap: i8) -> Choices {
     let given = error.plus(error);
     Choices::down_from(i32::from(cap), Choice::POINTS, |f| {
         Some(Choice::alone(f, unit(f).plus(given)))
@@ -67,11 +67,11 @@ pub fn sum(a: &Entry, b: &Entry, room: Room) -> Option<Choices> {
 }
 
 /// What a product's shift loses at point `f`, if it may have the shift.
-fn product_loss(shift: i32, f: i8, room: Room) -> Option<Magnitude> {
+fn product_loss(shift: i32, f: i8, room: Room) -> Option<Real> {
     if shift > 2 * i32::from(room.width) - 2 {
         None
     } else if shift == 0 {
-        Some(Magnitude::ZERO)
+        Some(Real::ZERO)
     } else {
         Some(match room.round {
             Round::Floor => unit(f),
@@ -86,7 +86,7 @@ fn least_shift(least: i8, x: i8, f: i8) -> i32 {
 }
 
 /// The choice of the product of an exact literal and `x` at point `f`: the literal's point is the least that keeps all.
-fn scaled_choice(literal: Exact, size: Magnitude, x: Choice, f: i8, room: Room) -> Option<Choice> {
+fn scaled_choice(literal: Exact, size: Real, x: Choice, f: i8, room: Room) -> Option<Choice> {
     let shift = least_shift(literal.least, x.point, f);
     let loss = product_loss(shift, f, room)?;
     let wanted = i32::from(f) - i32::from(x.point);
@@ -101,13 +101,7 @@ fn scaled_choice(literal: Exact, size: Magnitude, x: Choice, f: i8, room: Room) 
 }
 
 /// The choice of the product of an exact literal and another node at point `f`.
-fn scaled_at(
-    literal: Exact,
-    size: Magnitude,
-    other: &Choices,
-    f: i8,
-    room: Room,
-) -> Option<Choice> {
+fn scaled_at(literal: Exact, size: Real, other: &Choices, f: i8, room: Room) -> Option<Choice> {
     let mut best = None;
     for x in other.as_slice() {
         best = cheaper(best, scaled_choice(literal, size, *x, f, room));
@@ -116,7 +110,7 @@ fn scaled_at(
 }
 
 /// The points of the product of an exact literal, on the left, and another node.
-fn scaled(literal: Exact, size: Magnitude, other: &Choices, room: Room) -> Option<Choices> {
+fn scaled(literal: Exact, size: Real, other: &Choices, room: Room) -> Option<Choices> {
     let finest = i32::from(other.finest()?.point);
     let top = (finest + i32::from(literal.greatest)).min(i32::from(room.cap));
     Some(Choices::down_from(top, Choice::POINTS, |f| {
@@ -125,7 +119,7 @@ fn scaled(literal: Exact, size: Magnitude, other: &Choices, room: Room) -> Optio
 }
 
 /// The points of a product whose operands have the points that are best for them.
-fn whole_product(x: Choice, y: Choice, cost: Magnitude, room: Room) -> Choices {
+fn whole_product(x: Choice, y: Choice, cost: Real, room: Room) -> Choices {
     let point = i32::from(x.point) + i32::from(y.point);
     Choices::down_from(point.min(i32::from(room.cap)), Choice::POINTS, |f| {
         let loss = product_loss(point - i32::from(f), f, room)?;
@@ -142,7 +136,7 @@ fn whole_product(x: Choice, y: Choice, cost: Magnitude, room: Room) -> Choices {
 #[derive(Clone, Copy)]
 pub struct Factor<'a> {
     pub entry: &'a Entry,
-    pub size: Magnitude,
+    pub size: Real,
 }
 
 /// The points of a product.
@@ -185,9 +179,9 @@ fn divided_at(a: &Choices, b: Exact, rates: Rates, f: i8, width: i8) -> Option<C
 #[derive(Clone, Copy)]
 pub struct Rates {
     /// One over the least size of the divisor.
-    pub inverse: Magnitude,
+    pub inverse: Real,
     /// The size of the quotient.
-    pub size: Magnitude,
+    pub size: Real,
 }
 
 impl Rates {

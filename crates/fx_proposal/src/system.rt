@@ -6,8 +6,8 @@
 use crate::ends::{Ends, widened};
 use crate::left::{Left, left_of};
 use fx_interval::Interval;
-use fx_num::{Memory, left_fits};
-use fx_reach::{Linear, Pool, bits, lowest, moved_down, moved_up};
+use fx_num::{Memory, bits, left_fits, lowest};
+use fx_reach::{Linear, Pool, moved_down, moved_up};
 use std::alloc::Global;
 
 /// How many bits a bound has about.

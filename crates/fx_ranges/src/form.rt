@@ -3,10 +3,10 @@
 //! A form keeps what plain intervals lose, that the same input stands in both operands. Its coefficients are cut to 40
 //! bits; what is cut off goes to the rest, and where nothing was, the errors have no such share either.
 
-use crate::rows::Rows;
+use crate::coefficients::Coefficients;
 use fx_flat::Node;
-use fx_num::{floor_shift, left_fits};
-use fx_span::{Grids, PLACE_LIMIT, Scaled, Span, bits, product};
+use fx_num::{Dyadic, bits, floor_shift, left_fits};
+use fx_span::{Grids, PLACE_LIMIT, Span, product};
 
 /// How many bits a coefficient has at most.
 const COEFFICIENT_BITS: u32 = 40;
@@ -14,30 +14,30 @@ const COEFFICIENT_BITS: u32 = 40;
 /// How many bits a centre has at most.
 const CENTRE_BITS: u32 = 30;
 
-/// What a form has beside its coefficients, whose row stands in `Rows`.
+/// What a form has beside its coefficients, which stand in a row of `Coefficients`.
 #[derive(Clone, Copy, Debug)]
-pub struct Form {
+pub struct RangeForm {
     /// The grid of the coefficients.
     pub e: u32,
     /// Where the value less the sum lies.
     pub rest: Span,
     /// Where a product's operands are centred.
-    pub centre_a: Scaled,
-    pub centre_b: Scaled,
+    pub centre_a: Dyadic,
+    pub centre_b: Dyadic,
     /// Whether coefficients were cut.
     pub is_cut: bool,
     /// Whether the form shows the range.
     pub shows_range: bool,
 }
 
-impl Form {
+impl RangeForm {
     /// The form of a value that is a rest alone.
-    pub fn of_rest(rest: Span) -> Form {
-        Form {
+    pub fn of_rest(rest: Span) -> RangeForm {
+        RangeForm {
             e: 0,
             rest,
-            centre_a: Scaled::ZERO,
-            centre_b: Scaled::ZERO,
+            centre_a: Dyadic::zero(),
+            centre_b: Dyadic::zero(),
             is_cut: false,
             shows_range: false,
         }
@@ -62,7 +62,7 @@ impl Mix {
     }
 
     /// One row by `s` and one by `t`, whose grids are `a` and `b`.
-    fn aligned(a: u32, s: Scaled, b: u32, t: Scaled) -> Option<Mix> {
+    fn aligned(a: u32, s: Dyadic, b: u32, t: Dyadic) -> Option<Mix> {
         let left = a.checked_add(s.e)?;
         let right = b.checked_add(t.e)?;
         let e = left.max(right);
@@ -88,12 +88,12 @@ pub fn operands(node: &Node) -> Option<(usize, usize)> {
 }
 
 /// How an operation mixes its operands' rows, whose grids are `a` and `b`.
-pub fn mix_of(node: &Node, form: &Form, a: u32, b: u32) -> Option<Mix> {
-    let one = Scaled { m: 1, e: 0 };
-    let minus_one = Scaled { m: -1, e: 0 };
+pub fn mix_of(node: &Node, form: &RangeForm, a: u32, b: u32) -> Option<Mix> {
+    let one = Dyadic::new(1, 0);
+    let minus_one = Dyadic::new(-1, 0);
     match node {
-        Node::Neg { .. } => Mix::aligned(a, minus_one, b, Scaled::ZERO),
-        Node::Copy { .. } => Mix::aligned(a, one, b, Scaled::ZERO),
+        Node::Neg { .. } => Mix::aligned(a, minus_one, b, Dyadic::zero()),
+        Node::Copy { .. } => Mix::aligned(a, one, b, Dyadic::zero()),
         Node::Add { .. } => Mix::aligned(a, one, b, one),
         Node::Sub { .. } => Mix::aligned(a, one, b, minus_one),
         Node::Mul { .. } => Mix::aligned(a, form.centre_b, b, form.centre_a),
@@ -102,15 +102,12 @@ pub fn mix_of(node: &Node, form: &Form, a: u32, b: u32) -> Option<Mix> {
 }
 
 /// A number of at most 30 bits near the middle of a range.
-pub fn centre(range: Span) -> Option<Scaled> {
+pub fn centre(range: Span) -> Option<Dyadic> {
     let middle = floor_shift(range.lo.checked_add(range.hi)?, 1);
     let places = bits(middle.unsigned_abs())
         .saturating_sub(CENTRE_BITS)
         .min(range.e);
-    Some(Scaled {
-        m: floor_shift(middle, places),
-        e: range.e.saturating_sub(places),
-    })
+    Dyadic::checked(floor_shift(middle, places), range.e.saturating_sub(places))
 }
 
 /// A rest and the sum of the row's coefficients by what is said of each input.
@@ -118,18 +115,24 @@ pub fn weighted(row: &[i128], e: u32, rest: Span, inputs: &[Span]) -> Option<Spa
     let mut sum = rest;
     for (m, span) in row.iter().zip(inputs) {
         if *m != 0 {
-            sum = sum.plus(span.scaled(Scaled { m: *m, e })?)?;
+            sum = sum.plus(span.scaled(Dyadic::checked(*m, e)?)?)?;
         }
     }
     Some(sum)
 }
 
 /// Writes the row of an operation, and gives the greatest size in it.
-fn mix_rows(rows: &mut Rows, n: usize, a: usize, b: usize, mix: Mix) -> Option<u128> {
+fn mix_rows(
+    coefficients: &mut Coefficients,
+    n: usize,
+    a: usize,
+    b: usize,
+    mix: Mix,
+) -> Option<u128> {
     let mut greatest = 0;
-    for k in 0..rows.width() {
-        let m = mix.of(rows.at(a, k)?, rows.at(b, k)?)?;
-        rows.put(n, k, m)?;
+    for k in 0..coefficients.width() {
+        let m = mix.of(coefficients.at(a, k)?, coefficients.at(b, k)?)?;
+        coefficients.put(n, k, m)?;
         greatest = m.unsigned_abs().max(greatest);
     }
     Some(greatest)
@@ -137,7 +140,7 @@ fn mix_rows(rows: &mut Rows, n: usize, a: usize, b: usize, mix: Mix) -> Option<u
 
 /// Cuts so many places off a row's coefficients, and adds what they come to to the rest.
 fn cut_row(
-    rows: &mut Rows,
+    coefficients: &mut Coefficients,
     n: usize,
     e: u32,
     places: u32,
@@ -146,39 +149,39 @@ fn cut_row(
 ) -> Option<Span> {
     let half = left_fits(1, places.checked_sub(1)?)?;
     let mut sum = rest;
-    for k in 0..rows.width() {
-        let m = rows.at(n, k)?;
+    for k in 0..coefficients.width() {
+        let m = coefficients.at(n, k)?;
         let kept = floor_shift(m.checked_add(half)?, places);
         let off = m.checked_sub(left_fits(kept, places)?)?;
         if off != 0 {
             let span = inputs.get(k)?;
-            sum = sum.plus(span.scaled(Scaled { m: off, e })?)?;
+            sum = sum.plus(span.scaled(Dyadic::checked(off, e)?)?)?;
         }
-        rows.put(n, k, kept)?;
+        coefficients.put(n, k, kept)?;
     }
     Some(sum)
 }
 
 /// Writes the row of an operation whose form has the rest, with at most 40 bits a coefficient.
 pub fn write_row(
-    rows: &mut Rows,
+    coefficients: &mut Coefficients,
     n: usize,
     (a, b): (usize, usize),
     mix: Mix,
-    form: Form,
+    form: RangeForm,
     inputs: &[Span],
     grids: Grids,
-) -> Option<Form> {
-    let greatest = mix_rows(rows, n, a, b, mix)?;
+) -> Option<RangeForm> {
+    let greatest = mix_rows(coefficients, n, a, b, mix)?;
     let by_bits = bits(greatest).saturating_sub(COEFFICIENT_BITS).min(mix.e);
     let places = by_bits.max(mix.e.saturating_sub(PLACE_LIMIT));
     let is_cut = places > 0;
     let rest = if is_cut {
-        cut_row(rows, n, mix.e, places, form.rest, inputs)?
+        cut_row(coefficients, n, mix.e, places, form.rest, inputs)?
     } else {
         form.rest
     };
-    Some(Form {
+    Some(RangeForm {
         e: mix.e.saturating_sub(places),
         rest: grids.rounded(rest),
         is_cut,

@@ -15,12 +15,12 @@
 #![tactic(auto)]
 
 mod code;
+mod coefficients;
 mod form;
 mod range;
-mod rows;
 mod start;
 
 pub use code::{codes_of, has_code};
-pub use form::{Form, Mix, mix_of, operands, weighted};
+pub use form::{Mix, RangeForm, mix_of, operands, weighted};
 pub use range::{Failed, Ranges, find_ranges, find_ranges_in};
 pub use start::{start_error, start_range};

@@ -3,12 +3,12 @@
 //! A node's range is the plain one or the form's, whichever is narrower, and later nodes use it. The pass ends at the
 //! first node whose range reaches `2^62` as a mantissa, whose divisor may be zero, or whose numbers leave 128 bits.
 
-use crate::form::{Form, centre, mix_of, operands, weighted, write_row};
-use crate::rows::Rows;
+use crate::coefficients::Coefficients;
+use crate::form::{RangeForm, centre, mix_of, operands, weighted, write_row};
 use fx_expr::Function;
 use fx_flat::{Node, Nodes};
-use fx_num::{GREATEST_POINT, LEAST_POINT, Memory};
-use fx_span::{Grids, Scaled, Span, bits, fits_word, range_between, range_of};
+use fx_num::{Dyadic, GREATEST_POINT, LEAST_POINT, Memory, bits};
+use fx_span::{Grids, Span, fits_word, range_between, range_of};
 use std::alloc::Global;
 
 /// There is no plan: this node is the first for which the pass has nothing to say.
@@ -31,8 +31,8 @@ impl Failed {
 pub struct Ranges {
     grids: Grids,
     spans: Vec<Span>,
-    forms: Vec<Option<Form>>,
-    rows: Rows,
+    forms: Vec<Option<RangeForm>>,
+    coefficients: Coefficients,
 }
 
 impl Ranges {
@@ -42,18 +42,18 @@ impl Ranges {
         inputs: usize,
         grids: Grids,
     ) -> Result<Option<Ranges>, Memory> {
-        match Rows::new(alloc, count, inputs)? {
-            Some(rows) => Ok(Some(Ranges {
+        match Coefficients::new(alloc, count, inputs)? {
+            Some(coefficients) => Ok(Some(Ranges {
                 grids,
                 spans: Vec::new(alloc),
                 forms: Vec::new(alloc),
-                rows,
+                coefficients,
             })),
             None => Ok(None),
         }
     }
 
-    fn push(&mut self, span: Span, form: Option<Form>) -> Result<(), Memory> {
+    fn push(&mut self, span: Span, form: Option<RangeForm>) -> Result<(), Memory> {
         self.spans.push(span)?;
         self.forms.push(form)?;
         Ok(())
@@ -66,17 +66,17 @@ impl Ranges {
 
     /// How many coefficients a form has: one for each input and state.
     pub fn variables(&self) -> usize {
-        self.rows.width()
+        self.coefficients.width()
     }
 
     /// The coefficients of a node's form, on its grid.
     pub fn row(&self, n: usize) -> &[i128] {
-        self.rows.row(n)
+        self.coefficients.row(n)
     }
 
     /// One of them.
     pub fn coefficient(&self, n: usize, k: usize) -> Option<i128> {
-        self.rows.at(n, k)
+        self.coefficients.at(n, k)
     }
 
     /// The range of a node.
@@ -85,15 +85,15 @@ impl Ranges {
     }
 
     /// The form of a node, if it has one.
-    pub fn form(&self, n: usize) -> Option<Form> {
+    pub fn form(&self, n: usize) -> Option<RangeForm> {
         self.forms.get(n).copied()?
     }
 
     /// The form of a node, which is its range alone where it has none.
-    fn form_or_rest(&self, n: usize) -> Option<Form> {
+    fn form_or_rest(&self, n: usize) -> Option<RangeForm> {
         match self.form(n) {
             Some(form) => Some(form),
-            None => Some(Form::of_rest(self.span(n)?)),
+            None => Some(RangeForm::of_rest(self.span(n)?)),
         }
     }
 
@@ -129,17 +129,17 @@ impl Ranges {
     }
 
     /// The greater end of the node's range without its sign.
-    pub fn size(&self, n: usize) -> Option<Scaled> {
+    pub fn size(&self, n: usize) -> Option<Dyadic> {
         let span = self.span(n)?;
         let m = i128::try_from(span.size()).ok()?;
-        Some(Scaled { m, e: span.e })
+        Dyadic::checked(m, span.e)
     }
 
     /// The lesser end of the node's range without its sign, which is the least size of a divisor.
-    pub fn least_size(&self, n: usize) -> Option<Scaled> {
+    pub fn least_size(&self, n: usize) -> Option<Dyadic> {
         let span = self.span(n)?;
         let m = i128::try_from(span.least_size()).ok()?;
-        Some(Scaled { m, e: span.e })
+        Dyadic::checked(m, span.e)
     }
 }
 
@@ -173,7 +173,7 @@ fn plain_range(ranges: &Ranges, node: &Node) -> Option<Span> {
 }
 
 /// The rest of a product's form, with the operands' centres.
-fn product_form(ranges: &Ranges, a: usize, b: usize) -> Option<Form> {
+fn product_form(ranges: &Ranges, a: usize, b: usize) -> Option<RangeForm> {
     let x = ranges.span(a)?;
     let y = ranges.span(b)?;
     let centre_a = centre(x)?;
@@ -183,15 +183,15 @@ fn product_form(ranges: &Ranges, a: usize, b: usize) -> Option<Form> {
     let both = Span::single(centre_a).scaled(centre_b)?;
     let off_a = x.minus(Span::single(centre_a))?;
     let off_b = y.minus(Span::single(centre_b))?;
-    Some(Form {
+    Some(RangeForm {
         centre_a,
         centre_b,
-        ..Form::of_rest(left.plus(right)?.minus(both)?.plus(off_a.times(off_b)?)?)
+        ..RangeForm::of_rest(left.plus(right)?.minus(both)?.plus(off_a.times(off_b)?)?)
     })
 }
 
 /// What an operation's form is, before its row is written.
-fn unwritten_form(ranges: &Ranges, node: &Node, a: usize, b: usize) -> Option<Form> {
+fn unwritten_form(ranges: &Ranges, node: &Node, a: usize, b: usize) -> Option<RangeForm> {
     if let Node::Mul { .. } = node {
         return product_form(ranges, a, b);
     }
@@ -203,15 +203,15 @@ fn unwritten_form(ranges: &Ranges, node: &Node, a: usize, b: usize) -> Option<Fo
         Node::Sub { .. } => x.minus(y)?,
         _ => x,
     };
-    Some(Form::of_rest(rest))
+    Some(RangeForm::of_rest(rest))
 }
 
 /// Writes the form of an operation.
-fn write_form(ranges: &mut Ranges, n: usize, node: &Node, a: usize, b: usize) -> Option<Form> {
+fn write_form(ranges: &mut Ranges, n: usize, node: &Node, a: usize, b: usize) -> Option<RangeForm> {
     let form = unwritten_form(ranges, node, a, b)?;
     let mix = mix_of(node, &form, ranges.grid(a), ranges.grid(b))?;
     write_row(
-        &mut ranges.rows,
+        &mut ranges.coefficients,
         n,
         (a, b),
         mix,
@@ -222,8 +222,8 @@ fn write_form(ranges: &mut Ranges, n: usize, node: &Node, a: usize, b: usize) ->
 }
 
 /// The range that a form with a written row shows.
-fn shown_range(ranges: &Ranges, n: usize, form: &Form) -> Option<Span> {
-    let sum = weighted(ranges.rows.row(n), form.e, form.rest, &ranges.spans)?;
+fn shown_range(ranges: &Ranges, n: usize, form: &RangeForm) -> Option<Span> {
+    let sum = weighted(ranges.coefficients.row(n), form.e, form.rest, &ranges.spans)?;
     Some(ranges.grids.rounded(sum))
 }
 
@@ -234,14 +234,18 @@ fn written_form(
     node: &Node,
     a: usize,
     b: usize,
-) -> Option<(Form, Span)> {
+) -> Option<(RangeForm, Span)> {
     let form = write_form(ranges, n, node, a, b)?;
     let range = shown_range(ranges, n, &form)?;
     Some((form, range))
 }
 
 /// The range of an operation, with its form where an operand has one.
-fn operation_range(ranges: &mut Ranges, n: usize, node: &Node) -> Option<(Span, Option<Form>)> {
+fn operation_range(
+    ranges: &mut Ranges,
+    n: usize,
+    node: &Node,
+) -> Option<(Span, Option<RangeForm>)> {
     let plain = plain_range(ranges, node)?;
     let (a, b) = operands(node)?;
     if ranges.form(a).is_none() && ranges.form(b).is_none() {
@@ -252,14 +256,14 @@ fn operation_range(ranges: &mut Ranges, n: usize, node: &Node) -> Option<(Span, 
     }
     let Some((form, by_form)) = written_form(ranges, n, node, a, b) else {
         // a form is of use and never needed: where its numbers leave 128 bits, the node has none
-        ranges.rows.clear(n);
+        ranges.coefficients.clear(n);
         return Some((plain, None));
     };
     let shows_range = by_form.is_narrower(plain)?;
     let range = if shows_range { by_form } else { plain };
     Some((
         range,
-        Some(Form {
+        Some(RangeForm {
             shows_range,
             ..form
         }),
@@ -272,11 +276,11 @@ fn input_range(
     ranges: &mut Ranges,
     n: usize,
     k: usize,
-) -> Option<(Span, Option<Form>)> {
+) -> Option<(Span, Option<RangeForm>)> {
     let input = function.inputs.as_slice().get(k)?;
     let range = range_of(input.lo, input.hi, ranges.grids)?;
-    ranges.rows.put(n, k, 1)?;
-    Some((range, Some(Form::of_rest(Span::ZERO))))
+    ranges.coefficients.put(n, k, 1)?;
+    Some((range, Some(RangeForm::of_rest(Span::ZERO))))
 }
 
 /// The range of a state, which is its box, and whose form is itself.
@@ -285,10 +289,10 @@ fn state_range(
     boxes: &[Span],
     n: usize,
     k: usize,
-) -> Option<(Span, Option<Form>)> {
+) -> Option<(Span, Option<RangeForm>)> {
     let range = boxes.get(k).copied()?;
-    ranges.rows.put(n, n, 1)?;
-    Some((range, Some(Form::of_rest(Span::ZERO))))
+    ranges.coefficients.put(n, n, 1)?;
+    Some((range, Some(RangeForm::of_rest(Span::ZERO))))
 }
 
 /// The range of a node behind those that have one.
@@ -298,7 +302,7 @@ fn node_range(
     boxes: &[Span],
     n: usize,
     node: &Node,
-) -> Option<(Span, Option<Form>)> {
+) -> Option<(Span, Option<RangeForm>)> {
     let found = match node {
         Node::Input { k } => input_range(function, ranges, n, *k as usize)?,
         Node::State { k } => state_range(ranges, boxes, n, *k as usize)?,

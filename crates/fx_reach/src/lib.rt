@@ -26,6 +26,6 @@ pub use rows::Rows;
 pub use sum::{plus_scaled, times};
 pub use transition::Transition;
 pub use whole::{
-    PLACES, bits, ceil_at, floor_at, lowest, magnitude, moved_down, moved_up, product, quotient,
-    share_of, unit_row,
+    PLACES, ceil_at, floor_at, magnitude, moved_down, moved_up, product, quotient, share_of,
+    unit_row,
 };

@@ -1,9 +1,9 @@
 //! Rows that are proposed, with shares, and how far each is guessed to reach.
 
 use crate::rows::Rows;
-use crate::whole::{PLACES, bits, floor_at, lowest};
+use crate::whole::{PLACES, floor_at};
 use fx_cert::Share;
-use fx_num::{Dyadic, Memory, floor_shift};
+use fx_num::{Dyadic, Memory, bits, floor_shift, lowest};
 use std::alloc::Global;
 
 /// How many bits a coefficient has, counted from what its chain begins with.

@@ -3,25 +3,11 @@
 //! Nothing rests on what is worked out here. What leaves 128 bits is None, and drops what asked for it.
 
 use fx_interval::Interval;
-use fx_num::{Dyadic, Memory, ceil_shift, floor_shift, left_fits};
+use fx_num::{Dyadic, Memory, bits, ceil_shift, floor_shift, left_fits, lowest};
 use std::alloc::Global;
 
 /// How many binary places a coefficient has while rows are worked out.
 pub const PLACES: u32 = 48;
-
-/// How many bits a size has.
-pub fn bits(size: u128) -> u32 {
-    128_u32.saturating_sub(size.leading_zeros())
-}
-
-/// `m / 2^e` in lowest terms.
-pub fn lowest(m: i128, e: u32) -> Dyadic {
-    let places = if m == 0 { e } else { m.trailing_zeros().min(e) };
-    Dyadic::new(
-        floor_shift(m, places),
-        e.saturating_sub(places).min(1 << 20),
-    )
-}
 
 /// By how many places `d` has more than `e`, or less. What is too far for 128 bits is as far as any other.
 fn places_over(d: Dyadic, e: i32) -> i32 {

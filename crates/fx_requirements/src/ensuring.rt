@@ -11,7 +11,7 @@ ghost use Rattle.fx_grammar.specs.Ensuring.{output_at, first_place, of_arity, ou
 use crate::condition::condition_at;
 use crate::range::{Flaw, none_has};
 use crate::subject::{Named, Subject, no_subjects, with_subject};
-use fx_cursor::{Items, Numeral, Parsed, behind, listed, peek, place, separated, want};
+use fx_cursor::{Numeral, Parsed, Rule, behind, listed, peek, place, separated, want};
 use fx_grammar::Head;
 use fx_lexer::{SourceFault, SourceKind, Token};
 use std::alloc::Global;
@@ -49,7 +49,7 @@ struct OutputRule {
     end: u32,
 }
 
-impl<'a> Items<'a> for OutputRule {
+impl<'a> Rule<'a> for OutputRule {
     ghost use Rattle.fx_grammar.specs.Ranges.{Subjects};
     ghost use Rattle.fx_grammar.specs.Ensuring.{output_at};
     ghost use Rattle.fx_requirements.specs.Views.{subjects_of, IsNamed};
@@ -121,7 +121,7 @@ struct DemandRule {
     end: u32,
 }
 
-impl<'a> Items<'a> for DemandRule {
+impl<'a> Rule<'a> for DemandRule {
     ghost use Rattle.fx_grammar.specs.Ranges.{Subjects, condition_at};
     ghost use Rattle.fx_requirements.specs.Views.{subjects_of};
 

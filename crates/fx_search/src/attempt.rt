@@ -7,11 +7,11 @@ ghost use Rattle.std.specs.Prelude.{◌≡◌, length, IfOk};
 use crate::task::Task;
 use fx_expr::Function;
 use fx_flat::{Node, Nodes, flatten};
-use fx_num::Memory;
+use fx_num::{Dyadic, Memory};
 use fx_planning::{Cost, Plan, bound, find_plan};
-use fx_points::{Magnitude, NodeFacts, PointFault, choose_points};
+use fx_points::{NodeFacts, PointFault, choose_points};
 use fx_ranges::{Failed, Ranges, find_ranges};
-use fx_span::{Grids, Real, Scaled, Span, input_error};
+use fx_span::{Grids, Real, Span, input_error};
 use std::alloc::Global;
 
 /// So often points are chosen again, at most.
@@ -59,22 +59,21 @@ impl Attempt {
 }
 
 /// A size for ranking, where there is one.
-fn magnitude(size: Option<Scaled>) -> Magnitude {
-    let Some(size) = size else {
-        return Magnitude::GREATEST;
-    };
-    let places = i32::try_from(size.e).unwrap_or(i32::MAX);
-    Magnitude::new(size.m.unsigned_abs(), places.saturating_neg())
+fn about(size: Option<Dyadic>) -> Real {
+    match size {
+        Some(size) => Real::of(size.m, size.e),
+        None => Real::INFINITE,
+    }
 }
 
 /// The error that an input is given with.
-fn given_error(function: &Function, node: &Node) -> Magnitude {
+fn given_error(function: &Function, node: &Node) -> Real {
     let Node::Input { k } = node else {
-        return Magnitude::ZERO;
+        return Real::ZERO;
     };
     match function.inputs.as_slice().get(*k as usize) {
-        Some(input) => magnitude(input_error(input.err)),
-        None => Magnitude::ZERO,
+        Some(input) => about(input_error(input.err)),
+        None => Real::ZERO,
     }
 }
 
@@ -96,8 +95,8 @@ fn range_caps(
 fn fact_of(function: &Function, node: &Node, ranges: &Ranges, n: usize, cap: i32) -> NodeFacts {
     NodeFacts {
         cap,
-        size: magnitude(ranges.size(n)),
-        least: magnitude(ranges.least_size(n)),
+        size: about(ranges.size(n)),
+        least: about(ranges.least_size(n)),
         error: given_error(function, node),
     }
 }

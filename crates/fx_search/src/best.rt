@@ -56,7 +56,7 @@ fn has_smaller_bounds(attempt: &Attempt, other: &Attempt) -> bool {
 fn is_better(attempt: &Attempt, other: &Attempt) -> bool {
     let own = excess(attempt);
     let others = excess(other);
-    own.is_below(others) || (own == others && has_smaller_bounds(attempt, other))
+    own < others || (own == others && has_smaller_bounds(attempt, other))
 }
 
 /// Whether an attempt is better than the best so far, if there is one.

@@ -3,7 +3,8 @@
 //! A range has a grid of its own, by its greater end; an error's grid lies so many places behind its node's point. The
 //! finer they are, the less is lost by rounding outward, and the sooner a formula of the checker leaves 128 bits.
 
-use crate::span::{Span, bits};
+use crate::span::Span;
+use fx_num::bits;
 
 /// The most binary places of a range, a form's rest and a coefficient.
 pub const PLACE_LIMIT: u32 = 60;

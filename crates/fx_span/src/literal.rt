@@ -1,9 +1,9 @@
 //! Fractions and decimals on grids: their floors, the words of literals, and the errors of those words.
 
 use crate::grid::{Grids, PLACE_LIMIT};
-use crate::span::{Scaled, Span, bits};
+use crate::span::Span;
 use fx_fraction::{Decimal, Fraction, to_fraction};
-use fx_num::{ceil_shift, floor_shift, left_fits};
+use fx_num::{Dyadic, bits, ceil_shift, floor_shift, left_fits};
 
 /// The floor of `top * 2^places / bottom`.
 ///
@@ -146,8 +146,8 @@ pub fn fits_word(range: Span, point: i32, width: u32) -> bool {
 }
 
 /// The size of an input's error, rounded up to 60 binary places.
-pub fn input_error(err: Decimal) -> Option<Scaled> {
+pub fn input_error(err: Decimal) -> Option<Dyadic> {
     let err = to_fraction(err);
     let m = ceil_at(err.p, err.q, PLACE_LIMIT as i32)?;
-    Some(Scaled { m, e: PLACE_LIMIT })
+    Some(Dyadic::new(m, PLACE_LIMIT))
 }

@@ -1,123 +1,160 @@
-//! Rounded numbers of 32 bits, by which choices are ranked.
+//! Rounded numbers of 64 bits, by which choices are ranked.
 //!
-//! A cost, or how an output moves with a node, only ranks choices: the last bits of it matter to no one. Whole numbers
-//! alone give the same ranking on every machine. Nothing here fails: an exponent stays at its type's end.
+//! A cost, or how an output moves with a node, only ranks choices. Whole numbers alone give the same ranking on every
+//! machine. Nothing here fails: an exponent stays at its end.
+//!
+//! Mantissas have 64 bits, since an input may be given with an error far above what a floor at its point loses. With 32
+//! bits both together were often the same number at several points, so that too coarse a point was taken.
 
-use crate::span::bits;
+use fx_num::bits;
 
 /// How many bits a mantissa has.
-const MANTISSA_BITS: i64 = 32;
+const MANTISSA_BITS: i64 = 64;
 
-/// `m * 2^e`, where m is zero or has 32 bits, so that no product of two wraps in 128.
-#[derive(Clone, Copy, Debug, PartialEq, Eq)]
+/// Exponents are above this with a minus, and at most this.
+const EXPONENT_END: i64 = 1 << 33;
+
+/// `m * 2^e`, where m is zero or has 64 bits beside its sign.
+///
+/// `height` is 0 for zero. Else it tells how far e is above its lower end, with the sign of m, so that the order of the
+/// fields is that of the numbers.
+#[derive(Clone, Copy, Debug, PartialEq, Eq, PartialOrd, Ord)]
 pub struct Real {
-    m: i64,
-    e: i32,
+    height: i64,
+    m: i128,
 }
 
-/// The exponent as near as its type allows.
-fn exponent(e: i64) -> i32 {
-    match i32::try_from(e) {
-        Ok(e) => e,
-        Err(_) => if e < 0 { i32::MIN } else { i32::MAX },
-    }
-}
-
-/// A size cut to 32 bits, by so many places to the right.
-fn cut(size: u128, places: i64) -> u128 {
+/// A size cut to 64 bits, by so many places to the right.
+fn cut(size: u128, places: i64) -> u64 {
     let distance = places.unsigned_abs().min(127) as u32;
-    if places >= 0 {
+    let kept = if places >= 0 {
         size >> distance
     } else {
         size << distance
-    }
+    };
+    u64::try_from(kept).unwrap_or(u64::MAX)
 }
 
 impl Real {
     /// Zero.
-    pub const ZERO: Real = Real { m: 0, e: 0 };
+    pub const ZERO: Real = Real { height: 0, m: 0 };
 
     /// One.
-    pub const ONE: Real = Real { m: 1 << 31, e: -31 };
-
-    /// What stands for a quotient by zero.
-    pub const INFINITE: Real = Real {
-        m: 1 << 31,
-        e: i32::MAX,
+    pub const ONE: Real = Real {
+        height: EXPONENT_END - 63,
+        m: 1 << 63,
     };
 
-    /// About `m * 2^e`.
-    fn rounded(m: i128, e: i64) -> Real {
-        if m == 0 {
+    /// What stands for a quotient by zero, and is above all others.
+    pub const INFINITE: Real = Real {
+        height: 2 * EXPONENT_END,
+        m: (1 << 64) - 1,
+    };
+
+    /// About `size * 2^e`, or that with a minus.
+    fn rounded(size: u128, e: i64, is_negative: bool) -> Real {
+        if size == 0 {
             return Real::ZERO;
         }
-        let size = m.unsigned_abs();
         let places = i64::from(bits(size)).saturating_sub(MANTISSA_BITS);
-        let Ok(kept) = i64::try_from(cut(size, places)) else {
-            return Real::INFINITE;
-        };
-        Real {
-            m: if m < 0 { kept.saturating_neg() } else { kept },
-            e: exponent(e.saturating_add(places)),
+        let m = i128::from(cut(size, places));
+        let height = e
+            .saturating_add(places)
+            .saturating_add(EXPONENT_END)
+            .clamp(1, 2 * EXPONENT_END);
+        if is_negative {
+            Real {
+                height: height.saturating_neg(),
+                m: m.saturating_neg(),
+            }
+        } else {
+            Real { height, m }
         }
     }
 
     /// About `m / 2^e`.
     pub fn of(m: i128, e: u32) -> Real {
-        Real::rounded(m, i64::from(e).saturating_neg())
+        Real::rounded(m.unsigned_abs(), i64::from(e).saturating_neg(), m < 0)
     }
 
     /// The power of two.
     pub fn power(e: i32) -> Real {
-        Real::rounded(1, i64::from(e))
+        Real::rounded(1, i64::from(e), false)
+    }
+
+    /// The mantissa without its sign.
+    fn size(self) -> u128 {
+        self.m.unsigned_abs()
+    }
+
+    /// The exponent.
+    fn exponent(self) -> i64 {
+        self.height.saturating_abs().saturating_sub(EXPONENT_END)
+    }
+
+    /// Whether it is below zero.
+    fn is_negative(self) -> bool {
+        self.m < 0
     }
 
     /// The product.
     pub fn times(self, other: Real) -> Real {
-        let m = i128::from(self.m).wrapping_mul(i128::from(other.m));
-        let e = i64::from(self.e).saturating_add(i64::from(other.e));
-        Real::rounded(m, e)
+        let size = self.size().saturating_mul(other.size());
+        let e = self.exponent().saturating_add(other.exponent());
+        Real::rounded(size, e, self.is_negative() != other.is_negative())
     }
 
     /// The quotient, and the greatest number where the divisor is zero.
     pub fn over(self, divisor: Real) -> Real {
-        if divisor.m == 0 {
+        let by = divisor.size();
+        if by == 0 {
             return Real::INFINITE;
         }
-        let top = i128::from(self.m).wrapping_mul(1 << 40);
-        let Some(m) = top.checked_div(i128::from(divisor.m)) else {
-            return Real::INFINITE;
-        };
-        let e = i64::from(self.e).saturating_sub(i64::from(divisor.e));
-        Real::rounded(m, e.saturating_sub(40))
+        let size = (self.size() << 64) / by;
+        let e = self.exponent().saturating_sub(divisor.exponent());
+        let is_negative = self.is_negative() != divisor.is_negative();
+        Real::rounded(size, e.saturating_sub(64), is_negative)
     }
 
     /// The number with the other sign.
     pub fn negative(self) -> Real {
         Real {
+            height: self.height.saturating_neg(),
             m: self.m.saturating_neg(),
-            e: self.e,
         }
     }
 
-    /// The sum, where the second number has the lesser exponent.
+    /// The number without its sign.
+    fn absolute(self) -> Real {
+        if self.is_negative() {
+            self.negative()
+        } else {
+            self
+        }
+    }
+
+    /// The sum, where the second number isn't further from zero.
     fn plus_lesser(self, lesser: Real) -> Real {
-        let distance = i64::from(self.e).saturating_sub(i64::from(lesser.e));
-        if lesser.m == 0 || distance > 60 {
+        let distance = self.exponent().saturating_sub(lesser.exponent());
+        if lesser.is_zero() || distance > 63 {
             return self;
         }
-        let m = i128::from(self.m).wrapping_mul(1_i128 << distance.unsigned_abs().min(60) as u32);
-        Real::rounded(m.saturating_add(i128::from(lesser.m)), i64::from(lesser.e))
+        // at most 127 bits
+        let size = self.size() << distance.unsigned_abs().min(63) as u32;
+        let sum = if self.is_negative() == lesser.is_negative() {
+            size.saturating_add(lesser.size())
+        } else {
+            size.saturating_sub(lesser.size())
+        };
+        Real::rounded(sum, lesser.exponent(), self.is_negative())
     }
 
     /// The sum.
     pub fn plus(self, other: Real) -> Real {
-        if self.m == 0 {
-            other
-        } else if other.m == 0 || self.e >= other.e {
-            self.plus_lesser(other)
-        } else {
+        if self.absolute() < other.absolute() {
             other.plus_lesser(self)
+        } else {
+            self.plus_lesser(other)
         }
     }
 
@@ -126,41 +163,16 @@ impl Real {
         self.plus(other.negative())
     }
 
-    /// Whether it is below another.
-    pub fn is_below(self, other: Real) -> bool {
-        if self.m.signum() != other.m.signum() || self.e == other.e {
-            return self.m < other.m;
-        }
-        if self.m < 0 {
-            self.e > other.e
-        } else {
-            self.e < other.e
-        }
-    }
-
-    /// The lesser one.
-    pub fn min(self, other: Real) -> Real {
-        if other.is_below(self) { other } else { self }
-    }
-
-    /// The greater one.
-    pub fn max(self, other: Real) -> Real {
-        if self.is_below(other) { other } else { self }
-    }
-
-    /// The floor, where it has less than 62 bits.
+    /// The floor, where it has 64 bits.
     pub fn floor(self) -> Option<i64> {
-        if self.m == 0 {
-            return Some(0);
+        let e = self.exponent();
+        if self.is_zero() {
+            Some(0)
+        } else if e <= 0 {
+            i64::try_from(self.m >> e.unsigned_abs().min(127) as u32).ok()
+        } else {
+            None
         }
-        let distance = self.e.unsigned_abs();
-        if self.e <= 0 {
-            return Some(self.m >> distance.min(63));
-        }
-        if distance > 29 {
-            return None;
-        }
-        self.m.checked_mul(1_i64 << distance)
     }
 
     /// Whether it is zero.

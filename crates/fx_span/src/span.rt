@@ -4,16 +4,7 @@
 //! comparison of widths is one of mantissas. Nothing rounds but `over` and `outward`, and a mantissa that leaves 128 bits gives
 //! None.
 
-use fx_num::{ceil_shift, floor_shift, left_fits};
-
-/// `m / 2^e`, as it was formed.
-#[derive(Clone, Copy, Debug, PartialEq, Eq)]
-pub struct Scaled {
-    /// The mantissa.
-    pub m: i128,
-    /// The exponent: how many binary places.
-    pub e: u32,
-}
+use fx_num::{Dyadic, ceil_shift, floor_shift, left_fits};
 
 /// The numbers from `lo / 2^e` to `hi / 2^e`.
 #[derive(Clone, Copy, Debug, PartialEq, Eq)]
@@ -21,11 +12,6 @@ pub struct Span {
     pub lo: i128,
     pub hi: i128,
     pub e: u32,
-}
-
-/// How many bits a size has.
-pub fn bits(size: u128) -> u32 {
-    128_u32.saturating_sub(size.leading_zeros())
 }
 
 /// The product of two mantissas.
@@ -59,23 +45,12 @@ fn outward_quotient(a: Span, b: Span, shift: i64) -> Option<(i128, i128)> {
     ))
 }
 
-impl Scaled {
-    /// Zero.
-    pub const ZERO: Scaled = Scaled { m: 0, e: 0 };
-
-    /// The number with the other sign.
-    pub fn negative(self) -> Option<Scaled> {
-        let m = self.m.checked_neg()?;
-        Some(Scaled { m, e: self.e })
-    }
-}
-
 impl Span {
     /// Zero alone.
     pub const ZERO: Span = Span { lo: 0, hi: 0, e: 0 };
 
     /// One number alone.
-    pub fn single(d: Scaled) -> Span {
+    pub fn single(d: Dyadic) -> Span {
         Span {
             lo: d.m,
             hi: d.m,
@@ -130,7 +105,7 @@ impl Span {
     }
 
     /// The product with one number.
-    pub fn scaled(self, d: Scaled) -> Option<Span> {
+    pub fn scaled(self, d: Dyadic) -> Option<Span> {
         let a = product(self.lo, d.m)?;
         let b = product(self.hi, d.m)?;
         let e = self.e.checked_add(d.e)?;

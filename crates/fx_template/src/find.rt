@@ -16,7 +16,7 @@ use crate::round::plain_rounds;
 use crate::stand::{first_fallen, is_met};
 use crate::template::{TemplateFault, Templates};
 use crate::unit::unit_rows;
-use fx_affine::Plan;
+use fx_affine::PlannedNodes;
 use fx_cert::{Row, Side};
 use fx_expr::Items;
 use fx_flat::Nodes;
@@ -116,7 +116,7 @@ pub fn rows_over(alloc: Global, t: &Transition, rounds: u32) -> Result<Templates
 pub fn find_rows(
     alloc: Global,
     nodes: &Nodes,
-    plan: &Plan,
+    plan: &PlannedNodes,
     rounds: u32,
 ) -> Result<Templates, TemplateFault>
     requires modest { IsModestTransition (transition_of nodes.now (planned plan.now)) }

@@ -9,7 +9,7 @@ ghost use Rattle.fx_affine.specs.AffineView.{linear_form, planned};
 ghost use Rattle.fx_cert.specs.CertificateView.{form_view as form_view, line_view, lines_view};
 ghost use Rattle.fx_template.specs.Transitions.{planned_form, planned_line, planned_lines, transition_in, transition_of};
 
-use fx_affine::{Affine, Plan};
+use fx_affine::{Affine, PlannedNodes};
 use fx_cert::{Form, NodeLine};
 use fx_expr::Items;
 use fx_flat::Nodes;
@@ -70,7 +70,7 @@ fn form_of(
 }
 
 /// The form of node `n`, if it has one.
-fn form_at(alloc: Global, plan: &Plan, n: usize) -> Result<Option<Form>, AllocError>
+fn form_at(alloc: Global, plan: &PlannedNodes, n: usize) -> Result<Option<Form>, AllocError>
     ensures { let p = planned plan.now in IfOk result (λ f. option_map form_view f ≡ planned_form (at None p.forms n) (at zero_interval p.error_rests n) (at (zero_dyadic, zero_dyadic) p.centres n)) }
 {
     let rest = interval_at(&plan.error_rests, n);
@@ -82,7 +82,7 @@ fn form_at(alloc: Global, plan: &Plan, n: usize) -> Result<Option<Form>, AllocEr
 }
 
 /// The line of node `n`.
-fn line_at(alloc: Global, plan: &Plan, n: usize) -> Result<NodeLine, AllocError>
+fn line_at(alloc: Global, plan: &PlannedNodes, n: usize) -> Result<NodeLine, AllocError>
     ensures { IfOk result (λ l. line_view l ≡ planned_line (planned plan.now) n) }
 {
     Ok(NodeLine {
@@ -93,7 +93,7 @@ fn line_at(alloc: Global, plan: &Plan, n: usize) -> Result<NodeLine, AllocError>
 }
 
 /// The lines of all nodes.
-pub fn planned_lines(alloc: Global, plan: &Plan) -> Result<Vec<NodeLine>, Memory>
+pub fn planned_lines(alloc: Global, plan: &PlannedNodes) -> Result<Vec<NodeLine>, Memory>
     ensures { IfOk result (λ ls. lines_view ls.items ≡ planned_lines (planned plan.now)) }
 {
     let mut lines = Vec::new(alloc);
@@ -108,7 +108,7 @@ pub fn planned_lines(alloc: Global, plan: &Plan) -> Result<Vec<NodeLine>, Memory
 pub fn step_by_plan<'a>(
     alloc: Global,
     nodes: &Nodes,
-    plan: &'a Plan,
+    plan: &'a PlannedNodes,
 ) -> Result<Transition<'a>, Memory>
     requires few { length nodes.now.list ≤ 4000 }
     ensures { IfOk result (λ t. transition_in t ≡ transition_of nodes.now (planned plan.now)) }

@@ -8,19 +8,19 @@ use std::alloc::Global;
 
 /// The rows of all nodes.
 #[derive(Debug, Drop)]
-pub struct Rows {
+pub struct Coefficients {
     width: usize,
     list: Vec<i128>,
 }
 
-impl Rows {
+impl Coefficients {
     /// So many rows of so many zeros, and None where their count leaves its type.
-    pub fn new(alloc: Global, count: usize, width: usize) -> Result<Option<Rows>, Memory> {
+    pub fn new(alloc: Global, count: usize, width: usize) -> Result<Option<Coefficients>, Memory> {
         let Some(size) = count.checked_mul(width) else {
             return Ok(None);
         };
         let list = vec![in alloc; 0_i128; size]?;
-        Ok(Some(Rows { width, list }))
+        Ok(Some(Coefficients { width, list }))
     }
 
     /// How long a row is.
