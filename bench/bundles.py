@@ -2,7 +2,7 @@
 """Writes a bundle that is accepted and long in one way, or one whose last line is wrong: bundles.py KIND > BUNDLE
 
 KIND is `columns` (a sum of 8 inputs), `plain` (4,000 nodes), `forms` (4,000 nodes, each operation with a form over 64 inputs and
-32 states), `rows` (512 rows and 512 error rows of 32 states, each with 64 shares), `steps` (10,000 steps on 2,000 nodes) or
+32 states), `rows` (512 templates and 512 error templates of 32 states, each with 64 shares), `steps` (10,000 steps on 2,000 nodes) or
 `long` (16 MiB of forms and shares; its last line is wrong, so that nothing but its reading is measured).
 """
 import random
@@ -26,7 +26,7 @@ def shares_text(shares):
 
 
 def text(source, name, width, sizes, codes, lines, starts=(), rows=((), ()), steps=(), end="end"):
-    """A bundle's text. Rows are given as coefficients, interval and shares."""
+    """A bundle's text. Templates are given as coefficients, interval and shares."""
     inputs, states, outputs = sizes
     parts = ["fixd bundle 1", f"source {len(source)}", source, "program", "fixd program 1", f"width {width}", f"name {name}"]
     parts += [words("sizes", inputs, states, outputs, len(codes)), *codes, "certificate", "fixd certificate 1"]
@@ -119,7 +119,7 @@ def forms():
 
 
 def rows():
-    """The next states are the input; rows of all states with room, each with 64 shares."""
+    """The next states are the input; templates of all states with room, each with 64 shares."""
     states, count, given = 32, 512, 64
     front, require, xs, ss = variables(1, states)
     results = ", ".join(["Real"] * (states + 1))

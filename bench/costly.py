@@ -1,8 +1,8 @@
 #!/usr/bin/env python3
 """Writes an accepted bundle that is made to cost its checker as much as its text allows: costly.py KIND > BUNDLE
 
-KIND is `shares` (512 rows and 512 error rows of 32 states with 512 shares each, and a form over all variables with 512 shares for its
-range and as many for its error at each node: some 60 MB), `rows` (those rows alone), `great` (forms whose coefficients are near 2^61, over 96
+KIND is `shares` (512 templates and 512 error templates of 32 states with 512 shares each, and a form over all variables with 512 shares for its
+range and as many for its error at each node: some 60 MB), `rows` (those templates alone), `great` (forms whose coefficients are near 2^61, over 96
 variables, at each of 4,000 nodes), `quotients` (3,997 of them), `copies` (10,000 steps, each of which copies a tree of 1,990 operations or
 compares it with its copy), `name` (a function's name of half a megabyte) or `temps` (1,000 long names that differ at their ends).
 """
@@ -16,12 +16,12 @@ GREAT = 2**61 - 1
 
 
 def given_shares(draw, count=512):
-    """So many shares of all rows, each taken a very little."""
+    """So many shares of all templates, each taken a very little."""
     return shares_text([(row, dyadic(draw.choice([-1, 1, 3]), 40)) for row in range(count)])
 
 
 def wide_rows(draw, states=32, count=512):
-    """Rows and error rows with all shares; each is held with room where the next states are the input."""
+    """Templates and error templates with all shares; each is held with room where the next states are the input."""
     def group(interval):
         coefficients = [[dyadic(draw.randint(-64, 64), 11) for _ in range(states)] for _ in range(count)]
         return [(row, interval, [(k, dyadic(draw.choice([-1, 1, 3]), 40)) for k in range(count)]) for row in coefficients]

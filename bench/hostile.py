@@ -112,7 +112,7 @@ def try_lines(judge, most=MOST):
         ("codes", filled(front(10, b"sizes 1 0 1 4000\n", lines[11]), b"add 0 0 0 0\n"), "BadLine at line 4011"),
         ("steps", filled(front(18, b"steps 10000\n"), b"step 1999 %s 30\n" % path), "BadLine at line 10020"),
         ("start boxes", filled(starts, b"start 0:0 0:0 0:0 0:0\n"), f"BadLine at line {starts.count(10) + 2}"),
-        ("rows of 512 shares", filled(front(19, b"rows 512 512\n"), b"row 0:0 0:0 512%s\n" % pairs), "BadLine at line 1045"),
+        ("templates of 512 shares", filled(front(19, b"rows 512 512\n"), b"row 0:0 0:0 512%s\n" % pairs), "BadLine at line 1045"),
         ("plain lines", filled(front(20), lines[20]), "Section at line 25"), ("`end`", filled(front(25), b"end\n"), "Extra at line 26"),
         ("line feeds", filled(front(20), b"\n"), "BadLine at line 21"), ("zero bytes", filled(front(20), b"\0"), "BadLine at line 21"),
         ("digits of a width", filled(front(8, b"width "), b"1", b"\n"), "OutOfRange at line 9"),

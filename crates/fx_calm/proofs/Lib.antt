@@ -1,4 +1,4 @@
 pub mod Units
 pub mod Walked
 pub mod Placed
-pub mod Rows
+pub mod Templates

@@ -9,7 +9,7 @@ use Rattle.fx_sizes.specs.Powers.{magnitude}
 use Rattle.fx_calm_numbers.specs.Bounds as model
 use Rattle.fx_calm_numbers.specs.Bounds.{units_up, state_bound}
 use Rattle.fx_inequalities.specs.Certificate.{Certificate}
-use Rattle.fx_calm_plan.specs.CalmPlan.{units, calm_line, calm_start, unit_rows, bounds_of}
+use Rattle.fx_calm_plan.specs.CalmPlan.{units, calm_line, calm_start, unit_templates, bounds_of}
 use Rattle.fx_calm_numbers.specs.Calm as numbers
 use Rattle.fx_calm.specs.declared.bound.Bound.{Bound}
 
@@ -52,7 +52,7 @@ certificate_with c fn = let b = state_bound c in let k = length fn.states in rec
   states = k;
   steps = [];
   starts = map (calm_start c.f) fn.states;
-  rows = unit_rows k (units c.f b.r) 0 k;
-  error_rows = unit_rows k (units c.f b.e) 0 k;
+  templates = unit_templates k (units c.f b.r) 0 k;
+  error_templates = unit_templates k (units c.f b.e) 0 k;
   lines = map (calm_line c.f) (bounds_of c fn);
 }

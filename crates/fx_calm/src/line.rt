@@ -1,4 +1,4 @@
-//! The lines of nodes, the boxes of states and the unit rows.
+//! The lines of nodes, the boxes of states and the unit templates.
 
 ghost use Rattle.std.specs.Prelude.{◌≡◌, unsigned_abs, ◌+◌, ◌^◌, ◌<◌, ◌≤◌, length, [], map, All, IfOk};
 ghost use Rattle.fx_model.specs.Tree.{at};
@@ -6,14 +6,14 @@ ghost use Rattle.fx_inequalities.specs.Accepted.{no_state, start_of};
 ghost use Rattle.fx_inequalities.specs.LawfulCertificate.{unit_vector};
 ghost use Rattle.fx_grid.specs.Grid.{lowest_dyadic};
 ghost use Rattle.fx_sizes.specs.Powers.{magnitude};
-ghost use Rattle.fx_cert.specs.CertificateView.{line_view, row_view, rows_in, box_of, boxes_in};
+ghost use Rattle.fx_cert.specs.CertificateView.{line_view, template_view, templates_in, box_of, boxes_in};
 ghost use Rattle.fx_calm_numbers.specs.Bounds.{units_up};
-ghost use Rattle.fx_calm_plan.specs.CalmPlan.{units, calm_line, calm_start, unit_rows};
+ghost use Rattle.fx_calm_plan.specs.CalmPlan.{units, calm_line, calm_start, unit_templates};
 ghost use Rattle.fx_calm.specs.BoundOf.{bound_of, bounds_in, HaveShortStarts};
 
 use crate::bound::Bound;
 use fx_calmness::{start_at, state_count, units};
-use fx_cert::{NodeLine, Row, StartBox, unit_vector};
+use fx_cert::{NodeLine, StartBox, Template, unit_vector};
 use fx_expr::{Function, Items};
 use fx_grid::up_quotient;
 use fx_interval::Interval;
@@ -93,25 +93,25 @@ pub fn starts(alloc: Global, function: &Function, f: u32) -> Result<Vec<StartBox
     Ok(boxes)
 }
 
-/// The unit row of state `i`.
-fn row(alloc: Global, states: u32, bound: Interval, i: u32) -> Result<Row, Memory>
+/// The unit template of state `i`.
+fn template(alloc: Global, states: u32, bound: Interval, i: u32) -> Result<Template, Memory>
     requires { i < states }
-    ensures { IfOk result (λ r. row_view r ≡ record { coefs = unit_vector states i; bound = bound; shares = [] }) }
+    ensures { IfOk result (λ r. template_view r ≡ record { coefs = unit_vector states i; bound = bound; shares = [] }) }
 {
-    Ok(Row {
+    Ok(Template {
         coefs: unit_vector(alloc, states, i)?,
         bound,
         shares: Items::from_vec(Vec::new(alloc)),
     })
 }
 
-/// The unit rows of so many states, all with one bound.
-pub fn rows(alloc: Global, states: u32, bound: Interval) -> Result<Vec<Row>, Memory>
-    ensures { IfOk result (λ rows. rows_in rows.items ≡ unit_rows states bound 0 states) }
+/// The unit templates of so many states, all with one bound.
+pub fn templates(alloc: Global, states: u32, bound: Interval) -> Result<Vec<Template>, Memory>
+    ensures { IfOk result (λ templates. templates_in templates.items ≡ unit_templates states bound 0 states) }
 {
-    let mut rows = Vec::new(alloc);
+    let mut templates = Vec::new(alloc);
     for i in 0..states {
-        rows.push(row(alloc, states, bound, i)?)?;
+        templates.push(template(alloc, states, bound, i)?)?;
     }
-    Ok(rows)
+    Ok(templates)
 }

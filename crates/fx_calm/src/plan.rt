@@ -15,7 +15,7 @@ ghost use Rattle.fx_calm.specs.BoundOf.{bounds_in, HasPlace, HaveShortStarts, ce
 use crate::bound::{Bound, state_of};
 use crate::code::codes;
 use crate::fault::CalmFault;
-use crate::line::{lines, rows, span, starts};
+use crate::line::{lines, span, starts, templates};
 use crate::narrow::narrow_function;
 use crate::walk::bounds;
 use fx_calmness::{Numbers, find_numbers, state_count};
@@ -64,16 +64,16 @@ fn certificate(
     let states = state_count(function);
     let own = state_of(c);
     let starts = starts(alloc, function, c.f)?;
-    let values = rows(alloc, states, span(own.r, c.f))?;
-    let errors = rows(alloc, states, span(own.e, c.f))?;
+    let values = templates(alloc, states, span(own.r, c.f))?;
+    let errors = templates(alloc, states, span(own.e, c.f))?;
     let lines = lines(alloc, bs, c.f)?;
     Ok(Certificate {
         inputs,
         states,
         steps: Items::from_vec(Vec::new(alloc)),
         starts: Items::from_vec(starts),
-        rows: Items::from_vec(values),
-        error_rows: Items::from_vec(errors),
+        templates: Items::from_vec(values),
+        error_templates: Items::from_vec(errors),
         lines: Items::from_vec(lines),
     })
 }

@@ -13,7 +13,7 @@ use Rattle.fx_model.specs.Nodes.{Node, Input, State, Const, Neg, Add, Sub, Mul, 
 use Rattle.fx_model.proofs.Roots.{IsCopyNode}
 use Rattle.fx_model.proofs.Wide.{is_word_from}
 use Rattle.fx_inequalities.specs.Accepted.{start_of, no_state}
-use Rattle.fx_inequalities.specs.LawfulCertificate.{zeros, unit_vector, AreUnitRows, AreWrittenRows, IsWrittenRow, AreWrittenLines, IsWrittenStep, IsWrittenBox, IsLawfulCertificate}
+use Rattle.fx_inequalities.specs.LawfulCertificate.{zeros, unit_vector, AreUnitTemplates, AreWrittenTemplates, IsWrittenTemplate, AreWrittenLines, IsWrittenStep, IsWrittenBox, IsLawfulCertificate}
 use Rattle.fx_flat.specs.InPlace.{IsInPlace}
 use Rattle.fx_program.proofs.Rounded.{has_version, rounded_are_of_version}
 use Rattle.fx_cert.proofs.Units.{unit_length}
@@ -26,14 +26,14 @@ use Rattle.fx_calm_numbers.specs.Bounds.{Bound, no_bound, units_up, state_bound}
 use Rattle.fx_calm_numbers.specs.Calm.{Numbers, numbers_of, IsCalm}
 use Rattle.fx_calm_numbers.proofs.Factors.{box_is}
 use Rattle.fx_calm_numbers.proofs.Rounded.{units_above}
-use Rattle.fx_calm_plan.specs.CalmPlan.{node_bound, calm_code, calm_program, units, calm_line, calm_start, unit_rows, calm_certificate}
+use Rattle.fx_calm_plan.specs.CalmPlan.{node_bound, calm_code, calm_program, units, calm_line, calm_start, unit_templates, calm_certificate}
 use Rattle.fx_calm_plan.specs.Laws.{IsNarrowFunction}
 use Rattle.fx_calm_plan.proofs.Flattened.{IsLimited}
 use Rattle.fx_calm_plan.proofs.Folded.{IsNodeBound}
 use Rattle.fx_calm_plan.proofs.Limited.{u, spare, space, whole_nodes, limited}
 use Rattle.fx_calm_plan.proofs.NodeClaims.{IsSpacious, limit_few}
 use Rattle.fx_calm_plan.proofs.Roundings.{shift_rounds, program_rounds}
-use Rattle.fx_calm_plan.proofs.Rows.{unit_rows_long}
+use Rattle.fx_calm_plan.proofs.Templates.{unit_templates_long}
 use Rattle.fx_calm_plan.proofs.Units.{units_written}
 use Rattle.fx_calm_plan.proofs.Values.{word_up_to}
 use Rattle.fx_calm_plan.proofs.Whole.{c, i, k, codes, bounds, list, pairs, long, counted, pointed, start_limited}
@@ -67,23 +67,23 @@ zeros_written (suc n) = All-cons IsWritten zero_dyadic (zeros n) zero_written (z
 unit_written : (k i : ℕ) → All IsWritten (unit_vector k i)
 unit_written k i = All-append IsWritten (zeros i) (record { m = pos 1; e = 0 } ∷ zeros (k - (i + 1))) (zeros_written i) (All-cons IsWritten (record { m = pos 1; e = 0 }) (zeros (k - (i + 1))) one_written (zeros_written (k - (i + 1))))
 
--- ---- unit rows
-are_units : (states i k : ℕ) (bound : Interval) → AreUnitRows states i (unit_rows states bound i k)
+-- ---- unit templates
+are_units : (states i k : ℕ) (bound : Interval) → AreUnitTemplates states i (unit_templates states bound i k)
 are_units states i zero bound = tt
 are_units states i (suc k) bound = ((λ lt. refl), are_units states (i + 1) k bound)
 
-each_written : (states count i k : ℕ) (bound : Interval) → i + k ≤ states → IsWrittenInterval bound → All (IsWrittenRow states count) (unit_rows states bound i k)
-each_written states count i zero bound l h = All-nil (IsWrittenRow states count)
-each_written states count i (suc k) bound l h = All-cons (IsWrittenRow states count) (record { coefs = unit_vector states i; bound = bound; shares = [] }) (unit_rows states bound (i + 1) k)
+each_written : (states count i k : ℕ) (bound : Interval) → i + k ≤ states → IsWrittenInterval bound → All (IsWrittenTemplate states count) (unit_templates states bound i k)
+each_written states count i zero bound l h = All-nil (IsWrittenTemplate states count)
+each_written states count i (suc k) bound l h = All-cons (IsWrittenTemplate states count) (record { coefs = unit_vector states i; bound = bound; shares = [] }) (unit_templates states bound (i + 1) k)
     (record { coefs = unit_length states i (omega (arith, l)); written = unit_written states i; bound = h; shares = tt }) (each_written states count (i + 1) k bound (omega (arith, l)) h)
 
-rows_written : (states : ℕ) (bound : Interval) → states ≤ 32 → IsWrittenInterval bound → AreWrittenRows states (unit_rows states bound 0 states)
-rows_written states bound few h =
-    let l = unit_rows_long states 0 states bound in record {
+templates_written : (states : ℕ) (bound : Interval) → states ≤ 32 → IsWrittenInterval bound → AreWrittenTemplates states (unit_templates states bound 0 states)
+templates_written states bound few h =
+    let l = unit_templates_long states 0 states bound in record {
       enough = omega (arith, l);
       few = omega (arith, l, few);
       units = are_units states 0 states bound;
-      each = each_written states (length (unit_rows states bound 0 states)) 0 states bound (omega arith) h;
+      each = each_written states (length (unit_templates states bound 0 states)) 0 states bound (omega arith) h;
     }
 
 -- ---- lines
@@ -210,7 +210,7 @@ module _ (n : ℕ) (fn : Function) (some_width : Contains widths n) (narrow : Is
         steps = All-nil IsWrittenStep;
         starts_count = length-map fn.states (calm_start (numbers_of n fn).f);
         starts = starts_written;
-        rows = rows_written (length fn.states) (units (numbers_of n fn).f (state_bound (numbers_of n fn)).r) sizes.states (small_written (state_bound (numbers_of n fn)).r (power_more (omega (arith, st))));
-        error_rows = rows_written (length fn.states) (units (numbers_of n fn).f (state_bound (numbers_of n fn)).e) sizes.states (small_written (state_bound (numbers_of n fn)).e (power_more (omega (arith, er, b))));
-        lines = lines_written (numbers_of n fn).f (length fn.inputs + length fn.states) (length (unit_rows (length fn.states) (units (numbers_of n fn).f (state_bound (numbers_of n fn)).r) 0 (length fn.states))) (length (unit_rows (length fn.states) (units (numbers_of n fn).f (state_bound (numbers_of n fn)).e) 0 (length fn.states))) 0 (bounds n fn some_width narrow calm) (omega (arith, s)) all_small;
+        templates = templates_written (length fn.states) (units (numbers_of n fn).f (state_bound (numbers_of n fn)).r) sizes.states (small_written (state_bound (numbers_of n fn)).r (power_more (omega (arith, st))));
+        error_templates = templates_written (length fn.states) (units (numbers_of n fn).f (state_bound (numbers_of n fn)).e) sizes.states (small_written (state_bound (numbers_of n fn)).e (power_more (omega (arith, er, b))));
+        lines = lines_written (numbers_of n fn).f (length fn.inputs + length fn.states) (length (unit_templates (length fn.states) (units (numbers_of n fn).f (state_bound (numbers_of n fn)).r) 0 (length fn.states))) (length (unit_templates (length fn.states) (units (numbers_of n fn).f (state_bound (numbers_of n fn)).e) 0 (length fn.states))) 0 (bounds n fn some_width narrow calm) (omega (arith, s)) all_small;
       }

@@ -5,7 +5,7 @@ pub mod Folded
 pub mod Flattened
 pub mod NodeClaims
 pub mod NodeFaults
-pub mod Rows
+pub mod Templates
 pub mod Limited
 pub mod Points
 pub mod Whole

@@ -12,7 +12,7 @@ use Rattle.fx_model.specs.Machine.{Round}
 use Rattle.fx_model.specs.Nodes.{Node, Input, State, Const, Neg, Add, Sub, Mul, Div, Copy}
 use Rattle.fx_inequalities.specs.Formula.{Span, span, zero_span, span_sum, span_difference, span_product, loss_at}
 use Rattle.fx_inequalities.specs.Claim.{Claim, inside}
-use Rattle.fx_inequalities.specs.Certificate.{Certificate, NodeLine, no_line, no_row}
+use Rattle.fx_inequalities.specs.Certificate.{Certificate, NodeLine, no_line, no_template}
 use Rattle.fx_inequalities.specs.Affine.{range_at, error_at}
 use Rattle.fx_inequalities.specs.Condition.{first_fault_of}
 use Rattle.fx_inequalities.specs.OperationSpans.{product_error}
@@ -54,11 +54,11 @@ abbrev pub IsUndivided : Node → Type 0
 IsUndivided (Div a b) = ⊥
 IsUndivided node = Unit {0}
 
--- what the certificate holds: lines by bounds, and unit rows with the state's boxes
+-- what the certificate holds: lines by bounds, and unit templates with the state's boxes
 pub record HasBounds (fn : Function) (c : Numbers) (bs : List Bound) (cert : Certificate) : Type 0 where
   pub lines : cert.lines ≡ map (calm_line c.f) bs
-  pub rows : (k : ℕ) → k < length fn.states → (at no_row cert.rows k).bound ≡ units c.f (state_bound c).r
-  pub error_rows : (k : ℕ) → k < length fn.states → (at no_row cert.error_rows k).bound ≡ units c.f (state_bound c).e
+  pub templates : (k : ℕ) → k < length fn.states → (at no_template cert.templates k).bound ≡ units c.f (state_bound c).r
+  pub error_templates : (k : ℕ) → k < length fn.states → (at no_template cert.error_templates k).bound ≡ units c.f (state_bound c).e
 
 -- the claims of a product's range, and of its error
 abbrev range_of_product : Span → Span → Span → List Claim
@@ -84,7 +84,7 @@ module _ (n : ℕ) (fn : Function) (c : Numbers) (bs : List Bound) (cert : Certi
   range_met : (node : Node) → IsInPlace (length fn.inputs) (length fn.states) k node → IsNarrowNode node × IsUndivided node → IsLimited c (node_bound c fn.inputs bs node) →
       AreMet (plain_range_claims fn cert node (range_of c.f (node_bound c fn.inputs bs node)))
   range_met (Input j) o w l = input_range n c space (at no_input fn.inputs j) (narrow j no_input o.1) (roomy j o.1) l.r
-  range_met (State j) o w l = subst (λ (i : Interval). AreMet (inside (span i) (range_of c.f (state_bound c)))) (sym (has.rows j o.1)) (same_inside n c space (state_bound c).r l.r)
+  range_met (State j) o w l = subst (λ (i : Interval). AreMet (inside (span i) (range_of c.f (state_bound c)))) (sym (has.templates j o.1)) (same_inside n c space (state_bound c).r l.r)
   range_met (Const x) o w l = const_range n c space x w.0 l
   range_met (Neg a) o w l = subst (λ (s : Span). AreMet (inside (span_difference zero_span s) (range_of c.f (at no_bound bs a)))) (sym (range_is a o.1)) (turned_inside n c space (at no_bound bs a).r l.r)
   range_met (Add a b) o w l =
@@ -105,7 +105,7 @@ module _ (n : ℕ) (fn : Function) (c : Numbers) (bs : List Bound) (cert : Certi
   error_met : (r : Round) (node : Node) → IsInPlace (length fn.inputs) (length fn.states) k node → IsNarrowNode node × IsUndivided node → IsLimited c (node_bound c fn.inputs bs node) →
       (let x = node_bound c fn.inputs bs node in AreMet (plain_error_claims fn cert node (calm_code r fn c.f node) (pos c.f) (range_of c.f x) (error_of c.f x)))
   error_met r (Input j) o w l = input_error n c space (at no_input fn.inputs j) (narrow j no_input o.1) (roomy j o.1) l.e
-  error_met r (State j) o w l = subst (λ (i : Interval). AreMet (inside (span i) (error_of c.f (state_bound c)))) (sym (has.error_rows j o.1)) (same_inside n c space (state_bound c).e l.e)
+  error_met r (State j) o w l = subst (λ (i : Interval). AreMet (inside (span i) (error_of c.f (state_bound c)))) (sym (has.error_templates j o.1)) (same_inside n c space (state_bound c).e l.e)
   error_met r (Const x) o w l = const_error n c space x w.0 l
   error_met r (Neg a) o w l = subst (λ (s : Span). AreMet (inside (span_difference zero_span s) (error_of c.f (at no_bound bs a)))) (sym (error_is a o.1)) (turned_inside n c space (at no_bound bs a).e l.e)
   error_met r (Add a b) o w l =

@@ -18,13 +18,13 @@ use Rattle.fx_model.specs.Machine.{Round, points_of}
 use Rattle.fx_model.specs.LawfulProgram.{widths}
 use Rattle.fx_model.specs.Nodes.{nodes_of}
 use Rattle.fx_inequalities.specs.Formula.{Num, formula_value, span}
-use Rattle.fx_inequalities.specs.Affine.{range_at, error_at, rows_of}
+use Rattle.fx_inequalities.specs.Affine.{range_at, error_at, templates_of}
 use Rattle.fx_inequalities.specs.Certificate.{NodeLine, no_line, no_box}
 use Rattle.fx_inequalities.specs.Condition as condition
-use Rattle.fx_inequalities.specs.Condition.{Condition, OfProgram, OfStart, OfRow, OfErrorRow, OfOutput, first_fault_of, each_index, fault_of}
+use Rattle.fx_inequalities.specs.Condition.{Condition, OfProgram, OfStart, OfTemplate, OfErrorTemplate, OfOutput, first_fault_of, each_index, fault_of}
 use Rattle.fx_inequalities.specs.NodeConditions.{node_conditions}
 use Rattle.fx_inequalities.specs.Rewriting.{Rewrites}
-use Rattle.fx_inequalities.specs.Accepted.{output_code, counts_agree, each_node, all_shape_conditions, start_claims, start_row_claims, row_claims, demand_claims, each_claims, conditions_of, demand_conditions, IsAccepted, certified_bound}
+use Rattle.fx_inequalities.specs.Accepted.{output_code, counts_agree, each_node, all_shape_conditions, start_claims, start_template_claims, template_claims, demand_claims, each_claims, conditions_of, demand_conditions, IsAccepted, certified_bound}
 use Rattle.fx_grid.specs.Grid.{lowest_dyadic}
 use Rattle.fx_sizes.specs.Demands.{allows}
 use Rattle.fx_sizes.specs.Powers.{power_value}
@@ -44,7 +44,7 @@ use Rattle.fx_calm_plan.proofs.Limited.{width, u, spare, space, front, copy_boun
 use Rattle.fx_calm_plan.proofs.Roundings.{program_rounds}
 use Rattle.fx_calm_plan.proofs.Units.{small_units}
 use Rattle.fx_calm_plan.proofs.Values.{units_value, minus_units_value}
-use Rattle.fx_calm_plan.proofs.Whole.{k, bounds, long, line_at, claims_none, counts_met, shapes_met, nodes_met, starts_met, start_rows_met, start_error_rows_met, rows_met, error_rows_met}
+use Rattle.fx_calm_plan.proofs.Whole.{k, bounds, long, line_at, claims_none, counts_met, shapes_met, nodes_met, starts_met, start_templates_met, start_error_templates_met, templates_met, error_templates_met}
 
 -- e units, of which there are at most 2^k, are at most 2^z, which is 2^k units
 within_power : (z : ℤ) (e k f : ℕ) → e ≤ 2 ^ k → z ≡ pos k -ℤ pos f → AtMost (times (whole (pos e)) (unit (pos f))) (power_value z)
@@ -141,20 +141,20 @@ module _ (n : ℕ) (r : Round) (fn : Function) (some_width : Contains widths n) 
       let q = calm_program n r fn in let ct = calm_certificate n fn in let states = length fn.states in
       let nodes = each_node (node_conditions fn n (points_of q.codes) ct) 0 (nodes_of fn) q.codes in
       let starts = each_claims condition.Start OfStart states (start_claims fn q ct) in
-      let start_rows = each_claims condition.Start OfRow (length ct.rows) (start_row_claims states (rows_of states ct.rows) (λ s. span (at no_box ct.starts s).range)) in
-      let start_errors = each_claims condition.Start OfErrorRow (length ct.error_rows) (start_row_claims states (rows_of states ct.error_rows) (λ s. span (at no_box ct.starts s).error)) in
-      let rows = each_claims condition.Row OfRow (length ct.rows) (row_claims fn q ct (rows_of states ct.rows) ct.rows (range_at ct.lines) (λ a. a.rest)) in
-      let errors = each_claims condition.ErrorRow OfErrorRow (length ct.error_rows) (row_claims fn q ct (rows_of states ct.error_rows) ct.error_rows (error_at ct.lines) (λ a. a.error_rest)) in
+      let start_templates = each_claims condition.Start OfTemplate (length ct.templates) (start_template_claims states (templates_of states ct.templates) (λ s. span (at no_box ct.starts s).range)) in
+      let start_errors = each_claims condition.Start OfErrorTemplate (length ct.error_templates) (start_template_claims states (templates_of states ct.error_templates) (λ s. span (at no_box ct.starts s).error)) in
+      let templates = each_claims condition.Row OfTemplate (length ct.templates) (template_claims fn q ct (templates_of states ct.templates) ct.templates (range_at ct.lines) (λ a. a.rest)) in
+      let errors = each_claims condition.ErrorRow OfErrorTemplate (length ct.error_templates) (template_claims fn q ct (templates_of states ct.error_templates) ct.error_templates (error_at ct.lines) (λ a. a.error_rest)) in
       none_append (record { kind = condition.Counts; part = OfProgram; index = 0; test = counts_agree fn q ct; claims = [] } ∷ []) (conditions_of fn q ct ++ demand_conditions fn q ct)
       (one_none (record { kind = condition.Counts; part = OfProgram; index = 0; test = counts_agree fn q ct; claims = [] }) (faultless condition.Counts OfProgram 0 (counts_agree fn q ct) [] (counts_met n fn some_width narrow calm r) none_met))
       (none_append (conditions_of fn q ct) (demand_conditions fn q ct)
-      (none_append (all_shape_conditions fn q) (nodes ++ (starts ++ (start_rows ++ (start_errors ++ (rows ++ errors))))) (shapes_met n fn some_width narrow calm r)
-      (none_append nodes (starts ++ (start_rows ++ (start_errors ++ (rows ++ errors)))) (nodes_met n fn some_width narrow calm r)
-      (none_append starts (start_rows ++ (start_errors ++ (rows ++ errors))) (claims_none condition.Start OfStart states (start_claims fn q ct) (starts_met n fn some_width narrow calm r))
-      (none_append start_rows (start_errors ++ (rows ++ errors)) (claims_none condition.Start OfRow (length ct.rows) _ (start_rows_met n fn some_width narrow calm))
-      (none_append start_errors (rows ++ errors) (claims_none condition.Start OfErrorRow (length ct.error_rows) _ (start_error_rows_met n fn some_width narrow calm))
-      (none_append rows errors (claims_none condition.Row OfRow (length ct.rows) _ (rows_met n fn some_width narrow calm r))
-      (claims_none condition.ErrorRow OfErrorRow (length ct.error_rows) _ (error_rows_met n fn some_width narrow calm r))))))))
+      (none_append (all_shape_conditions fn q) (nodes ++ (starts ++ (start_templates ++ (start_errors ++ (templates ++ errors))))) (shapes_met n fn some_width narrow calm r)
+      (none_append nodes (starts ++ (start_templates ++ (start_errors ++ (templates ++ errors)))) (nodes_met n fn some_width narrow calm r)
+      (none_append starts (start_templates ++ (start_errors ++ (templates ++ errors))) (claims_none condition.Start OfStart states (start_claims fn q ct) (starts_met n fn some_width narrow calm r))
+      (none_append start_templates (start_errors ++ (templates ++ errors)) (claims_none condition.Start OfTemplate (length ct.templates) _ (start_templates_met n fn some_width narrow calm))
+      (none_append start_errors (templates ++ errors) (claims_none condition.Start OfErrorTemplate (length ct.error_templates) _ (start_error_templates_met n fn some_width narrow calm))
+      (none_append templates errors (claims_none condition.Row OfTemplate (length ct.templates) _ (templates_met n fn some_width narrow calm r))
+      (claims_none condition.ErrorRow OfErrorTemplate (length ct.error_templates) _ (error_templates_met n fn some_width narrow calm r))))))))
       (indexes_none (outputs fn) (λ j. record { kind = condition.Demand; part = OfOutput; index = j + 1; test = true; claims = demand_claims (at free fn.demands j) (range_at ct.lines (output_code q j)) (error_at ct.lines (output_code q j)) })
       (λ j lt. faultless condition.Demand OfOutput (j + 1) true (demand_claims (at free fn.demands j) (range_at ct.lines (output_code q j)) (error_at ct.lines (output_code q j))) refl (demands_met j lt))))
 

@@ -18,12 +18,12 @@ use Rattle.fx_model.specs.Nodes.{Node, inputs_from, states_from, nodes_of}
 use Rattle.fx_model.proofs.Exact.{nodes_go}
 use Rattle.fx_inequalities.specs.Formula.{Difference, span, word_at}
 use Rattle.fx_inequalities.specs.Claim.{Claim, BelowFraction, AboveFraction, fits, holds}
-use Rattle.fx_inequalities.specs.Affine.{Affine, range_at, error_at, affine_at, of_line, variable, rows_of}
+use Rattle.fx_inequalities.specs.Affine.{Affine, range_at, error_at, affine_at, of_line, variable, templates_of}
 use Rattle.fx_inequalities.specs.Certificate.{Certificate, NodeLine, StartBox, no_line, no_box}
 use Rattle.fx_inequalities.specs.Condition as condition
-use Rattle.fx_inequalities.specs.Condition.{Condition, Kind, Part, OfProgram, OfNode, OfStart, OfRow, OfErrorRow, OfOutput, fault_of, first_fault_of, each_index}
+use Rattle.fx_inequalities.specs.Condition.{Condition, Kind, Part, OfProgram, OfNode, OfStart, OfTemplate, OfErrorTemplate, OfOutput, fault_of, first_fault_of, each_index}
 use Rattle.fx_inequalities.specs.NodeConditions.{shape_conditions, node_conditions, variables}
-use Rattle.fx_inequalities.specs.Accepted.{next_code, counts_agree, each_node, all_shape_conditions, no_state, start_of, start_claims, start_row_claims, row_claims, each_claims}
+use Rattle.fx_inequalities.specs.Accepted.{next_code, counts_agree, each_node, all_shape_conditions, no_state, start_of, start_claims, start_template_claims, template_claims, each_claims}
 use Rattle.fx_flat.proofs.Ordered.{IsNodeList, node_list}
 use Rattle.fx_sizes.specs.Narrow.{IsNarrowNumber, IsNarrowNode}
 use Rattle.fx_sizes.specs.Powers.{magnitude}
@@ -48,7 +48,7 @@ use Rattle.fx_calm_plan.proofs.Limited.{width, u, spare, space, roomy, next_rang
 use Rattle.fx_calm_plan.proofs.NodeClaims.{limit_few, ends_met}
 use Rattle.fx_calm_plan.proofs.NodeFaults.{HasBounds, node_faults, shape_faults}
 use Rattle.fx_calm_plan.proofs.Points.{IsPointed, all_points, start_word, start_word_at}
-use Rattle.fx_calm_plan.proofs.Rows.{start_row_met, row_met, unit_row_at, unit_rows_long}
+use Rattle.fx_calm_plan.proofs.Templates.{start_template_met, template_met, unit_template_at, unit_templates_long}
 use Rattle.fx_calm_plan.proofs.Units.{small_units}
 use Rattle.fx_calm_plan.proofs.Values.{word_up_to, word_low, word_high}
 use Rattle.fx_calm_plan.proofs.NodeFaults.{IsUndivided}
@@ -127,8 +127,8 @@ module _ (n : ℕ) (fn : Function) (some_width : Contains widths n) (narrow : Is
   has : HasBounds fn c bounds cert
   has = record {
     lines = refl;
-    rows = λ j lt. ap (λ r. r.bound) (unit_row_at k 0 k j (units c.f (state_bound c).r) lt);
-    error_rows = λ j lt. ap (λ r. r.bound) (unit_row_at k 0 k j (units c.f (state_bound c).e) lt);
+    templates = λ j lt. ap (λ r. r.bound) (unit_template_at k 0 k j (units c.f (state_bound c).r) lt);
+    error_templates = λ j lt. ap (λ r. r.bound) (unit_template_at k 0 k j (units c.f (state_bound c).e) lt);
   }
 
   -- ---- starts
@@ -151,11 +151,11 @@ module _ (n : ℕ) (fn : Function) (some_width : Contains widths n) (narrow : Is
   error_box_few : (state_bound c).e < 2 ^ 126
   error_box_few = let e = (spare n fn some_width narrow calm).errors in let b = box_is c (u n fn some_width narrow calm) (spare n fn some_width narrow calm) in few (power_more {a = error_box c} {b = c.m + c.f} (omega (arith, e, b)))
 
-  row_below : (j : ℕ) (b : Bound) → j < length cert.rows → j < k
-  row_below j b lt = let l = unit_rows_long k 0 k (units c.f (state_bound c).r) in omega (arith, lt, l)
+  template_below : (j : ℕ) (b : Bound) → j < length cert.templates → j < k
+  template_below j b lt = let l = unit_templates_long k 0 k (units c.f (state_bound c).r) in omega (arith, lt, l)
 
-  error_row_below : (j : ℕ) → j < length cert.error_rows → j < k
-  error_row_below j lt = let l = unit_rows_long k 0 k (units c.f (state_bound c).e) in omega (arith, lt, l)
+  error_template_below : (j : ℕ) → j < length cert.error_templates → j < k
+  error_template_below j lt = let l = unit_templates_long k 0 k (units c.f (state_bound c).e) in omega (arith, lt, l)
 
   -- a size that is 0 past the states
   start_size : ℕ → ℕ
@@ -173,16 +173,16 @@ module _ (n : ℕ) (fn : Function) (some_width : Contains widths n) (narrow : Is
       by true e = few (start_limited j (test_below j k e))
       by false e = omega arith
 
-  pub start_rows_met : (j : ℕ) → j < length cert.rows → AreMet (start_row_claims k (rows_of k cert.rows) (λ s. span (at no_box cert.starts s).range) j)
-  start_rows_met j lt =
-      let l = row_below j no_bound lt in
-      start_row_met c.f k (state_bound c).r box_few j (λ s. span (at no_box cert.starts s).range) start_size l start_size_few
+  pub start_templates_met : (j : ℕ) → j < length cert.templates → AreMet (start_template_claims k (templates_of k cert.templates) (λ s. span (at no_box cert.starts s).range) j)
+  start_templates_met j lt =
+      let l = template_below j no_bound lt in
+      start_template_met c.f k (state_bound c).r box_few j (λ s. span (at no_box cert.starts s).range) start_size l start_size_few
       (λ s ls. subst (λ (b : StartBox). IsSmallSpan c.f (start_size s) (span b.range)) (sym (start_box s ls)) (subst (λ (m : ℕ). IsSmallSpan c.f m (span (units c.f (units_up c.f (magnitude (start_of fn s)))))) (sym (start_size_is s ls)) (small_units c.f _ (let f = few (start_limited s ls) in omega (arith, f)))))
       (let e = start_size_is j l in let h = start_units j l in let m = power_more {a = c.q + c.f} {b = c.q + 2 + c.f} (omega arith) in omega (arith, e, h, m))
 
-  pub start_error_rows_met : (j : ℕ) → j < length cert.error_rows → AreMet (start_row_claims k (rows_of k cert.error_rows) (λ s. span (at no_box cert.starts s).error) j)
-  start_error_rows_met j lt =
-      start_row_met c.f k (state_bound c).e error_box_few j (λ s. span (at no_box cert.starts s).error) (λ s. 1) (error_row_below j lt) (λ s. omega arith)
+  pub start_error_templates_met : (j : ℕ) → j < length cert.error_templates → AreMet (start_template_claims k (templates_of k cert.error_templates) (λ s. span (at no_box cert.starts s).error) j)
+  start_error_templates_met j lt =
+      start_template_met c.f k (state_bound c).e error_box_few j (λ s. span (at no_box cert.starts s).error) (λ s. 1) (error_template_below j lt) (λ s. omega arith)
       (λ s ls. subst (λ (b : StartBox). IsSmallSpan c.f 1 (span b.error)) (sym (start_box s ls)) (small_units c.f 1 (omega arith)))
       (power_more {a = 0} {b = error_box c} (omega arith))
 
@@ -267,7 +267,7 @@ module _ (n : ℕ) (fn : Function) (some_width : Contains widths n) (narrow : Is
         claims_at box w f x =
             BelowFraction (span box.range).lo x ∷ AboveFraction x (span box.range).hi ∷ BelowFraction (Difference (word_at w f) (span box.error).hi) x ∷ AboveFraction x (Difference (word_at w f) (span box.error).lo) ∷ []
 
-    -- ---- rows
+    -- ---- templates
     -- the copy of next state j
     next_place : (j : ℕ) → j < k → (next_code p j ≡ length (front n fn some_width narrow calm) + (outputs fn + j)) × (next_code p j < length bounds)
     next_place j lt =
@@ -287,19 +287,19 @@ module _ (n : ℕ) (fn : Function) (some_width : Contains widths n) (narrow : Is
     no_coefs : (j s : ℕ) → s < k → IsSmall 0 0 ((affine_at (variables fn) cert.lines (next_code p s)).coef j)
     no_coefs j s lt = subst (λ (a : Affine). IsSmall 0 0 (a.coef j)) (sym (next_form s lt)) (small_zero 0 0 (omega arith))
 
-    pub rows_met : (j : ℕ) → j < length cert.rows → AreMet (row_claims fn p cert (rows_of k cert.rows) cert.rows (range_at cert.lines) (λ a. a.rest) j)
-    rows_met j lt =
-        let l = row_below j no_bound lt in
-        row_met c.f k (state_bound c).r box_few i j (λ s. affine_at (variables fn) cert.lines (next_code p s)) (λ a. a.rest) (range_at cert.lines) (λ s. (at no_bound bounds (next_code p s)).r) (λ s. (at no_bound bounds s).r) l (λ s. few (limited_any (next_code p s)).r)
+    pub templates_met : (j : ℕ) → j < length cert.templates → AreMet (template_claims fn p cert (templates_of k cert.templates) cert.templates (range_at cert.lines) (λ a. a.rest) j)
+    templates_met j lt =
+        let l = template_below j no_bound lt in
+        template_met c.f k (state_bound c).r box_few i j (λ s. affine_at (variables fn) cert.lines (next_code p s)) (λ a. a.rest) (range_at cert.lines) (λ s. (at no_bound bounds (next_code p s)).r) (λ s. (at no_bound bounds s).r) l (λ s. few (limited_any (next_code p s)).r)
         (λ s ls. subst (λ (a : Affine). IsSmallSpan c.f (at no_bound bounds (next_code p s)).r a.rest) (sym (next_form s ls)) (small_units c.f _ (let f = few (limited_any (next_code p s)).r in omega (arith, f))))
         no_coefs
         (λ s ls. subst (λ (m : NodeLine). IsSmallSpan c.f (at no_bound bounds s).r (span m.range)) (sym (line_at s (input_below s ls))) (small_units c.f _ (let f = few (limited_any s).r in omega (arith, f))))
         (subst (λ (b : Bound). b.r ≤ 2 ^ (c.q + 2 + c.f)) (sym (next_bound j l)) (next_range n fn some_width narrow calm j (tree.Input 0) l))
 
-    pub error_rows_met : (j : ℕ) → j < length cert.error_rows → AreMet (row_claims fn p cert (rows_of k cert.error_rows) cert.error_rows (error_at cert.lines) (λ a. a.error_rest) j)
-    error_rows_met j lt =
-        let l = error_row_below j lt in let b = box_is c (u n fn some_width narrow calm) (spare n fn some_width narrow calm) in
-        row_met c.f k (state_bound c).e error_box_few i j (λ s. affine_at (variables fn) cert.lines (next_code p s)) (λ a. a.error_rest) (error_at cert.lines) (λ s. (at no_bound bounds (next_code p s)).e) (λ s. (at no_bound bounds s).e) l (λ s. few (limited_any (next_code p s)).e)
+    pub error_templates_met : (j : ℕ) → j < length cert.error_templates → AreMet (template_claims fn p cert (templates_of k cert.error_templates) cert.error_templates (error_at cert.lines) (λ a. a.error_rest) j)
+    error_templates_met j lt =
+        let l = error_template_below j lt in let b = box_is c (u n fn some_width narrow calm) (spare n fn some_width narrow calm) in
+        template_met c.f k (state_bound c).e error_box_few i j (λ s. affine_at (variables fn) cert.lines (next_code p s)) (λ a. a.error_rest) (error_at cert.lines) (λ s. (at no_bound bounds (next_code p s)).e) (λ s. (at no_bound bounds s).e) l (λ s. few (limited_any (next_code p s)).e)
         (λ s ls. subst (λ (a : Affine). IsSmallSpan c.f (at no_bound bounds (next_code p s)).e a.error_rest) (sym (next_form s ls)) (small_units c.f _ (let f = few (limited_any (next_code p s)).e in omega (arith, f))))
         no_coefs
         (λ s ls. subst (λ (m : NodeLine). IsSmallSpan c.f (at no_bound bounds s).e (span m.error)) (sym (line_at s (input_below s ls))) (small_units c.f _ (let f = few (limited_any s).e in omega (arith, f))))

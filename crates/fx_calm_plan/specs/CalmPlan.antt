@@ -11,7 +11,7 @@ use Rattle.fx_model.specs.Machine.{Round, Code, Program}
 use Rattle.fx_model.specs.Nodes.{Node, Input, State, Const, Neg, Add, Sub, Mul, Div, Copy, nodes_of}
 use Rattle.fx_inequalities.specs.NodeConditions.{no_input}
 use Rattle.fx_inequalities.specs.Accepted.{start_of}
-use Rattle.fx_inequalities.specs.Certificate.{Certificate, NodeLine, Row, StartBox}
+use Rattle.fx_inequalities.specs.Certificate.{Certificate, NodeLine, Template, StartBox}
 use Rattle.fx_inequalities.specs.LawfulCertificate.{unit_vector}
 use Rattle.fx_grid.specs.Grid.{lowest_dyadic}
 use Rattle.fx_sizes.specs.Powers.{magnitude}
@@ -69,10 +69,10 @@ calm_line f b = record { range = units f b.r; error = units f b.e; form = None }
 abbrev pub calm_start : ℕ → function.State → StartBox
 calm_start f s = record { range = units f (units_up f (magnitude s.start)); error = units f 1 }
 
--- unit rows from i on, k of them, of so many states and with one bound
-abbrev pub unit_rows : ℕ → Interval → ℕ → ℕ → List Row
-unit_rows states bound i zero = []
-unit_rows states bound i (suc k) = record { coefs = unit_vector states i; bound = bound; shares = [] } ∷ unit_rows states bound (i + 1) k
+-- unit templates from i on, k of them, of so many states and with one bound
+abbrev pub unit_templates : ℕ → Interval → ℕ → ℕ → List Template
+unit_templates states bound i zero = []
+unit_templates states bound i (suc k) = record { coefs = unit_vector states i; bound = bound; shares = [] } ∷ unit_templates states bound (i + 1) k
 
 -- without steps, forms and shares, and the same however the program rounds: what is lost to the nearest lies within the unit down
 abbrev pub calm_certificate : ℕ → Function → Certificate
@@ -81,7 +81,7 @@ calm_certificate n fn = let c = numbers_of n fn in let b = state_bound c in let 
   states = k;
   steps = [];
   starts = map (calm_start c.f) fn.states;
-  rows = unit_rows k (units c.f b.r) 0 k;
-  error_rows = unit_rows k (units c.f b.e) 0 k;
+  templates = unit_templates k (units c.f b.r) 0 k;
+  error_templates = unit_templates k (units c.f b.e) 0 k;
   lines = map (calm_line c.f) (bounds_of c fn);
 }

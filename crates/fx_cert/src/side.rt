@@ -1,4 +1,4 @@
-//! Values and errors, of which the conditions by rows say the same.
+//! Values and errors, of which the conditions by templates say the same.
 
 ghost use Rattle.std.specs.Prelude.{◌≡◌};
 ghost use Rattle.fx_inequalities.specs.Formula.{span};

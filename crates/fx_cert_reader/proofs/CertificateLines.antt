@@ -6,7 +6,7 @@ use Rattle.std.specs.List.{AllByRecursion}
 use Rattle.std.proofs.lemmas.Int.{ints}
 use Rattle.fx_rational.specs.Dyadic.{Dyadic, IsWritten}
 use Rattle.fx_rational.specs.Interval.{Interval, IsWrittenInterval}
-use Rattle.fx_model.specs.Limits.{input_limit, state_limit, node_limit, step_limit, place_end, rule_count, row_limit}
+use Rattle.fx_model.specs.Limits.{input_limit, state_limit, node_limit, step_limit, place_end, rule_count, template_limit}
 use Rattle.fx_model.specs.LineText.{dyadic_text, interval_fields}
 use Rattle.fx_inequalities.specs.Rewriting.{Rewriting}
 use Rattle.fx_inequalities.specs.Certificate.{StartBox}
@@ -20,8 +20,8 @@ use Rattle.fx_model.proofs.Steps.{on_ok}
 use Rattle.fx_text.proofs.FieldLaws.{front, ended_is, word_takes, word_again, number_takes, number_again, place_takes, place_again, count_takes, count_again}
 use Rattle.fx_text.proofs.LineLaws.{IsField-decimal, IsLineOf}
 use Rattle.fx_text.proofs.DyadicLaws.{IsField-dyadic_text, interval_takes, interval_again}
-use Rattle.fx_cert_reader.specs.CountsView.{AreCertificateSizes, AreRowCounts}
-use Rattle.fx_cert_reader.specs.LineReading.{CertificateSizes, RowCounts, certificate_headline_at, certificate_sizes_at, step_count_at, step_at, start_at, row_counts_at}
+use Rattle.fx_cert_reader.specs.CountsView.{AreCertificateSizes, AreTemplateCounts}
+use Rattle.fx_cert_reader.specs.LineReading.{CertificateSizes, TemplateCounts, certificate_headline_at, certificate_sizes_at, step_count_at, step_at, start_at, template_counts_at}
 use Rattle.fx_cert_reader.proofs.PathLaws.{path_law, clean_path}
 
 -- ---- parts of lines
@@ -135,40 +135,40 @@ step_count_law = record { takes = takes; again = again; clean = clean }
     clean : (n : ℕ) → n ≤ step_limit → AreFields (step_count_fields n)
     clean n h = (word_steps, (IsField-decimal n (omega arith), tt))
 
-abbrev pub row_counts_fields : RowCounts → Line
-row_counts_fields s = codes "rows" ∷ decimal s.rows ∷ decimal s.error_rows ∷ []
+abbrev pub template_counts_fields : TemplateCounts → Line
+template_counts_fields s = codes "rows" ∷ decimal s.templates ∷ decimal s.error_templates ∷ []
 
-pub row_counts_law : (k : ℕ) → IsLineOf (row_counts_at k) row_counts_fields (AreRowCounts k)
-unfolding row_counts_at
-row_counts_law k = record { takes = takes; again = again; clean = clean }
+pub template_counts_law : (k : ℕ) → IsLineOf (template_counts_at k) template_counts_fields (AreTemplateCounts k)
+unfolding template_counts_at
+template_counts_law k = record { takes = takes; again = again; clean = clean }
   where
-    takes : (line : Line) (s : RowCounts) → row_counts_at k line ≡ Ok s → (line ≡ row_counts_fields s) × AreRowCounts k s
+    takes : (line : Line) (s : TemplateCounts) → template_counts_at k line ≡ Ok s → (line ≡ template_counts_fields s) × AreTemplateCounts k s
     takes line s e =
         on_ok _ _ s e (λ rest hr e.
         on_ok _ _ s e (λ i hi e.
         on_ok _ _ s e (λ j hj e.
         on_ok _ _ s e (λ d hd e.
-        let pi = count_takes k row_limit rest i (omega arith) hi in
-        let pj = count_takes k row_limit i.1 j (omega arith) hj in
-        let made : record { rows = i.0; error_rows = j.0 } ≡ s = cc in
-        subst (λ s. (line ≡ row_counts_fields s) × AreRowCounts k s) made (
+        let pi = count_takes k template_limit rest i (omega arith) hi in
+        let pj = count_takes k template_limit i.1 j (omega arith) hj in
+        let made : record { templates = i.0; error_templates = j.0 } ≡ s = cc in
+        subst (λ s. (line ≡ template_counts_fields s) × AreTemplateCounts k s) made (
           front (word_takes (codes "rows") line rest hr) (front pi.0 (front pj.0 (ended_is j.1 d hd))),
-          record { enough = pi.1; rows = pi.2; enough_errors = pj.1; error_rows = pj.2 },
+          record { enough = pi.1; templates = pi.2; enough_errors = pj.1; error_templates = pj.2 },
         )))))
 
-    again : (s : RowCounts) → AreRowCounts k s → row_counts_at k (row_counts_fields s) ≡ Ok s
+    again : (s : TemplateCounts) → AreTemplateCounts k s → template_counts_at k (template_counts_fields s) ≡ Ok s
     again s h =
         rw (
-          word_again (codes "rows") (decimal s.rows ∷ decimal s.error_rows ∷ []),
-          count_again k row_limit s.rows (decimal s.error_rows ∷ []) (omega arith) h.enough h.rows,
-          count_again k row_limit s.error_rows [] (omega arith) h.enough_errors h.error_rows,
+          word_again (codes "rows") (decimal s.templates ∷ decimal s.error_templates ∷ []),
+          count_again k template_limit s.templates (decimal s.error_templates ∷ []) (omega arith) h.enough h.templates,
+          count_again k template_limit s.error_templates [] (omega arith) h.enough_errors h.error_templates,
         ) refl
 
-    word_rows : IsField (codes "rows")
-    word_rows = record { spaces = search rules; line_feeds = search rules }
+    word_templates : IsField (codes "rows")
+    word_templates = record { spaces = search rules; line_feeds = search rules }
 
-    clean : (s : RowCounts) → AreRowCounts k s → AreFields (row_counts_fields s)
-    clean s h = let r = h.rows in let e = h.error_rows in (word_rows, (IsField-decimal s.rows (omega arith), (IsField-decimal s.error_rows (omega arith), tt)))
+    clean : (s : TemplateCounts) → AreTemplateCounts k s → AreFields (template_counts_fields s)
+    clean s h = let r = h.templates in let e = h.error_templates in (word_templates, (IsField-decimal s.templates (omega arith), (IsField-decimal s.error_templates (omega arith), tt)))
 
 -- ---- steps
 narrow_rules : AreNarrow (pos 1) (pos rule_count)

@@ -56,16 +56,16 @@ one_spelling end small = record { one = λ k i _. record { takes = λ line x e. 
 
 are_shares : (end least : ℕ) (shares : List Share) → AreEach (IsShare end) above least shares → AreShares end least shares
 are_shares end least [] h = tt
-are_shares end least (s ∷ shares) (h, hs) = (h.low, h.high, h.times, are_shares end (s.row + 1) shares hs)
+are_shares end least (s ∷ shares) (h, hs) = (h.low, h.high, h.times, are_shares end (s.template + 1) shares hs)
 
 each_share : (end least : ℕ) (shares : List Share) → AreShares end least shares → AreEach (IsShare end) above least shares
 each_share end least [] h = tt
-each_share end least (s ∷ shares) h = (record { low = h.0; high = h.1; times = h.2 }, each_share end (s.row + 1) shares h.3)
+each_share end least (s ∷ shares) h = (record { low = h.0; high = h.1; times = h.2 }, each_share end (s.template + 1) shares h.3)
 
--- there are no more of them than rows
+-- there are no more of them than templates
 are_few : (end least : ℕ) (shares : List Share) → AreShares end least shares → length shares ≤ end - least
 are_few end least [] h = omega arith
-are_few end least (s ∷ shares) h = let more = are_few end (s.row + 1) shares h.3 in omega (arith, more, h.0, h.1)
+are_few end least (s ∷ shares) h = let more = are_few end (s.template + 1) shares h.3 in omega (arith, more, h.0, h.1)
 
 pub shares_law : (end : ℕ) → end < 2 ^ 32 → IsOneSpelling (shares_at end) share_fields (AreShares end 0)
 unfolding shares_at
@@ -129,7 +129,7 @@ clean_shares end shares small h = let few = are_few end 0 shares h in (IsField-d
   where
     by : (least : ℕ) (shares : List Share) → AreShares end least shares → AllByRecursion IsField (flat_map pairs shares)
     by least [] h = tt
-    by least (s ∷ shares) h = subst (AllByRecursion IsField) (sym (flat_map-cons pairs s shares)) (IsField-decimal s.row (omega (arith, h.1)), (IsField-dyadic_text s.times h.2, by (s.row + 1) shares h.3))
+    by least (s ∷ shares) h = subst (AllByRecursion IsField) (sym (flat_map-cons pairs s shares)) (IsField-decimal s.template (omega (arith, h.1)), (IsField-dyadic_text s.times h.2, by (s.template + 1) shares h.3))
 
 pub clean_by : (end : ℕ) (by : Option (List Share)) → end < 2 ^ 32 → AreSharesIfAny end by → AllByRecursion IsField (by_fields by)
 clean_by end None small h = (minus, tt)

@@ -10,13 +10,13 @@ use Rattle.fx_text.specs.Reading.{keyword_at, number_at, place_at, count_at, dya
 use Rattle.fx_text.specs.Lines.{fields_at, line_by, text_ended_at}
 use Rattle.fx_text.specs.Many.{many, numbered_line, lines_by}
 use Rattle.fx_cert_reader.specs.FieldReading.{size_at, share_at, shares_at, some_shares_at, no_shares_at, by_at, known_turns, known_path, path_at}
-use Rattle.fx_cert_reader.specs.LineReading.{certificate_headline_at, certificate_sizes_at, step_count_at, step_at, start_at, row_counts_at, box_row_at, row_at, plain_at, form_at, formed_at, node_at}
-use Rattle.fx_cert_reader.specs.CertificateReading.{rows_at, steps_at, all_rows_at, certificate_at, certificate_in}
+use Rattle.fx_cert_reader.specs.LineReading.{certificate_headline_at, certificate_sizes_at, step_count_at, step_at, start_at, template_counts_at, box_template_at, template_at, plain_at, form_at, formed_at, node_at}
+use Rattle.fx_cert_reader.specs.CertificateReading.{templates_at, steps_at, all_templates_at, certificate_at, certificate_in}
 
 abbrev iv : ℤ → ℕ → ℤ → ℕ → Interval
 iv a b c e = record { lo = record { m = a; e = b }; hi = record { m = c; e = e } }
 
--- one input and one state, with a step, a further row with a share, and a form
+-- one input and one state, with a step, a further template with a share, and a form
 abbrev text : List ℕ
 text = codes "fixd certificate 1\nsizes 1 1 3\nsteps 1\nstep 2 01 13\nstart 0:0 0:0 0:0 0:0\nrows 2 1\nbox -1:0 1:0 0\n" ++
     codes "row 1:1 -1:1 1:1 1 0 1:1\nbox -5:12 0:0 0\nplain 0:0 1:0 -1:12 0:0\nplain 0:0 1:0 0:0 0:0\n" ++
@@ -31,10 +31,10 @@ told = record {
   states = 1;
   steps = record { place = 2; path = 0 ∷ 1 ∷ []; rule = 13 } ∷ [];
   starts = record { range = iv (pos 0) 0 (pos 0) 0; error = iv (pos 0) 0 (pos 0) 0 } ∷ [];
-  rows =
+  templates =
       record { coefs = record { m = pos 1; e = 0 } ∷ []; bound = iv (negsuc 0) 0 (pos 1) 0; shares = [] } ∷
-      record { coefs = record { m = pos 1; e = 1 } ∷ []; bound = iv (negsuc 0) 1 (pos 1) 1; shares = record { row = 0; times = record { m = pos 1; e = 1 } } ∷ [] } ∷ [];
-  error_rows = record { coefs = record { m = pos 1; e = 0 } ∷ []; bound = iv (negsuc 4) 12 (pos 0) 0; shares = [] } ∷ [];
+      record { coefs = record { m = pos 1; e = 1 } ∷ []; bound = iv (negsuc 0) 1 (pos 1) 1; shares = record { template = 0; times = record { m = pos 1; e = 1 } } ∷ [] } ∷ [];
+  error_templates = record { coefs = record { m = pos 1; e = 0 } ∷ []; bound = iv (negsuc 4) 12 (pos 0) 0; shares = [] } ∷ [];
   lines =
       record { range = iv (pos 0) 0 (pos 1) 0; error = iv (negsuc 0) 12 (pos 0) 0; form = None } ∷
       record { range = iv (pos 0) 0 (pos 1) 0; error = iv (pos 0) 0 (pos 0) 0; form = None } ∷
@@ -47,16 +47,16 @@ told = record {
           coefs = record { m = pos 1; e = 0 } ∷ record { m = pos 0; e = 0 } ∷ [];
           rest = iv (pos 0) 0 (pos 1) 0;
           error_rest = iv (pos 0) 0 (pos 0) 0;
-          range_by = Some (record { row = 1; times = record { m = pos 3; e = 0 } } ∷ []);
+          range_by = Some (record { template = 1; times = record { m = pos 3; e = 0 } } ∷ []);
           error_by = None;
         });
       } ∷ [];
 }
 
 told_is : certificate_in text ≡ Ok told
-unfolding whole_of integer_of dyadic_of keyword_at number_at place_at count_at dyadic_at interval_at fields_at line_by text_ended_at many numbered_line lines_by size_at share_at shares_at some_shares_at no_shares_at by_at known_turns known_path path_at certificate_headline_at certificate_sizes_at step_count_at step_at start_at row_counts_at box_row_at row_at plain_at form_at formed_at node_at rows_at steps_at all_rows_at certificate_at certificate_in
+unfolding whole_of integer_of dyadic_of keyword_at number_at place_at count_at dyadic_at interval_at fields_at line_by text_ended_at many numbered_line lines_by size_at share_at shares_at some_shares_at no_shares_at by_at known_turns known_path path_at certificate_headline_at certificate_sizes_at step_count_at step_at start_at template_counts_at box_template_at template_at plain_at form_at formed_at node_at templates_at steps_at all_templates_at certificate_at certificate_in
 told_is = refl
 
 more_behind : certificate_in (text ++ codes "\n") ≡ fault 13 Extra
-unfolding whole_of integer_of dyadic_of keyword_at number_at place_at count_at dyadic_at interval_at fields_at line_by text_ended_at many numbered_line lines_by size_at share_at shares_at some_shares_at no_shares_at by_at known_turns known_path path_at certificate_headline_at certificate_sizes_at step_count_at step_at start_at row_counts_at box_row_at row_at plain_at form_at formed_at node_at rows_at steps_at all_rows_at certificate_at certificate_in
+unfolding whole_of integer_of dyadic_of keyword_at number_at place_at count_at dyadic_at interval_at fields_at line_by text_ended_at many numbered_line lines_by size_at share_at shares_at some_shares_at no_shares_at by_at known_turns known_path path_at certificate_headline_at certificate_sizes_at step_count_at step_at start_at template_counts_at box_template_at template_at plain_at form_at formed_at node_at templates_at steps_at all_templates_at certificate_at certificate_in
 more_behind = refl

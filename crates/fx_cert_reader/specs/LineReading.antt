@@ -1,9 +1,9 @@
 -- Reading the lines of a certificate: the fields from left to right.
 use Rattle.std.specs.Prelude.{ℕ, pos, ◌+◌, ◌&&◌, Some, None, Result, Ok, Err, if◌then◌else◌, nat_le, unsigned_abs, codes}
 use Rattle.std.specs.Str.{bytes_eq}
-use Rattle.fx_model.specs.Limits.{input_limit, state_limit, node_limit, step_limit, place_end, rule_count, row_limit}
+use Rattle.fx_model.specs.Limits.{input_limit, state_limit, node_limit, step_limit, place_end, rule_count, template_limit}
 use Rattle.fx_inequalities.specs.Rewriting.{Rewriting}
-use Rattle.fx_inequalities.specs.Certificate.{Form, NodeLine, Row, StartBox}
+use Rattle.fx_inequalities.specs.Certificate.{Form, NodeLine, Template, StartBox}
 use Rattle.fx_inequalities.specs.LawfulCertificate.{unit_vector}
 use Rattle.fx_text.specs.declared.fault.TextKind.{TextKind}
 use Rattle.fx_text.specs.declared.fault.TextKind.TheVariants.{BadLine}
@@ -19,10 +19,10 @@ pub record CertificateSizes : Type 0 where
   pub states : ℕ
   pub count : ℕ
 
--- those of rows and of error rows
-pub record RowCounts : Type 0 where
-  pub rows : ℕ
-  pub error_rows : ℕ
+-- those of templates and of error templates
+pub record TemplateCounts : Type 0 where
+  pub templates : ℕ
+  pub error_templates : ℕ
 
 -- fixd certificate 1
 unfoldable pub certificate_headline_at : Line → Result (Unit {0}) TextKind
@@ -71,17 +71,17 @@ start_at line = do
   Ok (record { range = range.0; error = error.0 })
 
 -- rows R E, at least one of either for each of k states
-unfoldable pub row_counts_at : ℕ → Line → Result RowCounts TextKind
-row_counts_at k line = do
+unfoldable pub template_counts_at : ℕ → Line → Result TemplateCounts TextKind
+template_counts_at k line = do
   rest ← keyword_at (codes "rows") line
-  r ← count_at k row_limit rest
-  e ← count_at k row_limit r.1
+  r ← count_at k template_limit rest
+  e ← count_at k template_limit r.1
   _ ← ended_at e.1
-  Ok (record { rows = r.0; error_rows = e.0 })
+  Ok (record { templates = r.0; error_templates = e.0 })
 
--- box LO HI SHARES, the unit row i of k, among rows up to the end
-unfoldable pub box_row_at : ℕ → ℕ → ℕ → Line → Result Row TextKind
-box_row_at k end i line = do
+-- box LO HI SHARES, the unit template i of k, among templates up to the end
+unfoldable pub box_template_at : ℕ → ℕ → ℕ → Line → Result Template TextKind
+box_template_at k end i line = do
   rest ← keyword_at (codes "box") line
   bound ← interval_at rest
   shares ← shares_at end bound.1
@@ -89,8 +89,8 @@ box_row_at k end i line = do
   Ok (record { coefs = unit_vector k i; bound = bound.0; shares = shares.0 })
 
 -- row C1 to CK LO HI SHARES
-unfoldable pub row_at : ℕ → ℕ → Line → Result Row TextKind
-row_at k end line = do
+unfoldable pub template_at : ℕ → ℕ → Line → Result Template TextKind
+template_at k end line = do
   rest ← keyword_at (codes "row") line
   coefs ← dyadics_at k rest
   bound ← interval_at coefs.1
@@ -106,31 +106,31 @@ plain_at line = do
   _ ← ended_at error.1
   Ok (record { range = range.0; error = error.0; form = None })
 
--- MA MB C1 to CV PLO PHI QLO QHI BY BY, over v variables, among so many rows and error rows
+-- MA MB C1 to CV PLO PHI QLO QHI BY BY, over v variables, among so many templates and error templates
 unfoldable pub form_at : ℕ → ℕ → ℕ → Line → Result Form TextKind
-form_at v rows error_rows line = do
+form_at v templates error_templates line = do
   centre_a ← dyadic_at line
   centre_b ← dyadic_at centre_a.1
   coefs ← dyadics_at v centre_b.1
   rest ← interval_at coefs.1
   error_rest ← interval_at rest.1
-  range_by ← by_at rows error_rest.1
-  error_by ← by_at error_rows range_by.1
+  range_by ← by_at templates error_rest.1
+  error_by ← by_at error_templates range_by.1
   _ ← ended_at error_by.1
   Ok (record { centre_a = centre_a.0; centre_b = centre_b.0; coefs = coefs.0; rest = rest.0; error_rest = error_rest.0; range_by = range_by.0; error_by = error_by.0 })
 
 -- behind form: LO HI ELO EHI, and the form
 unfoldable pub formed_at : ℕ → ℕ → ℕ → Line → Result NodeLine TextKind
-formed_at v rows error_rows line = do
+formed_at v templates error_templates line = do
   range ← interval_at line
   error ← interval_at range.1
-  form ← form_at v rows error_rows error.1
+  form ← form_at v templates error_templates error.1
   Ok (record { range = range.0; error = error.0; form = Some form })
 
 -- the line of node n, which may have a form behind the v variables
 unfoldable pub node_at : ℕ → ℕ → ℕ → ℕ → Line → Result NodeLine TextKind
-node_at v rows error_rows n line = do
+node_at v templates error_templates n line = do
   kind ← field_at line
   if bytes_eq kind.0 (codes "plain") then plain_at kind.1
-      else if nat_le v n && bytes_eq kind.0 (codes "form") then formed_at v rows error_rows kind.1
+      else if nat_le v n && bytes_eq kind.0 (codes "form") then formed_at v templates error_templates kind.1
       else Err BadLine

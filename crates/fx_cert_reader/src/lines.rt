@@ -1,7 +1,7 @@
-//! The kinds of lines of which a certificate has so many: steps, starts, unit rows, further rows and nodes.
+//! The kinds of lines of which a certificate has so many: steps, starts, unit templates, further templates and nodes.
 
-use crate::read_line::{RowCounts, read_box, read_node, read_row, read_start, read_step};
-use fx_cert::{NodeLine, Row, StartBox};
+use crate::read_line::{TemplateCounts, read_box, read_node, read_start, read_step, read_template};
+use fx_cert::{NodeLine, StartBox, Template};
 use fx_step::Step;
 use fx_text::{Fields, LineReader, TextKind};
 use std::alloc::Global;
@@ -63,7 +63,7 @@ impl LineReader for StartLines {
     }
 }
 
-/// The unit rows, of which there is one for each state, among rows up to an end.
+/// The unit templates, of which there is one for each state, among templates up to an end.
 #[derive(Drop)]
 pub struct BoxLines {
     pub states: u32,
@@ -72,56 +72,56 @@ pub struct BoxLines {
 
 impl LineReader for BoxLines {
     ghost use Rattle.std.specs.Prelude.{◌≤◌};
-    ghost use Rattle.fx_model.specs.Limits.{state_limit, row_limit};
+    ghost use Rattle.fx_model.specs.Limits.{state_limit, template_limit};
     ghost use Rattle.fx_inequalities.specs.Certificate as model;
-    ghost use Rattle.fx_cert.specs.CertificateView.{row_view};
-    ghost use Rattle.fx_cert_reader.specs.LineReading.{box_row_at};
+    ghost use Rattle.fx_cert.specs.CertificateView.{template_view};
+    ghost use Rattle.fx_cert_reader.specs.LineReading.{box_template_at};
 
-    type Value = Row;
+    type Value = Template;
 
-    ghost Told = { model.Row };
+    ghost Told = { model.Template };
 
-    ghost told = { row_view };
+    ghost told = { template_view };
 
     ghost count = { λ lines. lines.states };
 
-    ghost lawful = { λ lines. (lines.states ≤ state_limit) × (lines.end ≤ row_limit) };
+    ghost lawful = { λ lines. (lines.states ≤ state_limit) × (lines.end ≤ template_limit) };
 
-    ghost line_at = { λ lines. box_row_at lines.states lines.end };
+    ghost line_at = { λ lines. box_template_at lines.states lines.end };
 
-    fn read(&self, alloc: Global, i: u32, fields: &mut Fields<'_>) -> Result<Row, TextKind> {
+    fn read(&self, alloc: Global, i: u32, fields: &mut Fields<'_>) -> Result<Template, TextKind> {
         read_box(alloc, self.states, self.end, i, fields)
     }
 }
 
-/// The rows behind the unit rows, as many as there are up to the end.
+/// The templates behind the unit templates, as many as there are up to the end.
 #[derive(Drop)]
-pub struct RowLines {
+pub struct TemplateLines {
     pub states: u32,
     pub end: u32,
 }
 
-impl LineReader for RowLines {
+impl LineReader for TemplateLines {
     ghost use Rattle.std.specs.Prelude.{◌≤◌, ◌-◌};
-    ghost use Rattle.fx_model.specs.Limits.{row_limit};
+    ghost use Rattle.fx_model.specs.Limits.{template_limit};
     ghost use Rattle.fx_inequalities.specs.Certificate as model;
-    ghost use Rattle.fx_cert.specs.CertificateView.{row_view};
-    ghost use Rattle.fx_cert_reader.specs.LineReading.{row_at};
+    ghost use Rattle.fx_cert.specs.CertificateView.{template_view};
+    ghost use Rattle.fx_cert_reader.specs.LineReading.{template_at};
 
-    type Value = Row;
+    type Value = Template;
 
-    ghost Told = { model.Row };
+    ghost Told = { model.Template };
 
-    ghost told = { row_view };
+    ghost told = { template_view };
 
     ghost count = { λ lines. lines.end - lines.states };
 
-    ghost lawful = { λ lines. lines.end ≤ row_limit };
+    ghost lawful = { λ lines. lines.end ≤ template_limit };
 
-    ghost line_at = { λ lines i. row_at lines.states lines.end };
+    ghost line_at = { λ lines i. template_at lines.states lines.end };
 
-    fn read(&self, alloc: Global, _i: u32, fields: &mut Fields<'_>) -> Result<Row, TextKind> {
-        read_row(alloc, self.states, self.end, fields)
+    fn read(&self, alloc: Global, _i: u32, fields: &mut Fields<'_>) -> Result<Template, TextKind> {
+        read_template(alloc, self.states, self.end, fields)
     }
 }
 
@@ -129,14 +129,14 @@ impl LineReader for RowLines {
 #[derive(Drop)]
 pub struct NodeLines {
     pub variables: u32,
-    pub counts: RowCounts,
+    pub counts: TemplateCounts,
     pub count: u32,
 }
 
 impl LineReader for NodeLines {
     ghost use Rattle.fx_inequalities.specs.Certificate as model;
     ghost use Rattle.fx_cert.specs.CertificateView.{line_view};
-    ghost use Rattle.fx_cert_reader.specs.CountsView.{row_counts_of, AreRowCounts};
+    ghost use Rattle.fx_cert_reader.specs.CountsView.{template_counts_of, AreTemplateCounts};
     ghost use Rattle.fx_cert_reader.specs.LineReading.{node_at};
 
     type Value = NodeLine;
@@ -147,9 +147,9 @@ impl LineReader for NodeLines {
 
     ghost count = { λ lines. lines.count };
 
-    ghost lawful = { λ lines. AreRowCounts 0 (row_counts_of lines.counts) };
+    ghost lawful = { λ lines. AreTemplateCounts 0 (template_counts_of lines.counts) };
 
-    ghost line_at = { λ lines. node_at lines.variables lines.counts.rows lines.counts.error_rows };
+    ghost line_at = { λ lines. node_at lines.variables lines.counts.templates lines.counts.error_templates };
 
     fn read(&self, alloc: Global, i: u32, fields: &mut Fields<'_>) -> Result<NodeLine, TextKind> {
         read_node(alloc, self.variables, self.counts, i, fields)

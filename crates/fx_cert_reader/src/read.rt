@@ -4,21 +4,21 @@
 //! the text behind the certificate. Lists grow as their lines come, whatever their count claims.
 
 ghost use Rattle.std.specs.Prelude.{◌≡◌, ◌≤◌, ◌<◌, ◌^◌, ◌+◌, ◌-◌, map, length, IfOk};
-ghost use Rattle.fx_model.specs.Limits.{input_limit, state_limit, node_limit, step_limit, row_limit};
+ghost use Rattle.fx_model.specs.Limits.{input_limit, state_limit, node_limit, step_limit, template_limit};
 ghost use Rattle.fx_step.specs.StepView.{step_view};
 ghost use Rattle.fx_inequalities.specs.LawfulCertificate.{IsLawfulCertificate};
 ghost use Rattle.fx_text.specs.Reading.{ReadsAll};
 ghost use Rattle.fx_text.specs.Lines.{line_by, Gives};
-ghost use Rattle.fx_cert.specs.CertificateView.{rows_in, certificate_of};
-ghost use Rattle.fx_cert_reader.specs.CountsView.{certificate_sizes_of, row_counts_of, AreCertificateSizes, AreRowCounts};
-ghost use Rattle.fx_cert_reader.specs.LineReading.{certificate_headline_at, certificate_sizes_at, step_count_at, row_counts_at};
-ghost use Rattle.fx_cert_reader.specs.CertificateReading.{rows_at, steps_at, all_rows_at, certificate_at, certificate_lines, certificate_in};
+ghost use Rattle.fx_cert.specs.CertificateView.{templates_in, certificate_of};
+ghost use Rattle.fx_cert_reader.specs.CountsView.{certificate_sizes_of, template_counts_of, AreCertificateSizes, AreTemplateCounts};
+ghost use Rattle.fx_cert_reader.specs.LineReading.{certificate_headline_at, certificate_sizes_at, step_count_at, template_counts_at};
+ghost use Rattle.fx_cert_reader.specs.CertificateReading.{templates_at, steps_at, all_templates_at, certificate_at, certificate_lines, certificate_in};
 
-use crate::lines::{BoxLines, NodeLines, RowLines, StartLines, StepLines};
+use crate::lines::{BoxLines, NodeLines, StartLines, StepLines, TemplateLines};
 use crate::read_line::{
-    CertificateSizes, RowCounts, read_headline, read_row_counts, read_sizes, read_step_count,
+    CertificateSizes, TemplateCounts, read_headline, read_sizes, read_step_count, read_template_counts,
 };
-use fx_cert::{Certificate, Row};
+use fx_cert::{Certificate, Template};
 use fx_expr::Items;
 use fx_step::Step;
 use fx_text::{TextFault, fields_at, read_lines, read_more_lines, text_ended};
@@ -55,33 +55,33 @@ fn step_count_line(line: u32, text: &[u8]) -> Result<(u32, &[u8]), TextFault>
 }
 
 #[tactic(auto, unfolding(fx_text::specs::Lines::line_by))]
-fn row_counts_line(states: u32, line: u32, text: &[u8]) -> Result<(RowCounts, &[u8]), TextFault>
-    ensures value { ReadsAll (λ x. (row_counts_of x.0, x.1.now)) result (line_by (row_counts_at states) line text.now) }
-    ensures range { IfOk result (λ x. AreRowCounts states (row_counts_of x.0)) }
+fn template_counts_line(states: u32, line: u32, text: &[u8]) -> Result<(TemplateCounts, &[u8]), TextFault>
+    ensures value { ReadsAll (λ x. (template_counts_of x.0, x.1.now)) result (line_by (template_counts_at states) line text.now) }
+    ensures range { IfOk result (λ x. AreTemplateCounts states (template_counts_of x.0)) }
 {
     let (mut fields, rest) = fields_at(line, text)?;
-    let counts = read_row_counts(states, &mut fields).map_err(|kind| TextFault::at(line, kind))?;
+    let counts = read_template_counts(states, &mut fields).map_err(|kind| TextFault::at(line, kind))?;
     Ok((counts, rest))
 }
 
-/// So many rows: a box for each state, and the further ones.
-#[tactic(auto, unfolding(crate::specs::CertificateReading::rows_at))]
-fn rows_at<'a>(
+/// So many templates: a box for each state, and the further ones.
+#[tactic(auto, unfolding(crate::specs::CertificateReading::templates_at))]
+fn templates_at<'a>(
     alloc: Global,
     first: u32,
     states: u32,
     end: u32,
     text: &'a [u8],
-) -> Result<(Vec<Row>, &'a [u8]), TextFault>
+) -> Result<(Vec<Template>, &'a [u8]), TextFault>
     requires first { first ≤ 2 ^ 29 + 2 ^ 16 }
     requires few { states ≤ state_limit }
     requires states { states ≤ end }
-    requires end { end ≤ row_limit }
-    ensures value { Gives (λ x. (rows_in x.0.items, x.1.now)) result (rows_at first states end text.now) }
+    requires end { end ≤ template_limit }
+    ensures value { Gives (λ x. (templates_in x.0.items, x.1.now)) result (templates_at first states end text.now) }
     ensures count { IfOk result (λ x. length x.0.items ≡ end) }
 {
     let (boxes, rest) = read_lines(&BoxLines { states, end }, alloc, first, states, text)?;
-    let further = RowLines { states, end };
+    let further = TemplateLines { states, end };
     read_more_lines(&further, alloc, first + states, end - states, boxes, rest)
 }
 
@@ -100,24 +100,24 @@ fn steps_at<'a>(
     read_lines(&StepLines { count }, alloc, line + 1, count, rest)
 }
 
-/// The counts of rows and error rows, and both. The counts are handed on to the readers of nodes.
-#[tactic(auto, unfolding(crate::specs::CertificateReading::all_rows_at))]
-fn all_rows_at<'a>(
+/// The counts of templates and error templates, and both. The counts are handed on to the readers of nodes.
+#[tactic(auto, unfolding(crate::specs::CertificateReading::all_templates_at))]
+fn all_templates_at<'a>(
     alloc: Global,
     line: u32,
     states: u32,
     text: &'a [u8],
-) -> Result<(Vec<Row>, Vec<Row>, &'a [u8]), TextFault>
+) -> Result<(Vec<Template>, Vec<Template>, &'a [u8]), TextFault>
     requires line { line ≤ 2 ^ 29 + 2 ^ 15 }
     requires states { states ≤ state_limit }
-    ensures value { Gives (λ x. ((rows_in x.0.items, rows_in x.1.items), x.2.now)) result (all_rows_at line states text.now) }
-    ensures rows { IfOk result (λ x. length x.0.items ≤ row_limit) }
-    ensures error_rows { IfOk result (λ x. length x.1.items ≤ row_limit) }
+    ensures value { Gives (λ x. ((templates_in x.0.items, templates_in x.1.items), x.2.now)) result (all_templates_at line states text.now) }
+    ensures templates { IfOk result (λ x. length x.0.items ≤ template_limit) }
+    ensures error_templates { IfOk result (λ x. length x.1.items ≤ template_limit) }
 {
-    let (counts, rest) = row_counts_line(states, line, text)?;
-    let RowCounts { rows, error_rows } = counts;
-    let (found, rest) = rows_at(alloc, line + 1, states, rows, rest)?;
-    let (found_errors, rest) = rows_at(alloc, line + 1 + rows, states, error_rows, rest)?;
+    let (counts, rest) = template_counts_line(states, line, text)?;
+    let TemplateCounts { templates, error_templates } = counts;
+    let (found, rest) = templates_at(alloc, line + 1, states, templates, rest)?;
+    let (found_errors, rest) = templates_at(alloc, line + 1 + templates, states, error_templates, rest)?;
     Ok((found, found_errors, rest))
 }
 
@@ -141,12 +141,12 @@ fn parts_at<'a>(
     let (steps, rest) = steps_at(alloc, line + 2, rest)?;
     let first = line + 3 + steps.len() as u32;
     let (starts, rest) = read_lines(&StartLines { states }, alloc, first, states, rest)?;
-    let (rows, error_rows, rest) = all_rows_at(alloc, first + states, states, rest)?;
-    let counts = RowCounts {
-        rows: rows.len() as u32,
-        error_rows: error_rows.len() as u32,
+    let (templates, error_templates, rest) = all_templates_at(alloc, first + states, states, rest)?;
+    let counts = TemplateCounts {
+        templates: templates.len() as u32,
+        error_templates: error_templates.len() as u32,
     };
-    let first = first + states + 1 + counts.rows + counts.error_rows;
+    let first = first + states + 1 + counts.templates + counts.error_templates;
     let variables = inputs + states;
     let nodes = NodeLines {
         variables,
@@ -159,8 +159,8 @@ fn parts_at<'a>(
         states,
         steps: Items::from_vec(steps),
         starts: Items::from_vec(starts),
-        rows: Items::from_vec(rows),
-        error_rows: Items::from_vec(error_rows),
+        templates: Items::from_vec(templates),
+        error_templates: Items::from_vec(error_templates),
         lines: Items::from_vec(lines),
     };
     Ok((certificate, rest))
@@ -188,10 +188,10 @@ pub fn certificate_lines(certificate: &Certificate) -> u32
 {
     let steps = certificate.steps.len() as u32;
     let starts = certificate.starts.len() as u32;
-    let rows = certificate.rows.len() as u32;
-    let error_rows = certificate.error_rows.len() as u32;
+    let templates = certificate.templates.len() as u32;
+    let error_templates = certificate.error_templates.len() as u32;
     let lines = certificate.lines.len() as u32;
-    4 + steps + starts + rows + error_rows + lines
+    4 + steps + starts + templates + error_templates + lines
 }
 
 /// The certificate that the text spells, or the first fault.

@@ -1,24 +1,24 @@
 //! Reading the lines of a certificate, each from its fields.
 //!
 //! A reader of a line reads its word, its fields from left to right, and that no field is left. The trap: what a line may
-//! be depends on where it stands, so that a reader of rows and of nodes is told how many there are.
+//! be depends on where it stands, so that a reader of templates and of nodes is told how many there are.
 
 ghost use Rattle.std.specs.Prelude.{◌≡◌, ◌<◌, ◌≤◌, ◌+◌, IfOk};
-ghost use Rattle.fx_model.specs.Limits.{state_limit, row_limit, step_limit};
+ghost use Rattle.fx_model.specs.Limits.{state_limit, template_limit, step_limit};
 ghost use Rattle.fx_step.specs.StepView.{step_view};
 ghost use Rattle.fx_inequalities.specs.LawfulCertificate.{unit_vector};
 ghost use Rattle.fx_text.specs.Reading.{Reads, ReadsAll, interval_at};
 ghost use Rattle.fx_text.specs.Lines.{GivesLine};
-ghost use Rattle.fx_cert.specs.CertificateView.{box_of, row_view, form_view, line_view};
-ghost use Rattle.fx_cert_reader.specs.CountsView.{certificate_sizes_of, row_counts_of, AreCertificateSizes, AreRowCounts};
-ghost use Rattle.fx_cert_reader.specs.LineReading.{certificate_headline_at, certificate_sizes_at, step_count_at, step_at, start_at, row_counts_at, box_row_at, row_at, plain_at, form_at, formed_at, node_at};
+ghost use Rattle.fx_cert.specs.CertificateView.{box_of, template_view, form_view, line_view};
+ghost use Rattle.fx_cert_reader.specs.CountsView.{certificate_sizes_of, template_counts_of, AreCertificateSizes, AreTemplateCounts};
+ghost use Rattle.fx_cert_reader.specs.LineReading.{certificate_headline_at, certificate_sizes_at, step_count_at, step_at, start_at, template_counts_at, box_template_at, template_at, plain_at, form_at, formed_at, node_at};
 
 use crate::path::path;
 use crate::share::{shares, shares_if_any};
-use fx_cert::{Form, NodeLine, Row, StartBox, unit_vector};
+use fx_cert::{Form, NodeLine, StartBox, Template, unit_vector};
 use fx_expr::Items;
 use fx_interval::Interval;
-use fx_num::{INPUT_LIMIT, NODE_LIMIT, PLACE_END, ROW_LIMIT, RULE_COUNT, STATE_LIMIT, STEP_LIMIT};
+use fx_num::{INPUT_LIMIT, NODE_LIMIT, PLACE_END, RULE_COUNT, STATE_LIMIT, STEP_LIMIT, TEMPLATE_LIMIT};
 use fx_step::Step;
 use fx_text::{
     Fields, TextKind, count, dyadic, dyadics, ended, interval as ends, place, small, word,
@@ -33,11 +33,11 @@ pub struct CertificateSizes {
     pub count: u32,
 }
 
-/// The counts of rows and error rows.
+/// The counts of templates and error templates.
 #[derive(Clone, Copy)]
-pub struct RowCounts {
-    pub rows: u32,
-    pub error_rows: u32,
+pub struct TemplateCounts {
+    pub templates: u32,
+    pub error_templates: u32,
 }
 
 /// `fixd certificate 1`.
@@ -118,61 +118,61 @@ pub fn read_start(fields: &mut Fields<'_>) -> Result<StartBox, TextKind>
 }
 
 /// `rows R E`, with at least one of either for each state.
-#[tactic(auto, unfolding(crate::specs::LineReading::row_counts_at))]
-pub fn read_row_counts(states: u32, fields: &mut Fields<'_>) -> Result<RowCounts, TextKind>
-    ensures value { ReadsAll row_counts_of result (row_counts_at states fields.old) }
-    ensures range { IfOk result (λ s. AreRowCounts states (row_counts_of s)) }
+#[tactic(auto, unfolding(crate::specs::LineReading::template_counts_at))]
+pub fn read_template_counts(states: u32, fields: &mut Fields<'_>) -> Result<TemplateCounts, TextKind>
+    ensures value { ReadsAll template_counts_of result (template_counts_at states fields.old) }
+    ensures range { IfOk result (λ s. AreTemplateCounts states (template_counts_of s)) }
 {
     word(fields, b"rows")?;
-    let rows = count(fields, states, ROW_LIMIT)?;
-    let error_rows = count(fields, states, ROW_LIMIT)?;
+    let templates = count(fields, states, TEMPLATE_LIMIT)?;
+    let error_templates = count(fields, states, TEMPLATE_LIMIT)?;
     ended(fields)?;
-    Ok(RowCounts { rows, error_rows })
+    Ok(TemplateCounts { templates, error_templates })
 }
 
-/// `box LO HI SHARES`, the unit row `i` among `end` rows.
-#[tactic(auto, unfolding(crate::specs::LineReading::box_row_at))]
+/// `box LO HI SHARES`, the unit template `i` among `end` templates.
+#[tactic(auto, unfolding(crate::specs::LineReading::box_template_at))]
 pub fn read_box(
     alloc: Global,
     states: u32,
     end: u32,
     i: u32,
     fields: &mut Fields<'_>,
-) -> Result<Row, TextKind>
+) -> Result<Template, TextKind>
     requires states { states ≤ state_limit }
-    requires end { end ≤ row_limit }
+    requires end { end ≤ template_limit }
     requires place { i < states }
-    ensures { GivesLine row_view result (box_row_at states end i fields.old) }
+    ensures { GivesLine template_view result (box_template_at states end i fields.old) }
 {
     word(fields, b"box")?;
     let bound = interval(fields)?;
     let shares = shares(alloc, fields, end)?;
     ended(fields)?;
     let coefs = unit_vector(alloc, states, i)?;
-    Ok(Row {
+    Ok(Template {
         coefs,
         bound,
         shares,
     })
 }
 
-/// `row C1 to CK LO HI SHARES`, among `end` rows.
-#[tactic(auto, unfolding(crate::specs::LineReading::row_at))]
-pub fn read_row(
+/// `row C1 to CK LO HI SHARES`, among `end` templates.
+#[tactic(auto, unfolding(crate::specs::LineReading::template_at))]
+pub fn read_template(
     alloc: Global,
     states: u32,
     end: u32,
     fields: &mut Fields<'_>,
-) -> Result<Row, TextKind>
-    requires { end ≤ row_limit }
-    ensures { GivesLine row_view result (row_at states end fields.old) }
+) -> Result<Template, TextKind>
+    requires { end ≤ template_limit }
+    ensures { GivesLine template_view result (template_at states end fields.old) }
 {
     word(fields, b"row")?;
     let coefs = Items::from_vec(dyadics(alloc, fields, states)?);
     let bound = interval(fields)?;
     let shares = shares(alloc, fields, end)?;
     ended(fields)?;
-    Ok(Row {
+    Ok(Template {
         coefs,
         bound,
         shares,
@@ -199,19 +199,19 @@ fn read_plain(fields: &mut Fields<'_>) -> Result<NodeLine, TextKind>
 fn read_form(
     alloc: Global,
     variables: u32,
-    counts: RowCounts,
+    counts: TemplateCounts,
     fields: &mut Fields<'_>,
 ) -> Result<Form, TextKind>
-    requires { AreRowCounts 0 (row_counts_of counts) }
-    ensures { GivesLine form_view result (form_at variables counts.rows counts.error_rows fields.old) }
+    requires { AreTemplateCounts 0 (template_counts_of counts) }
+    ensures { GivesLine form_view result (form_at variables counts.templates counts.error_templates fields.old) }
 {
     let centre_a = dyadic(fields)?;
     let centre_b = dyadic(fields)?;
     let coefs = Items::from_vec(dyadics(alloc, fields, variables)?);
     let rest = interval(fields)?;
     let error_rest = interval(fields)?;
-    let range_by = shares_if_any(alloc, fields, counts.rows)?;
-    let error_by = shares_if_any(alloc, fields, counts.error_rows)?;
+    let range_by = shares_if_any(alloc, fields, counts.templates)?;
+    let error_by = shares_if_any(alloc, fields, counts.error_templates)?;
     ended(fields)?;
     Ok(Form {
         centre_a,
@@ -229,11 +229,11 @@ fn read_form(
 fn read_formed(
     alloc: Global,
     variables: u32,
-    counts: RowCounts,
+    counts: TemplateCounts,
     fields: &mut Fields<'_>,
 ) -> Result<NodeLine, TextKind>
-    requires { AreRowCounts 0 (row_counts_of counts) }
-    ensures { GivesLine line_view result (formed_at variables counts.rows counts.error_rows fields.old) }
+    requires { AreTemplateCounts 0 (template_counts_of counts) }
+    ensures { GivesLine line_view result (formed_at variables counts.templates counts.error_templates fields.old) }
 {
     let range = interval(fields)?;
     let error = interval(fields)?;
@@ -250,12 +250,12 @@ fn read_formed(
 pub fn read_node(
     alloc: Global,
     variables: u32,
-    counts: RowCounts,
+    counts: TemplateCounts,
     n: u32,
     fields: &mut Fields<'_>,
 ) -> Result<NodeLine, TextKind>
-    requires { AreRowCounts 0 (row_counts_of counts) }
-    ensures { GivesLine line_view result (node_at variables counts.rows counts.error_rows n fields.old) }
+    requires { AreTemplateCounts 0 (template_counts_of counts) }
+    ensures { GivesLine line_view result (node_at variables counts.templates counts.error_templates n fields.old) }
 {
     let kind = fields.next().ok_or(TextKind::BadLine)?;
     if kind == b"plain".as_slice() {

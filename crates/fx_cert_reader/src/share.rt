@@ -1,11 +1,11 @@
-//! Reading shares of rows.
+//! Reading shares of templates.
 //!
-//! Rows rise and are below an end, so a count needs no limit of its own: past the last row nothing is read. What is kept
-//! of a count is one more than there are rows, so that a hostile count costs nothing.
+//! Templates rise and are below an end, so a count needs no limit of its own: past the last template nothing is read. What is
+//! kept of a count is one more than there are templates, so that a hostile count costs nothing.
 
 ghost use Rattle.std.specs.Prelude.{◌≡◌, ◌<◌, ◌≤◌, IfOk};
 ghost use Rattle.std.specs.Option.{option_map};
-ghost use Rattle.fx_model.specs.Limits.{row_limit};
+ghost use Rattle.fx_model.specs.Limits.{template_limit};
 ghost use Rattle.fx_text.specs.Reading.{Reads};
 ghost use Rattle.fx_text.specs.Lines.{GivesFields};
 ghost use Rattle.fx_text.specs.Many.{many};
@@ -33,35 +33,35 @@ fn size_up_to(fields: &mut Fields<'_>, limit: u32) -> Result<u32, TextKind>
     Ok(value as u32)
 }
 
-/// A share of a row from `least` on and below `end`.
+/// A share of a template from `least` on and below `end`.
 #[tactic(auto, unfolding(crate::specs::FieldReading::share_at))]
 fn share(fields: &mut Fields<'_>, end: u32, least: u32) -> Result<Share, TextKind>
     ensures value { Reads share_of result fields.new (share_at end least fields.old) }
-    ensures row { IfOk result (λ s. s.row < end) }
+    ensures template { IfOk result (λ s. s.template < end) }
 {
-    let row = number(fields, i64::from(least), i64::from(end) - 1)?;
+    let template = number(fields, i64::from(least), i64::from(end) - 1)?;
     let times = dyadic(fields)?;
     Ok(Share {
-        row: row as u32,
+        template: template as u32,
         times,
     })
 }
 
-/// So many shares of rows below `end`.
+/// So many shares of templates below `end`.
 fn shares_of_count(
     alloc: Global,
     fields: &mut Fields<'_>,
     end: u32,
     count: u32,
 ) -> Result<Vec<Share>, TextKind>
-    requires { end ≤ row_limit }
+    requires { end ≤ template_limit }
     ensures { GivesFields (λ v. shares_of v.items) result fields.new (many (share_at end) above count 0 fields.old) }
 {
     let mut found = Vec::new(alloc);
     let mut least = 0;
     for _ in 0..count {
         let next = share(fields, end, least)?;
-        least = next.row + 1;
+        least = next.template + 1;
         found.push(next)?;
     }
     Ok(found)
@@ -69,7 +69,7 @@ fn shares_of_count(
 
 #[tactic(auto, unfolding(crate::specs::FieldReading::few_shares_at))]
 fn few_shares(alloc: Global, fields: &mut Fields<'_>, end: u32) -> Result<Items<Share>, TextKind>
-    requires { end ≤ row_limit }
+    requires { end ≤ template_limit }
     ensures { GivesFields shares_of result fields.new (few_shares_at end fields.old) }
 {
     let count = size_up_to(fields, end + 1)?;
@@ -77,9 +77,9 @@ fn few_shares(alloc: Global, fields: &mut Fields<'_>, end: u32) -> Result<Items<
     Ok(Items::from_vec(found))
 }
 
-/// A count, and so many shares of rows below `end`, which rise.
+/// A count, and so many shares of templates below `end`, which rise.
 pub fn shares(alloc: Global, fields: &mut Fields<'_>, end: u32) -> Result<Items<Share>, TextKind>
-    requires { end ≤ row_limit }
+    requires { end ≤ template_limit }
     ensures { GivesFields shares_of result fields.new (shares_at end fields.old) }
 {
     few_shares(alloc, fields, end)
@@ -108,21 +108,21 @@ fn some_shares(
     fields: &mut Fields<'_>,
     end: u32,
 ) -> Result<Option<Items<Share>>, TextKind>
-    requires { end ≤ row_limit }
+    requires { end ≤ template_limit }
     ensures { GivesFields (option_map shares_of) result fields.new (some_shares_at end fields.old) }
 {
     let found = shares(alloc, fields, end)?;
     Ok(Some(found))
 }
 
-/// A minus, or shares of rows below `end`.
+/// A minus, or shares of templates below `end`.
 #[tactic(auto, unfolding(crate::specs::FieldReading::by_at))]
 pub fn shares_if_any(
     alloc: Global,
     fields: &mut Fields<'_>,
     end: u32,
 ) -> Result<Option<Items<Share>>, TextKind>
-    requires { end ≤ row_limit }
+    requires { end ≤ template_limit }
     ensures { GivesFields (option_map shares_of) result fields.new (by_at end fields.old) }
 {
     if is_minus(fields) {

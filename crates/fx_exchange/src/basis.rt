@@ -1,12 +1,13 @@
-//! Taking a row apart by others at a small cost: rows of a basis are exchanged one at a time, from the unit rows on.
+//! Taking a template apart by others at a small cost: templates of a basis are exchanged one at a time, from the unit
+//! templates on.
 //!
-//! What the shares leave of a row goes to the unit rows, so that nothing rests on how accurate this is, and stopping at
-//! any time is lawful. Entries are whole with 40 binary places, in coordinates in which each row costs 1.
+//! What the shares leave of a template goes to the unit templates, so that nothing rests on how accurate this is, and
+//! stopping at any time is lawful. Entries are whole with 40 binary places, in coordinates in which each template costs 1.
 
 use crate::budget::Budget;
 use fx_cert::Share;
 use fx_num::{Memory, bits, floor_shift, left_fits};
-use fx_reach::{PLACES, Pool, product, quotient, share_of, unit_cost, unit_row};
+use fx_reach::{PLACES, Pool, product, quotient, share_of, unit_cost, unit_vector};
 use std::alloc::Global;
 
 /// How many binary places entries have.
@@ -15,32 +16,32 @@ const EXCHANGE_PLACES: u32 = 40;
 /// One.
 const ONE: i128 = 1 << EXCHANGE_PLACES;
 
-/// The rows of a pool in coordinates in which each costs 1; rows that would be too long are none.
+/// The templates of a pool in coordinates in which each costs 1; templates that would be too long are none.
 #[derive(Debug, Drop)]
-pub struct ScaledRows<'a> {
+pub struct ScaledTemplates<'a> {
     pool: &'a Pool,
-    /// What the unit rows cost.
+    /// What the unit templates cost.
     costs: Vec<i128>,
-    rows: Vec<Option<Vec<i128>>>,
+    templates: Vec<Option<Vec<i128>>>,
 }
 
-/// A basis, the inverse of its matrix, and how often each of its rows is taken.
+/// A basis, the inverse of its matrix, and how often each of its templates is taken.
 #[derive(Debug, Drop)]
 struct Basis {
     states: usize,
-    rows: Vec<(usize, i128)>,
+    templates: Vec<(usize, i128)>,
     inverse: Vec<Vec<i128>>,
     times: Vec<i128>,
 }
 
-/// What a row takes apart to, and what that costs.
+/// What a template takes apart to, and what that costs.
 #[derive(Debug, Drop)]
 pub struct Exchanged {
     pub cost: i128,
     pub shares: Vec<Share>,
 }
 
-/// Entry `j` of a row, scaled by the costs of the state and of the row.
+/// Entry `j` of a template, scaled by the costs of the state and of the template.
 fn scaled_entry(entry: i128, state_cost: i128, cost: i128) -> Option<i128> {
     let z = entry.checked_mul(state_cost)?;
     let moved = if bits(z.unsigned_abs()).saturating_add(EXCHANGE_PLACES) < 127 {
@@ -55,15 +56,15 @@ fn scaled_entry(entry: i128, state_cost: i128, cost: i128) -> Option<i128> {
     Some(entry)
 }
 
-/// A row of this cost in the scaled coordinates, where the unit rows have these costs.
-fn scaled_row(
+/// A template of this cost in the scaled coordinates, where the unit templates have these costs.
+fn scaled_template(
     alloc: Global,
-    row: &[i128],
+    template: &[i128],
     costs: &[i128],
     cost: i128,
 ) -> Result<Option<Vec<i128>>, Memory> {
     let mut scaled = Vec::new(alloc);
-    for (entry, state_cost) in row.iter().zip(costs) {
+    for (entry, state_cost) in template.iter().zip(costs) {
         match scaled_entry(*entry, *state_cost, cost) {
             Some(entry) => scaled.push(entry)?,
             None => return Ok(None),
@@ -72,29 +73,29 @@ fn scaled_row(
     Ok(Some(scaled))
 }
 
-/// What the unit rows of a pool cost.
+/// What the unit templates of a pool cost.
 fn unit_costs(alloc: Global, pool: &Pool) -> Result<Vec<i128>, Memory> {
     let mut costs = Vec::new(alloc);
-    for j in 0..pool.rows.states {
+    for j in 0..pool.templates.states {
         costs.push(pool.cost(j))?;
     }
     Ok(costs)
 }
 
-impl<'a> ScaledRows<'a> {
-    /// The rows of a pool behind its unit rows.
-    pub fn of(alloc: Global, pool: &'a Pool) -> Result<ScaledRows<'a>, Memory> {
+impl<'a> ScaledTemplates<'a> {
+    /// The templates of a pool behind its unit templates.
+    pub fn of(alloc: Global, pool: &'a Pool) -> Result<ScaledTemplates<'a>, Memory> {
         let costs = unit_costs(alloc, pool)?;
-        let mut rows = Vec::new(alloc);
-        for i in pool.rows.states..pool.rows.len() {
-            rows.push(scaled_row(alloc, pool.rows.row(i), &costs, pool.cost(i))?)?;
+        let mut templates = Vec::new(alloc);
+        for i in pool.templates.states..pool.templates.len() {
+            templates.push(scaled_template(alloc, pool.templates.template(i), &costs, pool.cost(i))?)?;
         }
-        Ok(ScaledRows { pool, costs, rows })
+        Ok(ScaledTemplates { pool, costs, templates })
     }
 
-    /// How many states the rows are of.
+    /// How many states the templates are of.
     pub fn states(&self) -> usize {
-        self.pool.rows.states
+        self.pool.templates.states
     }
 }
 
@@ -109,20 +110,20 @@ fn dot(a: &[i128], b: &[i128]) -> Option<i128> {
     Some(floor_shift(total, EXCHANGE_PLACES))
 }
 
-/// A row to come into the basis, with its sign and how much it gains.
+/// A template to come into the basis, with its sign and how much it gains.
 #[derive(Clone, Copy, Debug)]
 struct Entering {
-    row: usize,
+    template: usize,
     sign: i128,
     gain: i128,
 }
 
 impl Entering {
-    /// The better one of this and a row that gains so much.
-    fn or(self, row: usize, gain: i128) -> Entering {
+    /// The better one of this and a template that gains so much.
+    fn or(self, template: usize, gain: i128) -> Entering {
         if gain.unsigned_abs() > self.gain.unsigned_abs() {
             Entering {
-                row,
+                template,
                 sign: if gain > 0 { 1 } else { -1 },
                 gain,
             }
@@ -133,21 +134,21 @@ impl Entering {
 }
 
 impl Basis {
-    /// The unit rows, with the signs of a row.
-    fn units(alloc: Global, row: &[i128]) -> Result<Basis, Memory> {
-        let states = row.len();
+    /// The unit templates, with the signs of a template.
+    fn units(alloc: Global, template: &[i128]) -> Result<Basis, Memory> {
+        let states = template.len();
         let mut basis = Basis {
             states,
-            rows: Vec::new(alloc),
+            templates: Vec::new(alloc),
             inverse: Vec::new(alloc),
             times: Vec::new(alloc),
         };
         for j in 0..states {
-            let sign = if row[j] >= 0 { 1 } else { -1 };
-            basis.rows.push((j, sign))?;
+            let sign = if template[j] >= 0 { 1 } else { -1 };
+            basis.templates.push((j, sign))?;
             let entry = if sign < 0 { -ONE } else { ONE };
-            basis.inverse.push(unit_row(alloc, states, j, entry)?)?;
-            basis.times.push(row[j].saturating_abs())?;
+            basis.inverse.push(unit_vector(alloc, states, j, entry)?)?;
+            basis.times.push(template[j].saturating_abs())?;
         }
         Ok(basis)
     }
@@ -161,30 +162,30 @@ impl Basis {
         Ok(sums)
     }
 
-    /// The row that gains most.
-    fn entering(&self, scaled: &ScaledRows<'_>, worth: &[i128]) -> Option<Entering> {
+    /// The template that gains most.
+    fn entering(&self, scaled: &ScaledTemplates<'_>, worth: &[i128]) -> Option<Entering> {
         let start = ONE + (ONE >> 12);
         let mut best = Entering {
-            row: usize::MAX,
+            template: usize::MAX,
             sign: 1,
             gain: start,
         };
         for j in 0..worth.len() {
             best = best.or(j, worth[j]);
         }
-        best = best_row(best, scaled, worth);
-        if best.row == usize::MAX {
+        best = best_template(best, scaled, worth);
+        if best.template == usize::MAX {
             None
         } else {
             Some(best)
         }
     }
 
-    /// The entering row in terms of the basis.
-    fn column(&self, alloc: Global, row: &[i128], sign: i128) -> Result<Option<Vec<i128>>, Memory> {
+    /// The entering template in terms of the basis.
+    fn column(&self, alloc: Global, template: &[i128], sign: i128) -> Result<Option<Vec<i128>>, Memory> {
         let mut column = Vec::new(alloc);
         for own in &self.inverse {
-            match dot(own, row) {
+            match dot(own, template) {
                 Some(entry) => column.push(entry.saturating_mul(sign))?,
                 None => return Ok(None),
             }
@@ -192,7 +193,7 @@ impl Basis {
         Ok(Some(column))
     }
 
-    /// The row of the basis that is used up first.
+    /// The template of the basis that is used up first.
     fn leaving(&self, column: &[i128]) -> Option<usize> {
         let mut best = None;
         for a in 0..column.len() {
@@ -203,7 +204,7 @@ impl Basis {
         best
     }
 
-    /// Whether row `a` is used up before another, or at about the same time with a greater pivot: a small one would make
+    /// Whether template `a` is used up before another, or at about the same time with a greater pivot: a small one would make
     /// the inverse's numbers long.
     fn is_used_before(&self, a: usize, best: Option<usize>, column: &[i128]) -> bool {
         let Some(b) = best else {
@@ -266,7 +267,7 @@ impl Basis {
         Some(())
     }
 
-    /// Exchanges the leaving row for the entering one. None where a number gets too long.
+    /// Exchanges the leaving template for the entering one. None where a number gets too long.
     fn exchange(
         &mut self,
         alloc: Global,
@@ -291,8 +292,8 @@ impl Basis {
         if let Some(slot) = self.inverse.get_mut(leave) {
             *slot = row;
         }
-        if let Some(slot) = self.rows.get_mut(leave) {
-            *slot = (entering.row, entering.sign);
+        if let Some(slot) = self.templates.get_mut(leave) {
+            *slot = (entering.template, entering.sign);
         }
         Ok(Some(()))
     }
@@ -305,13 +306,13 @@ fn add_row(sums: &mut Vec<i128>, row: &[i128]) {
     }
 }
 
-/// The better one of what is there and the pool's rows.
-fn best_row(first: Entering, scaled: &ScaledRows<'_>, worth: &[i128]) -> Entering {
+/// The better one of what is there and the pool's templates.
+fn best_template(first: Entering, scaled: &ScaledTemplates<'_>, worth: &[i128]) -> Entering {
     let mut best = first;
-    for i in 0..scaled.rows.len() {
-        if let Some(row) = &scaled.rows[i] {
-            if let Some(gain) = dot(worth, row) {
-                best = best.or(i.saturating_add(scaled.pool.rows.states), gain);
+    for i in 0..scaled.templates.len() {
+        if let Some(template) = &scaled.templates[i] {
+            if let Some(gain) = dot(worth, template) {
+                best = best.or(i.saturating_add(scaled.pool.templates.states), gain);
             }
         }
     }
@@ -335,14 +336,14 @@ fn reduce_row(own: &mut Vec<i128>, row: &[i128], c: i128) -> Option<()> {
     Some(())
 }
 
-/// The entering row itself.
-fn entering_row(alloc: Global, scaled: &ScaledRows<'_>, i: usize) -> Result<Vec<i128>, Memory> {
-    let states = scaled.pool.rows.states;
+/// The entering template itself.
+fn entering_template(alloc: Global, scaled: &ScaledTemplates<'_>, i: usize) -> Result<Vec<i128>, Memory> {
+    let states = scaled.pool.templates.states;
     if i < states {
-        return unit_row(alloc, states, i, ONE);
+        return unit_vector(alloc, states, i, ONE);
     }
-    match scaled.rows.get(i.saturating_sub(states)) {
-        Some(Some(row)) => Ok(Vec::from_slice(alloc, row)?),
+    match scaled.templates.get(i.saturating_sub(states)) {
+        Some(Some(template)) => Ok(Vec::from_slice(alloc, template)?),
         _ => Ok(vec![in alloc; 0_i128; states]?),
     }
 }
@@ -350,15 +351,15 @@ fn entering_row(alloc: Global, scaled: &ScaledRows<'_>, i: usize) -> Result<Vec<
 /// One exchange, and whether there was one.
 fn exchange_once(
     alloc: Global,
-    scaled: &ScaledRows<'_>,
+    scaled: &ScaledTemplates<'_>,
     basis: &mut Basis,
 ) -> Result<bool, Memory> {
     let worth = basis.worth(alloc)?;
     let Some(entering) = basis.entering(scaled, &worth) else {
         return Ok(false);
     };
-    let row = entering_row(alloc, scaled, entering.row)?;
-    let Some(column) = basis.column(alloc, &row, entering.sign)? else {
+    let template = entering_template(alloc, scaled, entering.template)?;
+    let Some(column) = basis.column(alloc, &template, entering.sign)? else {
         return Ok(false);
     };
     let Some(leave) = basis.leaving(&column) else {
@@ -367,24 +368,24 @@ fn exchange_once(
     Ok(basis.exchange(alloc, leave, entering, &column)?.is_some())
 }
 
-/// How often row `i` is taken, as a share.
+/// How often template `i` is taken, as a share.
 fn share_at(pool: &Pool, (i, sign): (usize, i128), time: i128, cost: i128) -> Option<Share> {
-    if i < pool.rows.states || time == 0 {
+    if i < pool.templates.states || time == 0 {
         return None;
     }
     let n = time.checked_mul(sign)?.checked_mul(cost)?;
     let d = left_fits(pool.cost(i), EXCHANGE_PLACES)?;
     Some(Share {
-        row: u32::try_from(i).ok()?,
+        template: u32::try_from(i).ok()?,
         times: share_of(n, d)?,
     })
 }
 
-/// Puts a share where its row stands in the order of rows.
+/// Puts a share where its template stands in the order of templates.
 fn insert(shares: &mut Vec<Share>, share: Share) -> Result<(), Memory> {
     let mut place: usize = 0;
     for other in shares.iter() {
-        if other.row < share.row {
+        if other.template < share.template {
             place = place.saturating_add(1);
         }
     }
@@ -397,15 +398,15 @@ fn insert(shares: &mut Vec<Share>, share: Share) -> Result<(), Memory> {
 /// The shares of a basis.
 fn shares_of(alloc: Global, pool: &Pool, basis: &Basis, cost: i128) -> Result<Vec<Share>, Memory> {
     let mut shares = Vec::new(alloc);
-    for (row, time) in basis.rows.iter().zip(&basis.times) {
-        if let Some(share) = share_at(pool, *row, *time, cost) {
+    for (template, time) in basis.templates.iter().zip(&basis.times) {
+        if let Some(share) = share_at(pool, *template, *time, cost) {
             insert(&mut shares, share)?;
         }
     }
     Ok(shares)
 }
 
-/// What all rows of a basis cost together.
+/// What all templates of a basis cost together.
 fn basis_cost(basis: &Basis, cost: i128) -> i128 {
     let mut total: i128 = 0;
     for time in &basis.times {
@@ -415,31 +416,31 @@ fn basis_cost(basis: &Basis, cost: i128) -> i128 {
 }
 
 /// How many products one exchange comes to, about.
-fn step_work(scaled: &ScaledRows<'_>) -> u64 {
-    let states = scaled.pool.rows.states;
-    let rows = scaled.rows.len().saturating_add(states.saturating_mul(4));
-    rows.saturating_mul(states) as u64
+fn step_work(scaled: &ScaledTemplates<'_>) -> u64 {
+    let states = scaled.pool.templates.states;
+    let templates = scaled.templates.len().saturating_add(states.saturating_mul(4));
+    templates.saturating_mul(states) as u64
 }
 
-/// Takes a row of 48 binary places apart, as well as the budget allows.
+/// Takes a template of 48 binary places apart, as well as the budget allows.
 pub fn exchange(
     alloc: Global,
-    scaled: &ScaledRows<'_>,
-    row: &[i128],
+    scaled: &ScaledTemplates<'_>,
+    template: &[i128],
     budget: &mut Budget,
 ) -> Result<Exchanged, Memory> {
     let none = Exchanged {
         cost: 0,
         shares: Vec::new(alloc),
     };
-    let Some(cost) = unit_cost(row, &scaled.costs) else {
+    let Some(cost) = unit_cost(template, &scaled.costs) else {
         return Ok(none);
     };
-    let Some(goal) = scaled_row(alloc, row, &scaled.costs, cost)? else {
+    let Some(goal) = scaled_template(alloc, template, &scaled.costs, cost)? else {
         return Ok(none);
     };
     let mut basis = Basis::units(alloc, &goal)?;
-    let turns = scaled.pool.rows.states.saturating_mul(8).saturating_add(16);
+    let turns = scaled.states().saturating_mul(8).saturating_add(16);
     let work = step_work(scaled);
     for _turn in 0..turns {
         if !budget.take(work) || !exchange_once(alloc, scaled, &mut basis)? {

@@ -1,11 +1,11 @@
-//! Rows taken apart by others: so many times each, and what they leave by the unit rows.
+//! Templates taken apart by others: so many times each, and what they leave by the unit templates.
 //!
-//! A row is a sum of other rows in many ways, and what bounds it is the cheapest of them. The simplex step finds a cheap
-//! one: rows of a basis are exchanged one at a time, from the unit rows on, until no row makes the sum cheaper, or the budget
-//! of the synthesis is spent: a dense matrix of many states would take minutes.
+//! A template is a sum of other templates in many ways, and what bounds it is the cheapest of them. The simplex step finds a
+//! cheap one: templates of a basis are exchanged one at a time, from the unit templates on, until no template makes the sum
+//! cheaper, or the budget of the synthesis is spent: a dense matrix of many states would take minutes.
 //!
 //! Nothing is promised of the shares: whoever takes them tests the bound that they show. Stopping at any time is lawful,
-//! since what the shares leave goes to the unit rows.
+//! since what the shares leave goes to the unit templates.
 #![tactic(auto)]
 
 mod apart;
@@ -13,5 +13,5 @@ mod basis;
 mod budget;
 
 pub use apart::{Apart, Combination, pool_of, take_apart};
-pub use basis::{Exchanged, ScaledRows, exchange};
+pub use basis::{Exchanged, ScaledTemplates, exchange};
 pub use budget::Budget;

@@ -115,12 +115,12 @@ fn checked(
     let starts = start_boxes(alloc, &values.starts, &settled.starts)?;
     let mut lines = plan_lines(alloc, task.nodes, &values.found, &settled.found)?;
     put_shares(&mut lines, shares);
-    let rows = settled.proposal.rows();
-    narrow_outputs(alloc, task.nodes, &mut lines, rows, &points, budget)?;
+    let templates = settled.proposal.templates();
+    narrow_outputs(alloc, task.nodes, &mut lines, templates, &points, budget)?;
     let kept = Kept {
         starts,
-        rows: values.proposal.into_rows(),
-        error_rows: settled.proposal.into_rows(),
+        templates: values.proposal.into_templates(),
+        error_templates: settled.proposal.into_templates(),
     };
     let written = write_with_states(
         alloc,
@@ -147,10 +147,10 @@ fn attempted(
     let Some(mut values) = settle(alloc, task, &OfValues, None, &mut own)? else {
         return Ok(None);
     };
-    let rows = values.proposal.rows();
+    let templates = values.proposal.templates();
     // of all that exchanges do this matters least, and it may be thousands of nodes
     let mut rest = own.half();
-    let shares = narrow_ranges(alloc, task, &mut values.found, rows, &mut rest)?;
+    let shares = narrow_ranges(alloc, task, &mut values.found, templates, &mut rest)?;
     budget.give_back(own);
     budget.give_back(rest);
     match backed_off(alloc, task, &values.found, budget)? {

@@ -1,6 +1,6 @@
-//! Boxes of states: where each is taken to lie, until its row says so.
+//! Boxes of states: where each is taken to lie, until its template says so.
 
-use fx_cert::Row;
+use fx_cert::Template;
 use fx_interval::Interval;
 use fx_num::{Memory, bits, floor_shift, left_fits};
 use fx_span::Span;
@@ -61,10 +61,10 @@ fn next_box(old: Span, bound: Interval, places: u32) -> Option<Span> {
     Some(wider.outward(e))
 }
 
-/// Whether each box holds the bound of its unit row.
-pub fn hold_all(boxes: &[Span], rows: &[Row]) -> bool {
-    for (outer, row) in boxes.iter().zip(rows) {
-        let held = match span_of(row.bound) {
+/// Whether each box holds the bound of its unit template.
+pub fn hold_all(boxes: &[Span], templates: &[Template]) -> bool {
+    for (outer, template) in boxes.iter().zip(templates) {
+        let held = match span_of(template.bound) {
             Some(bound) => holds(*outer, bound).unwrap_or(false),
             None => false,
         };
@@ -79,13 +79,13 @@ pub fn hold_all(boxes: &[Span], rows: &[Row]) -> bool {
 pub fn next_boxes(
     alloc: Global,
     boxes: &[Span],
-    rows: &[Row],
+    templates: &[Template],
     turn: u32,
 ) -> Result<Option<Vec<Span>>, Memory> {
     let places = 10_u32.saturating_sub(turn / 2);
     let mut next = Vec::new(alloc);
-    for (old, row) in boxes.iter().zip(rows) {
-        match next_box(*old, row.bound, places) {
+    for (old, template) in boxes.iter().zip(templates) {
+        match next_box(*old, template.bound, places) {
             Some(span) => next.push(span)?,
             None => return Ok(None),
         }

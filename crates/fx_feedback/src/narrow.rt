@@ -1,12 +1,12 @@
-//! Narrower ranges of all nodes, and errors of the outputs, by the rows that stand.
+//! Narrower ranges of all nodes, and errors of the outputs, by the templates that stand.
 //!
-//! What is made of several states lies closer than its states do one by one, where they cancel. The rows know that, and
+//! What is made of several states lies closer than its states do one by one, where they cancel. The templates know that, and
 //! an exchange finds which of them to take. Ranges are narrowed before there are points, in the order of the nodes.
 
 use crate::boxes::span_of;
 use crate::task::Task;
-use fx_cert::{Form, NodeLine, Row, Share};
-use fx_exchange::{Apart, Budget, Combination, ScaledRows, pool_of, take_apart};
+use fx_cert::{Form, NodeLine, Share, Template};
+use fx_exchange::{Apart, Budget, Combination, ScaledTemplates, pool_of, take_apart};
 use fx_expr::Items;
 use fx_flat::Nodes;
 use fx_interval::{Interval, outward};
@@ -23,16 +23,16 @@ const ERROR_PLACES: i32 = 16;
 /// and how many bits at most.
 const ERROR_BITS: i32 = 60;
 
-/// Where the inputs lie, and rows of the states, which are scaled once for all nodes.
+/// Where the inputs lie, and templates of the states, which are scaled once for all nodes.
 #[derive(Clone, Copy, Debug)]
 struct Standing<'a> {
     spans: &'a [Interval],
-    rows: &'a [Row],
-    scaled: &'a ScaledRows<'a>,
+    templates: &'a [Template],
+    scaled: &'a ScaledTemplates<'a>,
 }
 
 impl<'a> Standing<'a> {
-    /// A form's part in the variables and a rest, by rows.
+    /// A form's part in the variables and a rest, by templates.
     fn apart(
         self,
         alloc: Global,
@@ -45,7 +45,7 @@ impl<'a> Standing<'a> {
             spans: self.spans,
             rest,
         };
-        take_apart(alloc, &combination, self.rows, self.scaled, budget)
+        take_apart(alloc, &combination, self.templates, self.scaled, budget)
     }
 }
 
@@ -80,8 +80,8 @@ fn input_errors(alloc: Global, lines: &[NodeLine], inputs: u32) -> Result<Vec<In
     Ok(spans)
 }
 
-/// A form's error by rows, if that is narrower.
-fn error_by_rows(
+/// A form's error by templates, if that is narrower.
+fn error_by_templates(
     alloc: Global,
     form: &mut Form,
     error: Interval,
@@ -111,29 +111,29 @@ fn narrow_line(
 ) -> Result<(), Memory> {
     let error = line.error;
     if let Some(form) = &mut line.form {
-        if let Some(narrower) = error_by_rows(alloc, form, error, standing, point, budget)? {
+        if let Some(narrower) = error_by_templates(alloc, form, error, standing, point, budget)? {
             line.error = narrower;
         }
     }
     Ok(())
 }
 
-/// Narrows the errors of all outputs by the rows of errors.
+/// Narrows the errors of all outputs by the templates of errors.
 pub fn narrow_outputs(
     alloc: Global,
     nodes: &Nodes,
     lines: &mut Vec<NodeLine>,
-    rows: &[Row],
+    templates: &[Template],
     points: &[i32],
     budget: &mut Budget,
 ) -> Result<(), Memory> {
     let spans = input_errors(alloc, lines, nodes.inputs)?;
     let states = nodes.states as usize;
-    let pool = pool_of(alloc, rows, states)?;
+    let pool = pool_of(alloc, templates, states)?;
     let standing = Standing {
         spans: &spans,
-        rows,
-        scaled: &ScaledRows::of(alloc, &pool)?,
+        templates,
+        scaled: &ScaledTemplates::of(alloc, &pool)?,
     };
     let end = nodes.list.len().saturating_sub(states);
     let start = end.saturating_sub(nodes.outputs as usize);
@@ -146,10 +146,10 @@ pub fn narrow_outputs(
     Ok(())
 }
 
-/// Takes the bounds of the unit rows for the ranges of the states.
-fn narrow_states(ranges: &mut Ranges, rows: &[Row], inputs: usize, states: usize) {
-    for (k, row) in rows.iter().take(states).enumerate() {
-        if let Some(span) = span_of(row.bound) {
+/// Takes the bounds of the unit templates for the ranges of the states.
+fn narrow_states(ranges: &mut Ranges, templates: &[Template], inputs: usize, states: usize) {
+    for (k, template) in templates.iter().take(states).enumerate() {
+        if let Some(span) = span_of(template.bound) {
             ranges.put_span(inputs.saturating_add(k), span);
         }
     }
@@ -164,7 +164,7 @@ fn input_ranges(alloc: Global, lines: &[NodeLine], inputs: usize) -> Result<Vec<
     Ok(spans)
 }
 
-/// Whether a form takes something of several states: of one alone no row says more than its unit row.
+/// Whether a form takes something of several states: of one alone no template says more than its unit template.
 fn has_several_states(form: &Form, inputs: usize) -> bool {
     let mut has_one = false;
     for coef in form.coefs.as_slice().iter().skip(inputs) {
@@ -178,8 +178,8 @@ fn has_several_states(form: &Form, inputs: usize) -> bool {
     false
 }
 
-/// The range of a line by rows, and the shares that show it.
-fn range_by_rows(
+/// The range of a line by templates, and the shares that show it.
+fn range_by_templates(
     alloc: Global,
     task: Task<'_>,
     line: &NodeLine,
@@ -201,7 +201,7 @@ fn range_by_rows(
     }
 }
 
-/// Narrows the range of node `n`, and gives the shares that show it, if rows do.
+/// Narrows the range of node `n`, and gives the shares that show it, if templates do.
 fn narrow_node(
     alloc: Global,
     task: Task<'_>,
@@ -214,7 +214,7 @@ fn narrow_node(
     let Some(node) = task.nodes.list.as_slice().get(n) else {
         return Ok(None);
     };
-    match range_by_rows(alloc, task, line, standing, budget)? {
+    match range_by_templates(alloc, task, line, standing, budget)? {
         Some((span, shares)) => if ranges.narrow(n, node, Some(span)) {
             Ok(Some(shares))
         } else {
@@ -227,25 +227,25 @@ fn narrow_node(
     }
 }
 
-/// Narrows all ranges by these rows, and gives the shares that show them, node by node.
+/// Narrows all ranges by these templates, and gives the shares that show them, node by node.
 pub fn narrow_ranges(
     alloc: Global,
     task: Task<'_>,
     ranges: &mut Ranges,
-    rows: &[Row],
+    templates: &[Template],
     budget: &mut Budget,
 ) -> Result<Vec<Option<Items<Share>>>, Memory> {
     let inputs = task.nodes.inputs as usize;
     let states = task.nodes.states as usize;
     let lines = range_lines(alloc, task.nodes, ranges)?;
     let spans = input_ranges(alloc, &lines, inputs)?;
-    let pool = pool_of(alloc, rows, states)?;
+    let pool = pool_of(alloc, templates, states)?;
     let standing = Standing {
         spans: &spans,
-        rows,
-        scaled: &ScaledRows::of(alloc, &pool)?,
+        templates,
+        scaled: &ScaledTemplates::of(alloc, &pool)?,
     };
-    narrow_states(ranges, rows, inputs, states);
+    narrow_states(ranges, templates, inputs, states);
     let mut shares = Vec::new(alloc);
     for (n, line) in lines.iter().enumerate() {
         shares.push(narrow_node(alloc, task, ranges, n, line, standing, budget)?)?;

@@ -1,14 +1,14 @@
-//! Boxes that stand, by value or by error, with the rows that say so.
+//! Boxes that stand, by value or by error, with the templates that say so.
 //!
-//! Both are settled alike: something is found in boxes, which begin where the states start, rows are looked for, and a box
-//! that doesn't hold the bound of its row is widened. What is found in boxes is behind the trait `Settling`.
+//! Both are settled alike: something is found in boxes, which begin where the states start, templates are looked for, and a
+//! box that doesn't hold the bound of its template is widened. What is found in boxes is behind the trait `Settling`.
 
 use crate::boxes::{hold_all, intervals, next_boxes};
 use crate::task::Task;
 use fx_cert::{NodeLine, Side};
 use fx_exchange::Budget;
 use fx_num::Memory;
-use fx_proposal::{Proposal, propose_rows_within};
+use fx_proposal::{Proposal, propose_templates_within};
 use fx_reach::Transition;
 use fx_span::Span;
 use std::alloc::Global;
@@ -21,7 +21,7 @@ pub trait Settling {
     /// What is found in boxes.
     type Found: Drop;
 
-    /// Which bounds the rows have.
+    /// Which bounds the templates have.
     fn side(&self) -> Side;
 
     /// The points of all nodes, if they have words.
@@ -39,7 +39,7 @@ pub trait Settling {
     ) -> Result<Option<(Self::Found, Vec<NodeLine>)>, Memory>;
 }
 
-/// What was found in boxes that hold the bounds of their rows, and the rows.
+/// What was found in boxes that hold the bounds of their templates, and the templates.
 #[derive(Debug, Drop)]
 pub struct Settled<F> {
     pub starts: Vec<Span>,
@@ -64,7 +64,7 @@ fn starts_of<S: Settling>(
     Ok(Some(starts))
 }
 
-/// What is found in these boxes, and rows for it that hold the starts.
+/// What is found in these boxes, and templates for it that hold the starts.
 fn proposed_in<S: Settling>(
     alloc: Global,
     task: Task<'_>,
@@ -79,13 +79,13 @@ fn proposed_in<S: Settling>(
     };
     let starts = intervals(alloc, starts)?;
     let t = Transition::over(task.nodes, kind.points(), lines);
-    match propose_rows_within(alloc, &t, &kind.side(), Some(&starts), before, budget)? {
+    match propose_templates_within(alloc, &t, &kind.side(), Some(&starts), before, budget)? {
         Some(proposal) => Ok(Some((found, proposal))),
         None => Ok(None),
     }
 }
 
-/// What is found in boxes that hold the bounds of their rows, of which some are kept that were proposed before.
+/// What is found in boxes that hold the bounds of their templates, of which some are kept that were proposed before.
 pub fn settle<S: Settling>(
     alloc: Global,
     task: Task<'_>,
@@ -103,14 +103,14 @@ pub fn settle<S: Settling>(
         let Some((found, proposal)) = next else {
             return Ok(None);
         };
-        if hold_all(&boxes, proposal.rows()) {
+        if hold_all(&boxes, proposal.templates()) {
             return Ok(Some(Settled {
                 starts,
                 found,
                 proposal,
             }));
         }
-        match next_boxes(alloc, &boxes, proposal.rows(), turn)? {
+        match next_boxes(alloc, &boxes, proposal.templates(), turn)? {
             Some(next) => boxes = next,
             None => return Ok(None),
         }

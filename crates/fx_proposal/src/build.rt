@@ -1,23 +1,23 @@
-//! All rows of a try: chains one after the other, as long as there is place, and exchanges where they end early.
+//! All templates of a try: chains one after the other, as long as there is place, and exchanges where they end early.
 
 use fx_cert::Share;
-use fx_exchange::{Budget, ScaledRows, exchange};
-use fx_num::{Dyadic, Memory, ROW_LIMIT};
+use fx_exchange::{Budget, ScaledTemplates, exchange};
+use fx_num::{Dyadic, Memory, TEMPLATE_LIMIT};
 use fx_reach::{Ahead, Chain, Costs, Linear, Pool, find_closing, room, times_of, wanted_length};
 use std::alloc::Global;
 
-/// How many rows a certificate has at most, as lists count.
-const ROWS: usize = ROW_LIMIT as usize;
+/// How many templates a certificate has at most, as lists count.
+const TEMPLATES: usize = TEMPLATE_LIMIT as usize;
 
-/// A row whose image isn't kept: it is taken apart by an exchange.
+/// A template whose image isn't kept: it is taken apart by an exchange.
 #[derive(Clone, Copy, Debug)]
 struct End {
     chain: usize,
     time: usize,
-    row: usize,
+    template: usize,
 }
 
-/// A pool while chains are put into it, with the rows that wait for an exchange.
+/// A pool while chains are put into it, with the templates that wait for an exchange.
 #[derive(Debug, Drop)]
 struct Building<'a> {
     alloc: Global,
@@ -26,7 +26,7 @@ struct Building<'a> {
     ends: Vec<End>,
 }
 
-/// How many rows all chains want to have.
+/// How many templates all chains want to have.
 fn wanted_lengths(alloc: Global, chains: &[Chain], costs: &Costs) -> Result<Vec<usize>, Memory> {
     let mut lengths = Vec::new(alloc);
     for chain in chains {
@@ -35,7 +35,7 @@ fn wanted_lengths(alloc: Global, chains: &[Chain], costs: &Costs) -> Result<Vec<
     Ok(lengths)
 }
 
-/// How many rows chains of at most `cap` rows behind their first need.
+/// How many templates chains of at most `cap` templates behind their first need.
 fn needed(lengths: &[usize], cap: usize) -> usize {
     let mut count: usize = 0;
     for length in lengths {
@@ -44,10 +44,10 @@ fn needed(lengths: &[usize], cap: usize) -> usize {
     count
 }
 
-/// How many rows behind its first a chain may have, so that all find their place.
+/// How many templates behind its first a chain may have, so that all find their place.
 fn cap_of(lengths: &[usize], places: usize) -> usize {
     let mut cap = 0;
-    for longer in 0..ROWS {
+    for longer in 0..TEMPLATES {
         if needed(lengths, longer) > places {
             return cap;
         }
@@ -56,7 +56,7 @@ fn cap_of(lengths: &[usize], places: usize) -> usize {
     cap
 }
 
-/// How many chains don't begin with a unit row.
+/// How many chains don't begin with a unit template.
 fn free_chains(chains: &[Chain]) -> usize {
     let mut count: usize = 0;
     for chain in chains {
@@ -68,9 +68,9 @@ fn free_chains(chains: &[Chain]) -> usize {
 }
 
 /// One share, taken once.
-fn once(row: usize) -> Share {
+fn once(template: usize) -> Share {
     Share {
-        row: u32::try_from(row).unwrap_or(u32::MAX),
+        template: u32::try_from(template).unwrap_or(u32::MAX),
         times: Dyadic { m: 1, e: 0 },
     }
 }
@@ -83,7 +83,7 @@ fn have_gaps(times: &[usize]) -> bool {
     }
 }
 
-/// The room of the row at a time: in a chain with gaps it gets less.
+/// The room of the template at a time: in a chain with gaps it gets less.
 fn room_at(own: i128, time: usize, length: usize, has_gaps: bool) -> i128 {
     if !has_gaps {
         return own;
@@ -97,7 +97,7 @@ fn room_at(own: i128, time: usize, length: usize, has_gaps: bool) -> i128 {
 }
 
 impl<'a> Building<'a> {
-    /// No row yet.
+    /// No template yet.
     fn new(alloc: Global, linear: &Linear, costs: &'a Costs) -> Building<'a> {
         Building {
             alloc,
@@ -109,36 +109,36 @@ impl<'a> Building<'a> {
 
     /// The room of a chain.
     fn room(&self, ahead: &Ahead) -> i128 {
-        room(ahead.rows.width(0), self.costs.shift)
+        room(ahead.templates.width(0), self.costs.shift)
     }
 
-    /// Adds the unit rows.
+    /// Adds the unit templates.
     fn put_units(&mut self, chains: &[Chain]) -> Result<(), Memory> {
         for chain in chains {
             if let Some(k) = chain.state {
                 let own = self.room(&chain.ahead);
                 self.pool
-                    .push_unit(self.alloc, k, chain.ahead.rows.reach(0), own)?;
+                    .push_unit(self.alloc, k, chain.ahead.templates.reach(0), own)?;
             }
         }
         Ok(())
     }
 
-    /// Adds the row of a chain at a time, and gives its number.
-    fn put_row(&mut self, ahead: &Ahead, time: usize, own: i128) -> Result<usize, Memory> {
-        let reach = ahead.rows.reach(time);
-        self.pool.push_row(
+    /// Adds the template of a chain at a time, and gives its number.
+    fn put_template(&mut self, ahead: &Ahead, time: usize, own: i128) -> Result<usize, Memory> {
+        let reach = ahead.templates.reach(time);
+        self.pool.push_template(
             self.alloc,
-            ahead.rows.row(time),
-            ahead.rows.width(0),
+            ahead.templates.template(time),
+            ahead.templates.width(0),
             reach,
             own,
         )
     }
 
-    /// Adds the rows of a chain at these times, and gives the number of the last. Each is shown by the next, or waits for an
-    /// exchange where the next is left out.
-    fn put_rows(
+    /// Adds the templates of a chain at these times, and gives the number of the last. Each is shown by the next, or waits
+    /// for an exchange where the next is left out.
+    fn put_templates(
         &mut self,
         number: usize,
         chain: &Chain,
@@ -149,62 +149,62 @@ impl<'a> Building<'a> {
         let has_gaps = have_gaps(times);
         let mut last = match chain.state {
             Some(k) => k,
-            None => self.put_row(&chain.ahead, 0, room_at(own, 0, length, has_gaps))?,
+            None => self.put_template(&chain.ahead, 0, room_at(own, 0, length, has_gaps))?,
         };
         let mut before: usize = 0;
         for time in times.iter().skip(1) {
             let time = *time;
-            let row = self.put_row(&chain.ahead, time, room_at(own, time, length, has_gaps))?;
-            self.join(number, last, before, row, time)?;
-            last = row;
+            let template = self.put_template(&chain.ahead, time, room_at(own, time, length, has_gaps))?;
+            self.join(number, last, before, template, time)?;
+            last = template;
             before = time;
         }
         Ok(last)
     }
 
-    /// Shows a row by the next of its chain, if that is its image; else it waits for an exchange.
+    /// Shows a template by the next of its chain, if that is its image; else it waits for an exchange.
     fn join(
         &mut self,
         chain: usize,
-        row: usize,
+        template: usize,
         time: usize,
         next: usize,
         next_time: usize,
     ) -> Result<(), Memory> {
         let image = time.saturating_add(1);
         if image == next_time {
-            return self.pool.put_share(self.alloc, row, once(next));
+            return self.pool.put_share(self.alloc, template, once(next));
         }
         self.ends.push(End {
             chain,
             time: image,
-            row,
+            template,
         })?;
         Ok(())
     }
 
-    /// Closes a chain at its last row, which takes itself so often, or has it wait for an exchange of its image, which has
-    /// this time.
+    /// Closes a chain at its last template, which takes itself so often, or has it wait for an exchange of its image, which
+    /// has this time.
     fn close(
         &mut self,
         chain: usize,
         closing: Option<Dyadic>,
-        row: usize,
+        template: usize,
         time: usize,
     ) -> Result<(), Memory> {
         let Some(times) = closing else {
-            self.ends.push(End { chain, time, row })?;
+            self.ends.push(End { chain, time, template })?;
             return Ok(());
         };
         if times.m == 0 {
             return Ok(());
         }
-        let own = u32::try_from(row).unwrap_or(u32::MAX);
+        let own = u32::try_from(template).unwrap_or(u32::MAX);
         self.pool
-            .put_share(self.alloc, row, Share { row: own, times })
+            .put_share(self.alloc, template, Share { template: own, times })
     }
 
-    /// Adds a chain of at most so many rows. False where growing times don't suffice.
+    /// Adds a chain of at most so many templates. False where growing times don't suffice.
     fn put_chain(
         &mut self,
         number: usize,
@@ -218,7 +218,7 @@ impl<'a> Building<'a> {
         let Some(times) = kept else {
             return Ok(false);
         };
-        let last = self.put_rows(number, chain, length, &times)?;
+        let last = self.put_templates(number, chain, length, &times)?;
         let image = times.last().copied().unwrap_or(0).saturating_add(1);
         let closing = if image == length { closing } else { None };
         self.close(number, closing, last, image)?;
@@ -241,31 +241,31 @@ impl<'a> Building<'a> {
         Ok(true)
     }
 
-    /// The shares of all rows that wait for an exchange.
+    /// The shares of all templates that wait for an exchange.
     fn exchanged(&self, chains: &[Chain], budget: &mut Budget) -> Result<Vec<Vec<Share>>, Memory> {
-        let scaled = ScaledRows::of(self.alloc, &self.pool)?;
+        let scaled = ScaledTemplates::of(self.alloc, &self.pool)?;
         let mut shares = Vec::new(self.alloc);
         for end in &self.ends {
-            let row = match chains.get(end.chain) {
-                Some(chain) => chain.ahead.rows.row(end.time),
+            let template = match chains.get(end.chain) {
+                Some(chain) => chain.ahead.templates.template(end.time),
                 None => &[],
             };
-            shares.push(exchange(self.alloc, &scaled, row, budget)?.shares)?;
+            shares.push(exchange(self.alloc, &scaled, template, budget)?.shares)?;
         }
         Ok(shares)
     }
 
-    /// The pool, with these shares for the rows that waited.
+    /// The pool, with these shares for the templates that waited.
     fn finished(self, shares: Vec<Vec<Share>>) -> Pool {
         let mut pool = self.pool;
         for (end, own) in self.ends.iter().zip(shares) {
-            pool.put_shares(end.row, own);
+            pool.put_shares(end.template, own);
         }
         pool
     }
 }
 
-/// The rows of a try with this room; none where growing times don't suffice.
+/// The templates of a try with this room; none where growing times don't suffice.
 pub fn build(
     alloc: Global,
     chains: &[Chain],
@@ -275,7 +275,7 @@ pub fn build(
     budget: &mut Budget,
 ) -> Result<Option<Pool>, Memory> {
     let lengths = wanted_lengths(alloc, chains, costs)?;
-    let places = ROWS
+    let places = TEMPLATES
         .saturating_sub(linear.states)
         .saturating_sub(free_chains(chains));
     let most = cap_of(&lengths, places).saturating_add(1);

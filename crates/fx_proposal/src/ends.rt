@@ -4,7 +4,7 @@ use fx_num::Memory;
 use fx_reach::moved_down;
 use std::alloc::Global;
 
-/// Ends of a bound, whole at the power of two of its row.
+/// Ends of a bound, whole at the power of two of its template.
 #[derive(Clone, Copy, Debug)]
 pub struct Ends {
     pub lo: i128,

@@ -1,11 +1,11 @@
-//! What comes of a row in one step, as exact numbers: on each state, and by what drives it.
+//! What comes of a template in one step, as exact numbers: on each state, and by what drives it.
 
 use crate::ends::Ends;
 use fx_interval::Interval;
 use fx_num::{Dyadic, dadd, dsub};
 use fx_reach::{Linear, Pool, ceil_at, floor_at, plus_scaled, times};
 
-/// Coefficient `j` of what row `i` is of the next states.
+/// Coefficient `j` of what template `i` is of the next states.
 fn image_coef(linear: &Linear, pool: &Pool, i: usize, j: usize) -> Option<Dyadic> {
     let mut total = Dyadic::zero();
     for k in 0..linear.states {
@@ -17,7 +17,7 @@ fn image_coef(linear: &Linear, pool: &Pool, i: usize, j: usize) -> Option<Dyadic
     Some(total)
 }
 
-/// What the rests of the next states add to row `i`.
+/// What the rests of the next states add to template `i`.
 fn rests_of(linear: &Linear, pool: &Pool, i: usize) -> Option<Interval> {
     let mut total = Interval::zero();
     for (k, rest) in linear.rests.iter().enumerate() {
@@ -26,7 +26,7 @@ fn rests_of(linear: &Linear, pool: &Pool, i: usize) -> Option<Interval> {
     Some(total)
 }
 
-/// What drives row `i`.
+/// What drives template `i`.
 pub fn drive_of(linear: &Linear, pool: &Pool, i: usize) -> Option<Interval> {
     let mut total = rests_of(linear, pool, i)?;
     for (j, span) in linear.spans.iter().enumerate() {
@@ -35,11 +35,11 @@ pub fn drive_of(linear: &Linear, pool: &Pool, i: usize) -> Option<Interval> {
     Some(total)
 }
 
-/// What the shares leave of row `i`'s image at state `j`.
+/// What the shares leave of template `i`'s image at state `j`.
 pub fn left_coef(linear: &Linear, pool: &Pool, i: usize, j: usize) -> Option<Dyadic> {
     let mut left = image_coef(linear, pool, i, linear.inputs.checked_add(j)?)?;
     for share in pool.shares(i) {
-        let coef = pool.coef(share.row as usize, j);
+        let coef = pool.coef(share.template as usize, j);
         if coef.m != 0 {
             left = dsub(left, times(share.times, coef)?)?;
         }
@@ -47,7 +47,7 @@ pub fn left_coef(linear: &Linear, pool: &Pool, i: usize, j: usize) -> Option<Dya
     Some(left)
 }
 
-/// Where the row is at the start.
+/// Where the template is at the start.
 pub fn start_of(pool: &Pool, i: usize, starts: &[Interval], places: i32) -> Option<Ends> {
     let mut total = Interval::zero();
     for (k, start) in starts.iter().enumerate() {

@@ -1,4 +1,4 @@
-//! What a row is after one step, of the bounds of all rows.
+//! What a template is after one step, of the bounds of all templates.
 
 use crate::ends::Ends;
 use crate::image::{drive_of, left_coef, start_of};
@@ -7,38 +7,38 @@ use fx_num::{Dyadic, Memory, ceil_shift, dadd, dle, floor_shift, left_fits};
 use fx_reach::{Linear, Pool, ceil_at, floor_at};
 use std::alloc::Global;
 
-/// How many binary places a row's share in itself has.
+/// How many binary places a template's share in itself has.
 const OWN_PLACES: u32 = 40;
 
-/// So many times the bound of a row.
+/// So many times the bound of a template.
 #[derive(Clone, Copy, Debug)]
 struct Term {
-    row: usize,
+    template: usize,
     times: i128,
 }
 
-/// What a row is after one step.
+/// What a template is after one step.
 #[derive(Debug, Drop)]
 pub struct Left {
     terms: Vec<Term>,
     drive: Ends,
     /// The terms and the drive have so many places more than the bound.
     places: u32,
-    /// The row's share in itself, from below and from above.
+    /// The template's share in itself, from below and from above.
     own_down: i128,
     own_up: i128,
-    /// Where the row is at the start, if its bound has to hold that.
+    /// Where the template is at the start, if its bound has to hold that.
     pub start: Option<Ends>,
 }
 
-/// A term before it is whole: a row and how often it is taken.
+/// A term before it is whole: a template and how often it is taken.
 #[derive(Clone, Copy, Debug)]
 struct Taken {
-    row: usize,
+    template: usize,
     times: Dyadic,
 }
 
-/// All terms of row `i`: its shares, and what they leave on the unit rows.
+/// All terms of template `i`: its shares, and what they leave on the unit templates.
 fn terms_of(
     alloc: Global,
     linear: &Linear,
@@ -48,7 +48,7 @@ fn terms_of(
     let mut terms = Vec::new(alloc);
     for share in pool.shares(i) {
         terms.push(Taken {
-            row: share.row as usize,
+            template: share.template as usize,
             times: share.times,
         })?;
     }
@@ -69,7 +69,7 @@ fn put_left(
         match left_coef(linear, pool, i, j) {
             Some(coef) => if coef.m != 0 {
                 terms.push(Taken {
-                    row: j,
+                    template: j,
                     times: coef,
                 })?;
             },
@@ -79,11 +79,11 @@ fn put_left(
     Ok(Some(()))
 }
 
-/// How often row `i` is taken of itself, if that is below 1.
+/// How often template `i` is taken of itself, if that is below 1.
 fn own_of(terms: &[Taken], i: usize) -> Option<Dyadic> {
     let mut total = Dyadic::zero();
     for term in terms {
-        if term.row == i {
+        if term.template == i {
             total = dadd(total, term.times)?;
         }
     }
@@ -102,9 +102,9 @@ fn own_of(terms: &[Taken], i: usize) -> Option<Dyadic> {
 fn most_places(terms: &[Taken], places: &[i32], own: i32, without: Option<usize>) -> Option<i32> {
     let mut most = own.checked_add(8)?;
     for term in terms {
-        if Some(term.row) != without {
+        if Some(term.template) != without {
             let e = i32::try_from(term.times.e).ok()?;
-            most = most.max(e.checked_add(*places.get(term.row)?)?);
+            most = most.max(e.checked_add(*places.get(term.template)?)?);
         }
     }
     Some(most)
@@ -120,10 +120,10 @@ fn whole_terms(
 ) -> Result<Option<Vec<Term>>, Memory> {
     let mut wholes = Vec::new(alloc);
     for term in terms {
-        if Some(term.row) != without {
+        if Some(term.template) != without {
             match whole_times(*term, places, most) {
                 Some(times) => wholes.push(Term {
-                    row: term.row,
+                    template: term.template,
                     times,
                 })?,
                 None => return Ok(None),
@@ -135,11 +135,11 @@ fn whole_terms(
 
 /// How often a term's bound is taken, as a whole number.
 fn whole_times(term: Taken, places: &[i32], most: i32) -> Option<i128> {
-    let own = *places.get(term.row)?;
+    let own = *places.get(term.template)?;
     floor_at(term.times, most.checked_sub(own)?)
 }
 
-/// The left side of row `i`.
+/// The left side of template `i`.
 pub fn left_of(
     alloc: Global,
     linear: &Linear,
@@ -163,7 +163,7 @@ pub fn left_of(
     Ok(finished(linear, pool, i, wholes, own, own_places, most, starts))
 }
 
-/// The left side of row `i` of these terms.
+/// The left side of template `i` of these terms.
 fn finished(
     linear: &Linear,
     pool: &Pool,
@@ -193,7 +193,7 @@ fn finished(
     })
 }
 
-/// An end over what the row's share in itself leaves of 1, away from zero or toward it as is right for a lower end.
+/// An end over what the template's share in itself leaves of 1, away from zero or toward it as is right for a lower end.
 fn lower_over(lo: i128, down: i128, up: i128) -> Option<i128> {
     let share = if lo < 0 { up } else { down };
     let rest = (1_i128 << OWN_PLACES).checked_sub(share)?;
@@ -204,12 +204,12 @@ fn lower_over(lo: i128, down: i128, up: i128) -> Option<i128> {
 }
 
 impl Left {
-    /// Where the row lies after one step, with the start if there is one.
+    /// Where the template lies after one step, with the start if there is one.
     pub fn at(&self, bounds: &[Ends]) -> Option<Ends> {
         let mut lo = self.drive.lo;
         let mut hi = self.drive.hi;
         for term in &self.terms {
-            let bound = *bounds.get(term.row)?;
+            let bound = *bounds.get(term.template)?;
             let a = term.times.checked_mul(bound.lo)?;
             let b = term.times.checked_mul(bound.hi)?;
             lo = lo.checked_add(a.min(b))?;
@@ -218,7 +218,7 @@ impl Left {
         self.settled(floor_shift(lo, self.places), ceil_shift(hi, self.places))
     }
 
-    /// With the row's share in itself, and the start.
+    /// With the template's share in itself, and the start.
     fn settled(&self, lo: i128, hi: i128) -> Option<Ends> {
         let (lo, hi) = if self.own_up > 0 {
             let lo = lower_over(lo, self.own_down, self.own_up)?;

@@ -1,8 +1,8 @@
-//! Which rows to propose for a certificate of a function with states, and with which bounds.
+//! Which templates to propose for a certificate of a function with states, and with which bounds.
 //!
-//! Chains of images are built as long as there is place, closed on the unit rows, on themselves, or by an exchange of a
-//! few rows for others; then the bounds of all rows are solved for together, from their reaches outward until one step
-//! keeps them, and lowered again. Tries of rising room go on until one comes close to the reaches.
+//! Chains of images are built as long as there is place, closed on the unit templates, on themselves, or by an exchange of a
+//! few templates for others; then the bounds of all templates are solved for together, from their reaches outward until one
+//! step keeps them, and lowered again. Tries of rising room go on until one comes close to the reaches.
 //!
 //! Nothing is promised of what is proposed, and nothing rests on it: whoever takes it tests it.
 #![tactic(auto)]
@@ -16,4 +16,4 @@ mod propose;
 mod system;
 mod tries;
 
-pub use propose::{Proposal, propose_rows, propose_rows_within};
+pub use propose::{Proposal, propose_templates, propose_templates_within};

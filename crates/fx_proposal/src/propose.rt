@@ -1,10 +1,10 @@
-//! What is proposed: rows with their bounds, kept for steps that differ in what drives them alone.
+//! What is proposed: templates with their bounds, kept for steps that differ in what drives them alone.
 
 use crate::chains::{add_output_chains, unit_chains};
 use crate::ends::Ends;
 use crate::system::System;
 use crate::tries::{best_try, put_bounds};
-use fx_cert::{Row, Share, Side};
+use fx_cert::{Share, Side, Template};
 use fx_exchange::Budget;
 use fx_expr::Items;
 use fx_interval::Interval;
@@ -15,23 +15,23 @@ use std::alloc::Global;
 /// How many bits two linear parts have in common that count as one.
 const COMMON_BITS: u32 = 24;
 
-/// Rows that might be kept, with the step that they were worked out for.
+/// Templates that might be kept, with the step that they were worked out for.
 #[derive(Debug, Drop)]
 pub struct Proposal {
     linear: Linear,
     pool: Pool,
-    rows: Items<Row>,
+    templates: Items<Template>,
 }
 
 impl Proposal {
-    /// The rows, the unit rows first.
-    pub fn rows(&self) -> &[Row] {
-        self.rows.as_slice()
+    /// The templates, the unit templates first.
+    pub fn templates(&self) -> &[Template] {
+        self.templates.as_slice()
     }
 
-    /// The rows for good.
-    pub fn into_rows(self) -> Items<Row> {
-        self.rows
+    /// The templates for good.
+    pub fn into_templates(self) -> Items<Template> {
+        self.templates
     }
 
     /// Whether entry `place` of the linear part agrees with another step's, with the sizes of the states counted.
@@ -39,8 +39,8 @@ impl Proposal {
         let k = place.checked_div(linear.states).unwrap_or(0);
         let j = place.checked_rem(linear.states).unwrap_or(0);
         let difference = linear.entry(k, j).abs_diff(self.linear.entry(k, j));
-        let most = left_fits(self.pool.rows.width(k), COMMON_BITS).unwrap_or(i128::MAX);
-        difference.saturating_mul(self.pool.rows.width(j).unsigned_abs()) <= most.unsigned_abs()
+        let most = left_fits(self.pool.templates.width(k), COMMON_BITS).unwrap_or(i128::MAX);
+        difference.saturating_mul(self.pool.templates.width(j).unsigned_abs()) <= most.unsigned_abs()
     }
 
     /// Whether the linear part agrees with another step's.
@@ -50,10 +50,10 @@ impl Proposal {
                 return false;
             }
         }
-        linear.states == self.pool.rows.states
+        linear.states == self.pool.templates.states
     }
 
-    /// Takes the bounds that the same rows with the same shares have for another step. Whether some are found.
+    /// Takes the bounds that the same templates with the same shares have for another step. Whether some are found.
     fn adapt(
         &mut self,
         alloc: Global,
@@ -69,44 +69,44 @@ impl Proposal {
         if put_bounds(&mut self.pool, &system, &bounds).is_none() {
             return Ok(false);
         }
-        self.rows = rows_of(alloc, &self.pool, &system, &bounds)?;
+        self.templates = templates_of(alloc, &self.pool, &system, &bounds)?;
         Ok(true)
     }
 }
 
-/// The coefficients of a row.
-fn row_coefs(alloc: Global, pool: &Pool, i: usize) -> Result<Items<Dyadic>, Memory> {
+/// The coefficients of a template.
+fn template_coefs(alloc: Global, pool: &Pool, i: usize) -> Result<Items<Dyadic>, Memory> {
     let mut coefs = Vec::new(alloc);
-    for j in 0..pool.rows.states {
+    for j in 0..pool.templates.states {
         coefs.push(pool.coef(i, j))?;
     }
     Ok(Items::from_vec(coefs))
 }
 
-/// The shares of a row.
-fn row_shares(alloc: Global, pool: &Pool, i: usize) -> Result<Items<Share>, Memory> {
+/// The shares of a template.
+fn template_shares(alloc: Global, pool: &Pool, i: usize) -> Result<Items<Share>, Memory> {
     Ok(Items::from_vec(Vec::from_slice(alloc, pool.shares(i))?))
 }
 
-/// The rows of a pool with these bounds.
-fn rows_of(
+/// The templates of a pool with these bounds.
+fn templates_of(
     alloc: Global,
     pool: &Pool,
     system: &System,
     bounds: &[Ends],
-) -> Result<Items<Row>, Memory> {
-    let mut rows = Vec::new(alloc);
+) -> Result<Items<Template>, Memory> {
+    let mut templates = Vec::new(alloc);
     for (i, ends) in bounds.iter().enumerate() {
-        rows.push(Row {
-            coefs: row_coefs(alloc, pool, i)?,
+        templates.push(Template {
+            coefs: template_coefs(alloc, pool, i)?,
             bound: system.interval(i, *ends),
-            shares: row_shares(alloc, pool, i)?,
+            shares: template_shares(alloc, pool, i)?,
         })?;
     }
-    Ok(Items::from_vec(rows))
+    Ok(Items::from_vec(templates))
 }
 
-/// Rows looked for from the beginning.
+/// Templates looked for from the beginning.
 fn found(
     alloc: Global,
     t: &Transition,
@@ -121,30 +121,30 @@ fn found(
     let Some(solved) = best_try(alloc, &linear, &chains, starts, budget)? else {
         return Ok(None);
     };
-    let rows = rows_of(alloc, &solved.pool, &solved.system, &solved.bounds)?;
+    let templates = templates_of(alloc, &solved.pool, &solved.system, &solved.bounds)?;
     Ok(Some(Proposal {
         linear,
         pool: solved.pool,
-        rows,
+        templates,
     }))
 }
 
-/// Rows of the one kind that might be kept, and that hold the starts if some are given.
+/// Templates of the one kind that might be kept, and that hold the starts if some are given.
 ///
 /// What was proposed `before`, for a step of as many states, is kept where the linear part is the same: then only bounds
 /// are worked out anew.
-pub fn propose_rows(
+pub fn propose_templates(
     alloc: Global,
     t: &Transition,
     side: &Side,
     starts: Option<&[Interval]>,
     before: Option<Proposal>,
 ) -> Result<Option<Proposal>, Memory> {
-    propose_rows_within(alloc, t, side, starts, before, &mut Budget::whole())
+    propose_templates_within(alloc, t, side, starts, before, &mut Budget::whole())
 }
 
 /// The same, with no more work for exchanges than the budget allows.
-pub fn propose_rows_within(
+pub fn propose_templates_within(
     alloc: Global,
     t: &Transition,
     side: &Side,

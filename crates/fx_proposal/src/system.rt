@@ -1,6 +1,6 @@
-//! Bounds for rows with shares: from the guessed reaches, outward until a pass proves them, and lowered again.
+//! Bounds for templates with shares: from the guessed reaches, outward until a pass proves them, and lowered again.
 //!
-//! Each row's bound is whole at a power of two of its own, so that products of coefficients and bounds fit 128 bits
+//! Each template's bound is whole at a power of two of its own, so that products of coefficients and bounds fit 128 bits
 //! whatever the scales of the states are.
 
 use crate::ends::{Ends, widened};
@@ -13,7 +13,7 @@ use std::alloc::Global;
 /// How many bits a bound has about.
 const BOUND_BITS: i64 = 36;
 
-/// The left sides of all rows, and how many places their bounds have.
+/// The left sides of all templates, and how many places their bounds have.
 #[derive(Debug, Drop)]
 pub struct System {
     lefts: Vec<Left>,
@@ -21,11 +21,11 @@ pub struct System {
     states: usize,
 }
 
-/// How many places the bounds have, row by row.
+/// How many places the bounds have, template by template.
 fn bound_places(alloc: Global, pool: &Pool) -> Result<Vec<i32>, Memory> {
     let mut places = Vec::new(alloc);
-    for i in 0..pool.rows.len() {
-        let length = i64::from(bits(pool.rows.width(i).max(1).unsigned_abs()));
+    for i in 0..pool.templates.len() {
+        let length = i64::from(bits(pool.templates.width(i).max(1).unsigned_abs()));
         let e = BOUND_BITS
             .saturating_sub(length)
             .saturating_add(i64::from(pool.scale));
@@ -35,7 +35,7 @@ fn bound_places(alloc: Global, pool: &Pool) -> Result<Vec<i32>, Memory> {
 }
 
 impl System {
-    /// The left sides of a pool's rows, which hold the starts if some are given.
+    /// The left sides of a pool's templates, which hold the starts if some are given.
     pub fn of(
         alloc: Global,
         linear: &Linear,
@@ -44,7 +44,7 @@ impl System {
     ) -> Result<Option<System>, Memory> {
         let places = bound_places(alloc, pool)?;
         let mut lefts = Vec::new(alloc);
-        for i in 0..pool.rows.len() {
+        for i in 0..pool.templates.len() {
             match left_of(alloc, linear, pool, i, &places, starts)? {
                 Some(left) => lefts.push(left)?,
                 None => return Ok(None),
@@ -53,15 +53,15 @@ impl System {
         Ok(Some(System {
             lefts,
             places,
-            states: pool.rows.states,
+            states: pool.templates.states,
         }))
     }
 
-    /// The guess for a row: its reach, and half of its room on both sides.
+    /// The guess for a template: its reach, and half of its room on both sides.
     fn guess(&self, pool: &Pool, i: usize) -> Option<Ends> {
         let down = pool.scale.checked_sub(*self.places.get(i)?)?;
         let half = pool.room(i).checked_add(1)? >> 1;
-        let (lo, hi) = pool.rows.reach(i);
+        let (lo, hi) = pool.templates.reach(i);
         let own = Ends {
             lo: moved_down(lo.checked_sub(half)?, down)?.checked_sub(1)?,
             hi: moved_up(hi.checked_add(half)?, down)?.checked_add(1)?,
@@ -72,7 +72,7 @@ impl System {
         }
     }
 
-    /// The guesses for all rows.
+    /// The guesses for all templates.
     fn guesses(&self, alloc: Global, pool: &Pool) -> Result<Option<Vec<Ends>>, Memory> {
         let mut bounds = Vec::new(alloc);
         for i in 0..self.lefts.len() {
@@ -84,12 +84,12 @@ impl System {
         Ok(Some(bounds))
     }
 
-    /// The left side of row `i`.
+    /// The left side of template `i`.
     fn left(&self, i: usize, bounds: &[Ends]) -> Option<Ends> {
         self.lefts.get(i)?.at(bounds)
     }
 
-    /// Follows the left sides once, last row first. Whether a unit bound moved; None where one got far too wide.
+    /// Follows the left sides once, last template first. Whether a unit bound moved; None where one got far too wide.
     fn follow(&self, bounds: &mut [Ends], first: &[Ends]) -> Option<bool> {
         let mut moved = false;
         for i in (0..self.lefts.len()).rev() {
@@ -118,7 +118,7 @@ impl System {
         Some(())
     }
 
-    /// Raises the bounds to their left sides. Whether none had to be: then one step keeps all rows.
+    /// Raises the bounds to their left sides. Whether none had to be: then one step keeps all templates.
     fn raise(&self, bounds: &mut [Ends]) -> Option<bool> {
         let mut held = true;
         for i in (0..self.lefts.len()).rev() {

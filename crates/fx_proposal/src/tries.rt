@@ -1,17 +1,17 @@
-//! Tries of rising room: each builds rows and solves them for bounds, and the first that comes close to the reaches is
+//! Tries of rising room: each builds templates and solves them for bounds, and the first that comes close to the reaches is
 //! taken, else the best.
 
 use crate::build::build;
 use crate::ends::Ends;
 use crate::system::System;
-use fx_exchange::{Budget, ScaledRows, exchange};
+use fx_exchange::{Budget, ScaledTemplates, exchange};
 use fx_interval::Interval;
 use fx_num::{Memory, left_fits};
 use fx_reach::{Chain, Costs, Linear, Pool};
 use std::alloc::Global;
 
 /// A try: the room as a power of two below what a chain begins with, whether the outputs have chains, and whether chains
-/// that are too long have rows at growing times.
+/// that are too long have templates at growing times.
 #[derive(Clone, Copy, Debug)]
 struct Try {
     shift: i32,
@@ -71,7 +71,7 @@ static TRIES: [Try; 9] = [
 /// How many binary places a quality has: how much wider than its reach a bound came out.
 const QUALITY_PLACES: u32 = 20;
 
-/// Rows with their bounds, and how good they are: the less, the better.
+/// Templates with their bounds, and how good they are: the less, the better.
 #[derive(Debug, Drop)]
 pub struct Solved {
     pub pool: Pool,
@@ -86,12 +86,12 @@ fn ratio(width: i128, reach: i128) -> i128 {
     top.checked_div(reach.max(1)).unwrap_or(i128::MAX)
 }
 
-/// How good the bounds of the unit rows are.
+/// How good the bounds of the unit templates are.
 fn unit_quality(pool: &Pool, chains: &[Chain]) -> i128 {
     let mut worst = 0;
     for (i, chain) in chains.iter().enumerate() {
         if chain.state.is_some() {
-            worst = ratio(pool.rows.width(i), chain.ahead.rows.width(0)).max(worst);
+            worst = ratio(pool.templates.width(i), chain.ahead.templates.width(0)).max(worst);
         }
     }
     worst
@@ -105,14 +105,14 @@ fn quality(
     budget: &mut Budget,
 ) -> Result<i128, Memory> {
     let mut worst = unit_quality(pool, chains);
-    if chains.len() == pool.rows.states {
+    if chains.len() == pool.templates.states {
         return Ok(worst);
     }
-    let scaled = ScaledRows::of(alloc, pool)?;
+    let scaled = ScaledTemplates::of(alloc, pool)?;
     for chain in chains {
         if chain.state.is_none() {
-            let found = exchange(alloc, &scaled, chain.ahead.rows.row(0), budget)?;
-            worst = ratio(found.cost, chain.ahead.rows.width(0)).max(worst);
+            let found = exchange(alloc, &scaled, chain.ahead.templates.template(0), budget)?;
+            worst = ratio(found.cost, chain.ahead.templates.width(0)).max(worst);
         }
     }
     Ok(worst)

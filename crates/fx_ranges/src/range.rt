@@ -347,12 +347,12 @@ pub fn find_ranges_in(
     Ok(Ok(ranges))
 }
 
-/// The narrowest of a node's plain range, its form's and one that rows show, and which it is.
+/// The narrowest of a node's plain range, its form's and one that templates show, and which it is.
 fn narrowest(
     ranges: &Ranges,
     n: usize,
     node: &Node,
-    by_rows: Option<Span>,
+    by_templates: Option<Span>,
 ) -> Option<(Span, bool, bool)> {
     let mut best = plain_range(ranges, node)?;
     let mut by_form = false;
@@ -363,7 +363,7 @@ fn narrowest(
             by_form = true;
         }
     }
-    match by_rows {
+    match by_templates {
         Some(range) => if range.is_narrower(best)? {
             Some((range, false, true))
         } else {
@@ -388,13 +388,13 @@ impl Ranges {
         }
     }
 
-    /// Narrows the range of an operation after those of its operands, and answers whether rows show it.
-    pub fn narrow(&mut self, n: usize, node: &Node, by_rows: Option<Span>) -> bool {
-        let Some((span, by_form, is_by_rows)) = narrowest(self, n, node, by_rows) else {
+    /// Narrows the range of an operation after those of its operands, and answers whether templates show it.
+    pub fn narrow(&mut self, n: usize, node: &Node, by_templates: Option<Span>) -> bool {
+        let Some((span, by_form, is_by_templates)) = narrowest(self, n, node, by_templates) else {
             return false;
         };
         self.put_span(n, span);
         self.put_shown(n, by_form);
-        is_by_rows
+        is_by_templates
     }
 }

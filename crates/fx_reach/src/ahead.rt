@@ -1,11 +1,11 @@
-//! Looking ahead: a row, its images under the linear part, and how far each reaches.
+//! Looking ahead: a template, its images under the linear part, and how far each reaches.
 //!
-//! A row of the states becomes its image one step later, and what drives it is added. The sum of all later drives is the
-//! row's reach, the least bound that any certificate could have. It is known before a row is kept, so that what a closing
-//! of a chain costs is known too.
+//! A template of the states becomes its image one step later, and what drives it is added. The sum of all later drives is the
+//! template's reach, the least bound that any certificate could have. It is known before a template is kept, so that what a
+//! closing of a chain costs is known too.
 
 use crate::linear::Linear;
-use crate::rows::Rows;
+use crate::templates::Templates;
 use fx_num::Memory;
 use std::alloc::Global;
 
@@ -15,11 +15,11 @@ const FIRST: usize = 64;
 /// How many times the steps are doubled at most.
 const DOUBLINGS: u32 = 8;
 
-/// A row and its images, with the reach of each.
+/// A template and its images, with the reach of each.
 #[derive(Debug, Drop)]
 pub struct Ahead {
-    /// The row and its images.
-    pub rows: Rows,
+    /// The template and its images.
+    pub templates: Templates,
 }
 
 /// The drives of the two halves of what was looked at.
@@ -32,23 +32,23 @@ struct Halves {
 impl Ahead {
     /// One step more.
     fn push_step(&mut self, linear: &Linear, t: usize) -> Result<Option<()>, Memory> {
-        let Some((lo, hi)) = linear.drive(self.rows.row(t)) else {
+        let Some((lo, hi)) = linear.drive(self.templates.template(t)) else {
             return Ok(None);
         };
-        let (before_lo, before_hi) = self.rows.reach(t);
+        let (before_lo, before_hi) = self.templates.reach(t);
         let Some(lo) = before_lo.checked_add(lo) else {
             return Ok(None);
         };
         let Some(hi) = before_hi.checked_add(hi) else {
             return Ok(None);
         };
-        self.rows.push_reach((lo, hi))?;
-        linear.push_image(&mut self.rows.entries, t.saturating_mul(self.rows.states))
+        self.templates.push_reach((lo, hi))?;
+        linear.push_image(&mut self.templates.entries, t.saturating_mul(self.templates.states))
     }
 
     /// Steps up to this one.
     fn push_steps(&mut self, linear: &Linear, end: usize) -> Result<Option<()>, Memory> {
-        let from = self.rows.len().saturating_sub(1);
+        let from = self.templates.len().saturating_sub(1);
         for t in from..end {
             if self.push_step(linear, t)?.is_none() {
                 return Ok(None);
@@ -60,29 +60,29 @@ impl Ahead {
     /// How much the drives so far come to, and those of the first half.
     fn halves(&self, end: usize) -> Halves {
         Halves {
-            first: self.rows.width(end / 2),
-            both: self.rows.width(end),
+            first: self.templates.width(end / 2),
+            both: self.templates.width(end),
         }
     }
 
-    /// Whether the row is clearly less than the first: what drives it may come late, through many states.
+    /// Whether the template is clearly less than the first: what drives it may come late, through many states.
     fn has_faded(&self, end: usize) -> bool {
-        total_size(self.rows.row(end)) <= total_size(self.rows.row(0)) >> 2
+        total_size(self.templates.template(end)) <= total_size(self.templates.template(0)) >> 2
     }
 
-    /// Turns the sums of the drives before each row into the sums of those behind it.
+    /// Turns the sums of the drives before each template into the sums of those behind it.
     fn turn(&mut self, end: usize, halves: Halves) -> Option<()> {
-        let lo = total(&self.rows.lo, end, halves)?;
-        let hi = total(&self.rows.hi, end, halves)?;
-        turn_ends(&mut self.rows.lo, lo)?;
-        turn_ends(&mut self.rows.hi, hi)
+        let lo = total(&self.templates.lo, end, halves)?;
+        let hi = total(&self.templates.hi, end, halves)?;
+        turn_ends(&mut self.templates.lo, lo)?;
+        turn_ends(&mut self.templates.hi, hi)
     }
 }
 
 /// How great all entries are together.
-fn total_size(row: &[i128]) -> u128 {
+fn total_size(template: &[i128]) -> u128 {
     let mut total: u128 = 0;
-    for entry in row {
+    for entry in template {
         total = total.saturating_add(entry.unsigned_abs());
     }
     total
@@ -123,12 +123,12 @@ impl Halves {
     }
 }
 
-/// Looks ahead from a row, until its drives end. None where they don't.
-pub fn look_ahead(alloc: Global, linear: &Linear, row: &[i128]) -> Result<Option<Ahead>, Memory> {
+/// Looks ahead from a template, until its drives end. None where they don't.
+pub fn look_ahead(alloc: Global, linear: &Linear, template: &[i128]) -> Result<Option<Ahead>, Memory> {
     let mut ahead = Ahead {
-        rows: Rows {
+        templates: Templates {
             states: linear.states,
-            entries: Vec::from_slice(alloc, row)?,
+            entries: Vec::from_slice(alloc, template)?,
             lo: vec![in alloc; 0_i128; 1]?,
             hi: vec![in alloc; 0_i128; 1]?,
         },

@@ -1,7 +1,7 @@
 //! Chains of images, and where they are closed.
 //!
-//! A row is shown by its image, that by the next, and so on. Inside a chain nothing is lost; only where it is closed, on
-//! the unit rows, on itself or by an exchange. With every bound at its reach and a room for the whole chain, a closing
+//! A template is shown by its image, that by the next, and so on. Inside a chain nothing is lost; only where it is closed, on
+//! the unit templates, on itself or by an exchange. With every bound at its reach and a room for the whole chain, a closing
 //! holds exactly where what it costs is at most the image's reach and that room.
 
 use crate::ahead::Ahead;
@@ -9,30 +9,30 @@ use crate::whole::{PLACES, floor_at, moved_down, product, share_of};
 use fx_num::{Dyadic, Memory, floor_shift};
 use std::alloc::Global;
 
-/// What was looked at from a row on, and the state whose unit row it is, if it is one.
+/// What was looked at from a template on, and the state whose unit template it is, if it is one.
 #[derive(Debug, Drop)]
 pub struct Chain {
     pub ahead: Ahead,
     pub state: Option<usize>,
 }
 
-/// How wide the unit rows reach, and what they cost with their room.
+/// How wide the unit templates reach, and what they cost with their room.
 #[derive(Debug, Drop)]
 pub struct Costs {
     widths: Vec<i128>,
     costs: Vec<i128>,
-    /// The room is the width of a chain's first row over `2^shift`.
+    /// The room is the width of a chain's first template over `2^shift`.
     pub shift: i32,
 }
 
 impl Costs {
-    /// Those of chains that begin with all unit rows.
+    /// Those of chains that begin with all unit templates.
     pub fn of(alloc: Global, chains: &[Chain], shift: i32) -> Result<Costs, Memory> {
         let mut widths = Vec::new(alloc);
         let mut costs = Vec::new(alloc);
         for chain in chains {
             if chain.state.is_some() {
-                let width = chain.ahead.rows.width(0);
+                let width = chain.ahead.templates.width(0);
                 widths.push(width)?;
                 costs.push(width.saturating_add(room(width, shift)))?;
             }
@@ -44,11 +44,11 @@ impl Costs {
         })
     }
 
-    /// The state that weighs most in a row.
-    fn heaviest(&self, row: &[i128]) -> usize {
+    /// The state that weighs most in a template.
+    fn heaviest(&self, template: &[i128]) -> usize {
         let mut best = 0;
         let mut most = 0;
-        for (j, (r, width)) in row.iter().zip(&self.widths).enumerate() {
+        for (j, (r, width)) in template.iter().zip(&self.widths).enumerate() {
             let weight = r.unsigned_abs().saturating_mul(width.unsigned_abs());
             if weight > most {
                 most = weight;
@@ -59,74 +59,74 @@ impl Costs {
     }
 }
 
-/// The room of a chain whose first row is so wide.
+/// The room of a chain whose first template is so wide.
 pub fn room(width: i128, shift: i32) -> i128 {
     moved_down(width, shift).unwrap_or(0)
 }
 
-/// What a row costs on the unit rows.
-pub fn unit_cost(row: &[i128], costs: &[i128]) -> Option<i128> {
+/// What a template costs on the unit templates.
+pub fn unit_cost(template: &[i128], costs: &[i128]) -> Option<i128> {
     let mut total: i128 = 0;
-    for (r, cost) in row.iter().zip(costs) {
+    for (r, cost) in template.iter().zip(costs) {
         total = total.checked_add(r.checked_abs()?.checked_mul(*cost)?)?;
     }
     Some(floor_shift(total, PLACES))
 }
 
-/// What so many times a row leave of its image costs on the unit rows.
-fn left_cost(image: &[i128], row: &[i128], times: i128, costs: &[i128]) -> Option<i128> {
+/// What so many times a template leave of its image costs on the unit templates.
+fn left_cost(image: &[i128], template: &[i128], times: i128, costs: &[i128]) -> Option<i128> {
     let mut total: i128 = 0;
-    for ((r, q), cost) in image.iter().zip(row).zip(costs) {
+    for ((r, q), cost) in image.iter().zip(template).zip(costs) {
         let left = r.checked_sub(product(times, *q, PLACES)?)?;
         total = total.checked_add(left.checked_abs()?.checked_mul(*cost)?)?;
     }
     Some(floor_shift(total, PLACES))
 }
 
-/// How often the image of row `i` takes that row, where the chain can be closed on it within the limit.
+/// How often the image of template `i` takes that template, where the chain can be closed on it within the limit.
 fn on_itself(ahead: &Ahead, i: usize, costs: &Costs, limit: i128) -> Option<Dyadic> {
-    let row = ahead.rows.row(i);
-    let image = ahead.rows.row(i.saturating_add(1));
+    let template = ahead.templates.template(i);
+    let image = ahead.templates.template(i.saturating_add(1));
     let j = costs.heaviest(image);
     let r = *image.get(j)?;
-    let q = *row.get(j)?;
+    let q = *template.get(j)?;
     if i == 0 || r.signum() != q.signum() || r == 0 || r.unsigned_abs() >= q.unsigned_abs() {
         return None;
     }
     let times = share_of(r, q)?;
     let whole = floor_at(times, PLACES as i32)?;
     let own = ahead
-        .rows
+        .templates
         .width(i)
-        .checked_add(room(ahead.rows.width(0), costs.shift))?;
+        .checked_add(room(ahead.templates.width(0), costs.shift))?;
     let cost = product(whole, own, PLACES)?.checked_add(left_cost(
         image,
-        row,
+        template,
         whole,
         &costs.costs,
     )?)?;
     if cost <= limit { Some(times) } else { None }
 }
 
-/// How often the image of row `i` takes that row, where the chain can be closed behind it: not at all where the unit rows
-/// suffice.
+/// How often the image of template `i` takes that template, where the chain can be closed behind it: not at all where the
+/// unit templates suffice.
 pub fn find_closing(ahead: &Ahead, i: usize, costs: &Costs) -> Option<Dyadic> {
-    let first = ahead.rows.width(0);
+    let first = ahead.templates.width(0);
     let next = i.saturating_add(1);
     let limit = ahead
-        .rows
+        .templates
         .width(next)
         .checked_add(room(first, costs.shift))?
         .checked_add(first >> 30)?;
-    if unit_cost(ahead.rows.row(next), &costs.costs)? <= limit {
+    if unit_cost(ahead.templates.template(next), &costs.costs)? <= limit {
         return Some(Dyadic { m: 0, e: 0 });
     }
     on_itself(ahead, i, costs, limit)
 }
 
-/// How many rows a chain wants to have: up to the first behind which it can be closed, else all that were looked at.
+/// How many templates a chain wants to have: up to the first behind which it can be closed, else all that were looked at.
 pub fn wanted_length(ahead: &Ahead, costs: &Costs) -> usize {
-    let end = ahead.rows.len().saturating_sub(1);
+    let end = ahead.templates.len().saturating_sub(1);
     for i in 0..end {
         if find_closing(ahead, i, costs).is_some() {
             return i.saturating_add(1);
@@ -158,8 +158,8 @@ fn first_times(alloc: Global, count: usize) -> Result<Vec<usize>, Memory> {
     Ok(times)
 }
 
-/// The times of the rows that are kept of a chain that wants to have `length` and is closed behind them or not, at most so
-/// many; none where they don't suffice.
+/// The times of the templates that are kept of a chain that wants to have `length` and is closed behind them or not, at most
+/// so many; none where they don't suffice.
 pub fn times_of(
     alloc: Global,
     length: usize,

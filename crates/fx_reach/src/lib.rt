@@ -1,20 +1,20 @@
-//! How far rows of states reach, and chains of their images.
+//! How far templates of states reach, and chains of their images.
 //!
-//! A row of the states, its image one step later, the image of that and so on show each other without loss: only where
-//! the chain is closed something may be lost. What later drives add to a row is its reach, the least bound that any
-//! certificate could have; it is worked out ahead, so that what a closing costs is known before a row is kept.
+//! A template of the states, its image one step later, the image of that and so on show each other without loss: only where
+//! the chain is closed something may be lost. What later drives add to a template is its reach, the least bound that any
+//! certificate could have; it is worked out ahead, so that what a closing costs is known before a template is kept.
 //!
-//! Nothing is promised of these numbers, and nothing rests on them: rows made of them are tested by who takes them. All
+//! Nothing is promised of these numbers, and nothing rests on them: templates made of them are tested by who takes them. All
 //! are whole numbers of 128 bits, and one that leaves them drops what asked for it.
-//! The trap: sizes are whole at one power of two for all, coefficients at another, bounds at one for each row.
+//! The trap: sizes are whole at one power of two for all, coefficients at another, bounds at one for each template.
 #![tactic(auto)]
 
 mod ahead;
 mod chain;
 mod linear;
 mod pool;
-mod rows;
 mod sum;
+mod templates;
 mod transition;
 mod whole;
 
@@ -22,10 +22,10 @@ pub use ahead::{Ahead, look_ahead};
 pub use chain::{Chain, Costs, find_closing, room, times_of, unit_cost, wanted_length};
 pub use linear::Linear;
 pub use pool::Pool;
-pub use rows::Rows;
 pub use sum::{plus_scaled, times};
+pub use templates::Templates;
 pub use transition::Transition;
 pub use whole::{
     PLACES, ceil_at, floor_at, magnitude, moved_down, moved_up, product, quotient, share_of,
-    unit_row,
+    unit_vector,
 };

@@ -1,7 +1,7 @@
 //! The linear part of a step, and what drives it: the inputs and the rests of the next states.
 
 use crate::transition::Transition;
-use crate::whole::{PLACES, ceil_at, floor_at, greater, magnitude, unit_row};
+use crate::whole::{PLACES, ceil_at, floor_at, greater, magnitude, unit_vector};
 use fx_cert::{Side, affine_coef, side_at, side_rest};
 use fx_interval::Interval;
 use fx_num::{Dyadic, Memory, ceil_shift, floor_shift};
@@ -10,7 +10,7 @@ use std::alloc::Global;
 /// How many bits the greatest size has while sizes are guessed.
 const SIZE_BITS: i32 = 44;
 
-/// Half of a unit of a row's entries, in their products.
+/// Half of a unit of a template's entries, in their products.
 const HALF: i128 = 1 << (PLACES - 1);
 
 /// Something that is added to the next states, each so many times.
@@ -159,7 +159,7 @@ impl Linear {
     /// Adds all rests.
     fn add_rests(&mut self, alloc: Global) -> Result<Option<()>, Memory> {
         for k in 0..self.states {
-            let coefs = unit_row(alloc, self.states, k, 1 << PLACES)?;
+            let coefs = unit_vector(alloc, self.states, k, 1 << PLACES)?;
             let rest = self.rests.get(k).copied().unwrap_or(Interval::zero());
             if self.add_drive(coefs, rest)?.is_none() {
                 return Ok(None);
@@ -203,23 +203,23 @@ impl Linear {
         Ok(Some(linear))
     }
 
-    /// Entry `j` of a row's image: what the row is of the next states, as a row of the states.
-    fn image_entry(&self, row: &[i128], j: usize) -> Option<i128> {
-        let total = products(row, self.columns.get(j)?)?;
+    /// Entry `j` of a template's image: what the template is of the next states, as a template of the states.
+    fn image_entry(&self, template: &[i128], j: usize) -> Option<i128> {
+        let total = products(template, self.columns.get(j)?)?;
         Some(floor_shift(total.checked_add(HALF)?, PLACES))
     }
 
-    /// Puts a row's image in its place behind the others.
-    pub fn push_image(&self, rows: &mut Vec<i128>, from: usize) -> Result<Option<()>, Memory> {
+    /// Puts a template's image in its place behind the others.
+    pub fn push_image(&self, templates: &mut Vec<i128>, from: usize) -> Result<Option<()>, Memory> {
         for j in 0..self.states {
-            let row = rows.as_slice().get(from..).unwrap_or(&[]);
-            match self.image_entry(row, j) {
+            let template = templates.as_slice().get(from..).unwrap_or(&[]);
+            match self.image_entry(template, j) {
                 Some(entry) => {
                     // an entry of 2^28 has left any filter that stands
                     if entry.unsigned_abs() >> (PLACES + 28) != 0 {
                         return Ok(None);
                     }
-                    rows.push(entry)?;
+                    templates.push(entry)?;
                 }
                 None => return Ok(None),
             }
@@ -227,12 +227,12 @@ impl Linear {
         Ok(Some(()))
     }
 
-    /// What drives a row, from where to where.
-    pub fn drive(&self, row: &[i128]) -> Option<(i128, i128)> {
+    /// What drives a template, from where to where.
+    pub fn drive(&self, template: &[i128]) -> Option<(i128, i128)> {
         let mut lo: i128 = 0;
         let mut hi: i128 = 0;
         for drive in &self.drives {
-            let g = floor_shift(products(row, &drive.coefs)?, PLACES);
+            let g = floor_shift(products(template, &drive.coefs)?, PLACES);
             let a = g.checked_mul(drive.lo)?;
             let b = g.checked_mul(drive.hi)?;
             lo = lo.checked_add(a.min(b))?;
@@ -242,10 +242,10 @@ impl Linear {
     }
 }
 
-/// The sum of the products of a row and coefficients.
-fn products(row: &[i128], coefs: &[i128]) -> Option<i128> {
+/// The sum of the products of a template and coefficients.
+fn products(template: &[i128], coefs: &[i128]) -> Option<i128> {
     let mut total: i128 = 0;
-    for (r, c) in row.iter().zip(coefs) {
+    for (r, c) in template.iter().zip(coefs) {
         if *r != 0 && *c != 0 {
             total = total.checked_add(r.checked_mul(*c)?)?;
         }

@@ -1,6 +1,6 @@
-//! Rows that are proposed, with shares, and how far each is guessed to reach.
+//! Templates that are proposed, with shares, and how far each is guessed to reach.
 
-use crate::rows::Rows;
+use crate::templates::Templates;
 use crate::whole::{PLACES, floor_at};
 use fx_cert::Share;
 use fx_num::{Dyadic, Memory, bits, floor_shift, lowest};
@@ -9,14 +9,14 @@ use std::alloc::Global;
 /// How many bits a coefficient has, counted from what its chain begins with.
 const COEFFICIENT_BITS: i64 = 30;
 
-/// All rows of one kind, the unit rows first.
+/// All templates of one kind, the unit templates first.
 #[derive(Debug, Drop)]
 pub struct Pool {
-    /// The rows with 48 binary places, and how far each is guessed to reach.
-    pub rows: Rows,
+    /// The templates with 48 binary places, and how far each is guessed to reach.
+    pub templates: Templates,
     /// Reaches are whole with so many binary places.
     pub scale: i32,
-    /// Coefficients, row after row.
+    /// Coefficients, template after template.
     coefs: Vec<Dyadic>,
     rooms: Vec<i128>,
     shares: Vec<Vec<Share>>,
@@ -26,7 +26,7 @@ impl Pool {
     /// None yet.
     pub fn new(alloc: Global, states: usize, scale: i32) -> Pool {
         Pool {
-            rows: Rows::new(alloc, states),
+            templates: Templates::new(alloc, states),
             scale,
             coefs: Vec::new(alloc),
             rooms: Vec::new(alloc),
@@ -34,9 +34,9 @@ impl Pool {
         }
     }
 
-    /// Coefficient `j` of row `i`.
+    /// Coefficient `j` of template `i`.
     pub fn coef(&self, i: usize, j: usize) -> Dyadic {
-        let place = i.saturating_mul(self.rows.states).saturating_add(j);
+        let place = i.saturating_mul(self.templates.states).saturating_add(j);
         match self.coefs.get(place) {
             Some(coef) => *coef,
             None => Dyadic::zero(),
@@ -48,17 +48,17 @@ impl Pool {
         self.rooms.get(i).copied().unwrap_or(0)
     }
 
-    /// What row `i` costs: how wide its bound gets.
+    /// What template `i` costs: how wide its bound gets.
     pub fn cost(&self, i: usize) -> i128 {
-        self.rows.width(i).saturating_add(self.room(i))
+        self.templates.width(i).saturating_add(self.room(i))
     }
 
-    /// Gives row `i` what its bound came to in the place of a guess.
+    /// Gives template `i` what its bound came to in the place of a guess.
     pub fn put_reach(&mut self, i: usize, (lo, hi): (i128, i128)) {
-        if let Some(slot) = self.rows.lo.get_mut(i) {
+        if let Some(slot) = self.templates.lo.get_mut(i) {
             *slot = lo;
         }
-        if let Some(slot) = self.rows.hi.get_mut(i) {
+        if let Some(slot) = self.templates.hi.get_mut(i) {
             *slot = hi;
         }
         if let Some(slot) = self.rooms.get_mut(i) {
@@ -66,7 +66,7 @@ impl Pool {
         }
     }
 
-    /// The shares of row `i`.
+    /// The shares of template `i`.
     pub fn shares(&self, i: usize) -> &[Share] {
         match self.shares.get(i) {
             Some(shares) => shares.as_slice(),
@@ -74,14 +74,14 @@ impl Pool {
         }
     }
 
-    /// Gives row `i` these shares.
+    /// Gives template `i` these shares.
     pub fn put_shares(&mut self, i: usize, shares: Vec<Share>) {
         if let Some(slot) = self.shares.get_mut(i) {
             *slot = shares;
         }
     }
 
-    /// Gives row `i` one share.
+    /// Gives template `i` one share.
     pub fn put_share(&mut self, alloc: Global, i: usize, share: Share) -> Result<(), Memory> {
         let mut shares = Vec::new(alloc);
         shares.push(share)?;
@@ -92,27 +92,27 @@ impl Pool {
     /// Puts a coefficient behind the others.
     fn push_coef(&mut self, coef: Dyadic) -> Result<(), Memory> {
         self.coefs.push(coef)?;
-        self.rows
+        self.templates
             .entries
             .push(floor_at(coef, PLACES as i32).unwrap_or(0))?;
         Ok(())
     }
 
-    /// Puts a reach behind the others, and gives the row's number.
+    /// Puts a reach behind the others, and gives the template's number.
     fn push_reach(
         &mut self,
         alloc: Global,
         reach: (i128, i128),
         room: i128,
     ) -> Result<usize, Memory> {
-        let i = self.rows.len();
-        self.rows.push_reach(reach)?;
+        let i = self.templates.len();
+        self.templates.push_reach(reach)?;
         self.rooms.push(room)?;
         self.shares.push(Vec::new(alloc))?;
         Ok(i)
     }
 
-    /// Adds the unit row of state `i`.
+    /// Adds the unit template of state `i`.
     pub fn push_unit(
         &mut self,
         alloc: Global,
@@ -120,45 +120,45 @@ impl Pool {
         reach: (i128, i128),
         room: i128,
     ) -> Result<usize, Memory> {
-        for j in 0..self.rows.states {
+        for j in 0..self.templates.states {
             let m = if i == j { 1 } else { 0 };
             self.push_coef(Dyadic { m, e: 0 })?;
         }
         self.push_reach(alloc, reach, room)
     }
 
-    /// Adds a row as it stands.
+    /// Adds a template as it stands.
     pub fn push_known(
         &mut self,
         alloc: Global,
         coefs: &[Dyadic],
         reach: (i128, i128),
     ) -> Result<usize, Memory> {
-        for j in 0..self.rows.states {
+        for j in 0..self.templates.states {
             self.push_coef(coefs.get(j).copied().unwrap_or(Dyadic::zero()))?;
         }
         self.push_reach(alloc, reach, 0)
     }
 
-    /// Adds a row whose coefficients are rounded to as many places as the width of its chain's first row calls for.
-    pub fn push_row(
+    /// Adds a template whose coefficients are rounded to as many places as the width of its chain's first template calls for.
+    pub fn push_template(
         &mut self,
         alloc: Global,
-        row: &[i128],
+        template: &[i128],
         widest: i128,
         reach: (i128, i128),
         room: i128,
     ) -> Result<usize, Memory> {
-        for j in 0..self.rows.states {
-            let entry = row.get(j).copied().unwrap_or(0);
-            let places = coef_places(self.rows.width(j), widest);
+        for j in 0..self.templates.states {
+            let entry = template.get(j).copied().unwrap_or(0);
+            let places = coef_places(self.templates.width(j), widest);
             self.push_coef(rounded(entry, places))?;
         }
         self.push_reach(alloc, reach, room)
     }
 }
 
-/// How many binary places the coefficient of a state has in a row.
+/// How many binary places the coefficient of a state has in a template.
 fn coef_places(state_width: i128, widest: i128) -> u32 {
     if state_width == 0 {
         return 0;

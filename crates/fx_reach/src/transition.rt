@@ -1,4 +1,4 @@
-//! One step of the states, as rows see it.
+//! One step of the states, as templates see it.
 
 ghost use Rattle.std.specs.Prelude.{◌≡◌, ◌≤◌, ◌-◌, length};
 

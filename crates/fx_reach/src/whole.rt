@@ -6,7 +6,7 @@ use fx_interval::Interval;
 use fx_num::{Dyadic, Memory, bits, ceil_shift, floor_shift, left_fits, lowest};
 use std::alloc::Global;
 
-/// How many binary places a coefficient has while rows are worked out.
+/// How many binary places a coefficient has while templates are worked out.
 pub const PLACES: u32 = 48;
 
 /// By how many places `d` has more than `e`, or less. What is too far for 128 bits is as far as any other.
@@ -80,13 +80,13 @@ fn magnitude_of(d: Dyadic) -> Option<i32> {
     i32::try_from(length.saturating_sub(i64::from(d.e))).ok()
 }
 
-/// A row of zeros but for one entry.
-pub fn unit_row(alloc: Global, states: usize, i: usize, entry: i128) -> Result<Vec<i128>, Memory> {
-    let mut row = vec![in alloc; 0_i128; states]?;
-    if let Some(slot) = row.get_mut(i) {
+/// A vector of zeros but for one entry.
+pub fn unit_vector(alloc: Global, states: usize, i: usize, entry: i128) -> Result<Vec<i128>, Memory> {
+    let mut template = vec![in alloc; 0_i128; states]?;
+    if let Some(slot) = template.get_mut(i) {
         *slot = entry;
     }
-    Ok(row)
+    Ok(template)
 }
 
 /// How many bits of a numerator and its denominator are used.

@@ -188,8 +188,8 @@ fn best(
 /// The best certified program that the search finds in so many tries, if it finds one.
 ///
 /// `held` has the bounds of the answer that stands so far, one for each output, and none of them is exceeded; it is empty
-/// where there is no answer. The first try is the function as it stands. Boxes and rows of states it doesn't look for, so it finds
-/// nothing for a function that has some.
+/// where there is no answer. The first try is the function as it stands. Boxes and templates of states it doesn't look for,
+/// so it finds nothing for a function that has some.
 pub fn search(
     alloc: Global,
     function: &Function,

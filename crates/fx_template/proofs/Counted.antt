@@ -1,4 +1,4 @@
--- Rows that were tested: counted, short, and what the plain ones are.
+-- Templates that were tested: counted, short, and what the plain ones are.
 use Rattle.std.proofs.Common.{◌≡◌, ℕ, ◌+◌, ◌<◌, ◌≤◌, List, length, Option, Some, None, inl, inr, refl, sym, ap, subst, ◌∙◌, arith}
 use Rattle.std.specs.Option.{option_map}
 use Rattle.std.proofs.lemmas.Bool.{cases_lt}
@@ -6,60 +6,60 @@ use Rattle.std.proofs.lemmas.List.{get_or_default, get_or_past}
 use Rattle.fx_rational.specs.Dyadic.{zero_dyadic}
 use Rattle.fx_rational.specs.Interval.{IsWrittenInterval}
 use Rattle.fx_model.specs.Tree.{at}
-use Rattle.fx_inequalities.specs.Certificate.{Row, no_row}
+use Rattle.fx_inequalities.specs.Certificate.{Template, no_template}
 use Rattle.fx_inequalities.specs.LawfulCertificate.{unit_vector}
-use Rattle.fx_conditions.specs.Limits.{AreShortRows, IsShortRow}
+use Rattle.fx_conditions.specs.Limits.{AreShortTemplates, IsShortTemplate}
 use Rattle.fx_cert.specs.declared.side.Side.TheVariants.{Value, Error}
-use Rattle.fx_conditions.proofs.Lawful.{short_coefs, short_ends, short_shares, no_short_row}
+use Rattle.fx_conditions.proofs.Lawful.{short_coefs, short_ends, short_shares, no_short_template}
 use Rattle.fx_template.specs.Listed.{first_untrue, or_else}
 use Rattle.fx_template.specs.Transitions.{IsModestTransition, Transition}
-use Rattle.fx_template.specs.PlainRounds.{Bounds, bounds_at_first, first_fallen, plain_rounds, stands, unit_rows}
-use Rattle.fx_template.specs.Rows.{AreCountedRows, AreKept, AreWrittenBounds, IsCountedRow}
-use Rattle.fx_template.specs.Answers.{Found, HasWrittenBounds, HasWrittenStates, IsTemplate}
-use Rattle.fx_template.proofs.UnitRows.{unit_rows_counted, unit_rows_kept, unit_rows_written}
+use Rattle.fx_template.specs.PlainRounds.{Bounds, bounds_at_first, first_fallen, plain_rounds, stands, unit_templates}
+use Rattle.fx_template.specs.Templates.{AreCountedTemplates, AreKept, AreWrittenBounds, IsCountedTemplate}
+use Rattle.fx_template.specs.Answers.{Found, HasWrittenBounds, HasWrittenStates, BothPass}
+use Rattle.fx_template.proofs.UnitTemplates.{unit_templates_counted, unit_templates_kept, unit_templates_written}
 use Rattle.fx_template.proofs.UnitVectors.{units_from}
 use Rattle.fx_template.proofs.Rounds.{first_written, rounds_written}
 
 -- ---- counted
-pub counted_all : (k : ℕ) (rows : List Row) → k ≤ length rows → length rows ≤ 512 → ((i : ℕ) → i < length rows → IsCountedRow k (length rows) (at no_row rows i)) →
-    ((i : ℕ) → i < length rows → i < k → (at no_row rows i).coefs ≡ unit_vector k i) → AreCountedRows k rows
-counted_all k rows enough few each units = record {
+pub counted_all : (k : ℕ) (templates : List Template) → k ≤ length templates → length templates ≤ 512 → ((i : ℕ) → i < length templates → IsCountedTemplate k (length templates) (at no_template templates i)) →
+    ((i : ℕ) → i < length templates → i < k → (at no_template templates i).coefs ≡ unit_vector k i) → AreCountedTemplates k templates
+counted_all k templates enough few each units = record {
   enough = enough;
   few = few;
-  units = units_from k 0 rows (λ i lt less. let same : i ≡ i + 0 = omega arith in units i lt (omega (arith, less)) ∙ ap (λ n. unit_vector k n) same);
-  each = λ i d lt. subst (IsCountedRow k (length rows)) (get_or_default rows i no_row d lt) (each i lt);
+  units = units_from k 0 templates (λ i lt less. let same : i ≡ i + 0 = omega arith in units i lt (omega (arith, less)) ∙ ap (λ n. unit_vector k n) same);
+  each = λ i d lt. subst (IsCountedTemplate k (length templates)) (get_or_default templates i no_template d lt) (each i lt);
 }
 
 -- ---- short
-short_row : (k count : ℕ) (r : Row) → IsCountedRow k count r → IsWrittenInterval r.bound → IsShortRow r
-short_row k count r h w = record { coefs = short_coefs r.coefs h.written; bound = short_ends r.bound w; shares = short_shares count 0 r.shares h.shares }
+short_template : (k count : ℕ) (r : Template) → IsCountedTemplate k count r → IsWrittenInterval r.bound → IsShortTemplate r
+short_template k count r h w = record { coefs = short_coefs r.coefs h.written; bound = short_ends r.bound w; shares = short_shares count 0 r.shares h.shares }
 
-pub rows_short : (k : ℕ) (rows : List Row) → AreCountedRows k rows → AreWrittenBounds rows → AreShortRows rows
-rows_short k rows h w i = elim (cases_lt i (length rows)) [
-  | inl less ↦ short_row k (length rows) (at no_row rows i) (h.each i no_row less) (w i no_row less)
-  | inr more ↦ subst IsShortRow (sym (get_or_past rows i no_row more)) no_short_row
+pub templates_short : (k : ℕ) (templates : List Template) → AreCountedTemplates k templates → AreWrittenBounds templates → AreShortTemplates templates
+templates_short k templates h w i = elim (cases_lt i (length templates)) [
+  | inl less ↦ short_template k (length templates) (at no_template templates i) (h.each i no_template less) (w i no_template less)
+  | inr more ↦ subst IsShortTemplate (sym (get_or_past templates i no_template more)) no_short_template
 ]
 
--- ---- the plain rows
+-- ---- the plain templates
 both_none : (f : ℕ → ℕ) (a b : Option ℕ) → or_else a (option_map f b) ≡ None → (a ≡ None) × (b ≡ None)
 both_none f (Some x) b h = absurd cc
 both_none f None (Some y) h = absurd cc
 both_none f None None h = (refl, refl)
 
-pub plain_template : (t : Transition) (b : Bounds) (f : Found) → IsModestTransition t → f.rows ≡ unit_rows t.states b.rows → f.error_rows ≡ unit_rows t.states b.error_rows → first_fallen t b ≡ None → IsTemplate t f
-plain_template t b f m rows errors none =
-    let each = both_none (λ i. t.states + i) (first_untrue t.states (stands Value t b.rows)) (first_untrue t.states (stands Error t b.error_rows)) none in
+pub plain_both_pass : (t : Transition) (b : Bounds) (f : Found) → IsModestTransition t → f.templates ≡ unit_templates t.states b.templates → f.error_templates ≡ unit_templates t.states b.error_templates → first_fallen t b ≡ None → BothPass t f
+plain_both_pass t b f m templates errors none =
+    let each = both_none (λ i. t.states + i) (first_untrue t.states (stands Value t b.templates)) (first_untrue t.states (stands Error t b.error_templates)) none in
     record {
-      kept = subst (AreKept Value t) (sym rows) (unit_rows_kept Value t b.rows each.0);
-      kept_errors = subst (AreKept Error t) (sym errors) (unit_rows_kept Error t b.error_rows each.1);
-      counted = subst (AreCountedRows t.states) (sym rows) (unit_rows_counted t.states b.rows m.states);
-      counted_errors = subst (AreCountedRows t.states) (sym errors) (unit_rows_counted t.states b.error_rows m.states);
+      kept = subst (AreKept Value t) (sym templates) (unit_templates_kept Value t b.templates each.0);
+      kept_errors = subst (AreKept Error t) (sym errors) (unit_templates_kept Error t b.error_templates each.1);
+      counted = subst (AreCountedTemplates t.states) (sym templates) (unit_templates_counted t.states b.templates m.states);
+      counted_errors = subst (AreCountedTemplates t.states) (sym errors) (unit_templates_counted t.states b.error_templates m.states);
     }
 
-pub plain_written : (t : Transition) (n : ℕ) (b : Bounds) (f : Found) → IsModestTransition t → b ≡ plain_rounds n t (bounds_at_first t) → f.rows ≡ unit_rows t.states b.rows → f.error_rows ≡ unit_rows t.states b.error_rows →
+pub plain_written : (t : Transition) (n : ℕ) (b : Bounds) (f : Found) → IsModestTransition t → b ≡ plain_rounds n t (bounds_at_first t) → f.templates ≡ unit_templates t.states b.templates → f.error_templates ≡ unit_templates t.states b.error_templates →
     HasWrittenStates t → HasWrittenBounds f
-plain_written t n b f m is rows errors h =
+plain_written t n b f m is templates errors h =
     let all = rounds_written n t (bounds_at_first t) m (first_written t h) in (
-      subst AreWrittenBounds (sym rows) (unit_rows_written t.states b.rows (λ i lt. subst (λ (x : Bounds). IsWrittenInterval (at (record { lo = zero_dyadic; hi = zero_dyadic }) x.rows i)) (sym is) (all i lt).0)),
-      subst AreWrittenBounds (sym errors) (unit_rows_written t.states b.error_rows (λ i lt. subst (λ (x : Bounds). IsWrittenInterval (at (record { lo = zero_dyadic; hi = zero_dyadic }) x.error_rows i)) (sym is) (all i lt).1)),
+      subst AreWrittenBounds (sym templates) (unit_templates_written t.states b.templates (λ i lt. subst (λ (x : Bounds). IsWrittenInterval (at (record { lo = zero_dyadic; hi = zero_dyadic }) x.templates i)) (sym is) (all i lt).0)),
+      subst AreWrittenBounds (sym errors) (unit_templates_written t.states b.error_templates (λ i lt. subst (λ (x : Bounds). IsWrittenInterval (at (record { lo = zero_dyadic; hi = zero_dyadic }) x.error_templates i)) (sym is) (all i lt).1)),
     )

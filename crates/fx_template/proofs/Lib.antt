@@ -1,6 +1,6 @@
 pub mod Lists
 pub mod UnitVectors
-pub mod UnitRows
+pub mod UnitTemplates
 pub mod Rounds
 pub mod Hulls
 pub mod Counted

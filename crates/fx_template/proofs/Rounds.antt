@@ -18,21 +18,21 @@ use Rattle.fx_grid.proofs.Narrowest.{narrowest_is}
 use Rattle.fx_grid.proofs.Quotients.{around_inside}
 use Rattle.fx_grid.proofs.Exacts.{grid_few}
 use Rattle.fx_template.specs.Transitions.{IsModestTransition, Transition}
-use Rattle.fx_template.specs.PlainRounds.{Bounds, and_on, both_bounds, bounds_after, bounds_at_first, first_bounds, plain_rounds, raised_bound, raised_bounds, raised_span, row_grid, state_bound}
+use Rattle.fx_template.specs.PlainRounds.{Bounds, and_on, both_bounds, bounds_after, bounds_at_first, first_bounds, plain_rounds, raised_bound, raised_bounds, raised_span, template_grid, state_bound}
 use Rattle.fx_template.specs.Answers.{HasWrittenStates}
 use Rattle.fx_template.specs.RoundView.{AreShortBoth, AreShortBounds}
 use Rattle.fx_template.proofs.Lists.{each_is, tabulate_all, tabulate_at}
 
-few_places : (side : Side) (t : Transition) (i : ℕ) → IsModestTransition t → row_grid side t i ≤ 96
+few_places : (side : Side) (t : Transition) (i : ℕ) → IsModestTransition t → template_grid side t i ≤ 96
 few_places Value t i m = omega arith
 few_places Error t i m = grid_few (at (pos 0) t.points (t.inputs + i)) (m.points (t.inputs + i))
 
 -- a new bound is the narrowest
 pub raised_is : (side : Side) (t : Transition) (bounds : List Interval) (i : ℕ) (g : Interval) → IsModestTransition t → raised_bound side t bounds i ≡ Ok g →
-    IsNarrowestOf (row_grid side t i) (λ b. inside (raised_span side t bounds i) (span b)) g
+    IsNarrowestOf (template_grid side t i) (λ b. inside (raised_span side t bounds i) (span b)) g
 raised_is side t bounds i g m made =
     let s = raised_span side t bounds i in
-    narrowest_is (row_grid side t i) (span_bounds s) (λ b. inside s (span b)) g (few_places side t i m) (λ j. around_inside s (span j)) made
+    narrowest_is (template_grid side t i) (span_bounds s) (λ b. inside s (span b)) g (few_places side t i m) (λ j. around_inside s (span j)) made
 
 -- ---- new bounds can be spelled
 pub raised_written : (side : Side) (t : Transition) (bounds new : List Interval) → IsModestTransition t → raised_bounds side t bounds ≡ Some new → (i : ℕ) → i < t.states → IsWrittenInterval (at zero_interval new i)
@@ -44,29 +44,29 @@ raised_short side t bounds new m e i = elim (cases_lt i t.states) [
   | inr more ↦ (let count = (each_is (raised_bound side t bounds) t.states new e).count in subst (λ (x : Interval). IsShortSpan 96 (span x)) (sym (get_or_past new i zero_interval (omega (arith, count, more)))) no_ends)
 ]
 
--- ---- of both kinds of rows
+-- ---- of both kinds of templates
 -- bounds of each state can be spelled
 abbrev pub AreWrittenBoth : Transition → Bounds → Type 0
-AreWrittenBoth t b = (i : ℕ) → i < t.states → IsWrittenInterval (at zero_interval b.rows i) × IsWrittenInterval (at zero_interval b.error_rows i)
+AreWrittenBoth t b = (i : ℕ) → i < t.states → IsWrittenInterval (at zero_interval b.templates i) × IsWrittenInterval (at zero_interval b.error_templates i)
 
 pub record IsRound (t : Transition) (b c : Bounds) : Type 0 where
-  pub rows : raised_bounds Value t b.rows ≡ Some c.rows
-  pub error_rows : raised_bounds Error t b.error_rows ≡ Some c.error_rows
+  pub templates : raised_bounds Value t b.templates ≡ Some c.templates
+  pub error_templates : raised_bounds Error t b.error_templates ≡ Some c.error_templates
 
 pub round_is : (t : Transition) (b c : Bounds) → bounds_after t b ≡ Some c → IsRound t b c
-round_is t b c e = by (raised_bounds Value t b.rows) refl (raised_bounds Error t b.error_rows) refl e
+round_is t b c e = by (raised_bounds Value t b.templates) refl (raised_bounds Error t b.error_templates) refl e
   where
-    by : (x : Option (List Interval)) → raised_bounds Value t b.rows ≡ x → (y : Option (List Interval)) → raised_bounds Error t b.error_rows ≡ y → both_bounds x y ≡ Some c → IsRound t b c
-    by (Some xs) p (Some ys) q e = record { rows = p ∙ ap (λ (o : Bounds). Some o.rows) (same_Some _ _ e); error_rows = q ∙ ap (λ (o : Bounds). Some o.error_rows) (same_Some _ _ e) }
+    by : (x : Option (List Interval)) → raised_bounds Value t b.templates ≡ x → (y : Option (List Interval)) → raised_bounds Error t b.error_templates ≡ y → both_bounds x y ≡ Some c → IsRound t b c
+    by (Some xs) p (Some ys) q e = record { templates = p ∙ ap (λ (o : Bounds). Some o.templates) (same_Some _ _ e); error_templates = q ∙ ap (λ (o : Bounds). Some o.error_templates) (same_Some _ _ e) }
     by (Some xs) p None q e = absurd cc
     by None p (Some ys) q e = absurd cc
     by None p None q e = absurd cc
 
 pub round_short : (t : Transition) (b c : Bounds) → IsModestTransition t → bounds_after t b ≡ Some c → AreShortBoth c
-round_short t b c m e = let r = round_is t b c e in (raised_short Value t b.rows c.rows m r.rows, raised_short Error t b.error_rows c.error_rows m r.error_rows)
+round_short t b c m e = let r = round_is t b c e in (raised_short Value t b.templates c.templates m r.templates, raised_short Error t b.error_templates c.error_templates m r.error_templates)
 
 round_written : (t : Transition) (b c : Bounds) → IsModestTransition t → bounds_after t b ≡ Some c → AreWrittenBoth t c
-round_written t b c m e i lt = let r = round_is t b c e in (raised_written Value t b.rows c.rows m r.rows i lt, raised_written Error t b.error_rows c.error_rows m r.error_rows i lt)
+round_written t b c m e i lt = let r = round_is t b c e in (raised_written Value t b.templates c.templates m r.templates i lt, raised_written Error t b.error_templates c.error_templates m r.error_templates i lt)
 
 pub first_short : (side : Side) (t : Transition) → IsModestTransition t → AreShortBounds (first_bounds side t)
 first_short Value t m = tabulate_all (λ (x : Interval). IsShortSpan 96 (span x)) (state_bound Value t) t.states zero_interval no_ends (λ i lt. (m.lines (t.inputs + i)).range)

@@ -4,8 +4,8 @@ use Rattle.std.proofs.lemmas.List.{ext_get_or}
 use Rattle.std.proofs.lemmas.List.FromFn.{map-range_with_len_more}
 use Rattle.fx_rational.specs.Dyadic.{Dyadic, IsWritten, zero_dyadic}
 use Rattle.fx_model.specs.Tree.{at}
-use Rattle.fx_inequalities.specs.LawfulCertificate.{AreUnitRows, unit_vector, zeros}
-use Rattle.fx_inequalities.specs.Certificate.{Row, no_row}
+use Rattle.fx_inequalities.specs.LawfulCertificate.{AreUnitTemplates, unit_vector, zeros}
+use Rattle.fx_inequalities.specs.Certificate.{Template, no_template}
 use Rattle.fx_inequalities.specs.Formula.{Num}
 use Rattle.fx_inequalities.specs.Affine.{unit_coef}
 use Rattle.fx_cert.proofs.Units.{zeros_more}
@@ -89,10 +89,10 @@ entry_written i j = by (i == j)
     by true = record { small = omega arith; places = omega arith; one_spelling = λ lt. absurd (omega (arith, lt)) }
     by false = record { small = omega arith; places = omega arith; one_spelling = λ lt. absurd (omega (arith, lt)) }
 
--- ---- unit rows by their numbers
-pub units_from : (k m : ℕ) (rows : List Row) → ((i : ℕ) → i < length rows → i + m < k → (at no_row rows i).coefs ≡ unit_vector k (i + m)) → AreUnitRows k m rows
+-- ---- unit templates by their numbers
+pub units_from : (k m : ℕ) (templates : List Template) → ((i : ℕ) → i < length templates → i + m < k → (at no_template templates i).coefs ≡ unit_vector k (i + m)) → AreUnitTemplates k m templates
 units_from k m [] h = tt
-units_from k m (r ∷ rows) h = (
+units_from k m (r ∷ templates) h = (
   (let same : 0 + m ≡ m = omega arith in subst (λ (n : ℕ). n < k → r.coefs ≡ unit_vector k n) same (λ lt. h 0 (omega arith) lt)),
-  units_from k (m + 1) rows (λ i less lt. let same : suc i + m ≡ i + (m + 1) = omega arith in subst (λ (n : ℕ). (at no_row rows i).coefs ≡ unit_vector k n) same (h (suc i) (omega (arith, less)) (omega (arith, lt)))),
+  units_from k (m + 1) templates (λ i less lt. let same : suc i + m ≡ i + (m + 1) = omega arith in subst (λ (n : ℕ). (at no_template templates i).coefs ≡ unit_vector k n) same (h (suc i) (omega (arith, less)) (omega (arith, lt)))),
 )

@@ -1,6 +1,6 @@
 pub mod Listed
 pub mod Transitions
 pub mod PlainRounds
-pub mod Rows
+pub mod Templates
 pub mod Answers
 pub mod RoundView

@@ -8,9 +8,9 @@ use Rattle.fx_judging.specs.Places.{IsShortSpan}
 use Rattle.fx_template.specs.PlainRounds as model
 use Rattle.fx_template.specs.declared.round.Bounds.{Bounds}
 
--- the bounds of both kinds of rows
+-- the bounds of both kinds of templates
 abbrev pub bounds_in : Bounds → model.Bounds
-bounds_in b = record { rows = b.rows.items; error_rows = b.error_rows.items }
+bounds_in b = record { templates = b.templates.items; error_templates = b.error_templates.items }
 
 -- at most 96 binary places, also past the end
 abbrev pub AreShortBounds : List Interval → Type 0
@@ -18,4 +18,4 @@ AreShortBounds bs = (i : ℕ) → IsShortSpan 96 (span (at zero_interval bs i))
 
 -- of both
 abbrev pub AreShortBoth : model.Bounds → Type 0
-AreShortBoth b = AreShortBounds b.rows × AreShortBounds b.error_rows
+AreShortBoth b = AreShortBounds b.templates × AreShortBounds b.error_templates

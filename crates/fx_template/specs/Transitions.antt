@@ -1,4 +1,4 @@
--- One step of the states, as rows see it: how many variables there are, where the next states stand, and the lines of all nodes.
+-- One step of the states, as templates see it: how many variables there are, where the next states stand, and the lines of all nodes.
 use Rattle.std.specs.Prelude.{ℕ, ◌+◌, ◌-◌, ◌≤◌, ℤ, pos, List, length, Option, Some, None}
 use Rattle.fx_rational.specs.Dyadic.{Dyadic, zero_dyadic}
 use Rattle.fx_rational.specs.Interval.{Interval}

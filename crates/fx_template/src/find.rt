@@ -1,40 +1,40 @@
-//! Rows for a plan: what the search proposes, where it passes the test, and else the plain rounds.
+//! Templates for a plan: what the search proposes, where it passes the test, and else the plain rounds.
 
 ghost use Rattle.std.specs.Prelude.{◌≡◌, ◌+◌, ◌≤◌, ◌<◌, true, pos, length, IfOk, IfErr, IfSome};
 ghost use Rattle.fx_model.specs.Tree.{at};
 ghost use Rattle.fx_model.specs.LawfulProgram.{IsPoint};
 ghost use Rattle.fx_affine.specs.AffineView.{planned};
-ghost use Rattle.fx_cert.specs.CertificateView.{rows_in};
-ghost use Rattle.fx_conditions.specs.Limits.{AreShortLines, AreShortRows};
+ghost use Rattle.fx_cert.specs.CertificateView.{templates_in};
+ghost use Rattle.fx_conditions.specs.Limits.{AreShortLines, AreShortTemplates};
 ghost use Rattle.fx_template.specs.Transitions.{IsModestTransition, planned_lines, transition_in, transition_of};
-ghost use Rattle.fx_template.specs.Rows.{AreCountedRows, AreKept, AreWrittenBounds};
-ghost use Rattle.fx_template.specs.Answers.{HasWrittenBounds, HasWrittenStates, IsTemplate, NamesFallen, found_in};
+ghost use Rattle.fx_template.specs.Templates.{AreCountedTemplates, AreKept, AreWrittenBounds};
+ghost use Rattle.fx_template.specs.Answers.{HasWrittenBounds, HasWrittenStates, BothPass, NamesFallen, found_in};
 
-use crate::format::are_rows;
+use crate::format::are_templates;
 use crate::planned::step_by_plan;
 use crate::round::plain_rounds;
 use crate::stand::{first_fallen, is_met};
-use crate::template::{TemplateFault, Templates};
-use crate::unit::unit_rows;
+use crate::template::{TemplateFault, FoundTemplates};
+use crate::unit::unit_templates;
 use fx_affine::PlannedNodes;
-use fx_cert::{Row, Side};
+use fx_cert::{Side, Template};
 use fx_expr::Items;
 use fx_flat::Nodes;
 use fx_num::Memory;
-use fx_proposal::propose_rows;
+use fx_proposal::propose_templates;
 use fx_reach::Transition;
-use fx_row_conditions::row_judgement;
+use fx_template_conditions::template_judgement;
 use std::alloc::Global;
 
-/// Whether one step keeps each of these rows.
-fn are_kept(t: &Transition, side: &Side, rows: &[Row]) -> bool
+/// Whether one step keeps each of these templates.
+fn are_kept(t: &Transition, side: &Side, templates: &[Template]) -> bool
     requires modest { IsModestTransition (transition_in t.now) }
-    requires short { AreShortRows (rows_in rows.now) }
-    requires few { length rows.now ≤ 512 }
-    ensures { result ≡ true → AreKept side.now (transition_in t.now) (rows_in rows.now) }
+    requires short { AreShortTemplates (templates_in templates.now) }
+    requires few { length templates.now ≤ 512 }
+    ensures { result ≡ true → AreKept side.now (transition_in t.now) (templates_in templates.now) }
 {
-    for i in 0..rows.len() {
-        let kept = row_judgement(rows, side, &t.lines, t.inputs, t.states, t.next, i as u32);
+    for i in 0..templates.len() {
+        let kept = template_judgement(templates, side, &t.lines, t.inputs, t.states, t.next, i as u32);
         if !is_met(kept) {
             return false;
         }
@@ -42,68 +42,68 @@ fn are_kept(t: &Transition, side: &Side, rows: &[Row]) -> bool
     true
 }
 
-/// Whether these rows are a template's of the one kind.
-fn passes(t: &Transition, side: &Side, rows: &[Row]) -> bool
+/// Whether these templates of the one kind pass the test.
+fn passes(t: &Transition, side: &Side, templates: &[Template]) -> bool
     requires modest { IsModestTransition (transition_in t.now) }
-    ensures kept { result ≡ true → AreKept side.now (transition_in t.now) (rows_in rows.now) }
-    ensures counted { result ≡ true → AreCountedRows t.now.states (rows_in rows.now) }
-    ensures written { result ≡ true → AreWrittenBounds (rows_in rows.now) }
+    ensures kept { result ≡ true → AreKept side.now (transition_in t.now) (templates_in templates.now) }
+    ensures counted { result ≡ true → AreCountedTemplates t.now.states (templates_in templates.now) }
+    ensures written { result ≡ true → AreWrittenBounds (templates_in templates.now) }
 {
-    are_rows(rows, t.states) && are_kept(t, side, rows)
+    are_templates(templates, t.states) && are_kept(t, side, templates)
 }
 
 /// Whether a proposal is an answer.
-fn is_template(t: &Transition, proposal: &Templates) -> bool
+fn both_pass(t: &Transition, proposal: &FoundTemplates) -> bool
     requires modest { IsModestTransition (transition_in t.now) }
-    ensures template { result ≡ true → IsTemplate (transition_in t.now) (found_in proposal.now) }
+    ensures both { result ≡ true → BothPass (transition_in t.now) (found_in proposal.now) }
     ensures written { result ≡ true → HasWrittenBounds (found_in proposal.now) }
 {
-    passes(t, &Side::Value, proposal.rows.as_slice())
-        && passes(t, &Side::Error, proposal.error_rows.as_slice())
+    passes(t, &Side::Value, proposal.templates.as_slice())
+        && passes(t, &Side::Error, proposal.error_templates.as_slice())
 }
 
-/// The unit rows with the bounds that plain rounds give.
-fn plain_templates(alloc: Global, t: &Transition, rounds: u32) -> Result<Templates, TemplateFault>
+/// The unit templates with the bounds that plain rounds give.
+fn plain_templates(alloc: Global, t: &Transition, rounds: u32) -> Result<FoundTemplates, TemplateFault>
     requires modest { IsModestTransition (transition_in t.now) }
-    ensures template { IfOk result (λ f. IsTemplate (transition_in t.now) (found_in f)) }
+    ensures both { IfOk result (λ f. BothPass (transition_in t.now) (found_in f)) }
     ensures written { HasWrittenStates (transition_in t.now) → IfOk result (λ f. HasWrittenBounds (found_in f)) }
     ensures fallen { IfErr result (λ e. NamesFallen e (transition_in t.now) rounds) }
 {
     let bounds = plain_rounds(alloc, t, rounds)?;
-    let rows = unit_rows(alloc, t.states, &bounds.rows)?;
-    let error_rows = unit_rows(alloc, t.states, &bounds.error_rows)?;
-    match first_fallen(t, &bounds, &rows, &error_rows) {
-        Some(row) => Err(TemplateFault::NoRows { row }),
-        None => Ok(Templates {
-            rows: Items::from_vec(rows),
-            error_rows: Items::from_vec(error_rows),
+    let templates = unit_templates(alloc, t.states, &bounds.templates)?;
+    let error_templates = unit_templates(alloc, t.states, &bounds.error_templates)?;
+    match first_fallen(t, &bounds, &templates, &error_templates) {
+        Some(template) => Err(TemplateFault::NoTemplates { template }),
+        None => Ok(FoundTemplates {
+            templates: Items::from_vec(templates),
+            error_templates: Items::from_vec(error_templates),
         }),
     }
 }
 
-/// Rows of both kinds that might be kept, if some are found.
-fn proposed(alloc: Global, t: &Transition) -> Result<Option<Templates>, Memory> {
-    let Some(values) = propose_rows(alloc, t, &Side::Value, None, None)? else {
+/// Templates of both kinds that might be kept, if some are found.
+fn proposed(alloc: Global, t: &Transition) -> Result<Option<FoundTemplates>, Memory> {
+    let Some(values) = propose_templates(alloc, t, &Side::Value, None, None)? else {
         return Ok(None);
     };
-    match propose_rows(alloc, t, &Side::Error, None, None)? {
-        Some(errors) => Ok(Some(Templates {
-            rows: values.into_rows(),
-            error_rows: errors.into_rows(),
+    match propose_templates(alloc, t, &Side::Error, None, None)? {
+        Some(errors) => Ok(Some(FoundTemplates {
+            templates: values.into_templates(),
+            error_templates: errors.into_templates(),
         })),
         None => Ok(None),
     }
 }
 
-/// Rows for a transition, or the first unit row that doesn't stand after so many plain rounds.
-pub fn rows_over(alloc: Global, t: &Transition, rounds: u32) -> Result<Templates, TemplateFault>
+/// Templates for a transition, or the first unit template that doesn't stand after so many plain rounds.
+pub fn templates_over(alloc: Global, t: &Transition, rounds: u32) -> Result<FoundTemplates, TemplateFault>
     requires modest { IsModestTransition (transition_in t.now) }
-    ensures template { IfOk result (λ f. IsTemplate (transition_in t.now) (found_in f)) }
+    ensures both { IfOk result (λ f. BothPass (transition_in t.now) (found_in f)) }
     ensures written { HasWrittenStates (transition_in t.now) → IfOk result (λ f. HasWrittenBounds (found_in f)) }
     ensures fallen { IfErr result (λ e. NamesFallen e (transition_in t.now) rounds) }
 {
     match proposed(alloc, t)? {
-        Some(proposal) => if is_template(t, &proposal) {
+        Some(proposal) => if both_pass(t, &proposal) {
             Ok(proposal)
         } else {
             plain_templates(alloc, t, rounds)
@@ -112,19 +112,19 @@ pub fn rows_over(alloc: Global, t: &Transition, rounds: u32) -> Result<Templates
     }
 }
 
-/// Rows for a plan, or the first unit row that doesn't stand after so many plain rounds.
-pub fn find_rows(
+/// Templates for a plan, or the first unit template that doesn't stand after so many plain rounds.
+pub fn find_templates(
     alloc: Global,
     nodes: &Nodes,
     plan: &PlannedNodes,
     rounds: u32,
-) -> Result<Templates, TemplateFault>
+) -> Result<FoundTemplates, TemplateFault>
     requires modest { IsModestTransition (transition_of nodes.now (planned plan.now)) }
     requires few { length nodes.now.list ≤ 4000 }
-    ensures template { IfOk result (λ f. IsTemplate (transition_of nodes.now (planned plan.now)) (found_in f)) }
+    ensures both { IfOk result (λ f. BothPass (transition_of nodes.now (planned plan.now)) (found_in f)) }
     ensures written { HasWrittenStates (transition_of nodes.now (planned plan.now)) → IfOk result (λ f. HasWrittenBounds (found_in f)) }
     ensures fallen { IfErr result (λ e. NamesFallen e (transition_of nodes.now (planned plan.now)) rounds) }
 {
     let t = step_by_plan(alloc, nodes, plan)?;
-    rows_over(alloc, &t, rounds)
+    templates_over(alloc, &t, rounds)
 }

@@ -1,20 +1,20 @@
-//! Whether rows are such as a certificate may have.
+//! Whether templates are such as a certificate may have.
 
 ghost use Rattle.std.specs.Prelude.{◌≡◌, ◌+◌, ◌<◌, ◌≤◌, true, length, All};
 ghost use Rattle.fx_model.specs.Tree.{at};
 ghost use Rattle.fx_rational.specs.Dyadic.{IsWritten};
 ghost use Rattle.fx_rational.specs.Interval.{IsWrittenInterval};
 ghost use Rattle.fx_inequalities.specs.LawfulCertificate.{AreShares, unit_vector};
-ghost use Rattle.fx_cert.specs.CertificateView.{row_view, rows_in, shares_of};
-ghost use Rattle.fx_template.specs.Rows.{AreCountedRows, AreWrittenBounds, IsCountedRow};
+ghost use Rattle.fx_cert.specs.CertificateView.{shares_of, template_view, templates_in};
+ghost use Rattle.fx_template.specs.Templates.{AreCountedTemplates, AreWrittenBounds, IsCountedTemplate};
 
-use fx_cert::{Row, Share, unit_coef};
+use fx_cert::{Share, Template, unit_coef};
 use fx_grid::is_small;
 use fx_interval::Interval;
-use fx_num::{Dyadic, ROW_LIMIT};
+use fx_num::{Dyadic, TEMPLATE_LIMIT};
 
-/// How many rows a certificate has at most, as lists count.
-const ROWS: usize = ROW_LIMIT as usize;
+/// How many templates a certificate has at most, as lists count.
+const TEMPLATES: usize = TEMPLATE_LIMIT as usize;
 
 /// Whether a text can spell it.
 fn is_written(d: Dyadic) -> bool
@@ -55,7 +55,7 @@ fn is_unit(coefs: &[Dyadic], i: u32) -> bool
     true
 }
 
-/// Whether the rows of shares rise and are below the count, from `least` on.
+/// Whether the templates of shares rise and are below the count, from `least` on.
 fn are_shares(shares: &[Share], count: u32) -> bool
     requires { count ≤ 512 }
     ensures { result ≡ true → AreShares count 0 (shares_of shares.now) }
@@ -63,42 +63,42 @@ fn are_shares(shares: &[Share], count: u32) -> bool
     let mut least = 0;
     for share in shares {
         let share = *share;
-        if share.row < least || share.row >= count || !is_written(share.times) {
+        if share.template < least || share.template >= count || !is_written(share.times) {
             return false;
         }
-        least = share.row + 1;
+        least = share.template + 1;
     }
     true
 }
 
-/// Whether this is row `i` of so many over so many states.
-fn is_row(row: &Row, i: u32, states: u32, count: u32) -> bool
+/// Whether this is template `i` of so many over so many states.
+fn is_template(template: &Template, i: u32, states: u32, count: u32) -> bool
     requires states { states ≤ 32 }
     requires count { count ≤ 512 }
-    ensures counted { result ≡ true → IsCountedRow states count (row_view row.now) }
-    ensures written { result ≡ true → IsWrittenInterval row.now.bound }
-    ensures unit { result ≡ true → i < states → row.now.coefs ≡ unit_vector states i }
+    ensures counted { result ≡ true → IsCountedTemplate states count (template_view template.now) }
+    ensures written { result ≡ true → IsWrittenInterval template.now.bound }
+    ensures unit { result ≡ true → i < states → template.now.coefs ≡ unit_vector states i }
 {
-    let coefs = row.coefs.as_slice();
+    let coefs = template.coefs.as_slice();
     coefs.len() == states as usize
         && are_written(coefs)
         && (i >= states || is_unit(coefs, i))
-        && is_written_interval(row.bound)
-        && are_shares(row.shares.as_slice(), count)
+        && is_written_interval(template.bound)
+        && are_shares(template.shares.as_slice(), count)
 }
 
-/// Whether they are the rows of a certificate over so many states, the unit rows first.
-pub fn are_rows(rows: &[Row], states: u32) -> bool
+/// Whether they are the templates of a certificate over so many states, the unit templates first.
+pub fn are_templates(templates: &[Template], states: u32) -> bool
     requires states { states ≤ 32 }
-    ensures counted { result ≡ true → AreCountedRows states (rows_in rows.now) }
-    ensures written { result ≡ true → AreWrittenBounds (rows_in rows.now) }
+    ensures counted { result ≡ true → AreCountedTemplates states (templates_in templates.now) }
+    ensures written { result ≡ true → AreWrittenBounds (templates_in templates.now) }
 {
-    let count = rows.len();
-    if count < states as usize || count > ROWS {
+    let count = templates.len();
+    if count < states as usize || count > TEMPLATES {
         return false;
     }
     for i in 0..count {
-        if !is_row(&rows[i], i as u32, states, count as u32) {
+        if !is_template(&templates[i], i as u32, states, count as u32) {
             return false;
         }
     }

@@ -1,4 +1,4 @@
-//! Plain rounds: bounds of the unit rows alone, raised until one step keeps them or the rounds are over.
+//! Plain rounds: bounds of the unit templates alone, raised until one step keeps them or the rounds are over.
 
 ghost use Rattle.std.specs.Prelude.{◌≡◌, ◌+◌, ◌-◌, ◌<◌, pos, IfOk, Some, None};
 ghost use Rattle.std.specs.Option.{option_map};
@@ -6,27 +6,27 @@ ghost use Rattle.fx_model.specs.Tree.{at};
 ghost use Rattle.fx_rational.specs.Dyadic.{greatest, least};
 ghost use Rattle.fx_inequalities.specs.Formula.{Span};
 ghost use Rattle.fx_judging.specs.Judging.{FormsSpan};
-ghost use Rattle.fx_cert.specs.CertificateView.{rows_in};
-ghost use Rattle.fx_conditions.specs.Limits.{AreShortRows};
+ghost use Rattle.fx_cert.specs.CertificateView.{templates_in};
+ghost use Rattle.fx_conditions.specs.Limits.{AreShortTemplates};
 ghost use Rattle.fx_template.specs.Transitions.{IsModestTransition, transition_in};
-ghost use Rattle.fx_template.specs.PlainRounds.{bounds_after, bounds_at_first, first_bounds, hull, plain_rounds, raised_bound, raised_bounds, row_grid, state_bound, unit_rows};
+ghost use Rattle.fx_template.specs.PlainRounds.{bounds_after, bounds_at_first, first_bounds, hull, plain_rounds, raised_bound, raised_bounds, state_bound, template_grid, unit_templates};
 ghost use Rattle.fx_template.specs.RoundView.{AreShortBoth, AreShortBounds, bounds_in};
 
-use crate::unit::{bound_at, unit_rows};
-use fx_cert::{Row, Side, error_at, range_at};
+use crate::unit::{bound_at, unit_templates};
+use fx_cert::{Side, Template, error_at, range_at};
 use fx_grid::{Why, error_grid, narrowest_round};
 use fx_interval::{Interval, greatest, least};
 use fx_judging::interval;
 use fx_num::Memory;
 use fx_reach::Transition;
-use fx_row_conditions::row_bound_of;
+use fx_template_conditions::template_bound_of;
 use std::alloc::Global;
 
-/// The bounds of the unit rows and of the unit error rows.
+/// The bounds of the unit templates and of the unit error templates.
 #[derive(Debug, Drop)]
 pub struct Bounds {
-    pub rows: Vec<Interval>,
-    pub error_rows: Vec<Interval>,
+    pub templates: Vec<Interval>,
+    pub error_templates: Vec<Interval>,
 }
 
 /// The point of node `n`.
@@ -39,11 +39,11 @@ fn point_at(points: &[i32], n: u32) -> i32
     }
 }
 
-/// How many binary places the bound of unit row `i` has.
-fn row_grid(t: &Transition, side: &Side, i: u32) -> u32
+/// How many binary places the bound of unit template `i` has.
+fn template_grid(t: &Transition, side: &Side, i: u32) -> u32
     requires modest { IsModestTransition (transition_in t.now) }
     requires within { i < t.now.states }
-    ensures { result ≡ row_grid side.now (transition_in t.now) i }
+    ensures { result ≡ template_grid side.now (transition_in t.now) i }
 {
     match side {
         Side::Value => 24,
@@ -99,26 +99,26 @@ fn hull(a: Option<Interval>, b: Option<Interval>) -> Option<Interval>
     }
 }
 
-/// The new bound of unit row `i` of these, which have the bounds.
+/// The new bound of unit template `i` of these, which have the bounds.
 fn raised_bound(
     t: &Transition,
     side: &Side,
-    rows: &[Row],
+    templates: &[Template],
     bounds: &[Interval],
     i: u32,
 ) -> Result<Interval, Why>
     requires modest { IsModestTransition (transition_in t.now) }
     requires within { i < t.now.states }
-    requires rows { rows_in rows.now ≡ unit_rows t.now.states bounds.now }
-    requires short { AreShortRows (rows_in rows.now) }
+    requires templates { templates_in templates.now ≡ unit_templates t.now.states bounds.now }
+    requires short { AreShortTemplates (templates_in templates.now) }
     ensures { result ≡ raised_bound side.now (transition_in t.now) bounds.now i }
 {
-    let left = row_bound_of(rows, side, &t.lines, t.inputs, t.states, t.next, i);
+    let left = template_bound_of(templates, side, &t.lines, t.inputs, t.states, t.next, i);
     let held = hull(interval(bound_at(bounds, i)), left);
-    narrowest_round(held, row_grid(t, side, i))
+    narrowest_round(held, template_grid(t, side, i))
 }
 
-/// The new bounds of all unit rows, where each is there.
+/// The new bounds of all unit templates, where each is there.
 fn raised_bounds(
     alloc: Global,
     t: &Transition,
@@ -129,10 +129,10 @@ fn raised_bounds(
     requires short { AreShortBounds bounds.now }
     ensures { IfOk result (λ o. option_map (λ bs. bs.items) o ≡ raised_bounds side.now (transition_in t.now) bounds.now) }
 {
-    let rows = unit_rows(alloc, t.states, bounds)?;
+    let templates = unit_templates(alloc, t.states, bounds)?;
     let mut raised = Vec::new(alloc);
     for i in 0..t.states {
-        match raised_bound(t, side, &rows, bounds, i) {
+        match raised_bound(t, side, &templates, bounds, i) {
             Ok(bound) => raised.push(bound)?,
             Err(_) => return Ok(None),
         }
@@ -146,11 +146,11 @@ fn bounds_after(alloc: Global, t: &Transition, bounds: &Bounds) -> Result<Option
     requires short { AreShortBoth (bounds_in bounds.now) }
     ensures { IfOk result (λ o. option_map bounds_in o ≡ bounds_after (transition_in t.now) (bounds_in bounds.now)) }
 {
-    let rows = raised_bounds(alloc, t, &Side::Value, &bounds.rows)?;
-    let error_rows = raised_bounds(alloc, t, &Side::Error, &bounds.error_rows)?;
-    match rows {
-        Some(rows) => match error_rows {
-            Some(error_rows) => Ok(Some(Bounds { rows, error_rows })),
+    let templates = raised_bounds(alloc, t, &Side::Value, &bounds.templates)?;
+    let error_templates = raised_bounds(alloc, t, &Side::Error, &bounds.error_templates)?;
+    match templates {
+        Some(templates) => match error_templates {
+            Some(error_templates) => Ok(Some(Bounds { templates, error_templates })),
             None => Ok(None),
         },
         None => Ok(None),
@@ -163,8 +163,8 @@ fn bounds_at_first(alloc: Global, t: &Transition) -> Result<Bounds, Memory>
     ensures { IfOk result (λ b. bounds_in b ≡ bounds_at_first (transition_in t.now)) }
 {
     Ok(Bounds {
-        rows: first_bounds(alloc, t, &Side::Value)?,
-        error_rows: first_bounds(alloc, t, &Side::Error)?,
+        templates: first_bounds(alloc, t, &Side::Value)?,
+        error_templates: first_bounds(alloc, t, &Side::Error)?,
     })
 }
 
@@ -172,8 +172,8 @@ fn bounds_at_first(alloc: Global, t: &Transition) -> Result<Bounds, Memory>
 pub fn plain_rounds(alloc: Global, t: &Transition, rounds: u32) -> Result<Bounds, Memory>
     requires modest { IsModestTransition (transition_in t.now) }
     ensures rounds { let s = transition_in t.now in IfOk result (λ b. bounds_in b ≡ plain_rounds rounds s (bounds_at_first s)) }
-    ensures short { IfOk result (λ b. AreShortBounds b.rows.items) }
-    ensures short_errors { IfOk result (λ b. AreShortBounds b.error_rows.items) }
+    ensures short { IfOk result (λ b. AreShortBounds b.templates.items) }
+    ensures short_errors { IfOk result (λ b. AreShortBounds b.error_templates.items) }
 {
     let mut bounds = bounds_at_first(alloc, t)?;
     for _turn in 0..rounds {

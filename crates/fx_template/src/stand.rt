@@ -1,24 +1,24 @@
-//! Which unit rows stand.
+//! Which unit templates stand.
 
 ghost use Rattle.std.specs.Prelude.{◌≡◌, ◌+◌, ◌<◌, ◌&&◌, List};
 ghost use Rattle.fx_inequalities.specs.Claim.{Claim};
 ghost use Rattle.fx_grid.specs.Grid.{is_small};
 ghost use Rattle.fx_judging.specs.Judging.{judged};
-ghost use Rattle.fx_cert.specs.CertificateView.{rows_in};
-ghost use Rattle.fx_conditions.specs.Limits.{AreShortRows};
+ghost use Rattle.fx_cert.specs.CertificateView.{templates_in};
+ghost use Rattle.fx_conditions.specs.Limits.{AreShortTemplates};
 ghost use Rattle.fx_template.specs.Listed.{first_untrue};
 ghost use Rattle.fx_template.specs.Transitions.{IsModestTransition, transition_in};
-ghost use Rattle.fx_template.specs.PlainRounds.{are_met, first_fallen, stands, unit_rows};
+ghost use Rattle.fx_template.specs.PlainRounds.{are_met, first_fallen, stands, unit_templates};
 ghost use Rattle.fx_template.specs.RoundView.{bounds_in};
 
 use crate::round::Bounds;
 use crate::unit::bound_at;
-use fx_cert::{Row, Side};
+use fx_cert::{Side, Template};
 use fx_grid::is_small;
 use fx_interval::Interval;
 use fx_judging::Judgement;
 use fx_reach::Transition;
-use fx_row_conditions::row_judgement;
+use fx_template_conditions::template_judgement;
 
 /// Whether comparisons fit and are true.
 pub fn is_met(judgement: Judgement) -> bool
@@ -38,50 +38,50 @@ fn is_small_interval(x: Interval) -> bool
     is_small(x.lo) && is_small(x.hi)
 }
 
-/// Whether unit row `i` of these, which have the bounds, stands.
-fn stands(t: &Transition, side: &Side, rows: &[Row], bounds: &[Interval], i: u32) -> bool
+/// Whether unit template `i` of these, which have the bounds, stands.
+fn stands(t: &Transition, side: &Side, templates: &[Template], bounds: &[Interval], i: u32) -> bool
     requires modest { IsModestTransition (transition_in t.now) }
-    requires rows { rows_in rows.now ≡ unit_rows t.now.states bounds.now }
-    requires short { AreShortRows (rows_in rows.now) }
+    requires templates { templates_in templates.now ≡ unit_templates t.now.states bounds.now }
+    requires short { AreShortTemplates (templates_in templates.now) }
     requires within { i < t.now.states }
     ensures { result ≡ stands side.now (transition_in t.now) bounds.now i }
 {
-    let met = is_met(row_judgement(rows, side, &t.lines, t.inputs, t.states, t.next, i));
+    let met = is_met(template_judgement(templates, side, &t.lines, t.inputs, t.states, t.next, i));
     is_small_interval(bound_at(bounds, i)) && met
 }
 
-/// The first of these unit rows that doesn't stand.
-fn first_of_side(t: &Transition, side: &Side, rows: &[Row], bounds: &[Interval]) -> Option<u32>
+/// The first of these unit templates that doesn't stand.
+fn first_of_side(t: &Transition, side: &Side, templates: &[Template], bounds: &[Interval]) -> Option<u32>
     requires modest { IsModestTransition (transition_in t.now) }
-    requires rows { rows_in rows.now ≡ unit_rows t.now.states bounds.now }
-    requires short { AreShortRows (rows_in rows.now) }
+    requires templates { templates_in templates.now ≡ unit_templates t.now.states bounds.now }
+    requires short { AreShortTemplates (templates_in templates.now) }
     ensures { result ≡ first_untrue t.now.states (stands side.now (transition_in t.now) bounds.now) }
 {
     for i in 0..t.states {
-        if !stands(t, side, rows, bounds, i) {
+        if !stands(t, side, templates, bounds, i) {
             return Some(i);
         }
     }
     None
 }
 
-/// The first unit row, or else unit error row, that doesn't stand.
+/// The first unit template, or else unit error template, that doesn't stand.
 pub fn first_fallen(
     t: &Transition,
     bounds: &Bounds,
-    rows: &[Row],
-    error_rows: &[Row],
+    templates: &[Template],
+    error_templates: &[Template],
 ) -> Option<u32>
     requires modest { IsModestTransition (transition_in t.now) }
-    requires rows { rows_in rows.now ≡ unit_rows t.now.states bounds.now.rows.items }
-    requires short { AreShortRows (rows_in rows.now) }
-    requires error_rows { rows_in error_rows.now ≡ unit_rows t.now.states bounds.now.error_rows.items }
-    requires short_errors { AreShortRows (rows_in error_rows.now) }
+    requires templates { templates_in templates.now ≡ unit_templates t.now.states bounds.now.templates.items }
+    requires short { AreShortTemplates (templates_in templates.now) }
+    requires error_templates { templates_in error_templates.now ≡ unit_templates t.now.states bounds.now.error_templates.items }
+    requires short_errors { AreShortTemplates (templates_in error_templates.now) }
     ensures { result ≡ first_fallen (transition_in t.now) (bounds_in bounds.now) }
 {
-    match first_of_side(t, &Side::Value, rows, &bounds.rows) {
+    match first_of_side(t, &Side::Value, templates, &bounds.templates) {
         Some(i) => Some(i),
-        None => match first_of_side(t, &Side::Error, error_rows, &bounds.error_rows) {
+        None => match first_of_side(t, &Side::Error, error_templates, &bounds.error_templates) {
             Some(i) => Some(t.states + i),
             None => None,
         },

@@ -1,26 +1,26 @@
-//! Rows that are found, or why none are.
+//! Templates that are found, or why none are.
 
-use fx_cert::Row;
+use fx_cert::Template;
 use fx_expr::Items;
 use fx_num::Memory;
 use std::error::Error;
 use std::fmt;
 
-/// Rows that one step keeps, the unit rows first in both lists.
+/// Templates that one step keeps, the unit templates first in both lists.
 #[derive(Debug, Drop)]
-pub struct Templates {
+pub struct FoundTemplates {
     /// Of the exact values.
-    pub rows: Items<Row>,
+    pub templates: Items<Template>,
     /// Of the machine's values less the exact ones.
-    pub error_rows: Items<Row>,
+    pub error_templates: Items<Template>,
 }
 
-/// Why there are no rows.
+/// Why there are no templates.
 #[derive(Clone, Copy, Debug, PartialEq, Eq)]
 pub enum TemplateFault {
-    /// Nothing better was found, and this unit row is the first that doesn't stand after the plain rounds; unit error rows
-    /// are counted on behind the unit rows.
-    NoRows { row: u32 },
+    /// Nothing better was found, and this unit template is the first that doesn't stand after the plain rounds; unit error
+    /// templates are counted on behind the unit templates.
+    NoTemplates { template: u32 },
     /// No memory was left.
     Memory,
 }
@@ -28,7 +28,7 @@ pub enum TemplateFault {
 impl fmt::Display for TemplateFault {
     fn fmt<W: fmt::Write>(&self, f: &mut fmt::Formatter<W>) -> fmt::Result {
         match self {
-            TemplateFault::NoRows { row } => write!(f, "row {row}: no bound stands"),
+            TemplateFault::NoTemplates { template } => write!(f, "row {template}: no bound stands"),
             TemplateFault::Memory => write!(f, "out of memory"),
         }
     }

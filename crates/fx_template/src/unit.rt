@@ -1,15 +1,15 @@
-//! Unit rows, one for each state.
+//! Unit templates, one for each state.
 
 ghost use Rattle.std.specs.Prelude.{◌≡◌, ◌∷◌, ◌++◌, ◌+◌, ◌<◌, pos, length, map, IfOk};
 ghost use Rattle.fx_model.specs.Tree.{at};
 ghost use Rattle.fx_inequalities.specs.Certificate.{zero_interval};
 ghost use Rattle.fx_inequalities.specs.LawfulCertificate.{unit_vector};
-ghost use Rattle.fx_cert.specs.CertificateView.{row_view, rows_in};
-ghost use Rattle.fx_conditions.specs.Limits.{AreShortRows};
-ghost use Rattle.fx_template.specs.PlainRounds.{unit_row, unit_rows};
+ghost use Rattle.fx_cert.specs.CertificateView.{template_view, templates_in};
+ghost use Rattle.fx_conditions.specs.Limits.{AreShortTemplates};
+ghost use Rattle.fx_template.specs.PlainRounds.{unit_template, unit_templates};
 ghost use Rattle.fx_template.specs.RoundView.{AreShortBounds};
 
-use fx_cert::{Row, unit_vector};
+use fx_cert::{Template, unit_vector};
 use fx_expr::Items;
 use fx_interval::Interval;
 use fx_num::Memory;
@@ -25,29 +25,29 @@ pub fn bound_at(bounds: &[Interval], i: u32) -> Interval
     }
 }
 
-/// The unit row of state `i` among so many, with this bound and no shares.
-fn unit_row(alloc: Global, states: u32, bound: Interval, i: u32) -> Result<Row, Memory>
+/// The unit template of state `i` among so many, with this bound and no shares.
+fn unit_template(alloc: Global, states: u32, bound: Interval, i: u32) -> Result<Template, Memory>
     requires { i < states }
-    ensures { IfOk result (λ r. row_view r ≡ unit_row states bound i) }
+    ensures { IfOk result (λ r. template_view r ≡ unit_template states bound i) }
 {
-    Ok(Row {
+    Ok(Template {
         coefs: unit_vector(alloc, states, i)?,
         bound,
         shares: Items::from_vec(Vec::new(alloc)),
     })
 }
 
-/// The unit rows with these bounds.
-pub fn unit_rows(alloc: Global, states: u32, bounds: &[Interval]) -> Result<Vec<Row>, Memory>
+/// The unit templates with these bounds.
+pub fn unit_templates(alloc: Global, states: u32, bounds: &[Interval]) -> Result<Vec<Template>, Memory>
     requires { AreShortBounds bounds.now }
-    ensures rows { IfOk result (λ rows. rows_in rows.items ≡ unit_rows states bounds.now) }
-    ensures short { IfOk result (λ rows. AreShortRows (rows_in rows.items)) }
+    ensures templates { IfOk result (λ templates. templates_in templates.items ≡ unit_templates states bounds.now) }
+    ensures short { IfOk result (λ templates. AreShortTemplates (templates_in templates.items)) }
 {
-    let mut rows = Vec::new(alloc);
+    let mut templates = Vec::new(alloc);
     for i in 0..states {
         let bound = bound_at(bounds, i);
-        let row = unit_row(alloc, states, bound, i)?;
-        rows.push(row)?;
+        let template = unit_template(alloc, states, bound, i)?;
+        templates.push(template)?;
     }
-    Ok(rows)
+    Ok(templates)
 }

@@ -4,7 +4,7 @@ use Rattle.fx_cert.specs.CertificateView.{line_view}
 use Rattle.fx_calm_plan.specs.CalmPlan.{calm_line}
 use Rattle.fx_calm.specs.BoundOf.{bound_of, bounds_in}
 use Rattle.fx_calm.specs.declared.bound.Bound.{Bound}
-use Rattle.fx_calm.proofs.Rows.{pushed}
+use Rattle.fx_calm.proofs.Templates.{pushed}
 use Rattle.fx_calm.proofs.line.lines.Goals as goal
 
 pub loop-i-preserved : goal.loop-i-preserved

@@ -19,7 +19,7 @@ loop-preserved c =
     let seen = ap shares_of items ∙ map-append share_of c.loop.found.items (next ∷ []) in
     record {
       so_far = rw seen (many_goes_on (share_at a.end) above (shares_of c.loop.found.items) a.count c.loop.counter c.loop.least c.loop.fields (share_of next) c.share.new.fields (many (share_at a.end) above a.count 0 a.fields.now) c.loop-test.true c.in_ok-next.ensures.value c.loop.invariant.so_far);
-      least = omega (arith, c.in_ok-next.ensures.row);
+      least = omega (arith, c.in_ok-next.ensures.template);
     }
 
 pub returns : goal.returns

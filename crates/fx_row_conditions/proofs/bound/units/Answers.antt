@@ -1,6 +1,0 @@
-use Rattle.std.proofs.Common.{arith}
-use Rattle.fx_row_conditions.proofs.Shares.{unit_among}
-use Rattle.fx_row_conditions.proofs.bound.units.Goals as goal
-
-pub returns : goal.returns
-returns c = λ j. unit_among 192 95 j c.zero-units.result c.zero-units.ensures (omega arith)

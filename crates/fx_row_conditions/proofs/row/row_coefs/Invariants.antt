@@ -1,9 +1,0 @@
-use Rattle.std.proofs.Common.{◌+◌}
-use Rattle.fx_inequalities.specs.Formula.{Product}
-use Rattle.fx_inequalities.specs.Affine.{affine_at, rows_of, sum_of}
-use Rattle.fx_cert.specs.CertificateView.{lines_view, rows_in}
-use Rattle.fx_row_conditions.specs.Coefficients.{AreFormed}
-use Rattle.fx_row_conditions.proofs.row.row_coefs.Given as goal
-
-abbrev pub invariant-loop-j : goal.invariant-loop-j
-invariant-loop-j l = AreFormed l.coefs l.j (λ j. sum_of l.fn.states (λ s. Product ((rows_of l.fn.states (rows_in l.fn.rows)).coef l.fn.i s) ((affine_at l.fn.variables (lines_view l.fn.lines) (l.fn.next + s)).coef j)))

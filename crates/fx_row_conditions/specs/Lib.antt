@@ -1,4 +1,0 @@
-pub mod Coefficients
-pub mod Boxes
-pub mod KeptRows
-pub mod ShortTimes

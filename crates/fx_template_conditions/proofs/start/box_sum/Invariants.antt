@@ -1,0 +1,9 @@
+use Rattle.fx_inequalities.specs.Formula.{zero_span}
+use Rattle.fx_inequalities.specs.Affine.{templates_of, weighted_sum}
+use Rattle.fx_judging.specs.Judging.{FormsSpan}
+use Rattle.fx_cert.specs.CertificateView.{boxes_in, templates_in}
+use Rattle.fx_template_conditions.specs.Boxes.{box_at}
+use Rattle.fx_template_conditions.proofs.start.box_sum.Given as goal
+
+abbrev pub invariant-loop-s : goal.invariant-loop-s
+invariant-loop-s l = FormsSpan l.total (weighted_sum zero_span l.s ((templates_of l.fn.states (templates_in l.fn.templates)).coef l.fn.i) (box_at l.fn.side (boxes_in l.fn.starts)))

@@ -1,0 +1,4 @@
+pub mod Coefficients
+pub mod Boxes
+pub mod KeptTemplates
+pub mod ShortTimes

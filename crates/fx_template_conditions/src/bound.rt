@@ -1,0 +1,332 @@
+//! Where a combination of the variables lies, by templates and shares of templates.
+
+ghost use Rattle.std.specs.Prelude.{◌≡◌, ◌+◌, ◌<◌, ◌≤◌, ◌^◌, ℕ, length, None, Some, IfSome, IsTrue};
+ghost use Rattle.fx_model.specs.Tree.{at};
+ghost use Rattle.fx_rational.specs.Dyadic as model;
+ghost use Rattle.fx_rational.specs.Dyadic.{fits_128, zero_dyadic};
+ghost use Rattle.fx_inequalities.specs.Certificate.{no_template};
+ghost use Rattle.fx_inequalities.specs.Formula.{Difference, Formula, Num, Product, Span, point, span_product};
+ghost use Rattle.fx_inequalities.specs.Affine.{bound_by_templates, left_over, shared_sum, templates_of, unit_coef, weighted_sum};
+ghost use Rattle.fx_judging.specs.Judging.{Forms, FormsSpan};
+ghost use Rattle.fx_judging.specs.Places.{IsShort, IsShortSpan};
+ghost use Rattle.fx_cert.specs.CertificateView.{form_view as form_view, lines_view, shares_of, templates_in};
+ghost use Rattle.fx_template_conditions.specs.Coefficients.{AreFormed, AreLeft, AreUnits};
+ghost use Rattle.fx_template_conditions.specs.ShortTimes.{AreTimes, HasRoom};
+ghost use Rattle.fx_cert.specs.Sides.{side_at};
+ghost use Rattle.fx_conditions.specs.Limits.{AreShortLines, AreShortShares, AreShortTemplates, IsShortForm};
+
+use crate::quick::{ShortTimes, less_raised, short_times, times_ends};
+use fx_cert::{Form, NodeLine, Share, Side, Template, coef_at};
+use fx_conditions::{bound_of, scaled, scaled_number, side_of};
+use fx_interval::Interval;
+use fx_judging::{difference, number, plus, point, times};
+use fx_num::{Dyadic, INPUT_LIMIT, STATE_LIMIT};
+
+/// The most variables: all inputs and states.
+pub const VARIABLES: usize = (INPUT_LIMIT + STATE_LIMIT) as usize;
+
+/// The coefficients of a form.
+pub fn form_coefs(form: &Form, variables: u32) -> [Option<Dyadic>; VARIABLES]
+    requires form { IsShortForm (form_view form.now) }
+    requires few { variables ≤ 96 }
+    ensures { AreFormed result variables (λ j. Num (at zero_dyadic form.now.coefs j)) }
+{
+    let mut coefs: [Option<Dyadic>; VARIABLES] = [None; VARIABLES];
+    for j in 0..variables {
+        coefs[j as usize] = number(coef_at(form.coefs.as_slice(), j));
+    }
+    coefs
+}
+
+/// Coefficient `j`, which may not fit.
+fn coefficient(coefs: &[Option<Dyadic>], j: u32) -> Option<Dyadic>
+    ensures { result ≡ at None coefs.now j }
+{
+    match coefs.get(j as usize) {
+        Some(coef) => *coef,
+        None => None,
+    }
+}
+
+/// Coefficient `j` times what stands for variable `j`.
+fn variable_product(
+    coefs: &[Option<Dyadic>],
+    side: &Side,
+    lines: &[NodeLine],
+    j: u32,
+) -> Option<Interval>
+    requires { AreShortLines (lines_view lines.now) }
+    ensures { (n : ℕ) (c : ℕ → Formula) → j < n → AreFormed coefs.now n c → FormsSpan result (span_product (point (c j)) (side_at side.now (lines_view lines.now) j)) }
+{
+    times(point(coefficient(coefs, j)), side_of(side, lines, j))
+}
+
+/// With the inputs by their own spans.
+fn with_inputs(
+    start: Option<Interval>,
+    coefs: &[Option<Dyadic>],
+    side: &Side,
+    lines: &[NodeLine],
+    inputs: u32,
+) -> Option<Interval>
+    requires { AreShortLines (lines_view lines.now) }
+    ensures { (n : ℕ) (c : ℕ → Formula) (z : Span) → inputs ≤ n → AreFormed coefs.now n c → FormsSpan start z → FormsSpan result (weighted_sum z inputs c (side_at side.now (lines_view lines.now))) }
+{
+    let mut total = start;
+    for j in 0..inputs {
+        total = plus(total, variable_product(coefs, side, lines, j));
+    }
+    total
+}
+
+/// A number times a template's bound, where both are short.
+fn quick_bound(times: Dyadic, bound: &Option<Interval>) -> Option<Interval>
+    ensures { (s : Span) → FormsSpan bound.now s → IfSome result (λ i. FormsSpan (Some i) (span_product (point (Num times)) s)) }
+{
+    let Some(ends) = bound else {
+        return None;
+    };
+    times.keeps();
+    times_ends(times, *ends)
+}
+
+/// A written number times a template's bound, in 64 bits where that serves.
+fn bound_times(times: Dyadic, bound: Option<Interval>) -> Option<Interval>
+    requires { IsShort 96 (Num times) }
+    ensures { (s : Span) → IsShortSpan 512 s → FormsSpan bound s → FormsSpan result (span_product (point (Num times)) s) }
+{
+    match quick_bound(times, &bound) {
+        Some(quick) => Some(quick),
+        None => scaled(times, bound),
+    }
+}
+
+/// The bound of a share's template, so many times.
+fn share_bound(templates: &[Template], states: u32, share: Share) -> Option<Interval>
+    requires templates { AreShortTemplates (templates_in templates.now) }
+    requires times { IsShort 96 (Num share.times) }
+    ensures { FormsSpan result (span_product (point (Num share.times)) ((templates_of states (templates_in templates.now)).bound share.template)) }
+{
+    bound_times(share.times, bound_of(templates, states, share.template))
+}
+
+/// With the shares of templates.
+fn with_shares(
+    start: Option<Interval>,
+    templates: &[Template],
+    states: u32,
+    shares: &[Share],
+) -> Option<Interval>
+    requires templates { AreShortTemplates (templates_in templates.now) }
+    requires shares { AreShortShares (shares_of shares.now) }
+    ensures { (z : Span) → FormsSpan start z → FormsSpan result (shared_sum z (templates_of states (templates_in templates.now)) (shares_of shares.now)) }
+{
+    let mut total = start;
+    for share in shares {
+        total = plus(total, share_bound(templates, states, *share));
+    }
+    total
+}
+
+/// What so many times a template leave of coefficient `j`, where that is quick.
+fn quick_left(
+    coefs: &[Option<Dyadic>],
+    j: u32,
+    template: &[Dyadic],
+    k: u32,
+    times: &Option<ShortTimes>,
+) -> Option<Dyadic>
+    requires { IfSome times.now HasRoom }
+    ensures { (a : model.Dyadic) (f : Formula) → IsTrue (fits_128 a.m) → IfSome times.now (λ t. AreTimes t a) → Forms (at None coefs.now j) f →
+        IfSome result (λ d. Forms (Some d) (Difference f (Product (Num a) (Num (at zero_dyadic template.now k))))) }
+{
+    let Some(short) = times else {
+        return None;
+    };
+    let left = coefficient(coefs, j)?;
+    let coef = coef_at(template, k);
+    coef.keeps();
+    less_raised(left, *short, coef)
+}
+
+/// The same of any numbers. It stands outside of the loop, which has few that aren't quick.
+#[inline(never)]
+fn left_of(
+    coefs: &[Option<Dyadic>],
+    j: u32,
+    template: &[Dyadic],
+    k: u32,
+    times: Dyadic,
+) -> Option<Dyadic>
+    requires template { IsShort 96 (Num (at zero_dyadic template.now k)) }
+    requires times { IsShort 96 (Num times) }
+    ensures { (f : Formula) → Forms (at None coefs.now j) f → Forms result (Difference f (Product (Num times) (Num (at zero_dyadic template.now k)))) }
+{
+    let product = scaled_number(times, number(coef_at(template, k)));
+    difference(coefficient(coefs, j), product)
+}
+
+/// What so many times a template leave of the coefficients of the states, which stand behind the inputs'.
+fn take_template(
+    coefs: &mut [Option<Dyadic>; VARIABLES],
+    inputs: u32,
+    template: &[Dyadic],
+    states: u32,
+    times: Dyadic,
+)
+    requires template { (k : ℕ) → k < states → IsShort 96 (Num (at zero_dyadic template.now k)) }
+    requires times { IsShort 96 (Num times) }
+    requires few { inputs + states ≤ 96 }
+    ensures { (c : ℕ → Formula) → AreLeft coefs.old inputs states c → AreLeft coefs.new inputs states (λ k. Difference (c k) (Product (Num times) (Num (at zero_dyadic template.now k)))) }
+{
+    times.keeps();
+    let short = short_times(times);
+    for k in 0..states {
+        let j = inputs + k;
+        // assigned in each arm, so that what is quick isn't copied
+        match quick_left(&*coefs, j, template, k, &short) {
+            Some(quick) => coefs[j as usize] = Some(quick),
+            None => coefs[j as usize] = left_of(&*coefs, j, template, k, times),
+        }
+    }
+}
+
+// Where the 1 of the units stands.
+const CENTRE: usize = VARIABLES - 1;
+
+/// Zeros, a 1 and zeros again: from so many places before the 1 on they are the coefficients of a unit template.
+fn units() -> [Dyadic; 192]
+    ensures { AreUnits result }
+{
+    let mut units = [Dyadic::zero(); 2 * VARIABLES];
+    units[CENTRE] = Dyadic { m: 1, e: 0 };
+    units
+}
+
+/// The coefficients of the unit template of state `i`.
+fn unit_coefs(units: &[Dyadic], i: u32) -> &[Dyadic]
+    requires units { AreUnits units.now }
+    requires long { length units.now ≡ 192 }
+    requires few { i < 96 }
+    ensures { (k : ℕ) → Num (at zero_dyadic result.now k) ≡ unit_coef i k }
+{
+    &units[CENTRE - i as usize..]
+}
+
+/// The coefficients of a template that is no unit template.
+fn coefs_of(templates: &[Template], i: u32) -> &[Dyadic]
+    ensures { result.now ≡ (at no_template (templates_in templates.now) i).coefs }
+{
+    match templates.get(i as usize) {
+        Some(template) => template.coefs.as_slice(),
+        None => &[],
+    }
+}
+
+/// What a share leaves of the coefficients of the states.
+fn take_share(
+    coefs: &mut [Option<Dyadic>; VARIABLES],
+    inputs: u32,
+    templates: &[Template],
+    states: u32,
+    share: Share,
+    units: &[Dyadic],
+)
+    requires units { AreUnits units.now }
+    requires long { length units.now ≡ 192 }
+    requires templates { AreShortTemplates (templates_in templates.now) }
+    requires times { IsShort 96 (Num share.times) }
+    requires few { inputs + states ≤ 96 }
+    ensures { (c : ℕ → Formula) → AreLeft coefs.old inputs states c → AreLeft coefs.new inputs states (λ k. Difference (c k) (Product (Num share.times) ((templates_of states (templates_in templates.now)).coef share.template k))) }
+{
+    if share.template < states {
+        let unit = unit_coefs(units, share.template);
+        take_template(coefs, inputs, unit, states, share.times);
+    } else {
+        let template = coefs_of(templates, share.template);
+        take_template(coefs, inputs, template, states, share.times);
+    }
+}
+
+/// What the shares leave of them.
+fn take_shares(
+    coefs: &mut [Option<Dyadic>; VARIABLES],
+    inputs: u32,
+    templates: &[Template],
+    states: u32,
+    shares: &[Share],
+)
+    requires templates { AreShortTemplates (templates_in templates.now) }
+    requires shares { AreShortShares (shares_of shares.now) }
+    requires few { inputs + states ≤ 96 }
+    ensures { (c : ℕ → Formula) → AreLeft coefs.old inputs states c → AreLeft coefs.new inputs states (λ k. left_over (c k) (templates_of states (templates_in templates.now)) (shares_of shares.now) k) }
+{
+    let units = units();
+    for share in shares {
+        take_share(coefs, inputs, templates, states, *share, &units);
+    }
+}
+
+/// What is left of state `k`, times the bound of its own template.
+fn state_product(
+    lefts: &[Option<Dyadic>],
+    inputs: u32,
+    templates: &[Template],
+    states: u32,
+    k: u32,
+) -> Option<Interval>
+    requires templates { AreShortTemplates (templates_in templates.now) }
+    requires few { inputs + k < 2 ^ 32 }
+    ensures { (c : ℕ → Formula) → k < states → AreLeft lefts.now inputs states c → IsShort 192 (c k) →
+        FormsSpan result (span_product (point (c k)) ((templates_of states (templates_in templates.now)).bound k)) }
+{
+    times(
+        point(coefficient(lefts, inputs + k)),
+        bound_of(templates, states, k),
+    )
+}
+
+/// With what is left of the states, by their own templates.
+fn with_states(
+    start: Option<Interval>,
+    lefts: &[Option<Dyadic>],
+    inputs: u32,
+    templates: &[Template],
+    states: u32,
+) -> Option<Interval>
+    requires templates { AreShortTemplates (templates_in templates.now) }
+    requires few { inputs + states ≤ 96 }
+    ensures { (c : ℕ → Formula) (z : Span) → AreLeft lefts.now inputs states c → ((k : ℕ) → k < states → IsShort 192 (c k)) → FormsSpan start z →
+        FormsSpan result (weighted_sum z states c (templates_of states (templates_in templates.now)).bound) }
+{
+    let mut total = start;
+    for k in 0..states {
+        total = plus(total, state_product(lefts, inputs, templates, states, k));
+    }
+    total
+}
+
+/// Where what begins with `start` lies, and goes on with these coefficients times the variables. The shares are taken from
+/// the states' coefficients in their place.
+pub fn bound_by_templates(
+    start: Option<Interval>,
+    coefs: &mut [Option<Dyadic>; VARIABLES],
+    side: &Side,
+    lines: &[NodeLine],
+    inputs: u32,
+    templates: &[Template],
+    states: u32,
+    shares: &[Share],
+) -> Option<Interval>
+    requires lines { AreShortLines (lines_view lines.now) }
+    requires templates { AreShortTemplates (templates_in templates.now) }
+    requires shares { AreShortShares (shares_of shares.now) }
+    requires few { inputs + states ≤ 96 }
+    ensures { (c : ℕ → Formula) (z : Span) → AreFormed coefs.old (inputs + states) c → FormsSpan start z →
+        FormsSpan result (bound_by_templates inputs states c z (side_at side.now (lines_view lines.now)) (templates_of states (templates_in templates.now)) (shares_of shares.now)) }
+{
+    let first = with_inputs(start, &*coefs, side, lines, inputs);
+    let second = with_shares(first, templates, states, shares);
+    take_shares(coefs, inputs, templates, states, shares);
+    with_states(second, &*coefs, inputs, templates, states)
+}

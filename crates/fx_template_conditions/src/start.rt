@@ -1,0 +1,143 @@
+//! The condition Start: of each state, and of each template over the boxes of all.
+
+ghost use Rattle.std.specs.Prelude.{◌≡◌, [], ◌∷◌, pos};
+ghost use Rattle.fx_model.specs.Tree.{at};
+ghost use Rattle.fx_model.specs.LawfulProgram.{IsPoint};
+ghost use Rattle.fx_rational.specs.Rational.{Rational, lowest};
+ghost use Rattle.fx_inequalities.specs.Accepted.{start_of};
+ghost use Rattle.fx_inequalities.specs.Claim.{AboveFraction, BelowFraction, inside};
+ghost use Rattle.fx_inequalities.specs.Formula.{Difference, Num, point, span, span_product, word_at, zero_span};
+ghost use Rattle.fx_inequalities.specs.Affine.{templates_of, weighted_sum};
+ghost use Rattle.fx_judging.specs.Judging.{FormsSpan, judged};
+ghost use Rattle.fx_cert.specs.CertificateView.{boxes_in, templates_in};
+ghost use Rattle.fx_conditions.specs.Limits.{AreShortBoxes, AreShortTemplates};
+ghost use Rattle.fx_cert.specs.declared.side.Side.TheVariants as sides;
+ghost use Rattle.fx_template_conditions.specs.Boxes.{box_at};
+
+use fx_cert::{Side, StartBox, Template};
+use fx_conditions::{bound_of, template_coef_of, zero_fraction};
+use fx_expr::Function;
+use fx_fraction::{Fraction, to_fraction};
+use fx_interval::Interval;
+use fx_judging::{
+    Judgement, difference, interval, lies_in, number, plus, point, reaches, times, word_value, zero,
+};
+
+/// The box of state `s`.
+fn box_of(starts: &[StartBox], side: &Side, s: u32) -> Option<Interval>
+    ensures { FormsSpan result (box_at side.now (boxes_in starts.now) s) }
+{
+    interval(box_interval(starts, side, s))
+}
+
+/// The same as it is written.
+pub fn box_interval(starts: &[StartBox], side: &Side, s: u32) -> Interval
+    ensures { span result ≡ box_at side.now (boxes_in starts.now) s }
+{
+    match starts.get(s as usize) {
+        Some(start) => match side {
+            Side::Value => start.range,
+            Side::Error => start.error,
+        },
+        None => Interval::zero(),
+    }
+}
+
+/// Coefficient `s` of template `i` times the box of state `s`.
+fn box_summand(
+    templates: &[Template],
+    states: u32,
+    side: &Side,
+    starts: &[StartBox],
+    i: u32,
+    s: u32,
+) -> Option<Interval>
+    requires starts { AreShortBoxes (boxes_in starts.now) }
+    requires templates { AreShortTemplates (templates_in templates.now) }
+    ensures { FormsSpan result (span_product (point ((templates_of states (templates_in templates.now)).coef i s)) (box_at side.now (boxes_in starts.now) s)) }
+{
+    times(
+        point(template_coef_of(templates, states, i, s)),
+        box_of(starts, side, s),
+    )
+}
+
+/// Template `i` of the boxes.
+fn box_sum(templates: &[Template], states: u32, side: &Side, starts: &[StartBox], i: u32) -> Option<Interval>
+    requires starts { AreShortBoxes (boxes_in starts.now) }
+    requires templates { AreShortTemplates (templates_in templates.now) }
+    ensures { FormsSpan result (weighted_sum zero_span states ((templates_of states (templates_in templates.now)).coef i) (box_at side.now (boxes_in starts.now))) }
+{
+    let mut total = zero();
+    for s in 0..states {
+        total = plus(total, box_summand(templates, states, side, starts, i, s));
+    }
+    total
+}
+
+/// The start meets template `i`.
+pub fn start_template_judgement(
+    templates: &[Template],
+    states: u32,
+    side: &Side,
+    starts: &[StartBox],
+    i: u32,
+) -> Judgement
+    requires starts { AreShortBoxes (boxes_in starts.now) }
+    requires templates { AreShortTemplates (templates_in templates.now) }
+    ensures { let rs = templates_of states (templates_in templates.now) in
+        result ≡ judged (inside (weighted_sum zero_span states (rs.coef i) (box_at side.now (boxes_in starts.now))) (rs.bound i)) }
+{
+    lies_in(
+        box_sum(templates, states, side, starts, i),
+        bound_of(templates, states, i),
+    )
+}
+
+/// The declared start of state `k`.
+fn start_fraction(function: &Function, k: u32) -> Fraction
+    ensures { result ≡ lowest (start_of function.now k) }
+{
+    match function.states.as_slice().get(k as usize) {
+        Some(state) => to_fraction(state.start),
+        None => zero_fraction(),
+    }
+}
+
+/// A fraction lies in an interval.
+fn fraction_within(x: Fraction, limit: Interval) -> Judgement
+    ensures { (r : Rational) → x ≡ lowest r → result ≡ judged (BelowFraction (Num limit.lo) r ∷ AboveFraction r (Num limit.hi) ∷ []) }
+{
+    reaches(number(limit.lo), x, x, number(limit.hi))
+}
+
+/// The difference of a word's value and a fraction lies in an interval.
+fn word_near(x: Fraction, word: i64, place: i32, limit: Interval) -> Judgement
+    requires { IsPoint place }
+    ensures { (r : Rational) → x ≡ lowest r → result ≡ judged (BelowFraction (Difference (word_at word place) (Num limit.hi)) r ∷ AboveFraction r (Difference (word_at word place) (Num limit.lo)) ∷ []) }
+{
+    reaches(
+        difference(word_value(word, place), number(limit.hi)),
+        x,
+        x,
+        difference(word_value(word, place), number(limit.lo)),
+    )
+}
+
+/// State `k` starts in its boxes.
+pub fn start_judgement(
+    function: &Function,
+    starts: &[StartBox],
+    k: u32,
+    word: i64,
+    place: i32,
+) -> Judgement
+    requires { IsPoint place }
+    ensures { let a = box_at sides.Value (boxes_in starts.now) k in let b = box_at sides.Error (boxes_in starts.now) k in let x = start_of function.now k in
+        result ≡ judged (BelowFraction a.lo x ∷ AboveFraction x a.hi ∷ BelowFraction (Difference (word_at word place) b.hi) x ∷ AboveFraction x (Difference (word_at word place) b.lo) ∷ []) }
+{
+    let x = start_fraction(function, k);
+    let value = fraction_within(x, box_interval(starts, &Side::Value, k));
+    let error = word_near(x, word, place, box_interval(starts, &Side::Error, k));
+    value.and(error)
+}
