@@ -16,7 +16,8 @@ ghost use Rattle.fx_cert_reader.specs.CertificateReading.{templates_at, steps_at
 
 use crate::lines::{BoxLines, NodeLines, StartLines, StepLines, TemplateLines};
 use crate::read_line::{
-    CertificateSizes, TemplateCounts, read_headline, read_sizes, read_step_count, read_template_counts,
+    CertificateSizes, TemplateCounts, read_headline, read_sizes, read_step_count,
+    read_template_counts,
 };
 use fx_cert::{Certificate, Template};
 use fx_expr::Items;
@@ -55,12 +56,18 @@ fn step_count_line(line: u32, text: &[u8]) -> Result<(u32, &[u8]), TextFault>
 }
 
 #[tactic(auto, unfolding(fx_text::specs::Lines::line_by))]
-fn template_counts_line(states: u32, line: u32, text: &[u8]) -> Result<(TemplateCounts, &[u8]), TextFault>
+fn template_counts_line(
+    states: u32,
+    line: u32,
+    text: &[u8],
+) -> Result<(TemplateCounts, &[u8]), TextFault>
     ensures value { ReadsAll (λ x. (template_counts_of x.0, x.1.now)) result (line_by (template_counts_at states) line text.now) }
     ensures range { IfOk result (λ x. AreTemplateCounts states (template_counts_of x.0)) }
 {
     let (mut fields, rest) = fields_at(line, text)?;
-    let counts = read_template_counts(states, &mut fields).map_err(|kind| TextFault::at(line, kind))?;
+    let counts = read_template_counts(states, &mut fields).map_err(|kind| TextFault::at(
+        line, kind,
+    ))?;
     Ok((counts, rest))
 }
 
@@ -115,9 +122,18 @@ fn all_templates_at<'a>(
     ensures error_templates { IfOk result (λ x. length x.1.items ≤ template_limit) }
 {
     let (counts, rest) = template_counts_line(states, line, text)?;
-    let TemplateCounts { templates, error_templates } = counts;
+    let TemplateCounts {
+        templates,
+        error_templates,
+    } = counts;
     let (found, rest) = templates_at(alloc, line + 1, states, templates, rest)?;
-    let (found_errors, rest) = templates_at(alloc, line + 1 + templates, states, error_templates, rest)?;
+    let (found_errors, rest) = templates_at(
+        alloc,
+        line + 1 + templates,
+        states,
+        error_templates,
+        rest,
+    )?;
     Ok((found, found_errors, rest))
 }
 

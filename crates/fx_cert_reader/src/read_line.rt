@@ -18,7 +18,9 @@ use crate::share::{shares, shares_if_any};
 use fx_cert::{Form, NodeLine, StartBox, Template, unit_vector};
 use fx_expr::Items;
 use fx_interval::Interval;
-use fx_num::{INPUT_LIMIT, NODE_LIMIT, PLACE_END, RULE_COUNT, STATE_LIMIT, STEP_LIMIT, TEMPLATE_LIMIT};
+use fx_num::{
+    INPUT_LIMIT, NODE_LIMIT, PLACE_END, RULE_COUNT, STATE_LIMIT, STEP_LIMIT, TEMPLATE_LIMIT,
+};
 use fx_step::Step;
 use fx_text::{
     Fields, TextKind, count, dyadic, dyadics, ended, interval as ends, place, small, word,
@@ -119,7 +121,10 @@ pub fn read_start(fields: &mut Fields<'_>) -> Result<StartBox, TextKind>
 
 /// `rows R E`, with at least one of either for each state.
 #[tactic(auto, unfolding(crate::specs::LineReading::template_counts_at))]
-pub fn read_template_counts(states: u32, fields: &mut Fields<'_>) -> Result<TemplateCounts, TextKind>
+pub fn read_template_counts(
+    states: u32,
+    fields: &mut Fields<'_>,
+) -> Result<TemplateCounts, TextKind>
     ensures value { ReadsAll template_counts_of result (template_counts_at states fields.old) }
     ensures range { IfOk result (λ s. AreTemplateCounts states (template_counts_of s)) }
 {
@@ -127,7 +132,10 @@ pub fn read_template_counts(states: u32, fields: &mut Fields<'_>) -> Result<Temp
     let templates = count(fields, states, TEMPLATE_LIMIT)?;
     let error_templates = count(fields, states, TEMPLATE_LIMIT)?;
     ended(fields)?;
-    Ok(TemplateCounts { templates, error_templates })
+    Ok(TemplateCounts {
+        templates,
+        error_templates,
+    })
 }
 
 /// `box LO HI SHARES`, the unit template `i` among `end` templates.

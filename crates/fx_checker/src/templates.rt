@@ -57,7 +57,12 @@ fn keeps_template(program: &Program, certificate: &Certificate, side: &Side, i: 
 }
 
 /// Whether the start meets template `i`.
-fn starts_in_template(program: &Program, certificate: &Certificate, side: &Side, i: u32) -> Judgement
+fn starts_in_template(
+    program: &Program,
+    certificate: &Certificate,
+    side: &Side,
+    i: u32,
+) -> Judgement
     requires short { IsShortCertificate (certificate_of certificate.now) }
     ensures { let p = program.now in let cert = certificate_of certificate.now in result ≡ judged (start_template_claims p.states (templates_of p.states (templates_by side.now cert)) (box_at side.now cert.starts) i) }
 {

@@ -80,7 +80,11 @@ fn with_inputs(c: &Combination<'_>) -> Option<Interval> {
 fn with_shares(first: Interval, templates: &[Template], shares: &[Share]) -> Option<Interval> {
     let mut total = first;
     for share in shares {
-        total = plus_scaled(total, share.times, templates.get(share.template as usize)?.bound)?;
+        total = plus_scaled(
+            total,
+            share.times,
+            templates.get(share.template as usize)?.bound,
+        )?;
     }
     Some(total)
 }
@@ -94,7 +98,10 @@ fn coef_at(templates: &[Template], i: u32, k: usize) -> Option<Dyadic> {
 fn left_of(coef: Dyadic, templates: &[Template], shares: &[Share], k: usize) -> Option<Dyadic> {
     let mut left = coef;
     for share in shares {
-        left = dsub(left, times(share.times, coef_at(templates, share.template, k)?)?)?;
+        left = dsub(
+            left,
+            times(share.times, coef_at(templates, share.template, k)?)?,
+        )?;
     }
     Some(left)
 }

@@ -88,9 +88,18 @@ impl<'a> ScaledTemplates<'a> {
         let costs = unit_costs(alloc, pool)?;
         let mut templates = Vec::new(alloc);
         for i in pool.templates.states..pool.templates.len() {
-            templates.push(scaled_template(alloc, pool.templates.template(i), &costs, pool.cost(i))?)?;
+            templates.push(scaled_template(
+                alloc,
+                pool.templates.template(i),
+                &costs,
+                pool.cost(i),
+            )?)?;
         }
-        Ok(ScaledTemplates { pool, costs, templates })
+        Ok(ScaledTemplates {
+            pool,
+            costs,
+            templates,
+        })
     }
 
     /// How many states the templates are of.
@@ -182,7 +191,12 @@ impl Basis {
     }
 
     /// The entering template in terms of the basis.
-    fn column(&self, alloc: Global, template: &[i128], sign: i128) -> Result<Option<Vec<i128>>, Memory> {
+    fn column(
+        &self,
+        alloc: Global,
+        template: &[i128],
+        sign: i128,
+    ) -> Result<Option<Vec<i128>>, Memory> {
         let mut column = Vec::new(alloc);
         for own in &self.inverse {
             match dot(own, template) {
@@ -337,7 +351,11 @@ fn reduce_row(own: &mut Vec<i128>, row: &[i128], c: i128) -> Option<()> {
 }
 
 /// The entering template itself.
-fn entering_template(alloc: Global, scaled: &ScaledTemplates<'_>, i: usize) -> Result<Vec<i128>, Memory> {
+fn entering_template(
+    alloc: Global,
+    scaled: &ScaledTemplates<'_>,
+    i: usize,
+) -> Result<Vec<i128>, Memory> {
     let states = scaled.pool.templates.states;
     if i < states {
         return unit_vector(alloc, states, i, ONE);
@@ -418,7 +436,10 @@ fn basis_cost(basis: &Basis, cost: i128) -> i128 {
 /// How many products one exchange comes to, about.
 fn step_work(scaled: &ScaledTemplates<'_>) -> u64 {
     let states = scaled.pool.templates.states;
-    let templates = scaled.templates.len().saturating_add(states.saturating_mul(4));
+    let templates = scaled
+        .templates
+        .len()
+        .saturating_add(states.saturating_mul(4));
     templates.saturating_mul(states) as u64
 }
 

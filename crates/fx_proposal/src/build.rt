@@ -154,7 +154,11 @@ impl<'a> Building<'a> {
         let mut before: usize = 0;
         for time in times.iter().skip(1) {
             let time = *time;
-            let template = self.put_template(&chain.ahead, time, room_at(own, time, length, has_gaps))?;
+            let template = self.put_template(
+                &chain.ahead,
+                time,
+                room_at(own, time, length, has_gaps),
+            )?;
             self.join(number, last, before, template, time)?;
             last = template;
             before = time;
@@ -193,15 +197,25 @@ impl<'a> Building<'a> {
         time: usize,
     ) -> Result<(), Memory> {
         let Some(times) = closing else {
-            self.ends.push(End { chain, time, template })?;
+            self.ends.push(End {
+                chain,
+                time,
+                template,
+            })?;
             return Ok(());
         };
         if times.m == 0 {
             return Ok(());
         }
         let own = u32::try_from(template).unwrap_or(u32::MAX);
-        self.pool
-            .put_share(self.alloc, template, Share { template: own, times })
+        self.pool.put_share(
+            self.alloc,
+            template,
+            Share {
+                template: own,
+                times,
+            },
+        )
     }
 
     /// Adds a chain of at most so many templates. False where growing times don't suffice.

@@ -34,13 +34,19 @@ fn state_part(alloc: Global, t: &Transition, node: u32) -> Result<Option<Vec<i12
         is_some = is_some || entry != 0;
         template.push(entry)?;
     }
-    if is_some { Ok(Some(template)) } else { Ok(None) }
+    if is_some {
+        Ok(Some(template))
+    } else {
+        Ok(None)
+    }
 }
 
 /// Whether a template begins a chain, or is the image of what begins one.
 fn is_known(chains: &[Chain], template: &[i128]) -> bool {
     for chain in chains {
-        if chain.ahead.templates.template(0) == template || chain.ahead.templates.template(1) == template {
+        if chain.ahead.templates.template(0) == template
+            || chain.ahead.templates.template(1) == template
+        {
             return true;
         }
     }

@@ -40,7 +40,8 @@ impl Proposal {
         let j = place.checked_rem(linear.states).unwrap_or(0);
         let difference = linear.entry(k, j).abs_diff(self.linear.entry(k, j));
         let most = left_fits(self.pool.templates.width(k), COMMON_BITS).unwrap_or(i128::MAX);
-        difference.saturating_mul(self.pool.templates.width(j).unsigned_abs()) <= most.unsigned_abs()
+        difference.saturating_mul(self.pool.templates.width(j).unsigned_abs())
+            <= most.unsigned_abs()
     }
 
     /// Whether the linear part agrees with another step's.

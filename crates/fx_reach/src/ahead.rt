@@ -43,7 +43,10 @@ impl Ahead {
             return Ok(None);
         };
         self.templates.push_reach((lo, hi))?;
-        linear.push_image(&mut self.templates.entries, t.saturating_mul(self.templates.states))
+        linear.push_image(
+            &mut self.templates.entries,
+            t.saturating_mul(self.templates.states),
+        )
     }
 
     /// Steps up to this one.
@@ -124,7 +127,11 @@ impl Halves {
 }
 
 /// Looks ahead from a template, until its drives end. None where they don't.
-pub fn look_ahead(alloc: Global, linear: &Linear, template: &[i128]) -> Result<Option<Ahead>, Memory> {
+pub fn look_ahead(
+    alloc: Global,
+    linear: &Linear,
+    template: &[i128],
+) -> Result<Option<Ahead>, Memory> {
     let mut ahead = Ahead {
         templates: Templates {
             states: linear.states,

@@ -81,7 +81,12 @@ fn magnitude_of(d: Dyadic) -> Option<i32> {
 }
 
 /// A vector of zeros but for one entry.
-pub fn unit_vector(alloc: Global, states: usize, i: usize, entry: i128) -> Result<Vec<i128>, Memory> {
+pub fn unit_vector(
+    alloc: Global,
+    states: usize,
+    i: usize,
+    entry: i128,
+) -> Result<Vec<i128>, Memory> {
     let mut template = vec![in alloc; 0_i128; states]?;
     if let Some(slot) = template.get_mut(i) {
         *slot = entry;

@@ -14,7 +14,7 @@ use crate::format::are_templates;
 use crate::planned::step_by_plan;
 use crate::round::plain_rounds;
 use crate::stand::{first_fallen, is_met};
-use crate::template::{TemplateFault, FoundTemplates};
+use crate::template::{FoundTemplates, TemplateFault};
 use crate::unit::unit_templates;
 use fx_affine::PlannedNodes;
 use fx_cert::{Side, Template};
@@ -34,7 +34,9 @@ fn are_kept(t: &Transition, side: &Side, templates: &[Template]) -> bool
     ensures { result ≡ true → AreKept side.now (transition_in t.now) (templates_in templates.now) }
 {
     for i in 0..templates.len() {
-        let kept = template_judgement(templates, side, &t.lines, t.inputs, t.states, t.next, i as u32);
+        let kept = template_judgement(
+            templates, side, &t.lines, t.inputs, t.states, t.next, i as u32,
+        );
         if !is_met(kept) {
             return false;
         }
@@ -63,7 +65,11 @@ fn both_pass(t: &Transition, proposal: &FoundTemplates) -> bool
 }
 
 /// The unit templates with the bounds that plain rounds give.
-fn plain_templates(alloc: Global, t: &Transition, rounds: u32) -> Result<FoundTemplates, TemplateFault>
+fn plain_templates(
+    alloc: Global,
+    t: &Transition,
+    rounds: u32,
+) -> Result<FoundTemplates, TemplateFault>
     requires modest { IsModestTransition (transition_in t.now) }
     ensures both { IfOk result (λ f. BothPass (transition_in t.now) (found_in f)) }
     ensures written { HasWrittenStates (transition_in t.now) → IfOk result (λ f. HasWrittenBounds (found_in f)) }
@@ -96,7 +102,11 @@ fn proposed(alloc: Global, t: &Transition) -> Result<Option<FoundTemplates>, Mem
 }
 
 /// Templates for a transition, or the first unit template that doesn't stand after so many plain rounds.
-pub fn templates_over(alloc: Global, t: &Transition, rounds: u32) -> Result<FoundTemplates, TemplateFault>
+pub fn templates_over(
+    alloc: Global,
+    t: &Transition,
+    rounds: u32,
+) -> Result<FoundTemplates, TemplateFault>
     requires modest { IsModestTransition (transition_in t.now) }
     ensures both { IfOk result (λ f. BothPass (transition_in t.now) (found_in f)) }
     ensures written { HasWrittenStates (transition_in t.now) → IfOk result (λ f. HasWrittenBounds (found_in f)) }

@@ -19,7 +19,7 @@ mod unit;
 ghost use Rattle.fx_template.specs.Templates.{WrittenLaw};
 
 pub use find::{find_templates, templates_over};
-pub use template::{TemplateFault, FoundTemplates};
+pub use template::{FoundTemplates, TemplateFault};
 
 /// Counted templates whose bounds can be spelled are templates that a certificate may have.
 pub fn written_law()

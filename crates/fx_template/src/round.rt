@@ -150,7 +150,10 @@ fn bounds_after(alloc: Global, t: &Transition, bounds: &Bounds) -> Result<Option
     let error_templates = raised_bounds(alloc, t, &Side::Error, &bounds.error_templates)?;
     match templates {
         Some(templates) => match error_templates {
-            Some(error_templates) => Ok(Some(Bounds { templates, error_templates })),
+            Some(error_templates) => Ok(Some(Bounds {
+                templates,
+                error_templates,
+            })),
             None => Ok(None),
         },
         None => Ok(None),

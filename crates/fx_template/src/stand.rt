@@ -51,7 +51,12 @@ fn stands(t: &Transition, side: &Side, templates: &[Template], bounds: &[Interva
 }
 
 /// The first of these unit templates that doesn't stand.
-fn first_of_side(t: &Transition, side: &Side, templates: &[Template], bounds: &[Interval]) -> Option<u32>
+fn first_of_side(
+    t: &Transition,
+    side: &Side,
+    templates: &[Template],
+    bounds: &[Interval],
+) -> Option<u32>
     requires modest { IsModestTransition (transition_in t.now) }
     requires templates { templates_in templates.now ≡ unit_templates t.now.states bounds.now }
     requires short { AreShortTemplates (templates_in templates.now) }

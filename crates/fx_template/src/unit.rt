@@ -38,7 +38,11 @@ fn unit_template(alloc: Global, states: u32, bound: Interval, i: u32) -> Result<
 }
 
 /// The unit templates with these bounds.
-pub fn unit_templates(alloc: Global, states: u32, bounds: &[Interval]) -> Result<Vec<Template>, Memory>
+pub fn unit_templates(
+    alloc: Global,
+    states: u32,
+    bounds: &[Interval],
+) -> Result<Vec<Template>, Memory>
     requires { AreShortBounds bounds.now }
     ensures templates { IfOk result (λ templates. templates_in templates.items ≡ unit_templates states bounds.now) }
     ensures short { IfOk result (λ templates. AreShortTemplates (templates_in templates.items)) }

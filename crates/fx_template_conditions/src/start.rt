@@ -63,7 +63,13 @@ fn box_summand(
 }
 
 /// Template `i` of the boxes.
-fn box_sum(templates: &[Template], states: u32, side: &Side, starts: &[StartBox], i: u32) -> Option<Interval>
+fn box_sum(
+    templates: &[Template],
+    states: u32,
+    side: &Side,
+    starts: &[StartBox],
+    i: u32,
+) -> Option<Interval>
     requires starts { AreShortBoxes (boxes_in starts.now) }
     requires templates { AreShortTemplates (templates_in templates.now) }
     ensures { FormsSpan result (weighted_sum zero_span states ((templates_of states (templates_in templates.now)).coef i) (box_at side.now (boxes_in starts.now))) }
