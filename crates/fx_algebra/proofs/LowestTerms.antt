@@ -11,10 +11,17 @@ use Rattle.fx_algebra.proofs.Integers.{eq_by_certificate}
 use Rattle.fx_algebra.proofs.Quote.{by_quotes, quotes}
 
 mod_scaled : (a b c : ℕ) → 0 < b → (a * c) % (b * c) ≡ (a % b) * c
-mod_scaled a b zero h = let e : a * 0 ≡ 0 = omega arith in let f : b * 0 ≡ 0 = omega arith in let g : (a % b) * 0 ≡ 0 = omega arith in rw (e, f, g) refl
+mod_scaled a b zero h =
+    let e : a * 0 ≡ 0 = omega arith in
+    let f : b * 0 ≡ 0 = omega arith in
+    let g : (a % b) * 0 ≡ 0 = omega arith in
+    rw (e, f, g) refl
 mod_scaled a b (suc k) h =
-    let e : a * suc k ≡ a / b * (b * suc k) + (a % b) * suc k = omega (arith, ap (λ (n : ℕ). n * suc k) (div-add-mod' a b)) in
-    ap (λ (n : ℕ). n % (b * suc k)) e ∙ mod-mul-add (a / b) (b * suc k) ((a % b) * suc k) (let l = mod_below a b h in grind (arith, mul-le-mul_right (suc k) l))
+    let e : a * suc k ≡ a / b * (b * suc k) + (a % b) * suc k =
+    omega (arith, ap (λ (n : ℕ). n * suc k) (div-add-mod' a b)) in
+    ap (λ (n : ℕ). n % (b * suc k)) e
+    ∙ mod-mul-add (a / b) (b * suc k) ((a % b) * suc k) (let l = mod_below a b h in
+    grind (arith, mul-le-mul_right (suc k) l))
 
 pub scaled : (n a b : ℕ) → b ≤ n → (g : ℕ) × IsGcd a b g × ((c : ℕ) → IsGcd (a * c) (b * c) (g * c))
 scaled n a zero h = (a, IsGcd-from_zero a 0 refl, λ c. IsGcd-from_zero (a * c) (0 * c) (omega arith))
@@ -46,7 +53,8 @@ gcd_within_is : (n a b : ℕ) → b ≤ n → IsGcd a b (gcd_within n a b)
 gcd_within_is n a zero h = IsGcd-from_zero a 0 refl
 gcd_within_is zero a (suc b) h = absurd (omega arith)
 gcd_within_is (suc n) a (suc b) h =
-    IsGcd-from_mod a (suc b) (gcd_within n (suc b) (a % suc b)) (gcd_within_is n (suc b) (a % suc b) (let l = mod_below a (suc b) (zero-lt-suc b) in omega arith))
+    IsGcd-from_mod a (suc b) (gcd_within n (suc b) (a % suc b))
+    (gcd_within_is n (suc b) (a % suc b) (let l = mod_below a (suc b) (zero-lt-suc b) in omega arith))
 
 pub gcd_is : GcdLaw
 unfolding gcd
@@ -56,10 +64,12 @@ gcd_is a b = gcd_within_is b a b (omega arith)
 -- a factor above zero on both sides goes away
 cancelled : (p r : ℤ) (s : ℕ) → 0 < s → p *ℤ pos s ≡ r *ℤ pos s → p ≡ r
 cancelled p r s above e = eq_by_certificate {c = pos s} (omega (arith, ints))
-    (let d : pos s *ℤ (r -ℤ p) ≡ r *ℤ pos s -ℤ p *ℤ pos s = by_quotes {ρ = p ∷ r ∷ pos s ∷ []} (search quotes depth 20) (search quotes depth 20) refl in omega (arith, ints))
+    (let d : pos s *ℤ (r -ℤ p) ≡ r *ℤ pos s -ℤ p *ℤ pos s = by_quotes {ρ = p ∷ r ∷ pos s ∷ []} (search quotes depth 20)
+    (search quotes depth 20) refl in omega (arith, ints))
 
 pub one_spelling : OneSpellingLaw
 one_spelling p r q s h k e =
-    let same : unsigned_abs p * s ≡ unsigned_abs r * q = sym (unsigned_abs-mul p (pos s)) ∙ ap unsigned_abs e ∙ unsigned_abs-mul r (pos q) in
+    let same : unsigned_abs p * s ≡ unsigned_abs r * q = sym (unsigned_abs-mul p (pos s)) ∙ ap unsigned_abs e
+    ∙ unsigned_abs-mul r (pos q) in
     let below : q ≡ s = lowest_den (unsigned_abs p) q (unsigned_abs r) s h.coprime k.coprime same in
     (cancelled p r s k.above (subst (λ (n : ℕ). p *ℤ pos s ≡ r *ℤ pos n) below e), below)

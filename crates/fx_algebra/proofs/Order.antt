@@ -6,10 +6,14 @@ use Rattle.fx_algebra.proofs.Integers.{le_by_certificate, mul_nonneg, difference
 use Rattle.fx_algebra.proofs.Quote.{by_quotes, quotes}
 
 pub mul_le_right : {a b c : ℤ} → a ≤ℤ b → pos 0 ≤ℤ c → (a *ℤ c) ≤ℤ (b *ℤ c)
-mul_le_right {a} {b} {c} h k = le_by_certificate one_above (mul_nonneg (difference_nonneg h) k) (by_quotes {ρ = a ∷ b ∷ c ∷ []} (search quotes depth 20) (search quotes depth 20) refl)
+mul_le_right {a} {b} {c} h k =
+    le_by_certificate one_above (mul_nonneg (difference_nonneg h) k)
+    (by_quotes {ρ = a ∷ b ∷ c ∷ []} (search quotes depth 20) (search quotes depth 20) refl)
 
 pub le_of_mul : {a b c : ℤ} → pos 0 <ℤ c → (a *ℤ c) ≤ℤ (b *ℤ c) → a ≤ℤ b
-le_of_mul {a} {b} {c} h k = le_by_certificate h (difference_nonneg k) (by_quotes {ρ = a ∷ b ∷ c ∷ []} (search quotes depth 20) (search quotes depth 20) refl)
+le_of_mul {a} {b} {c} h k =
+    le_by_certificate h (difference_nonneg k)
+    (by_quotes {ρ = a ∷ b ∷ c ∷ []} (search quotes depth 20) (search quotes depth 20) refl)
 
 pub lt_of_mul : {a b c : ℤ} → pos 0 ≤ℤ c → (a *ℤ c) <ℤ (b *ℤ c) → a <ℤ b
 lt_of_mul {a} {b} {c} h k = by_lt_z a b (λ l. l) (λ l. absurd (let p = mul_le_right l h in omega (arith, ints)))

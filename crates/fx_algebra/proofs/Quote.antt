@@ -42,7 +42,8 @@ q7 = record { quote = var 7; is = refl }
 abbrev pub q8 : {x x0 x1 x2 x3 x4 x5 x6 x7 : ℤ} {ρ : List ℤ} → Quote (x0 ∷ x1 ∷ x2 ∷ x3 ∷ x4 ∷ x5 ∷ x6 ∷ x7 ∷ x ∷ ρ) x
 q8 = record { quote = var 8; is = refl }
 
-abbrev pub q9 : {x x0 x1 x2 x3 x4 x5 x6 x7 x8 : ℤ} {ρ : List ℤ} → Quote (x0 ∷ x1 ∷ x2 ∷ x3 ∷ x4 ∷ x5 ∷ x6 ∷ x7 ∷ x8 ∷ x ∷ ρ) x
+abbrev pub q9 : {x x0 x1 x2 x3 x4 x5 x6 x7 x8 : ℤ} {ρ : List ℤ} →
+    Quote (x0 ∷ x1 ∷ x2 ∷ x3 ∷ x4 ∷ x5 ∷ x6 ∷ x7 ∷ x8 ∷ x ∷ ρ) x
 q9 = record { quote = var 9; is = refl }
 
 abbrev pub q_lit : {ρ : List ℤ} (n : ℕ) → Quote ρ (pos n)
@@ -59,5 +60,6 @@ q_two = record { quote = lit (pos 2); is = refl }
 
 pub ruleset quotes = (q0, q1, q2, q3, q4, q5, q6, q7, q8, q9, q_zero, q_one, q_two, q_add, q_mul, q_neg)
 
-pub by_quotes : {ρ : List ℤ} {a b : ℤ} (p : Quote ρ a) (q : Quote ρ b) → vanishes (normal_form (sub p.quote q.quote)) ≡ true → a ≡ b
+pub by_quotes : {ρ : List ℤ} {a b : ℤ} (p : Quote ρ a) (q : Quote ρ b) →
+    vanishes (normal_form (sub p.quote q.quote)) ≡ true → a ≡ b
 by_quotes {ρ} p q e = sym p.is ∙ ring ρ p.quote q.quote e ∙ q.is

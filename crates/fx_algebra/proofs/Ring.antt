@@ -1,4 +1,5 @@
--- A normaliser of polynomial expressions over ℤ: `ring ρ a b refl` proves `value_in a ρ ≡ value_in b ρ` where the two have one normal form.
+-- A normaliser of polynomial expressions over ℤ: `ring ρ a b refl` proves `value_in a ρ ≡ value_in b ρ` where the two
+-- have one normal form.
 use Rattle.std.proofs.Common.{◌≡◌, ℕ, zero, suc, refl, sym, ap, subst, ◌∙◌, arith, pos, negsuc, ℤ, ◌+ℤ◌, ◌-ℤ◌, ◌*ℤ◌, neg_ℤ, List, [], ◌∷◌, Bool, true, false, T, ltb, eqb, eqb→eq}
 use Rattle.std.proofs.lemmas.Int.{ints}
 use lib.IntN.{*ℤ_comm}
@@ -53,7 +54,8 @@ same_variables (v ∷ vs) (w ∷ ws) = elim (eqb v w) [ true ↦ same_variables 
 
 abbrev pub add_term : ℤ → List ℕ → List Monomial → List Monomial
 add_term c vs [] = term c vs ∷ []
-add_term c vs (term d ws ∷ p) = elim (same_variables vs ws) [ true ↦ term (c +ℤ d) ws ∷ p | false ↦ term d ws ∷ add_term c vs p ]
+add_term c vs (term d ws ∷ p) =
+    elim (same_variables vs ws) [ true ↦ term (c +ℤ d) ws ∷ p | false ↦ term d ws ∷ add_term c vs p ]
 
 abbrev pub add_terms : List Monomial → List Monomial → List Monomial
 add_terms [] q = q
@@ -92,13 +94,15 @@ product-insert : (v : ℕ) (ws : List ℕ) (ρ : List ℤ) → product_in (inser
 product-insert v [] ρ = refl
 product-insert v (w ∷ ws) ρ = by (product-insert v ws ρ) (ltb w v)
   where
-    by : product_in (insert v ws) ρ ≡ at ρ v *ℤ product_in ws ρ → (t : Bool) → product_in (elim t [ true ↦ w ∷ insert v ws | false ↦ v ∷ w ∷ ws ]) ρ ≡ at ρ v *ℤ (at ρ w *ℤ product_in ws ρ)
+    by : product_in (insert v ws) ρ ≡ at ρ v *ℤ product_in ws ρ → (t : Bool) →
+        product_in (elim t [ true ↦ w ∷ insert v ws | false ↦ v ∷ w ∷ ws ]) ρ ≡ at ρ v *ℤ (at ρ w *ℤ product_in ws ρ)
     by h true = ap (λ z. at ρ w *ℤ z) h ∙ left_comm (at ρ w) (at ρ v) (product_in ws ρ)
     by h false = refl
 
 product-merge : (vs ws : List ℕ) (ρ : List ℤ) → product_in (merge vs ws) ρ ≡ product_in vs ρ *ℤ product_in ws ρ
 product-merge [] ws ρ = sym (one-*ℤ (product_in ws ρ))
-product-merge (v ∷ vs) ws ρ = product-insert v (merge vs ws) ρ ∙ ap (λ z. at ρ v *ℤ z) (product-merge vs ws ρ) ∙ sym (*ℤ_assoc (at ρ v) (product_in vs ρ) (product_in ws ρ))
+product-merge (v ∷ vs) ws ρ = product-insert v (merge vs ws) ρ ∙ ap (λ z. at ρ v *ℤ z) (product-merge vs ws ρ)
+    ∙ sym (*ℤ_assoc (at ρ v) (product_in vs ρ) (product_in ws ρ))
 
 same_variables-eq : (vs ws : List ℕ) (ρ : List ℤ) → same_variables vs ws ≡ true → product_in vs ρ ≡ product_in ws ρ
 same_variables-eq [] [] ρ e = refl
@@ -106,23 +110,33 @@ same_variables-eq [] (w ∷ ws) ρ e = cc
 same_variables-eq (v ∷ vs) [] ρ e = cc
 same_variables-eq (v ∷ vs) (w ∷ ws) ρ e = by (same_variables-eq vs ws ρ) (eqb v w) refl e
   where
-    by : (same_variables vs ws ≡ true → product_in vs ρ ≡ product_in ws ρ) → (t : Bool) → eqb v w ≡ t → elim t [ true ↦ same_variables vs ws | false ↦ false ] ≡ true → at ρ v *ℤ product_in vs ρ ≡ at ρ w *ℤ product_in ws ρ
+    by : (same_variables vs ws ≡ true → product_in vs ρ ≡ product_in ws ρ) → (t : Bool) → eqb v w ≡ t →
+        elim t [ true ↦ same_variables vs ws | false ↦ false ] ≡ true →
+        at ρ v *ℤ product_in vs ρ ≡ at ρ w *ℤ product_in ws ρ
     by h true p q = ap (λ i. at ρ i *ℤ product_in vs ρ) (eqb→eq v w (subst T (sym p) tt)) ∙ ap (λ z. at ρ w *ℤ z) (h q)
     by h false p q = cc
 
-sum-add_term : (c : ℤ) (vs : List ℕ) (p : List Monomial) (ρ : List ℤ) → sum_in (add_term c vs p) ρ ≡ c *ℤ product_in vs ρ +ℤ sum_in p ρ
+sum-add_term : (c : ℤ) (vs : List ℕ) (p : List Monomial) (ρ : List ℤ) →
+    sum_in (add_term c vs p) ρ ≡ c *ℤ product_in vs ρ +ℤ sum_in p ρ
 sum-add_term c vs [] ρ = refl
 sum-add_term c vs (term d ws ∷ p) ρ = by (sum-add_term c vs p ρ) (same_variables vs ws) refl
   where
-    by : sum_in (add_term c vs p) ρ ≡ c *ℤ product_in vs ρ +ℤ sum_in p ρ → (t : Bool) → same_variables vs ws ≡ t → sum_in (elim t [ true ↦ term (c +ℤ d) ws ∷ p | false ↦ term d ws ∷ add_term c vs p ]) ρ ≡ c *ℤ product_in vs ρ +ℤ (d *ℤ product_in ws ρ +ℤ sum_in p ρ)
-    by h true e = let q = +ℤ-*ℤ c d (product_in ws ρ) in let r = ap (λ z. c *ℤ z) (same_variables-eq vs ws ρ e) in omega (arith, ints, q, r)
+    by : sum_in (add_term c vs p) ρ ≡ c *ℤ product_in vs ρ +ℤ sum_in p ρ → (t : Bool) → same_variables vs ws ≡ t →
+        sum_in (elim t [ true ↦ term (c +ℤ d) ws ∷ p | false ↦ term d ws ∷ add_term c vs p ]) ρ ≡ c *ℤ product_in vs ρ
+        +ℤ (d *ℤ product_in ws ρ +ℤ sum_in p ρ)
+    by h true e =
+        let q = +ℤ-*ℤ c d (product_in ws ρ) in
+        let r = ap (λ z. c *ℤ z) (same_variables-eq vs ws ρ e) in
+        omega (arith, ints, q, r)
     by h false e = omega (arith, ints, h)
 
 sum-add_terms : (p q : List Monomial) (ρ : List ℤ) → sum_in (add_terms p q) ρ ≡ sum_in p ρ +ℤ sum_in q ρ
 sum-add_terms [] q ρ = omega (arith, ints)
-sum-add_terms (term c vs ∷ p) q ρ = let h = sum-add_term c vs (add_terms p q) ρ in let k = sum-add_terms p q ρ in omega (arith, ints, h, k)
+sum-add_terms (term c vs ∷ p) q ρ =
+    let h = sum-add_term c vs (add_terms p q) ρ in let k = sum-add_terms p q ρ in omega (arith, ints, h, k)
 
-sum-scaled : (c : ℤ) (vs : List ℕ) (p : List Monomial) (ρ : List ℤ) → sum_in (scaled c vs p) ρ ≡ c *ℤ product_in vs ρ *ℤ sum_in p ρ
+sum-scaled : (c : ℤ) (vs : List ℕ) (p : List Monomial) (ρ : List ℤ) →
+    sum_in (scaled c vs p) ρ ≡ c *ℤ product_in vs ρ *ℤ sum_in p ρ
 sum-scaled c vs [] ρ = omega (arith, ints)
 sum-scaled c vs (term d ws ∷ p) ρ =
     sum-add_term (c *ℤ d) (merge vs ws) (scaled c vs p) ρ
@@ -145,10 +159,21 @@ sum-multiplied (term c vs ∷ p) q ρ =
 sum-normal_form : (e : Polynomial) (ρ : List ℤ) → sum_in (normal_form e) ρ ≡ value_in e ρ
 sum-normal_form (var i) ρ = omega (arith, ints)
 sum-normal_form (lit k) ρ = omega (arith, ints)
-sum-normal_form (add a b) ρ = let h = sum-add_terms (normal_form a) (normal_form b) ρ in let x = sum-normal_form a ρ in let y = sum-normal_form b ρ in omega (arith, ints, h, x, y)
-sum-normal_form (sub a b) ρ = let h = sum-add_terms (scaled (negsuc 0) [] (normal_form b)) (normal_form a) ρ in let k = sum-scaled (negsuc 0) [] (normal_form b) ρ in let x = sum-normal_form a ρ in let y = sum-normal_form b ρ in omega (arith, ints, h, k, x, y)
-sum-normal_form (mul a b) ρ = sum-multiplied (normal_form a) (normal_form b) ρ ∙ ap (λ z. z *ℤ sum_in (normal_form b) ρ) (sum-normal_form a ρ) ∙ ap (λ z. value_in a ρ *ℤ z) (sum-normal_form b ρ)
-sum-normal_form (neg a) ρ = let k = sum-scaled (negsuc 0) [] (normal_form a) ρ in let x = sum-normal_form a ρ in omega (arith, ints, k, x)
+sum-normal_form (add a b) ρ =
+    let h = sum-add_terms (normal_form a) (normal_form b) ρ in
+    let x = sum-normal_form a ρ in
+    let y = sum-normal_form b ρ in
+    omega (arith, ints, h, x, y)
+sum-normal_form (sub a b) ρ =
+    let h = sum-add_terms (scaled (negsuc 0) [] (normal_form b)) (normal_form a) ρ in
+    let k = sum-scaled (negsuc 0) [] (normal_form b) ρ in
+    let x = sum-normal_form a ρ in
+    let y = sum-normal_form b ρ in
+    omega (arith, ints, h, k, x, y)
+sum-normal_form (mul a b) ρ = sum-multiplied (normal_form a) (normal_form b) ρ
+    ∙ ap (λ z. z *ℤ sum_in (normal_form b) ρ) (sum-normal_form a ρ) ∙ ap (λ z. value_in a ρ *ℤ z) (sum-normal_form b ρ)
+sum-normal_form (neg a) ρ =
+    let k = sum-scaled (negsuc 0) [] (normal_form a) ρ in let x = sum-normal_form a ρ in omega (arith, ints, k, x)
 
 is_zero-eq : (c : ℤ) → is_zero c ≡ true → c ≡ pos 0
 is_zero-eq (pos zero) e = refl
@@ -159,9 +184,11 @@ sum-vanishes : (p : List Monomial) (ρ : List ℤ) → vanishes p ≡ true → s
 sum-vanishes [] ρ e = refl
 sum-vanishes (term c vs ∷ p) ρ e = by (sum-vanishes p ρ) (is_zero c) refl e
   where
-    by : (vanishes p ≡ true → sum_in p ρ ≡ pos 0) → (t : Bool) → is_zero c ≡ t → elim t [ true ↦ vanishes p | false ↦ false ] ≡ true → c *ℤ product_in vs ρ +ℤ sum_in p ρ ≡ pos 0
+    by : (vanishes p ≡ true → sum_in p ρ ≡ pos 0) → (t : Bool) → is_zero c ≡ t →
+        elim t [ true ↦ vanishes p | false ↦ false ] ≡ true → c *ℤ product_in vs ρ +ℤ sum_in p ρ ≡ pos 0
     by f true h k = let z = ap (λ x. x *ℤ product_in vs ρ) (is_zero-eq c h) in let q = f k in omega (arith, ints, z, q)
     by f false h k = cc
 
 pub ring : (ρ : List ℤ) (a b : Polynomial) → vanishes (normal_form (sub a b)) ≡ true → value_in a ρ ≡ value_in b ρ
-ring ρ a b e = let h = sum-normal_form (sub a b) ρ in let k = sum-vanishes (normal_form (sub a b)) ρ e in omega (arith, ints, h, k)
+ring ρ a b e =
+    let h = sum-normal_form (sub a b) ρ in let k = sum-vanishes (normal_form (sub a b)) ρ e in omega (arith, ints, h, k)

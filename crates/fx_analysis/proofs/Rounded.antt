@@ -18,7 +18,8 @@ use Rattle.fx_analysis.specs.PlainAttempt.{Attempt, placed_codes, attempt_of, wi
 use Rattle.fx_analysis.specs.Attempts.{with_steps}
 use Rattle.fx_analysis.specs.AttemptLaws.{RoundedLaw}
 
-code_rounded : (n : ℕ) (r : Round) (fn : Function) (ps : List ℤ) (node : Node) (f : ℤ) → RoundsBy r n (placed_code n r fn ps node f)
+code_rounded : (n : ℕ) (r : Round) (fn : Function) (ps : List ℤ) (node : Node) (f : ℤ) →
+    RoundsBy r n (placed_code n r fn ps node f)
 code_rounded n r fn ps (Input j) f = tt
 code_rounded n r fn ps (State j) f = tt
 code_rounded n r fn ps (Const c) f = tt
@@ -29,22 +30,29 @@ code_rounded n r fn ps (Mul a b) f = refl
 code_rounded n r fn ps (Div a b) f = tt
 code_rounded n r fn ps (Copy a) f = refl
 
-pub codes_rounded : (n : ℕ) (r : Round) (fn : Function) (ps : List ℤ) (nodes : List Node) (fs : List ℤ) → All (RoundsBy r n) (placed_codes n r fn ps nodes fs)
+pub codes_rounded : (n : ℕ) (r : Round) (fn : Function) (ps : List ℤ) (nodes : List Node) (fs : List ℤ) →
+    All (RoundsBy r n) (placed_codes n r fn ps nodes fs)
 codes_rounded n r fn ps [] fs = All-nil (RoundsBy r n)
 codes_rounded n r fn ps (node ∷ nodes) [] = All-nil (RoundsBy r n)
 codes_rounded n r fn ps (node ∷ nodes) (f ∷ fs) =
-    All-cons (RoundsBy r n) (placed_code n r fn ps node f) (placed_codes n r fn ps nodes fs) (code_rounded n r fn ps node f) (codes_rounded n r fn ps nodes fs)
+    All-cons (RoundsBy r n) (placed_code n r fn ps node f) (placed_codes n r fn ps nodes fs)
+    (code_rounded n r fn ps node f) (codes_rounded n r fn ps nodes fs)
 
 -- ---- of the plain attempt
-attempt_rounded : (n : ℕ) (r : Round) (fn : Function) (gs : List Interval) (ps : List ℤ) (hs : List Interval) → IsRoundedBy r (attempt_of n r fn gs ps hs).program
+attempt_rounded : (n : ℕ) (r : Round) (fn : Function) (gs : List Interval) (ps : List ℤ) (hs : List Interval) →
+    IsRoundedBy r (attempt_of n r fn gs ps hs).program
 attempt_rounded n r fn gs ps hs = record { version = refl; codes = codes_rounded n r fn ps (nodes_of fn) ps }
 
 module _ (n : ℕ) (r : Round) (fn : Function) (t : Attempt) where
-  by_errors : (gs : List Interval) (ps : List ℤ) (hs : Result (List Interval) Absent) → with_errors n r fn gs ps hs ≡ Some t → IsRoundedBy r t.program
-  by_errors gs ps (Ok hs) e = let same : attempt_of n r fn gs ps hs ≡ t = cc in subst (λ (x : Attempt). IsRoundedBy r x.program) same (attempt_rounded n r fn gs ps hs)
+  by_errors : (gs : List Interval) (ps : List ℤ) (hs : Result (List Interval) Absent) →
+      with_errors n r fn gs ps hs ≡ Some t → IsRoundedBy r t.program
+  by_errors gs ps (Ok hs) e =
+      let same : attempt_of n r fn gs ps hs ≡ t = cc in
+      subst (λ (x : Attempt). IsRoundedBy r x.program) same (attempt_rounded n r fn gs ps hs)
   by_errors gs ps (Err why) e = absurd cc
 
-  by_points : (gs : List Interval) (ps : Result (List ℤ) Absent) → with_points n r fn gs ps ≡ Some t → IsRoundedBy r t.program
+  by_points : (gs : List Interval) (ps : Result (List ℤ) Absent) → with_points n r fn gs ps ≡ Some t →
+      IsRoundedBy r t.program
   by_points gs (Ok ps) e = by_errors gs ps (plain_errors n r fn ps gs []) e
   by_points gs (Err why) e = absurd cc
 
@@ -56,8 +64,10 @@ module _ (n : ℕ) (r : Round) (fn : Function) (t : Attempt) where
 pub rounded_after : RoundedLaw
 rounded_after n r fn steps t there = by (plain_attempt n r (rewritten_by rewrite fn steps)) refl there
   where
-    by : (a : Option Attempt) → plain_attempt n r (rewritten_by rewrite fn steps) ≡ a → option_map (with_steps steps) a ≡ Some t → IsRoundedBy r t.program
+    by : (a : Option Attempt) → plain_attempt n r (rewritten_by rewrite fn steps) ≡ a →
+        option_map (with_steps steps) a ≡ Some t → IsRoundedBy r t.program
     by None e h = absurd cc
     by (Some u) e h =
         let same : with_steps steps u ≡ t = cc in
-        subst (λ (x : Attempt). IsRoundedBy r x.program) same (by_ranges n r (rewritten_by rewrite fn steps) u (plain_ranges (rewritten_by rewrite fn steps) []) e)
+        subst (λ (x : Attempt). IsRoundedBy r x.program) same
+        (by_ranges n r (rewritten_by rewrite fn steps) u (plain_ranges (rewritten_by rewrite fn steps) []) e)

@@ -30,14 +30,17 @@ abbrev pub commands : Names
 commands = names_of (built fixd_app)
 
 -- the words after a command go to it
-stopped-walk : (w : Walk) (name : Bytes) (seen words : List Bytes) → walk_fault top commands (record w { stopped = Some (name, seen) }) words ≡ []
+stopped-walk : (w : Walk) (name : Bytes) (seen words : List Bytes) →
+    walk_fault top commands (record w { stopped = Some (name, seen) }) words ≡ []
 unfolding walk_fault walked
 stopped-walk w name seen [] = refl
 stopped-walk w name seen (x ∷ xs) = stopped-walk w name (seen ++ x ∷ []) xs
 
 -- the faults of the top, by its walk
 abbrev by_walk : Kinds → Walk → Bool
-by_walk first w = is_nil (or_else first (or_else (entered_fault (built fixd_app) w.stopped) (or_else (settle_fault [] false w.held) (or_else (defaults_fault (settled [] w.held).rows [])
+by_walk first w =
+    is_nil (or_else first (or_else (entered_fault (built fixd_app) w.stopped)
+    (or_else (settle_fault [] false w.held) (or_else (defaults_fault (settled [] w.held).rows [])
     (check_fault top (finished [] w.held) (is_some (entered (built fixd_app) w.stopped)))))))
 
 -- a command of this name takes options and FILE, and is made of their values
@@ -45,9 +48,13 @@ pub record IsCommand (name : Bytes) : Type 0 where
   pub options : List (Bytes × Bool)
   pub apart : AreApart options
   pub known : options_of name ≡ Some (option_names options)
-  pub faults : (rest : List Bytes) → is_nil (fault_of fixd_app (name ∷ rest)) ≡ is_nil (faults_from name (options_rules options) (walk_at [] settled_now 1 false) rest)
-  pub rows : (rest : List Bytes) → subcommand_of fixd_app (name ∷ rest) ≡ Some (name, rows_after (options_rules options) [] rest)
-  pub wants : (ps : List Entry) → has_required (options_rules options) ps ≡ false → command_given name (value_named ps) ≡ None
+  pub faults : (rest : List Bytes) →
+      is_nil (fault_of fixd_app (name ∷ rest))
+      ≡ is_nil (faults_from name (options_rules options) (walk_at [] settled_now 1 false) rest)
+  pub rows : (rest : List Bytes) →
+      subcommand_of fixd_app (name ∷ rest) ≡ Some (name, rows_after (options_rules options) [] rest)
+  pub wants : (ps : List Entry) → has_required (options_rules options) ps ≡ false →
+      command_given name (value_named ps) ≡ None
 
 -- the walk has stopped at a command of this name, after these words
 abbrev stopped_at : Bytes → List Bytes → Walk
@@ -59,18 +66,23 @@ module _ (name : Bytes) (options : List (Bytes × Bool))
     ≡ by_walk (walk_fault top commands (stopped_at name []) rest) (fold (walked [] commands) (stopped_at name []) rest))
     (enters : (rest : List Bytes) → by_walk [] (stopped_at name rest)
     ≡ is_nil (or_else (faults_from name (options_rules options) (walk_at [] settled_now 1 false) rest) []))
-    (stops : (rest : List Bytes) → subcommand_of fixd_app (name ∷ rest) ≡ entered (built fixd_app) (fold (walked [] commands) (stopped_at name []) rest).stopped)
-    (finds : (rest : List Bytes) → entered (built fixd_app) (Some (name, rest)) ≡ Some (name, rows_after (options_rules options) [] rest)) where
+    (stops : (rest : List Bytes) →
+    subcommand_of fixd_app (name ∷ rest)
+    ≡ entered (built fixd_app) (fold (walked [] commands) (stopped_at name []) rest).stopped)
+    (finds : (rest : List Bytes) →
+    entered (built fixd_app) (Some (name, rest)) ≡ Some (name, rows_after (options_rules options) [] rest)) where
   after-name : (rest : List Bytes) → fold (walked [] commands) (stopped_at name []) rest ≡ stopped_at name rest
   after-name rest = sym (walk_stopped [] commands (walk_from nothing_held) name [] rest)
 
   is-one : AreApart options → options_of name ≡ Some (option_names options)
-      → ((ps : List Entry) → has_required (options_rules options) ps ≡ false → command_given name (value_named ps) ≡ None) → IsCommand name
+      → ((ps : List Entry) → has_required (options_rules options) ps ≡ false →
+      command_given name (value_named ps) ≡ None) → IsCommand name
   is-one apart known wants = record {
     options = options;
     apart = apart;
     known = known;
-    faults = λ rest. starts rest ∙ ap₂ by_walk (stopped-walk (walk_from nothing_held) name [] rest) (after-name rest) ∙ enters rest
+    faults = λ rest. starts rest ∙ ap₂ by_walk (stopped-walk (walk_from nothing_held) name [] rest) (after-name rest)
+        ∙ enters rest
         ∙ nil-or_else (faults_from name (options_rules options) (walk_at [] settled_now 1 false) rest) [] ∙ and-true _;
     rows = λ rest. stops rest ∙ ap (λ (w : Walk). entered (built fixd_app) w.stopped) (after-name rest) ∙ finds rest;
     wants = wants;
@@ -83,45 +95,67 @@ wants-file name made is ps e = made-of-file name made is (value_named ps) ∙ ap
 
 run-is-one : IsCommand (codes "run")
 unfolding walk_fault walked defaults_fault
-run-is-one = is-one (codes "run") [] (λ rest. refl) (λ rest. refl) (λ rest. refl) (λ rest. refl) tt refl (wants-file (codes "run") words.Run refl)
+run-is-one =
+    is-one (codes "run") [] (λ rest. refl) (λ rest. refl) (λ rest. refl) (λ rest. refl) tt refl
+    (wants-file (codes "run") words.Run refl)
 
 check-is-one : IsCommand (codes "check")
 unfolding walk_fault walked defaults_fault
-check-is-one = is-one (codes "check") [] (λ rest. refl) (λ rest. refl) (λ rest. refl) (λ rest. refl) tt refl (wants-file (codes "check") words.Check refl)
+check-is-one =
+    is-one (codes "check") [] (λ rest. refl) (λ rest. refl) (λ rest. refl) (λ rest. refl) tt refl
+    (wants-file (codes "check") words.Check refl)
 
 show-is-one : IsCommand (codes "show")
 unfolding walk_fault walked defaults_fault
-show-is-one = is-one (codes "show") [] (λ rest. refl) (λ rest. refl) (λ rest. refl) (λ rest. refl) tt refl (wants-file (codes "show") words.Show refl)
+show-is-one =
+    is-one (codes "show") [] (λ rest. refl) (λ rest. refl) (λ rest. refl) (λ rest. refl) tt refl
+    (wants-file (codes "show") words.Show refl)
 
 migrate-is-one : IsCommand (codes "migrate")
 unfolding walk_fault walked defaults_fault
-migrate-is-one = is-one (codes "migrate") [] (λ rest. refl) (λ rest. refl) (λ rest. refl) (λ rest. refl) tt refl (wants-file (codes "migrate") words.Migrate refl)
+migrate-is-one =
+    is-one (codes "migrate") [] (λ rest. refl) (λ rest. refl) (λ rest. refl) (λ rest. refl) tt refl
+    (wants-file (codes "migrate") words.Migrate refl)
 
 mixed-is-one : IsCommand (codes "mixed")
 unfolding walk_fault walked defaults_fault
-mixed-is-one = is-one (codes "mixed") [] (λ rest. refl) (λ rest. refl) (λ rest. refl) (λ rest. refl) tt refl (wants-file (codes "mixed") words.Mixed refl)
+mixed-is-one =
+    is-one (codes "mixed") [] (λ rest. refl) (λ rest. refl) (λ rest. refl) (λ rest. refl) tt refl
+    (wants-file (codes "mixed") words.Mixed refl)
 
 widths-is-one : IsCommand (codes "widths")
 unfolding walk_fault walked defaults_fault
-widths-is-one = is-one (codes "widths") [] (λ rest. refl) (λ rest. refl) (λ rest. refl) (λ rest. refl) tt refl (wants-file (codes "widths") words.Widths refl)
+widths-is-one =
+    is-one (codes "widths") [] (λ rest. refl) (λ rest. refl) (λ rest. refl) (λ rest. refl) tt refl
+    (wants-file (codes "widths") words.Widths refl)
 
 rust-is-one : IsCommand (codes "rust")
 unfolding walk_fault walked defaults_fault
-rust-is-one = is-one (codes "rust") [] (λ rest. refl) (λ rest. refl) (λ rest. refl) (λ rest. refl) tt refl (wants-file (codes "rust") words.Rust refl)
+rust-is-one =
+    is-one (codes "rust") [] (λ rest. refl) (λ rest. refl) (λ rest. refl) (λ rest. refl) tt refl
+    (wants-file (codes "rust") words.Rust refl)
 
 node-is-one : IsCommand (codes "node")
 unfolding walk_fault walked defaults_fault
-node-is-one = is-one (codes "node") ((codes "units", true) ∷ []) (λ rest. refl) (λ rest. refl) (λ rest. refl) (λ rest. refl) (refl, tt) refl no-node
+node-is-one =
+    is-one (codes "node") ((codes "units", true) ∷ []) (λ rest. refl) (λ rest. refl) (λ rest. refl) (λ rest. refl)
+    (refl, tt) refl no-node
 
 synth-is-one : IsCommand (codes "synth")
 unfolding walk_fault walked defaults_fault
 synth-is-one =
-    is-one (codes "synth") ((codes "width", true) ∷ (codes "function", false) ∷ (codes "seed", false) ∷ (codes "tries", false) ∷ (codes "round", false) ∷ [])
-    (λ rest. refl) (λ rest. refl) (λ rest. refl) (λ rest. refl) (refl, (refl, (refl, (refl, (refl, tt))))) refl no-synthesis
+    is-one (codes "synth") ((codes "width", true) ∷ (codes "function", false) ∷ (codes "seed", false)
+    ∷ (codes "tries", false) ∷ (codes "round", false) ∷ [])
+    (λ rest. refl) (λ rest. refl) (λ rest. refl) (λ rest. refl) (
+      refl,
+      (refl, (refl, (refl, (refl, tt)))),
+    ) refl no-synthesis
 
 demo-is-one : IsCommand (codes "demo")
 unfolding walk_fault walked defaults_fault
-demo-is-one = is-one (codes "demo") [] (λ rest. refl) (λ rest. refl) (λ rest. refl) (λ rest. refl) tt refl (λ ps e. ap demo_given (no-file ps e))
+demo-is-one =
+    is-one (codes "demo") [] (λ rest. refl) (λ rest. refl) (λ rest. refl) (λ rest. refl) tt refl
+    (λ ps e. ap demo_given (no-file ps e))
 
 -- ---- a first word that is none
 
@@ -135,34 +169,50 @@ after-dashes [] = refl
 after-dashes (x ∷ xs) = refl
 
 module _ (word : Bytes) (no_command : subcommand_met commands idle word ≡ None) (flagged : HasFirstFlag word) where
-  word-fault : ends_options word ≡ false → word_fault top commands false idle word nothing_held ≡ flag_word_fault [] false (long_of word) word nothing_held
-  word-fault e = ap (λ o. other_fault top o word nothing_held) no_command ∙ ap (λ (b : Bool). if b then [] else flag_word_fault [] false (long_of word) word nothing_held) e
+  word-fault : ends_options word ≡ false →
+      word_fault top commands false idle word nothing_held ≡ flag_word_fault [] false (long_of word) word nothing_held
+  word-fault e = ap (λ o. other_fault top o word nothing_held) no_command
+      ∙ ap (λ (b : Bool). if b then [] else flag_word_fault [] false (long_of word) word nothing_held) e
 
-  word-met : ends_options word ≡ false → word_met [] commands false idle 1 word nothing_held ≡ long_or_other [] idle word (long_of word) nothing_held
-  word-met e = ap (λ o. subcommand_or_other [] o idle 1 word nothing_held) no_command ∙ ap (λ (b : Bool). if b then (nothing_held, trailing 1) else long_or_other [] idle word (long_of word) nothing_held) e
+  word-met : ends_options word ≡ false →
+      word_met [] commands false idle 1 word nothing_held ≡ long_or_other [] idle word (long_of word) nothing_held
+  word-met e = ap (λ o. subcommand_or_other [] o idle 1 word nothing_held) no_command
+      ∙ ap (λ (b : Bool). if b then (nothing_held, trailing 1)
+      else long_or_other [] idle word (long_of word) nothing_held) e
 
-  flag-fault : ends_options word ≡ false → is_dashed word ≡ true → (l : Option (Bytes × Option Bytes)) → long_of word ≡ l → is_nil (flag_word_fault [] false l word nothing_held) ≡ false
+  flag-fault : ends_options word ≡ false → is_dashed word ≡ true → (l : Option (Bytes × Option Bytes)) →
+      long_of word ≡ l → is_nil (flag_word_fault [] false l word nothing_held) ≡ false
   unfolding flags_fault
   flag-fault e d (Some p) is_long = refl
   flag-fault e d None is_long =
-      ap (λ o. is_nil (option_map_or (λ flags. bundle_fault [] false flags nothing_held) o [])) (short-met word d e is_long)
+      ap (λ o. is_nil (option_map_or (λ flags. bundle_fault [] false flags nothing_held) o []))
+      (short-met word d e is_long)
       ∙ first (drop 1 word) (length (drop 1 word)) (flagged d).0 (flagged d).1 (flagged d).2 where
-        first : (flags : Bytes) (k x : ℕ) → slice_get (chars flags) 0 ≡ Some x → k ≢ 0 → is_nil (flags_fault [] false k flags 0 (record nothing_held { skip = 0 })) ≡ false
+        first : (flags : Bytes) (k x : ℕ) → slice_get (chars flags) 0 ≡ Some x → k ≢ 0 →
+            is_nil (flags_fault [] false k flags 0 (record nothing_held { skip = 0 })) ≡ false
         first flags zero x e n = absurd (n refl)
-        first flags (suc k) x e n = ap (λ o. is_nil (bundle_step_fault [] false o flags 0 (record nothing_held { skip = 0 }) (flags_fault [] false k))) e
+        first flags (suc k) x e n =
+            ap (λ o. is_nil (bundle_step_fault [] false o flags 0 (record nothing_held { skip = 0 })
+            (flags_fault [] false k))) e
 
-  bad-turn : ends_options word ≡ false → (d : Bool) → is_dashed word ≡ d → is_nil (turn_fault top commands (walk_from nothing_held) word) ≡ false
+  bad-turn : ends_options word ≡ false → (d : Bool) → is_dashed word ≡ d →
+      is_nil (turn_fault top commands (walk_from nothing_held) word) ≡ false
   bad-turn e true d = no-nil _ _ (ap is_nil (word-fault e) ∙ flag-fault e d (long_of word) refl)
   bad-turn e false d =
-      nil-first _ _ (word-fault e ∙ ap (λ l. flag_word_fault [] false l word nothing_held) (plain-met word d).0 ∙ ap (λ o. option_map_or (λ flags. bundle_fault [] false flags nothing_held) o []) (plain-met word d).1)
-      ∙ ap (λ m. is_nil (step_fault top 1 m.0 m.1)) (word-met e ∙ ap (λ l. long_or_other [] idle word l nothing_held) (plain-met word d).0 ∙ ap (λ o. short_or_plain [] idle word o nothing_held) (plain-met word d).1)
+      nil-first _ _ (word-fault e ∙ ap (λ l. flag_word_fault [] false l word nothing_held) (plain-met word d).0
+      ∙ ap (λ o. option_map_or (λ flags. bundle_fault [] false flags nothing_held) o []) (plain-met word d).1)
+      ∙ ap (λ m. is_nil (step_fault top 1 m.0 m.1)) (word-met e
+      ∙ ap (λ l. long_or_other [] idle word l nothing_held) (plain-met word d).0
+      ∙ ap (λ o. short_or_plain [] idle word o nothing_held) (plain-met word d).1)
 
   pub after-another : (rest : List Bytes) → is_nil (fault_of fixd_app (word ∷ rest)) ≡ false
   unfolding walk_fault
   after-another rest = by_ends (ends_options word) refl where
     by_ends : (b : Bool) → ends_options word ≡ b → is_nil (fault_of fixd_app (word ∷ rest)) ≡ false
-    by_ends true e = ap (λ w. is_nil (fault_of fixd_app (w ∷ rest))) ((bytes_eq-Decides word (codes "--")).0 e) ∙ after-dashes rest
-    by_ends false e = no-nil _ _ (no-nil (turn_fault top commands (walk_from nothing_held) word) _ (bad-turn e (is_dashed word) refl))
+    by_ends true e =
+        ap (λ w. is_nil (fault_of fixd_app (w ∷ rest))) ((bytes_eq-Decides word (codes "--")).0 e) ∙ after-dashes rest
+    by_ends false e =
+        no-nil _ _ (no-nil (turn_fault top commands (walk_from nothing_held) word) _ (bad-turn e (is_dashed word) refl))
 
 -- ---- which word is one
 
@@ -178,7 +228,8 @@ other-way xs ys e = by_other (bytes_eq ys xs) refl where
   by_other false f = refl
 
 -- one that isn't there is not the first, nor among the others
-not-first : (A : Type 0) (b : Bool) (x : A) (others : Option A) → b ≡ false → others ≡ None → (if b then Some x else others) ≡ None
+not-first : (A : Type 0) (b : Bool) (x : A) (others : Option A) → b ≡ false → others ≡ None →
+    (if b then Some x else others) ≡ None
 not-first A true x others e none = absurd (cc)
 not-first A false x others e none = none
 
@@ -187,7 +238,8 @@ abbrev IsOther : Bytes → Bytes → Type 0
 IsOther word name = (bytes_eq word name ≡ false) × ((bytes_eq name word || false) ≡ false)
 
 -- a word is this command's name, or what it is shown to be otherwise
-or-another : (word name : Bytes) → IsCommand name → (IsOther word name → IsCommand word ⊎ IsNone word) → IsCommand word ⊎ IsNone word
+or-another : (word name : Bytes) → IsCommand name → (IsOther word name → IsCommand word ⊎ IsNone word) →
+    IsCommand word ⊎ IsNone word
 or-another word name is otherwise = by_name (bytes_eq word name) refl where
   by_name : (b : Bool) → bytes_eq word name ≡ b → IsCommand word ⊎ IsNone word
   by_name true e = inl (subst IsCommand (sym ((bytes_eq-Decides word name).0 e)) is)

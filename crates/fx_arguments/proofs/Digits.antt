@@ -14,7 +14,8 @@ digit-fits c e = let r = digit_range c e in grind arith
 
 all-are-digits : (t : List ℕ) → list_all is_ascii_digit t ≡ true → AllDigits 10 t
 all-are-digits [] e = tt
-all-are-digits (c ∷ cs) e = let p = and_parts (is_ascii_digit c) (list_all is_ascii_digit cs) e in (digit-fits c p.0, all-are-digits cs p.1)
+all-are-digits (c ∷ cs) e =
+    let p = and_parts (is_ascii_digit c) (list_all is_ascii_digit cs) e in (digit-fits c p.0, all-are-digits cs p.1)
 
 no-plus : (t : List ℕ) → list_all is_ascii_digit t ≡ true → without_leading_plus t ≡ t
 no-plus [] e = refl
@@ -26,7 +27,8 @@ no-plus (c ∷ cs) e =
 
 -- digits that `parse` refuses are above each limit of 64 bits
 pub above-each-limit : (limit : ℕ) (t : List ℕ) → limit < 2 ^ 64 → is_numeral t ≡ true
-    → (IsNumeral 10 (without_leading_plus t) × (digits_value 10 (without_leading_plus t) < 2 ^ 64) → ⊥) → None ≡ number_up_to limit t
+    → (IsNumeral 10 (without_leading_plus t) × (digits_value 10 (without_leading_plus t) < 2 ^ 64) → ⊥) →
+    None ≡ number_up_to limit t
 above-each-limit limit t small numeral n = by_limit (nat_le (digits_value 10 t) limit) refl where
   first : (nat_le 1 (length t) ≡ true) × ((nat_le (length t) 20 && list_all is_ascii_digit t) ≡ true)
   first = and_parts (nat_le 1 (length t)) (nat_le (length t) 20 && list_all is_ascii_digit t) numeral
@@ -41,8 +43,10 @@ above-each-limit limit t small numeral n = by_limit (nat_le (digits_value 10 t) 
   fits e =
       let below : digits_value 10 t ≤ limit = search rules in
       let value : digits_value 10 t < 2 ^ 64 = omega arith in
-      n (subst (λ (s : List ℕ). IsNumeral 10 s × (digits_value 10 s < 2 ^ 64)) (sym (no-plus t digits)) ((some, all-are-digits t digits), value))
+      n (subst (λ (s : List ℕ). IsNumeral 10 s ×
+      (digits_value 10 s < 2 ^ 64)) (sym (no-plus t digits)) ((some, all-are-digits t digits), value))
 
-  by_limit : (b : Bool) → nat_le (digits_value 10 t) limit ≡ b → None ≡ (if is_numeral t && b then Some (digits_value 10 t) else None)
+  by_limit : (b : Bool) → nat_le (digits_value 10 t) limit ≡ b →
+      None ≡ (if is_numeral t && b then Some (digits_value 10 t) else None)
   by_limit true e = absurd (fits e)
   by_limit false e = ap (λ (b : Bool). if b then Some (digits_value 10 t) else None) (sym (and-false (is_numeral t)))

@@ -19,12 +19,16 @@ text-has-first-flag (c ∷ d ∷ rest) utf8 dashed = by_first (chars (d ∷ rest
   whole : encode_utf8_all (45 ∷ chars (d ∷ rest)) ≡ c ∷ d ∷ rest
   whole = ap (λ (b : ℕ). encode_utf8_all (chars (b ∷ d ∷ rest))) (sym is_hyphen) ∙ encodes-chars (c ∷ d ∷ rest) utf8
 
-  by_first : (cs : List ℕ) → chars (d ∷ rest) ≡ cs → (x : ℕ) × (slice_get (chars (d ∷ rest)) 0 ≡ Some x) × (suc (length rest) ≢ 0)
-  by_first [] e = let short : 45 ∷ [] ≡ c ∷ d ∷ rest = sym (ap (λ (l : List ℕ). encode_utf8_all (45 ∷ l)) e) ∙ whole in absurd (clash short) where
-    clash : 45 ∷ [] ≡ c ∷ d ∷ rest → ⊥
-    clash h = let n : 1 ≡ suc (suc (length rest)) = ap length h in omega arith
+  by_first : (cs : List ℕ) → chars (d ∷ rest) ≡ cs →
+      (x : ℕ) × (slice_get (chars (d ∷ rest)) 0 ≡ Some x) × (suc (length rest) ≢ 0)
+  by_first [] e =
+      let short : 45 ∷ [] ≡ c ∷ d ∷ rest = sym (ap (λ (l : List ℕ). encode_utf8_all (45 ∷ l)) e) ∙ whole in
+      absurd (clash short) where
+        clash : 45 ∷ [] ≡ c ∷ d ∷ rest → ⊥
+        clash h = let n : 1 ≡ suc (suc (length rest)) = ap length h in omega arith
   by_first (x ∷ xs) e = (x, ap (λ (l : List ℕ). slice_get l 0) e, λ h. omega arith)
 
 pub strings-have-first-flag : {Z : Type 0} (words : List (String Z)) → AllHaveFirstFlag (map string_bytes words)
 strings-have-first-flag [] = tt
-strings-have-first-flag (word ∷ rest) = (text-has-first-flag (string_bytes word) (IsUtf8-string_bytes word), strings-have-first-flag rest)
+strings-have-first-flag (word ∷ rest) =
+    (text-has-first-flag (string_bytes word) (IsUtf8-string_bytes word), strings-have-first-flag rest)

@@ -29,31 +29,44 @@ no-units : (units : Option ℕ) → node_of units None ≡ None
 no-units None = refl
 no-units (Some units) = refl
 
-pub no-node : (ps : List Entry) → has_required (options_rules ((codes "units", true) ∷ [])) ps ≡ false → command_given (codes "node") (value_named ps) ≡ None
+pub no-node : (ps : List Entry) → has_required (options_rules ((codes "units", true) ∷ [])) ps ≡ false →
+    command_given (codes "node") (value_named ps) ≡ None
 no-node ps e = by_names (has_entry (codes "units") ps) refl (has_entry (codes "file") ps) refl e where
-  by_names : (u : Bool) → has_entry (codes "units") ps ≡ u → (f : Bool) → has_entry (codes "file") ps ≡ f → not (not u || (not f || false)) ≡ false → command_given (codes "node") (value_named ps) ≡ None
+  by_names : (u : Bool) → has_entry (codes "units") ps ≡ u → (f : Bool) → has_entry (codes "file") ps ≡ f →
+      not (not u || (not f || false)) ≡ false → command_given (codes "node") (value_named ps) ≡ None
   by_names true g true h e = absurd (cc)
-  by_names false g f h e = ap (λ units. node_of (units_given units) (value_named ps (codes "file"))) (value-is-none (codes "units") ps g)
+  by_names false g f h e =
+      ap (λ units. node_of (units_given units) (value_named ps (codes "file"))) (value-is-none (codes "units") ps g)
   by_names true g false h e =
-      ap (λ file. node_of (units_given (value_named ps (codes "units"))) file) (value-is-none (codes "file") ps h) ∙ no-units (units_given (value_named ps (codes "units")))
+      ap (λ file. node_of (units_given (value_named ps (codes "units"))) file) (value-is-none (codes "file") ps h)
+      ∙ no-units (units_given (value_named ps (codes "units")))
 
 without-file : (w : Option Wanted) (f : Option Bytes) (s : Option ℕ) → synthesis_of w f s None ≡ None
 without-file None f s = refl
 without-file (Some w) f None = refl
 without-file (Some w) f (Some s) = refl
 
-pub no-synthesis : (ps : List Entry) → has_required (options_rules ((codes "width", true) ∷ (codes "function", false) ∷ (codes "seed", false) ∷ (codes "tries", false) ∷ (codes "round", false) ∷ [])) ps ≡ false
+pub no-synthesis : (ps : List Entry) →
+    has_required (options_rules
+    ((codes "width", true) ∷ (codes "function", false) ∷ (codes "seed", false) ∷ (codes "tries", false)
+    ∷ (codes "round", false) ∷ [])) ps ≡ false
     → command_given (codes "synth") (value_named ps) ≡ None
 no-synthesis ps e = by_names (has_entry (codes "width") ps) refl (has_entry (codes "file") ps) refl e where
   seed : Option ℕ
   seed = number_or 0 18446744073709551615 (value_named ps (codes "seed"))
 
   wanted : Option Bytes → Option Wanted
-  wanted w = wanted_of (width_given w) (number_or 200 tries_limit (value_named ps (codes "tries"))) (round_given (value_named ps (codes "round")))
+  wanted w =
+      wanted_of (width_given w) (number_or 200 tries_limit (value_named ps (codes "tries")))
+      (round_given (value_named ps (codes "round")))
 
-  by_names : (w : Bool) → has_entry (codes "width") ps ≡ w → (f : Bool) → has_entry (codes "file") ps ≡ f → not (not w || (not f || false)) ≡ false → command_given (codes "synth") (value_named ps) ≡ None
+  by_names : (w : Bool) → has_entry (codes "width") ps ≡ w → (f : Bool) → has_entry (codes "file") ps ≡ f →
+      not (not w || (not f || false)) ≡ false → command_given (codes "synth") (value_named ps) ≡ None
   by_names true g true h e = absurd (cc)
-  by_names false g f h e = ap (λ w. synthesis_of (wanted w) (value_named ps (codes "function")) seed (value_named ps (codes "file"))) (value-is-none (codes "width") ps g)
+  by_names false g f h e =
+      ap (λ w. synthesis_of (wanted w) (value_named ps (codes "function")) seed (value_named ps (codes "file")))
+      (value-is-none (codes "width") ps g)
   by_names true g false h e =
-      ap (λ file. synthesis_of (wanted (value_named ps (codes "width"))) (value_named ps (codes "function")) seed file) (value-is-none (codes "file") ps h)
+      ap (λ file. synthesis_of (wanted (value_named ps (codes "width"))) (value_named ps (codes "function")) seed file)
+      (value-is-none (codes "file") ps h)
       ∙ without-file (wanted (value_named ps (codes "width"))) (value_named ps (codes "function")) seed

@@ -29,7 +29,8 @@ no-short-name : (os : List (Bytes × Bool)) (x : ℕ) → arg_by_short (options_
 no-short-name [] x = refl
 no-short-name (o ∷ os) x = no-short-name os x
 
-file-is-first : (os : List (Bytes × Bool)) → arg_by_index (options_rules os) 1 ≡ Some (text_rule file_id None (Some 1) true)
+file-is-first : (os : List (Bytes × Bool)) →
+    arg_by_index (options_rules os) 1 ≡ Some (text_rule file_id None (Some 1) true)
 file-is-first [] = refl
 file-is-first (o ∷ os) = file-is-first os
 
@@ -37,40 +38,59 @@ nothing-is-second : (os : List (Bytes × Bool)) → arg_by_index (options_rules 
 nothing-is-second [] = refl
 nothing-is-second (o ∷ os) = nothing-is-second os
 
-file-by-id : (os : List (Bytes × Bool)) → AreApart os → arg_by_id (options_rules os) file_id ≡ Some (text_rule file_id None (Some 1) true)
+file-by-id : (os : List (Bytes × Bool)) → AreApart os →
+    arg_by_id (options_rules os) file_id ≡ Some (text_rule file_id None (Some 1) true)
 file-by-id [] apart = refl
 file-by-id (o ∷ os) apart =
-    ap (λ (b : Bool). if b then Some (text_rule o.0 (Some o.0) None o.1) else arg_by_id (options_rules os) file_id) apart.0 ∙ file-by-id os apart.1
+    ap (λ (b : Bool). if b then Some (text_rule o.0 (Some o.0) None o.1)
+    else arg_by_id (options_rules os) file_id) apart.0 ∙ file-by-id os apart.1
 
-other-is-missing : (os : List (Bytes × Bool)) (name : Bytes) → is_among name (option_names os) ≡ false → arg_by_long (options_rules os) name ≡ None
+other-is-missing : (os : List (Bytes × Bool)) (name : Bytes) → is_among name (option_names os) ≡ false →
+    arg_by_long (options_rules os) name ≡ None
 other-is-missing [] name e = refl
 other-is-missing (o ∷ os) name e = first (bytes_eq o.0 name) e (other-is-missing os name) where
-  first : (b : Bool) → (b || is_among name (option_names os)) ≡ false → (is_among name (option_names os) ≡ false → arg_by_long (options_rules os) name ≡ None)
+  first : (b : Bool) → (b || is_among name (option_names os)) ≡ false →
+      (is_among name (option_names os) ≡ false → arg_by_long (options_rules os) name ≡ None)
       → (if b || false then Some (text_rule o.0 (Some o.0) None o.1) else arg_by_long (options_rules os) name) ≡ None
   first true e h = absurd (cc)
   first false e h = h e
 
-first-is-there : (o : Bytes × Bool) (os : List (Bytes × Bool)) → bytes_eq o.0 file_id ≡ false → IsOption (options_rules (o ∷ os)) o.0
+first-is-there : (o : Bytes × Bool) (os : List (Bytes × Bool)) → bytes_eq o.0 file_id ≡ false →
+    IsOption (options_rules (o ∷ os)) o.0
 first-is-there o os apart = record {
   required = o.1;
-  by_long = ap (λ (b : Bool). if b || false then Some (text_rule o.0 (Some o.0) None o.1) else arg_by_long (options_rules os) o.0) (same-bytes o.0);
-  by_id = ap (λ (b : Bool). if b then Some (text_rule o.0 (Some o.0) None o.1) else arg_by_id (options_rules os) o.0) (same-bytes o.0);
+  by_long =
+      ap (λ (b : Bool). if b || false then Some (text_rule o.0 (Some o.0) None o.1)
+      else arg_by_long (options_rules os) o.0) (same-bytes o.0);
+  by_id =
+      ap (λ (b : Bool). if b then Some (text_rule o.0 (Some o.0) None o.1)
+      else arg_by_id (options_rules os) o.0) (same-bytes o.0);
   apart = apart;
 }
 
-later-is-there : (o : Bytes × Bool) (os : List (Bytes × Bool)) (name : Bytes) → bytes_eq o.0 name ≡ false → IsOption (options_rules os) name → IsOption (options_rules (o ∷ os)) name
+later-is-there : (o : Bytes × Bool) (os : List (Bytes × Bool)) (name : Bytes) → bytes_eq o.0 name ≡ false →
+    IsOption (options_rules os) name → IsOption (options_rules (o ∷ os)) name
 later-is-there o os name other O = record {
   required = O.required;
-  by_long = ap (λ (b : Bool). if b || false then Some (text_rule o.0 (Some o.0) None o.1) else arg_by_long (options_rules os) name) other ∙ O.by_long;
-  by_id = ap (λ (b : Bool). if b then Some (text_rule o.0 (Some o.0) None o.1) else arg_by_id (options_rules os) name) other ∙ O.by_id;
+  by_long =
+      ap (λ (b : Bool). if b || false then Some (text_rule o.0 (Some o.0) None o.1)
+      else arg_by_long (options_rules os) name) other ∙ O.by_long;
+  by_id =
+      ap (λ (b : Bool). if b then Some (text_rule o.0 (Some o.0) None o.1) else arg_by_id (options_rules os) name) other
+      ∙ O.by_id;
   apart = O.apart;
 }
 
-option-is-there : (os : List (Bytes × Bool)) → AreApart os → (name : Bytes) → is_among name (option_names os) ≡ true → IsOption (options_rules os) name
+option-is-there : (os : List (Bytes × Bool)) → AreApart os → (name : Bytes) → is_among name (option_names os) ≡ true →
+    IsOption (options_rules os) name
 option-is-there [] apart name e = absurd (cc)
 option-is-there (o ∷ os) apart name e = first (bytes_eq o.0 name) refl e (option-is-there os apart.1 name) where
-  first : (b : Bool) → bytes_eq o.0 name ≡ b → (b || is_among name (option_names os)) ≡ true → (is_among name (option_names os) ≡ true → IsOption (options_rules os) name) → IsOption (options_rules (o ∷ os)) name
-  first true is e h = let P : Bytes → Type 0 = IsOption (options_rules (o ∷ os)) in subst P ((bytes_eq-Decides o.0 name).0 is) (first-is-there o os apart.0)
+  first : (b : Bool) → bytes_eq o.0 name ≡ b → (b || is_among name (option_names os)) ≡ true →
+      (is_among name (option_names os) ≡ true → IsOption (options_rules os) name) →
+      IsOption (options_rules (o ∷ os)) name
+  first true is e h =
+      let P : Bytes → Type 0 = IsOption (options_rules (o ∷ os)) in
+      subst P ((bytes_eq-Decides o.0 name).0 is) (first-is-there o os apart.0)
   first false is e h = later-is-there o os name is (h e)
 
 pub options-are-taken : (os : List (Bytes × Bool)) → AreApart os → IsLeaf (option_names os) (options_rules os)

@@ -27,7 +27,8 @@ node_app = with_rule (with_rule (new_app (codes "node")) (required_option_rule (
 abbrev pub synth_app : App
 synth_app =
     with_rule (with_rule (with_rule (with_rule (with_rule (with_rule (new_app (codes "synth"))
-    (required_option_rule (codes "width"))) (option_rule (codes "function"))) (option_rule (codes "seed"))) (option_rule (codes "tries"))) (option_rule (codes "round"))) file_rule
+    (required_option_rule (codes "width"))) (option_rule (codes "function"))) (option_rule (codes "seed"))) (option_rule
+    (codes "tries"))) (option_rule (codes "round"))) file_rule
 
 -- the words without the program's name, which begin with a command's
 abbrev pub top_app : App
@@ -44,7 +45,9 @@ top_app = record (new_app (codes "fixd")) {
 -- those of a bundle in FILE
 abbrev pub bundles_app : App
 bundles_app =
-    with_subcommand (with_subcommand (with_subcommand (with_subcommand (with_subcommand (with_subcommand (with_subcommand top_app (file_app (codes "run")).top)
+    with_subcommand (with_subcommand
+    (with_subcommand (with_subcommand
+    (with_subcommand (with_subcommand (with_subcommand top_app (file_app (codes "run")).top)
     (file_app (codes "check")).top) (file_app (codes "show")).top) (file_app (codes "migrate")).top)
     (file_app (codes "mixed")).top) (file_app (codes "widths")).top) (file_app (codes "rust")).top
 

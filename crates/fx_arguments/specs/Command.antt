@@ -46,15 +46,20 @@ wanted_of width tries round = None
 
 -- a synthesis, likewise
 abbrev pub synthesis_of : Option Wanted → Option Bytes → Option ℕ → Option Bytes → Option Command
-synthesis_of (Some wanted) function (Some seed) (Some file) = Some (Synth (record { wanted = wanted; function = function; seed = seed; file = file }))
+synthesis_of (Some wanted) function (Some seed) (Some file) =
+    Some (Synth (record { wanted = wanted; function = function; seed = seed; file = file }))
 synthesis_of wanted function seed file = None
 
 -- both from what is given under each name
 abbrev pub wanted_given : (Bytes → Option Bytes) → Option Wanted
-wanted_given given = wanted_of (width_given (given (codes "width"))) (number_or 200 tries_limit (given (codes "tries"))) (round_given (given (codes "round")))
+wanted_given given =
+    wanted_of (width_given (given (codes "width"))) (number_or 200 tries_limit (given (codes "tries")))
+    (round_given (given (codes "round")))
 
 abbrev pub synthesis_given : (Bytes → Option Bytes) → Option Command
-synthesis_given given = synthesis_of (wanted_given given) (given (codes "function")) (number_or 0 (2 ^ 64 - 1) (given (codes "seed"))) (given (codes "file"))
+synthesis_given given =
+    synthesis_of (wanted_given given) (given (codes "function")) (number_or 0 (2 ^ 64 - 1) (given (codes "seed")))
+    (given (codes "file"))
 
 -- a run of so many units, where neither the number nor the file is missing or wrong
 abbrev pub node_of : Option ℕ → Option Bytes → Option Command
@@ -88,7 +93,8 @@ options_of word =
     else if bytes_eq word (codes "demo") then Some []
     else option_map (λ made. []) (on_file word)
 
--- the command of this name, from what is given under each name of an option and under `file`, where the number of `demo` stands too
+-- the command of this name, from what is given under each name of an option and under `file`, where the number of
+-- `demo` stands too
 abbrev pub command_given : Bytes → (Bytes → Option Bytes) → Option Command
 command_given word given =
     if bytes_eq word (codes "node") then node_given given
@@ -100,8 +106,8 @@ command_given word given =
 abbrev pub lawful_command : Bytes → List Bytes → (Bytes → Option Bytes) → Option Command
 lawful_command word options given = if have_values options given then command_given word given else None
 
--- a synthesis is at one of the widths, with at most so many tries; a run has from 1 to 1,024 units, and a demonstration a number
--- from 1 to 500
+-- a synthesis is at one of the widths, with at most so many tries; a run has from 1 to 1,024 units, and a demonstration
+-- a number from 1 to 500
 abbrev pub IsLawfulCommand : Command → Type 0
 IsLawfulCommand (Synth s) = IsLawfulWanted s.wanted
 IsLawfulCommand (Node units file) = (1 ≤ units) × (units ≤ 1024)
@@ -113,5 +119,6 @@ abbrev pub command_of : List Bytes → Option Command
 command_of [] = None
 command_of (word ∷ words) =
     option_and_then (λ options.
-    option_and_then (λ entries. lawful_command word options (value_named entries)) (once (entries_in options words None)))
+    option_and_then (λ entries. lawful_command word options (value_named entries))
+    (once (entries_in options words None)))
     (options_of word)

@@ -34,4 +34,5 @@ IfUsage Memory P = ⊤
 -- the command in the matches of a command's name
 abbrev pub command_found : Option (Bytes × List Row) → Option words.Command
 command_found None = None
-command_found (Some p) = option_and_then (λ options. words.lawful_command p.0 options (λ name. first_of name p.1)) (words.options_of p.0)
+command_found (Some p) =
+    option_and_then (λ options. words.lawful_command p.0 options (λ name. first_of name p.1)) (words.options_of p.0)

@@ -29,7 +29,8 @@ is_equals c = c == 61
 
 -- the name, and the value behind the first `=` where there is one
 abbrev pub name_and_value : Bytes → Bytes × Option Bytes
-name_and_value text = (before_first is_equals text, if list_any is_equals text then Some (after_first is_equals text) else None)
+name_and_value text =
+    (before_first is_equals text, if list_any is_equals text then Some (after_first is_equals text) else None)
 
 -- the same of a word `--name` or `--name=value`
 abbrev pub option_parts : Bytes → Option (Bytes × Option Bytes)
@@ -50,12 +51,14 @@ abbrev pub option_value : Bytes → Option Bytes → (Option Bytes → Option (L
 option_value name (Some v) next = with_entry (name, v) (next None)
 option_value name None next = next (Some name)
 
-abbrev pub after_option : List Bytes → Option (Bytes × Option Bytes) → (Option Bytes → Option (List Entry)) → Option (List Entry)
+abbrev pub after_option : List Bytes → Option (Bytes × Option Bytes) → (Option Bytes → Option (List Entry)) →
+    Option (List Entry)
 after_option names None next = None
 after_option names (Some p) next = if is_among p.0 names then option_value p.0 p.1 next else None
 
 -- the entries from this word on, where an option may wait for its value, and `next` has those of the later words
-abbrev pub after_word : List Bytes → Bytes → List Bytes → (Option Bytes → Option (List Entry)) → Option Bytes → Option (List Entry)
+abbrev pub after_word : List Bytes → Bytes → List Bytes → (Option Bytes → Option (List Entry)) → Option Bytes →
+    Option (List Entry)
 after_word names word rest next (Some name) = if is_dashed word then None else with_entry (name, word) (next None)
 after_word names word rest next None =
     if ends_options word then Some (map file_entry rest)

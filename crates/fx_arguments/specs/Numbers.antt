@@ -11,7 +11,8 @@ is_numeral text = nat_le 1 (length text) && (nat_le (length text) 20 && list_all
 
 -- the number of a numeral, up to a limit
 abbrev pub number_up_to : ℕ → List ℕ → Option ℕ
-number_up_to limit text = if is_numeral text && nat_le (digits_value 10 text) limit then Some (digits_value 10 text) else None
+number_up_to limit text =
+    if is_numeral text && nat_le (digits_value 10 text) limit then Some (digits_value 10 text) else None
 
 -- the same of an option, and another number where it isn't given
 abbrev pub number_or : ℕ → ℕ → Option (List ℕ) → Option ℕ

@@ -7,7 +7,8 @@ use Rattle.fx_arguments.specs.Grammar.{Bytes}
 
 -- the way to round of this name
 abbrev pub round_named : Bytes → Option Round
-round_named text = if bytes_eq text (codes "floor") then Some Floor else if bytes_eq text (codes "nearest") then Some Nearest else None
+round_named text = if bytes_eq text (codes "floor") then Some Floor else if bytes_eq text (codes "nearest")
+    then Some Nearest else None
 
 -- down, where none is given
 abbrev pub round_given : Option Bytes → Option Round

@@ -59,7 +59,8 @@ fn on_file<'a>(name: &str, file: &'a str) -> Option<Command<'a>>
 }
 
 fn node_in<'a>(matches: &ArgMatches<'a>) -> Option<Command<'a>>
-    ensures command { option_map command_view result ≡ lawful_command (codes "node") node_options (λ name. first_of name (rows_of (found_of matches.now))) }
+    ensures command { option_map command_view result
+        ≡ lawful_command (codes "node") node_options (λ name. first_of name (rows_of (found_of matches.now))) }
     ensures lawful { IfSome result (λ c. IsLawfulCommand (command_view c)) }
 {
     if !has_value(matches, "units") {
@@ -86,7 +87,8 @@ fn wanted_in(matches: &ArgMatches) -> Option<Wanted>
 }
 
 fn synth_in<'a>(matches: &ArgMatches<'a>) -> Option<Command<'a>>
-    ensures command { option_map command_view result ≡ lawful_command (codes "synth") synth_options (λ name. first_of name (rows_of (found_of matches.now))) }
+    ensures command { option_map command_view result
+        ≡ lawful_command (codes "synth") synth_options (λ name. first_of name (rows_of (found_of matches.now))) }
     ensures lawful { IfSome result (λ c. IsLawfulCommand (command_view c)) }
 {
     if !have_values(matches) {
@@ -105,7 +107,8 @@ fn synth_in<'a>(matches: &ArgMatches<'a>) -> Option<Command<'a>>
 }
 
 fn demo_in<'a>(matches: &ArgMatches<'a>) -> Option<Command<'a>>
-    ensures command { option_map command_view result ≡ demo_given (first_of (codes "file") (rows_of (found_of matches.now))) }
+    ensures command { option_map command_view result
+        ≡ demo_given (first_of (codes "file") (rows_of (found_of matches.now))) }
     ensures lawful { IfSome result (λ c. IsLawfulCommand (command_view c)) }
 {
     let number = demo_number(text_of(matches, "file")?)?;

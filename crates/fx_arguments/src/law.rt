@@ -5,7 +5,8 @@ ghost use Rattle.fx_arguments.specs.Plain.{files_among, one_file};
 
 /// Each command that takes FILE alone takes exactly the one, and each word behind `--` is one.
 pub fn one_file_law(name: &str, words: &[String])
-    ensures { IfSome (on_file name.now) (λ made. command_of (name.now ∷ texts words.now) ≡ option_map made (one_file (files_among (texts words.now)))) }
+    ensures { IfSome (on_file name.now)
+        (λ made. command_of (name.now ∷ texts words.now) ≡ option_map made (one_file (files_among (texts words.now)))) }
 {
     let _ = name;
     let _ = words;

@@ -21,10 +21,13 @@ module _ (w : Wanted) (fn : Function) where
   by_plans outside calm = powers_by outside calm (output_power w.width fn) (λ j. (numbers_of w.width fn).z)
 
   -- where the plain plan serves
-  pub plain_suits_first : (a : Accepted) → outside_of w.width fn ≡ None → IsAnswerFor w fn a → AreWithinPowers fn a.program a.certificate (output_power w.width fn) → Suits w fn a
+  pub plain_suits_first : (a : Accepted) → outside_of w.width fn ≡ None → IsAnswerFor w fn a →
+      AreWithinPowers fn a.program a.certificate (output_power w.width fn) → Suits w fn a
   plain_suits_first a inside own within = record {
     answer = own;
-    bounded = subst (λ o. IfSome (by_plans o (is_calm w.width fn)) (AreWithinPowers fn a.program a.certificate)) (sym inside) within;
+    bounded =
+        subst (λ o. IfSome (by_plans o (is_calm w.width fn)) (AreWithinPowers fn a.program a.certificate))
+        (sym inside) within;
     no_worse = λ none. absurd (some_none (subst (λ o. by_plans o (is_calm w.width fn) ≡ None) inside none));
   }
     where
@@ -32,27 +35,36 @@ module _ (w : Wanted) (fn : Function) where
       some_none e = absurd cc
 
   -- where it doesn't, and the function is calm
-  calm_suits : (a : Accepted) (reason : Outside) → outside_of w.width fn ≡ Some reason → IsCalm w.width fn → IsAnswerFor w fn a → AreWithinPowers fn a.program a.certificate (λ j. (numbers_of w.width fn).z) → Suits w fn a
+  calm_suits : (a : Accepted) (reason : Outside) → outside_of w.width fn ≡ Some reason → IsCalm w.width fn →
+      IsAnswerFor w fn a → AreWithinPowers fn a.program a.certificate (λ j. (numbers_of w.width fn).z) → Suits w fn a
   calm_suits a reason outside calm own within = record {
     answer = own;
-    bounded = subst (λ o. IfSome (by_plans o (is_calm w.width fn)) (AreWithinPowers fn a.program a.certificate)) (sym outside)
+    bounded =
+        subst (λ o. IfSome (by_plans o (is_calm w.width fn)) (AreWithinPowers fn a.program a.certificate)) (sym outside)
         (subst (λ t. IfSome (by_plans (Some reason) t) (AreWithinPowers fn a.program a.certificate)) (sym calm) within);
-    no_worse = λ none. absurd (some_none (subst (λ t. by_plans (Some reason) t ≡ None) calm (subst (λ o. by_plans o (is_calm w.width fn) ≡ None) outside none)));
+    no_worse =
+        λ none. absurd (some_none
+        (subst (λ t. by_plans (Some reason) t ≡ None) calm
+        (subst (λ o. by_plans o (is_calm w.width fn) ≡ None) outside none)));
   }
     where
       some_none : {v : ℕ → ℤ} → Some v ≡ None → ⊥
       some_none e = absurd cc
 
   -- neither serves
-  unpromised : (reason : Outside) → outside_of w.width fn ≡ Some reason → (IsCalm w.width fn → ⊥) → promised_powers w.width fn ≡ None
-  unpromised reason outside uncalm = subst (λ o. by_plans o (is_calm w.width fn) ≡ None) (sym outside) (by (is_calm w.width fn) refl)
+  unpromised : (reason : Outside) → outside_of w.width fn ≡ Some reason → (IsCalm w.width fn → ⊥) →
+      promised_powers w.width fn ≡ None
+  unpromised reason outside uncalm =
+      subst (λ o. by_plans o (is_calm w.width fn) ≡ None) (sym outside) (by (is_calm w.width fn) refl)
     where
       by : (t : Bool) → is_calm w.width fn ≡ t → by_plans (Some reason) t ≡ None
       by true e = absurd (uncalm e)
       by false e = refl
 
   -- what the calm plan comes to, where the plain one doesn't serve
-  pub calm_suits_first : (o : Option Accepted) (reason : Outside) → outside_of w.width fn ≡ Some reason → IfSome o (IsAnswerFor w fn) → IfSome o (λ a. AreWithinPowers fn a.program a.certificate (λ j. (numbers_of w.width fn).z))
+  pub calm_suits_first : (o : Option Accepted) (reason : Outside) → outside_of w.width fn ≡ Some reason →
+      IfSome o (IsAnswerFor w fn) →
+      IfSome o (λ a. AreWithinPowers fn a.program a.certificate (λ j. (numbers_of w.width fn).z))
       → IfSome o (λ a. IsCalm w.width fn) → (o ≡ None → IsCalm w.width fn → ⊥) → SuitsIfAny w fn o
   calm_suits_first None reason outside own within calm uncalm = unpromised reason outside (uncalm refl)
   calm_suits_first (Some a) reason outside own within calm uncalm = calm_suits a reason outside calm own within
@@ -60,19 +72,28 @@ module _ (w : Wanted) (fn : Function) where
 -- ---- the calm plan, certified
 module _ (w : Wanted) (fn : Function) (plan : IsCalmPlan w.width (rounding_of w) fn) where
   -- it answers what is wanted, and keeps what is promised
-  pub calm_plan_answers : (a : Accepted) (p : Program) (cert : Certificate) → a ≡ record { function = fn; program = p; certificate = cert } → p ≡ calm_program w.width (rounding_of w) fn →
-      cert ≡ calm_certificate w.width fn → IsAnswerFor w fn a × AreWithinPowers fn a.program a.certificate (λ j. (numbers_of w.width fn).z)
+  pub calm_plan_answers : (a : Accepted) (p : Program) (cert : Certificate) →
+      a ≡ record { function = fn; program = p; certificate = cert } → p ≡ calm_program w.width (rounding_of w) fn →
+      cert ≡ calm_certificate w.width fn → IsAnswerFor w fn a ×
+      AreWithinPowers fn a.program a.certificate (λ j. (numbers_of w.width fn).z)
   calm_plan_answers a p cert is program certificate =
-      let same : a ≡ record { function = fn; program = calm_program w.width (rounding_of w) fn; certificate = calm_certificate w.width fn } =
+      let same : a ≡ record {
+        function = fn;
+        program = calm_program w.width (rounding_of w) fn;
+        certificate = calm_certificate w.width fn;
+      } =
       is ∙ (λ i. record { function = fn; program = program i; certificate = certificate i }) in
-      subst (λ (x : Accepted). IsAnswerFor w fn x × AreWithinPowers fn x.program x.certificate (λ j. (numbers_of w.width fn).z)) (sym same)
+      subst (λ (x : Accepted). IsAnswerFor w fn x ×
+      AreWithinPowers fn x.program x.certificate (λ j. (numbers_of w.width fn).z)) (sym same)
       (record { function_is = refl; named = refl; width_is = refl; rounded = plan.rounded }, plan.bounds)
 
 -- what a value is seen as, where there is one
-pub view_of_some : {A B : Type 0} (f : A → B) (o : Option A) (seen : Option B) → option_map f o ≡ seen → is_some o ≡ true → (b : B) × (seen ≡ Some b)
+pub view_of_some : {A B : Type 0} (f : A → B) (o : Option A) (seen : Option B) → option_map f o ≡ seen →
+    is_some o ≡ true → (b : B) × (seen ≡ Some b)
 view_of_some f None seen e some = absurd cc
 view_of_some f (Some a) seen e some = (f a, sym e)
 
-pub view_of_none : {A B : Type 0} (f : A → B) (o : Option A) (seen : Option B) → option_map f o ≡ seen → is_some o ≡ false → seen ≡ None
+pub view_of_none : {A B : Type 0} (f : A → B) (o : Option A) (seen : Option B) → option_map f o ≡ seen →
+    is_some o ≡ false → seen ≡ None
 view_of_none f None seen e none = sym e
 view_of_none f (Some a) seen e none = absurd cc

@@ -18,11 +18,13 @@ attempted a = record { program = a.program; certificate = a.certificate }
 -- ---- against another
 -- each bound of a is smaller than that of b
 abbrev pub AreSmaller : Function → Attempt → Attempt → Type 0
-AreSmaller fn a b = (j : ℕ) → j < outputs fn → ¬ AtMost (certified_bound b.program b.certificate j) (certified_bound a.program a.certificate j)
+AreSmaller fn a b = (j : ℕ) → j < outputs fn →
+    ¬ AtMost (certified_bound b.program b.certificate j) (certified_bound a.program a.certificate j)
 
 -- each is at most that of b
 abbrev pub AreNoGreater : Function → Attempt → Attempt → Type 0
-AreNoGreater fn a b = (j : ℕ) → j < outputs fn → AtMost (certified_bound a.program a.certificate j) (certified_bound b.program b.certificate j)
+AreNoGreater fn a b = (j : ℕ) → j < outputs fn →
+    AtMost (certified_bound a.program a.certificate j) (certified_bound b.program b.certificate j)
 
 -- ---- against what is promised
 -- the powers of the first of two plans that serves
@@ -31,8 +33,8 @@ powers_by None calm plain even = Some plain
 powers_by (Some reason) true plain even = Some even
 powers_by (Some reason) false plain even = None
 
--- at width n the bound of each output is promised to be at most 2^v, for this v of it: that of the plain plan where it serves the function, else that of
--- the calm plan; nothing is promised of a function that neither serves
+-- at width n the bound of each output is promised to be at most 2^v, for this v of it: that of the plain plan where it
+-- serves the function, else that of the calm plan; nothing is promised of a function that neither serves
 abbrev pub promised_powers : ℕ → Function → Option (ℕ → ℤ)
 promised_powers n fn = powers_by (outside_of n fn) (is_calm n fn) (output_power n fn) (λ j. (numbers_of n fn).z)
 

@@ -29,24 +29,27 @@ abbrev pub AreForOne : Option Accepted → Option Accepted → Type 0
 AreForOne (Some a) (Some b) = a.function ≡ b.function
 AreForOne _ _ = ⊤
 
--- the answer once a candidate is looked at: the candidate where there was no answer; else it is no worse at any output where
--- it is taken, and not better at all of them where it isn't
+-- the answer once a candidate is looked at: the candidate where there was no answer; else it is no worse at any output
+-- where it is taken, and not better at all of them where it isn't
 abbrev pub IsTaken : Option Accepted → Option Accepted → Option Accepted → Type 0
 IsTaken None candidate answer = answer ≡ candidate
 IsTaken (Some a) None answer = answer ≡ Some a
 IsTaken (Some a) (Some c) answer =
-    ((answer ≡ Some c) × AreNoGreater a.function (attempted c) (attempted a)) ⊎ ((answer ≡ Some a) × ¬ AreSmaller a.function (attempted c) (attempted a))
+    ((answer ≡ Some c) × AreNoGreater a.function (attempted c) (attempted a)) ⊎
+    ((answer ≡ Some a) × ¬ AreSmaller a.function (attempted c) (attempted a))
 
 -- the attempt after these steps isn't better than the answer, and not accepted where there is none
 abbrev pub Resists : Wanted → Function → Option Accepted → List Rewriting → Type 0
 Resists w fn None steps = (t : Attempt) → ¬ IsAcceptedAfter w fn steps t
 Resists w fn (Some a) steps = (t : Attempt) → IsAcceptedAfter w fn steps t → ¬ AreSmaller fn t (attempted a)
 
--- an answer for fn as it is wanted, with bounds as small as promised, and where nothing is promised no worse than the plain attempt
+-- an answer for fn as it is wanted, with bounds as small as promised, and where nothing is promised no worse than the
+-- plain attempt
 pub record Suits (w : Wanted) (fn : Function) (a : Accepted) : Type 0 where
   pub answer : IsAnswerFor w fn a
   pub bounded : IfSome (promised_powers w.width fn) (AreWithinPowers fn a.program a.certificate)
-  pub no_worse : promised_powers w.width fn ≡ None → (t : Attempt) → IsAcceptedAfter w fn [] t → AreNoGreater fn (attempted a) t
+  pub no_worse : promised_powers w.width fn ≡ None → (t : Attempt) → IsAcceptedAfter w fn [] t →
+      AreNoGreater fn (attempted a) t
 
 -- there is such an answer, or there is none where none is promised
 abbrev pub SuitsIfAny : Wanted → Function → Option Accepted → Type 0

@@ -69,8 +69,8 @@ fn better_of(answer: Certified, candidate: Option<Certified>) -> Certified
     }
 }
 
-/// The candidate, where there is one and no answer yet, or one that is no worse at any output and better at some; else the
-/// answer.
+/// The candidate, where there is one and no answer yet, or one that is no worse at any output and better at some; else
+/// the answer.
 pub fn taken(answer: Option<Certified>, candidate: Option<Certified>) -> Option<Certified>
     requires { AreForOne answer candidate }
     ensures { IsTaken answer candidate result }

@@ -26,7 +26,8 @@ fn plain_answer(alloc: Global, function: &Function, wanted: Wanted) -> Result<Ce
     requires width { Contains widths wanted.width }
     requires class { IsInClass wanted.width function.now }
     ensures answer { IfOk result (IsAnswerFor wanted function.now) }
-    ensures bounded { IfOk result (λ a. AreWithinPowers function.now a.program a.certificate (output_power wanted.width function.now)) }
+    ensures bounded { IfOk result
+        (λ a. AreWithinPowers function.now a.program a.certificate (output_power wanted.width function.now)) }
 {
     class_law();
     bound_law();
@@ -50,7 +51,9 @@ fn calm_answer(
 ) -> Result<Option<Certified>, Memory>
     requires width { Contains widths wanted.width }
     ensures answer { IfOk result (λ o. IfSome o (IsAnswerFor wanted function.now)) }
-    ensures bounded { IfOk result (λ o. IfSome o (λ a. AreWithinPowers function.now a.program a.certificate (λ j. (numbers_of wanted.width function.now).z))) }
+    ensures bounded { IfOk result
+        (λ o. IfSome o (λ a. AreWithinPowers function.now a.program a.certificate
+        (λ j. (numbers_of wanted.width function.now).z))) }
     ensures calm { IfOk result (λ o. IfSome o (λ a. IsCalm wanted.width function.now)) }
     ensures none { IfOk result (λ o. o ≡ None → IsCalm wanted.width function.now → ⊥) }
 {

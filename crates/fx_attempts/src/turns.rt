@@ -1,4 +1,5 @@
-//! The plain attempt and the attempts after one step, each passed through the checker, and the best of them and an answer.
+//! The plain attempt and the attempts after one step, each passed through the checker, and the best of them and an
+//! answer.
 ghost use Rattle.std.specs.Prelude.{◌≡◌, ◌++◌, ◌∷◌, [], List, true, Contains, IfOk, take};
 ghost use Rattle.fx_model.specs.LawfulProgram.{widths};
 ghost use Rattle.fx_inequalities.specs.Rewriting.{Rewriting};
@@ -45,7 +46,8 @@ fn next_turn(
     requires width { Contains widths wanted.width }
     requires there { is_there function.now (step_view step) ≡ true }
     requires suits { SuitsIfAny wanted function.now answer }
-    ensures { (done : List Rewriting) → IsBestAfter wanted function.now done answer → IfOk result (IsBestAfter wanted function.now (done ++ step_view step ∷ [])) }
+    ensures { (done : List Rewriting) → IsBestAfter wanted function.now done answer →
+        IfOk result (IsBestAfter wanted function.now (done ++ step_view step ∷ [])) }
 {
     function.keeps();
     let candidate = step_answer(alloc, function, wanted, step)?;
@@ -75,7 +77,8 @@ fn attempts(
     Ok(answer)
 }
 
-/// The best of an answer, the plain attempt and the attempts after the first single steps. A function with states has no attempts.
+/// The best of an answer, the plain attempt and the attempts after the first single steps. A function with states has
+/// no attempts.
 pub fn tried(
     alloc: Global,
     function: &Function,

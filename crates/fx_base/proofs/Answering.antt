@@ -28,17 +28,22 @@ take-min n k xs h =
 pub takes-whole : (old new : LinesState) (more bytes : List ℕ) (end from len : ℕ)
     → bytes ≡ old.held ++ more → position is_feed bytes ≡ Some end
     → text_at (old.number == 0) (take end bytes) ≡ drop from (take end bytes) → from ≤ end
-    → strip_carriage_return (take (end - from) (drop from bytes)) ≡ take len (take (end - from) (drop from bytes)) → len ≤ end - from
-    → new.held ≡ drop (end + 1) bytes → new.number ≡ old.number + 1 → new.is_ready ≡ nat_lt len 65537 → new.is_ended ≡ false
+    → strip_carriage_return (take (end - from) (drop from bytes)) ≡ take len (take (end - from) (drop from bytes)) →
+    len ≤ end - from
+    → new.held ≡ drop (end + 1) bytes → new.number ≡ old.number + 1 → new.is_ready ≡ nat_lt len 65537 →
+    new.is_ended ≡ false
     → new.line ≡ take (min len 65537) (drop from bytes) → TakesLine old new more
 takes-whole old new more bytes end from len whole found text from_in strip len_in held number ready ended line =
     let p : IsFeedAt bytes end = feed-at bytes end found in
     let body = take end bytes in
     let behind = drop from bytes in
-    let size : length body ≡ end = let within : end < length bytes = p.within in length-take-le end bytes (omega arith) in
+    let size : length body ≡ end = let within : end < length bytes = p.within in
+    length-take-le end bytes (omega arith) in
     let piece : drop from body ≡ take (end - from) behind =
-    ap (λ n. drop from (take n bytes)) (let e : end ≡ from + (end - from) = omega arith in e) ∙ drop-take from (end - from) bytes in
-    let long : end - from ≤ length behind = let within : end < length bytes = p.within in omega (arith, length-drop from bytes) in
+    ap (λ n. drop from (take n bytes)) (let e : end ≡ from + (end - from) = omega arith in e)
+    ∙ drop-take from (end - from) bytes in
+    let long : end - from ≤ length behind = let within : end < length bytes = p.within in
+    omega (arith, length-drop from bytes) in
     let short : strip_carriage_return (drop from body) ≡ take len behind =
     ap strip_carriage_return piece ∙ strip ∙ take-take len (end - from) behind len_in in
     let wide : length (take len behind) ≡ len = length-take-le len behind (omega arith) in
@@ -65,8 +70,10 @@ takes-whole old new more bytes end from len whole found text from_in strip len_i
 
 -- the last line, which no line feed ends
 pub takes-last : (old new : LinesState) (more bytes : List ℕ) (from : ℕ)
-    → bytes ≡ old.held ++ more → position is_feed bytes ≡ None → text_at (old.number == 0) bytes ≡ drop from bytes → 0 < length bytes - from
-    → new.held ≡ [] → new.number ≡ old.number + 1 → new.is_ready ≡ nat_lt (length bytes - from) 65537 → new.is_ended ≡ true
+    → bytes ≡ old.held ++ more → position is_feed bytes ≡ None → text_at (old.number == 0) bytes ≡ drop from bytes →
+    0 < length bytes - from
+    → new.held ≡ [] → new.number ≡ old.number + 1 → new.is_ready ≡ nat_lt (length bytes - from) 65537 →
+    new.is_ended ≡ true
     → new.line ≡ take (min (length bytes - from) 65537) (drop from bytes) → TakesLine old new more
 takes-last old new more bytes from whole none text some held number ready ended line =
     let plain : Plain bytes = feed-nowhere bytes none in
@@ -81,8 +88,10 @@ takes-last old new more bytes from whole none text some held number ready ended 
         whole = last;
         behind = [];
         cut = ap (λ t. lines (text_at (old.number == 0) t)) (ap (λ t. bytes ++ t) (end ended) ∙ append-nil bytes)
-            ∙ ap lines text ∙ lines-last last (All-drop (λ b. is_feed b ≡ false) from bytes plain) (omega (arith, size));
-        line = line ∙ take-min 65537 (length bytes - from) last (omega (arith, size)) ∙ ap (take 65537) (take_all (length bytes - from) last (omega (arith, size)));
+            ∙ ap lines text ∙ lines-last last (All-drop (λ b. is_feed b ≡ false) from bytes plain)
+            (omega (arith, size));
+        line = line ∙ take-min 65537 (length bytes - from) last (omega (arith, size))
+            ∙ ap (take 65537) (take_all (length bytes - from) last (omega (arith, size)));
         ready = ready ∙ ap (λ n. nat_lt n 65537) (sym size);
         rest = λ _. ap lines (sym (end ended));
       };
@@ -94,7 +103,8 @@ at-least : (n : ℕ) → 65537 ≤ n → nat_lt n 65537 ≡ false
 at-least n h = false_from_ne_true (nat_lt n 65537) (λ e. let less : n < 65537 = ltb-true n 65537 e in omega arith)
 
 -- what stands behind a long front: the line goes on to the next line feed
-long-line : (new : LinesState) (front rest : List ℕ) (o : Option ℕ) → position is_feed rest ≡ o → Plain front → 65537 < length front
+long-line : (new : LinesState) (front rest : List ℕ) (o : Option ℕ) → position is_feed rest ≡ o → Plain front →
+    65537 < length front
     → new.line ≡ take 65537 front → new.is_ready ≡ false → IsFirstLine new (lines (front ++ rest)) (lines rest)
 long-line new front rest None none plain long line ready =
     let all = front ++ rest in
@@ -102,7 +112,9 @@ long-line new front rest None none plain long line ready =
     record {
       whole = all;
       behind = [];
-      cut = lines-last all (All-append (λ b. is_feed b ≡ false) front rest plain (feed-nowhere rest none)) (omega (arith, size));
+      cut =
+          lines-last all (All-append (λ b. is_feed b ≡ false) front rest plain (feed-nowhere rest none))
+          (omega (arith, size));
       line = line ∙ sym (take-append-le 65537 front rest (omega arith));
       ready = ready ∙ sym (at-least (length all) (omega (arith, size)));
       rest = λ e. absurd (cc);
@@ -117,17 +129,21 @@ long-line new front rest (Some end) found plain long line ready =
     record {
       whole = take n all;
       behind = lines (drop (end + 1) rest);
-      cut = ap lines (ap (λ t. front ++ t) p.parts ∙ sym (append_assoc front (take end rest) (10 ∷ drop (end + 1) rest)))
-          ∙ lines-cut all (drop (end + 1) rest) (All-append (λ b. is_feed b ≡ false) front (take end rest) plain p.plain)
+      cut =
+          ap lines (ap (λ t. front ++ t) p.parts ∙ sym (append_assoc front (take end rest) (10 ∷ drop (end + 1) rest)))
+          ∙ lines-cut all (drop (end + 1) rest)
+          (All-append (λ b. is_feed b ≡ false) front (take end rest) plain p.plain)
           ∙ ap (λ t. t ∷ lines (drop (end + 1) rest)) s.1;
-      line = line ∙ sym (take-append-le 65537 front (take end rest) (omega arith)) ∙ sym (take-take 65537 n all (let h : length all ≤ n + 1 = s.3 in omega arith));
+      line = line ∙ sym (take-append-le 65537 front (take end rest) (omega arith))
+          ∙ sym (take-take 65537 n all (let h : length all ≤ n + 1 = s.3 in omega arith));
       ready = ready ∙ sym (at-least (length (take n all)) (let h : length all ≤ n + 1 = s.3 in omega arith));
       rest = λ e. absurd (cc);
     }
 
 -- a line that is too long and whose end isn't held
 pub takes-long : (old new : LinesState) (more bytes : List ℕ) (from : ℕ)
-    → bytes ≡ old.held ++ more → position is_feed bytes ≡ None → text_at (old.number == 0) bytes ≡ drop from bytes → 65540 < length bytes → from ≤ 3
+    → bytes ≡ old.held ++ more → position is_feed bytes ≡ None → text_at (old.number == 0) bytes ≡ drop from bytes →
+    65540 < length bytes → from ≤ 3
     → new.held ≡ [] → new.number ≡ old.number + 1 → new.is_ready ≡ false → new.is_ended ≡ false
     → new.line ≡ take 65537 (drop from bytes) → TakesLine old new more
 takes-long old new more bytes from whole none text long few held number ready ended line =
@@ -139,8 +155,11 @@ takes-long old new more bytes from whole none text long few held number ready en
       parts = sym whole ∙ sym (append-nil bytes) ∙ ap (λ t. bytes ++ t) (sym held);
       some = omega arith;
       number = number;
-      line = λ rest _. subst (λ t. IsFirstLine new (lines t) (lines rest)) (sym (text_at-more (old.number == 0) bytes rest (omega arith) ∙ ap (λ t. t ++ rest) text))
-          (long-line new front rest (position is_feed rest) refl (All-drop (λ b. is_feed b ≡ false) from bytes plain) (omega (arith, size)) line ready);
+      line =
+          λ rest _. subst (λ t. IsFirstLine new (lines t) (lines rest))
+          (sym (text_at-more (old.number == 0) bytes rest (omega arith) ∙ ap (λ t. t ++ rest) text))
+          (long-line new front rest (position is_feed rest) refl (All-drop (λ b. is_feed b ≡ false) from bytes plain)
+          (omega (arith, size)) line ready);
       fed = λ e _. absurd (cc);
       ended = λ e. absurd (cc);
     }

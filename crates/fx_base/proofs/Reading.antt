@@ -8,7 +8,8 @@ use Rattle.fx_base.specs.Calls.{TakesUpTo}
 use Rattle.fx_base.proofs.Lists.{length-append-take}
 
 -- a call that refuses after a piece has taken that piece too
-pub takes-piece : (a b c : Option (List ℕ)) (bytes block : List ℕ) (n limit : ℕ) (fault : InFault) → Consumes a b bytes → Consumes b c (take n block)
+pub takes-piece : (a b c : Option (List ℕ)) (bytes block : List ℕ) (n limit : ℕ) (fault : InFault) →
+    Consumes a b bytes → Consumes b c (take n block)
     → n ≤ length block → (fault ≡ TooLong) ↔ (limit < length bytes + n) → TakesUpTo a c limit fault
 takes-piece a b c bytes block n limit fault p q within over = (
   bytes ++ take n block,

@@ -39,4 +39,7 @@ pub record ShelfState : Type 0 where
 -- a read that failed raised the count, but for a name that isn't there
 abbrev pub after_read_at : ShelfState → List ℕ → Result ℕ Failed → ShelfState
 after_read_at s name (Ok n) = record s { calls = counted s.calls }
-after_read_at s name (Err e) = record s { calls = counted s.calls; faults = if is_some (paper_of s.files name) then counted s.faults else s.faults }
+after_read_at s name (Err e) = record s {
+  calls = counted s.calls;
+  faults = if is_some (paper_of s.files name) then counted s.faults else s.faults;
+}

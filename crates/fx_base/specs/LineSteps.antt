@@ -34,6 +34,7 @@ pub record TakesLine (old new : LinesState) (more : List ℕ) : Type 0 where
   pub parts : old.held ++ more ≡ raw ++ new.held
   pub some : 0 < length raw
   pub number : new.number ≡ old.number + 1
-  pub line : (rest : List ℕ) → (new.is_ended ≡ true → rest ≡ []) → IsFirstLine new (lines (text_at (old.number == 0) (raw ++ rest))) (lines rest)
+  pub line : (rest : List ℕ) → (new.is_ended ≡ true → rest ≡ []) →
+      IsFirstLine new (lines (text_at (old.number == 0) (raw ++ rest))) (lines rest)
   pub fed : new.is_ready ≡ true → new.is_ended ≡ false → EndsLine raw
   pub ended : new.is_ended ≡ true → new.held ≡ []

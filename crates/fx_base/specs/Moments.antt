@@ -17,4 +17,5 @@ HoldsEachTime P old new = (since : List Moment) × (new ≡ old ++ since) × All
 
 -- the source was asked behind these bytes of it and more, of which none ends a line; the sink had taken this
 abbrev pub IsSought : List ℕ → Option (List ℕ) → Option (List ℕ) → Moment → Type 0
-IsSought held left taken m = (more : List ℕ) × Consumes left m.left more × (position (λ b. b == 10) (held ++ more) ≡ None) × (m.taken ≡ taken)
+IsSought held left taken m =
+    (more : List ℕ) × Consumes left m.left more × (position (λ b. b == 10) (held ++ more) ≡ None) × (m.taken ≡ taken)

@@ -38,7 +38,8 @@ ReadsPart papers name at result buf =
     IfPaper papers name (λ paper. MatchOption paper (IsErr result) (λ file. IfOk result (λ n. GivesPart file at n buf)))
 
 -- the count hasn't fallen; a refusal comes only where it rose, or where there is no such file, and then it stands
-pub record HasShelfCause {T E : Type 0} (papers : Option Files) (name : List ℕ) (before now : ℕ) (result : Result T E) : Type 0 where
+pub record HasShelfCause {T E : Type 0} (papers : Option Files) (name : List ℕ) (before now : ℕ)
+    (result : Result T E) : Type 0 where
   pub later : before ≤ now
   pub failed : OnErr result (IsMissing papers name ⊎ Rose before now)
   pub missing : IsMissing papers name → now ≡ before

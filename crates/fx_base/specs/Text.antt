@@ -11,7 +11,7 @@ skip_mark bytes = bytes
 abbrev pub text_at : Bool → List ℕ → List ℕ
 text_at is_first bytes = if is_first then skip_mark bytes else bytes
 
--- the lines of an input, each without its line feed and one carriage return before that; what stands behind the last line feed
--- is a line where it isn't empty
+-- the lines of an input, each without its line feed and one carriage return before that; what stands behind the last
+-- line feed is a line where it isn't empty
 abbrev pub lines_in : List ℕ → List (List ℕ)
 lines_in bytes = lines (skip_mark bytes)

@@ -4,7 +4,8 @@
 //! The trap: the contract says what stands behind the copy too (`rest`), and a kind's model needs that to move on.
 ghost use Rattle.std.specs.Prelude.{◌≡◌, ◌+◌, ◌-◌, ◌≤◌, ◌++◌, length, take, drop, min};
 
-/// Copies what stands in `bytes` from `at` on, at most `most` bytes of it, into the front of `buf`, and gives the count.
+/// Copies what stands in `bytes` from `at` on, at most `most` bytes of it, into the front of `buf`, and gives the
+/// count.
 pub(crate) fn copy_from(bytes: &[u8], at: usize, most: usize, buf: &mut [u8]) -> usize
     requires { at ≤ length bytes.now }
     ensures count { result ≡ min (min most (length buf.old)) (length bytes.now - at) }

@@ -48,7 +48,8 @@ pub(crate) fn fetch<S: Source<K>, K: Sink>(
     ensures read_fault { IsErrOf result LineFault.ReadFault → Rose (S.faults source.old) (S.faults source.new) }
     ensures too_long { IsErrOf result LineFault.TooLong ↔ (limit < taken.new) }
     ensures lazy { ahead ≢ None → (source.new ≡ source.old) × (held.new ≡ held.old) × (taken.new ≡ taken.old) }
-    ensures sought { HoldsEachTime (IsSought held.old (S.left source.old) (K.taken shown.now)) (S.asked source.old) (S.asked source.new) }
+    ensures sought { HoldsEachTime (IsSought held.old (S.left source.old) (K.taken shown.now)) (S.asked source.old)
+        (S.asked source.new) }
     ensures later { S.faults source.old ≤ S.faults source.new }
     ensures few { length held.new ≤ 131072 }
 {

@@ -1,7 +1,7 @@
 //! The bytes that were taken and not dropped yet, in a buffer that is made once.
 //!
-//! A read goes into the room behind them. Before it they are moved to the front, which is short work where whole lines are
-//! dropped before each read.
+//! A read goes into the room behind them. Before it they are moved to the front, which is short work where whole lines
+//! are dropped before each read.
 ghost use Rattle.std.specs.Prelude.{◌≡◌, ℕ, List, [], ◌+◌, ◌-◌, ◌<◌, ◌≤◌, ◌++◌, take, drop, length, IfOk, OnErr};
 ghost use Rattle.std.specs.Io.KnownBytes.{Consumes, Keeps, IsAtEnd};
 ghost use Rattle.fx_base.specs.Causes.{HasCause};
@@ -73,7 +73,8 @@ impl Held {
         ensures few { length self.new ≤ 131072 }
         ensures end { IfOk result (λ n. n ≡ 0 → IsAtEnd (S.left source.new)) }
         ensures err { OnErr result (Keeps (S.left source.old) (S.left source.new) × (self.new ≡ self.old)) }
-        ensures moment { Notes (record { left = S.left source.old; taken = K.taken shown.now }) (S.asked source.old) (S.asked source.new) }
+        ensures moment { Notes (record { left = S.left source.old; taken = K.taken shown.now }) (S.asked source.old)
+            (S.asked source.new) }
         ensures cause { HasCause (S.faults source.old) (S.faults source.new) result }
     {
         move_up(&mut self.block, self.start, self.end);
@@ -110,7 +111,8 @@ fn read_behind<S: Source<K>, K: Sink>(
     ensures length { length block.new ≡ length block.old }
     ensures end { IfOk result (λ n. n ≡ 0 → IsAtEnd (S.left source.new)) }
     ensures err { OnErr result (Keeps (S.left source.old) (S.left source.new)) }
-    ensures moment { Notes (record { left = S.left source.old; taken = K.taken shown.now }) (S.asked source.old) (S.asked source.new) }
+    ensures moment { Notes (record { left = S.left source.old; taken = K.taken shown.now }) (S.asked source.old)
+        (S.asked source.new) }
     ensures cause { HasCause (S.faults source.old) (S.faults source.new) result }
 {
     let count = source.read(&mut block[at..], shown)?;

@@ -1,10 +1,9 @@
 //! The lines of a source, one at a time, through a buffer that is made once.
 //!
-//! A line is answered as soon as the bytes taken hold its end, and a read comes only where they hold none. The mark EF BB
-//! BF at the front of the input and a carriage return before a line feed are no part of a line; a last piece without a
-//! line feed is a line where it isn't empty.
-//! The trap: after that last line the end is answered without a read, since a read may fail and no line would be left
-//! for the fault.
+//! A line is answered as soon as the bytes taken hold its end, and a read comes only where they hold none. The mark EF
+//! BB BF at the front of the input and a carriage return before a line feed are no part of a line; a last piece without
+//! a line feed is a line where it isn't empty. The trap: after that last line the end is answered without a read, since
+//! a read may fail and no line would be left for the fault.
 ghost use Rattle.std.specs.Prelude.{◌≡◌, ◌≢◌, ℕ, List, [], ◌+◌, ◌-◌, ◌^◌, ◌<◌, ◌≤◌, ◌==◌, ◌++◌, ◌↔◌, ◌⊎◌, true, false, min, length, position, IfOk, IsTrue, OnOk, OnErr, IsErrOf, Ok, None};
 ghost use Rattle.std.specs.Io.KnownBytes.{Consumes, IsAtEnd};
 ghost use Rattle.fx_base.specs.Causes.{Rose};
@@ -49,9 +48,18 @@ impl Model for Lines {
 
     ghost Value = { LinesState };
 
-    ghost view = { λ s. record { line = take (s.to - s.from) (drop s.from s.held); held = drop s.next s.held; number = s.number; taken = s.taken; limit = s.limit; is_ready = s.is_ready; is_ended = s.is_ended } };
+    ghost view = { λ s. record {
+      line = take (s.to - s.from) (drop s.from s.held);
+      held = drop s.next s.held;
+      number = s.number;
+      taken = s.taken;
+      limit = s.limit;
+      is_ready = s.is_ready;
+      is_ended = s.is_ended;
+    } };
 
-    ghost invariant = { λ s. (s.from ≤ s.to) × (s.to ≤ length s.held) × (s.next ≤ length s.held) × (length s.held ≤ 131072) × (s.limit < 2 ^ 64 - 1)
+    ghost invariant = { λ s. (s.from ≤ s.to) × (s.to ≤ length s.held) × (s.next ≤ length s.held) × (length s.held ≤ 131072) ×
+        (s.limit < 2 ^ 64 - 1)
         × (IsTrue s.is_ready → (s.taken ≤ s.limit) × (s.number + (length s.held - s.next) ≤ s.taken) × (s.ahead ≡ position (λ b. b == 10) (drop s.next s.held)))
         × (IsTrue s.is_ended → drop s.next s.held ≡ []) };
 }
@@ -64,7 +72,15 @@ impl Lines {
     /// Makes all room that is ever needed. More than `limit` bytes are `TooLong`.
     pub fn new(alloc: Global, limit: u64) -> Result<Lines, Memory>
         requires { limit < 2 ^ 64 - 1 }
-        ensures { IfOk result (λ s. s ≡ record { line = []; held = []; number = 0; taken = 0; limit = limit; is_ready = true; is_ended = false }) }
+        ensures { IfOk result (λ s. s ≡ record {
+          line = [];
+          held = [];
+          number = 0;
+          taken = 0;
+          limit = limit;
+          is_ready = true;
+          is_ended = false;
+        }) }
     {
         let Ok(held) = Held::new(alloc) else {
             return Err(Memory);
@@ -125,18 +141,23 @@ impl Lines {
             × (result ≡ Ok LineStep.Line → TakesLine self.old self.new more)
             × (result ≡ Ok LineStep.End → text_at (self.old.number == 0) (self.old.held ++ more) ≡ [])
             × (OnErr result (self.new.held ≡ self.old.held ++ more)) }
-        ensures counts { result ≡ Ok LineStep.Line → IsTrue self.new.is_ready → self.new.number + length self.new.held ≤ self.new.taken }
+        ensures counts { result ≡ Ok LineStep.Line → IsTrue self.new.is_ready →
+            self.new.number + length self.new.held ≤ self.new.taken }
         ensures end { IsTrue self.new.is_ended → IsTrue self.old.is_ended ⊎ IsAtEnd (S.left source.new) }
         ensures ended { result ≡ Ok LineStep.End → self.new.is_ended ≡ true }
-        ensures stop { result ≢ Ok LineStep.Line → (self.new.line ≡ []) × (self.new.is_ready ≡ false) × (self.new.number ≡ self.old.number) }
+        ensures stop { result ≢ Ok LineStep.Line → (self.new.line ≡ []) × (self.new.is_ready ≡ false) ×
+            (self.new.number ≡ self.old.number) }
         ensures read_fault { IsErrOf result LineFault.ReadFault → Rose (S.faults source.old) (S.faults source.new)
             × (position (λ b. b == 10) self.new.held ≡ None) }
         ensures too_long { IsErrOf result LineFault.TooLong ↔ (self.old.limit < self.new.taken) }
         ensures within { OnOk result (self.new.taken ≤ self.old.limit) }
         ensures limit { self.new.limit ≡ self.old.limit }
-        ensures lazy { position (λ b. b == 10) self.old.held ≢ None → (source.new ≡ source.old) × (self.new.taken ≡ self.old.taken) × (result ≡ Ok LineStep.Line) }
-        ensures after_end { IsTrue self.old.is_ended → (source.new ≡ source.old) × (self.new.taken ≡ self.old.taken) × (result ≡ Ok LineStep.End) }
-        ensures sought { HoldsEachTime (IsSought self.old.held (S.left source.old) (K.taken shown.now)) (S.asked source.old) (S.asked source.new) }
+        ensures lazy { position (λ b. b == 10) self.old.held ≢ None →
+            (source.new ≡ source.old) × (self.new.taken ≡ self.old.taken) × (result ≡ Ok LineStep.Line) }
+        ensures after_end { IsTrue self.old.is_ended →
+            (source.new ≡ source.old) × (self.new.taken ≡ self.old.taken) × (result ≡ Ok LineStep.End) }
+        ensures sought { HoldsEachTime (IsSought self.old.held (S.left source.old) (K.taken shown.now))
+            (S.asked source.old) (S.asked source.new) }
         ensures later { S.faults source.old ≤ S.faults source.new }
     {
         let is_first = self.number == 0;

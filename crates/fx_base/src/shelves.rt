@@ -22,8 +22,8 @@ pub trait Shelf {
     // How often a read has failed. It never falls.
     ghost faults: { Self → ℕ };
 
-    /// Puts bytes of a file, from the place `at` on, into the front of `buf` and gives their count. `Ok(0)` for a buffer
-    /// with room is the file's end. A name that isn't there is `Failed`.
+    /// Puts bytes of a file, from the place `at` on, into the front of `buf` and gives their count. `Ok(0)` for a
+    /// buffer with room is the file's end. A name that isn't there is `Failed`.
     fn read_at(&mut self, name: &str, at: u64, buf: &mut [u8]) -> Result<usize, Failed>
         ensures bound { ReadsAtMost result buf.new }
         ensures part { ReadsPart (papers self.old) name.now at result buf.new }
@@ -119,8 +119,10 @@ impl Shelf for Papers {
         ensures same { self.new.files ≡ self.old.files }
         ensures cause { HasShelfCause (Some self.old.files) name.now self.old.faults self.new.faults result }
 
-        ensures fails { IsErr result ↔ (paper_of self.old.files name.now ≡ None) ⊎ Contains self.old.fails (counted self.old.calls) }
-        ensures count { IfOk result (λ n. IfSome (paper_of self.old.files name.now) (λ file. n ≡ min (length buf.old) (length file - at))) }
+        ensures fails { IsErr result ↔ (paper_of self.old.files name.now ≡ None) ⊎
+            Contains self.old.fails (counted self.old.calls) }
+        ensures count { IfOk result
+            (λ n. IfSome (paper_of self.old.files name.now) (λ file. n ≡ min (length buf.old) (length file - at))) }
         ensures after { self.new ≡ after_read_at self.old name.now result }
         ensures kept { OnErr result (buf.new ≡ buf.old) }
     {

@@ -1,10 +1,11 @@
 //! What is read from in order: the trait `Source`, and its two kinds in memory.
 //!
 //! A source may tell the bytes still to come (`left`). Callers are generic, so what they prove of a source that tells
-//! holds of the bytes of a real stream, which tells nothing. Whoever feeds a source may look at a sink before more bytes
-//! come, so each read is shown that sink: what a caller owes by then can be said of the moments that a source notes (`asked`). `BytesIn` comes in pieces and fails at chosen calls, to
-//! show that a caller gives the same bytes whatever the pieces; `CleanIn` never fails.
-//! The trap: a method here that states clauses of its own has to repeat the trait's.
+//! holds of the bytes of a real stream, which tells nothing. Whoever feeds a source may look at a sink before more
+//! bytes come, so each read is shown that sink: what a caller owes by then can be said of the moments that a source
+//! notes (`asked`). `BytesIn` comes in pieces and fails at chosen calls, to show that a caller gives the same bytes
+//! whatever the pieces; `CleanIn` never fails. The trap: a method here that states clauses of its own has to repeat the
+//! trait's.
 ghost use Rattle.std.specs.Prelude.{◌≡◌, ℕ, ◌≤◌, ◌↔◌, List, [], length, drop, min, Contains, IsErr, IfOk, OnErr, IsOkAnd, Some, Option};
 ghost use Rattle.std.specs.Io.{ReadsAtMost};
 ghost use Rattle.std.specs.Io.KnownBytes.{ReadConsumes};
@@ -31,7 +32,8 @@ pub trait Source<K: Sink> {
     fn read(&mut self, buf: &mut [u8], shown: &K) -> Result<usize, Failed>
         ensures bound { ReadsAtMost result buf.new }
         ensures bytes { ReadConsumes (left self.old) (left self.new) result buf.new }
-        ensures moment { Notes (record { left = left self.old; taken = K.taken shown.now }) (asked self.old) (asked self.new) }
+        ensures moment { Notes (record { left = left self.old; taken = K.taken shown.now }) (asked self.old)
+            (asked self.new) }
         ensures cause { HasCause (faults self.old) (faults self.new) result };
 }
 
@@ -52,7 +54,13 @@ impl Model for BytesIn {
 
     ghost Value = { InputState };
 
-    ghost view = { λ s. record { left = drop s.at s.bytes.items; piece = s.piece; fails = s.fails.items; calls = s.calls; faults = s.faults } };
+    ghost view = { λ s. record {
+      left = drop s.at s.bytes.items;
+      piece = s.piece;
+      fails = s.fails.items;
+      calls = s.calls;
+      faults = s.faults;
+    } };
 
     ghost invariant = { λ s. (s.at ≤ vec_len s.bytes) × (1 ≤ s.piece) };
 }

@@ -16,8 +16,8 @@ use std::alloc::Global;
 // In bytes: few calls of the system for a long file, and still little on the stack.
 const BLOCK: usize = 16_384;
 
-/// All bytes up to the end of input, at most `limit` of them; nothing is shown meanwhile. After a refusal the source stands
-/// behind what was taken.
+/// All bytes up to the end of input, at most `limit` of them; nothing is shown meanwhile. After a refusal the source
+/// stands behind what was taken.
 pub fn read_all<S: Source<Silent>>(
     alloc: Global,
     source: &mut S,

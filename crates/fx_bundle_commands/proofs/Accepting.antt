@@ -36,21 +36,25 @@ memory_ends : (bytes : List ℕ) (end : End) → end ≡ ends.NoMemory → Readi
 memory_ends bytes end e = subst (ReadingEnds bytes) (sym e) opening.no_memory
 
 -- the text isn't a bundle's
-pub text_ends : (bytes : List ℕ) (fault : TextFault) (end : End) → (end ≡ ends.NoMemory) ⊎ ((end ≡ ends.BadBundle fault) × (fault.kind ≢ texts.Memory)) →
+pub text_ends : (bytes : List ℕ) (fault : TextFault) (end : End) →
+    (end ≡ ends.NoMemory) ⊎ ((end ≡ ends.BadBundle fault) × (fault.kind ≢ texts.Memory)) →
     (bundle_in bytes ≡ Err fault) ⊎ (fault ≡ text.text_memory) → ReadingEnds bytes end
 text_ends bytes fault end (inl e) given = memory_ends bytes end e
 text_ends bytes fault end (inr told) (inl read) = subst (ReadingEnds bytes) (sym told.0) (no_bundle fault read)
 text_ends bytes fault end (inr told) (inr none) = absurd (told.1 (ap (λ f. f.kind) none))
 
 -- the source has no such function
-pub source_ends : (bytes : List ℕ) (b : Parts) (fault : SourceFault) (end : End) → Spells bytes b → (end ≡ ends.NoMemory) ⊎ ((end ≡ ends.Misread fault) × (fault.kind ≢ sources.Memory)) →
+pub source_ends : (bytes : List ℕ) (b : Parts) (fault : SourceFault) (end : End) → Spells bytes b →
+    (end ≡ ends.NoMemory) ⊎ ((end ≡ ends.Misread fault) × (fault.kind ≢ sources.Memory)) →
     (meaning_of b ≡ Err fault) ⊎ (fault ≡ source.source_memory) → ReadingEnds bytes end
 source_ends bytes b fault end spelled (inl e) given = memory_ends bytes end e
-source_ends bytes b fault end spelled (inr told) (inl read) = subst (ReadingEnds bytes) (sym told.0) (misread b fault spelled read)
+source_ends bytes b fault end spelled (inr told) (inl read) =
+    subst (ReadingEnds bytes) (sym told.0) (misread b fault spelled read)
 source_ends bytes b fault end spelled (inr told) (inr none) = absurd (told.1 (ap (λ f. f.kind) none))
 
 -- a condition fails
-pub check_ends : (bytes : List ℕ) (b : Parts) (fn : Function) (told : CheckFault) (end : End) → Spells bytes b → meaning_of b ≡ Ok fn → end ≡ check_end told →
+pub check_ends : (bytes : List ℕ) (b : Parts) (fn : Function) (told : CheckFault) (end : End) → Spells bytes b →
+    meaning_of b ≡ Ok fn → end ≡ check_end told →
     IsRefusal told (first_fault rewrite fn b.program b.certificate) → ReadingEnds bytes end
 check_ends bytes b fn checks.Memory end spelled meant is refused = memory_ends bytes end is
 check_ends bytes b fn (checks.Condition fault) end spelled meant is (inl none) = absurd cc
@@ -58,35 +62,53 @@ check_ends bytes b fn (checks.Condition fault) end spelled meant is (inr first) 
     subst (ReadingEnds bytes) (sym is) (rejected b fn (condition_fault_of fault) spelled meant (sym first))
 
 -- what was parsed is what the source means
-pub meant : (b : Parts) (source name : List ℕ) → source ≡ b.source → name ≡ b.program.name → parsed source (Some name) ≡ meaning_of b
+pub meant : (b : Parts) (source name : List ℕ) → source ≡ b.source → name ≡ b.program.name →
+    parsed source (Some name) ≡ meaning_of b
 meant b source name e h = λ i. parsed (e i) (Some (h i))
 
 -- ---- of the file
-pub if_file : (papers : Option Files) (name bytes : List ℕ) (P : List ℕ → Type 0) → IfPaper papers name (λ paper. paper ≡ Some bytes) → P bytes → IfFile papers name P
+pub if_file : (papers : Option Files) (name bytes : List ℕ) (P : List ℕ → Type 0) →
+    IfPaper papers name (λ paper. paper ≡ Some bytes) → P bytes → IfFile papers name P
 if_file None name bytes P is p = tt
 if_file (Some files) name bytes P is p = subst (λ (paper : Option (List ℕ)). IsSomeAnd paper P) (sym is) p
 
 -- what was read is a bundle
-pub is_opened : (papers : Option Files) (name bytes slice source : List ℕ) (a : Accepted) → IfPaper papers name (λ paper. paper ≡ Some bytes) → length bytes ≤ bundle_limit → slice ≡ bytes → IsReadAs slice source a
+pub is_opened : (papers : Option Files) (name bytes slice source : List ℕ) (a : Accepted) →
+    IfPaper papers name (λ paper. paper ≡ Some bytes) → length bytes ≤ bundle_limit → slice ≡ bytes →
+    IsReadAs slice source a
     → IsOpened papers name source a
 is_opened papers name bytes slice source a is short same read =
     let r = subst (λ (t : List ℕ). IsReadAs t source a) same read in
-    record { lawful = r.spelled.lawful; is_bundle = if_file papers name bytes _ is (short, r.spelled); accepted = r.accepted }
+    record {
+      lawful = r.spelled.lawful;
+      is_bundle = if_file papers name bytes _ is (short, r.spelled);
+      accepted = r.accepted;
+    }
 
 -- what was read is none
-ending : (papers : Option Files) (before after : ℕ) (name bytes : List ℕ) (end : End) → IfPaper papers name (λ paper. paper ≡ Some bytes) → length bytes ≤ bundle_limit → ReadingEnds bytes end → OpeningEnds papers before after name end
-ending papers before after name bytes end is short (no_bundle fault read) = opens.no_bundle fault (if_file papers name bytes _ is (short, read))
-ending papers before after name bytes end is short (misread b fault spelled meant) = opens.misread b fault (if_file papers name bytes _ is (short, spelled)) meant
-ending papers before after name bytes end is short (rejected b fn fault spelled meant first) = opens.rejected b fn fault (if_file papers name bytes _ is (short, spelled)) meant first
+ending : (papers : Option Files) (before after : ℕ) (name bytes : List ℕ) (end : End) →
+    IfPaper papers name (λ paper. paper ≡ Some bytes) → length bytes ≤ bundle_limit → ReadingEnds bytes end →
+    OpeningEnds papers before after name end
+ending papers before after name bytes end is short (no_bundle fault read) =
+    opens.no_bundle fault (if_file papers name bytes _ is (short, read))
+ending papers before after name bytes end is short (misread b fault spelled meant) =
+    opens.misread b fault (if_file papers name bytes _ is (short, spelled)) meant
+ending papers before after name bytes end is short (rejected b fn fault spelled meant first) =
+    opens.rejected b fn fault (if_file papers name bytes _ is (short, spelled)) meant first
 ending papers before after name bytes end is short opening.no_memory = opens.no_memory
 
-pub opening_ends : (papers : Option Files) (before after : ℕ) (name bytes slice : List ℕ) (end : End) → IfPaper papers name (λ paper. paper ≡ Some bytes) → length bytes ≤ bundle_limit → slice ≡ bytes → ReadingEnds slice end →
+pub opening_ends : (papers : Option Files) (before after : ℕ) (name bytes slice : List ℕ) (end : End) →
+    IfPaper papers name (λ paper. paper ≡ Some bytes) → length bytes ≤ bundle_limit → slice ≡ bytes →
+    ReadingEnds slice end →
     OpeningEnds papers before after name end
-opening_ends papers before after name bytes slice end is short same read = ending papers before after name bytes end is short (subst (λ (t : List ℕ). ReadingEnds t end) same read)
+opening_ends papers before after name bytes slice end is short same read =
+    ending papers before after name bytes end is short (subst (λ (t : List ℕ). ReadingEnds t end) same read)
 
 -- it wasn't read
-pub read_ends : (papers : Option Files) (before after : ℕ) (name : List ℕ) (fault : InFault) → (fault ≡ reads.TooLong → IfFile papers name (λ file. bundle_limit < length file)) →
-    (fault ≡ reads.ReadFault → IsMissing papers name ⊎ Rose before after) → OpeningEnds papers before after name (read_end fault)
+pub read_ends : (papers : Option Files) (before after : ℕ) (name : List ℕ) (fault : InFault) →
+    (fault ≡ reads.TooLong → IfFile papers name (λ file. bundle_limit < length file)) →
+    (fault ≡ reads.ReadFault → IsMissing papers name ⊎ Rose before after) →
+    OpeningEnds papers before after name (read_end fault)
 read_ends papers before after name reads.ReadFault long failed = opens.unread (failed refl)
 read_ends papers before after name reads.TooLong long failed = opens.long (long refl)
 read_ends papers before after name reads.Memory long failed = opens.no_memory

@@ -14,7 +14,11 @@ own_second p e = λ i. record p { version = sym e i }
 
 pub is_migrated : (b : Parts) (fn : Function) → IsLawfulBundle b → IsAcceptedAs b fn → IsMigrated b fn
 is_migrated b fn lawful accepted = record {
-  lawful = record { source = lawful.source; program = second_spelled b.program lawful.program; certificate = lawful.certificate };
+  lawful = record {
+    source = lawful.source;
+    program = second_spelled b.program lawful.program;
+    certificate = lawful.certificate;
+  };
   accepted = record { meant = accepted.meant; accepted = accepted.accepted };
   run = λ rows. refl;
   bound = λ j. refl;

@@ -7,7 +7,8 @@ use Rattle.fx_cert.specs.BundleView.{Parts}
 use Rattle.fx_ends.specs.Ends.{End, NoMemory}
 use Rattle.fx_bundle_commands.specs.Opening.{IsBundle, IsAcceptedAs}
 
--- the shelf tells its files, these are the bytes of FILE, and no read of it failed; the shelf's faults are counted before and after
+-- the shelf tells its files, these are the bytes of FILE, and no read of it failed; the shelf's faults are counted
+-- before and after
 pub record IsFound (papers : Option Files) (before after : ℕ) (name file : List ℕ) : Type 0 where
   pub files : Files
   pub told : papers ≡ Some files
@@ -21,7 +22,8 @@ OrNoMemory IsEnd end = IsEnd end ⊎ IsEnd NoMemory
 -- where FILE is found, a cause that its bytes give is the one that ended the call
 abbrev pub EndsExactly : Option Files → ℕ → ℕ → List ℕ → (End → Type 0) → (End → Type 0) → Type 0
 EndsExactly papers before after name IsCause IsEnd =
-    (file : List ℕ) → IsFound papers before after name file → (end : End) → end ≢ NoMemory → IsCause end → OrNoMemory IsEnd end
+    (file : List ℕ) → IsFound papers before after name file → (end : End) → end ≢ NoMemory → IsCause end →
+    OrNoMemory IsEnd end
 
 -- FILE is found, and it is this bundle, which is accepted for this function
 pub record IsReady (papers : Option Files) (before after : ℕ) (name : List ℕ) (b : Parts) (fn : Function) : Type 0 where

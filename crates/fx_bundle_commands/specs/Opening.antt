@@ -41,14 +41,20 @@ IsOpen papers name = (b : Parts) × (fn : Function) × IsBundle papers name b ×
 pub data OpeningEnds (papers : Option Files) (before after : ℕ) (name : List ℕ) : End → Type 0 where
   unread : IsMissing papers name ⊎ Rose before after → OpeningEnds papers before after name ReadFault
   long : IfFile papers name (λ file. bundle_limit < length file) → OpeningEnds papers before after name OverLimit
-  no_bundle : (fault : TextFault) → IfFile papers name (λ file. (length file ≤ bundle_limit) × (bundle_in file ≡ Err fault)) →
+  no_bundle : (fault : TextFault) →
+      IfFile papers name (λ file. (length file ≤ bundle_limit) × (bundle_in file ≡ Err fault)) →
       OpeningEnds papers before after name (BadBundle fault)
-  misread : (b : Parts) (fault : SourceFault) → IsBundle papers name b → meaning_of b ≡ Err fault → OpeningEnds papers before after name (Misread fault)
+  misread : (b : Parts) (fault : SourceFault) → IsBundle papers name b → meaning_of b ≡ Err fault →
+      OpeningEnds papers before after name (Misread fault)
   rejected : (b : Parts) (fn : Function) (fault : Fault) → IsBundle papers name b → meaning_of b ≡ Ok fn →
-      first_fault rewrite fn b.program b.certificate ≡ Some fault → OpeningEnds papers before after name (Rejected fault)
+      first_fault rewrite fn b.program b.certificate ≡ Some fault →
+      OpeningEnds papers before after name (Rejected fault)
   no_memory : OpeningEnds papers before after name NoMemory
 
 -- a command that opens FILE: there is no accepted bundle, and nothing else is touched; or it does what P says with it
-pub data OpensThen (papers : Option Files) (before after : ℕ) (name : List ℕ) (old new : Streams) (P : Parts → Function → End → Type 0) : End → Type 0 where
-  unopened : (end : End) → OpeningEnds papers before after name end → AreUntouched old new → OpensThen papers before after name old new P end
-  opened : (end : End) (b : Parts) (fn : Function) → IsBundle papers name b → IsAcceptedAs b fn → P b fn end → OpensThen papers before after name old new P end
+pub data OpensThen (papers : Option Files) (before after : ℕ) (name : List ℕ) (old new : Streams) (P : Parts →
+    Function → End → Type 0) : End → Type 0 where
+  unopened : (end : End) → OpeningEnds papers before after name end → AreUntouched old new →
+      OpensThen papers before after name old new P end
+  opened : (end : End) (b : Parts) (fn : Function) → IsBundle papers name b → IsAcceptedAs b fn → P b fn end →
+      OpensThen papers before after name old new P end

@@ -42,8 +42,10 @@ read_end reads.Memory = NoMemory
 -- why bytes give no accepted bundle
 pub data ReadingEnds (bytes : List ℕ) : End → Type 0 where
   no_bundle : (fault : TextFault) → bundle_in bytes ≡ Err fault → ReadingEnds bytes (BadBundle fault)
-  misread : (b : Parts) (fault : SourceFault) → Spells bytes b → meaning_of b ≡ Err fault → ReadingEnds bytes (Misread fault)
-  rejected : (b : Parts) (fn : Function) (fault : Fault) → Spells bytes b → meaning_of b ≡ Ok fn → first_fault rewrite fn b.program b.certificate ≡ Some fault → ReadingEnds bytes (Rejected fault)
+  misread : (b : Parts) (fault : SourceFault) → Spells bytes b → meaning_of b ≡ Err fault →
+      ReadingEnds bytes (Misread fault)
+  rejected : (b : Parts) (fn : Function) (fault : Fault) → Spells bytes b → meaning_of b ≡ Ok fn →
+      first_fault rewrite fn b.program b.certificate ≡ Some fault → ReadingEnds bytes (Rejected fault)
   no_memory : ReadingEnds bytes NoMemory
 
 -- of a certificate that isn't accepted

@@ -103,7 +103,8 @@ fn accept(alloc: Global, bytes: &[u8]) -> Result<Opened, End<'static>>
 /// The accepted bundle in the file of this name.
 pub fn open<H: Shelf>(alloc: Global, shelf: &mut H, name: &str) -> Result<Opened, End<'static>>
     ensures opened { IfOk result (λ o. IsOpened (H.papers shelf.old) name.now o.source o.certified) }
-    ensures failed { IfErr result (λ end. OpeningEnds (H.papers shelf.old) (H.faults shelf.old) (H.faults shelf.new) name.now (end_of end)) }
+    ensures failed { IfErr result
+        (λ end. OpeningEnds (H.papers shelf.old) (H.faults shelf.old) (H.faults shelf.new) name.now (end_of end)) }
 {
     let bytes = match read_file(alloc, shelf, name, BUNDLE_LIMIT) {
         Ok(bytes) => bytes,

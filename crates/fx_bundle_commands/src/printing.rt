@@ -12,7 +12,8 @@ use fx_num::Memory;
 
 /// Writes a text. Where memory lacked for it, nothing is written.
 pub(crate) fn print_text<K: Sink>(made: Result<Vec<u8>, Memory>, output: &mut K) -> End<'static>
-    ensures ended { (text : List ℕ) (left : Option (List ℕ)) (reads : ℕ) → IfOk made (λ t. t.items ≡ text) → TextEnds text
+    ensures ended { (text : List ℕ) (left : Option (List ℕ)) (reads : ℕ) → IfOk made (λ t. t.items ≡ text) →
+        TextEnds text
         (streams left reads (K.taken output.old) (K.faults output.old))
         (streams left reads (K.taken output.new) (K.faults output.new))
         (end_of result) }

@@ -55,8 +55,12 @@ fn outputs_of(certified: &Certified) -> u32
 // The line of an output.
 fn put_output<K: Sink>(certified: &Certified, output: u32, sink: &mut K) -> Result<(), Failed>
     requires { output < certified.now.program.outputs }
-    ensures all { OnOk result (Appends (K.taken sink.old) (K.taken sink.new) (bound_line output (bound_dyadic certified.now.program certified.now.certificate output))) }
-    ensures front { OnErr result (AppendsFront (K.taken sink.old) (K.taken sink.new) (bound_line output (bound_dyadic certified.now.program certified.now.certificate output))) }
+    ensures all { OnOk result
+        (Appends (K.taken sink.old) (K.taken sink.new)
+        (bound_line output (bound_dyadic certified.now.program certified.now.certificate output))) }
+    ensures front { OnErr result
+        (AppendsFront (K.taken sink.old) (K.taken sink.new)
+        (bound_line output (bound_dyadic certified.now.program certified.now.certificate output))) }
     ensures cause { HasCause (K.faults sink.old) (K.faults sink.new) result }
 {
     certified.certified();
@@ -65,8 +69,12 @@ fn put_output<K: Sink>(certified: &Certified, output: u32, sink: &mut K) -> Resu
 
 /// Writes the lines of all outputs.
 pub fn put_bounds<K: Sink>(certified: &Certified, sink: &mut K) -> Result<(), Failed>
-    ensures all { OnOk result (Appends (K.taken sink.old) (K.taken sink.new) (bound_lines certified.now.program certified.now.certificate 0 certified.now.program.outputs)) }
-    ensures front { OnErr result (AppendsFront (K.taken sink.old) (K.taken sink.new) (bound_lines certified.now.program certified.now.certificate 0 certified.now.program.outputs)) }
+    ensures all { OnOk result
+        (Appends (K.taken sink.old) (K.taken sink.new)
+        (bound_lines certified.now.program certified.now.certificate 0 certified.now.program.outputs)) }
+    ensures front { OnErr result
+        (AppendsFront (K.taken sink.old) (K.taken sink.new)
+        (bound_lines certified.now.program certified.now.certificate 0 certified.now.program.outputs)) }
     ensures cause { HasCause (K.faults sink.old) (K.faults sink.new) result }
 {
     let outputs = outputs_of(certified);
@@ -78,8 +86,10 @@ pub fn put_bounds<K: Sink>(certified: &Certified, sink: &mut K) -> Result<(), Fa
 
 /// Writes that the bundle is accepted, and the bound of each output.
 pub fn put_report<K: Sink>(certified: &Certified, sink: &mut K) -> Result<(), Failed>
-    ensures all { OnOk result (Appends (K.taken sink.old) (K.taken sink.new) (report certified.now.program certified.now.certificate)) }
-    ensures front { OnErr result (AppendsFront (K.taken sink.old) (K.taken sink.new) (report certified.now.program certified.now.certificate)) }
+    ensures all { OnOk result
+        (Appends (K.taken sink.old) (K.taken sink.new) (report certified.now.program certified.now.certificate)) }
+    ensures front { OnErr result
+        (AppendsFront (K.taken sink.old) (K.taken sink.new) (report certified.now.program certified.now.certificate)) }
     ensures cause { HasCause (K.faults sink.old) (K.faults sink.new) result }
 {
     put_pieces(&["accepted\n"], sink)?;

@@ -37,7 +37,8 @@ pub fn put_value(out: &mut Vec<u8>, value: Dyadic) -> Result<(), AllocError>
 
 // What stands before a code's values.
 fn put_front(out: &mut Vec<u8>, number: u32, name: &str, point: i32) -> Result<(), AllocError>
-    ensures { OnOk result (out.new.items ≡ out.old.items ++ decimal number ++ 32 ∷ name.now ++ 32 ∷ signed_decimal point) }
+    ensures { OnOk result (out.new.items ≡ out.old.items ++ decimal number ++ 32 ∷ name.now ++ 32
+        ∷ signed_decimal point) }
 {
     let mut digits = Buffer::new();
     begin_line(out, digits.format(number).as_bytes())?;
@@ -61,7 +62,8 @@ fn put_line(
     point: i32,
     line: &NodeLine,
 ) -> Result<(), AllocError>
-    ensures { OnOk result (out.new.items ≡ out.old.items ++ line_text (shown_fields number name.now point (line_view line.now))) }
+    ensures { OnOk result (out.new.items ≡ out.old.items
+        ++ line_text (shown_fields number name.now point (line_view line.now))) }
 {
     put_front(out, number, name, point)?;
     put_ends(out, line.range)?;
@@ -99,7 +101,8 @@ fn line_at(certified: &Certified, n: u32) -> &NodeLine
 // The line of code `n`.
 fn put_code(out: &mut Vec<u8>, certified: &Certified, n: u32) -> Result<(), AllocError>
     requires { n < length certified.now.program.codes }
-    ensures { OnOk result (out.new.items ≡ out.old.items ++ shown_line certified.now.program certified.now.certificate n) }
+    ensures { OnOk result (out.new.items ≡ out.old.items
+        ++ shown_line certified.now.program certified.now.certificate n) }
 {
     let program = certified.program();
     let name = name_at(program, n);
@@ -119,7 +122,9 @@ pub(crate) fn codes_of(certified: &Certified) -> u32
 
 // The lines of all codes.
 fn put_codes(out: &mut Vec<u8>, certified: &Certified) -> Result<(), AllocError>
-    ensures { OnOk result (out.new.items ≡ out.old.items ++ numbered_lines (shown_line certified.now.program certified.now.certificate) 0 (length certified.now.program.codes)) }
+    ensures { OnOk result (out.new.items ≡ out.old.items
+        ++ numbered_lines (shown_line certified.now.program certified.now.certificate) 0
+        (length certified.now.program.codes)) }
 {
     let count = codes_of(certified);
     for n in 0..count {
@@ -130,7 +135,9 @@ fn put_codes(out: &mut Vec<u8>, certified: &Certified) -> Result<(), AllocError>
 
 /// The lines of all codes, as a text.
 pub fn codes_text(alloc: Global, certified: &Certified) -> Result<Vec<u8>, Memory>
-    ensures { IfOk result (λ text. text.items ≡ numbered_lines (shown_line certified.now.program certified.now.certificate) 0 (length certified.now.program.codes)) }
+    ensures { IfOk result (λ text. text.items
+        ≡ numbered_lines (shown_line certified.now.program certified.now.certificate) 0
+        (length certified.now.program.codes)) }
 {
     let mut out = Vec::new(alloc);
     match put_codes(&mut out, certified) {

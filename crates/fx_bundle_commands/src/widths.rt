@@ -1,4 +1,5 @@
-//! The lines that `widths FILE` prints of an accepted bundle: the least width of each code, and how many bytes all take.
+//! The lines that `widths FILE` prints of an accepted bundle: the least width of each code, and how many bytes all
+//! take.
 ghost use Rattle.std.specs.Prelude.{◌≡◌, ◌++◌, ◌∷◌, [], ◌<◌, length, OnOk, IfOk};
 ghost use Rattle.std.specs.Fmt.{decimal};
 ghost use Rattle.fx_model.specs.LineText.{line_text, numbered_lines};
@@ -17,7 +18,8 @@ use std::alloc::{AllocError, Global};
 
 // A number, a name and a width.
 fn put_width(out: &mut Vec<u8>, number: u32, name: &str, width: u32) -> Result<(), AllocError>
-    ensures { OnOk result (out.new.items ≡ out.old.items ++ line_text (decimal number ∷ name.now ∷ decimal width ∷ [])) }
+    ensures { OnOk result (out.new.items ≡ out.old.items
+        ++ line_text (decimal number ∷ name.now ∷ decimal width ∷ [])) }
 {
     let mut digits = Buffer::new();
     begin_line(out, digits.format(number).as_bytes())?;
@@ -30,7 +32,8 @@ fn put_width(out: &mut Vec<u8>, number: u32, name: &str, width: u32) -> Result<(
 // The line of code `n`.
 fn put_code(out: &mut Vec<u8>, certified: &Certified, n: u32) -> Result<(), AllocError>
     requires { n < length certified.now.program.codes }
-    ensures { OnOk result (out.new.items ≡ out.old.items ++ width_line certified.now.program certified.now.certificate n) }
+    ensures { OnOk result (out.new.items ≡ out.old.items
+        ++ width_line certified.now.program certified.now.certificate n) }
 {
     let name = name_at(certified.program(), n);
     put_width(out, n, name, least_width(certified, n))?;
@@ -39,7 +42,9 @@ fn put_code(out: &mut Vec<u8>, certified: &Certified, n: u32) -> Result<(), Allo
 
 // The lines of all codes.
 fn put_codes(out: &mut Vec<u8>, certified: &Certified) -> Result<(), AllocError>
-    ensures { OnOk result (out.new.items ≡ out.old.items ++ numbered_lines (width_line certified.now.program certified.now.certificate) 0 (length certified.now.program.codes)) }
+    ensures { OnOk result (out.new.items ≡ out.old.items
+        ++ numbered_lines (width_line certified.now.program certified.now.certificate) 0
+        (length certified.now.program.codes)) }
 {
     let count = codes_of(certified);
     for n in 0..count {
@@ -60,7 +65,8 @@ fn bytes_of(alloc: Global, certified: &Certified) -> Result<usize, Memory>
 // All lines behind one another.
 fn put_all_lines(out: &mut Vec<u8>, certified: &Certified, bytes: usize) -> Result<(), AllocError>
     requires { bytes ≡ size_of (least_widths certified.now.program certified.now.certificate) }
-    ensures { OnOk result (out.new.items ≡ out.old.items ++ widths_text certified.now.program certified.now.certificate) }
+    ensures { OnOk result (out.new.items ≡ out.old.items
+        ++ widths_text certified.now.program certified.now.certificate) }
 {
     put_codes(out, certified)?;
     put_one(out, b"bytes", bytes)?;

@@ -44,14 +44,18 @@ module _ (n : ℕ) (fn : Function) (some : Contains widths n) (narrow : IsNarrow
   bs = bounds_of c fn
 
   units_few : {k : ℕ} → k ≤ 2 ^ (c.m + c.f) → k ≤ 2 ^ 61
-  units_few l = let w = (room n fn (width_of n some) calm).width in let m = power_more {a = c.m + c.f} {b = 61} w in omega (arith, l, m)
+  units_few l =
+      let w = (room n fn (width_of n some) calm).width in
+      let m = power_more {a = c.m + c.f} {b = 61} w in
+      omega (arith, l, m)
 
   pub place : HasPlace c
   place =
       let r = room n fn (width_of n some) calm in
       by c.q c.a c.m c.f c.p _ c.v r.v r.roundings r.point r.states r.errors r.width
     where
-      by : (q a m f p y : ℕ) (v : ℤ) → v ≡ pos y -ℤ pos f → m + 6 ≤ p → p + 2 ≤ f → q + 3 ≤ m → a + p + 5 + y ≤ m + f → m + f ≤ 61 → HasPlace (record { q = q; a = a; m = m; f = f; p = p; v = v; z = c.z })
+      by : (q a m f p y : ℕ) (v : ℤ) → v ≡ pos y -ℤ pos f → m + 6 ≤ p → p + 2 ≤ f → q + 3 ≤ m → a + p + 5 + y ≤ m + f →
+          m + f ≤ 61 → HasPlace (record { q = q; a = a; m = m; f = f; p = p; v = v; z = c.z })
       by q a m f p y v e o l s x w = record {
         some = omega (arith, s);
         point = omega (arith, s, w);
@@ -62,17 +66,21 @@ module _ (n : ℕ) (fn : Function) (some : Contains widths n) (narrow : IsNarrow
       }
 
   pub short : All IsShort bs
-  short = All-from_get_or IsShort bs no_bound (λ a lt. (let h = limited n fn some narrow calm a lt in record { r = units_few h.r; e = units_few h.e }))
+  short =
+      All-from_get_or IsShort bs no_bound (λ a lt. (let h = limited n fn some narrow calm a lt in
+      record { r = units_few h.r; e = units_few h.e }))
 
   pub short_starts : HaveShortStarts fn c.f
   short_starts k lt = units_few (start_limited n fn some narrow calm k lt)
 
   -- ---- words
-  node_word : (k : ℕ) (node : Node) (x : Bound) → IsNodeBound (length fn.states) c fn.inputs bs k node x → HasWord fn c.f node
+  node_word : (k : ℕ) (node : Node) (x : Bound) → IsNodeBound (length fn.states) c fn.inputs bs k node x →
+      HasWord fn c.f node
   node_word k (Input j) x h = tt
   node_word k (State j) x h = let lt = h.ordered.1 in (lt, word_fits (start_of fn j) c.f (short_starts j lt))
   node_word k (Const q) x h =
-      let own : IsShort (const_bound c.f q) = subst IsShort (h.at ∙ h.is) (short k no_bound h.below) in word_fits q c.f own.r
+      let own : IsShort (const_bound c.f q) = subst IsShort (h.at ∙ h.is) (short k no_bound h.below) in
+      word_fits q c.f own.r
   node_word k (Neg a) x h = tt
   node_word k (Add a b) x h = tt
   node_word k (Sub a b) x h = tt
@@ -80,9 +88,11 @@ module _ (n : ℕ) (fn : Function) (some : Contains widths n) (narrow : IsNarrow
   node_word k (Div a b) x h = tt
   node_word k (Copy a) x h = tt
 
-  all_words : (k : ℕ) (nodes : List Node) (xs : List Bound) → ArePairs (IsNodeBound (length fn.states) c fn.inputs bs) k nodes xs → All (HasWord fn c.f) nodes
+  all_words : (k : ℕ) (nodes : List Node) (xs : List Bound) →
+      ArePairs (IsNodeBound (length fn.states) c fn.inputs bs) k nodes xs → All (HasWord fn c.f) nodes
   all_words k [] [] h = All-nil (HasWord fn c.f)
-  all_words k (node ∷ nodes) (x ∷ xs) h = All-cons (HasWord fn c.f) node nodes (node_word k node x h.0) (all_words (k + 1) nodes xs h.1)
+  all_words k (node ∷ nodes) (x ∷ xs) h =
+      All-cons (HasWord fn c.f) node nodes (node_word k node x h.0) (all_words (k + 1) nodes xs h.1)
   all_words k [] (x ∷ xs) h = absurd h
   all_words k (node ∷ nodes) [] h = absurd h
 

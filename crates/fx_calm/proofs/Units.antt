@@ -20,4 +20,5 @@ shifted_code f n d e = ap (λ (k : ℕ). (n + (k - 1)) / k) e
 -- what has a size is narrow
 pub narrow_size : (t b : ℕ) (q : Rational) → 0 < b → b < 2 ^ 62 → over (pos t) b ≡ magnitude q → IsNarrowNumber q
 unfolding over
-narrow_size t b q some few e = let s = suc_pred b some in let g : suc (pred b) ≡ bottom q = ap bottom e in omega (arith, s, g, few)
+narrow_size t b q some few e =
+    let s = suc_pred b some in let g : suc (pred b) ≡ bottom q = ap bottom e in omega (arith, s, g, few)

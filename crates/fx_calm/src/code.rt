@@ -100,7 +100,8 @@ pub fn codes(
     requires some { 1 ≤ f }
     requires point { f ≤ 58 }
     requires words { All (HasWord function.now f) (nodes_in nodes.now) }
-    ensures { IfOk result (λ cs. map code_of cs.items ≡ map (calm_code (round_of round) function.now f) (nodes_in nodes.now)) }
+    ensures { IfOk result (λ cs. map code_of cs.items
+        ≡ map (calm_code (round_of round) function.now f) (nodes_in nodes.now)) }
 {
     let mut codes = Vec::new(alloc);
     for i in 0..nodes.len() {

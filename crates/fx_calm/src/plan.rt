@@ -36,7 +36,8 @@ fn program(
     codes: Vec<Code>,
 ) -> Result<Program, Memory>
     requires lawful { IsLawfulProgram (calm_program width (round_of round) function.now) }
-    requires codes { map code_of codes.items ≡ map (calm_code (round_of round) function.now (numbers_of width function.now).f) (nodes_of function.now) }
+    requires codes { map code_of codes.items
+        ≡ map (calm_code (round_of round) function.now (numbers_of width function.now).f) (nodes_of function.now) }
     ensures { IfOk result (λ p. p ≡ calm_program width (round_of round) function.now) }
 {
     function.keeps();

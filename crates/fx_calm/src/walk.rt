@@ -43,7 +43,8 @@ fn bound_of_input(function: &Function, k: u32, f: u32) -> Bound
 /// The bound of a node after those of the bounds `bs`.
 fn node_bound(node: Node, function: &Function, c: Numbers, bs: &[Bound]) -> Bound
     requires place { HasPlace (numbers_view c) }
-    requires ordered { IsInPlace (length function.now.inputs) (length function.now.states) (length bs.now) (node_of node) }
+    requires ordered { IsInPlace (length function.now.inputs) (length function.now.states) (length bs.now)
+        (node_of node) }
     requires short { All IsShort (bounds_in bs.now) }
     requires own { IsShort (node_bound (numbers_view c) function.now.inputs (bounds_in bs.now) (node_of node)) }
     ensures { bound_of result ≡ node_bound (numbers_view c) function.now.inputs (bounds_in bs.now) (node_of node) }

@@ -25,7 +25,8 @@ use Rattle.fx_calm_numbers.specs.Linear.{is_linear, terms_of, are_literals_below
 use Rattle.fx_calm_numbers.proofs.Factors.{HasRoom, IsRoomyInput}
 
 -- ---- tests over lists
-pub all_at : {A : Type 0} (p : A → Bool) (xs : List A) (k : ℕ) (d : A) → list_all p xs ≡ true → k < length xs → p (get_or xs k d) ≡ true
+pub all_at : {A : Type 0} (p : A → Bool) (xs : List A) (k : ℕ) (d : A) → list_all p xs ≡ true → k < length xs →
+    p (get_or xs k d) ≡ true
 all_at p xs k d e l = AllPass-from_list_all p xs e k d l
 
 pub le_of_test : (a b : ℕ) → nat_le a b ≡ true → a ≤ b
@@ -66,16 +67,21 @@ module _ (n : ℕ) (fn : Function) (width : IsWordWidth n) (calm : IsCalm n fn) 
   abbrev pub y : ℕ
   y = 1 + first_from 0 (λ d. bounds_errors fn (pos (1 + d) -ℤ pos c.f))
 
-  parts6 : ((nat_le (length fn.temps) 0 && nat_le 1 (length fn.states) && list_all is_short fn.results && list_all is_contracting (next_trees fn) && nat_le (c.p + 2) c.f && int_le c.z (pos c.m)) ≡ true) × (list_all (λ (d : function.Demand). allows d c.z) fn.demands ≡ true)
+  parts6 : ((nat_le (length fn.temps) 0 && nat_le 1 (length fn.states) && list_all is_short fn.results &&
+      list_all is_contracting (next_trees fn) && nat_le (c.p + 2) c.f && int_le c.z (pos c.m)) ≡ true) ×
+      (list_all (λ (d : function.Demand). allows d c.z) fn.demands ≡ true)
   parts6 = and_parts _ _ calm
 
-  parts5 : ((nat_le (length fn.temps) 0 && nat_le 1 (length fn.states) && list_all is_short fn.results && list_all is_contracting (next_trees fn) && nat_le (c.p + 2) c.f) ≡ true) × (int_le c.z (pos c.m) ≡ true)
+  parts5 : ((nat_le (length fn.temps) 0 && nat_le 1 (length fn.states) && list_all is_short fn.results &&
+      list_all is_contracting (next_trees fn) && nat_le (c.p + 2) c.f) ≡ true) × (int_le c.z (pos c.m) ≡ true)
   parts5 = and_parts _ _ parts6.0
 
-  parts4 : ((nat_le (length fn.temps) 0 && nat_le 1 (length fn.states) && list_all is_short fn.results && list_all is_contracting (next_trees fn)) ≡ true) × (nat_le (c.p + 2) c.f ≡ true)
+  parts4 : ((nat_le (length fn.temps) 0 && nat_le 1 (length fn.states) && list_all is_short fn.results &&
+      list_all is_contracting (next_trees fn)) ≡ true) × (nat_le (c.p + 2) c.f ≡ true)
   parts4 = and_parts _ _ parts5.0
 
-  parts3 : ((nat_le (length fn.temps) 0 && nat_le 1 (length fn.states) && list_all is_short fn.results) ≡ true) × (list_all is_contracting (next_trees fn) ≡ true)
+  parts3 : ((nat_le (length fn.temps) 0 && nat_le 1 (length fn.states) && list_all is_short fn.results) ≡ true) ×
+      (list_all is_contracting (next_trees fn) ≡ true)
   parts3 = and_parts _ _ parts4.0
 
   parts2 : ((nat_le (length fn.temps) 0 && nat_le 1 (length fn.states)) ≡ true) × (list_all is_short fn.results ≡ true)
@@ -147,56 +153,96 @@ module _ (n : ℕ) (fn : Function) (width : IsWordWidth n) (calm : IsCalm n fn) 
   starts_true = found 0 (bounds_starts fn) (let f = few_values in let s = states_first in omega (arith, f, s))
 
   pub sizes_true : bounds_sizes fn c.a ≡ true
-  sizes_true = found 0 (bounds_sizes fn) (let p = point in let w = room.width in let s = room.sizes in omega (arith, p, w, s))
+  sizes_true =
+      found 0 (bounds_sizes fn) (let p = point in let w = room.width in let s = room.sizes in omega (arith, p, w, s))
 
   pub errors_true : bounds_errors fn (pos y -ℤ pos c.f) ≡ true
-  errors_true = found 0 (λ d. bounds_errors fn (pos (1 + d) -ℤ pos c.f)) (let e = errors in let w = room.width in omega (arith, e, w))
+  errors_true = found 0 (λ d. bounds_errors fn (pos (1 + d) -ℤ pos c.f)) (let e = errors in let w = room.width in
+      omega (arith, e, w))
 
-  values_parts : ((list_all (λ (i : function.Input). is_below_power (plus (reach_of i) i.err) (pos (c.m - 1))) fn.inputs && list_all (λ (t : Tree). are_literals_below (power_value (pos (c.m - 1))) t) fn.results) ≡ true) ×
-      (list_all (λ (t : Tree). is_below_power (plus (times (state_sizes t) (power_value (pos (c.q + 2)))) (plus (input_reaches fn t) (literal_sizes t))) (pos (c.m - 1))) (output_trees fn) ≡ true)
+  values_parts : ((list_all
+      (λ (i : function.Input). is_below_power (plus (reach_of i) i.err) (pos (c.m - 1))) fn.inputs &&
+      list_all (λ (t : Tree). are_literals_below (power_value (pos (c.m - 1))) t) fn.results) ≡ true) ×
+      (list_all (λ (t : Tree). is_below_power
+      (plus (times (state_sizes t) (power_value (pos (c.q + 2)))) (plus (input_reaches fn t) (literal_sizes t)))
+      (pos (c.m - 1))) (output_trees fn) ≡ true)
   values_parts = and_parts _ _ values_true
 
-  inputs_parts : (list_all (λ (i : function.Input). is_below_power (plus (reach_of i) i.err) (pos (c.m - 1))) fn.inputs ≡ true) × (list_all (λ (t : Tree). are_literals_below (power_value (pos (c.m - 1))) t) fn.results ≡ true)
+  inputs_parts : (list_all (λ (i : function.Input). is_below_power (plus (reach_of i) i.err) (pos (c.m - 1))) fn.inputs
+      ≡ true) × (list_all (λ (t : Tree). are_literals_below (power_value (pos (c.m - 1))) t) fn.results ≡ true)
   inputs_parts = and_parts _ _ values_parts.0
 
-  starts_parts : (list_all (λ (s : function.State). is_below_power (magnitude s.start) (pos c.q)) fn.states ≡ true) × (list_all (λ (t : Tree). is_below_power (plus (input_reaches fn t) (literal_sizes t)) (pos c.q)) (next_trees fn) ≡ true)
+  starts_parts : (list_all (λ (s : function.State). is_below_power (magnitude s.start) (pos c.q)) fn.states ≡ true) ×
+      (list_all (λ (t : Tree). is_below_power (plus (input_reaches fn t) (literal_sizes t)) (pos c.q)) (next_trees fn)
+      ≡ true)
   starts_parts = and_parts _ _ starts_true
 
   -- ---- inputs and states
-  pub input_roomy : (k : ℕ) → k < length fn.inputs → Nonneg (at no_input fn.inputs k).err → IsRoomyInput c (at no_input fn.inputs k)
+  pub input_roomy : (k : ℕ) → k < length fn.inputs → Nonneg (at no_input fn.inputs k).err →
+      IsRoomyInput c (at no_input fn.inputs k)
   input_roomy k l e =
       let i = at no_input fn.inputs k in
-      let r = below_whole (c.m - 1) (all_at (λ (i : function.Input). is_below_power (plus (reach_of i) i.err) (pos (c.m - 1))) fn.inputs k no_input inputs_parts.0 l) in
-      let v = below_power (pos y -ℤ pos c.f) (all_at (λ (i : function.Input). is_below_power (plus i.err i.err) (pos y -ℤ pos c.f)) fn.inputs k no_input errors_true l) in
+      let r =
+      below_whole (c.m - 1) (all_at
+      (λ (i : function.Input). is_below_power (plus (reach_of i) i.err)
+      (pos (c.m - 1))) fn.inputs k no_input inputs_parts.0 l) in
+      let v =
+      below_power (pos y -ℤ pos c.f)
+      (all_at (λ (i : function.Input). is_below_power (plus i.err i.err)
+      (pos y -ℤ pos c.f)) fn.inputs k no_input errors_true l) in
       record {
-        reach = le_trans (ordered e (by_quotes {ρ = reach_of i ∷ i.err ∷ []} (search quotes depth 20) (search quotes depth 20) refl)) r;
+        reach =
+            le_trans (ordered e (by_quotes {ρ = reach_of i ∷ i.err ∷ []} (search quotes depth 20)
+            (search quotes depth 20) refl)) r;
         reach_nonneg = greater_nonneg (magnitude i.lo) (magnitude i.hi) (magnitude_nonneg i.lo) (magnitude_nonneg i.hi);
         nonnegative = e;
         error = v;
       }
 
-  pub start_small : (k : ℕ) (d : function.State) → k < length fn.states → AtMost (magnitude (get_or fn.states k d).start) (power c.q)
-  start_small k d l = below_whole c.q (all_at (λ (s : function.State). is_below_power (magnitude s.start) (pos c.q)) fn.states k d starts_parts.0 l)
+  pub start_small : (k : ℕ) (d : function.State) → k < length fn.states →
+      AtMost (magnitude (get_or fn.states k d).start) (power c.q)
+  start_small k d l =
+      below_whole c.q (all_at
+      (λ (s : function.State). is_below_power (magnitude s.start) (pos c.q)) fn.states k d starts_parts.0 l)
 
   -- ---- results
-  pub result_linear : (k : ℕ) (d : Tree) → k < length fn.results → (is_linear (get_or fn.results k d) ≡ true) × (length (terms_of (get_or fn.results k d)) ≤ 64)
+  pub result_linear : (k : ℕ) (d : Tree) → k < length fn.results →
+      (is_linear (get_or fn.results k d) ≡ true) × (length (terms_of (get_or fn.results k d)) ≤ 64)
   result_linear k d l =
       let p = and_parts _ _ (all_at is_short fn.results k d parts2.1 l) in (p.0, le_of_test _ _ p.1)
 
-  pub result_literals : (k : ℕ) (d : Tree) → k < length fn.results → are_literals_below (power_value (pos (c.m - 1))) (get_or fn.results k d) ≡ true
-  result_literals k d l = all_at (λ (t : Tree). are_literals_below (power_value (pos (c.m - 1))) t) fn.results k d inputs_parts.1 l
+  pub result_literals : (k : ℕ) (d : Tree) → k < length fn.results →
+      are_literals_below (power_value (pos (c.m - 1))) (get_or fn.results k d) ≡ true
+  result_literals k d l =
+      all_at (λ (t : Tree). are_literals_below (power_value (pos (c.m - 1))) t) fn.results k d inputs_parts.1 l
 
-  pub result_sizes : (k : ℕ) (d : Tree) → k < length fn.results → AtMost (plus (input_sizes (get_or fn.results k d)) (state_sizes (get_or fn.results k d))) (power c.a)
-  result_sizes k d l = below_whole c.a (all_at (λ (t : Tree). is_below_power (plus (input_sizes t) (state_sizes t)) (pos c.a)) fn.results k d sizes_true l)
+  pub result_sizes : (k : ℕ) (d : Tree) → k < length fn.results →
+      AtMost (plus (input_sizes (get_or fn.results k d)) (state_sizes (get_or fn.results k d))) (power c.a)
+  result_sizes k d l =
+      below_whole c.a (all_at
+      (λ (t : Tree). is_below_power (plus (input_sizes t) (state_sizes t)) (pos c.a)) fn.results k d sizes_true l)
 
-  pub next_adds : (k : ℕ) (d : Tree) → k < length (next_trees fn) → AtMost (plus (input_reaches fn (get_or (next_trees fn) k d)) (literal_sizes (get_or (next_trees fn) k d))) (power c.q)
-  next_adds k d l = below_whole c.q (all_at (λ (t : Tree). is_below_power (plus (input_reaches fn t) (literal_sizes t)) (pos c.q)) (next_trees fn) k d starts_parts.1 l)
+  pub next_adds : (k : ℕ) (d : Tree) → k < length (next_trees fn) →
+      AtMost (plus (input_reaches fn (get_or (next_trees fn) k d)) (literal_sizes (get_or (next_trees fn) k d)))
+      (power c.q)
+  next_adds k d l =
+      below_whole c.q (all_at (λ (t : Tree). is_below_power (plus (input_reaches fn t) (literal_sizes t)) (pos c.q))
+      (next_trees fn) k d starts_parts.1 l)
 
-  pub next_half : (k : ℕ) (d : Tree) → k < length (next_trees fn) → AtMost (plus (state_sizes (get_or (next_trees fn) k d)) (state_sizes (get_or (next_trees fn) k d))) (whole (pos 1))
+  pub next_half : (k : ℕ) (d : Tree) → k < length (next_trees fn) →
+      AtMost (plus (state_sizes (get_or (next_trees fn) k d)) (state_sizes (get_or (next_trees fn) k d)))
+      (whole (pos 1))
   next_half k d l = half_twice (below_power (negsuc 0) (all_at is_contracting (next_trees fn) k d parts3.1 l))
 
-  pub output_values : (k : ℕ) (d : Tree) → k < length (output_trees fn) → (let t = get_or (output_trees fn) k d in AtMost (plus (times (state_sizes t) (power (c.q + 2))) (plus (input_reaches fn t) (literal_sizes t))) (power (c.m - 1)))
+  pub output_values : (k : ℕ) (d : Tree) → k < length (output_trees fn) →
+      (let t = get_or (output_trees fn) k d in
+      AtMost (plus (times (state_sizes t) (power (c.q + 2))) (plus (input_reaches fn t) (literal_sizes t)))
+      (power (c.m - 1)))
   output_values k d l =
       let t = get_or (output_trees fn) k d in
-      le_trans (le_of_equal (plus_same (times_same (equal_refl (state_sizes t)) (equal_sym (whole_value_is (c.q + 2)))) (equal_refl _)))
-      (below_whole (c.m - 1) (all_at (λ (t : Tree). is_below_power (plus (times (state_sizes t) (power_value (pos (c.q + 2)))) (plus (input_reaches fn t) (literal_sizes t))) (pos (c.m - 1))) (output_trees fn) k d values_parts.1 l))
+      le_trans (le_of_equal (plus_same (times_same (equal_refl (state_sizes t)) (equal_sym (whole_value_is (c.q + 2))))
+      (equal_refl _)))
+      (below_whole (c.m - 1) (all_at
+      (λ (t : Tree). is_below_power
+      (plus (times (state_sizes t) (power_value (pos (c.q + 2)))) (plus (input_reaches fn t) (literal_sizes t)))
+      (pos (c.m - 1))) (output_trees fn) k d values_parts.1 l))

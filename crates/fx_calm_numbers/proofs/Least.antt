@@ -16,7 +16,9 @@ use Rattle.fx_calm_numbers.proofs.Calmness.{no_temps, some_state, demands, room,
 -- ---- searches
 first_least : (i : ℕ) (test : ℕ → Bool) (j : ℕ) → i ≤ j → test j ≡ true → first_from i test ≤ j
 unfolding first_from
-first_least i test j l e = ⊎_elim (λ (near : j < i + 64). first_is_least 64 test i j l near e) (λ (far : i + 64 ≤ j). (let h = first_at_most 64 test i in omega (arith, h, far))) (cases_lt j (i + 64))
+first_least i test j l e =
+    ⊎_elim (λ (near : j < i + 64). first_is_least 64 test i j l near e)
+    (λ (far : i + 64 ≤ j). (let h = first_at_most 64 test i in omega (arith, h, far))) (cases_lt j (i + 64))
 
 first_start : (i : ℕ) (test : ℕ → Bool) → i ≤ first_from i test
 unfolding first_from
@@ -33,7 +35,8 @@ same_order a b h g = omega (arith, h, g)
 least_is : (i : ℕ) (test : ℕ → Bool) (k : ℕ) → IsLeastFrom i test k → k < i + 64 → first_from i test ≡ k
 least_is i test k h l =
     let low = first_least i test k h.from_first h.holds in
-    same_order (first_from i test) k low (h.least (first_from i test) (first_start i test) (first_holds i test (omega (arith, low, l))))
+    same_order (first_from i test) k low
+    (h.least (first_from i test) (first_start i test) (first_holds i test (omega (arith, low, l))))
 
 found_least : (i : ℕ) (test : ℕ → Bool) → test (first_from i test) ≡ true → IsLeastFrom i test (first_from i test)
 found_least i test e = record { from_first = first_start i test; holds = e; least = λ j l h. first_least i test j l h }
@@ -75,7 +78,8 @@ module _ (n : ℕ) (fn : Function) (width : IsWordWidth n) (calm : IsCalm n fn) 
       states = some_state n fn width calm;
       linear = linear_true n fn width calm;
       contracting = contracting_true n fn width calm;
-      point = subst (λ (f : ℤ). pos (c.p + 2) ≤ℤ f) f_is (let p = (room n fn width calm).point in omega (arith, ints, p));
+      point =
+          subst (λ (f : ℤ). pos (c.p + 2) ≤ℤ f) f_is (let p = (room n fn width calm).point in omega (arith, ints, p));
       room = (let e = (room n fn width calm).errors in within (c.a + c.p + 5) (1 + first_from 0 test) c.f c.m e);
       demands = demands n fn width calm;
     };
@@ -94,7 +98,8 @@ zero_test n e = grind (arith, e)
 le_test : (a b : ℕ) → a ≤ b → nat_le a b ≡ true
 le_test a b l = grind (arith, l)
 
-seven : (a b c d e f g : Bool) → a ≡ true → b ≡ true → c ≡ true → d ≡ true → e ≡ true → f ≡ true → g ≡ true → (a && b && c && d && e && f && g) ≡ true
+seven : (a b c d e f g : Bool) → a ≡ true → b ≡ true → c ≡ true → d ≡ true → e ≡ true → f ≡ true → g ≡ true →
+    (a && b && c && d && e && f && g) ≡ true
 seven a b c d e f g p q r s t u v = (λ i. p i && q i && r i && s i && t i && u i && v i)
 
 module _ (n : ℕ) (fn : Function) (width : IsWordWidth n) (q a m : ℕ) (v : ℤ) (h : IsCalmWith n fn q a m v) where
@@ -130,7 +135,9 @@ module _ (n : ℕ) (fn : Function) (width : IsWordWidth n) (q a m : ℕ) (v : �
   least_d = record {
     from_first = omega arith;
     holds = subst (λ (x : ℤ). bounds_errors fn x ≡ true) d_is.1 h.errors;
-    least = λ j l e. back v j (h.least_error (pos (1 + j) -ℤ pos f) (subst (λ (x : ℤ). (pos 1 -ℤ x) ≤ℤ (pos (1 + j) -ℤ pos f)) f_same (low j f)) e);
+    least =
+        λ j l e. back v j (h.least_error (pos (1 + j) -ℤ pos f)
+        (subst (λ (x : ℤ). (pos 1 -ℤ x) ≤ℤ (pos (1 + j) -ℤ pos f)) f_same (low j f)) e);
   }
     where
       low : (j f : ℕ) → (pos 1 -ℤ pos f) ≤ℤ (pos (1 + j) -ℤ pos f)
@@ -140,19 +147,30 @@ module _ (n : ℕ) (fn : Function) (width : IsWordWidth n) (q a m : ℕ) (v : �
       back w j l = let e = d_is.1 in omega (arith, ints, l, e)
 
   few_d : d_is.0 < 64
-  few_d = let e = d_is.1 in let r = h.room in let g = f_same in let w = width.most in let p = h.point in omega (arith, ints, e, r, g, w, p)
+  few_d =
+      let e = d_is.1 in
+      let r = h.room in
+      let g = f_same in
+      let w = width.most in
+      let p = h.point in
+      omega (arith, ints, e, r, g, w, p)
 
   q_found : first_from 0 (bounds_starts fn) ≡ q
-  q_found = least_is 0 (bounds_starts fn) q h.least_q (let l = h.least_m.from_first in let g = few in omega (arith, l, g))
+  q_found =
+      least_is 0 (bounds_starts fn) q h.least_q (let l = h.least_m.from_first in let g = few in omega (arith, l, g))
 
   a_found : first_from 0 (bounds_sizes fn) ≡ a
   a_found = least_is 0 (bounds_sizes fn) a h.least_a (let r = room_f in let w = width.most in omega (arith, r, w))
 
   m_found : first_from (first_from 0 (bounds_starts fn) + 3) (bounds_values fn (first_from 0 (bounds_starts fn))) ≡ m
-  m_found = ap (λ (k : ℕ). first_from (k + 3) (bounds_values fn k)) q_found ∙ least_is (q + 3) (bounds_values fn q) m h.least_m (let g = few in omega (arith, g))
+  m_found = ap (λ (k : ℕ). first_from (k + 3) (bounds_values fn k)) q_found
+      ∙ least_is (q + 3) (bounds_values fn q) m h.least_m (let g = few in omega (arith, g))
 
-  d_found : first_from 0 (λ d. bounds_errors fn (pos (1 + d) -ℤ pos (n - 3 - first_from (first_from 0 (bounds_starts fn) + 3) (bounds_values fn (first_from 0 (bounds_starts fn)))))) ≡ d_is.0
-  d_found = ap (λ (k : ℕ). first_from 0 (λ d. bounds_errors fn (pos (1 + d) -ℤ pos (n - 3 - k)))) m_found ∙ least_is 0 (λ d. bounds_errors fn (pos (1 + d) -ℤ pos f)) d_is.0 least_d (let l = few_d in omega (arith, l))
+  d_found : first_from 0 (λ d. bounds_errors fn
+      (pos (1 + d) -ℤ pos (n - 3 - first_from (first_from 0 (bounds_starts fn) + 3)
+      (bounds_values fn (first_from 0 (bounds_starts fn)))))) ≡ d_is.0
+  d_found = ap (λ (k : ℕ). first_from 0 (λ d. bounds_errors fn (pos (1 + d) -ℤ pos (n - 3 - k)))) m_found
+      ∙ least_is 0 (λ d. bounds_errors fn (pos (1 + d) -ℤ pos f)) d_is.0 least_d (let l = few_d in omega (arith, l))
 
   all_found : numbers_of n fn ≡ numbers n q a m d_is.0
   all_found = (λ i. numbers n (q_found i) (a_found i) (m_found i) (d_found i))
@@ -163,9 +181,15 @@ module _ (n : ℕ) (fn : Function) (width : IsWordWidth n) (q a m : ℕ) (v : �
   pub is_calm_true : IsCalm n fn
   is_calm_true =
       ap (λ (c : Numbers). is_calm_with c fn) all_found
-      ∙ seven (nat_le (length fn.temps) 0) (nat_le 1 (length fn.states)) (list_all is_short fn.results) (list_all is_contracting (next_trees fn)) (nat_le (max a (m + 6) + 2) f) (int_le (numbers n q a m d_is.0).z (pos m)) (list_all (λ (d : function.Demand). allows d (numbers n q a m d_is.0).z) fn.demands)
-      (zero_test (length fn.temps) h.temps) (le_test 1 (length fn.states) h.states) h.linear h.contracting (le_test (max a (m + 6) + 2) f room_f)
-      (le_true (numbers n q a m d_is.0).z (pos m) (subst (λ (x : ℤ). x ≤ℤ pos m) z_same h.room)) (subst (λ (x : ℤ). list_all (λ (d : function.Demand). allows d x) fn.demands ≡ true) z_same h.demands)
+      ∙ seven (nat_le (length fn.temps) 0) (nat_le 1 (length fn.states)) (list_all is_short fn.results)
+      (list_all is_contracting (next_trees fn)) (nat_le (max a (m + 6) + 2) f)
+      (int_le (numbers n q a m d_is.0).z (pos m))
+      (list_all (λ (d : function.Demand). allows d (numbers n q a m d_is.0).z) fn.demands)
+      (zero_test (length fn.temps) h.temps) (le_test 1 (length fn.states) h.states) h.linear h.contracting
+      (le_test (max a (m + 6) + 2) f room_f)
+      (le_true (numbers n q a m d_is.0).z (pos m) (subst (λ (x : ℤ). x ≤ℤ pos m) z_same h.room))
+      (subst (λ (x : ℤ). list_all (λ (d : function.Demand). allows d x) fn.demands ≡ true) z_same h.demands)
 
 pub test_is : CalmTestLaw
-test_is n fn some = (λ calm. has_numbers n fn (width_of n some) calm, λ h. is_calm_true n fn (width_of n some) h.q h.a h.m h.v h.are)
+test_is n fn some =
+    (λ calm. has_numbers n fn (width_of n some) calm, λ h. is_calm_true n fn (width_of n some) h.q h.a h.m h.v h.are)

@@ -47,17 +47,31 @@ module _ (f : ℕ) (x : Rational) (n : Nonneg x) where
   units_are = size_of _ (ceiling_nonneg (scaled x (pos f)).top (bottom x) (omega arith) scaled_nonneg)
 
   not_below : AtMost (scaled x (pos f)) (whole (pos (units_up f x)))
-  not_below = record { at_most = go (scaled x (pos f)).top (pos (units_up f x)) (bottom x) (bottom (scaled x (pos f))) scaled_bottom units_are (ceiling_is (scaled x (pos f)).top (bottom x) (omega arith)).not_below }
+  not_below =
+      record {
+        at_most =
+            go (scaled x (pos f)).top (pos (units_up f x)) (bottom x) (bottom (scaled x (pos f))) scaled_bottom units_are
+            (ceiling_is (scaled x (pos f)).top (bottom x) (omega arith)).not_below;
+      }
     where
       go : (t z : ℤ) (d b : ℕ) → b ≡ d → z ≡ ceil_div t d → t ≤ℤ (ceil_div t d *ℤ pos d) → (t *ℤ pos 1) ≤ℤ (z *ℤ pos b)
-      go t z d b e is l = subst (λ (k : ℕ). (t *ℤ pos 1) ≤ℤ (z *ℤ pos k)) (sym e) (subst (λ (y : ℤ). (t *ℤ pos 1) ≤ℤ (y *ℤ pos d)) (sym is) (omega (arith, ints, l)))
+      go t z d b e is l =
+          subst (λ (k : ℕ). (t *ℤ pos 1) ≤ℤ (z *ℤ pos k)) (sym e)
+          (subst (λ (y : ℤ). (t *ℤ pos 1) ≤ℤ (y *ℤ pos d)) (sym is) (omega (arith, ints, l)))
 
   less_than_one : AtMost (whole (pos (units_up f x) -ℤ pos 1)) (scaled x (pos f))
-  less_than_one = record { at_most = go (scaled x (pos f)).top (pos (units_up f x)) (bottom x) (bottom (scaled x (pos f))) scaled_bottom units_are (ceiling_is (scaled x (pos f)).top (bottom x) (omega arith)).least }
+  less_than_one =
+      record {
+        at_most =
+            go (scaled x (pos f)).top (pos (units_up f x)) (bottom x) (bottom (scaled x (pos f))) scaled_bottom units_are
+            (ceiling_is (scaled x (pos f)).top (bottom x) (omega arith)).least;
+      }
     where
-      go : (t z : ℤ) (d b : ℕ) → b ≡ d → z ≡ ceil_div t d → (ceil_div t d *ℤ pos d -ℤ pos d) <ℤ t → ((z -ℤ pos 1) *ℤ pos b) ≤ℤ (t *ℤ pos 1)
+      go : (t z : ℤ) (d b : ℕ) → b ≡ d → z ≡ ceil_div t d → (ceil_div t d *ℤ pos d -ℤ pos d) <ℤ t →
+          ((z -ℤ pos 1) *ℤ pos b) ≤ℤ (t *ℤ pos 1)
       go t z d b e is l = subst (λ (k : ℕ). ((z -ℤ pos 1) *ℤ pos k) ≤ℤ (t *ℤ pos 1)) (sym e)
-          (subst (λ (y : ℤ). ((y -ℤ pos 1) *ℤ pos d) ≤ℤ (t *ℤ pos 1)) (sym is) (let q = less_one (ceil_div t d) (pos d) in omega (arith, ints, l, q)))
+          (subst (λ (y : ℤ). ((y -ℤ pos 1) *ℤ pos d) ≤ℤ (t *ℤ pos 1)) (sym is)
+          (let q = less_one (ceil_div t d) (pos d) in omega (arith, ints, l, q)))
 
   pub units_above : AtMost (times x (power f)) (whole (pos (units_up f x)))
   units_above = le_trans (le_of_equal (equal_sym (scaled_is x f))) not_below
@@ -67,21 +81,29 @@ module _ (f : ℕ) (x : Rational) (n : Nonneg x) where
       let z = pos (units_up f x) in
       let e : (z -ℤ pos 1) +ℤ pos 1 ≡ z = omega (arith, ints) in
       subst (λ (y : ℤ). AtMost (whole y) (plus (times x (power f)) (whole (pos 1)))) e
-      (le_trans (le_of_equal (whole_sum (z -ℤ pos 1) (pos 1))) (plus_le (le_trans less_than_one (le_of_equal (scaled_is x f))) (le_refl (whole (pos 1)))))
+      (le_trans (le_of_equal (whole_sum (z -ℤ pos 1) (pos 1)))
+      (plus_le (le_trans less_than_one (le_of_equal (scaled_is x f))) (le_refl (whole (pos 1)))))
 
   -- a whole number that isn't below x in units isn't below what is rounded
   pub units_least : (k : ℕ) → AtMost (times x (power f)) (whole (pos k)) → units_up f x ≤ k
-  units_least k h = go (scaled x (pos f)).top x.less (bottom (scaled x (pos f))) scaled_bottom (units_up f x) units_are (le_trans (le_of_equal (scaled_is x f)) h).at_most
+  units_least k h =
+      go (scaled x (pos f)).top x.less (bottom (scaled x (pos f))) scaled_bottom (units_up f x) units_are
+      (le_trans (le_of_equal (scaled_is x f)) h).at_most
     where
-      go : (t : ℤ) (d b : ℕ) → b ≡ suc d → (u : ℕ) → pos u ≡ ceil_div t (suc d) → (t *ℤ pos 1) ≤ℤ (pos k *ℤ pos b) → u ≤ k
+      go : (t : ℤ) (d b : ℕ) → b ≡ suc d → (u : ℕ) → pos u ≡ ceil_div t (suc d) → (t *ℤ pos 1) ≤ℤ (pos k *ℤ pos b) →
+          u ≤ k
       go t d b e u is l =
           let m : (t *ℤ pos 1) ≤ℤ (pos k *ℤ pos (suc d)) = subst (λ (j : ℕ). (t *ℤ pos 1) ≤ℤ (pos k *ℤ pos j)) e l in
-          let c = (ceiling_le t (pos k) (suc d) (omega (arith, ints))).1 (omega (arith, ints, m)) in omega (arith, ints, c, is)
+          let c = (ceiling_le t (pos k) (suc d) (omega (arith, ints))).1 (omega (arith, ints, m)) in
+          omega (arith, ints, c, is)
 
 -- ---- a shift
 pub shifted_above : (f n : ℕ) → n ≤ shifted_up f n * 2 ^ f
 unfolding shifted_up
-shifted_above f n = let d = div-add-mod' (n + (2 ^ f - 1)) (2 ^ f) in let m = mod_below (n + (2 ^ f - 1)) (2 ^ f) (pow_pos f) in omega (arith, d, m)
+shifted_above f n =
+    let d = div-add-mod' (n + (2 ^ f - 1)) (2 ^ f) in
+    let m = mod_below (n + (2 ^ f - 1)) (2 ^ f) (pow_pos f) in
+    omega (arith, d, m)
 
 pub shifted_below : (f n : ℕ) → shifted_up f n * 2 ^ f ≤ n + 2 ^ f
 unfolding shifted_up

@@ -9,17 +9,29 @@ use Rattle.fx_calm_numbers.specs.Calm.{first_from, numbers_of, is_calm}
 
 -- c x + u / 2 is the output and the next state, for u from -1 to 1
 abbrev filter : Rational → Demand → Function
-filter c d = let t = tree.Sum (tree.Product (tree.Literal c) (tree.State 0)) (tree.Product (tree.Literal (over (pos 1) 2)) (tree.Input 0)) in record {
-  name = codes "c";
-  inputs = record { name = codes "u"; lo = whole (negsuc 0); hi = whole (pos 1); err = whole (pos 0) } ∷ [];
-  states = record { name = codes "x"; start = whole (pos 0) } ∷ [];
-  temps = [];
-  results = t ∷ t ∷ [];
-  demands = d ∷ [];
-}
+filter c d =
+    let t =
+    tree.Sum (tree.Product (tree.Literal c) (tree.State 0))
+    (tree.Product (tree.Literal (over (pos 1) 2)) (tree.Input 0)) in
+    record {
+      name = codes "c";
+      inputs = record { name = codes "u"; lo = whole (negsuc 0); hi = whole (pos 1); err = whole (pos 0) } ∷ [];
+      states = record { name = codes "x"; start = whole (pos 0) } ∷ [];
+      temps = [];
+      results = t ∷ t ∷ [];
+      demands = d ∷ [];
+    }
 
 -- the averaging filter, at width 32
-averager_numbers : numbers_of 32 (filter (over (pos 1) 2) free) ≡ record { q = 0; a = 0; m = 3; f = 26; p = 9; v = negsuc 24; z = negsuc 10 }
+averager_numbers : numbers_of 32 (filter (over (pos 1) 2) free) ≡ record {
+  q = 0;
+  a = 0;
+  m = 3;
+  f = 26;
+  p = 9;
+  v = negsuc 24;
+  z = negsuc 10;
+}
 unfolding first_from power_value dyadic_value over plus times is_at_most
 averager_numbers = refl
 
@@ -39,15 +51,18 @@ above_half = refl
 
 -- ---- demands
 -- 2^-11 is what the plan keeps
-demanded_error : is_calm 32 (filter (over (pos 1) 2) (record { err = Some (over (pos 1) 2048); lo = None; hi = None })) ≡ true
+demanded_error : is_calm 32 (filter (over (pos 1) 2) (record { err = Some (over (pos 1) 2048); lo = None; hi = None }))
+    ≡ true
 unfolding first_from power_value dyadic_value over plus times is_at_most
 demanded_error = refl
 
-less_demanded : is_calm 32 (filter (over (pos 1) 2) (record { err = Some (over (pos 1) 2049); lo = None; hi = None })) ≡ false
+less_demanded : is_calm 32 (filter (over (pos 1) 2) (record { err = Some (over (pos 1) 2049); lo = None; hi = None }))
+    ≡ false
 unfolding first_from power_value dyadic_value over plus times is_at_most
 less_demanded = refl
 
 -- no end is served
-demanded_end : is_calm 32 (filter (over (pos 1) 2) (record { err = None; lo = None; hi = Some (whole (pos 100)) })) ≡ false
+demanded_end : is_calm 32 (filter (over (pos 1) 2) (record { err = None; lo = None; hi = Some (whole (pos 100)) }))
+    ≡ false
 unfolding first_from power_value dyadic_value over plus times is_at_most
 demanded_end = refl

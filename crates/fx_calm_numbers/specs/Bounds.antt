@@ -1,4 +1,5 @@
--- Bounds of a node as two whole numbers, which count units of the point: those of inputs, states, literals, sums and products.
+-- Bounds of a node as two whole numbers, which count units of the point: those of inputs, states, literals, sums and
+-- products.
 use Rattle.std.specs.Prelude.{ℕ, ◌+◌, ◌-◌, ◌*◌, ◌^◌, ◌/◌, unsigned_abs, pos, ◌+ℤ◌}
 use Rattle.fx_rational.specs.Rational.{Rational, bottom, scaled, ceil_div}
 use Rattle.fx_model.specs.Function as function

@@ -76,7 +76,9 @@ abbrev pub bounds_values : Function → ℕ → ℕ → Bool
 bounds_values fn q m =
     list_all (λ (i : function.Input). is_below_power (plus (reach_of i) i.err) (pos (m - 1))) fn.inputs &&
     list_all (λ (t : Tree). are_literals_below (power_value (pos (m - 1))) t) fn.results &&
-    list_all (λ (t : Tree). is_below_power (plus (times (state_sizes t) (power_value (pos (q + 2)))) (plus (input_reaches fn t) (literal_sizes t))) (pos (m - 1))) (output_trees fn)
+    list_all (λ (t : Tree). is_below_power
+    (plus (times (state_sizes t) (power_value (pos (q + 2)))) (plus (input_reaches fn t) (literal_sizes t)))
+    (pos (m - 1))) (output_trees fn)
 
 -- twice each input's error is at most 2^v
 abbrev pub bounds_errors : Function → ℤ → Bool
@@ -105,10 +107,12 @@ is_short t = is_linear t && nat_le (length (terms_of t)) 64
 abbrev pub is_contracting : Tree → Bool
 is_contracting t = is_below_power (state_sizes t) (negsuc 0)
 
--- no temps; there are states; each result is short; a step halves the states; the numbers leave room; each demand allows an error of 2^z
+-- no temps; there are states; each result is short; a step halves the states; the numbers leave room; each demand
+-- allows an error of 2^z
 abbrev pub is_calm_with : Numbers → Function → Bool
 is_calm_with c fn =
-    nat_le (length fn.temps) 0 && nat_le 1 (length fn.states) && list_all is_short fn.results && list_all is_contracting (next_trees fn) &&
+    nat_le (length fn.temps) 0 && nat_le 1 (length fn.states) && list_all is_short fn.results &&
+    list_all is_contracting (next_trees fn) &&
     nat_le (c.p + 2) c.f && int_le c.z (pos c.m) && list_all (λ (d : function.Demand). allows d c.z) fn.demands
 
 abbrev pub is_calm : ℕ → Function → Bool

@@ -43,4 +43,5 @@ pub record HasCalmNumbers (n : ℕ) (fn : Function) : Type 0 where
 
 -- the test is true exactly where there are
 abbrev pub CalmTestLaw : Type 0
-CalmTestLaw = (n : ℕ) (fn : Function) → Contains widths n → (IsCalm n fn → HasCalmNumbers n fn) × (HasCalmNumbers n fn → IsCalm n fn)
+CalmTestLaw = (n : ℕ) (fn : Function) → Contains widths n →
+    (IsCalm n fn → HasCalmNumbers n fn) × (HasCalmNumbers n fn → IsCalm n fn)

@@ -14,16 +14,25 @@ abbrev pub IsNodeBound : ℕ → Numbers → List function.Input → List Bound 
 IsNodeBound s c inputs ws = IsFolded no_bound (node_bound c inputs) (length inputs) s ws
 
 -- bounds behind the operands change nothing
-bound_kept : (s : ℕ) (c : Numbers) (inputs : List function.Input) (ws more : List Bound) (node : Node) → IsInPlace (length inputs) s (length ws) node → node_bound c inputs ws node ≡ node_bound c inputs (ws ++ more) node
+bound_kept : (s : ℕ) (c : Numbers) (inputs : List function.Input) (ws more : List Bound) (node : Node) →
+    IsInPlace (length inputs) s (length ws) node → node_bound c inputs ws node ≡ node_bound c inputs (ws ++ more) node
 bound_kept s c inputs ws more (Input k) h = refl
 bound_kept s c inputs ws more (State k) h = refl
 bound_kept s c inputs ws more (Const x) h = refl
 bound_kept s c inputs ws more (Neg a) h = sym (get_or_append_left ws more no_bound a h.1)
-bound_kept s c inputs ws more (Add a b) h = ap₂ sum_bound (sym (get_or_append_left ws more no_bound a h.1)) (sym (get_or_append_left ws more no_bound b h.2))
-bound_kept s c inputs ws more (Sub a b) h = ap₂ sum_bound (sym (get_or_append_left ws more no_bound a h.1)) (sym (get_or_append_left ws more no_bound b h.2))
-bound_kept s c inputs ws more (Mul a b) h = ap₂ (product_bound c.f) (sym (get_or_append_left ws more no_bound a h.1)) (sym (get_or_append_left ws more no_bound b h.2))
+bound_kept s c inputs ws more (Add a b) h =
+    ap₂ sum_bound (sym (get_or_append_left ws more no_bound a h.1)) (sym (get_or_append_left ws more no_bound b h.2))
+bound_kept s c inputs ws more (Sub a b) h =
+    ap₂ sum_bound (sym (get_or_append_left ws more no_bound a h.1)) (sym (get_or_append_left ws more no_bound b h.2))
+bound_kept s c inputs ws more (Mul a b) h =
+    ap₂ (product_bound c.f) (sym (get_or_append_left ws more no_bound a h.1))
+    (sym (get_or_append_left ws more no_bound b h.2))
 bound_kept s c inputs ws more (Div a b) h = refl
 bound_kept s c inputs ws more (Copy a) h = sym (get_or_append_left ws more no_bound a h.1)
 
-pub all_bounded : (c : Numbers) (inputs : List function.Input) (s : ℕ) (nodes : List Node) → AreInPlace (length inputs) s 0 nodes → AreFolded no_bound (node_bound c inputs) (length inputs) s nodes [] (bounds_after c inputs nodes [])
-all_bounded c inputs s nodes h = folded no_bound (node_bound c inputs) (bounds_after c inputs) (length inputs) s (record { ends = λ ws. refl; goes_on = λ node nodes ws. refl }) (bound_kept s c inputs) nodes [] h
+pub all_bounded : (c : Numbers) (inputs : List function.Input) (s : ℕ) (nodes : List Node) →
+    AreInPlace (length inputs) s 0 nodes →
+    AreFolded no_bound (node_bound c inputs) (length inputs) s nodes [] (bounds_after c inputs nodes [])
+all_bounded c inputs s nodes h =
+    folded no_bound (node_bound c inputs) (bounds_after c inputs) (length inputs) s
+    (record { ends = λ ws. refl; goes_on = λ node nodes ws. refl }) (bound_kept s c inputs) nodes [] h

@@ -45,20 +45,26 @@ abbrev AreUndivided : List Node → Type 0
 AreUndivided nodes = All IsUndivided nodes
 
 operation_whole : (xs : List Node) (node : Node) → AreUndivided xs → IsUndivided node → AreUndivided (xs ++ node ∷ [])
-operation_whole xs node h w = All-append IsUndivided xs (node ∷ []) h (All-cons IsUndivided node [] w (All-nil IsUndivided))
+operation_whole xs node h w =
+    All-append IsUndivided xs (node ∷ []) h (All-cons IsUndivided node [] w (All-nil IsUndivided))
 
-flat_whole : (c : Numbers) (is : List function.Input) (i n : ℕ) (t : Tree) → AreLimited c is t → AreUndivided (flat i [] n t).list
+flat_whole : (c : Numbers) (is : List function.Input) (i n : ℕ) (t : Tree) → AreLimited c is t →
+    AreUndivided (flat i [] n t).list
 flat_whole c is i n (tree.Literal x) l = All-cons IsUndivided (Const x) [] tt (All-nil IsUndivided)
 flat_whole c is i n (tree.Input k) l = All-nil IsUndivided
 flat_whole c is i n (tree.State k) l = All-nil IsUndivided
 flat_whole c is i n (tree.Temp k) l = absurd l
-flat_whole c is i n (tree.Negation a) l = operation_whole (flat i [] n a).list (Neg (flat i [] n a).root) (flat_whole c is i n a l.1) tt
+flat_whole c is i n (tree.Negation a) l =
+    operation_whole (flat i [] n a).list (Neg (flat i [] n a).root) (flat_whole c is i n a l.1) tt
 flat_whole c is i n (tree.Sum a b) l = let x = flat i [] n a in let m = n + length x.list in
-    operation_whole (x.list ++ (flat i [] m b).list) (Add x.root (flat i [] m b).root) (All-append IsUndivided x.list (flat i [] m b).list (flat_whole c is i n a l.1) (flat_whole c is i m b l.2)) tt
+    operation_whole (x.list ++ (flat i [] m b).list) (Add x.root (flat i [] m b).root)
+    (All-append IsUndivided x.list (flat i [] m b).list (flat_whole c is i n a l.1) (flat_whole c is i m b l.2)) tt
 flat_whole c is i n (tree.Difference a b) l = let x = flat i [] n a in let m = n + length x.list in
-    operation_whole (x.list ++ (flat i [] m b).list) (Sub x.root (flat i [] m b).root) (All-append IsUndivided x.list (flat i [] m b).list (flat_whole c is i n a l.1) (flat_whole c is i m b l.2)) tt
+    operation_whole (x.list ++ (flat i [] m b).list) (Sub x.root (flat i [] m b).root)
+    (All-append IsUndivided x.list (flat i [] m b).list (flat_whole c is i n a l.1) (flat_whole c is i m b l.2)) tt
 flat_whole c is i n (tree.Product a b) l = let x = flat i [] n a in let m = n + length x.list in
-    operation_whole (x.list ++ (flat i [] m b).list) (Mul x.root (flat i [] m b).root) (All-append IsUndivided x.list (flat i [] m b).list (flat_whole c is i n a l.1) (flat_whole c is i m b l.2)) tt
+    operation_whole (x.list ++ (flat i [] m b).list) (Mul x.root (flat i [] m b).root)
+    (All-append IsUndivided x.list (flat i [] m b).list (flat_whole c is i n a l.1) (flat_whole c is i m b l.2)) tt
 flat_whole c is i n (tree.Quotient a b) l = absurd l
 
 copies_whole : (roots : List ℕ) → AreUndivided (copies_of roots)
@@ -73,22 +79,30 @@ states_whole : (k m : ℕ) → AreUndivided (states_from k m)
 states_whole k zero = All-nil IsUndivided
 states_whole k (suc m) = All-cons IsUndivided (State k) (states_from (k + 1) m) tt (states_whole (k + 1) m)
 
-after_whole : (c : Numbers) (is : List function.Input) (i s : ℕ) (ts : List Tree) (roots : List ℕ) (ns : List Node) → AreUndivided ns → EachLimited c is i s ts → AreUndivided (nodes_after i [] ts [] roots ns)
+after_whole : (c : Numbers) (is : List function.Input) (i s : ℕ) (ts : List Tree) (roots : List ℕ) (ns : List Node) →
+    AreUndivided ns → EachLimited c is i s ts → AreUndivided (nodes_after i [] ts [] roots ns)
 after_whole c is i s [] roots ns h l = All-append IsUndivided ns (copies_of roots) h (copies_whole roots)
 after_whole c is i s (t ∷ ts) roots ns h l =
     let x = flat i [] (length ns) t in
-    after_whole c is i s ts (roots ++ x.root ∷ []) (ns ++ x.list) (All-append IsUndivided ns x.list h (flat_whole c is i (length ns) t l.0)) l.1
+    after_whole c is i s ts (roots ++ x.root ∷ []) (ns ++ x.list)
+    (All-append IsUndivided ns x.list h (flat_whole c is i (length ns) t l.0)) l.1
 
 -- ---- limited trees
 module _ (c : Numbers) (y : ℕ) (is : List function.Input) (room : HasRoom c y) where
-  literal_limited : (x : Rational) → is_at_most (magnitude x) (power_value (pos (c.m - 1))) ≡ true → IsLimited c (const_bound c.f x)
+  literal_limited : (x : Rational) → is_at_most (magnitude x) (power_value (pos (c.m - 1))) ≡ true →
+      IsLimited c (const_bound c.f x)
   literal_limited x e =
-      let small = le_trans (at_most_true (magnitude x) (power_value (pos (c.m - 1))) e) (le_of_equal (whole_value_is (c.m - 1))) in
-      let few = units_least c.f (magnitude x) (magnitude_nonneg x) (2 ^ ((c.m - 1) + c.f)) (le_trans (times_le small (above_nonneg (power_above c.f))) (le_of_equal (powers (c.m - 1) c.f))) in
+      let small =
+      le_trans (at_most_true (magnitude x) (power_value (pos (c.m - 1))) e)
+      (le_of_equal (whole_value_is (c.m - 1))) in
+      let few =
+      units_least c.f (magnitude x) (magnitude_nonneg x) (2 ^ ((c.m - 1) + c.f))
+      (le_trans (times_le small (above_nonneg (power_above c.f))) (le_of_equal (powers (c.m - 1) c.f))) in
       let m = power_more {a = (c.m - 1) + c.f} {b = c.m + c.f} (omega arith) in
       record { r = omega (arith, few, m); e = pow_pos (c.m + c.f) }
 
-  factors_limited : (a b : Tree) → is_scaled a b ≡ true → are_literals_below (power_value (pos (c.m - 1))) a ≡ true → are_literals_below (power_value (pos (c.m - 1))) b ≡ true → AreLimited c is a × AreLimited c is b
+  factors_limited : (a b : Tree) → is_scaled a b ≡ true → are_literals_below (power_value (pos (c.m - 1))) a ≡ true →
+      are_literals_below (power_value (pos (c.m - 1))) b ≡ true → AreLimited c is a × AreLimited c is b
   factors_limited (tree.Literal x) (tree.Input j) e la lb = (literal_limited x la, tt)
   factors_limited (tree.Literal x) (tree.State j) e la lb = (literal_limited x la, tt)
   factors_limited (tree.Input j) (tree.Literal x) e la lb = (tt, literal_limited x lb)
@@ -101,17 +115,25 @@ module _ (c : Numbers) (y : ℕ) (is : List function.Input) (room : HasRoom c y)
   right_part : (a b : Bound) → IsLimited c (sum_bound a b) → IsLimited c b
   right_part a b l = let p = l.r in let q = l.e in record { r = omega (arith, p); e = omega (arith, q) }
 
-  pub tree_limited : (t : Tree) → is_linear t ≡ true → are_literals_below (power_value (pos (c.m - 1))) t ≡ true → IsLimited c (tree_bound c is t) → AreLimited c is t
+  pub tree_limited : (t : Tree) → is_linear t ≡ true → are_literals_below (power_value (pos (c.m - 1))) t ≡ true →
+      IsLimited c (tree_bound c is t) → AreLimited c is t
   tree_limited (tree.Literal x) e b l = l
   tree_limited (tree.Input k) e b l = tt
   tree_limited (tree.State k) e b l = tt
   tree_limited (tree.Temp k) e b l = absurd cc
   tree_limited (tree.Negation a) e b l = (l, tree_limited a e b l)
-  tree_limited (tree.Sum a d) e b l = let p = and_parts _ _ e in let q = and_parts _ _ b in
-      (l, tree_limited a p.0 q.0 (left_part (tree_bound c is a) (tree_bound c is d) l), tree_limited d p.1 q.1 (right_part (tree_bound c is a) (tree_bound c is d) l))
-  tree_limited (tree.Difference a d) e b l = let p = and_parts _ _ e in let q = and_parts _ _ b in
-      (l, tree_limited a p.0 q.0 (left_part (tree_bound c is a) (tree_bound c is d) l), tree_limited d p.1 q.1 (right_part (tree_bound c is a) (tree_bound c is d) l))
-  tree_limited (tree.Product a d) e b l = let q = and_parts _ _ b in let f = factors_limited a d e q.0 q.1 in (l, f.0, f.1)
+  tree_limited (tree.Sum a d) e b l = let p = and_parts _ _ e in let q = and_parts _ _ b in (
+    l,
+    tree_limited a p.0 q.0 (left_part (tree_bound c is a) (tree_bound c is d) l),
+    tree_limited d p.1 q.1 (right_part (tree_bound c is a) (tree_bound c is d) l),
+  )
+  tree_limited (tree.Difference a d) e b l = let p = and_parts _ _ e in let q = and_parts _ _ b in (
+    l,
+    tree_limited a p.0 q.0 (left_part (tree_bound c is a) (tree_bound c is d) l),
+    tree_limited d p.1 q.1 (right_part (tree_bound c is a) (tree_bound c is d) l),
+  )
+  tree_limited (tree.Product a d) e b l =
+      let q = and_parts _ _ b in let f = factors_limited a d e q.0 q.1 in (l, f.0, f.1)
   tree_limited (tree.Quotient a d) e b l = absurd cc
 
   -- 2^(a + p + 5 + y) units are at most 2^m
@@ -129,22 +151,27 @@ module _ (c : Numbers) (y : ℕ) (is : List function.Input) (room : HasRoom c y)
       record { r = error_limit r (omega arith); e = error_limit {k = y} (input_units c y i room h) (omega (arith, e)) }
 
 -- ---- single elements
-each_limited : (c : Numbers) (is : List function.Input) (i s : ℕ) (ts : List Tree) → ((k : ℕ) (d : Tree) → k < length ts → AreLimited c is (get_or ts k d)) → EachLimited c is i s ts
+each_limited : (c : Numbers) (is : List function.Input) (i s : ℕ) (ts : List Tree) →
+    ((k : ℕ) (d : Tree) → k < length ts → AreLimited c is (get_or ts k d)) → EachLimited c is i s ts
 each_limited c is i s [] h = tt
-each_limited c is i s (t ∷ ts) h = (h 0 t (omega arith), each_limited c is i s ts (λ k d lt. h (suc k) d (omega (arith, lt))))
+each_limited c is i s (t ∷ ts) h =
+    (h 0 t (omega arith), each_limited c is i s ts (λ k d lt. h (suc k) d (omega (arith, lt))))
 
 -- elements of the front and of the rest
-take_at : {A : Type 0} (m : ℕ) (xs : List A) (k : ℕ) (d : A) → k < m → k < length xs → (k < length (take m xs)) × (get_or (take m xs) k d ≡ get_or xs k d)
+take_at : {A : Type 0} (m : ℕ) (xs : List A) (k : ℕ) (d : A) → k < m → k < length xs →
+    (k < length (take m xs)) × (get_or (take m xs) k d ≡ get_or xs k d)
 take_at m xs k d p q = (let l = length-take m xs in omega (arith, l, p, q), get_or-take m xs k d p)
 
-drop_at : {A : Type 0} (m : ℕ) (xs : List A) (k : ℕ) (d : A) → m + k < length xs → (k < length (drop m xs)) × (get_or (drop m xs) k d ≡ get_or xs (m + k) d)
+drop_at : {A : Type 0} (m : ℕ) (xs : List A) (k : ℕ) (d : A) → m + k < length xs →
+    (k < length (drop m xs)) × (get_or (drop m xs) k d ≡ get_or xs (m + k) d)
 drop_at m xs k d p = (let l = length-drop m xs in omega (arith, l, p), get_or-drop m xs k d)
 
 before_or_behind : (k m n : ℕ) → k < n → (k < m) ⊎ (m + (k - m) ≡ k)
 before_or_behind k m n l = grind (arith, l)
 
 -- ---- a calm function at a width
-module _ (n : ℕ) (fn : Function) (some_width : Contains widths n) (narrow : IsNarrowFunction fn) (calm : IsCalm n fn) where
+module _ (n : ℕ) (fn : Function) (some_width : Contains widths n) (narrow : IsNarrowFunction fn)
+    (calm : IsCalm n fn) where
   pub width : IsWordWidth n
   width = width_of n some_width
 
@@ -167,49 +194,79 @@ module _ (n : ℕ) (fn : Function) (some_width : Contains widths n) (narrow : Is
   roomy k lt = input_roomy n fn width calm k lt (error_nonnegative fn.inputs k no_input narrow.lawful.inputs lt)
 
   pub refer : AllReferBelow (length fn.inputs) (length fn.states) 0 fn.results
-  refer = let t = no_temps n fn width calm in subst (λ (m : ℕ). AllReferBelow (length fn.inputs) (length fn.states) m fn.results) (ap length t) narrow.lawful.valid.results
+  refer =
+      let t = no_temps n fn width calm in
+      subst (λ (m : ℕ). AllReferBelow (length fn.inputs) (length fn.states) m fn.results)
+      (ap length t) narrow.lawful.valid.results
 
-  bounded : (k : ℕ) (d : Tree) → k < length fn.results → IsBounded c u fn.inputs (terms_of (get_or fn.results k d)) (tree_bound c fn.inputs (get_or fn.results k d))
-  bounded k d lt = tree_bounded c u fn.inputs spare roomy (length fn.inputs) (length fn.states) 0 (get_or fn.results k d) refl (result_linear n fn width calm k d lt).0 (result_refers (length fn.inputs) (length fn.states) 0 k fn.results d refer lt) (result_literals n fn width calm k d lt)
+  bounded : (k : ℕ) (d : Tree) → k < length fn.results →
+      IsBounded c u fn.inputs (terms_of (get_or fn.results k d)) (tree_bound c fn.inputs (get_or fn.results k d))
+  bounded k d lt =
+      tree_bounded c u fn.inputs spare roomy (length fn.inputs) (length fn.states) 0 (get_or fn.results k d) refl
+      (result_linear n fn width calm k d lt).0
+      (result_refers (length fn.inputs) (length fn.states) 0 k fn.results d refer lt)
+      (result_literals n fn width calm k d lt)
 
   some_results : length fn.results ≡ outputs fn + length fn.states
   some_results = narrow.lawful.valid.all_results
 
   -- a next state keeps its boxes
-  pub next_range : (k : ℕ) (d : Tree) → k < length fn.states → (tree_bound c fn.inputs (get_or fn.results (outputs fn + k) d)).r ≤ 2 ^ (c.q + 2 + c.f)
+  pub next_range : (k : ℕ) (d : Tree) → k < length fn.states →
+      (tree_bound c fn.inputs (get_or fn.results (outputs fn + k) d)).r ≤ 2 ^ (c.q + 2 + c.f)
   next_range k d lt =
       let long = some_results in let lt_all : outputs fn + k < length fn.results = omega (arith, long, lt) in
       let i = drop_at (outputs fn) fn.results k d lt_all in let t = get_or fn.results (outputs fn + k) d in
-      next_range_few c u fn.inputs t (tree_bound c fn.inputs t) spare (result_linear n fn width calm (outputs fn + k) d lt_all).1 (bounded (outputs fn + k) d lt_all) (result_sizes n fn width calm (outputs fn + k) d lt_all)
-      (subst (λ (t : Tree). AtMost (plus (total state_size (terms_of t)) (total state_size (terms_of t))) (whole (pos 1))) i.1 (next_half n fn width calm k d i.0))
-      (subst (λ (t : Tree). AtMost (plus (input_reaches fn t) (literal_sizes t)) (power c.q)) i.1 (next_adds n fn width calm k d i.0))
+      next_range_few c u fn.inputs t (tree_bound c fn.inputs t) spare
+      (result_linear n fn width calm (outputs fn + k) d lt_all).1 (bounded (outputs fn + k) d lt_all)
+      (result_sizes n fn width calm (outputs fn + k) d lt_all)
+      (subst (λ (t : Tree). AtMost (plus (total state_size (terms_of t)) (total state_size (terms_of t)))
+      (whole (pos 1))) i.1 (next_half n fn width calm k d i.0))
+      (subst (λ (t : Tree). AtMost (plus (input_reaches fn t) (literal_sizes t)) (power c.q)) i.1
+      (next_adds n fn width calm k d i.0))
 
-  pub next_error : (k : ℕ) (d : Tree) → k < length fn.states → (tree_bound c fn.inputs (get_or fn.results (outputs fn + k) d)).e ≤ 2 ^ (c.p + 4 + u)
+  pub next_error : (k : ℕ) (d : Tree) → k < length fn.states →
+      (tree_bound c fn.inputs (get_or fn.results (outputs fn + k) d)).e ≤ 2 ^ (c.p + 4 + u)
   next_error k d lt =
       let long = some_results in let lt_all : outputs fn + k < length fn.results = omega (arith, long, lt) in
       let i = drop_at (outputs fn) fn.results k d lt_all in let t = get_or fn.results (outputs fn + k) d in
-      next_error_few c u fn.inputs t (tree_bound c fn.inputs t) spare (result_linear n fn width calm (outputs fn + k) d lt_all).1 (bounded (outputs fn + k) d lt_all) (result_sizes n fn width calm (outputs fn + k) d lt_all)
-      (subst (λ (t : Tree). AtMost (plus (total state_size (terms_of t)) (total state_size (terms_of t))) (whole (pos 1))) i.1 (next_half n fn width calm k d i.0))
+      next_error_few c u fn.inputs t (tree_bound c fn.inputs t) spare
+      (result_linear n fn width calm (outputs fn + k) d lt_all).1 (bounded (outputs fn + k) d lt_all)
+      (result_sizes n fn width calm (outputs fn + k) d lt_all)
+      (subst (λ (t : Tree). AtMost (plus (total state_size (terms_of t)) (total state_size (terms_of t)))
+      (whole (pos 1))) i.1 (next_half n fn width calm k d i.0))
 
   -- an output's bounds
-  pub output_range : (k : ℕ) (d : Tree) → k < outputs fn → (tree_bound c fn.inputs (get_or fn.results k d)).r ≤ 2 ^ (c.m + c.f)
+  pub output_range : (k : ℕ) (d : Tree) → k < outputs fn →
+      (tree_bound c fn.inputs (get_or fn.results k d)).r ≤ 2 ^ (c.m + c.f)
   output_range k d lt =
       let long = some_results in let lt_all : k < length fn.results = omega (arith, long, lt) in
       let i = take_at (outputs fn) fn.results k d lt lt_all in let t = get_or fn.results k d in
-      output_range_few c u fn.inputs t (tree_bound c fn.inputs t) spare (result_linear n fn width calm k d lt_all).1 (bounded k d lt_all) (result_sizes n fn width calm k d lt_all)
-      (subst (λ (t : Tree). AtMost (plus (times (state_sizes t) (power (c.q + 2))) (plus (input_reaches fn t) (literal_sizes t))) (power (c.m - 1))) i.1 (output_values n fn width calm k d i.0))
+      output_range_few c u fn.inputs t (tree_bound c fn.inputs t) spare (result_linear n fn width calm k d lt_all).1
+      (bounded k d lt_all) (result_sizes n fn width calm k d lt_all)
+      (subst (λ (t : Tree). AtMost
+      (plus (times (state_sizes t) (power (c.q + 2))) (plus (input_reaches fn t) (literal_sizes t)))
+      (power (c.m - 1))) i.1 (output_values n fn width calm k d i.0))
 
-  pub output_error : (k : ℕ) (d : Tree) → k < outputs fn → (tree_bound c fn.inputs (get_or fn.results k d)).e ≤ 2 ^ (c.a + c.p + 5 + u)
+  pub output_error : (k : ℕ) (d : Tree) → k < outputs fn →
+      (tree_bound c fn.inputs (get_or fn.results k d)).e ≤ 2 ^ (c.a + c.p + 5 + u)
   output_error k d lt =
-      let long = some_results in let lt_all : k < length fn.results = omega (arith, long, lt) in let t = get_or fn.results k d in
-      output_error_few c u fn.inputs t (tree_bound c fn.inputs t) spare (result_linear n fn width calm k d lt_all).1 (bounded k d lt_all) (result_sizes n fn width calm k d lt_all)
+      let long = some_results in let lt_all : k < length fn.results = omega (arith, long, lt) in
+      let t = get_or fn.results k d in
+      output_error_few c u fn.inputs t (tree_bound c fn.inputs t) spare (result_linear n fn width calm k d lt_all).1
+      (bounded k d lt_all) (result_sizes n fn width calm k d lt_all)
 
   -- ---- all are limited
-  pub result_limited : (k : ℕ) (d : Tree) → k < length fn.results → IsLimited c (tree_bound c fn.inputs (get_or fn.results k d))
+  pub result_limited : (k : ℕ) (d : Tree) → k < length fn.results →
+      IsLimited c (tree_bound c fn.inputs (get_or fn.results k d))
   result_limited k d lt = ⊎_elim output next (before_or_behind k (outputs fn) (length fn.results) lt)
     where
       output : k < outputs fn → IsLimited c (tree_bound c fn.inputs (get_or fn.results k d))
-      output l = let e = spare.errors in record { r = output_range k d l; e = error_limit c u fn.inputs spare {k = c.a + c.p + 5 + u} (output_error k d l) e }
+      output l =
+          let e = spare.errors in
+          record {
+            r = output_range k d l;
+            e = error_limit c u fn.inputs spare {k = c.a + c.p + 5 + u} (output_error k d l) e;
+          }
 
       next : outputs fn + (k - outputs fn) ≡ k → IsLimited c (tree_bound c fn.inputs (get_or fn.results k d))
       next same =
@@ -217,28 +274,46 @@ module _ (n : ℕ) (fn : Function) (some_width : Contains widths n) (narrow : Is
           let l : j < length fn.states = omega (arith, same, long, lt) in
           let s = spare.states in let e = spare.errors in
           subst (λ (m : ℕ). IsLimited c (tree_bound c fn.inputs (get_or fn.results m d))) same
-          (record { r = error_limit c u fn.inputs spare {k = c.q + 2 + c.f} (next_range j d l) (omega (arith, s)); e = error_limit c u fn.inputs spare {k = c.p + 4 + u} (next_error j d l) (omega (arith, e)) })
+          (record {
+            r = error_limit c u fn.inputs spare {k = c.q + 2 + c.f} (next_range j d l) (omega (arith, s));
+            e = error_limit c u fn.inputs spare {k = c.p + 4 + u} (next_error j d l) (omega (arith, e));
+          })
 
   each : EachLimited c fn.inputs (length fn.inputs) (length fn.states) fn.results
-  each = each_limited c fn.inputs (length fn.inputs) (length fn.states) fn.results (λ k d lt. tree_limited c u fn.inputs spare (get_or fn.results k d) (result_linear n fn width calm k d lt).0 (result_literals n fn width calm k d lt) (result_limited k d lt))
+  each =
+      each_limited c fn.inputs (length fn.inputs) (length fn.states) fn.results
+      (λ k d lt. tree_limited c u fn.inputs spare (get_or fn.results k d) (result_linear n fn width calm k d lt).0
+      (result_literals n fn width calm k d lt) (result_limited k d lt))
 
   abbrev variables : List Node
   variables = inputs_from 0 (length fn.inputs) ++ states_from 0 (length fn.states)
 
   pub nodes_are : nodes_of fn ≡ nodes_after (length fn.inputs) [] fn.results [] [] variables
-  nodes_are = ap (λ (ts : List function.Temp). nodes_after (length fn.inputs) ts fn.results [] [] variables) (no_temps n fn width calm)
+  nodes_are =
+      ap (λ (ts : List function.Temp). nodes_after (length fn.inputs) ts fn.results [] [] variables)
+      (no_temps n fn width calm)
 
   pub whole_nodes : All IsUndivided (nodes_of fn)
-  whole_nodes = subst (All IsUndivided) (sym nodes_are) (after_whole c fn.inputs (length fn.inputs) (length fn.states) fn.results [] variables
-      (All-append IsUndivided (inputs_from 0 (length fn.inputs)) (states_from 0 (length fn.states)) (inputs_whole 0 (length fn.inputs)) (states_whole 0 (length fn.states))) each)
+  whole_nodes =
+      subst (All IsUndivided) (sym nodes_are)
+      (after_whole c fn.inputs (length fn.inputs) (length fn.states) fn.results [] variables
+      (All-append IsUndivided (inputs_from 0 (length fn.inputs)) (states_from 0 (length fn.states))
+      (inputs_whole 0 (length fn.inputs)) (states_whole 0 (length fn.states))) each)
 
   variables_long : length variables ≡ length fn.inputs + length fn.states
-  variables_long = let a = inputs_length 0 (length fn.inputs) in let b = states_length 0 (length fn.states) in length-append (inputs_from 0 (length fn.inputs)) (states_from 0 (length fn.states)) ∙ omega (arith, a, b)
+  variables_long =
+      let a = inputs_length 0 (length fn.inputs) in
+      let b = states_length 0 (length fn.states) in
+      length-append (inputs_from 0 (length fn.inputs)) (states_from 0 (length fn.states)) ∙ omega (arith, a, b)
 
-  pub built : HasAllBounds c fn.inputs (length fn.inputs) (length fn.states) (nodes_after (length fn.inputs) [] fn.results [] [] variables) (first_bounds c fn.inputs (length fn.inputs) (length fn.states)) [] fn.results
+  pub built : HasAllBounds c fn.inputs (length fn.inputs) (length fn.states)
+      (nodes_after (length fn.inputs) [] fn.results [] [] variables)
+      (first_bounds c fn.inputs (length fn.inputs) (length fn.states)) [] fn.results
   built =
       let l = first_long c fn.inputs (length fn.inputs) (length fn.states) in let v = variables_long in
-      results_built c fn.inputs (length fn.inputs) (length fn.states) fn.results [] variables (first_bounds c fn.inputs (length fn.inputs) (length fn.states)) [] (first_built c fn.inputs (length fn.inputs) (length fn.states)) (omega (arith, l, v))
+      results_built c fn.inputs (length fn.inputs) (length fn.states) fn.results [] variables
+      (first_bounds c fn.inputs (length fn.inputs) (length fn.states)) []
+      (first_built c fn.inputs (length fn.inputs) (length fn.states)) (omega (arith, l, v))
       (first_variables c fn.inputs (length fn.inputs) (length fn.states)) refer each tt
 
   abbrev pub bs : List Bound
@@ -252,18 +327,28 @@ module _ (n : ℕ) (fn : Function) (some_width : Contains widths n) (narrow : Is
   bounds_are = ap (λ (ns : List Node). bounds_after c fn.inputs ns []) nodes_are ∙ built.grown
 
   -- the copy of result k
-  pub copy_bound : (k : ℕ) (d : Tree) → k < length fn.results → at no_bound bs (length front + k) ≡ tree_bound c fn.inputs (get_or fn.results k d)
-  copy_bound k d lt = ap (λ (zs : List Bound). at no_bound zs (length front + k)) bounds_are ∙ get_or-append-add front (map (tree_bound c fn.inputs) fn.results) k no_bound ∙ get_or-map (tree_bound c fn.inputs) fn.results k d no_bound lt
+  pub copy_bound : (k : ℕ) (d : Tree) → k < length fn.results →
+      at no_bound bs (length front + k) ≡ tree_bound c fn.inputs (get_or fn.results k d)
+  copy_bound k d lt = ap (λ (zs : List Bound). at no_bound zs (length front + k)) bounds_are
+      ∙ get_or-append-add front (map (tree_bound c fn.inputs) fn.results) k no_bound
+      ∙ get_or-map (tree_bound c fn.inputs) fn.results k d no_bound lt
 
   pub bounds_long : length bs ≡ length front + length fn.results
-  bounds_long = ap length bounds_are ∙ length-append front (map (tree_bound c fn.inputs) fn.results) ∙ ap (λ (k : ℕ). length front + k) (length-map fn.results (tree_bound c fn.inputs))
+  bounds_long = ap length bounds_are ∙ length-append front (map (tree_bound c fn.inputs) fn.results)
+      ∙ ap (λ (k : ℕ). length front + k) (length-map fn.results (tree_bound c fn.inputs))
 
   pub front_long : length fn.inputs + length fn.states ≤ length front
-  front_long = let l = first_long c fn.inputs (length fn.inputs) (length fn.states) in let a = length-append (first_bounds c fn.inputs (length fn.inputs) (length fn.states)) built.front in omega (arith, l, a)
+  front_long =
+      let l = first_long c fn.inputs (length fn.inputs) (length fn.states) in
+      let a = length-append (first_bounds c fn.inputs (length fn.inputs) (length fn.states)) built.front in
+      omega (arith, l, a)
 
-  from_all : (f : ℕ → Bound) (k m : ℕ) → ((j : ℕ) → k ≤ j → j < k + m → IsLimited c (f j)) → All (IsLimited c) (bounds_from c fn.inputs (length fn.inputs) (length fn.states) f k m)
+  from_all : (f : ℕ → Bound) (k m : ℕ) → ((j : ℕ) → k ≤ j → j < k + m → IsLimited c (f j)) →
+      All (IsLimited c) (bounds_from c fn.inputs (length fn.inputs) (length fn.states) f k m)
   from_all f k zero h = All-nil (IsLimited c)
-  from_all f k (suc m) h = All-cons (IsLimited c) (f k) (bounds_from c fn.inputs (length fn.inputs) (length fn.states) f (k + 1) m) (h k (omega arith) (omega arith)) (from_all f (k + 1) m (λ j a b. h j (omega (arith, a)) (omega (arith, b))))
+  from_all f k (suc m) h =
+      All-cons (IsLimited c) (f k) (bounds_from c fn.inputs (length fn.inputs) (length fn.states) f (k + 1) m)
+      (h k (omega arith) (omega arith)) (from_all f (k + 1) m (λ j a b. h j (omega (arith, a)) (omega (arith, b))))
 
   all_limited : All (IsLimited c) bs
   all_limited =
@@ -271,8 +356,10 @@ module _ (n : ℕ) (fn : Function) (some_width : Contains widths n) (narrow : Is
       subst (All (IsLimited c)) (sym bounds_are)
       (All-append (IsLimited c) front (map (tree_bound c fn.inputs) fn.results)
       (All-append (IsLimited c) (first_bounds c fn.inputs i s) built.front
-      (All-append (IsLimited c) (bounds_from c fn.inputs i s (λ j. input_bound c.f (at no_input fn.inputs j)) 0 i) (bounds_from c fn.inputs i s (λ j. state_bound c) 0 s)
-      (from_all (λ j. input_bound c.f (at no_input fn.inputs j)) 0 i (λ j a b. input_limited c u fn.inputs spare (at no_input fn.inputs j) (roomy j (omega (arith, b)))))
+      (All-append (IsLimited c) (bounds_from c fn.inputs i s (λ j. input_bound c.f (at no_input fn.inputs j)) 0 i)
+      (bounds_from c fn.inputs i s (λ j. state_bound c) 0 s)
+      (from_all (λ j. input_bound c.f (at no_input fn.inputs j)) 0 i
+      (λ j a b. input_limited c u fn.inputs spare (at no_input fn.inputs j) (roomy j (omega (arith, b)))))
       (from_all (λ j. state_bound c) 0 s (λ j a b. state_limited c u fn.inputs spare)))
       built.limited)
       (All-map (IsLimited c) (tree_bound c fn.inputs) fn.results (λ k d lt. result_limited k d lt)))

@@ -30,40 +30,56 @@ pub whole_negative : (w : ℤ) → Equal (whole (neg_ℤ w)) (negative (whole w)
 unfolding negative
 whole_negative w = equal_refl _
 
-pub minus_units_value : (r f : ℕ) → Equal (formula_value (Num (lowest_dyadic (neg_ℤ (pos r)) f))) (negative (times (whole (pos r)) (unit (pos f))))
+pub minus_units_value : (r f : ℕ) →
+    Equal (formula_value (Num (lowest_dyadic (neg_ℤ (pos r)) f))) (negative (times (whole (pos r)) (unit (pos f))))
 minus_units_value r f = equal_trans (units_value (neg_ℤ (pos r)) f) (by (unit (pos f)))
   where
     minus_whole : Equal (whole (neg_ℤ (pos r))) (negative (whole (pos r)))
     minus_whole = whole_negative (pos r)
 
     by : (u : Rational) → Equal (times (whole (neg_ℤ (pos r))) u) (negative (times (whole (pos r)) u))
-    by u = equal_trans (times_same minus_whole (equal_refl u)) (by_quotes {ρ = whole (pos r) ∷ u ∷ []} (search quotes depth 20) (search quotes depth 20) refl)
+    by u =
+        equal_trans (times_same minus_whole (equal_refl u))
+        (by_quotes {ρ = whole (pos r) ∷ u ∷ []} (search quotes depth 20) (search quotes depth 20) refl)
 
 -- x * 2^f is at most r where x is at most r units
-pub to_units : (x : Rational) (r f : ℕ) → AtMost (times x (power f)) (whole (pos r)) → AtMost x (times (whole (pos r)) (unit (pos f)))
+pub to_units : (x : Rational) (r f : ℕ) → AtMost (times x (power f)) (whole (pos r)) →
+    AtMost x (times (whole (pos r)) (unit (pos f)))
 to_units x r f h = le_trans (le_of_equal (equal_sym back)) (times_le h (above_nonneg (unit_above (pos f))))
   where
     back : Equal (times (times x (power f)) (unit (pos f))) x
-    back = equal_trans (by_quotes {ρ = x ∷ power f ∷ unit (pos f) ∷ []} {b = times x (times (unit (pos f)) (power f))} (search quotes depth 20) (search quotes depth 20) refl)
-        (equal_trans (times_same (equal_refl x) (unit_power f)) (by_quotes {ρ = x ∷ []} (search quotes depth 20) (search quotes depth 20) refl))
+    back =
+        equal_trans (by_quotes {ρ = x ∷ power f ∷ unit (pos f) ∷ []} {b = times x (times (unit (pos f)) (power f))}
+        (search quotes depth 20) (search quotes depth 20) refl)
+        (equal_trans (times_same (equal_refl x) (unit_power f))
+        (by_quotes {ρ = x ∷ []} (search quotes depth 20) (search quotes depth 20) refl))
 
 -- ---- ends of intervals
 -- a number whose size is at most r units is from -r to r units
-pub below_end : (x : Rational) (r f : ℕ) → AtMost (times (magnitude x) (power f)) (whole (pos r)) → AtMost (formula_value (Num (lowest_dyadic (neg_ℤ (pos r)) f))) x
+pub below_end : (x : Rational) (r f : ℕ) → AtMost (times (magnitude x) (power f)) (whole (pos r)) →
+    AtMost (formula_value (Num (lowest_dyadic (neg_ℤ (pos r)) f))) x
 below_end x r f h = le_trans (le_of_equal (minus_units_value r f)) (from_magnitude_low (to_units (magnitude x) r f h))
 
-pub above_end : (x : Rational) (r f : ℕ) → AtMost (times (magnitude x) (power f)) (whole (pos r)) → AtMost x (formula_value (Num (lowest_dyadic (pos r) f)))
-above_end x r f h = le_trans (from_magnitude_high (to_units (magnitude x) r f h)) (le_of_equal (equal_sym (units_value (pos r) f)))
+pub above_end : (x : Rational) (r f : ℕ) → AtMost (times (magnitude x) (power f)) (whole (pos r)) →
+    AtMost x (formula_value (Num (lowest_dyadic (pos r) f)))
+above_end x r f h =
+    le_trans (from_magnitude_high (to_units (magnitude x) r f h)) (le_of_equal (equal_sym (units_value (pos r) f)))
 
 -- ---- the reading of an input: a unit more
-one_unit_less : (err r u : Rational) → AtMost err (times r u) → AtMost (plus (negative (times (plus r (whole (pos 1))) u)) u) (negative err)
-one_unit_less err r u h = ordered (gap h) (by_quotes {ρ = err ∷ r ∷ u ∷ []} (search quotes depth 20) (search quotes depth 20) refl)
+one_unit_less : (err r u : Rational) → AtMost err (times r u) →
+    AtMost (plus (negative (times (plus r (whole (pos 1))) u)) u) (negative err)
+one_unit_less err r u h =
+    ordered (gap h) (by_quotes {ρ = err ∷ r ∷ u ∷ []} (search quotes depth 20) (search quotes depth 20) refl)
 
-pub error_end : (err : Rational) (r f : ℕ) → AtMost (times err (power f)) (whole (pos r)) → AtMost (formula_value (Sum (Num (lowest_dyadic (neg_ℤ (pos (r + 1))) f)) (unit_at (pos f)))) (negative err)
+pub error_end : (err : Rational) (r f : ℕ) → AtMost (times err (power f)) (whole (pos r)) →
+    AtMost (formula_value (Sum (Num (lowest_dyadic (neg_ℤ (pos (r + 1))) f)) (unit_at (pos f)))) (negative err)
 error_end err r f h =
     let u = unit (pos f) in
-    subst (λ (v : Rational). AtMost v (negative err)) (sym (sum_value (Num (lowest_dyadic (neg_ℤ (pos (r + 1))) f)) (unit_at (pos f))))
-    (le_trans (le_of_equal (plus_same (equal_trans (minus_units_value (r + 1) f) (negative_same (times_same one_more (equal_refl u)))) (unit_at_is (pos f))))
+    subst (λ (v : Rational). AtMost v (negative err))
+    (sym (sum_value (Num (lowest_dyadic (neg_ℤ (pos (r + 1))) f)) (unit_at (pos f))))
+    (le_trans (le_of_equal (plus_same
+    (equal_trans (minus_units_value (r + 1) f) (negative_same (times_same one_more (equal_refl u))))
+    (unit_at_is (pos f))))
     (one_unit_less err (whole (pos r)) (unit (pos f)) (to_units err r f h)))
   where
     one_more : Equal (whole (pos (r + 1))) (plus (whole (pos r)) (whole (pos 1)))
@@ -71,28 +87,46 @@ error_end err r f h =
 
 -- ---- words
 -- a number whose size is at most r units has a word from -r to r
-pub word_up_to : (x : Rational) (r f : ℕ) → AtMost (times (magnitude x) (power f)) (whole (pos r)) → IsUpTo r (floor (scaled x (pos f)))
+pub word_up_to : (x : Rational) (r f : ℕ) → AtMost (times (magnitude x) (power f)) (whole (pos r)) →
+    IsUpTo r (floor (scaled x (pos f)))
 word_up_to x r f h =
     let p = above_nonneg (power_above f) in
     record {
-      low = floor-greatest (scaled x (pos f)) (neg_ℤ (pos r)) (le_trans (le_of_equal (whole_negative (pos r))) (le_trans (negative_le h) (le_trans low_part (le_of_equal (equal_sym (scaled_is x f))))));
-      high = whole_order (le_trans (floor_floors (scaled x (pos f))).low (le_trans (le_of_equal (scaled_is x f)) (le_trans (times_le (magnitude_above x) p) h)));
+      low =
+          floor-greatest (scaled x (pos f)) (neg_ℤ (pos r))
+          (le_trans (le_of_equal (whole_negative (pos r)))
+          (le_trans (negative_le h) (le_trans low_part (le_of_equal (equal_sym (scaled_is x f))))));
+      high =
+          whole_order (le_trans (floor_floors (scaled x (pos f))).low
+          (le_trans (le_of_equal (scaled_is x f)) (le_trans (times_le (magnitude_above x) p) h)));
     }
   where
     low_part : AtMost (negative (times (magnitude x) (power f))) (times x (power f))
-    low_part = ordered (nonneg_times (gap (magnitude_below x)) (above_nonneg (power_above f))) (by_quotes {ρ = x ∷ magnitude x ∷ power f ∷ []} (search quotes depth 20) (search quotes depth 20) refl)
+    low_part =
+        ordered (nonneg_times (gap (magnitude_below x)) (above_nonneg (power_above f)))
+        (by_quotes {ρ = x ∷ magnitude x ∷ power f ∷ []} (search quotes depth 20) (search quotes depth 20) refl)
 
 -- a word less one unit isn't above what it is the floor of, and a unit more isn't below
-pub word_low : (x : Rational) (f : ℕ) → AtMost (formula_value (Difference (word_at (floor (scaled x (pos f))) (pos f)) (Num (lowest_dyadic (pos 1) f)))) x
+pub word_low : (x : Rational) (f : ℕ) →
+    AtMost (formula_value (Difference (word_at (floor (scaled x (pos f))) (pos f)) (Num (lowest_dyadic (pos 1) f)))) x
 word_low x f =
     let v = formula_value (word_at (floor (scaled x (pos f))) (pos f)) in let u = unit (pos f) in
-    subst (λ (r : Rational). AtMost r x) (sym (difference_value (word_at (floor (scaled x (pos f))) (pos f)) (Num (lowest_dyadic (pos 1) f))))
-    (le_trans (le_of_equal (minus_same (equal_refl v) (equal_trans (units_value (pos 1) f) (by_quotes {ρ = u ∷ []} {b = u} (search quotes depth 20) (search quotes depth 20) refl))))
+    subst (λ (r : Rational). AtMost r x)
+    (sym (difference_value (word_at (floor (scaled x (pos f))) (pos f)) (Num (lowest_dyadic (pos 1) f))))
+    (le_trans (le_of_equal (minus_same (equal_refl v)
+    (equal_trans (units_value (pos 1) f)
+    (by_quotes {ρ = u ∷ []} {b = u} (search quotes depth 20) (search quotes depth 20) refl))))
     (less_unit v u x (above_nonneg (unit_above (pos f))) (lost_word x (pos f))))
 
-pub word_high : (x : Rational) (f : ℕ) → AtMost x (formula_value (Difference (word_at (floor (scaled x (pos f))) (pos f)) (Num (lowest_dyadic (neg_ℤ (pos 1)) f))))
+pub word_high : (x : Rational) (f : ℕ) →
+    AtMost x (formula_value
+    (Difference (word_at (floor (scaled x (pos f))) (pos f)) (Num (lowest_dyadic (neg_ℤ (pos 1)) f))))
 word_high x f =
     let v = formula_value (word_at (floor (scaled x (pos f))) (pos f)) in let u = unit (pos f) in
-    subst (λ (r : Rational). AtMost x r) (sym (difference_value (word_at (floor (scaled x (pos f))) (pos f)) (Num (lowest_dyadic (neg_ℤ (pos 1)) f))))
+    subst (λ (r : Rational). AtMost x r)
+    (sym (difference_value (word_at (floor (scaled x (pos f))) (pos f)) (Num (lowest_dyadic (neg_ℤ (pos 1)) f))))
     (le_trans (more_unit v u x (lost_word x (pos f)))
-    (le_of_equal (equal_sym (minus_same (equal_refl v) (equal_trans (minus_units_value 1 f) (negative_same (by_quotes {ρ = u ∷ []} {b = u} (search quotes depth 20) (search quotes depth 20) refl)))))))
+    (le_of_equal (equal_sym
+    (minus_same (equal_refl v)
+    (equal_trans (minus_units_value 1 f)
+    (negative_same (by_quotes {ρ = u ∷ []} {b = u} (search quotes depth 20) (search quotes depth 20) refl)))))))

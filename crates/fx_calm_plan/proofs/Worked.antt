@@ -22,7 +22,8 @@ halving = record {
 
 -- the product alone rounds so
 halving_codes : (r : Round) → (calm_program 32 r halving).codes
-    ≡ Input 0 (pos 26) ∷ State 0 (pos 26) (pos 0) ∷ Const (pos 33554432) (pos 26) ∷ Mul r 2 1 26 ∷ Add 3 0 (pos 0) (pos 0) ∷ Copy Floor 1 (pos 0) ∷ Copy Floor 4 (pos 0) ∷ []
+    ≡ Input 0 (pos 26) ∷ State 0 (pos 26) (pos 0) ∷ Const (pos 33554432) (pos 26) ∷ Mul r 2 1 26
+    ∷ Add 3 0 (pos 0) (pos 0) ∷ Copy Floor 1 (pos 0) ∷ Copy Floor 4 (pos 0) ∷ []
 unfolding first_from power_value dyadic_value over plus times is_at_most scaled floor
 halving_codes r = refl
 

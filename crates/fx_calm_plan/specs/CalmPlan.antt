@@ -55,7 +55,15 @@ calm_code r fn f (Copy a) = machine.Copy machine.Floor a (pos 0)
 
 abbrev pub calm_program : ℕ → Round → Function → Program
 calm_program n r fn = let c = numbers_of n fn in
-    record { version = first_version r; width = n; name = fn.name; inputs = length fn.inputs; states = length fn.states; outputs = outputs fn; codes = map (calm_code r fn c.f) (nodes_of fn) }
+    record {
+      version = first_version r;
+      width = n;
+      name = fn.name;
+      inputs = length fn.inputs;
+      states = length fn.states;
+      outputs = outputs fn;
+      codes = map (calm_code r fn c.f) (nodes_of fn);
+    }
 
 -- ---- the certificate
 -- from -r to r units, each end in its one spelling
@@ -72,9 +80,11 @@ calm_start f s = record { range = units f (units_up f (magnitude s.start)); erro
 -- unit templates from i on, k of them, of so many states and with one bound
 abbrev pub unit_templates : ℕ → Interval → ℕ → ℕ → List Template
 unit_templates states bound i zero = []
-unit_templates states bound i (suc k) = record { coefs = unit_vector states i; bound = bound; shares = [] } ∷ unit_templates states bound (i + 1) k
+unit_templates states bound i (suc k) =
+    record { coefs = unit_vector states i; bound = bound; shares = [] } ∷ unit_templates states bound (i + 1) k
 
--- without steps, forms and shares, and the same however the program rounds: what is lost to the nearest lies within the unit down
+-- without steps, forms and shares, and the same however the program rounds: what is lost to the nearest lies within the
+-- unit down
 abbrev pub calm_certificate : ℕ → Function → Certificate
 calm_certificate n fn = let c = numbers_of n fn in let b = state_bound c in let k = length fn.states in record {
   inputs = length fn.inputs;

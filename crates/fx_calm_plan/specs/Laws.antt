@@ -23,13 +23,16 @@ pub record IsNarrowFunction (fn : Function) : Type 0 where
   pub literals : All IsNarrowNode (nodes_of fn)
   pub demands : All IsNarrowDemand fn.demands
 
--- it is accepted, whatever the rewriting rules are; a text can spell it; it rounds as is wanted; and each output's bound is at most 2^z
+-- it is accepted, whatever the rewriting rules are; a text can spell it; it rounds as is wanted; and each output's
+-- bound is at most 2^z
 pub record IsCalmPlan (n : ℕ) (r : Round) (fn : Function) : Type 0 where
   pub accepted : (rewrite : Rewrites) → IsAccepted rewrite fn (calm_program n r fn) (calm_certificate n fn)
   pub program : IsLawfulProgram (calm_program n r fn)
   pub certificate : IsLawfulCertificate (calm_certificate n fn)
   pub rounded : IsRoundedBy r (calm_program n r fn)
-  pub bounds : (j : ℕ) → j < outputs fn → AtMost (certified_bound (calm_program n r fn) (calm_certificate n fn) j) (power_value (numbers_of n fn).z)
+  pub bounds : (j : ℕ) → j < outputs fn →
+      AtMost (certified_bound (calm_program n r fn) (calm_certificate n fn) j) (power_value (numbers_of n fn).z)
 
 abbrev pub CalmLaw : Type 0
-CalmLaw = (n : ℕ) (r : Round) (fn : Function) → Contains widths n → IsNarrowFunction fn → IsCalm n fn → IsCalmPlan n r fn
+CalmLaw =
+    (n : ℕ) (r : Round) (fn : Function) → Contains widths n → IsNarrowFunction fn → IsCalm n fn → IsCalmPlan n r fn

@@ -27,14 +27,20 @@ use Rattle.fx_calmness.specs.SumOf.{sum_value, weight_of, size_of, part_of, IsSu
 use Rattle.fx_calmness.proofs.Sizes.{IsUnsigned, greater_unsigned, top_at_most}
 
 -- ---- one part
-pub narrow_product : (s b t d : ℕ) → s < 2 ^ 62 → 0 < b → b < 2 ^ 62 → t < 2 ^ 62 → 0 < d → d ≤ 10 ^ 18 → IsNarrowPart (record { top = s * t; bottom = b * d })
+pub narrow_product : (s b t d : ℕ) → s < 2 ^ 62 → 0 < b → b < 2 ^ 62 → t < 2 ^ 62 → 0 < d → d ≤ 10 ^ 18 →
+    IsNarrowPart (record { top = s * t; bottom = b * d })
 narrow_product s b t d ps pb qb pt pd qd =
     let m = mul-le s t (2 ^ 62) (2 ^ 62) (omega (arith, ps)) (omega (arith, pt)) in
     let n = mul-le b d (2 ^ 62) (10 ^ 18) (omega (arith, qb)) qd in
     record { some = mul-pos {m = b} {n = d} pb pd; few = omega (arith, n); fits = omega (arith, m) }
 
 -- the part of two sizes in code
-pub product_is : (s b t d : ℕ) → 0 < b → 0 < d → (let x : Part = record { top = s * t; bottom = b * d } in x ≡ record { top = unsigned_abs (over (pos s) b).top * unsigned_abs (over (pos t) d).top; bottom = bottom (over (pos s) b) * bottom (over (pos t) d) })
+pub product_is : (s b t d : ℕ) → 0 < b → 0 < d →
+    (let x : Part = record { top = s * t; bottom = b * d } in
+    x ≡ record {
+      top = unsigned_abs (over (pos s) b).top * unsigned_abs (over (pos t) d).top;
+      bottom = bottom (over (pos s) b) * bottom (over (pos t) d);
+    })
 unfolding over
 product_is s b t d p q = (λ i. record { top = s * t; bottom = sym (suc_pred b p) i * sym (suc_pred d q) i })
 
@@ -42,7 +48,8 @@ product_is s b t d p q = (λ i. record { top = s * t; bottom = sym (suc_pred b p
 abbrev pub worth : Function → Sum → Term → Rational
 worth fn sum x = times (size_of x) (weight_of fn sum x)
 
-product_value : (s w : Rational) → IsUnsigned s → IsUnsigned w → over (pos (unsigned_abs s.top * unsigned_abs w.top)) (bottom s * bottom w) ≡ times s w
+product_value : (s w : Rational) → IsUnsigned s → IsUnsigned w →
+    over (pos (unsigned_abs s.top * unsigned_abs w.top)) (bottom s * bottom w) ≡ times s w
 unfolding times
 product_value s w p q = (λ i. over (p i *ℤ q i) (bottom s * bottom w))
 
@@ -68,7 +75,9 @@ one : (P : Term → Type 0) (x : Term) → P x → All P (x ∷ [])
 one P x h = All-cons P x [] h (All-nil P)
 
 -- the term of a product: nothing, or a literal of one of its factors times an input or a state
-of_product : (P : Term → Type 0) (Q : Tree → Type 0) → P (Alone (whole (pos 0))) → ((c : Rational) (k : ℕ) → Q (tree.Literal c) → P (OfInput k (magnitude c))) → ((c : Rational) (k : ℕ) → Q (tree.Literal c) → P (OfState k (magnitude c))) →
+of_product : (P : Term → Type 0) (Q : Tree → Type 0) → P (Alone (whole (pos 0))) →
+    ((c : Rational) (k : ℕ) → Q (tree.Literal c) → P (OfInput k (magnitude c))) →
+    ((c : Rational) (k : ℕ) → Q (tree.Literal c) → P (OfState k (magnitude c))) →
     (a b : Tree) → Q a → Q b → P (scaled_term a b)
 of_product P Q none input state (tree.Literal c) (tree.Literal k) p q = none
 of_product P Q none input state (tree.Literal c) (tree.Input k) p q = input c k p
@@ -113,48 +122,102 @@ terms_unsigned (tree.Input k) = one IsUnsignedTerm _ refl
 terms_unsigned (tree.State k) = one IsUnsignedTerm _ refl
 terms_unsigned (tree.Temp k) = All-nil IsUnsignedTerm
 terms_unsigned (tree.Negation a) = terms_unsigned a
-terms_unsigned (tree.Sum a b) = All-append IsUnsignedTerm (terms_of a) (terms_of b) (terms_unsigned a) (terms_unsigned b)
-terms_unsigned (tree.Difference a b) = All-append IsUnsignedTerm (terms_of a) (terms_of b) (terms_unsigned a) (terms_unsigned b)
+terms_unsigned (tree.Sum a b) =
+    All-append IsUnsignedTerm (terms_of a) (terms_of b) (terms_unsigned a) (terms_unsigned b)
+terms_unsigned (tree.Difference a b) =
+    All-append IsUnsignedTerm (terms_of a) (terms_of b) (terms_unsigned a) (terms_unsigned b)
 terms_unsigned (tree.Product a b) = one IsUnsignedTerm _ (product_unsigned a b)
 terms_unsigned (tree.Quotient a b) = All-nil IsUnsignedTerm
 
 -- ---- what parts add up to
-pub parts_sum : (fn : Function) (sum : Sum) (xs : List Term) → All IsUnsignedTerm xs → Equal (sum_of (map (part_of fn sum) xs)) (total (worth fn sum) xs)
+pub parts_sum : (fn : Function) (sum : Sum) (xs : List Term) → All IsUnsignedTerm xs →
+    Equal (sum_of (map (part_of fn sum) xs)) (total (worth fn sum) xs)
 parts_sum fn sum [] h = equal_refl _
 parts_sum fn sum (x ∷ xs) h =
-    plus_same (subst (λ (r : Rational). Equal r (worth fn sum x)) (sym (product_value (size_of x) (weight_of fn sum x) (All-head IsUnsignedTerm x xs h) (weight_unsigned fn sum x))) (equal_refl (worth fn sum x)))
+    plus_same (subst (λ (r : Rational). Equal r (worth fn sum x))
+    (sym (product_value (size_of x) (weight_of fn sum x) (All-head IsUnsignedTerm x xs h)
+    (weight_unsigned fn sum x))) (equal_refl (worth fn sum x)))
     (parts_sum fn sum xs (All-tail IsUnsignedTerm x xs h))
 
-states_total : (fn : Function) (xs : List Term) → Equal (total (worth fn States) xs) (plus (total state_size xs) (total state_size xs))
-states_total fn [] = by_quotes {ρ = []} {a = whole (pos 0)} {b = plus (whole (pos 0)) (whole (pos 0))} (search quotes depth 20) (search quotes depth 20) refl
-states_total fn (Alone s ∷ xs) = equal_trans (plus_same (equal_refl (times s (whole (pos 0)))) (states_total fn xs)) (by_quotes {ρ = s ∷ total state_size xs ∷ []} (search quotes depth 20) (search quotes depth 20) refl)
-states_total fn (OfInput k s ∷ xs) = equal_trans (plus_same (equal_refl (times s (whole (pos 0)))) (states_total fn xs)) (by_quotes {ρ = s ∷ total state_size xs ∷ []} (search quotes depth 20) (search quotes depth 20) refl)
-states_total fn (OfState k s ∷ xs) = equal_trans (plus_same (equal_refl (times s (whole (pos 2)))) (states_total fn xs)) (by_quotes {ρ = s ∷ total state_size xs ∷ []} (search quotes depth 20) (search quotes depth 20) refl)
+states_total : (fn : Function) (xs : List Term) →
+    Equal (total (worth fn States) xs) (plus (total state_size xs) (total state_size xs))
+states_total fn [] =
+    by_quotes {ρ = []} {a = whole (pos 0)} {b = plus (whole (pos 0)) (whole (pos 0))} (search quotes depth 20)
+    (search quotes depth 20) refl
+states_total fn (Alone s ∷ xs) =
+    equal_trans (plus_same (equal_refl (times s (whole (pos 0)))) (states_total fn xs))
+    (by_quotes {ρ = s ∷ total state_size xs ∷ []} (search quotes depth 20) (search quotes depth 20) refl)
+states_total fn (OfInput k s ∷ xs) =
+    equal_trans (plus_same (equal_refl (times s (whole (pos 0)))) (states_total fn xs))
+    (by_quotes {ρ = s ∷ total state_size xs ∷ []} (search quotes depth 20) (search quotes depth 20) refl)
+states_total fn (OfState k s ∷ xs) =
+    equal_trans (plus_same (equal_refl (times s (whole (pos 2)))) (states_total fn xs))
+    (by_quotes {ρ = s ∷ total state_size xs ∷ []} (search quotes depth 20) (search quotes depth 20) refl)
 
-sizes_total : (fn : Function) (xs : List Term) → Equal (total (worth fn Sizes) xs) (plus (total input_size xs) (total state_size xs))
-sizes_total fn [] = by_quotes {ρ = []} {a = whole (pos 0)} {b = plus (whole (pos 0)) (whole (pos 0))} (search quotes depth 20) (search quotes depth 20) refl
-sizes_total fn (Alone s ∷ xs) = equal_trans (plus_same (equal_refl (times s (whole (pos 0)))) (sizes_total fn xs)) (by_quotes {ρ = s ∷ total input_size xs ∷ total state_size xs ∷ []} (search quotes depth 20) (search quotes depth 20) refl)
-sizes_total fn (OfInput k s ∷ xs) = equal_trans (plus_same (equal_refl (times s (whole (pos 1)))) (sizes_total fn xs)) (by_quotes {ρ = s ∷ total input_size xs ∷ total state_size xs ∷ []} (search quotes depth 20) (search quotes depth 20) refl)
-sizes_total fn (OfState k s ∷ xs) = equal_trans (plus_same (equal_refl (times s (whole (pos 1)))) (sizes_total fn xs)) (by_quotes {ρ = s ∷ total input_size xs ∷ total state_size xs ∷ []} (search quotes depth 20) (search quotes depth 20) refl)
+sizes_total : (fn : Function) (xs : List Term) →
+    Equal (total (worth fn Sizes) xs) (plus (total input_size xs) (total state_size xs))
+sizes_total fn [] =
+    by_quotes {ρ = []} {a = whole (pos 0)} {b = plus (whole (pos 0)) (whole (pos 0))} (search quotes depth 20)
+    (search quotes depth 20) refl
+sizes_total fn (Alone s ∷ xs) =
+    equal_trans (plus_same (equal_refl (times s (whole (pos 0)))) (sizes_total fn xs))
+    (by_quotes {ρ = s ∷ total input_size xs ∷ total state_size xs ∷ []} (search quotes depth 20)
+    (search quotes depth 20) refl)
+sizes_total fn (OfInput k s ∷ xs) =
+    equal_trans (plus_same (equal_refl (times s (whole (pos 1)))) (sizes_total fn xs))
+    (by_quotes {ρ = s ∷ total input_size xs ∷ total state_size xs ∷ []} (search quotes depth 20)
+    (search quotes depth 20) refl)
+sizes_total fn (OfState k s ∷ xs) =
+    equal_trans (plus_same (equal_refl (times s (whole (pos 1)))) (sizes_total fn xs))
+    (by_quotes {ρ = s ∷ total input_size xs ∷ total state_size xs ∷ []} (search quotes depth 20)
+    (search quotes depth 20) refl)
 
-adds_total : (fn : Function) (xs : List Term) → Equal (total (worth fn Adds) xs) (plus (total (input_reach (reach_at fn)) xs) (total literal_size xs))
-adds_total fn [] = by_quotes {ρ = []} {a = whole (pos 0)} {b = plus (whole (pos 0)) (whole (pos 0))} (search quotes depth 20) (search quotes depth 20) refl
-adds_total fn (Alone s ∷ xs) = equal_trans (plus_same (equal_refl (times s (whole (pos 1)))) (adds_total fn xs)) (by_quotes {ρ = s ∷ total (input_reach (reach_at fn)) xs ∷ total literal_size xs ∷ []} (search quotes depth 20) (search quotes depth 20) refl)
-adds_total fn (OfInput k s ∷ xs) = equal_trans (plus_same (equal_refl (times s (reach_at fn k))) (adds_total fn xs)) (by_quotes {ρ = s ∷ reach_at fn k ∷ total (input_reach (reach_at fn)) xs ∷ total literal_size xs ∷ []} (search quotes depth 20) (search quotes depth 20) refl)
-adds_total fn (OfState k s ∷ xs) = equal_trans (plus_same (equal_refl (times s (whole (pos 0)))) (adds_total fn xs)) (by_quotes {ρ = s ∷ total (input_reach (reach_at fn)) xs ∷ total literal_size xs ∷ []} (search quotes depth 20) (search quotes depth 20) refl)
+adds_total : (fn : Function) (xs : List Term) →
+    Equal (total (worth fn Adds) xs) (plus (total (input_reach (reach_at fn)) xs) (total literal_size xs))
+adds_total fn [] =
+    by_quotes {ρ = []} {a = whole (pos 0)} {b = plus (whole (pos 0)) (whole (pos 0))} (search quotes depth 20)
+    (search quotes depth 20) refl
+adds_total fn (Alone s ∷ xs) =
+    equal_trans (plus_same (equal_refl (times s (whole (pos 1)))) (adds_total fn xs))
+    (by_quotes {ρ = s ∷ total (input_reach (reach_at fn)) xs ∷ total literal_size xs ∷ []} (search quotes depth 20)
+    (search quotes depth 20) refl)
+adds_total fn (OfInput k s ∷ xs) =
+    equal_trans (plus_same (equal_refl (times s (reach_at fn k))) (adds_total fn xs))
+    (by_quotes {ρ = s ∷ reach_at fn k ∷ total (input_reach (reach_at fn)) xs ∷ total literal_size xs ∷ []}
+    (search quotes depth 20) (search quotes depth 20) refl)
+adds_total fn (OfState k s ∷ xs) =
+    equal_trans (plus_same (equal_refl (times s (whole (pos 0)))) (adds_total fn xs))
+    (by_quotes {ρ = s ∷ total (input_reach (reach_at fn)) xs ∷ total literal_size xs ∷ []} (search quotes depth 20)
+    (search quotes depth 20) refl)
 
 -- p stands for the power
-values_total : (fn : Function) (n : ℕ) (xs : List Term) → (let p = power n in Equal (total (worth fn (Values n)) xs) (plus (times (total state_size xs) p) (plus (total (input_reach (reach_at fn)) xs) (total literal_size xs))))
-values_total fn n [] = by_quotes {ρ = power n ∷ []} {a = whole (pos 0)} {b = plus (times (whole (pos 0)) (power n)) (plus (whole (pos 0)) (whole (pos 0)))} (search quotes depth 20) (search quotes depth 20) refl
-values_total fn n (Alone s ∷ xs) = equal_trans (plus_same (equal_refl (times s (whole (pos 1)))) (values_total fn n xs)) (by_quotes {ρ = s ∷ power n ∷ total state_size xs ∷ total (input_reach (reach_at fn)) xs ∷ total literal_size xs ∷ []} (search quotes depth 20) (search quotes depth 20) refl)
-values_total fn n (OfInput k s ∷ xs) = equal_trans (plus_same (equal_refl (times s (reach_at fn k))) (values_total fn n xs)) (by_quotes {ρ = s ∷ reach_at fn k ∷ power n ∷ total state_size xs ∷ total (input_reach (reach_at fn)) xs ∷ total literal_size xs ∷ []} (search quotes depth 20) (search quotes depth 20) refl)
-values_total fn n (OfState k s ∷ xs) = equal_trans (plus_same (equal_refl (times s (power n))) (values_total fn n xs)) (by_quotes {ρ = s ∷ power n ∷ total state_size xs ∷ total (input_reach (reach_at fn)) xs ∷ total literal_size xs ∷ []} (search quotes depth 20) (search quotes depth 20) refl)
+values_total : (fn : Function) (n : ℕ) (xs : List Term) →
+    (let p = power n in
+    Equal (total (worth fn (Values n)) xs)
+    (plus (times (total state_size xs) p) (plus (total (input_reach (reach_at fn)) xs) (total literal_size xs))))
+values_total fn n [] =
+    by_quotes {ρ = power n ∷ []} {a = whole (pos 0)} {b = plus (times (whole (pos 0)) (power n))
+    (plus (whole (pos 0)) (whole (pos 0)))} (search quotes depth 20) (search quotes depth 20) refl
+values_total fn n (Alone s ∷ xs) =
+    equal_trans (plus_same (equal_refl (times s (whole (pos 1)))) (values_total fn n xs))
+    (by_quotes {ρ = s ∷ power n ∷ total state_size xs ∷ total (input_reach (reach_at fn)) xs ∷ total literal_size xs
+    ∷ []} (search quotes depth 20) (search quotes depth 20) refl)
+values_total fn n (OfInput k s ∷ xs) =
+    equal_trans (plus_same (equal_refl (times s (reach_at fn k))) (values_total fn n xs))
+    (by_quotes {ρ = s ∷ reach_at fn k ∷ power n ∷ total state_size xs ∷ total (input_reach (reach_at fn)) xs
+    ∷ total literal_size xs ∷ []} (search quotes depth 20) (search quotes depth 20) refl)
+values_total fn n (OfState k s ∷ xs) =
+    equal_trans (plus_same (equal_refl (times s (power n))) (values_total fn n xs))
+    (by_quotes {ρ = s ∷ power n ∷ total state_size xs ∷ total (input_reach (reach_at fn)) xs ∷ total literal_size xs
+    ∷ []} (search quotes depth 20) (search quotes depth 20) refl)
 
 pub total_is : (fn : Function) (sum : Sum) (t : Tree) → Equal (total (worth fn sum) (terms_of t)) (sum_value fn sum t)
 total_is fn States t = states_total fn (terms_of t)
 total_is fn Sizes t = sizes_total fn (terms_of t)
 total_is fn Adds t = adds_total fn (terms_of t)
-total_is fn (Values n) t = equal_trans (values_total fn n (terms_of t)) (plus_same (times_same (equal_refl (total state_size (terms_of t))) (equal_sym (whole_value_is n))) (equal_refl _))
+total_is fn (Values n) t =
+    equal_trans (values_total fn n (terms_of t))
+    (plus_same (times_same (equal_refl (total state_size (terms_of t))) (equal_sym (whole_value_is n))) (equal_refl _))
 
 -- ---- how great parts are
 abbrev pub IsLowTerm : Term → Type 0
@@ -173,7 +236,8 @@ zero_low : AtMost (whole (pos 0)) (power 25)
 zero_low = whole_low 0 25 (omega arith)
 
 low_product : (a b : Tree) → are_low a ≡ true → are_low b ≡ true → IsLowTerm (scaled_term a b)
-low_product a b p q = of_product IsLowTerm (λ t. are_low t ≡ true) zero_low (λ c k h. low_literal c h) (λ c k h. low_literal c h) a b p q
+low_product a b p q =
+    of_product IsLowTerm (λ t. are_low t ≡ true) zero_low (λ c k h. low_literal c h) (λ c k h. low_literal c h) a b p q
 
 pub low_terms : (t : Tree) → are_literals_below (power_value (pos 25)) t ≡ true → All IsLowTerm (terms_of t)
 low_terms (tree.Literal c) e = one IsLowTerm _ (low_literal c e)
@@ -181,13 +245,19 @@ low_terms (tree.Input k) e = one IsLowTerm _ (whole_low 1 25 (omega arith))
 low_terms (tree.State k) e = one IsLowTerm _ (whole_low 1 25 (omega arith))
 low_terms (tree.Temp k) e = All-nil IsLowTerm
 low_terms (tree.Negation a) e = low_terms a e
-low_terms (tree.Sum a b) e = let p = and_parts (are_low a) (are_low b) e in All-append IsLowTerm (terms_of a) (terms_of b) (low_terms a p.0) (low_terms b p.1)
-low_terms (tree.Difference a b) e = let p = and_parts (are_low a) (are_low b) e in All-append IsLowTerm (terms_of a) (terms_of b) (low_terms a p.0) (low_terms b p.1)
-low_terms (tree.Product a b) e = let p = and_parts (are_low a) (are_low b) e in one IsLowTerm _ (low_product a b p.0 p.1)
+low_terms (tree.Sum a b) e =
+    let p = and_parts (are_low a) (are_low b) e in
+    All-append IsLowTerm (terms_of a) (terms_of b) (low_terms a p.0) (low_terms b p.1)
+low_terms (tree.Difference a b) e =
+    let p = and_parts (are_low a) (are_low b) e in
+    All-append IsLowTerm (terms_of a) (terms_of b) (low_terms a p.0) (low_terms b p.1)
+low_terms (tree.Product a b) e =
+    let p = and_parts (are_low a) (are_low b) e in one IsLowTerm _ (low_product a b p.0 p.1)
 low_terms (tree.Quotient a b) e = All-nil IsLowTerm
 
 -- where inputs reach at most 2^25, weights are at most that
-low_weight : (fn : Function) (sum : Sum) → ((k : ℕ) → AtMost (reach_at fn k) (power 25)) → IsSum sum → (x : Term) → AtMost (weight_of fn sum x) (power 25)
+low_weight : (fn : Function) (sum : Sum) → ((k : ℕ) → AtMost (reach_at fn k) (power 25)) → IsSum sum → (x : Term) →
+    AtMost (weight_of fn sum x) (power 25)
 low_weight fn States reach s (Alone q) = whole_low 0 25 (omega arith)
 low_weight fn Sizes reach s (Alone q) = whole_low 0 25 (omega arith)
 low_weight fn Adds reach s (Alone q) = whole_low 1 25 (omega arith)
@@ -211,21 +281,28 @@ small_product s b t d some p q =
     turned b d p q e = let r : b * p * (d * p) ≡ b * d * (p * p) = omega arith in r ∙ ap (λ (n : ℕ). b * d * n) (sym e)
 
 -- so narrow parts are parts
-pub term_part : (fn : Function) (sum : Sum) (x : Term) → ((k : ℕ) → AtMost (reach_at fn k) (power 25)) → IsSum sum → IsUnsignedTerm x → IsLowTerm x → IsNarrowPart (part_of fn sum x) → IsPart (part_of fn sum x)
+pub term_part : (fn : Function) (sum : Sum) (x : Term) → ((k : ℕ) → AtMost (reach_at fn k) (power 25)) → IsSum sum →
+    IsUnsignedTerm x → IsLowTerm x → IsNarrowPart (part_of fn sum x) → IsPart (part_of fn sum x)
 term_part fn sum x reach s u low h = record {
   some = h.some;
   few = h.few;
   fits = h.fits;
-  small = small_product (unsigned_abs (size_of x).top) (bottom (size_of x)) (unsigned_abs (weight_of fn sum x).top) (bottom (weight_of fn sum x)) h.some (top_at_most (size_of x) 25 u low)
+  small =
+      small_product (unsigned_abs (size_of x).top) (bottom (size_of x)) (unsigned_abs (weight_of fn sum x).top)
+      (bottom (weight_of fn sum x)) h.some (top_at_most (size_of x) 25 u low)
       (top_at_most (weight_of fn sum x) 25 (weight_unsigned fn sum x) (low_weight fn sum reach s x));
 }
 
-pub terms_parts : (fn : Function) (sum : Sum) (xs : List Term) → ((k : ℕ) → AtMost (reach_at fn k) (power 25)) → IsSum sum → All IsUnsignedTerm xs → All IsLowTerm xs → All IsNarrowPart (map (part_of fn sum) xs) → All IsPart (map (part_of fn sum) xs)
+pub terms_parts : (fn : Function) (sum : Sum) (xs : List Term) → ((k : ℕ) → AtMost (reach_at fn k) (power 25)) →
+    IsSum sum → All IsUnsignedTerm xs → All IsLowTerm xs → All IsNarrowPart (map (part_of fn sum) xs) →
+    All IsPart (map (part_of fn sum) xs)
 terms_parts fn sum [] reach s u low h = All-nil IsPart
 terms_parts fn sum (x ∷ xs) reach s u low h =
     All-cons IsPart (part_of fn sum x) (map (part_of fn sum) xs)
-    (term_part fn sum x reach s (All-head IsUnsignedTerm x xs u) (All-head IsLowTerm x xs low) (All-head IsNarrowPart (part_of fn sum x) (map (part_of fn sum) xs) h))
-    (terms_parts fn sum xs reach s (All-tail IsUnsignedTerm x xs u) (All-tail IsLowTerm x xs low) (All-tail IsNarrowPart (part_of fn sum x) (map (part_of fn sum) xs) h))
+    (term_part fn sum x reach s (All-head IsUnsignedTerm x xs u) (All-head IsLowTerm x xs low)
+    (All-head IsNarrowPart (part_of fn sum x) (map (part_of fn sum) xs) h))
+    (terms_parts fn sum xs reach s (All-tail IsUnsignedTerm x xs u) (All-tail IsLowTerm x xs low)
+    (All-tail IsNarrowPart (part_of fn sum x) (map (part_of fn sum) xs) h))
 
 -- where the second tree was put too
 pub narrow_both : {A E : Type 0} (P Q R : Type 0) (r : Result A E) → (P → Q) → OnOk r (Q → R) → OnOk r (P → R)

@@ -36,7 +36,8 @@ one_more_over k d =
 
 -- a ceiling of a natural number
 ceil_natural : (t d : ℕ) → unsigned_abs (ceil_div (pos t) (suc d)) ≡ (t + d) / suc d
-ceil_natural zero d = ap (λ (n : ℕ). unsigned_abs (neg_ℤ (pos n))) (zero-div (suc d)) ∙ sym (div-eq_of_lt {n = zero + d} {m = suc d} (omega arith))
+ceil_natural zero d = ap (λ (n : ℕ). unsigned_abs (neg_ℤ (pos n))) (zero-div (suc d))
+    ∙ sym (div-eq_of_lt {n = zero + d} {m = suc d} (omega arith))
 ceil_natural (suc k) d = sym (one_more_over k d)
 
 pub units_code : (f t b : ℕ) → 0 < b → (t * 2 ^ f + (b - 1)) / b ≡ units_up f (over (pos t) b)

@@ -35,11 +35,18 @@ use Rattle.fx_calmness.specs.LimitOf.{no_tree, IsTame}
 use Rattle.fx_calmness.proofs.Counted.{parts_sum, terms_unsigned, total_is, low_terms, terms_parts}
 
 -- equal numbers are below the same powers
-same_below : (x y : Rational) (w n : ℕ) → Equal x y → n ≡ 2 ^ w → is_at_most x (whole (pos n)) ≡ is_below_power y (pos w)
+same_below : (x y : Rational) (w n : ℕ) → Equal x y → n ≡ 2 ^ w →
+    is_at_most x (whole (pos n)) ≡ is_below_power y (pos w)
 same_below x y w n e p =
     both_ways (is_at_most x (whole (pos n))) (is_below_power y (pos w))
-    (λ h. test_power y (pos w) (le_trans (le_of_equal (equal_sym e)) (le_trans (at_most_true x (whole (pos n)) h) (le_of_equal (subst (λ (k : ℕ). Equal (whole (pos k)) (power_value (pos w))) (sym p) (equal_sym (whole_value_is w)))))))
-    (λ h. at_most_holds (le_trans (le_of_equal e) (le_trans (below_power {x = y} (pos w) h) (le_of_equal (subst (λ (k : ℕ). Equal (power_value (pos w)) (whole (pos k))) (sym p) (whole_value_is w))))))
+    (λ h. test_power y (pos w)
+    (le_trans (le_of_equal (equal_sym e))
+    (le_trans (at_most_true x (whole (pos n)) h)
+    (le_of_equal (subst (λ (k : ℕ). Equal (whole (pos k)) (power_value (pos w))) (sym p)
+    (equal_sym (whole_value_is w)))))))
+    (λ h. at_most_holds (le_trans (le_of_equal e)
+    (le_trans (below_power {x = y} (pos w) h)
+    (le_of_equal (subst (λ (k : ℕ). Equal (power_value (pos w)) (whole (pos k))) (sym p) (whole_value_is w))))))
 
 -- ---- sums over the terms of results
 -- no input reaches above 2^25, nor does what stands for one that isn't there
@@ -50,16 +57,21 @@ reach_low fn inputs tame k = ⊎_elim within none (cases_lt k (length fn.inputs)
     within lt =
         let x = at no_input fn.inputs k in
         let both = below_power {x = plus (reach_of x) x.err} (pos 25) (tame.inputs k lt) in
-        le_trans (ordered (error_nonnegative fn.inputs k no_input inputs lt) (by_quotes {ρ = reach_of x ∷ x.err ∷ []} (search quotes depth 20) (search quotes depth 20) refl)) (le_trans both (le_of_equal (whole_value_is 25)))
+        le_trans (ordered (error_nonnegative fn.inputs k no_input inputs lt)
+        (by_quotes {ρ = reach_of x ∷ x.err ∷ []} (search quotes depth 20) (search quotes depth 20) refl))
+        (le_trans both (le_of_equal (whole_value_is 25)))
 
     nothing : (b : Bool) → AtMost (if b then whole (pos 0) else whole (pos 0)) (power 25)
     nothing true = whole_le {a = pos 0} {b = pos (2 ^ 25)} (omega (arith, ints))
     nothing false = whole_le {a = pos 0} {b = pos (2 ^ 25)} (omega (arith, ints))
 
     none : length fn.inputs ≤ k → AtMost (reach_at fn k) (power 25)
-    none le = subst (λ (x : function.Input). AtMost (reach_of x) (power 25)) (sym (get_or_past fn.inputs k no_input le)) (nothing (is_at_most (whole (pos 0)) (whole (pos 0))))
+    none le =
+        subst (λ (x : function.Input). AtMost (reach_of x) (power 25)) (sym (get_or_past fn.inputs k no_input le))
+        (nothing (is_at_most (whole (pos 0)) (whole (pos 0))))
 
-module _ (fn : Function) (sum : Sum) (k : ℕ) (inputs : AreInputs fn.inputs) (tame : IsTame fn) (is_sum : IsSum sum) (lt : k < length fn.results) where
+module _ (fn : Function) (sum : Sum) (k : ℕ) (inputs : AreInputs fn.inputs) (tame : IsTame fn) (is_sum : IsSum sum)
+    (lt : k < length fn.results) where
   abbrev t : Tree
   t = at no_tree fn.results k
 
@@ -70,50 +82,77 @@ module _ (fn : Function) (sum : Sum) (k : ℕ) (inputs : AreInputs fn.inputs) (t
   few = le_of_test _ _ (and_parts (is_linear t) (nat_le (length (terms_of t)) 64) short).1
 
   -- the parts that were put are parts of a sum, and few
-  pub put_parts : (xs ys : List Part) → xs ≡ [] → ys ≡ xs ++ map (part_of fn sum) (terms_of t) → (All IsNarrowPart xs → All IsNarrowPart ys) → All IsPart ys
+  pub put_parts : (xs ys : List Part) → xs ≡ [] → ys ≡ xs ++ map (part_of fn sum) (terms_of t) →
+      (All IsNarrowPart xs → All IsNarrowPart ys) → All IsPart ys
   put_parts xs ys none put narrow =
-      let here : ys ≡ map (part_of fn sum) (terms_of t) = put ∙ ap (λ (zs : List Part). zs ++ map (part_of fn sum) (terms_of t)) none in
+      let here : ys ≡ map (part_of fn sum) (terms_of t) = put
+      ∙ ap (λ (zs : List Part). zs ++ map (part_of fn sum) (terms_of t)) none in
       let own = subst (All IsNarrowPart) here (narrow (subst (All IsNarrowPart) (sym none) (All-nil IsNarrowPart))) in
-      subst (All IsPart) (sym here) (terms_parts fn sum (terms_of t) (reach_low fn inputs tame) is_sum (terms_unsigned t) (low_terms t (tame.literals k lt)) own)
+      subst (All IsPart) (sym here)
+      (terms_parts fn sum (terms_of t) (reach_low fn inputs tame) is_sum (terms_unsigned t)
+      (low_terms t (tame.literals k lt)) own)
 
   pub put_few : (xs ys : List Part) → xs ≡ [] → ys ≡ xs ++ map (part_of fn sum) (terms_of t) → length ys ≤ 64
   put_few xs ys none put =
-      let here : ys ≡ map (part_of fn sum) (terms_of t) = put ∙ ap (λ (zs : List Part). zs ++ map (part_of fn sum) (terms_of t)) none in
-      let l = length-map (terms_of t) (part_of fn sum) in let e = ap length here in let f = few in omega (arith, l, e, f)
+      let here : ys ≡ map (part_of fn sum) (terms_of t) = put
+      ∙ ap (λ (zs : List Part). zs ++ map (part_of fn sum) (terms_of t)) none in
+      let l = length-map (terms_of t) (part_of fn sum) in
+      let e = ap length here in
+      let f = few in
+      omega (arith, l, e, f)
 
-  pub sum_test : (xs ys : List Part) (r : Bool) (w n : ℕ) → xs ≡ [] → ys ≡ xs ++ map (part_of fn sum) (terms_of t) → n ≡ 2 ^ w → r ≡ is_at_most (sum_of ys) (whole (pos n)) → r ≡ is_below_power (sum_value fn sum t) (pos w)
+  pub sum_test : (xs ys : List Part) (r : Bool) (w n : ℕ) → xs ≡ [] → ys ≡ xs ++ map (part_of fn sum) (terms_of t) →
+      n ≡ 2 ^ w → r ≡ is_at_most (sum_of ys) (whole (pos n)) → r ≡ is_below_power (sum_value fn sum t) (pos w)
   sum_test xs ys r w n none put p e =
-      let here : ys ≡ map (part_of fn sum) (terms_of t) = put ∙ ap (λ (zs : List Part). zs ++ map (part_of fn sum) (terms_of t)) none in
+      let here : ys ≡ map (part_of fn sum) (terms_of t) = put
+      ∙ ap (λ (zs : List Part). zs ++ map (part_of fn sum) (terms_of t)) none in
       e ∙ ap (λ (zs : List Part). is_at_most (sum_of zs) (whole (pos n))) here
-      ∙ same_below (sum_of (map (part_of fn sum) (terms_of t))) (sum_value fn sum t) w n (equal_trans (parts_sum fn sum (terms_of t) (terms_unsigned t)) (total_is fn sum t)) p
+      ∙ same_below (sum_of (map (part_of fn sum) (terms_of t))) (sum_value fn sum t) w n
+      (equal_trans (parts_sum fn sum (terms_of t) (terms_unsigned t)) (total_is fn sum t)) p
 
 -- ---- inputs
-pub size_part : (t b s d : ℕ) → 0 < b → b < 2 ^ 62 → t < 2 ^ 62 → s ≡ t → d ≡ b → IsPart (record { top = s; bottom = d })
-size_part t b s d some few short e g = record { some = omega (arith, some, g); few = omega (arith, few, g); fits = omega (arith, short, e); small = omega (arith, some, short, e, g) }
+pub size_part : (t b s d : ℕ) → 0 < b → b < 2 ^ 62 → t < 2 ^ 62 → s ≡ t → d ≡ b →
+    IsPart (record { top = s; bottom = d })
+size_part t b s d some few short e g = record {
+  some = omega (arith, some, g);
+  few = omega (arith, few, g);
+  fits = omega (arith, short, e);
+  small = omega (arith, some, short, e, g);
+}
 
 two_parts : (xs ys : List Part) (x y : Part) → xs ≡ [] → ys ≡ (xs ++ x ∷ []) ++ y ∷ [] → ys ≡ x ∷ y ∷ []
 two_parts xs ys x y none put = put ∙ ap (λ (zs : List Part). (zs ++ x ∷ []) ++ y ∷ []) none
 
-pub input_parts : (xs ys : List Part) (x y : Part) → xs ≡ [] → ys ≡ (xs ++ x ∷ []) ++ y ∷ [] → IsPart x → IsPart y → All IsPart ys
-input_parts xs ys x y none put p q = subst (All IsPart) (sym (two_parts xs ys x y none put)) (All-cons IsPart x (y ∷ []) p (All-cons IsPart y [] q (All-nil IsPart)))
+pub input_parts : (xs ys : List Part) (x y : Part) → xs ≡ [] → ys ≡ (xs ++ x ∷ []) ++ y ∷ [] → IsPart x → IsPart y →
+    All IsPart ys
+input_parts xs ys x y none put p q =
+    subst (All IsPart) (sym (two_parts xs ys x y none put))
+    (All-cons IsPart x (y ∷ []) p (All-cons IsPart y [] q (All-nil IsPart)))
 
 pub input_few : (xs ys : List Part) (x y : Part) → xs ≡ [] → ys ≡ (xs ++ x ∷ []) ++ y ∷ [] → length ys ≤ 64
 input_few xs ys x y none put = let e = ap length (two_parts xs ys x y none put) in omega (arith, e)
 
-pub input_test : (xs ys : List Part) (x y : Part) (reach err : Rational) (r : Bool) (w n : ℕ) → xs ≡ [] → ys ≡ (xs ++ x ∷ []) ++ y ∷ [] → part_value x ≡ reach → part_value y ≡ magnitude err → AtMost (whole (pos 0)) err → n ≡ 2 ^ w →
+pub input_test : (xs ys : List Part) (x y : Part) (reach err : Rational) (r : Bool) (w n : ℕ) → xs ≡ [] →
+    ys ≡ (xs ++ x ∷ []) ++ y ∷ [] → part_value x ≡ reach → part_value y ≡ magnitude err → AtMost (whole (pos 0)) err →
+    n ≡ 2 ^ w →
     r ≡ is_at_most (sum_of ys) (whole (pos n)) → r ≡ is_below_power (plus reach err) (pos w)
 input_test xs ys x y reach err r w n none put a b nonneg p e =
     e ∙ ap (λ (zs : List Part). is_at_most (sum_of zs) (whole (pos n))) (two_parts xs ys x y none put)
     ∙ same_below (plus (part_value x) (plus (part_value y) (whole (pos 0)))) (plus reach err) w n
-    (equal_trans (subst (λ (z : Rational). Equal (plus (part_value x) (plus (part_value y) (whole (pos 0)))) (plus z (plus (part_value y) (whole (pos 0))))) a (equal_refl _))
-    (equal_trans (subst (λ (z : Rational). Equal (plus reach (plus (part_value y) (whole (pos 0)))) (plus reach (plus z (whole (pos 0))))) (b ∙ size_of_nonneg err nonneg) (equal_refl _))
-    (by_quotes {ρ = reach ∷ err ∷ []} {a = plus reach (plus err (whole (pos 0)))} {b = plus reach err} (search quotes depth 20) (search quotes depth 20) refl))) p
+    (equal_trans (subst (λ (z : Rational). Equal (plus (part_value x) (plus (part_value y) (whole (pos 0))))
+    (plus z (plus (part_value y) (whole (pos 0))))) a (equal_refl _))
+    (equal_trans (subst (λ (z : Rational). Equal (plus reach (plus (part_value y) (whole (pos 0))))
+    (plus reach (plus z (whole (pos 0))))) (b ∙ size_of_nonneg err nonneg) (equal_refl _))
+    (by_quotes {ρ = reach ∷ err ∷ []} {a = plus reach (plus err (whole (pos 0)))} {b = plus reach err}
+    (search quotes depth 20) (search quotes depth 20) refl))) p
 
 -- ---- errors
 -- twice x is at most 2^(1 + w) units just where x in units is at most 2^w
-pub error_test : (x : Rational) (f w u n : ℕ) → AtMost (whole (pos 0)) x → u ≡ units_up f (magnitude x) → n ≡ 2 ^ w → leb u n ≡ is_below_power (plus x x) (pos (1 + w) -ℤ pos f)
+pub error_test : (x : Rational) (f w u n : ℕ) → AtMost (whole (pos 0)) x → u ≡ units_up f (magnitude x) → n ≡ 2 ^ w →
+    leb u n ≡ is_below_power (plus x x) (pos (1 + w) -ℤ pos f)
 error_test x f w u n nonneg e p =
-    both_ways (leb u n) (is_below_power (plus x x) v) (λ h. test_power (plus x x) v (to h)) (λ h. from (below_power {x = plus x x} v h))
+    both_ways (leb u n) (is_below_power (plus x x) v) (λ h. test_power (plus x x) v (to h))
+    (λ h. from (below_power {x = plus x x} v h))
   where
     v : ℤ
     v = pos (1 + w) -ℤ pos f
@@ -123,7 +162,10 @@ error_test x f w u n nonneg e p =
     in_units = power_units v (1 + w) f refl
 
     twice : Equal (power (1 + w)) (plus (power w) (power w))
-    twice = equal_trans (power_sum 1 w) (by_quotes {ρ = power w ∷ []} {a = times (whole (pos 2)) (power w)} {b = plus (power w) (power w)} (search quotes depth 20) (search quotes depth 20) refl)
+    twice =
+        equal_trans (power_sum 1 w)
+        (by_quotes {ρ = power w ∷ []} {a = times (whole (pos 2)) (power w)} {b = plus (power w) (power w)}
+        (search quotes depth 20) (search quotes depth 20) refl)
 
     size : u ≡ units_up f x
     size = e ∙ ap (units_up f) (size_of_nonneg x nonneg)
@@ -137,14 +179,26 @@ error_test x f w u n nonneg e p =
     to : leb u n ≡ true → AtMost (plus x x) (power_value v)
     to h =
         let l = le_leb u n h in
-        let below : AtMost (times x (power f)) (power w) = le_trans (units_above f x nonneg) (naturals_le (omega (arith, l, size, p))) in
-        le_of_times (power_above f) (le_trans (le_of_equal (by_quotes {ρ = x ∷ power f ∷ []} {a = times (plus x x) (power f)} {b = plus (times x (power f)) (times x (power f))} (search quotes depth 20) (search quotes depth 20) refl))
+        let below : AtMost (times x (power f)) (power w) =
+        le_trans (units_above f x nonneg) (naturals_le (omega (arith, l, size, p))) in
+        le_of_times (power_above f)
+        (le_trans (le_of_equal (by_quotes {ρ = x ∷ power f
+        ∷ []} {a = times (plus x x) (power f)} {b =
+        plus (times x (power f)) (times x (power f))} (search quotes depth 20) (search quotes depth 20) refl))
         (le_trans (plus_le below below) (le_trans (le_of_equal (equal_sym twice)) (le_of_equal (equal_sym in_units)))))
 
     from : AtMost (plus x x) (power_value v) → leb u n ≡ true
     from h =
-        let more : AtMost (times (plus x x) (power f)) (times (power_value v) (power f)) = times_le h (above_nonneg (power_above f)) in
+        let more : AtMost (times (plus x x) (power f)) (times (power_value v) (power f)) =
+        times_le h (above_nonneg (power_above f)) in
         let below : AtMost (times x (power f)) (power w) =
-        le_of_times (whole_above 2 (omega arith)) (le_trans (le_of_equal (by_quotes {ρ = x ∷ power f ∷ []} {a = times (times x (power f)) (whole (pos 2))} {b = times (plus x x) (power f)} (search quotes depth 20) (search quotes depth 20) refl))
-        (le_trans more (le_trans (le_of_equal in_units) (le_trans (le_of_equal twice) (le_of_equal (by_quotes {ρ = power w ∷ []} {a = plus (power w) (power w)} {b = times (power w) (whole (pos 2))} (search quotes depth 20) (search quotes depth 20) refl)))))) in
+        le_of_times (whole_above 2 (omega arith))
+        (le_trans (le_of_equal (by_quotes {ρ = x ∷ power f
+        ∷ []} {a = times (times x (power f)) (whole (pos 2))} {b =
+        times (plus x x) (power f)} (search quotes depth 20) (search quotes depth 20) refl))
+        (le_trans more (le_trans (le_of_equal in_units)
+        (le_trans (le_of_equal twice)
+        (le_of_equal (by_quotes {ρ = power w
+        ∷ []} {a = plus (power w) (power w)} {b =
+        times (power w) (whole (pos 2))} (search quotes depth 20) (search quotes depth 20) refl)))))) in
         let l = units_least f x nonneg (2 ^ w) below in leb_le u n (omega (arith, l, size, p))

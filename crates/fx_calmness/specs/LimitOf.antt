@@ -46,8 +46,10 @@ abbrev pub is_within : Function → Limit → ℕ → ℕ → Bool
 is_within fn Starts i w = is_below_power (magnitude (start_of fn i)) (pos w)
 is_within fn Inputs i w = let x = at no_input fn.inputs i in is_below_power (plus (reach_of x) x.err) (pos w)
 is_within fn Literals i w = are_literals_below (power_value (pos w)) (at no_tree fn.results i)
-is_within fn (Sums sum) i w = is_below_power (sum_value fn sum (at no_tree fn.results (first_result fn sum + i))) (pos w)
-is_within fn (Errors f) i w = let x = at no_input fn.inputs i in is_below_power (plus x.err x.err) (pos (1 + w) -ℤ pos f)
+is_within fn (Sums sum) i w =
+    is_below_power (sum_value fn sum (at no_tree fn.results (first_result fn sum + i))) (pos w)
+is_within fn (Errors f) i w =
+    let x = at no_input fn.inputs i in is_below_power (plus x.err x.err) (pos (1 + w) -ℤ pos f)
 
 -- so are the first n
 abbrev pub AreWithin : Function → Limit → ℕ → ℕ → Type 0

@@ -17,7 +17,8 @@ abbrev pub sum_value : Function → Sum → Tree → Rational
 sum_value fn States t = plus (state_sizes t) (state_sizes t)
 sum_value fn Sizes t = plus (input_sizes t) (state_sizes t)
 sum_value fn Adds t = plus (input_reaches fn t) (literal_sizes t)
-sum_value fn (Values s) t = plus (times (state_sizes t) (power_value (pos s))) (plus (input_reaches fn t) (literal_sizes t))
+sum_value fn (Values s) t =
+    plus (times (state_sizes t) (power_value (pos s))) (plus (input_reaches fn t) (literal_sizes t))
 
 -- ---- term by term
 -- how often the size of a term counts: of one of a state, that stands alone, or of an input
@@ -52,7 +53,10 @@ size_of (OfState k x) = x
 
 -- as a part of the sum
 abbrev pub part_of : Function → Sum → Term → Part
-part_of fn sum x = let s = size_of x in let w = weight_of fn sum x in record { top = unsigned_abs s.top * unsigned_abs w.top; bottom = bottom s * bottom w }
+part_of fn sum x =
+    let s = size_of x in
+    let w = weight_of fn sum x in
+    record { top = unsigned_abs s.top * unsigned_abs w.top; bottom = bottom s * bottom w }
 
 -- states are at most 2^25
 abbrev pub IsSum : Sum → Type 0

@@ -133,7 +133,8 @@ fn part(x: Size) -> Part
 fn is_input_below(parts: &mut Vec<Part>, input: &Input, w: u32) -> Result<bool, Memory>
     requires error { AtMost (whole (pos 0)) (decimal_value input.now.err) }
     requires few { w ≤ 60 }
-    ensures { IfOk result (λ r. r ≡ is_below_power (plus (reach_of (input_of input.now)) (input_of input.now).err) (pos w)) }
+    ensures { IfOk result (λ r. r ≡ is_below_power (plus (reach_of (input_of input.now)) (input_of input.now).err)
+        (pos w)) }
 {
     parts.clear();
     parts.push(part(reach(input)))?;
@@ -146,7 +147,8 @@ fn is_error_below(input: &Input, f: u32, w: u32) -> bool
     requires error { AtMost (whole (pos 0)) (decimal_value input.now.err) }
     requires point { f ≤ 58 }
     requires few { w ≤ 60 }
-    ensures { result ≡ is_below_power (plus (decimal_value input.now.err) (decimal_value input.now.err)) (pos (1 + w) -ℤ pos f) }
+    ensures { result ≡ is_below_power (plus (decimal_value input.now.err) (decimal_value input.now.err))
+        (pos (1 + w) -ℤ pos f) }
 {
     units(size_of_decimal(input.err), f) <= two_to(w)
 }
@@ -163,7 +165,8 @@ fn is_sum_below(
     requires sum { IsSum sum }
     requires within { k < length function.now.results }
     requires few { w ≤ 60 }
-    ensures { IfOk result (λ r. r ≡ is_below_power (sum_value function.now sum (at no_tree function.now.results k)) (pos w)) }
+    ensures { IfOk result (λ r. r ≡ is_below_power (sum_value function.now sum (at no_tree function.now.results k))
+        (pos w)) }
 {
     function.keeps();
     parts.clear();

@@ -1,8 +1,8 @@
 //! The numbers of a calm function.
 //!
 //! Each is the least exponent at which a list of things is within a limit. What is tested before sums are formed keeps
-//! their parts short: results have at most 64 terms, and inputs and literals are at most `2^25`. Of a function that isn't
-//! so no number would leave room.
+//! their parts short: results have at most 64 terms, and inputs and literals are at most `2^25`. Of a function that
+//! isn't so no number would leave room.
 
 ghost use Rattle.std.specs.Prelude.{int_le, ◌≡◌, ◌+◌, ◌-◌, ◌<◌, ◌≤◌, ◌&&◌, ◌+ℤ◌, ◌-ℤ◌, ◌≤ℤ◌, max, pos, negsuc, true, length, Contains, IfOk, option_map};
 ghost use Rattle.std.specs.List.{list_all};
@@ -103,7 +103,15 @@ fn numbers_at(q: u32, a: u32, m: u32, f: u32, p: u32, d: u32) -> Numbers
     requires roundings { p ≤ 60 }
     requires point { f ≤ 60 }
     requires errors { d ≤ 60 }
-    ensures { numbers_view result ≡ record { q = q; a = a; m = m; f = f; p = p; v = pos (1 + d) -ℤ pos f; z = pos (a + p + 5) +ℤ (pos (1 + d) -ℤ pos f) } }
+    ensures { numbers_view result ≡ record {
+      q = q;
+      a = a;
+      m = m;
+      f = f;
+      p = p;
+      v = pos (1 + d) -ℤ pos f;
+      z = pos (a + p + 5) +ℤ (pos (1 + d) -ℤ pos f);
+    } }
 {
     let v = 1 + d as i32 - f as i32;
     Numbers {

@@ -15,8 +15,8 @@ pub enum Sum {
     States,
     /// The sizes of input and state terms.
     Sizes,
-    /// What a step adds to a state: the sizes of input terms, each times what its input reaches, and literals that stand
-    /// alone.
+    /// What a step adds to a state: the sizes of input terms, each times what its input reaches, and literals that
+    /// stand alone.
     Adds,
     /// What an output comes to where states are at most `2^s`.
     Values { s: u32 },

@@ -189,7 +189,8 @@ pub fn put_terms(
     e: &Expr,
 ) -> Result<(), Memory>
     requires { IsSum sum }
-    ensures put { OnOk result (parts.new.items ≡ parts.old.items ++ map (part_of function.now sum) (terms_of (tree e.now))) }
+    ensures put { OnOk result
+        (parts.new.items ≡ parts.old.items ++ map (part_of function.now sum) (terms_of (tree e.now))) }
     ensures narrow { OnOk result (All IsNarrowPart parts.old.items → All IsNarrowPart parts.new.items) }
 {
     match e {

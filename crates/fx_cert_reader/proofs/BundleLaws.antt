@@ -44,17 +44,21 @@ cut_is n (Some y) x e = cc
 word_line : (word rest : List ℕ) → line_text (word ∷ []) ++ rest ≡ word ++ 10 ∷ rest
 word_line word rest = append_assoc word (10 ∷ []) rest
 
-section_takes : (word : List ℕ) (n : ℕ) (text rest : List ℕ) → section_at word n text ≡ Ok rest → text ≡ line_text (word ∷ []) ++ rest
+section_takes : (word : List ℕ) (n : ℕ) (text rest : List ℕ) → section_at word n text ≡ Ok rest →
+    text ≡ line_text (word ∷ []) ++ rest
 unfolding section_at
 section_takes word n text rest e =
     on_ok _ _ rest e (λ line hl e.
     let t = passed (bytes_eq line.0 word) (fault_at n Section) line.1 rest e in
     let cut = cut_at-takes 10 text line.0 line.1 (cut_is n (line_at text) line hl) in
-    cut.0 ∙ ap (λ w. w ++ 10 ∷ line.1) ((bytes_eq-Decides line.0 word).0 t.0) ∙ ap (λ r. word ++ 10 ∷ r) t.1 ∙ sym (word_line word rest))
+    cut.0 ∙ ap (λ w. w ++ 10 ∷ line.1) ((bytes_eq-Decides line.0 word).0 t.0) ∙ ap (λ r. word ++ 10 ∷ r) t.1
+    ∙ sym (word_line word rest))
 
-section_again : (word : List ℕ) (n : ℕ) (rest : List ℕ) → Lacks 10 word → section_at word n (line_text (word ∷ []) ++ rest) ≡ Ok rest
+section_again : (word : List ℕ) (n : ℕ) (rest : List ℕ) → Lacks 10 word →
+    section_at word n (line_text (word ∷ []) ++ rest) ≡ Ok rest
 unfolding section_at
-section_again word n rest lacks = rw (word_line word rest, cut_at-again 10 word rest lacks, (bytes_eq-Decides word word).1 refl) refl
+section_again word n rest lacks =
+    rw (word_line word rest, cut_at-again 10 word rest lacks, (bytes_eq-Decides word word).1 refl) refl
 
 -- ---- the first line
 abbrev headline : ℕ → Line
@@ -63,9 +67,13 @@ headline v = codes "fixd" ∷ codes "bundle" ∷ decimal v ∷ []
 version_is : (line : List ℕ) (v : ℕ) → version_of line ≡ Ok v → line ++ 10 ∷ [] ≡ line_text (headline v)
 unfolding version_of digits
 version_is line v e = elim (chosen (bytes_eq line (codes "fixd bundle 1")) _ _ (Ok v) e) [
-  | inl h ↦ let is : 1 ≡ v = cc in subst (λ (k : ℕ). line ++ 10 ∷ [] ≡ line_text (headline k)) is (ap (λ w. w ++ 10 ∷ []) ((bytes_eq-Decides line (codes "fixd bundle 1")).0 h.0))
+  | inl h ↦ let is : 1 ≡ v = cc in
+      subst (λ (k : ℕ). line ++ 10 ∷ [] ≡ line_text (headline k)) is
+      (ap (λ w. w ++ 10 ∷ []) ((bytes_eq-Decides line (codes "fixd bundle 1")).0 h.0))
   | inr g ↦ elim (chosen (bytes_eq line (codes "fixd bundle 2")) _ _ (Ok v) g.1) [
-    | inl h ↦ let is : 2 ≡ v = cc in subst (λ (k : ℕ). line ++ 10 ∷ [] ≡ line_text (headline k)) is (ap (λ w. w ++ 10 ∷ []) ((bytes_eq-Decides line (codes "fixd bundle 2")).0 h.0))
+    | inl h ↦ let is : 2 ≡ v = cc in
+        subst (λ (k : ℕ). line ++ 10 ∷ [] ≡ line_text (headline k)) is
+        (ap (λ w. w ++ 10 ∷ []) ((bytes_eq-Decides line (codes "fixd bundle 2")).0 h.0))
     | inr h ↦ absurd cc
   ]
 ]
@@ -81,7 +89,8 @@ headline_takes text x e =
     (cut.0 ∙ sym (append_assoc line.0 (10 ∷ []) line.1) ∙ ap (λ w. w ++ line.1) (version_is line.0 v hv))))
 
 -- a line that names a version
-named_again : (word rest : List ℕ) (v : ℕ) → Lacks 10 word → version_of word ≡ Ok v → headline_at (line_text (word ∷ []) ++ rest) ≡ Ok (v, rest)
+named_again : (word rest : List ℕ) (v : ℕ) → Lacks 10 word → version_of word ≡ Ok v →
+    headline_at (line_text (word ∷ []) ++ rest) ≡ Ok (v, rest)
 unfolding headline_at
 named_again word rest v lacks e = rw (word_line word rest, cut_at-again 10 word rest lacks, e) refl
 
@@ -101,8 +110,12 @@ second_again : (rest : List ℕ) → headline_at (line_text (headline 2) ++ rest
 unfolding digits
 second_again rest = named_again (codes "fixd bundle 2") rest 2 (search rules) second_is
 
-headline_again : (v : ℕ) (rest : List ℕ) → Contains versions v → headline_at (line_text (headline v) ++ rest) ≡ Ok (v, rest)
-headline_again v rest h = All-contains (λ (k : ℕ). headline_at (line_text (headline k) ++ rest) ≡ Ok (k, rest)) versions v (All-from_recursion (λ (k : ℕ). headline_at (line_text (headline k) ++ rest) ≡ Ok (k, rest)) versions (first_again rest, (second_again rest, tt))) h
+headline_again : (v : ℕ) (rest : List ℕ) → Contains versions v →
+    headline_at (line_text (headline v) ++ rest) ≡ Ok (v, rest)
+headline_again v rest h =
+    All-contains (λ (k : ℕ). headline_at (line_text (headline k) ++ rest) ≡ Ok (k, rest)) versions v
+    (All-from_recursion (λ (k : ℕ). headline_at (line_text (headline k) ++ rest) ≡ Ok (k, rest)) versions
+    (first_again rest, (second_again rest, tt))) h
 
 same_number : (a b : ℕ) → (a == b) ≡ true → a ≡ b
 same_number a b e = grind (arith, tests)
@@ -126,14 +139,24 @@ count_takes_line line n e =
     on_ok _ _ n e (λ d hd e.
     let pk = count_takes 0 source_limit rest k (omega arith) hk in
     let made : k.0 ≡ n = cc in
-    subst (λ (n : ℕ). (line ≡ source_fields n) × (n ≤ source_limit)) made (front (word_takes (codes "source") line rest (in_section-is (_) rest hr)) (front pk.0 (ended_is k.1 d hd)), pk.2))))
+    subst (λ (n : ℕ). (line ≡ source_fields n) ×
+    (n ≤ source_limit)) made (
+      front (word_takes (codes "source") line rest (in_section-is (_) rest hr))
+          (front pk.0 (ended_is k.1 d hd)),
+      pk.2,
+    ))))
 
 count_again_line : (n : ℕ) → n ≤ source_limit → source_count_at (source_fields n) ≡ Ok n
 unfolding source_count_at
-count_again_line n h = rw (word_again (codes "source") (decimal n ∷ []), count_again 0 source_limit n [] (omega arith) (omega arith) h) refl
+count_again_line n h =
+    rw (
+      word_again (codes "source") (decimal n ∷ []),
+      count_again 0 source_limit n [] (omega arith) (omega arith) h,
+    ) refl
 
 -- the line of a count is one line of fields
-source_line_takes : (n : ℕ) (text : List ℕ) (x : ℕ × List ℕ) → source_line n text ≡ Ok x → (text ≡ line_text (source_fields x.0) ++ x.1) × (x.0 ≤ source_limit)
+source_line_takes : (n : ℕ) (text : List ℕ) (x : ℕ × List ℕ) → source_line n text ≡ Ok x →
+    (text ≡ line_text (source_fields x.0) ++ x.1) × (x.0 ≤ source_limit)
 unfolding source_line fields_at
 source_line_takes n text x e =
     on_ok _ _ x e (λ line hl e.
@@ -151,11 +174,14 @@ word_source = record { spaces = search rules; line_feeds = search rules }
 clean_source : (n : ℕ) → n ≤ source_limit → AreFields (source_fields n)
 clean_source n h = (word_source, (IsField-decimal n (omega arith), tt))
 
-source_line_again : (n count : ℕ) (rest : List ℕ) → count ≤ source_limit → source_line n (line_text (source_fields count) ++ rest) ≡ Ok (count, rest)
+source_line_again : (n count : ℕ) (rest : List ℕ) → count ≤ source_limit →
+    source_line n (line_text (source_fields count) ++ rest) ≡ Ok (count, rest)
 unfolding source_line
 source_line_again n count rest h =
     let joined = join_with_byte 32 (source_fields count) in let clean = clean_source count h in
-    let cut : line_at (line_text (source_fields count) ++ rest) ≡ Some (joined, rest) = ap line_at (append_assoc joined (10 ∷ []) rest) ∙ cut_at-again 10 joined rest (join-lacks (source_fields count) clean) in
+    let cut : line_at (line_text (source_fields count) ++ rest) ≡ Some (joined, rest) =
+    ap line_at (append_assoc joined (10 ∷ []) rest)
+    ∙ cut_at-again 10 joined rest (join-lacks (source_fields count) clean) in
     rw (cut, fields_of-join (codes "source") (decimal count ∷ []) clean, count_again_line count h) refl
 
 -- the source and its line feed
@@ -163,10 +189,13 @@ abbrev source_text : List ℕ → List ℕ
 source_text source = line_text (source_fields (length source)) ++ (source ++ codes "\n")
 
 -- a text at a byte, before and behind it
-cut_out : (count : ℕ) (text : List ℕ) → slice_index text count ≡ 10 → (text ≡ take count text ++ 10 ∷ drop (count + 1) text) × (length (take count text) ≡ count)
+cut_out : (count : ℕ) (text : List ℕ) → slice_index text count ≡ 10 →
+    (text ≡ take count text ++ 10 ∷ drop (count + 1) text) × (length (take count text) ≡ count)
 cut_out count text e =
     let lt : count < length text = inside count text e in (
-      sym (take-append-drop (count + 1) text) ∙ ap (λ t. t ++ drop (count + 1) text) (take_more text count 0 lt) ∙ append_assoc (take count text) (slice_index text count ∷ []) (drop (count + 1) text) ∙ ap (λ b. take count text ++ b ∷ drop (count + 1) text) e,
+      sym (take-append-drop (count + 1) text) ∙ ap (λ t. t ++ drop (count + 1) text) (take_more text count 0 lt)
+          ∙ append_assoc (take count text) (slice_index text count ∷ []) (drop (count + 1) text)
+          ∙ ap (λ b. take count text ++ b ∷ drop (count + 1) text) e,
       length-take-le count text (omega arith),
     )
   where
@@ -175,15 +204,18 @@ cut_out count text e =
     inside zero (b ∷ text) e = omega arith
     inside (suc count) (b ∷ text) e = let h = inside count text e in omega (arith, h)
 
-source_takes : (n count : ℕ) (text : List ℕ) (x : List ℕ × List ℕ) → source_at n count text ≡ Ok x → (text ≡ (x.0 ++ codes "\n") ++ x.1) × (length x.0 ≡ count)
+source_takes : (n count : ℕ) (text : List ℕ) (x : List ℕ × List ℕ) → source_at n count text ≡ Ok x →
+    (text ≡ (x.0 ++ codes "\n") ++ x.1) × (length x.0 ≡ count)
 unfolding source_at
 source_takes n count text x e =
-    let t = passed (eqb (slice_index text count) 10) (fault_at n Section) (take count text, drop (count + 1) text) x e in
+    let t =
+    passed (eqb (slice_index text count) 10) (fault_at n Section) (take count text, drop (count + 1) text) x e in
     let cut = cut_out count text (eqb-true (slice_index text count) 10 t.0) in
     subst (λ (y : List ℕ × List ℕ). (text ≡ (y.0 ++ codes "\n") ++ y.1) × (length y.0 ≡ count)) t.1
     (cut.0 ∙ sym (append_assoc (take count text) (10 ∷ []) (drop (count + 1) text)), cut.1)
 
-source_again : (n : ℕ) (source rest : List ℕ) → source_at n (length source) ((source ++ codes "\n") ++ rest) ≡ Ok (source, rest)
+source_again : (n : ℕ) (source rest : List ℕ) →
+    source_at n (length source) ((source ++ codes "\n") ++ rest) ≡ Ok (source, rest)
 unfolding source_at
 source_again n source rest =
     rw (append_assoc source (codes "\n") rest, index source, take-append_seam source (10 ∷ rest), behind source) refl
@@ -194,30 +226,43 @@ source_again n source rest =
 
     behind : (source : List ℕ) → drop (length source + 1) (source ++ 10 ∷ rest) ≡ rest
     behind [] = refl
-    behind (b ∷ source) = let e : length (b ∷ source) + 1 ≡ suc (length source + 1) = omega arith in rw e (behind source)
+    behind (b ∷ source) =
+        let e : length (b ∷ source) + 1 ≡ suc (length source + 1) = omega arith in rw e (behind source)
 
-counted_takes : (n : ℕ) (text : List ℕ) (x : List ℕ × List ℕ) → counted_source_at n text ≡ Ok x → (text ≡ source_text x.0 ++ x.1) × (length x.0 ≤ source_limit)
+counted_takes : (n : ℕ) (text : List ℕ) (x : List ℕ × List ℕ) → counted_source_at n text ≡ Ok x →
+    (text ≡ source_text x.0 ++ x.1) × (length x.0 ≤ source_limit)
 unfolding counted_source_at
 counted_takes n text x e =
     on_ok _ _ x e (λ count hc e.
     let tc = source_line_takes n text count hc in let ts = source_takes n count.0 count.1 x e in (
-      tc.0 ∙ ap (λ k. line_text (source_fields k) ++ count.1) (sym ts.1) ∙ ap (λ t. line_text (source_fields (length x.0)) ++ t) ts.0 ∙ sym (append_assoc (line_text (source_fields (length x.0))) (x.0 ++ codes "\n") x.1),
+      tc.0 ∙ ap (λ k. line_text (source_fields k) ++ count.1) (sym ts.1)
+          ∙ ap (λ t. line_text (source_fields (length x.0)) ++ t) ts.0
+          ∙ sym (append_assoc (line_text (source_fields (length x.0))) (x.0 ++ codes "\n") x.1),
       omega (arith, tc.1, ts.1),
     ))
 
-counted_again : (n : ℕ) (source rest : List ℕ) → length source ≤ source_limit → counted_source_at n (source_text source ++ rest) ≡ Ok (source, rest)
+counted_again : (n : ℕ) (source rest : List ℕ) → length source ≤ source_limit →
+    counted_source_at n (source_text source ++ rest) ≡ Ok (source, rest)
 unfolding counted_source_at
 counted_again n source rest h =
-    rw (append_assoc (line_text (source_fields (length source))) (source ++ codes "\n") rest, source_line_again n (length source) ((source ++ codes "\n") ++ rest) h, source_again n source rest) refl
+    rw (
+      append_assoc (line_text (source_fields (length source))) (source ++ codes "\n") rest,
+      source_line_again n (length source) ((source ++ codes "\n") ++ rest) h,
+      source_again n source rest,
+    ) refl
 
 -- ---- the sections behind it
 abbrev body_text : Program → Certificate → List ℕ
-body_text p c = line_text (codes "program" ∷ []) ++ (program_text p ++ (line_text (codes "certificate" ∷ []) ++ (certificate_text c ++ line_text (codes "end" ∷ []))))
+body_text p c =
+    line_text (codes "program" ∷ [])
+    ++ (program_text p ++ (line_text (codes "certificate" ∷ [])
+    ++ (certificate_text c ++ line_text (codes "end" ∷ []))))
 
 body_regroup : (a b c d e rest : List ℕ) → a ++ (b ++ (c ++ (d ++ (e ++ rest)))) ≡ (a ++ (b ++ (c ++ (d ++ e)))) ++ rest
 body_regroup a b c d e rest = simp append_assoc
 
-body_takes : (v n : ℕ) (text : List ℕ) (x : (Program × Certificate) × List ℕ) → bundle_body_at v n text ≡ Ok x → (text ≡ body_text x.0.0 x.0.1 ++ x.1) × IsSpelled x.0.0 × IsLawfulCertificate x.0.1 × (x.0.0.version ≡ v)
+body_takes : (v n : ℕ) (text : List ℕ) (x : (Program × Certificate) × List ℕ) → bundle_body_at v n text ≡ Ok x →
+    (text ≡ body_text x.0.0 x.0.1 ++ x.1) × IsSpelled x.0.0 × IsLawfulCertificate x.0.1 × (x.0.0.version ≡ v)
 unfolding bundle_body_at program_section_at certificate_section_at
 body_takes v n text x e =
     on_ok {A = Program × List ℕ} _ _ x e (λ p hp e.
@@ -232,14 +277,18 @@ body_takes v n text x e =
     let te = section_takes (codes "end") (n + program_lines p.0 + proof_lines c.0) c.1 rest hr in
     let lw = line_text (codes "program" ∷ []) in let lv = line_text (codes "certificate" ∷ []) in
     let made : ((p.0, c.0), rest) ≡ x = cc in
-    subst (λ (y : (Program × Certificate) × List ℕ). (text ≡ body_text y.0.0 y.0.1 ++ y.1) × IsSpelled y.0.0 × IsLawfulCertificate y.0.1 × (y.0.0.version ≡ v)) made (
-      tw ∙ ap (λ t. lw ++ t) (tp.0 ∙ ap (λ t. program_text p.0 ++ t) (tv ∙ ap (λ t. lv ++ t) (tc.0 ∙ ap (λ t. certificate_text c.0 ++ t) te))) ∙ body_regroup lw (program_text p.0) lv (certificate_text c.0) (line_text (codes "end" ∷ [])) rest,
+    subst (λ (y : (Program × Certificate) × List ℕ). (text ≡ body_text y.0.0 y.0.1 ++ y.1) × IsSpelled y.0.0 ×
+    IsLawfulCertificate y.0.1 × (y.0.0.version ≡ v)) made (
+      tw ∙ ap (λ t. lw ++ t) (tp.0
+          ∙ ap (λ t. program_text p.0 ++ t) (tv ∙ ap (λ t. lv ++ t) (tc.0 ∙ ap (λ t. certificate_text c.0 ++ t) te)))
+          ∙ body_regroup lw (program_text p.0) lv (certificate_text c.0) (line_text (codes "end" ∷ [])) rest,
       tp.1.0,
       tc.1,
       same_number p.0.version v tp.1.1,
     ))))))
 
-body_again : (n : ℕ) (p : Program) (c : Certificate) (rest : List ℕ) → IsSpelled p → IsLawfulCertificate c → bundle_body_at p.version n (body_text p c ++ rest) ≡ Ok ((p, c), rest)
+body_again : (n : ℕ) (p : Program) (c : Certificate) (rest : List ℕ) → IsSpelled p → IsLawfulCertificate c →
+    bundle_body_at p.version n (body_text p c ++ rest) ≡ Ok ((p, c), rest)
 unfolding bundle_body_at program_section_at certificate_section_at
 body_again n p c rest hp hc =
     let le = line_text (codes "end" ∷ []) in let lv = line_text (codes "certificate" ∷ []) in
@@ -254,13 +303,19 @@ body_again n p c rest hp hc =
     ) refl
 
 -- ---- all of it
-whole_regroup : (a b s n c p d t e rest : List ℕ) → (((((((((a ++ b) ++ s) ++ n) ++ c) ++ p) ++ d) ++ t) ++ e)) ++ rest ≡ a ++ ((b ++ (s ++ n)) ++ ((c ++ (p ++ (d ++ (t ++ e)))) ++ rest))
+whole_regroup : (a b s n c p d t e rest : List ℕ) →
+    (((((((((a ++ b) ++ s) ++ n) ++ c) ++ p) ++ d) ++ t) ++ e)) ++ rest ≡ a
+    ++ ((b ++ (s ++ n)) ++ ((c ++ (p ++ (d ++ (t ++ e)))) ++ rest))
 whole_regroup a b s n c p d t e rest = simp append_assoc
 
-in_sections : (b : Parts) (rest : List ℕ) → text_of b ++ rest ≡ line_text (headline b.program.version) ++ (source_text b.source ++ (body_text b.program b.certificate ++ rest))
+in_sections : (b : Parts) (rest : List ℕ) →
+    text_of b ++ rest ≡ line_text (headline b.program.version)
+    ++ (source_text b.source ++ (body_text b.program b.certificate ++ rest))
 in_sections b rest =
-    whole_regroup (line_text (headline b.program.version)) (line_text (source_fields (length b.source))) b.source (codes "\n")
-    (line_text (codes "program" ∷ [])) (program_text b.program) (line_text (codes "certificate" ∷ [])) (certificate_text b.certificate) (line_text (codes "end" ∷ [])) rest
+    whole_regroup (line_text (headline b.program.version)) (line_text (source_fields (length b.source))) b.source
+    (codes "\n")
+    (line_text (codes "program" ∷ [])) (program_text b.program) (line_text (codes "certificate" ∷ []))
+    (certificate_text b.certificate) (line_text (codes "end" ∷ [])) rest
 
 takes : (text : List ℕ) (x : Parts × List ℕ) → bundle_at text ≡ Ok x → (text ≡ text_of x.0 ++ x.1) × IsLawfulBundle x.0
 unfolding bundle_at
@@ -275,7 +330,8 @@ takes text x e =
     let first = line_text (headline b.program.version) in
     let made : (b, body.1) ≡ x = cc in
     subst (λ (y : Parts × List ℕ). (text ≡ text_of y.0 ++ y.1) × IsLawfulBundle y.0) made (
-      th ∙ ap (λ v. line_text (headline v) ++ head.1) (sym tb.3) ∙ ap (λ t. first ++ t) (ts.0 ∙ ap (λ t. source_text s.0 ++ t) tb.0) ∙ sym (in_sections b body.1),
+      th ∙ ap (λ v. line_text (headline v) ++ head.1) (sym tb.3)
+          ∙ ap (λ t. first ++ t) (ts.0 ∙ ap (λ t. source_text s.0 ++ t) tb.0) ∙ sym (in_sections b body.1),
       record { source = ts.1; program = tb.1; certificate = tb.2 },
     ))))
 
@@ -302,8 +358,11 @@ unfolding bundle_in
 text_again b h = all_again (λ (b : Parts). 1 + bundle_lines b) bundle_law b h
 
 -- a bundle by its parts, and then the text's end
-pub by_parts : (text : List ℕ) (v : ℕ) (head : List ℕ) (source behind : List ℕ) (p : Program) (c : Certificate) (rest : List ℕ) (line first : ℕ) → headline_at text ≡ Ok (v, head) → counted_source_at 2 head ≡ Ok (source, behind)
-    → first ≡ source_lines source → bundle_body_at v (3 + first) behind ≡ Ok ((p, c), rest) → line ≡ 1 + (3 + first + program_lines p + proof_lines c)
+pub by_parts : (text : List ℕ) (v : ℕ) (head : List ℕ) (source behind : List ℕ) (p : Program) (c : Certificate)
+    (rest : List ℕ) (line first : ℕ) → headline_at text ≡ Ok (v, head) → counted_source_at 2 head ≡ Ok (source, behind)
+    → first ≡ source_lines source → bundle_body_at v (3 + first) behind ≡ Ok ((p, c), rest) →
+    line ≡ 1 + (3 + first + program_lines p + proof_lines c)
     → bundle_in text ≡ (text_ended_at line rest >>= λ _. Ok (record { source = source; program = p; certificate = c }))
 unfolding bundle_in bundle_at
-by_parts text v head source behind p c rest line first a b f d e = let g = subst (λ n. bundle_body_at v (3 + n) behind ≡ Ok ((p, c), rest)) f d in rw (a, b, g, e, f) refl
+by_parts text v head source behind p c rest line first a b f d e =
+    let g = subst (λ n. bundle_body_at v (3 + n) behind ≡ Ok ((p, c), rest)) f d in rw (a, b, g, e, f) refl

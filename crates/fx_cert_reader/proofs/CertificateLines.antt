@@ -30,7 +30,8 @@ pub behind : {a b c : Line} (xs : Line) → a ≡ xs ++ b → b ≡ c → a ≡ 
 behind xs p q = p ∙ ap (λ line. xs ++ line) q
 
 -- two parts of a line are fields
-pub clean_append : (xs ys : Line) → AllByRecursion IsField xs → AllByRecursion IsField ys → AllByRecursion IsField (xs ++ ys)
+pub clean_append : (xs ys : Line) → AllByRecursion IsField xs → AllByRecursion IsField ys →
+    AllByRecursion IsField (xs ++ ys)
 clean_append [] ys h k = k
 clean_append (x ∷ xs) ys (h, hs) k = (h, clean_append xs ys hs k)
 
@@ -47,7 +48,11 @@ headline_fields _ = codes "fixd" ∷ codes "certificate" ∷ codes "1" ∷ []
 
 pub headline_law : IsLineOf certificate_headline_at headline_fields (λ _. Unit {0})
 unfolding certificate_headline_at
-headline_law = record { takes = λ line x e. (takes line x e, tt); again = λ x h. again; clean = λ x h. (word_fixd, (word_certificate, (word_1, tt))) }
+headline_law = record {
+  takes = λ line x e. (takes line x e, tt);
+  again = λ x h. again;
+  clean = λ x h. (word_fixd, (word_certificate, (word_1, tt)));
+}
   where
     word_fixd : IsField (codes "fixd")
     word_fixd = record { spaces = search rules; line_feeds = search rules }
@@ -64,10 +69,17 @@ headline_law = record { takes = λ line x e. (takes line x e, tt); again = λ x 
         on_ok _ _ x e (λ b hb e.
         on_ok _ _ x e (λ c hc e.
         on_ok _ _ x e (λ d hd e.
-        front (word_takes (codes "fixd") line a ha) (front (word_takes (codes "certificate") a b hb) (front (word_takes (codes "1") b c hc) (ended_is c d hd)))))))
+        front (word_takes (codes "fixd") line a ha)
+        (front (word_takes (codes "certificate") a b hb)
+        (front (word_takes (codes "1") b c hc) (ended_is c d hd)))))))
 
     again : certificate_headline_at (headline_fields tt) ≡ Ok tt
-    again = rw (word_again (codes "fixd") (codes "certificate" ∷ codes "1" ∷ []), word_again (codes "certificate") (codes "1" ∷ []), word_again (codes "1") []) refl
+    again =
+        rw (
+          word_again (codes "fixd") (codes "certificate" ∷ codes "1" ∷ []),
+          word_again (codes "certificate") (codes "1" ∷ []),
+          word_again (codes "1") [],
+        ) refl
 
 -- ---- counts
 abbrev pub sizes_fields : CertificateSizes → Line
@@ -77,7 +89,8 @@ pub sizes_law : IsLineOf certificate_sizes_at sizes_fields AreCertificateSizes
 unfolding certificate_sizes_at
 sizes_law = record { takes = takes; again = again; clean = clean }
   where
-    takes : (line : Line) (s : CertificateSizes) → certificate_sizes_at line ≡ Ok s → (line ≡ sizes_fields s) × AreCertificateSizes s
+    takes : (line : Line) (s : CertificateSizes) → certificate_sizes_at line ≡ Ok s →
+        (line ≡ sizes_fields s) × AreCertificateSizes s
     takes line s e =
         on_ok _ _ s e (λ rest hr e.
         on_ok _ _ s e (λ i hi e.
@@ -97,7 +110,8 @@ sizes_law = record { takes = takes; again = again; clean = clean }
     again s h =
         rw (
           word_again (codes "sizes") (decimal s.inputs ∷ decimal s.states ∷ decimal s.count ∷ []),
-          count_again 1 input_limit s.inputs (decimal s.states ∷ decimal s.count ∷ []) (omega arith) h.some_input h.inputs,
+          count_again 1 input_limit s.inputs (decimal s.states ∷ decimal s.count ∷ [])
+              (omega arith) h.some_input h.inputs,
           count_again 0 state_limit s.states (decimal s.count ∷ []) (omega arith) (omega arith) h.states,
           count_again (s.inputs + s.states) node_limit s.count [] (omega arith) h.enough h.count,
         ) refl
@@ -107,8 +121,13 @@ sizes_law = record { takes = takes; again = again; clean = clean }
 
     clean : (s : CertificateSizes) → AreCertificateSizes s → AreFields (sizes_fields s)
     clean s h =
-        let i = h.inputs in let k = h.states in let n = h.count in
-        (word_sizes, (IsField-decimal s.inputs (omega arith), (IsField-decimal s.states (omega arith), (IsField-decimal s.count (omega arith), tt))))
+        let i = h.inputs in let k = h.states in let n = h.count in (
+          word_sizes,
+          (
+            IsField-decimal s.inputs (omega arith),
+            (IsField-decimal s.states (omega arith), (IsField-decimal s.count (omega arith), tt)),
+          ),
+        )
 
 abbrev pub step_count_fields : ℕ → Line
 step_count_fields n = codes "steps" ∷ decimal n ∷ []
@@ -124,10 +143,18 @@ step_count_law = record { takes = takes; again = again; clean = clean }
         on_ok _ _ n e (λ d hd e.
         let pk = count_takes 0 step_limit rest k (omega arith) hk in
         let made : k.0 ≡ n = cc in
-        subst (λ (n : ℕ). (line ≡ step_count_fields n) × (n ≤ step_limit)) made (front (word_takes (codes "steps") line rest hr) (front pk.0 (ended_is k.1 d hd)), pk.2))))
+        subst (λ (n : ℕ). (line ≡ step_count_fields n) ×
+        (n ≤ step_limit)) made (
+          front (word_takes (codes "steps") line rest hr) (front pk.0 (ended_is k.1 d hd)),
+          pk.2,
+        ))))
 
     again : (n : ℕ) → n ≤ step_limit → step_count_at (step_count_fields n) ≡ Ok n
-    again n h = rw (word_again (codes "steps") (decimal n ∷ []), count_again 0 step_limit n [] (omega arith) (omega arith) h) refl
+    again n h =
+        rw (
+          word_again (codes "steps") (decimal n ∷ []),
+          count_again 0 step_limit n [] (omega arith) (omega arith) h,
+        ) refl
 
     word_steps : IsField (codes "steps")
     word_steps = record { spaces = search rules; line_feeds = search rules }
@@ -142,7 +169,8 @@ pub template_counts_law : (k : ℕ) → IsLineOf (template_counts_at k) template
 unfolding template_counts_at
 template_counts_law k = record { takes = takes; again = again; clean = clean }
   where
-    takes : (line : Line) (s : TemplateCounts) → template_counts_at k line ≡ Ok s → (line ≡ template_counts_fields s) × AreTemplateCounts k s
+    takes : (line : Line) (s : TemplateCounts) → template_counts_at k line ≡ Ok s →
+        (line ≡ template_counts_fields s) × AreTemplateCounts k s
     takes line s e =
         on_ok _ _ s e (λ rest hr e.
         on_ok _ _ s e (λ i hi e.
@@ -168,14 +196,23 @@ template_counts_law k = record { takes = takes; again = again; clean = clean }
     word_templates = record { spaces = search rules; line_feeds = search rules }
 
     clean : (s : TemplateCounts) → AreTemplateCounts k s → AreFields (template_counts_fields s)
-    clean s h = let r = h.templates in let e = h.error_templates in (word_templates, (IsField-decimal s.templates (omega arith), (IsField-decimal s.error_templates (omega arith), tt)))
+    clean s h =
+        let r = h.templates in
+        let e = h.error_templates in (
+          word_templates,
+          (
+            IsField-decimal s.templates (omega arith),
+            (IsField-decimal s.error_templates (omega arith), tt),
+          ),
+        )
 
 -- ---- steps
 narrow_rules : AreNarrow (pos 1) (pos rule_count)
 narrow_rules = record { least = omega (arith, ints); greatest = omega (arith, ints) }
 
 -- the number of a rule
-rule_is : (line rest : Line) (z : ℤ) → (line ≡ signed_decimal z ∷ rest) × IsWithin (pos 1) (pos rule_count) z → (line ≡ decimal (unsigned_abs z) ∷ rest) × (1 ≤ unsigned_abs z) × (unsigned_abs z ≤ rule_count)
+rule_is : (line rest : Line) (z : ℤ) → (line ≡ signed_decimal z ∷ rest) × IsWithin (pos 1) (pos rule_count) z →
+    (line ≡ decimal (unsigned_abs z) ∷ rest) × (1 ≤ unsigned_abs z) × (unsigned_abs z ≤ rule_count)
 rule_is line rest (pos n) t = (t.0, omega (arith, ints, t.1.0), omega (arith, ints, t.1.1))
 rule_is line rest (negsuc n) t = absurd (omega (arith, ints, t.1.0))
 
@@ -201,7 +238,8 @@ step_law = record { takes = takes; again = again; clean = clean }
 
     again : (s : Rewriting) → IsWrittenStep s → step_at (step_fields s) ≡ Ok s
     again s h =
-        let within : IsWithin (pos 1) (pos rule_count) (pos s.rule) = (let a = h.some_rule in let b = h.rule in (omega (arith, ints), omega (arith, ints))) in
+        let within : IsWithin (pos 1) (pos rule_count) (pos s.rule) = (let a = h.some_rule in let b = h.rule in
+        (omega (arith, ints), omega (arith, ints))) in
         rw (
           word_again (codes "step") (decimal s.place ∷ path_field s.path ∷ decimal s.rule ∷ []),
           place_again place_end s.place (path_field s.path ∷ decimal s.rule ∷ []) (omega arith) h.place,
@@ -213,7 +251,15 @@ step_law = record { takes = takes; again = again; clean = clean }
     word_step = record { spaces = search rules; line_feeds = search rules }
 
     clean : (s : Rewriting) → IsWrittenStep s → AreFields (step_fields s)
-    clean s h = let p = h.place in let r = h.rule in (word_step, (IsField-decimal s.place (omega arith), (clean_path s.path, (IsField-decimal s.rule (omega arith), tt))))
+    clean s h =
+        let p = h.place in
+        let r = h.rule in (
+          word_step,
+          (
+            IsField-decimal s.place (omega arith),
+            (clean_path s.path, (IsField-decimal s.rule (omega arith), tt)),
+          ),
+        )
 
 -- ---- starts
 pub start_law : IsLineOf start_at start_fields IsWrittenBox
@@ -229,15 +275,25 @@ start_law = record { takes = takes; again = again; clean = clean }
         let tg = interval_takes rest g hg in let ti = interval_takes g.1 i hi in
         let made : record { range = g.0; error = i.0 } ≡ b = cc in
         subst (λ b. (line ≡ start_fields b) × IsWrittenBox b) made (
-          front (word_takes (codes "start") line rest hr) (behind (interval_fields g.0) tg.0 (behind (interval_fields i.0) ti.0 (ended_is i.1 d hd))),
+          front (word_takes (codes "start") line rest hr)
+              (behind (interval_fields g.0) tg.0 (behind (interval_fields i.0) ti.0 (ended_is i.1 d hd))),
           (tg.1, ti.1),
         )))))
 
     again : (b : StartBox) → IsWrittenBox b → start_at (start_fields b) ≡ Ok b
-    again b h = rw (word_again (codes "start") (interval_fields b.range ++ interval_fields b.error), interval_again b.range (interval_fields b.error) h.0, interval_again b.error [] h.1) refl
+    again b h =
+        rw (
+          word_again (codes "start") (interval_fields b.range ++ interval_fields b.error),
+          interval_again b.range (interval_fields b.error) h.0,
+          interval_again b.error [] h.1,
+        ) refl
 
     word_start : IsField (codes "start")
     word_start = record { spaces = search rules; line_feeds = search rules }
 
     clean : (b : StartBox) → IsWrittenBox b → AreFields (start_fields b)
-    clean b h = (word_start, clean_append (interval_fields b.range) (interval_fields b.error) (clean_interval b.range h.0) (clean_interval b.error h.1))
+    clean b h = (
+      word_start,
+      clean_append (interval_fields b.range) (interval_fields b.error) (clean_interval b.range h.0)
+          (clean_interval b.error h.1),
+    )

@@ -46,7 +46,8 @@ box_law k end i small = record { takes = takes; again = again; clean = clean }
         on_ok _ _ r e (λ d hd e.
         let tb = interval_takes rest b hb in let ts = (shares_law end small).takes b.1 s hs in
         let made : record { coefs = unit_vector k i; bound = b.0; shares = s.0 } ≡ r = cc in
-        let shares : b.1 ≡ share_fields s.0 = behind (share_fields s.0) ts.0 (ended_is s.1 d hd) ∙ append-nil (share_fields s.0) in
+        let shares : b.1 ≡ share_fields s.0 = behind (share_fields s.0) ts.0 (ended_is s.1 d hd)
+        ∙ append-nil (share_fields s.0) in
         subst (λ r. (line ≡ box_fields r) × IsBox k end i r) made (
           front (word_takes (codes "box") line rest hr) (behind (interval_fields b.0) tb.0 shares),
           record { coefs = refl; bound = tb.1; shares = ts.1 },
@@ -54,14 +55,24 @@ box_law k end i small = record { takes = takes; again = again; clean = clean }
 
     again : (r : Template) → IsBox k end i r → box_template_at k end i (box_fields r) ≡ Ok r
     again r h =
-        let shares : shares_at end (share_fields r.shares) ≡ Ok (r.shares, []) = ap (shares_at end) (sym (append-nil (share_fields r.shares))) ∙ (shares_law end small).again r.shares [] h.shares in
-        rw (word_again (codes "box") (interval_fields r.bound ++ share_fields r.shares), interval_again r.bound (share_fields r.shares) h.bound, shares) (ap (λ c. Ok (record { coefs = c; bound = r.bound; shares = r.shares })) (sym h.coefs))
+        let shares : shares_at end (share_fields r.shares) ≡ Ok (r.shares, []) =
+        ap (shares_at end) (sym (append-nil (share_fields r.shares)))
+        ∙ (shares_law end small).again r.shares [] h.shares in
+        rw (
+          word_again (codes "box") (interval_fields r.bound ++ share_fields r.shares),
+          interval_again r.bound (share_fields r.shares) h.bound,
+          shares,
+        ) (ap (λ c. Ok (record { coefs = c; bound = r.bound; shares = r.shares })) (sym h.coefs))
 
     word_box : IsField (codes "box")
     word_box = record { spaces = search rules; line_feeds = search rules }
 
     clean : (r : Template) → IsBox k end i r → AreFields (box_fields r)
-    clean r h = (word_box, clean_append (interval_fields r.bound) (share_fields r.shares) (clean_interval r.bound h.bound) (clean_shares end r.shares small h.shares))
+    clean r h = (
+      word_box,
+      clean_append (interval_fields r.bound) (share_fields r.shares) (clean_interval r.bound h.bound)
+          (clean_shares end r.shares small h.shares),
+    )
 
 pub template_law : (k end : ℕ) → end < 2 ^ 32 → IsLineOf (template_at k end) template_fields (IsWrittenTemplate k end)
 unfolding template_at
@@ -70,17 +81,21 @@ template_law k end small = record { takes = takes; again = again; clean = clean 
     regroup : (a b c : Line) → (a ++ b) ++ c ≡ a ++ (b ++ c)
     regroup a b c = append_assoc a b c
 
-    takes : (line : Line) (r : Template) → template_at k end line ≡ Ok r → (line ≡ template_fields r) × IsWrittenTemplate k end r
+    takes : (line : Line) (r : Template) → template_at k end line ≡ Ok r →
+        (line ≡ template_fields r) × IsWrittenTemplate k end r
     takes line r e =
         on_ok _ _ r e (λ rest hr e.
         on_ok _ _ r e (λ c hc e.
         on_ok _ _ r e (λ b hb e.
         on_ok _ _ r e (λ s hs e.
         on_ok _ _ r e (λ d hd e.
-        let tc = (dyadics_spelling k).takes rest c hc in let tb = interval_takes c.1 b hb in let ts = (shares_law end small).takes b.1 s hs in
+        let tc = (dyadics_spelling k).takes rest c hc in let tb = interval_takes c.1 b hb in
+        let ts = (shares_law end small).takes b.1 s hs in
         let made : record { coefs = c.0; bound = b.0; shares = s.0 } ≡ r = cc in
-        let shares : b.1 ≡ share_fields s.0 = behind (share_fields s.0) ts.0 (ended_is s.1 d hd) ∙ append-nil (share_fields s.0) in
-        let fields = behind (map dyadic_text c.0) tc.0 (behind (interval_fields b.0) tb.0 shares) ∙ sym (regroup (map dyadic_text c.0) (interval_fields b.0) (share_fields s.0)) in
+        let shares : b.1 ≡ share_fields s.0 = behind (share_fields s.0) ts.0 (ended_is s.1 d hd)
+        ∙ append-nil (share_fields s.0) in
+        let fields = behind (map dyadic_text c.0) tc.0 (behind (interval_fields b.0) tb.0 shares)
+        ∙ sym (regroup (map dyadic_text c.0) (interval_fields b.0) (share_fields s.0)) in
         subst (λ r. (line ≡ template_fields r) × IsWrittenTemplate k end r) made (
           front (word_takes (codes "row") line rest hr) fields,
           record { coefs = tc.1.0; written = tc.1.1; bound = tb.1; shares = ts.1 },
@@ -89,7 +104,9 @@ template_law k end small = record { takes = takes; again = again; clean = clean 
     again : (r : Template) → IsWrittenTemplate k end r → template_at k end (template_fields r) ≡ Ok r
     again r h =
         let texts = map dyadic_text r.coefs in let behind_coefs = interval_fields r.bound ++ share_fields r.shares in
-        let shares : shares_at end (share_fields r.shares) ≡ Ok (r.shares, []) = ap (shares_at end) (sym (append-nil (share_fields r.shares))) ∙ (shares_law end small).again r.shares [] h.shares in
+        let shares : shares_at end (share_fields r.shares) ≡ Ok (r.shares, []) =
+        ap (shares_at end) (sym (append-nil (share_fields r.shares)))
+        ∙ (shares_law end small).again r.shares [] h.shares in
         rw (
           regroup texts (interval_fields r.bound) (share_fields r.shares),
           word_again (codes "row") (texts ++ behind_coefs),
@@ -105,7 +122,8 @@ template_law k end small = record { takes = takes; again = again; clean = clean 
     clean r h = (
       word_template,
       clean_append (map dyadic_text r.coefs ++ interval_fields r.bound) (share_fields r.shares)
-          (clean_append (map dyadic_text r.coefs) (interval_fields r.bound) (clean_dyadics r.coefs (recursion_from_All IsWritten r.coefs h.written)) (clean_interval r.bound h.bound))
+          (clean_append (map dyadic_text r.coefs) (interval_fields r.bound)
+          (clean_dyadics r.coefs (recursion_from_All IsWritten r.coefs h.written)) (clean_interval r.bound h.bound))
           (clean_shares end r.shares small h.shares),
     )
 
@@ -124,13 +142,19 @@ boxes l = interval_fields l.range ++ interval_fields l.error
 abbrev form_tail : Form → Line
 form_tail f = interval_fields f.rest ++ (interval_fields f.error_rest ++ (by_fields f.range_by ++ by_fields f.error_by))
 
-form_parts : (f : Form) → form_fields f ≡ dyadic_text f.centre_a ∷ dyadic_text f.centre_b ∷ (map dyadic_text f.coefs ++ form_tail f)
-form_parts f = ap (λ l. dyadic_text f.centre_a ∷ dyadic_text f.centre_b ∷ l) (by (map dyadic_text f.coefs) (interval_fields f.rest) (interval_fields f.error_rest) (by_fields f.range_by) (by_fields f.error_by))
+form_parts : (f : Form) →
+    form_fields f ≡ dyadic_text f.centre_a ∷ dyadic_text f.centre_b ∷ (map dyadic_text f.coefs ++ form_tail f)
+form_parts f =
+    ap (λ l. dyadic_text f.centre_a ∷ dyadic_text f.centre_b ∷ l)
+    (by (map dyadic_text f.coefs) (interval_fields f.rest) (interval_fields f.error_rest) (by_fields f.range_by)
+    (by_fields f.error_by))
   where
     by : (a b c d e : Line) → (((a ++ b) ++ c) ++ d) ++ e ≡ a ++ (b ++ (c ++ (d ++ e)))
     by a b c d e = simp append_assoc
 
-form_takes : (v templates error_templates : ℕ) (line : Line) (f : Form) → templates < 2 ^ 32 → error_templates < 2 ^ 32 → form_at v templates error_templates line ≡ Ok f → (line ≡ form_fields f) × IsWrittenForm v templates error_templates f
+form_takes : (v templates error_templates : ℕ) (line : Line) (f : Form) → templates < 2 ^ 32 →
+    error_templates < 2 ^ 32 → form_at v templates error_templates line ≡ Ok f →
+    (line ≡ form_fields f) × IsWrittenForm v templates error_templates f
 unfolding form_at
 form_takes v templates error_templates line f small small_errors e =
     on_ok _ _ f e (λ a ha e.
@@ -144,18 +168,49 @@ form_takes v templates error_templates line f small small_errors e =
     let ta = dyadic_takes line a ha in let tb = dyadic_takes a.1 b hb in let tc = (dyadics_spelling v).takes b.1 c hc in
     let tp = interval_takes c.1 p hp in let tq = interval_takes p.1 q hq in
     let tr = (by_law templates small).takes q.1 r hr in let ts = (by_law error_templates small_errors).takes r.1 s hs in
-    let made : record { centre_a = a.0; centre_b = b.0; coefs = c.0; rest = p.0; error_rest = q.0; range_by = r.0; error_by = s.0 } ≡ f = cc in
+    let made : record {
+      centre_a = a.0;
+      centre_b = b.0;
+      coefs = c.0;
+      rest = p.0;
+      error_rest = q.0;
+      range_by = r.0;
+      error_by = s.0;
+    } ≡ f = cc in
     let errors : r.1 ≡ by_fields s.0 = behind (by_fields s.0) ts.0 (ended_is s.1 d hd) ∙ append-nil (by_fields s.0) in
-    let fields = front ta.0 (front tb.0 (behind (map dyadic_text c.0) tc.0 (behind (interval_fields p.0) tp.0 (behind (interval_fields q.0) tq.0 (behind (by_fields r.0) tr.0 errors))))) in
+    let fields =
+    front ta.0 (front tb.0 (behind (map dyadic_text c.0) tc.0
+    (behind (interval_fields p.0) tp.0
+    (behind (interval_fields q.0) tq.0 (behind (by_fields r.0) tr.0 errors))))) in
     subst (λ f. (line ≡ form_fields f) × IsWrittenForm v templates error_templates f) made (
-      fields ∙ sym (form_parts (record { centre_a = a.0; centre_b = b.0; coefs = c.0; rest = p.0; error_rest = q.0; range_by = r.0; error_by = s.0 })),
-      record { centre_a = ta.1; centre_b = tb.1; coefs = tc.1.0; written = tc.1.1; rest = tp.1; error_rest = tq.1; range_by = tr.1; error_by = ts.1 },
+      fields ∙ sym (form_parts (record {
+        centre_a = a.0;
+        centre_b = b.0;
+        coefs = c.0;
+        rest = p.0;
+        error_rest = q.0;
+        range_by = r.0;
+        error_by = s.0;
+      })),
+      record {
+        centre_a = ta.1;
+        centre_b = tb.1;
+        coefs = tc.1.0;
+        written = tc.1.1;
+        rest = tp.1;
+        error_rest = tq.1;
+        range_by = tr.1;
+        error_by = ts.1;
+      },
     )))))))))
 
-form_again : (v templates error_templates : ℕ) (f : Form) → templates < 2 ^ 32 → error_templates < 2 ^ 32 → IsWrittenForm v templates error_templates f → form_at v templates error_templates (form_fields f) ≡ Ok f
+form_again : (v templates error_templates : ℕ) (f : Form) → templates < 2 ^ 32 → error_templates < 2 ^ 32 →
+    IsWrittenForm v templates error_templates f → form_at v templates error_templates (form_fields f) ≡ Ok f
 unfolding form_at
 form_again v templates error_templates f small small_errors h =
-    let errors : by_at error_templates (by_fields f.error_by) ≡ Ok (f.error_by, []) = ap (by_at error_templates) (sym (append-nil (by_fields f.error_by))) ∙ (by_law error_templates small_errors).again f.error_by [] h.error_by in
+    let errors : by_at error_templates (by_fields f.error_by) ≡ Ok (f.error_by, []) =
+    ap (by_at error_templates) (sym (append-nil (by_fields f.error_by)))
+    ∙ (by_law error_templates small_errors).again f.error_by [] h.error_by in
     let bys = by_fields f.range_by ++ by_fields f.error_by in
     rw (
       form_parts f,
@@ -168,22 +223,26 @@ form_again v templates error_templates f small small_errors h =
       errors,
     ) refl
 
-clean_form : (v templates error_templates : ℕ) (f : Form) → templates < 2 ^ 32 → error_templates < 2 ^ 32 → IsWrittenForm v templates error_templates f → AllByRecursion IsField (form_fields f)
+clean_form : (v templates error_templates : ℕ) (f : Form) → templates < 2 ^ 32 → error_templates < 2 ^ 32 →
+    IsWrittenForm v templates error_templates f → AllByRecursion IsField (form_fields f)
 clean_form v templates error_templates f small small_errors h =
     let bys = by_fields f.range_by ++ by_fields f.error_by in let tail = interval_fields f.error_rest ++ bys in
     subst (AllByRecursion IsField) (sym (form_parts f)) (
       IsField-dyadic_text f.centre_a h.centre_a,
       (
         IsField-dyadic_text f.centre_b h.centre_b,
-        clean_append (map dyadic_text f.coefs) (form_tail f) (clean_dyadics f.coefs (recursion_from_All IsWritten f.coefs h.written))
+        clean_append (map dyadic_text f.coefs) (form_tail f)
+            (clean_dyadics f.coefs (recursion_from_All IsWritten f.coefs h.written))
             (clean_append (interval_fields f.rest) tail (clean_interval f.rest h.rest)
             (clean_append (interval_fields f.error_rest) bys (clean_interval f.error_rest h.error_rest)
-            (clean_append (by_fields f.range_by) (by_fields f.error_by) (clean_by templates f.range_by small h.range_by) (clean_by error_templates f.error_by small_errors h.error_by)))),
+            (clean_append (by_fields f.range_by) (by_fields f.error_by) (clean_by templates f.range_by small h.range_by)
+            (clean_by error_templates f.error_by small_errors h.error_by)))),
       ),
     )
 
 -- behind plain
-plain_takes : (v templates error_templates n : ℕ) (line : Line) (l : NodeLine) → plain_at line ≡ Ok l → (codes "plain" ∷ line ≡ node_fields l l.form) × IsNode v templates error_templates n l
+plain_takes : (v templates error_templates n : ℕ) (line : Line) (l : NodeLine) → plain_at line ≡ Ok l →
+    (codes "plain" ∷ line ≡ node_fields l l.form) × IsNode v templates error_templates n l
 unfolding plain_at
 plain_takes v templates error_templates n line l e =
     on_ok _ _ l e (λ g hg e.
@@ -192,29 +251,36 @@ plain_takes v templates error_templates n line l e =
     let tg = interval_takes line g hg in let th = interval_takes g.1 h hh in
     let made : record { range = g.0; error = h.0; form = None } ≡ l = cc in
     subst (λ l. (codes "plain" ∷ line ≡ node_fields l l.form) × IsNode v templates error_templates n l) made (
-      ap (λ fs. codes "plain" ∷ fs) (behind (interval_fields g.0) tg.0 (behind (interval_fields h.0) th.0 (ended_is h.1 d hd))),
+      ap (λ fs. codes "plain" ∷ fs)
+          (behind (interval_fields g.0) tg.0 (behind (interval_fields h.0) th.0 (ended_is h.1 d hd))),
       record { range = tg.1; error = th.1; form = tt },
     ))))
 
 -- behind form
-formed_takes : (v templates error_templates n : ℕ) (line : Line) (l : NodeLine) → templates < 2 ^ 32 → error_templates < 2 ^ 32 → v ≤ n → formed_at v templates error_templates line ≡ Ok l → (codes "form" ∷ line ≡ node_fields l l.form) × IsNode v templates error_templates n l
+formed_takes : (v templates error_templates n : ℕ) (line : Line) (l : NodeLine) → templates < 2 ^ 32 →
+    error_templates < 2 ^ 32 → v ≤ n → formed_at v templates error_templates line ≡ Ok l →
+    (codes "form" ∷ line ≡ node_fields l l.form) × IsNode v templates error_templates n l
 unfolding formed_at
 formed_takes v templates error_templates n line l small small_errors le e =
     on_ok _ _ l e (λ g hg e.
     on_ok _ _ l e (λ h hh e.
     on_ok _ _ l e (λ f hf e.
-    let tg = interval_takes line g hg in let th = interval_takes g.1 h hh in let tf = form_takes v templates error_templates h.1 f small small_errors hf in
+    let tg = interval_takes line g hg in let th = interval_takes g.1 h hh in
+    let tf = form_takes v templates error_templates h.1 f small small_errors hf in
     let made : record { range = g.0; error = h.0; form = Some f } ≡ l = cc in
     subst (λ l. (codes "form" ∷ line ≡ node_fields l l.form) × IsNode v templates error_templates n l) made (
       ap (λ fs. codes "form" ∷ fs) (behind (interval_fields g.0) tg.0 (behind (interval_fields h.0) th.0 tf.0)),
       record { range = tg.1; error = th.1; form = (le, tf.1) },
     ))))
 
-pub node_law : (v templates error_templates n : ℕ) → templates < 2 ^ 32 → error_templates < 2 ^ 32 → IsLineOf (node_at v templates error_templates n) (λ l. node_fields l l.form) (IsNode v templates error_templates n)
+pub node_law : (v templates error_templates n : ℕ) → templates < 2 ^ 32 → error_templates < 2 ^ 32 →
+    IsLineOf (node_at v templates error_templates n) (λ l. node_fields l l.form) (IsNode v templates error_templates n)
 unfolding node_at plain_at formed_at
-node_law v templates error_templates n small small_errors = record { takes = takes; again = λ l h. again l l.form refl h; clean = λ l h. clean l l.form refl h }
+node_law v templates error_templates n small small_errors =
+    record { takes = takes; again = λ l h. again l l.form refl h; clean = λ l h. clean l l.form refl h }
   where
-    takes : (line : Line) (l : NodeLine) → node_at v templates error_templates n line ≡ Ok l → (line ≡ node_fields l l.form) × IsNode v templates error_templates n l
+    takes : (line : Line) (l : NodeLine) → node_at v templates error_templates n line ≡ Ok l →
+        (line ≡ node_fields l l.form) × IsNode v templates error_templates n l
     takes line l e =
         on_ok _ _ l e (λ kind hk e.
         let whole = field_is line kind hk in
@@ -233,13 +299,26 @@ node_law v templates error_templates n small small_errors = record { takes = tak
               ]
         ])
 
-    again : (l : NodeLine) (form : Option Form) → l.form ≡ form → IsNode v templates error_templates n l → node_at v templates error_templates n (node_fields l form) ≡ Ok l
-    again l None e h = rw (interval_again l.range (interval_fields l.error) h.range, interval_again l.error [] h.error) (ap (λ f. Ok (record { range = l.range; error = l.error; form = f })) (sym e))
+    again : (l : NodeLine) (form : Option Form) → l.form ≡ form → IsNode v templates error_templates n l →
+        node_at v templates error_templates n (node_fields l form) ≡ Ok l
+    again l None e h =
+        rw (
+          interval_again l.range (interval_fields l.error) h.range,
+          interval_again l.error [] h.error,
+        ) (ap (λ f. Ok (record { range = l.range; error = l.error; form = f }))
+        (sym e))
     again l (Some f) e h =
         let w = subst (IsFormIfAny v templates error_templates n) e h.form in
         let le : nat_le v n ≡ true = grind (arith, nat_tests, w.0) in
-        let texts : (interval_fields l.range ++ interval_fields l.error) ++ form_fields f ≡ interval_fields l.range ++ (interval_fields l.error ++ form_fields f) = append_assoc (interval_fields l.range) (interval_fields l.error) (form_fields f) in
-        rw (le, interval_again l.range (interval_fields l.error ++ form_fields f) h.range, interval_again l.error (form_fields f) h.error, form_again v templates error_templates f small small_errors w.1)
+        let texts : (interval_fields l.range ++ interval_fields l.error) ++ form_fields f ≡ interval_fields l.range
+        ++ (interval_fields l.error ++ form_fields f) =
+        append_assoc (interval_fields l.range) (interval_fields l.error) (form_fields f) in
+        rw (
+          le,
+          interval_again l.range (interval_fields l.error ++ form_fields f) h.range,
+          interval_again l.error (form_fields f) h.error,
+          form_again v templates error_templates f small small_errors w.1,
+        )
         (ap (λ f. Ok (record { range = l.range; error = l.error; form = f })) (sym e))
 
     word_plain : IsField (codes "plain")
@@ -248,11 +327,18 @@ node_law v templates error_templates n small small_errors = record { takes = tak
     word_form : IsField (codes "form")
     word_form = record { spaces = search rules; line_feeds = search rules }
 
-    clean_boxes : (l : NodeLine) → IsNode v templates error_templates n l → AllByRecursion IsField (interval_fields l.range ++ interval_fields l.error)
-    clean_boxes l h = clean_append (interval_fields l.range) (interval_fields l.error) (clean_interval l.range h.range) (clean_interval l.error h.error)
+    clean_boxes : (l : NodeLine) → IsNode v templates error_templates n l →
+        AllByRecursion IsField (interval_fields l.range ++ interval_fields l.error)
+    clean_boxes l h =
+        clean_append (interval_fields l.range) (interval_fields l.error) (clean_interval l.range h.range)
+        (clean_interval l.error h.error)
 
-    clean : (l : NodeLine) (form : Option Form) → l.form ≡ form → IsNode v templates error_templates n l → AreFields (node_fields l form)
+    clean : (l : NodeLine) (form : Option Form) → l.form ≡ form → IsNode v templates error_templates n l →
+        AreFields (node_fields l form)
     clean l None e h = (word_plain, clean_boxes l h)
     clean l (Some f) e h =
-        let w = subst (IsFormIfAny v templates error_templates n) e h.form in
-        (word_form, clean_append (interval_fields l.range ++ interval_fields l.error) (form_fields f) (clean_boxes l h) (clean_form v templates error_templates f small small_errors w.1))
+        let w = subst (IsFormIfAny v templates error_templates n) e h.form in (
+          word_form,
+          clean_append (interval_fields l.range ++ interval_fields l.error) (form_fields f) (clean_boxes l h)
+              (clean_form v templates error_templates f small small_errors w.1),
+        )

@@ -33,14 +33,16 @@ turns_of text = map (λ d. d - 48) text
 is_turn : (c : ℕ) → (c == 48 || c == 49) ≡ true → (48 ≤ c) × (c < 50)
 is_turn c e = (grind (arith, tests), grind (arith, tests))
 
-turns_take : (text : List ℕ) → are_turns text ≡ true → (digits (turns_of text) ≡ text) × AllByRecursion (λ d. d < 2) (turns_of text)
+turns_take : (text : List ℕ) → are_turns text ≡ true →
+    (digits (turns_of text) ≡ text) × AllByRecursion (λ d. d < 2) (turns_of text)
 turns_take [] e = (refl, tt)
 turns_take (c ∷ cs) e =
     let t = and_parts (c == 48 || c == 49) (are_turns cs) e in let k = is_turn c t.0 in let rest = turns_take cs t.1 in
     let same : 48 + (c - 48) ≡ c = omega (arith, k.0) in
     (ap (λ x. x ∷ digits (turns_of cs)) same ∙ ap (λ xs. c ∷ xs) rest.0, (omega (arith, k.1), rest.1))
 
-turns_again : (turns : List ℕ) → AllByRecursion (λ d. d < 2) turns → (are_turns (digits turns) ≡ true) × (turns_of (digits turns) ≡ turns)
+turns_again : (turns : List ℕ) → AllByRecursion (λ d. d < 2) turns →
+    (are_turns (digits turns) ≡ true) × (turns_of (digits turns) ≡ turns)
 turns_again [] h = (refl, refl)
 turns_again (d ∷ ds) (h, hs) =
     let rest = turns_again ds hs in
@@ -53,7 +55,11 @@ known_takes : (text path : List ℕ) → known_path text ≡ Ok path → (text �
 unfolding known_path known_turns
 known_takes text path e =
     elim (chosen (bytes_eq text (codes "-")) (Ok []) (known_turns text) (Ok path) e) [
-      | inl h ↦ let made : [] ≡ path = cc in subst (λ path. (text ≡ path_field path) × IsPath path) made ((bytes_eq-Decides text (codes "-")).0 h.0, record { short = omega arith; turns = All-nil (λ d. d < 2) })
+      | inl h ↦ let made : [] ≡ path = cc in
+          subst (λ path. (text ≡ path_field path) × IsPath path) made (
+            (bytes_eq-Decides text (codes "-")).0 h.0,
+            record { short = omega arith; turns = All-nil (λ d. d < 2) },
+          )
       | inr h ↦ by text h.1
     ]
   where
@@ -66,8 +72,13 @@ known_takes text path e =
               let le : length (c ∷ cs) ≤ height_limit = grind (arith, nat_tests, t.0) in
               let k = turns_take (c ∷ cs) h.0 in
               let count : length (turns_of (c ∷ cs)) ≡ length (c ∷ cs) = length-map (c ∷ cs) (λ d. d - 48) in
-              subst (λ path. (c ∷ cs ≡ path_field path) × IsPath path) t.1
-              (sym k.0, record { short = omega (arith, le, count); turns = All-from_recursion (λ d. d < 2) (turns_of (c ∷ cs)) k.1 })
+              subst (λ path. (c ∷ cs ≡ path_field path) × IsPath path) t.1 (
+                sym k.0,
+                record {
+                  short = omega (arith, le, count);
+                  turns = All-from_recursion (λ d. d < 2) (turns_of (c ∷ cs)) k.1;
+                },
+              )
           | inr h ↦ absurd cc
         ]
 
@@ -81,7 +92,9 @@ not_minus d ds = by (bytes_eq ((48 + d) ∷ ds) (codes "-")) refl
 
     by : (b : Bool) → bytes_eq ((48 + d) ∷ ds) (codes "-") ≡ b → b ≡ false
     by false e = refl
-    by true e = let is : 48 + d ≡ 45 = ap first ((bytes_eq-Decides ((48 + d) ∷ ds) (codes "-")).0 e) in absurd (omega (arith, is))
+    by true e =
+        let is : 48 + d ≡ 45 = ap first ((bytes_eq-Decides ((48 + d) ∷ ds) (codes "-")).0 e) in
+        absurd (omega (arith, is))
 
 known_again : (path : List ℕ) → IsPath path → known_path (path_field path) ≡ Ok path
 unfolding known_path known_turns
@@ -102,7 +115,11 @@ path_law = record { takes = takes; again = again }
         on_ok _ _ x e (λ path hp e.
         let t = known_takes f.0 path hp in
         let made : (path, f.1) ≡ x = cc in
-        subst (λ (y : List ℕ × Line). (line ≡ path_field y.0 ∷ y.1) × IsPath y.0) made (field_is line f hf ∙ ap (λ g. g ∷ f.1) t.0, t.1)))
+        subst (λ (y : List ℕ × Line). (line ≡ path_field y.0 ∷ y.1) × IsPath y.0) made (
+          field_is line f hf
+              ∙ ap (λ g. g ∷ f.1) t.0,
+          t.1,
+        )))
 
     again : (path : List ℕ) (rest : Line) → IsPath path → path_at (path_field path ∷ rest) ≡ Ok (path, rest)
     again path rest h = rw (known_again path h) refl
@@ -117,4 +134,5 @@ digits_lack c (d ∷ ds) lt = (other, digits_lack c ds lt)
 
 pub clean_path : (path : List ℕ) → IsField (path_field path)
 clean_path [] = record { spaces = search rules; line_feeds = search rules }
-clean_path (d ∷ ds) = record { spaces = digits_lack 32 (d ∷ ds) (omega arith); line_feeds = digits_lack 10 (d ∷ ds) (omega arith) }
+clean_path (d ∷ ds) =
+    record { spaces = digits_lack 32 (d ∷ ds) (omega arith); line_feeds = digits_lack 10 (d ∷ ds) (omega arith) }

@@ -1,4 +1,5 @@
--- Reading a bundle: a source by its count of bytes, and the texts of a program and a certificate. The first fault decides.
+-- Reading a bundle: a source by its count of bytes, and the texts of a program and a certificate. The first fault
+-- decides.
 use Rattle.std.specs.Prelude.{ℕ, ◌+◌, ◌==◌, List, take, drop, slice_index, length, Option, Some, None, Result, Ok, Err, if◌then◌else◌, codes}
 use Rattle.std.specs.List.{count_by}
 use Rattle.std.specs.Str.{bytes_eq}
@@ -65,7 +66,8 @@ source_line n text = do
 
 -- the source, of so many bytes, and a line feed behind it; the count stands on line n
 unfoldable pub source_at : ℕ → ℕ → List ℕ → Result (List ℕ × List ℕ) TextFault
-source_at n count text = if slice_index text count == 10 then Ok (take count text, drop (count + 1) text) else Err (fault_at n Section)
+source_at n count text =
+    if slice_index text count == 10 then Ok (take count text, drop (count + 1) text) else Err (fault_at n Section)
 
 -- ---- all of it
 -- how many lines a source takes, with the line feed behind it

@@ -42,11 +42,23 @@ certificate_at n text = do
   let r = length templates.0.0
   let e = length templates.0.1
   lines ← lines_by (node_at (i + k) r e) (s + k + 1 + r + e) sizes.0.count templates.1
-  Ok (record { inputs = i; states = k; steps = steps.0; starts = starts.0; templates = templates.0.0; error_templates = templates.0.1; lines = lines.0 }, lines.1)
+  Ok (
+    record {
+      inputs = i;
+      states = k;
+      steps = steps.0;
+      starts = starts.0;
+      templates = templates.0.0;
+      error_templates = templates.0.1;
+      lines = lines.0;
+    },
+    lines.1,
+  )
 
 -- how many lines a certificate's text has
 abbrev pub certificate_lines : Certificate → ℕ
-certificate_lines c = 4 + length c.steps + length c.starts + length c.templates + length c.error_templates + length c.lines
+certificate_lines c =
+    4 + length c.steps + length c.starts + length c.templates + length c.error_templates + length c.lines
 
 -- all of a text
 unfoldable pub certificate_in : List ℕ → Result Certificate TextFault

@@ -14,7 +14,8 @@ CertificateLaw = (n : ℕ) → IsOneSpelling (certificate_at n) certificate_text
 
 -- what is read of a whole text is spelled so, and lawful
 abbrev pub CertificateTakes : Type 0
-CertificateTakes = (text : List ℕ) (c : Certificate) → certificate_in text ≡ Ok c → (text ≡ certificate_text c) × IsLawfulCertificate c
+CertificateTakes = (text : List ℕ) (c : Certificate) → certificate_in text ≡ Ok c →
+    (text ≡ certificate_text c) × IsLawfulCertificate c
 
 -- what is lawful is read from its text
 abbrev pub CertificateAgain : Type 0

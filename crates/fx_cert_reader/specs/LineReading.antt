@@ -117,7 +117,15 @@ form_at v templates error_templates line = do
   range_by ← by_at templates error_rest.1
   error_by ← by_at error_templates range_by.1
   _ ← ended_at error_by.1
-  Ok (record { centre_a = centre_a.0; centre_b = centre_b.0; coefs = coefs.0; rest = rest.0; error_rest = error_rest.0; range_by = range_by.0; error_by = error_by.0 })
+  Ok (record {
+    centre_a = centre_a.0;
+    centre_b = centre_b.0;
+    coefs = coefs.0;
+    rest = rest.0;
+    error_rest = error_rest.0;
+    range_by = range_by.0;
+    error_by = error_by.0;
+  })
 
 -- behind form: LO HI ELO EHI, and the form
 unfoldable pub formed_at : ℕ → ℕ → ℕ → Line → Result NodeLine TextKind

@@ -1,8 +1,8 @@
 //! Reading a bundle in one pass, and its lines by their numbers in the bundle.
 //!
-//! The source is counted in bytes and may hold any line, those of a bundle too, so nothing looks into it but for its line
-//! feeds. The trap: a line that names a section, or begins one, has a fault of its own kind where it is another or has no
-//! line feed; the further fields of a source's count have the faults of any fields.
+//! The source is counted in bytes and may hold any line, those of a bundle too, so nothing looks into it but for its
+//! line feeds. The trap: a line that names a section, or begins one, has a fault of its own kind where it is another or
+//! has no line feed; the further fields of a source's count have the faults of any fields.
 
 ghost use Rattle.std.specs.Prelude.{◌≡◌, ◌≤◌, ◌+◌, ◌^◌, length, IfOk};
 ghost use Rattle.fx_model.specs.Limits.{source_limit};

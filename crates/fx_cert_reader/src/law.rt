@@ -4,7 +4,8 @@
 
 ghost use Rattle.fx_cert_reader.specs.Laws.{CertificateLaw, CertificateTakes, CertificateAgain, BundleLaw, BundleTakes, BundleAgain};
 
-/// A certificate has one spelling at the front of a text, whatever follows it and whatever the number of its first line.
+/// A certificate has one spelling at the front of a text, whatever follows it and whatever the number of its first
+/// line.
 pub fn certificate_law()
     ensures { CertificateLaw }
 {}

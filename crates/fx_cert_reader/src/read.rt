@@ -37,7 +37,8 @@ fn headline_line(line: u32, text: &[u8]) -> Result<&[u8], TextFault>
 
 #[tactic(auto, unfolding(fx_text::specs::Lines::line_by))]
 fn sizes_line(line: u32, text: &[u8]) -> Result<(CertificateSizes, &[u8]), TextFault>
-    ensures value { ReadsAll (λ x. (certificate_sizes_of x.0, x.1.now)) result (line_by certificate_sizes_at line text.now) }
+    ensures value { ReadsAll (λ x. (certificate_sizes_of x.0, x.1.now)) result
+        (line_by certificate_sizes_at line text.now) }
     ensures range { IfOk result (λ x. AreCertificateSizes (certificate_sizes_of x.0)) }
 {
     let (mut fields, rest) = fields_at(line, text)?;
@@ -61,7 +62,8 @@ fn template_counts_line(
     line: u32,
     text: &[u8],
 ) -> Result<(TemplateCounts, &[u8]), TextFault>
-    ensures value { ReadsAll (λ x. (template_counts_of x.0, x.1.now)) result (line_by (template_counts_at states) line text.now) }
+    ensures value { ReadsAll (λ x. (template_counts_of x.0, x.1.now)) result
+        (line_by (template_counts_at states) line text.now) }
     ensures range { IfOk result (λ x. AreTemplateCounts states (template_counts_of x.0)) }
 {
     let (mut fields, rest) = fields_at(line, text)?;
@@ -117,7 +119,8 @@ fn all_templates_at<'a>(
 ) -> Result<(Vec<Template>, Vec<Template>, &'a [u8]), TextFault>
     requires line { line ≤ 2 ^ 29 + 2 ^ 15 }
     requires states { states ≤ state_limit }
-    ensures value { Gives (λ x. ((templates_in x.0.items, templates_in x.1.items), x.2.now)) result (all_templates_at line states text.now) }
+    ensures value { Gives (λ x. ((templates_in x.0.items, templates_in x.1.items), x.2.now)) result
+        (all_templates_at line states text.now) }
     ensures templates { IfOk result (λ x. length x.0.items ≤ template_limit) }
     ensures error_templates { IfOk result (λ x. length x.1.items ≤ template_limit) }
 {

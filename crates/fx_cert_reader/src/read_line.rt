@@ -1,7 +1,7 @@
 //! Reading the lines of a certificate, each from its fields.
 //!
-//! A reader of a line reads its word, its fields from left to right, and that no field is left. The trap: what a line may
-//! be depends on where it stands, so that a reader of templates and of nodes is told how many there are.
+//! A reader of a line reads its word, its fields from left to right, and that no field is left. The trap: what a line
+//! may be depends on where it stands, so that a reader of templates and of nodes is told how many there are.
 
 ghost use Rattle.std.specs.Prelude.{◌≡◌, ◌<◌, ◌≤◌, ◌+◌, IfOk};
 ghost use Rattle.fx_model.specs.Limits.{state_limit, template_limit, step_limit};

@@ -1,7 +1,7 @@
 //! Reading shares of templates.
 //!
-//! Templates rise and are below an end, so a count needs no limit of its own: past the last template nothing is read. What is
-//! kept of a count is one more than there are templates, so that a hostile count costs nothing.
+//! Templates rise and are below an end, so a count needs no limit of its own: past the last template nothing is read.
+//! What is kept of a count is one more than there are templates, so that a hostile count costs nothing.
 
 ghost use Rattle.std.specs.Prelude.{◌≡◌, ◌<◌, ◌≤◌, IfOk};
 ghost use Rattle.std.specs.Option.{option_map};

@@ -13,7 +13,8 @@ use Rattle.fx_checker.specs.CertifiedView.{Accepted}
 -- what the checker made of a program and a certificate for fn
 abbrev pub IsJudged : Function → Program → Certificate → Option Accepted → Type 0
 IsJudged fn p cert None = ¬ IsAccepted rewrite fn p cert
-IsJudged fn p cert (Some a) = IsAccepted rewrite fn p cert × (a ≡ record { function = fn; program = p; certificate = cert })
+IsJudged fn p cert (Some a) =
+    IsAccepted rewrite fn p cert × (a ≡ record { function = fn; program = p; certificate = cert })
 
 -- certified for fn, of its name, at the width and with the rounding that are asked for
 pub record IsAnswerFor (w : Wanted) (fn : Function) (a : Accepted) : Type 0 where

@@ -42,7 +42,9 @@ fn next_node(program: &Program) -> u32
 /// Whether one step keeps template `i`.
 fn keeps_template(program: &Program, certificate: &Certificate, side: &Side, i: u32) -> Judgement
     requires short { IsShortCertificate (certificate_of certificate.now) }
-    ensures { let p = program.now in let cert = certificate_of certificate.now in result ≡ judged (kept_template p.inputs p.states (length p.codes - p.states) cert.lines (templates_by side.now cert) side.now i) }
+    ensures { let p = program.now in let cert = certificate_of certificate.now in
+        result ≡ judged (kept_template p.inputs p.states (length p.codes - p.states) cert.lines
+        (templates_by side.now cert) side.now i) }
 {
     program.keeps();
     template_judgement(
@@ -64,7 +66,9 @@ fn starts_in_template(
     i: u32,
 ) -> Judgement
     requires short { IsShortCertificate (certificate_of certificate.now) }
-    ensures { let p = program.now in let cert = certificate_of certificate.now in result ≡ judged (start_template_claims p.states (templates_of p.states (templates_by side.now cert)) (box_at side.now cert.starts) i) }
+    ensures { let p = program.now in let cert = certificate_of certificate.now in
+        result ≡ judged (start_template_claims p.states (templates_of p.states (templates_by side.now cert))
+        (box_at side.now cert.starts) i) }
 {
     start_template_judgement(
         templates_by(certificate, side),
@@ -86,7 +90,9 @@ fn template_fault(
     requires short { IsShortCertificate (certificate_of certificate.now) }
     requires inputs { program.now.inputs ≡ length function.now.inputs }
     requires states { program.now.states ≡ length function.now.states }
-    ensures { option_map condition_fault_of result ≡ conditions.fault_of (template_condition side.now function.now program.now (certificate_of certificate.now) i) }
+    ensures { option_map condition_fault_of result
+        ≡ conditions.fault_of (template_condition side.now function.now program.now
+        (certificate_of certificate.now) i) }
 {
     let judgement = keeps_template(program, certificate, side, i);
     match side {
@@ -105,7 +111,8 @@ fn start_template_fault(
 ) -> Option<ConditionFault>
     requires short { IsShortCertificate (certificate_of certificate.now) }
     requires states { program.now.states ≡ length function.now.states }
-    ensures { option_map condition_fault_of result ≡ conditions.fault_of (start_template_condition side.now function.now (certificate_of certificate.now) i) }
+    ensures { option_map condition_fault_of result
+        ≡ conditions.fault_of (start_template_condition side.now function.now (certificate_of certificate.now) i) }
 {
     let judgement = starts_in_template(program, certificate, side, i);
     match side {
@@ -133,7 +140,10 @@ pub fn templates_fault(
     requires inputs { program.now.inputs ≡ length function.now.inputs }
     requires states { program.now.states ≡ length function.now.states }
     requires few { length (templates_by side.now (certificate_of certificate.now)) ≤ 512 }
-    ensures { let cert = certificate_of certificate.now in option_map condition_fault_of result ≡ first_fault_of (each_index (length (templates_by side.now cert)) (template_condition side.now function.now program.now cert)) }
+    ensures { let cert = certificate_of certificate.now in
+        option_map condition_fault_of result
+        ≡ first_fault_of (each_index (length (templates_by side.now cert))
+        (template_condition side.now function.now program.now cert)) }
 {
     for i in 0..template_count(certificate, side) {
         if let Some(fault) = template_fault(function, program, certificate, side, i) {
@@ -153,7 +163,10 @@ pub fn start_templates_fault(
     requires short { IsShortCertificate (certificate_of certificate.now) }
     requires states { program.now.states ≡ length function.now.states }
     requires few { length (templates_by side.now (certificate_of certificate.now)) ≤ 512 }
-    ensures { let cert = certificate_of certificate.now in option_map condition_fault_of result ≡ first_fault_of (each_index (length (templates_by side.now cert)) (start_template_condition side.now function.now cert)) }
+    ensures { let cert = certificate_of certificate.now in
+        option_map condition_fault_of result
+        ≡ first_fault_of (each_index (length (templates_by side.now cert))
+        (start_template_condition side.now function.now cert)) }
 {
     for i in 0..template_count(certificate, side) {
         if let Some(fault) = start_template_fault(function, program, certificate, side, i) {

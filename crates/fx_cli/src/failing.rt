@@ -1,7 +1,7 @@
 //! Each call of a device failing in turn, through the call `fixd`, where each call gives or takes two bytes at most.
 //!
-//! That a status has its cause is proved; here it is tried which call is the cause. A run ends with 6 or 7 exactly where the
-//! failing call was made, and else as it does where nothing fails.
+//! That a status has its cause is proved; here it is tried which call is the cause. A run ends with 6 or 7 exactly
+//! where the failing call was made, and else as it does where nothing fails.
 ghost use Rattle.std.specs.Prelude.{◌≤◌, ℕ, List, [], None, length};
 ghost use Rattle.fx_base.specs.Causes.{Rose};
 
@@ -160,7 +160,8 @@ const NOTHING_FAILS: Fails = Fails {
     notes: 0,
 };
 
-/// The words of a call behind its command, and what the input holds; then the status, the lines of the page and the line on the notes.
+/// The words of a call behind its command, and what the input holds; then the status, the lines of the page and the
+/// line on the notes.
 type Run = (
     &'static [&'static str],
     &'static [u8],
@@ -178,11 +179,14 @@ static RUNS: [Run; 14] = [
     (&["run", "a"], b"", 5, "", "fixd: row: MissingColumn at line 1 column x\n"),
     (&["mixed", "a"], b"x\n0.3\n1\n", 0, "out1\n0.7998046875\n1.5\n", ""),
     (&["node", "--units", "2", "a"], b"unit,x\n1,0.3\n0,1\n", 0, "unit,out1\n1,0.7998046875\n0,1.5\n", ""),
-    (&["node", "--units", "2", "a"], b"x,unit\n0.3,1\n1,2\n0,0\n", 5, "unit,out1\n1,0.7998046875\n", "fixd: row: BadUnit at line 3\n"),
+    (&["node", "--units", "2", "a"], b"x,unit\n0.3,1\n1,2\n0,0\n", 5, "unit,out1\n1,0.7998046875\n",
+        "fixd: row: BadUnit at line 3\n"),
     (&["check", "a"], b"x\n0.3\n", 0, "accepted\nout1 1/2^12\n", ""),
-    (&["show", "a"], b"x\n0.3\n", 0, "0 in 12 0 1 -1/2^12 0\n1 const 12 1/2^1 1/2^1 0 0\n2 add 12 1/2^1 3/2^1 -1/2^12 0\n3 copy 12 1/2^1 3/2^1 -1/2^12 0\nout1 1/2^12\n", ""),
+    (&["show", "a"], b"x\n0.3\n", 0,
+        "0 in 12 0 1 -1/2^12 0\n1 const 12 1/2^1 1/2^1 0 0\n2 add 12 1/2^1 3/2^1 -1/2^12 0\n3 copy 12 1/2^1 3/2^1 -1/2^12 0\nout1 1/2^12\n", ""),
     (&["widths", "a"], b"x\n0.3\n", 0, "0 in 16\n1 const 16\n2 add 16\n3 copy 16\nbytes 8\n", ""),
-    (&["rust", "a"], b"x\n0.3\n", 0, "// f, width 16\npub fn step(s: &mut [i64; 0], x: &[i64; 1]) -> [i64; 1] {\n    let w0: i16 = x[0] as i16;\n    let w1: i16 = 2048;\n    let w2: i16 = (((w0 as i128) >> 0) + ((w1 as i128) >> 0)) as i16;\n    let w3: i16 = ((w2 as i128) >> 0) as i16;\n    [w3 as i64]\n}\n", ""),
+    (&["rust", "a"], b"x\n0.3\n", 0,
+        "// f, width 16\npub fn step(s: &mut [i64; 0], x: &[i64; 1]) -> [i64; 1] {\n    let w0: i16 = x[0] as i16;\n    let w1: i16 = 2048;\n    let w2: i16 = (((w0 as i128) >> 0) + ((w1 as i128) >> 0)) as i16;\n    let w3: i16 = ((w2 as i128) >> 0) as i16;\n    [w3 as i64]\n}\n", ""),
     (&["synth", "--width", "16", "a"], b"x\n0.3\n", 3, "", "fixd: source: Unexpected at byte 0\n"),
     (&["check"], b"x\n0.3\n", 2, "", "fixd: usage: synth, check, run, show or demo\n"),
 ];

@@ -1,7 +1,7 @@
 //! The program `fixd`: the real streams and files, the words, and the one call that does the rest.
 //!
-//! `fx_command::fixd` has every promise, over any shelf, source and sinks. Nothing is decided here but what to do where the
-//! words can't even be taken.
+//! `fx_command::fixd` has every promise, over any shelf, source and sinks. Nothing is decided here but what to do where
+//! the words can't even be taken.
 #![tactic(auto)]
 
 mod outside;

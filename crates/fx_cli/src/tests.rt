@@ -1,5 +1,6 @@
-//! What no clause says: that there is memory for a call over the kinds in memory, and how little is read ahead of an output
-//! that can't be written. All other calls are cases, told as texts in `cases/`; all sources of `demo` are tried by `.ci/checks/demos`.
+//! What no clause says: that there is memory for a call over the kinds in memory, and how little is read ahead of an
+//! output that can't be written. All other calls are cases, told as texts in `cases/`; all sources of `demo` are tried
+//! by `.ci/checks/demos`.
 
 use fx_base::{BytesIn, BytesOut, FileName, Papers, Source, Status, read_all};
 use fx_command::fixd;

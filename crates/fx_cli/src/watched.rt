@@ -1,6 +1,7 @@
 //! Each answer stands before the next row is asked for, seen from the side of whoever feeds the rows.
 //!
-//! That it is so at every read is a clause of `fixd` (`prompt`), told of the moments that a source notes. This one notes them all.
+//! That it is so at every read is a clause of `fixd` (`prompt`), told of the moments that a source notes. This one
+//! notes them all.
 ghost use Rattle.std.specs.Prelude.{◌≡◌, ℕ, List, map, take, length, min, Some};
 ghost use Rattle.fx_base.specs.Moments.{Notes};
 

@@ -1,7 +1,7 @@
 //! Items with a sign between each two, whatever one of them is.
 //!
-//! A rule reads one item behind those that were read. The loop over items is written here alone, and with it the proof that
-//! it gives what the grammar's `repeated` gives.
+//! A rule reads one item behind those that were read. The loop over items is written here alone, and with it the proof
+//! that it gives what the grammar's `repeated` gives.
 ghost use Rattle.std.specs.Prelude.{◌≡◌, ◌<◌, ◌≤◌, length, IfOk, IsOk};
 ghost use Rattle.fx_lexer.specs.Faults.{GivesParsed};
 ghost use Rattle.fx_cursor.specs.Views.{lexemes};
@@ -32,12 +32,14 @@ pub trait Rule<'a> {
     /// One more item.
     fn item<'t>(&self, kept: Self::Kept, tokens: &'t [Token<'a>]) -> Parsed<'t, 'a, Self::Kept>
         requires { can_go_on self.now kept }
-        ensures value { GivesParsed (λ x. (value_of x.0, lexemes x.1.now)) result (item_at self.now (value_of kept) (lexemes tokens.now)) }
+        ensures value { GivesParsed (λ x. (value_of x.0, lexemes x.1.now)) result
+            (item_at self.now (value_of kept) (lexemes tokens.now)) }
         ensures shorter { IfOk result (λ x. length x.1.now < length tokens.now) }
         ensures on { IfOk result (λ x. can_go_on self.now x.0) };
 }
 
-/// The same. A loop's variables come from a `?`, since the borrow checker covers no loop over a parameter of this kind yet.
+/// The same. A loop's variables come from a `?`, since the borrow checker covers no loop over a parameter of this kind
+/// yet.
 fn begun<'t, 'a, K: Drop>(kept: K, tokens: &'t [Token<'a>]) -> Parsed<'t, 'a, K>
     ensures value { IfOk result (λ x. (x.0 ≡ kept) × (x.1.now ≡ tokens.now)) }
     ensures ok { IsOk result }
@@ -53,7 +55,8 @@ pub fn repeated<'t, 'a, R: Rule<'a>>(
     tokens: &'t [Token<'a>],
 ) -> Parsed<'t, 'a, R::Kept>
     requires { R.can_go_on rule.now kept }
-    ensures value { GivesParsed (λ x. (R.value_of x.0, lexemes x.1.now)) result (repeated (stands_next sign) (behind (R.item_at rule.now)) (R.value_of kept) (lexemes tokens.now)) }
+    ensures value { GivesParsed (λ x. (R.value_of x.0, lexemes x.1.now)) result
+        (repeated (stands_next sign) (behind (R.item_at rule.now)) (R.value_of kept) (lexemes tokens.now)) }
     ensures shorter { IfOk result (λ x. length x.1.now ≤ length tokens.now) }
     ensures on { IfOk result (λ x. R.can_go_on rule.now x.0) }
 {
@@ -75,7 +78,8 @@ pub fn separated<'t, 'a, R: Rule<'a>>(
     tokens: &'t [Token<'a>],
 ) -> Parsed<'t, 'a, R::Kept>
     requires { R.can_go_on rule.now kept }
-    ensures value { GivesParsed (λ x. (R.value_of x.0, lexemes x.1.now)) result (separated sign (R.item_at rule.now) (R.value_of kept) (lexemes tokens.now)) }
+    ensures value { GivesParsed (λ x. (R.value_of x.0, lexemes x.1.now)) result
+        (separated sign (R.item_at rule.now) (R.value_of kept) (lexemes tokens.now)) }
     ensures shorter { IfOk result (λ x. length x.1.now < length tokens.now) }
     ensures on { IfOk result (λ x. R.can_go_on rule.now x.0) }
 {
@@ -92,7 +96,8 @@ pub fn listed<'t, 'a, R: Rule<'a>>(
     tokens: &'t [Token<'a>],
 ) -> Parsed<'t, 'a, R::Kept>
     requires { R.can_go_on rule.now kept }
-    ensures value { GivesParsed (λ x. (R.value_of x.0, lexemes x.1.now)) result (listed (R.item_at rule.now) end (R.value_of kept) (lexemes tokens.now)) }
+    ensures value { GivesParsed (λ x. (R.value_of x.0, lexemes x.1.now)) result
+        (listed (R.item_at rule.now) end (R.value_of kept) (lexemes tokens.now)) }
     ensures shorter { IfOk result (λ x. length x.1.now < length tokens.now) }
     ensures on { IfOk result (λ x. R.can_go_on rule.now x.0) }
 {

@@ -1,7 +1,7 @@
 //! What every rule of the grammar reads with: the next token, the names so far, numbers, and the loop over items.
 //!
-//! A step takes tokens from the front and gives its value with the tokens behind it, exactly as `fx_grammar` says, or the
-//! first fault. So a cursor is a slice, and nothing is read twice.
+//! A step takes tokens from the front and gives its value with the tokens behind it, exactly as `fx_grammar` says, or
+//! the first fault. So a cursor is a slice, and nothing is read twice.
 //!
 //! The trap: at the end of the tokens a fault stands at the text's length, which each step is passed as `end`.
 #![tactic(auto)]

@@ -1,7 +1,7 @@
 //! Numbers as they stand in the text.
 //!
-//! What is read keeps the digits' slice, and the decimal is read of it where it is used. The trap: a `Decimal` beside a slice
-//! of the text isn't covered by the borrow checker, so a `Numeral` can't keep its own.
+//! What is read keeps the digits' slice, and the decimal is read of it where it is used. The trap: a `Decimal` beside a
+//! slice of the text isn't covered by the borrow checker, so a `Numeral` can't keep its own.
 ghost use Rattle.std.specs.Prelude.{◌≡◌};
 ghost use Rattle.fx_grammar.specs.Steps.{decimal, negative_decimal};
 ghost use Rattle.fx_cursor.specs.Texts.{numeral_decimal};

@@ -1,6 +1,7 @@
 //! The smallest steps over tokens: what stands next, a token of a sort, a number, a name.
 //!
-//! A step gives its value and the tokens behind it. The trap: at the end of the tokens the fault is told at the text's length.
+//! A step gives its value and the tokens behind it. The trap: at the end of the tokens the fault is told at the text's
+//! length.
 ghost use Rattle.std.specs.Prelude.{◌≡◌, ◌≤◌, ◌<◌, ◌^◌, length, drop, OnOk, IfOk, codes, negsuc, ◌≤ℤ◌};
 ghost use Rattle.std.specs.Prelude.{bytes_eq};
 ghost use Rattle.fx_lexer.specs.Faults.{GivesParsed};
@@ -118,7 +119,8 @@ pub fn real<'t, 'a>(end: u32, tokens: &'t [Token<'a>]) -> Parsed<'t, 'a, Token<'
 /// A number.
 #[tactic(auto, unfolding(fx_grammar::specs::Steps::numeral_at))]
 pub fn number<'t, 'a>(end: u32, tokens: &'t [Token<'a>]) -> Parsed<'t, 'a, Numeral<'a>>
-    ensures value { GivesParsed (λ x. (numeral_decimal x.0, lexemes x.1.now)) result (numeral_at end (lexemes tokens.now)) }
+    ensures value { GivesParsed (λ x. (numeral_decimal x.0, lexemes x.1.now)) result
+        (numeral_at end (lexemes tokens.now)) }
     ensures shorter { IfOk result (λ x. length x.1.now < length tokens.now) }
 {
     let (token, rest) = want(end, Head::Number, tokens)?;
@@ -132,7 +134,8 @@ pub fn number<'t, 'a>(end: u32, tokens: &'t [Token<'a>]) -> Parsed<'t, 'a, Numer
 /// A number, with or without a minus.
 #[tactic(auto, unfolding(fx_grammar::specs::Steps::signed_at, fx_grammar::specs::Steps::numeral_at))]
 pub fn signed<'t, 'a>(end: u32, tokens: &'t [Token<'a>]) -> Parsed<'t, 'a, Numeral<'a>>
-    ensures value { GivesParsed (λ x. (numeral_decimal x.0, lexemes x.1.now)) result (signed_at end (lexemes tokens.now)) }
+    ensures value { GivesParsed (λ x. (numeral_decimal x.0, lexemes x.1.now)) result
+        (signed_at end (lexemes tokens.now)) }
     ensures shorter { IfOk result (λ x. length x.1.now < length tokens.now) }
 {
     if peek(tokens) == Head::Minus {

@@ -17,7 +17,8 @@ still-none : (k : ℕ) (bad : Option (ℕ × RowFlaw)) → moved_down k bad ≡ 
 still-none k None e = refl
 still-none k (Some p) e = absurd cc
 
-headed-by : (f : Function) (h : Result (Option (List ℕ)) RowFlaw) (ls : List (List ℕ)) (more : Read) → (more.given.bad ≡ None → more.has_header ≡ true)
+headed-by : (f : Function) (h : Result (Option (List ℕ)) RowFlaw) (ls : List (List ℕ)) (more : Read) →
+    (more.given.bad ≡ None → more.has_header ≡ true)
     → (after_header f h ls more).given.bad ≡ None → (after_header f h ls more).has_header ≡ true
 headed-by f (Err fault) ls more ih good = absurd cc
 headed-by f (Ok None) ls more ih good = ih (still-none 1 more.given.bad good)
@@ -29,7 +30,8 @@ headed f [] good = absurd cc
 headed f (l ∷ ls) good = headed-by f (header_of f l) ls (lines_read f ls) (headed f ls) good
 
 -- all is printed, behind nothing
-pub whole-run : (a : Accepted) (held before text : List ℕ) (count : ℕ) → held ≡ demo_rows → before ≡ [] → count ≡ 1000 → RowsLaw a.function a.program a.certificate
+pub whole-run : (a : Accepted) (held before text : List ℕ) (count : ℕ) → held ≡ demo_rows → before ≡ [] → count ≡ 1000 →
+    RowsLaw a.function a.program a.certificate
     → IsDone (run_outcome a.function a.program (lines_in held)) count (Some before) (Some text) → IsRun a text
 whole-run a held before text count is none all law done =
     let here : IsDone (run_outcome a.function a.program (lines_in demo_rows)) count (Some before) (Some text) =
@@ -41,5 +43,7 @@ whole-run a held before text count is none all law done =
       good = d.good;
       count = d.rows ∙ all;
       run = run;
-      printed = d.printed ∙ ap (λ (t : Bool). if t then run_page a.program (machine_run a.program (given_values r.given.rows)) else []) (headed a.function (lines_in demo_rows) d.good) ∙ ap (run_page a.program) run.own;
+      printed =
+          d.printed ∙ ap (λ (t : Bool). if t then run_page a.program (machine_run a.program (given_values r.given.rows))
+          else []) (headed a.function (lines_in demo_rows) d.good) ∙ ap (run_page a.program) run.own;
     }

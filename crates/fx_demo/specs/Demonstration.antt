@@ -22,8 +22,8 @@ use Rattle.fx_listing.specs.Source.{demo_source}
 abbrev pub demo_wanted : Wanted
 demo_wanted = record { width = 32; tries = 200; round = Floor }
 
--- an accepted program for the source of number n, as a text spells it and a synthesis finds one; the plain plan serves its function, so that its bounds
--- are at most those of the plan
+-- an accepted program for the source of number n, as a text spells it and a synthesis finds one; the plain plan serves
+-- its function, so that its bounds are at most those of the plan
 pub record IsProgram (n : ℕ) (a : Accepted) : Type 0 where
   pub meant : parsed (demo_source n) None ≡ Ok a.function
   pub served : outside_of 32 a.function ≡ None

@@ -77,8 +77,8 @@ fn last_of(alloc: Global, page: &[u8]) -> Result<Vec<u8>, Memory>
     }
 }
 
-/// Makes the source of number `n`, finds a program for it and runs its rows. Gives the program and the last line that it
-/// prints.
+/// Makes the source of number `n`, finds a program for it and runs its rows. Gives the program and the last line that
+/// it prints.
 pub fn demonstrate(alloc: Global, n: u32) -> Result<(Certified, Vec<u8>), Memory>
     requires { n ≤ 500 }
     ensures { IfOk result (λ d. IsDemonstration n d.0 d.1.items) }

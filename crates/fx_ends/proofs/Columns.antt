@@ -8,7 +8,8 @@ use Rattle.fx_rows.specs.declared.fault.RowKind.TheVariants.{MissingColumn, Twic
 use Rattle.fx_ends.specs.Ends.{column_text}
 
 -- all but those of the line as a whole
-pub names_column : (inputs : List Input) (k : ℕ) (kind : RowKind) → kind ≢ LineTooLong → kind ≢ StrayReturn → column_text inputs k kind ≡ codes " column " ∷ (at no_input inputs k).name ∷ []
+pub names_column : (inputs : List Input) (k : ℕ) (kind : RowKind) → kind ≢ LineTooLong → kind ≢ StrayReturn →
+    column_text inputs k kind ≡ codes " column " ∷ (at no_input inputs k).name ∷ []
 names_column inputs k MissingColumn a b = refl
 names_column inputs k TwiceNamed a b = refl
 names_column inputs k TooFew a b = refl

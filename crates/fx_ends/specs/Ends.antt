@@ -59,11 +59,15 @@ outside_text (Demand output) = codes "output " ∷ decimal output ∷ []
 -- what the line says behind `fixd: `, piece by piece
 abbrev pub reason : End → Option (List (List ℕ))
 reason Done = None
-reason (Rejected fault) = Some (codes "rejected: " ∷ condition_text fault.kind ∷ codes " at " ∷ part_name fault.part ∷ codes " " ∷ decimal fault.index ∷ [])
+reason (Rejected fault) =
+    Some (codes "rejected: " ∷ condition_text fault.kind ∷ codes " at " ∷ part_name fault.part ∷ codes " "
+    ∷ decimal fault.index ∷ [])
 reason Usage = Some (codes "usage: synth, check, run, show or demo" ∷ [])
 reason (Misread fault) = Some (codes "source: " ∷ source_text fault.kind ∷ codes " at byte " ∷ decimal fault.at ∷ [])
-reason (BadBundle fault) = Some (codes "bundle: " ∷ bundle_kind_text fault.kind ∷ codes " at line " ∷ decimal fault.line ∷ [])
-reason (BadRow inputs line fault) = Some (row_reason (row_text fault.kind) line (column_text inputs fault.input fault.kind))
+reason (BadBundle fault) =
+    Some (codes "bundle: " ∷ bundle_kind_text fault.kind ∷ codes " at line " ∷ decimal fault.line ∷ [])
+reason (BadRow inputs line fault) =
+    Some (row_reason (row_text fault.kind) line (column_text inputs fault.input fault.kind))
 reason (BadUnit line kind) = Some (row_reason (unit_text kind) line [])
 reason (NotFound outside) = Some (codes "not found: " ∷ outside_text outside)
 reason ReadFault = Some (codes "read fault" ∷ [])

@@ -1,8 +1,8 @@
 //! How a call of `fixd` ends: one end, with its status and its line on the notes.
 //!
-//! All commands end in these ways, so that a status means one thing. `specs/Ends.antt` has both, and `finish` does what it says.
-//! What has to hold where a call ends so is each command's own matter. The trap: a new end is a variant here and in
-//! `specs/Ends.antt`, with a status that no other has.
+//! All commands end in these ways, so that a status means one thing. `specs/Ends.antt` has both, and `finish` does what
+//! it says. What has to hold where a call ends so is each command's own matter. The trap: a new end is a variant here
+//! and in `specs/Ends.antt`, with a status that no other has.
 #![tactic(auto)]
 
 mod end;

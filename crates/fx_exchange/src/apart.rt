@@ -135,8 +135,8 @@ fn bound_of(
     with_states(second, c, templates, shares, states)
 }
 
-/// Takes a combination apart by templates that stand, if its numbers have few enough bits. The templates are those that were
-/// scaled.
+/// Takes a combination apart by templates that stand, if its numbers have few enough bits. The templates are those that
+/// were scaled.
 pub fn take_apart(
     alloc: Global,
     c: &Combination<'_>,

@@ -2,7 +2,8 @@
 //! templates on.
 //!
 //! What the shares leave of a template goes to the unit templates, so that nothing rests on how accurate this is, and
-//! stopping at any time is lawful. Entries are whole with 40 binary places, in coordinates in which each template costs 1.
+//! stopping at any time is lawful. Entries are whole with 40 binary places, in coordinates in which each template costs
+//! 1.
 
 use crate::budget::Budget;
 use fx_cert::Share;
@@ -218,8 +219,8 @@ impl Basis {
         best
     }
 
-    /// Whether template `a` is used up before another, or at about the same time with a greater pivot: a small one would make
-    /// the inverse's numbers long.
+    /// Whether template `a` is used up before another, or at about the same time with a greater pivot: a small one
+    /// would make the inverse's numbers long.
     fn is_used_before(&self, a: usize, best: Option<usize>, column: &[i128]) -> bool {
         let Some(b) = best else {
             return true;

@@ -1,11 +1,11 @@
 //! Templates taken apart by others: so many times each, and what they leave by the unit templates.
 //!
-//! A template is a sum of other templates in many ways, and what bounds it is the cheapest of them. The simplex step finds a
-//! cheap one: templates of a basis are exchanged one at a time, from the unit templates on, until no template makes the sum
-//! cheaper, or the budget of the synthesis is spent: a dense matrix of many states would take minutes.
+//! A template is a sum of other templates in many ways, and what bounds it is the cheapest of them. The simplex step
+//! finds a cheap one: templates of a basis are exchanged one at a time, from the unit templates on, until no template
+//! makes the sum cheaper, or the budget of the synthesis is spent: a dense matrix of many states would take minutes.
 //!
-//! Nothing is promised of the shares: whoever takes them tests the bound that they show. Stopping at any time is lawful,
-//! since what the shares leave goes to the unit templates.
+//! Nothing is promised of the shares: whoever takes them tests the bound that they show. Stopping at any time is
+//! lawful, since what the shares leave goes to the unit templates.
 #![tactic(auto)]
 
 mod apart;

@@ -22,4 +22,8 @@ temp_of t = record { name = t.name; tree = tree t.expr }
 
 -- a demand with a rational error and rational ends
 abbrev pub demand_of : Demand → model.Demand
-demand_of d = record { err = option_map decimal_value d.err; lo = option_map decimal_value d.lo; hi = option_map decimal_value d.hi }
+demand_of d = record {
+  err = option_map decimal_value d.err;
+  lo = option_map decimal_value d.lo;
+  hi = option_map decimal_value d.hi;
+}

@@ -13,7 +13,10 @@ above_one a = record { nodes = size_counted (a.nodes + 1); height = size_counted
 
 -- an operation on two
 abbrev pub above_two : Size → Size → Size
-above_two a b = record { nodes = size_counted (size_counted (a.nodes + b.nodes) + 1); height = size_counted (max a.height b.height + 1) }
+above_two a b = record {
+  nodes = size_counted (size_counted (a.nodes + b.nodes) + 1);
+  height = size_counted (max a.height b.height + 1);
+}
 
 -- of a tree: a use of a name adds no node
 abbrev pub size_of : Tree → Size

@@ -97,7 +97,8 @@ fn copy_demands(alloc: Global, demands: &[Demand]) -> Result<Vec<Demand>, Memory
 }
 
 impl Function {
-    /// The function of these parts, which together are lawful. What a source spells is, so the parser needs no such test.
+    /// The function of these parts, which together are lawful. What a source spells is, so the parser needs no such
+    /// test.
     pub fn new(
         name: Name,
         inputs: Items<Input>,

@@ -10,7 +10,8 @@ use std::mem::replace;
 
 /// The operand of that number.
 pub fn operand(e: &Expr, number: u8) -> Option<&Expr>
-    ensures { MatchOption result (child number (tree e.now) ≡ None) (λ r. child number (tree e.now) ≡ Some (tree r.now)) }
+    ensures { MatchOption result (child number (tree e.now) ≡ None)
+        (λ r. child number (tree e.now) ≡ Some (tree r.now)) }
 {
     if number == 0 {
         match e {
@@ -36,7 +37,8 @@ pub fn operand(e: &Expr, number: u8) -> Option<&Expr>
 
 /// The subtree at a path, and `None` where it leads nowhere.
 pub fn at<'a>(e: &'a Expr, path: &[u8]) -> Option<&'a Expr>
-    ensures { MatchOption result (subtree path.now (tree e.now) ≡ None) (λ r. subtree path.now (tree e.now) ≡ Some (tree r.now)) }
+    ensures { MatchOption result (subtree path.now (tree e.now) ≡ None)
+        (λ r. subtree path.now (tree e.now) ≡ Some (tree r.now)) }
 {
     match path {
         [] => Some(e),

@@ -1,7 +1,7 @@
 //! Sizes of trees, in one walk.
 //!
-//! Counts that leave 32 bits stay at the greatest number, so that no caller has to show that a tree is small: all limits
-//! lie far below.
+//! Counts that leave 32 bits stay at the greatest number, so that no caller has to show that a tree is small: all
+//! limits lie far below.
 ghost use Rattle.std.specs.Prelude.{◌≡◌};
 ghost use Rattle.fx_expr.specs.TreeOf.{tree};
 ghost use Rattle.fx_expr.specs.SizeOf.{above_one, above_two, size_of};

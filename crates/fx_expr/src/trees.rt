@@ -15,7 +15,8 @@ use crate::place::exchange;
 
 /// The tree at this place among the temps' and then the results'.
 pub fn tree_in<'a>(temps: &'a [Temp], results: &'a [Expr], place: u32) -> Option<&'a Expr>
-    ensures { MatchOption result (paths.tree_in (map temp_of temps.now) (map tree results.now) place ≡ None) (λ r. paths.tree_in (map temp_of temps.now) (map tree results.now) place ≡ Some (tree r.now)) }
+    ensures { MatchOption result (paths.tree_in (map temp_of temps.now) (map tree results.now) place ≡ None)
+        (λ r. paths.tree_in (map temp_of temps.now) (map tree results.now) place ≡ Some (tree r.now)) }
 {
     let place = place as usize;
     let count = temps.len();
@@ -32,7 +33,8 @@ pub fn tree_in<'a>(temps: &'a [Temp], results: &'a [Expr], place: u32) -> Option
 fn exchange_in_temps(temps: &mut Items<Temp>, place: usize, path: &[u8], new: Expr) -> Expr
     requires { place < length temps.old }
     ensures changed { map temp_of temps.new ≡ temps_changed (map temp_of temps.old) place (put path.now (tree new)) }
-    ensures old { (e : model.Temp) → slice_get (map temp_of temps.old) place ≡ Some e → IsSome (subtree path.now e.tree) → subtree path.now e.tree ≡ Some (tree result) }
+    ensures old { (e : model.Temp) → slice_get (map temp_of temps.old) place ≡ Some e →
+        IsSome (subtree path.now e.tree) → subtree path.now e.tree ≡ Some (tree result) }
 {
     let temp = &mut temps.list[place];
     exchange(&mut temp.expr, path, new)
@@ -42,7 +44,8 @@ fn exchange_in_temps(temps: &mut Items<Temp>, place: usize, path: &[u8], new: Ex
 fn exchange_in_results(results: &mut Items<Expr>, place: usize, path: &[u8], new: Expr) -> Expr
     requires { place < length results.old }
     ensures changed { map tree results.new ≡ results_changed (map tree results.old) place (put path.now (tree new)) }
-    ensures old { (e : Tree) → slice_get (map tree results.old) place ≡ Some e → IsSome (subtree path.now e) → subtree path.now e ≡ Some (tree result) }
+    ensures old { (e : Tree) → slice_get (map tree results.old) place ≡ Some e → IsSome (subtree path.now e) →
+        subtree path.now e ≡ Some (tree result) }
 {
     let result = &mut results.list[place];
     exchange(result, path, new)
@@ -56,10 +59,13 @@ pub fn exchange_in(
     path: &[u8],
     new: Expr,
 ) -> Expr
-    requires { IsSome (option_and_then (subtree path.now) (paths.tree_in (map temp_of temps.old) (map tree results.old) place)) }
+    requires { IsSome (option_and_then (subtree path.now)
+        (paths.tree_in (map temp_of temps.old) (map tree results.old) place)) }
     ensures temps { map temp_of temps.new ≡ temps_changed (map temp_of temps.old) place (put path.now (tree new)) }
-    ensures results { map tree results.new ≡ results_after (map temp_of temps.old) (map tree results.old) place (put path.now (tree new)) }
-    ensures old { option_and_then (subtree path.now) (paths.tree_in (map temp_of temps.old) (map tree results.old) place) ≡ Some (tree result) }
+    ensures results { map tree results.new
+        ≡ results_after (map temp_of temps.old) (map tree results.old) place (put path.now (tree new)) }
+    ensures old { option_and_then (subtree path.now)
+        (paths.tree_in (map temp_of temps.old) (map tree results.old) place) ≡ Some (tree result) }
 {
     let place = place as usize;
     let count = temps.len();

@@ -1,7 +1,7 @@
 //! Expressions, rule by rule: atoms, factors, terms and sums, which group to the left.
 //!
-//! The recursion is that of the parentheses, at most 200. The trap: outside all of them a minus that begins its line doesn't go
-//! on, and a parenthesis behind a name on its line makes a call.
+//! The recursion is that of the parentheses, at most 200. The trap: outside all of them a minus that begins its line
+//! doesn't go on, and a parenthesis behind a name on its line makes a call.
 ghost use Rattle.std.specs.Prelude.{◌≡◌, ◌≤◌, ◌<◌, ◌+◌, ◌^◌, length, drop, IfOk, option_map};
 ghost use Rattle.fx_lexer.specs.Faults.{GivesParsed};
 ghost use Rattle.fx_lexer.specs.Tokens.{lexeme_of};
@@ -60,7 +60,8 @@ fn named<'t, 'a>(
     rest: &'t [Token<'a>],
 ) -> Parsed<'t, 'a, Operand>
     requires { length context.now.names.now < 2 ^ 32 }
-    ensures value { GivesParsed (λ x. (operand_of x.0, lexemes x.1.now)) result (named (known_in context.now) (lexeme_of token.now) (lexemes rest.now)) }
+    ensures value { GivesParsed (λ x. (operand_of x.0, lexemes x.1.now)) result
+        (named (known_in context.now) (lexeme_of token.now) (lexemes rest.now)) }
     ensures shorter { IfOk result (λ x. length x.1.now ≤ length rest.now) }
 {
     if is_call(rest) {
@@ -79,7 +80,8 @@ fn closed<'t, 'a>(
     operand: Operand,
     tokens: &'t [Token<'a>],
 ) -> Parsed<'t, 'a, Operand>
-    ensures value { GivesParsed (λ x. (operand_of x.0, lexemes x.1.now)) result (closed (known_in context.now) (operand_of operand) (lexemes tokens.now)) }
+    ensures value { GivesParsed (λ x. (operand_of x.0, lexemes x.1.now)) result
+        (closed (known_in context.now) (operand_of operand) (lexemes tokens.now)) }
     ensures shorter { IfOk result (λ x. length x.1.now < length tokens.now) }
 {
     let (_, rest) = want(context.end, Head::Close, tokens)?;
@@ -96,7 +98,9 @@ fn opened<'t, 'a>(
     rest: &'t [Token<'a>],
 ) -> Parsed<'t, 'a, Operand>
     requires { length context.now.names.now < 2 ^ 32 }
-    ensures value { GivesParsed (λ x. (operand_of x.0, lexemes x.1.now)) result (opened (known_in context.now) (inner_at (known_in context.now) room) (lexeme_of token.now) (lexemes rest.now)) }
+    ensures value { GivesParsed (λ x. (operand_of x.0, lexemes x.1.now)) result
+        (opened (known_in context.now) (inner_at (known_in context.now) room) (lexeme_of token.now)
+        (lexemes rest.now)) }
     ensures shorter { IfOk result (λ x. length x.1.now ≤ length rest.now) }
 {
     if room == 0 {
@@ -114,7 +118,8 @@ fn atom<'t, 'a>(
     tokens: &'t [Token<'a>],
 ) -> Parsed<'t, 'a, Operand>
     requires { length context.now.names.now < 2 ^ 32 }
-    ensures value { GivesParsed (λ x. (operand_of x.0, lexemes x.1.now)) result (atom_of (known_in context.now) (inner_at (known_in context.now) room) (lexemes tokens.now)) }
+    ensures value { GivesParsed (λ x. (operand_of x.0, lexemes x.1.now)) result
+        (atom_of (known_in context.now) (inner_at (known_in context.now) room) (lexemes tokens.now)) }
     ensures shorter { IfOk result (λ x. length x.1.now < length tokens.now) }
 {
     let Some((token, rest)) = tokens.split_first() else {
@@ -137,7 +142,8 @@ fn negated<'t, 'a>(
     tokens: &'t [Token<'a>],
 ) -> Parsed<'t, 'a, Operand>
     requires { length context.now.names.now < 2 ^ 32 }
-    ensures value { GivesParsed (λ x. (operand_of x.0, lexemes x.1.now)) result (behind_minus (known_in context.now) (inner_at (known_in context.now) room) (lexemes tokens.now)) }
+    ensures value { GivesParsed (λ x. (operand_of x.0, lexemes x.1.now)) result
+        (behind_minus (known_in context.now) (inner_at (known_in context.now) room) (lexemes tokens.now)) }
     ensures shorter { IfOk result (λ x. length x.1.now < length tokens.now) }
 {
     if peek(tokens) == Head::Number {
@@ -157,7 +163,8 @@ fn factor<'t, 'a>(
     tokens: &'t [Token<'a>],
 ) -> Parsed<'t, 'a, Operand>
     requires { length context.now.names.now < 2 ^ 32 }
-    ensures value { GivesParsed (λ x. (operand_of x.0, lexemes x.1.now)) result (factor_of (known_in context.now) (inner_at (known_in context.now) room) (lexemes tokens.now)) }
+    ensures value { GivesParsed (λ x. (operand_of x.0, lexemes x.1.now)) result
+        (factor_of (known_in context.now) (inner_at (known_in context.now) room) (lexemes tokens.now)) }
     ensures shorter { IfOk result (λ x. length x.1.now < length tokens.now) }
 {
     if peek(tokens) == Head::Minus {
@@ -175,7 +182,8 @@ fn term<'t, 'a>(
     tokens: &'t [Token<'a>],
 ) -> Parsed<'t, 'a, Operand>
     requires { length context.now.names.now < 2 ^ 32 }
-    ensures value { GivesParsed (λ x. (operand_of x.0, lexemes x.1.now)) result (term_of (known_in context.now) (inner_at (known_in context.now) room) (lexemes tokens.now)) }
+    ensures value { GivesParsed (λ x. (operand_of x.0, lexemes x.1.now)) result
+        (term_of (known_in context.now) (inner_at (known_in context.now) room) (lexemes tokens.now)) }
     ensures shorter { IfOk result (λ x. length x.1.now < length tokens.now) }
 {
     let (mut left, mut rest) = factor(context, room, tokens)?;
@@ -198,7 +206,8 @@ fn sum<'t, 'a>(
     tokens: &'t [Token<'a>],
 ) -> Parsed<'t, 'a, Operand>
     requires { length context.now.names.now < 2 ^ 32 }
-    ensures value { GivesParsed (λ x. (operand_of x.0, lexemes x.1.now)) result (sum_from (known_in context.now) outside (inner_at (known_in context.now) room) (lexemes tokens.now)) }
+    ensures value { GivesParsed (λ x. (operand_of x.0, lexemes x.1.now)) result
+        (sum_from (known_in context.now) outside (inner_at (known_in context.now) room) (lexemes tokens.now)) }
     ensures shorter { IfOk result (λ x. length x.1.now < length tokens.now) }
 {
     let (mut left, mut rest) = term(context, room, tokens)?;
@@ -218,7 +227,8 @@ pub fn expression<'t, 'a>(
     tokens: &'t [Token<'a>],
 ) -> Parsed<'t, 'a, Operand>
     requires { length context.now.names.now < 2 ^ 32 }
-    ensures value { GivesParsed (λ x. (operand_of x.0, lexemes x.1.now)) result (expr_at (known_in context.now) outside 200 (lexemes tokens.now)) }
+    ensures value { GivesParsed (λ x. (operand_of x.0, lexemes x.1.now)) result
+        (expr_at (known_in context.now) outside 200 (lexemes tokens.now)) }
     ensures shorter { IfOk result (λ x. length x.1.now < length tokens.now) }
 {
     sum(context, outside, HEIGHT_LIMIT, tokens)

@@ -1,7 +1,7 @@
 //! Expressions, as they stand in a source: from tokens to trees, with their heights and nodes.
 //!
-//! `expression` gives exactly what the definition of `fx_grammar` gives, or that memory ran out. A tree that is too high is
-//! never built, and the recursion is that of at most 200 open parentheses.
+//! `expression` gives exactly what the definition of `fx_grammar` gives, or that memory ran out. A tree that is too
+//! high is never built, and the recursion is that of at most 200 open parentheses.
 #![tactic(auto)]
 
 mod expr;

@@ -82,7 +82,8 @@ fn both(
     left: Option<Expr>,
     right: Option<Expr>,
 ) -> Result<Option<Expr>, SourceFault>
-    ensures { GivesParsed (λ x. option_map tree x) result (Ok (both op (option_map tree left) (option_map tree right))) }
+    ensures { GivesParsed (λ x. option_map tree x) result
+        (Ok (both op (option_map tree left) (option_map tree right))) }
 {
     let Some(left) = left else {
         return Ok(None);

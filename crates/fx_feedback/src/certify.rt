@@ -1,7 +1,7 @@
 //! A function as it stands, and once more with its literals folded and its quotients by literals turned into products.
 //!
-//! A quotient has no form, so that all that goes through it counts as an interval: `state + (input - state) / 16` has no
-//! certificate as it stands, and has one as `state + (input - state) * 0.0625`.
+//! A quotient has no form, so that all that goes through it counts as an interval: `state + (input - state) / 16` has
+//! no certificate as it stands, and has one as `state + (input - state) * 0.0625`.
 
 ghost use Rattle.std.specs.Prelude.{Contains, IfOk};
 ghost use Rattle.fx_model.specs.LawfulProgram.{widths};
@@ -77,8 +77,8 @@ fn better_of(task: Task<'_>, found: Certified, other: Option<Certified>) -> Cert
     }
 }
 
-/// What the cleaned function gives. It is looked for where a quotient was turned, and where nothing was found and cleaning
-/// changed something.
+/// What the cleaned function gives. It is looked for where a quotient was turned, and where nothing was found and
+/// cleaning changed something.
 fn certified_cleaned(
     alloc: Global,
     task: Task<'_>,

@@ -1,9 +1,9 @@
 //! Programs for functions with states: filters and controllers, certified at their limit.
 //!
-//! A state's range is what templates of the states allow, the templates are what ranges allow: so boxes for the states are
-//! proposed, the templates for them looked for, and the boxes widened until the templates lie inside. Then points, from
-//! coarse enough ones down; then the same once more for errors, which points decide. A word that is too small for its range
-//! and error lowers its node's point, and errors are settled again.
+//! A state's range is what templates of the states allow, the templates are what ranges allow: so boxes for the states
+//! are proposed, the templates for them looked for, and the boxes widened until the templates lie inside. Then points,
+//! from coarse enough ones down; then the same once more for errors, which points decide. A word that is too small for
+//! its range and error lowers its node's point, and errors are settled again.
 //!
 //! Nothing rests on what is found: it has passed `fx_checker::check`, whose proof doesn't look in here.
 //! The trap: a box that already holds its templates must not be widened again, else ranges of products run away.

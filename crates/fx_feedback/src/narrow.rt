@@ -1,7 +1,8 @@
 //! Narrower ranges of all nodes, and errors of the outputs, by the templates that stand.
 //!
-//! What is made of several states lies closer than its states do one by one, where they cancel. The templates know that, and
-//! an exchange finds which of them to take. Ranges are narrowed before there are points, in the order of the nodes.
+//! What is made of several states lies closer than its states do one by one, where they cancel. The templates know
+//! that, and an exchange finds which of them to take. Ranges are narrowed before there are points, in the order of the
+//! nodes.
 
 use crate::boxes::span_of;
 use crate::task::Task;

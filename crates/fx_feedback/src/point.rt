@@ -23,8 +23,8 @@ pub fn first_next(nodes: &Nodes) -> usize {
     nodes.list.len().saturating_sub(nodes.states as usize)
 }
 
-/// The node whose point is the only one that node `n` can have: of the copy of a next state its state, of a negation its
-/// operand, of others itself.
+/// The node whose point is the only one that node `n` can have: of the copy of a next state its state, of a negation
+/// its operand, of others itself.
 pub fn decider(nodes: &Nodes, n: usize) -> usize {
     let first = first_next(nodes);
     if n >= first {

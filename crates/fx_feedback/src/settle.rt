@@ -1,7 +1,8 @@
 //! Boxes that stand, by value or by error, with the templates that say so.
 //!
-//! Both are settled alike: something is found in boxes, which begin where the states start, templates are looked for, and a
-//! box that doesn't hold the bound of its template is widened. What is found in boxes is behind the trait `Settling`.
+//! Both are settled alike: something is found in boxes, which begin where the states start, templates are looked for,
+//! and a box that doesn't hold the bound of its template is widened. What is found in boxes is behind the trait
+//! `Settling`.
 
 use crate::boxes::{hold_all, intervals, next_boxes};
 use crate::task::Task;

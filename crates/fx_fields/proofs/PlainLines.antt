@@ -23,10 +23,13 @@ onto-none x (p ∷ ps) field = ap (λ q. q ∷ ps) (append_assoc field (x ∷ []
 
 -- the answer that is wanted of a front of fields, the bytes of the field at hand and what is left
 abbrev pub Gives : State → List (List ℕ) → List ℕ → List ℕ → Type 0
-Gives s fields field xs = next_record default_config s fields field xs ≡ Some (fields ++ onto field (pieces xs), st.StartRecord, [])
+Gives s fields field xs =
+    next_record default_config s fields field xs ≡ Some (fields ++ onto field (pieces xs), st.StartRecord, [])
 
-after_comma : (fields : List (List ℕ)) (field : List ℕ) (ps : List (List ℕ)) → (fields ++ field ∷ []) ++ onto [] ps ≡ fields ++ onto field ([] ∷ onto [] ps)
-after_comma fields field ps = append_assoc fields (field ∷ []) (onto [] ps) ∙ ap (λ f. fields ++ f ∷ onto [] ps) (sym (append-nil field))
+after_comma : (fields : List (List ℕ)) (field : List ℕ) (ps : List (List ℕ)) →
+    (fields ++ field ∷ []) ++ onto [] ps ≡ fields ++ onto field ([] ∷ onto [] ps)
+after_comma fields field ps =
+    append_assoc fields (field ∷ []) (onto [] ps) ∙ ap (λ f. fields ++ f ∷ onto [] ps) (sym (append-nil field))
 
 no_field_yet : (xs : List ℕ) → onto [] (pieces xs) ≡ pieces xs
 no_field_yet [] = refl
@@ -35,31 +38,40 @@ no_field_yet (x ∷ xs) = by (x == 44) where
   first [] = refl
   first (p ∷ ps) = refl
 
-  by : (t : Bool) → onto [] (cond t ([] ∷ pieces xs) (onto_first x (pieces xs))) ≡ cond t ([] ∷ pieces xs) (onto_first x (pieces xs))
+  by : (t : Bool) → onto [] (cond t ([] ∷ pieces xs) (onto_first x (pieces xs)))
+      ≡ cond t ([] ∷ pieces xs) (onto_first x (pieces xs))
   by true = refl
   by false = first (pieces xs)
 
 -- the byte goes on as in a field
-one_byte : (s : State) (fields : List (List ℕ)) (field : List ℕ) (c : ℕ) (rest : List ℕ) → step default_config s c ≡ in_field default_config c
-    → (c == 13) || (c == 10) ≡ false → Gives st.StartField (fields ++ field ∷ []) [] rest → Gives st.InField fields (field ++ c ∷ []) rest → Gives s fields field (c ∷ rest)
+one_byte : (s : State) (fields : List (List ℕ)) (field : List ℕ) (c : ℕ) (rest : List ℕ) →
+    step default_config s c ≡ in_field default_config c
+    → (c == 13) || (c == 10) ≡ false → Gives st.StartField (fields ++ field ∷ []) [] rest →
+    Gives st.InField fields (field ++ c ∷ []) rest → Gives s fields field (c ∷ rest)
 unfolding next_record
 one_byte s fields field c rest like ends comma other = ap moved like ∙ by (c == 44) where
   moved : State × Action → Option Read
   moved p = if is_end p.1 then Some (fields_after p.1 fields field, p.0, rest)
       else next_record default_config p.0 (fields_after p.1 fields field) (field_after p.1 c field) rest
 
-  ended : (e : Bool) → e ≡ false → moved (if e then (after_end term.CRLF c, act.EndRecord) else (st.InField, act.Copy)) ≡ next_record default_config st.InField fields (field ++ c ∷ []) rest
+  ended : (e : Bool) → e ≡ false →
+      moved (if e then (after_end term.CRLF c, act.EndRecord) else (st.InField, act.Copy))
+      ≡ next_record default_config st.InField fields (field ++ c ∷ []) rest
   ended true h = absurd (cc)
   ended false h = refl
 
-  by : (t : Bool) → moved (if t then (st.StartField, act.EndField) else (if ends_with term.CRLF c then (after_end term.CRLF c, act.EndRecord) else (st.InField, act.Copy)))
+  by : (t : Bool) → moved (if t then (st.StartField, act.EndField)
+      else (if ends_with term.CRLF c then (after_end term.CRLF c, act.EndRecord) else (st.InField, act.Copy)))
       ≡ Some (fields ++ onto field (cond t ([] ∷ pieces rest) (onto_first c (pieces rest))), st.StartRecord, [])
-  by true = comma ∙ ap (λ f. Some (f, st.StartRecord, [])) (after_comma fields field (pieces rest) ∙ ap (λ p. fields ++ onto field ([] ∷ p)) (no_field_yet rest))
-  by false = ended ((c == 13) || (c == 10)) ends ∙ other ∙ ap (λ f. Some (fields ++ f, st.StartRecord, [])) (onto-none c (pieces rest) field)
+  by true = comma ∙ ap (λ f. Some (f, st.StartRecord, [])) (after_comma fields field (pieces rest)
+      ∙ ap (λ p. fields ++ onto field ([] ∷ p)) (no_field_yet rest))
+  by false = ended ((c == 13) || (c == 10)) ends ∙ other
+      ∙ ap (λ f. Some (fields ++ f, st.StartRecord, [])) (onto-none c (pieces rest) field)
 
 -- a state from which a byte that isn't special goes on as in a field
 abbrev pub Open : State → Type 0
-Open s = (c : ℕ) → (c == 34) ≡ false → (c == 13) || (c == 10) ≡ false → step default_config s c ≡ in_field default_config c
+Open s =
+    (c : ℕ) → (c == 34) ≡ false → (c == 13) || (c == 10) ≡ false → step default_config s c ≡ in_field default_config c
 
 choice : {A : Type 0} (b : Bool) (p q : A) → b ≡ false → (if b then p else q) ≡ q
 choice true p q h = absurd (cc)
@@ -75,9 +87,12 @@ start_record_open : Open st.StartRecord
 start_record_open c quote ends = choice ((c == 13) || (c == 10)) _ _ ends ∙ choice (c == 34) _ _ quote
 
 -- so many bytes, from inside a record
-inside : (s : State) → ends_at_end s ≡ true → Open s → (fields : List (List ℕ)) (field xs : List ℕ) → list_any is_special xs ≡ false → Gives s fields field xs
+inside : (s : State) → ends_at_end s ≡ true → Open s → (fields : List (List ℕ)) (field xs : List ℕ) →
+    list_any is_special xs ≡ false → Gives s fields field xs
 unfolding next_record
-inside s ends open_ fields field [] plain = ap (λ b. if b then Some (fields ++ (field ∷ []), st.StartRecord, []) else None) ends ∙ ap (λ f. Some (fields ++ f ∷ [], st.StartRecord, [])) (sym (append-nil field))
+inside s ends open_ fields field [] plain =
+    ap (λ b. if b then Some (fields ++ (field ∷ []), st.StartRecord, []) else None) ends
+    ∙ ap (λ f. Some (fields ++ f ∷ [], st.StartRecord, [])) (sym (append-nil field))
 inside s ends open_ fields field (c ∷ rest) plain =
     let parts = or_parts (is_special c) (list_any is_special rest) plain in
     let here = or_parts (c == 34) ((c == 13) || (c == 10)) parts.0 in
@@ -86,7 +101,8 @@ inside s ends open_ fields field (c ∷ rest) plain =
     (inside st.InField refl in_field_open fields (field ++ c ∷ []) rest parts.1)
 
 -- a text that isn't empty
-pub plain_record : (c : ℕ) (rest : List ℕ) → list_any is_special (c ∷ rest) ≡ false → next_record default_config st.StartRecord [] [] (c ∷ rest) ≡ Some (pieces (c ∷ rest), st.StartRecord, [])
+pub plain_record : (c : ℕ) (rest : List ℕ) → list_any is_special (c ∷ rest) ≡ false →
+    next_record default_config st.StartRecord [] [] (c ∷ rest) ≡ Some (pieces (c ∷ rest), st.StartRecord, [])
 plain_record c rest plain =
     let parts = or_parts (is_special c) (list_any is_special rest) plain in
     let here = or_parts (c == 34) ((c == 13) || (c == 10)) parts.0 in
@@ -105,15 +121,18 @@ strip_keeps p (a ∷ b ∷ c ∷ rest) e = either (is_bom a b c) where
   either true = (or_parts _ _ (or_parts _ _ (or_parts (p a) _ e).1).1).1
   either false = e
 
-stripped_fields : (xs : List ℕ) → list_any is_special xs ≡ false → option_map (λ (p : Read). p.0) (next_record default_config st.StartRecord [] [] xs) ≡ plain_fields xs
+stripped_fields : (xs : List ℕ) → list_any is_special xs ≡ false →
+    option_map (λ (p : Read). p.0) (next_record default_config st.StartRecord [] [] xs) ≡ plain_fields xs
 unfolding next_record
 stripped_fields [] plain = refl
 stripped_fields (c ∷ rest) plain = ap (option_map (λ (p : Read). p.0)) (plain_record c rest plain)
 
-pub plain_line : (line : List ℕ) → list_any is_special (strip_bom line) ≡ false → line_fields line ≡ plain_fields (strip_bom line)
+pub plain_line : (line : List ℕ) → list_any is_special (strip_bom line) ≡ false →
+    line_fields line ≡ plain_fields (strip_bom line)
 plain_line line plain = stripped_fields (strip_bom line) plain
 
-pub whole_plain_line : (line : List ℕ) → list_any is_special line ≡ false → line_fields line ≡ plain_fields (strip_bom line)
+pub whole_plain_line : (line : List ℕ) → list_any is_special line ≡ false →
+    line_fields line ≡ plain_fields (strip_bom line)
 whole_plain_line line plain = plain_line line (strip_keeps is_special line plain)
 
 -- ---- the byte order mark
@@ -127,17 +146,20 @@ no-mark [] e = refl
 no-mark (a ∷ []) e = refl
 no-mark (a ∷ b ∷ []) e = refl
 no-mark (a ∷ b ∷ c ∷ rest) e = by (a == 0xEF) (b == 0xBB) (c == 0xBF) e where
-  by : (p q r : Bool) → (p && (q && (r && true))) ≡ false → (if (p && q) && r then rest else a ∷ b ∷ c ∷ rest) ≡ a ∷ b ∷ c ∷ rest
+  by : (p q r : Bool) → (p && (q && (r && true))) ≡ false →
+      (if (p && q) && r then rest else a ∷ b ∷ c ∷ rest) ≡ a ∷ b ∷ c ∷ rest
   by true true true h = absurd (cc)
   by true true false h = refl
   by true false r h = refl
   by false q r h = refl
 
-pub unmarked_plain_line : (line : List ℕ) → list_any is_special line ≡ false → has_mark line ≡ false → line_fields line ≡ plain_fields line
+pub unmarked_plain_line : (line : List ℕ) → list_any is_special line ≡ false → has_mark line ≡ false →
+    line_fields line ≡ plain_fields line
 unmarked_plain_line line plain unmarked = whole_plain_line line plain ∙ ap plain_fields (no-mark line unmarked)
 
 -- ---- byte by byte
-none_of_three : (xs : List ℕ) → list_any is_quote xs ≡ false → list_any is_return xs ≡ false → list_any is_feed xs ≡ false → list_any is_special xs ≡ false
+none_of_three : (xs : List ℕ) → list_any is_quote xs ≡ false → list_any is_return xs ≡ false →
+    list_any is_feed xs ≡ false → list_any is_special xs ≡ false
 none_of_three [] q r f = refl
 none_of_three (x ∷ xs) q r f =
     let a = or_parts (is_quote x) (list_any is_quote xs) q in
@@ -174,22 +196,26 @@ neither true b e = absurd (cc)
 neither false true e = absurd (cc)
 neither false false e = (refl, refl)
 
-pub plain_text_line : (line text : List ℕ) → text ≡ strip_bom line → list_any is_return line ≡ false → not (list_any is_quote text || list_any is_feed text) ≡ true
+pub plain_text_line : (line text : List ℕ) → text ≡ strip_bom line → list_any is_return line ≡ false →
+    not (list_any is_quote text || list_any is_feed text) ≡ true
     → line_fields line ≡ plain_fields text
 plain_text_line line text e returns plain =
     let no_return = ap (list_any is_return) e ∙ strip_keeps is_return line returns in
     let none = neither (list_any is_quote text) (list_any is_feed text) plain in
-    plain_line line (ap (list_any is_special) (sym e) ∙ none_of_three text none.0 no_return none.1) ∙ ap plain_fields (sym e)
+    plain_line line (ap (list_any is_special) (sym e) ∙ none_of_three text none.0 no_return none.1)
+    ∙ ap plain_fields (sym e)
 
 -- a quote or a line feed behind the mark is one of the line
 one_of_them : (xs : List ℕ) → (list_any is_quote xs || list_any is_feed xs) ≡ true → list_any is_special xs ≡ true
 one_of_them [] e = e
-one_of_them (x ∷ xs) e = by (is_quote x) (is_return x) (is_feed x) (list_any is_quote xs) (list_any is_feed xs) (one_of_them xs) e where
-  by : (p q r t u : Bool) → ((t || u) ≡ true → list_any is_special xs ≡ true) → ((p || t) || (r || u)) ≡ true → ((p || (q || r)) || list_any is_special xs) ≡ true
-  by true q r t u h e = refl
-  by false true r t u h e = refl
-  by false false true t u h e = refl
-  by false false false t u h e = h e
+one_of_them (x ∷ xs) e =
+    by (is_quote x) (is_return x) (is_feed x) (list_any is_quote xs) (list_any is_feed xs) (one_of_them xs) e where
+      by : (p q r t u : Bool) → ((t || u) ≡ true → list_any is_special xs ≡ true) → ((p || t) || (r || u)) ≡ true →
+          ((p || (q || r)) || list_any is_special xs) ≡ true
+      by true q r t u h e = refl
+      by false true r t u h e = refl
+      by false false true t u h e = refl
+      by false false false t u h e = h e
 
 strip_has : (p : ℕ → Bool) (xs : List ℕ) → list_any p (strip_bom xs) ≡ true → list_any p xs ≡ true
 unfolding strip_bom
@@ -205,6 +231,8 @@ strip_has p (a ∷ b ∷ c ∷ rest) e = either (is_bom a b c) e where
   either true h = before (p a) _ (before (p b) _ (before (p c) _ h))
   either false h = h
 
-pub special_line : (line text : List ℕ) → text ≡ strip_bom line → not (list_any is_quote text || list_any is_feed text) ≡ false → list_any is_special line ≡ true
+pub special_line : (line text : List ℕ) → text ≡ strip_bom line →
+    not (list_any is_quote text || list_any is_feed text) ≡ false → list_any is_special line ≡ true
 special_line line text e special =
-    strip_has is_special line (ap (list_any is_special) (sym e) ∙ one_of_them text (not-false (list_any is_quote text || list_any is_feed text) special))
+    strip_has is_special line (ap (list_any is_special) (sym e)
+    ∙ one_of_them text (not-false (list_any is_quote text || list_any is_feed text) special))

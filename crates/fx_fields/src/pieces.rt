@@ -10,7 +10,8 @@ use std::marker::Model;
 
 /// The next piece of what is left of a text, and what is left behind its comma. None where no piece is left.
 pub fn next_piece<'a>(rest: Option<&'a [u8]>) -> Option<(&'a [u8], Option<&'a [u8]>)>
-    ensures { MatchOption result (pieces_left rest.entry ≡ []) (λ p. pieces_left rest.entry ≡ p.0.now ∷ pieces_left p.1) }
+    ensures { MatchOption result (pieces_left rest.entry ≡ [])
+        (λ p. pieces_left rest.entry ≡ p.0.now ∷ pieces_left p.1) }
 {
     let text = rest?;
     match cut_at(text, b',') {

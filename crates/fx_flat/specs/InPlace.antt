@@ -2,7 +2,8 @@
 use Rattle.std.specs.Prelude.{◌≡◌, ℕ, ◌+◌, ◌<◌, ◌≤◌, List, [], ◌∷◌}
 use Rattle.fx_model.specs.Nodes.{Node, Input, State, Const, Neg, Add, Sub, Mul, Div, Copy}
 
--- node k, after i inputs and s states: these stand at their numbers, all others behind them, and operands before their node
+-- node k, after i inputs and s states: these stand at their numbers, all others behind them, and operands before their
+-- node
 abbrev pub IsInPlace : ℕ → ℕ → ℕ → Node → Type 0
 IsInPlace i s k (Input j) = (k ≡ j) × (j < i)
 IsInPlace i s k (State j) = (k ≡ i + j) × (j < s)

@@ -27,10 +27,13 @@ fn put(list: &mut Vec<Node>, node: Node) -> Result<u32, Memory>
 
 /// Appends a tree's nodes and gives the number of its own.
 fn put_tree(list: &mut Vec<Node>, inputs: u32, temps: &[u32], e: &Expr) -> Result<u32, Memory>
-    requires few { length list.old.items + length (flat inputs temps.now (length list.old.items) (tree e.now)).list ≤ 4000 }
+    requires few { length list.old.items + length (flat inputs temps.now (length list.old.items) (tree e.now)).list
+        ≤ 4000 }
     requires refers { RefersBelow inputs 32 (length temps.now) (tree e.now) }
     requires inputs { inputs ≤ 64 }
-    ensures list { OnOk result (nodes_in list.new.items ≡ nodes_in list.old.items ++ (flat inputs temps.now (length list.old.items) (tree e.now)).list) }
+    ensures list { OnOk result
+        (nodes_in list.new.items ≡ nodes_in list.old.items
+        ++ (flat inputs temps.now (length list.old.items) (tree e.now)).list) }
     ensures root { IfOk result (λ root. root ≡ (flat inputs temps.now (length list.old.items) (tree e.now)).root) }
 {
     match e {
@@ -67,7 +70,8 @@ fn put_tree(list: &mut Vec<Node>, inputs: u32, temps: &[u32], e: &Expr) -> Resul
 
 /// Appends a node for each input and each state.
 fn put_variables(list: &mut Vec<Node>, inputs: u32, states: u32) -> Result<(), Memory>
-    ensures { OnOk result (nodes_in list.new.items ≡ nodes_in list.old.items ++ inputs_from 0 inputs ++ states_from 0 states) }
+    ensures { OnOk result (nodes_in list.new.items ≡ nodes_in list.old.items ++ inputs_from 0 inputs
+        ++ states_from 0 states) }
 {
     put_inputs(list, inputs)?;
     put_states(list, states)
@@ -108,9 +112,11 @@ fn put_temps(
     function: &Function,
 ) -> Result<Vec<u32>, Memory>
     requires inputs { inputs ≡ length function.now.inputs }
-    requires list { nodes_in list.old.items ≡ inputs_from 0 (length function.now.inputs) ++ states_from 0 (length function.now.states) }
+    requires list { nodes_in list.old.items ≡ inputs_from 0 (length function.now.inputs)
+        ++ states_from 0 (length function.now.states) }
     ensures rest { IfOk result (λ temps. (length temps.items ≡ length function.now.temps) ×
-        (nodes_after (length function.now.inputs) [] function.now.results temps.items [] (nodes_in list.new.items) ≡ nodes_of function.now)) }
+        (nodes_after (length function.now.inputs) [] function.now.results temps.items [] (nodes_in list.new.items)
+        ≡ nodes_of function.now)) }
 {
     let mut temps = Vec::new(alloc);
     for temp in function.temps.as_slice() {
@@ -130,7 +136,8 @@ fn put_results(
 ) -> Result<Vec<u32>, Memory>
     requires inputs { inputs ≡ length function.now.inputs }
     requires temps { length temps.now ≡ length function.now.temps }
-    requires list { nodes_after (length function.now.inputs) [] function.now.results temps.now [] (nodes_in list.old.items) ≡ nodes_of function.now }
+    requires list { nodes_after (length function.now.inputs) [] function.now.results temps.now []
+        (nodes_in list.old.items) ≡ nodes_of function.now }
     ensures rest { IfOk result (λ roots. nodes_in list.new.items ++ copies_of roots.items ≡ nodes_of function.now) }
 {
     let mut roots = Vec::new(alloc);

@@ -18,16 +18,22 @@ whole_bottom (pos n) h = omega (arith, ints)
 whole_bottom (negsuc n) h = absurd (omega (arith, ints))
 
 -- a fraction of the code is in lowest terms and keeps the limits
-pub kept_literal : (p q : ℤ) (v : Rational) → IsFraction p q → record { top = p; less = pred (unsigned_abs q) } ≡ v → folded v ≡ Becomes (Literal v)
+pub kept_literal : (p q : ℤ) (v : Rational) → IsFraction p q → record { top = p; less = pred (unsigned_abs q) } ≡ v →
+    folded v ≡ Becomes (Literal v)
 kept_literal p q v h e =
     let b : suc (pred (unsigned_abs q)) ≡ unsigned_abs q = whole_bottom q h.above in
     let u : Rational = record { top = p; less = pred (unsigned_abs q) } in
     let small : bottom u < 2 ^ 62 = subst (λ n. n < 2 ^ 62) (sym b) h.bottom_small in
     let top_small : unsigned_abs u.top < 2 ^ 62 = h.top_small in
     let fits : fits_literal u ≡ true = search (rules, tests) in
-    let is : IsLowest p (bottom u) = record { above = omega arith; coprime = subst (λ n. IsGcd (unsigned_abs p) n 1) (sym b) h.coprime } in
+    let is : IsLowest p (bottom u) = record {
+      above = omega arith;
+      coprime = subst (λ n. IsGcd (unsigned_abs p) n 1) (sym b) h.coprime;
+    } in
     let same : u ≡ lowest u = lowest_is.only u u (equal_refl u) is in
-    subst (λ (w : Rational). folded w ≡ Becomes (Literal w)) e (ap (λ (w : Rational). where_fits (fits_literal w) (Literal w)) (sym same) ∙ ap (λ t. where_fits t (Literal u)) fits)
+    subst (λ (w : Rational). folded w ≡ Becomes (Literal w)) e
+    (ap (λ (w : Rational). where_fits (fits_literal w) (Literal w)) (sym same)
+    ∙ ap (λ t. where_fits t (Literal u)) fits)
 
 -- a zero divisor is no match
 pub no_ratio : (l k u : Rational) → u ≡ k → u.top ≡ pos 0 → folded_option (quotient l k) ≡ NoMatch

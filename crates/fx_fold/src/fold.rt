@@ -170,7 +170,8 @@ pub fn measured(e: &Expr, folded: Folded) -> Measure
 
 /// The sizes of a quotient by a literal, and of the product with the literal that it is folded into.
 fn measured_product(a: &Expr, folded: Folded) -> Measure
-    ensures { (l : Rational) (t : Turned) → Folds folded t → result ≡ measure_of (model.Quotient (tree a.now) (model.Literal l)) (turns.in_product (tree a.now) t) }
+    ensures { (l : Rational) (t : Turned) → Folds folded t →
+        result ≡ measure_of (model.Quotient (tree a.now) (model.Literal l)) (turns.in_product (tree a.now) t) }
 {
     match folded {
         Folded::NoMatch => Measure::NoMatch,

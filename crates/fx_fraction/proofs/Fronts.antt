@@ -11,7 +11,8 @@ more_zeros f z = rw (add-one, pow-suc) (mul_assoc f (10 ^ z) 10)
 pub zero_off : (f q z : ℕ) → f ≡ q * 10 → f * 10 ^ z ≡ q * 10 ^ (z + 1)
 zero_off f q z e =
     let swap : 10 * 10 ^ z ≡ 10 ^ z * 10 = omega arith in
-    ap (λ k. k * 10 ^ z) e ∙ mul_assoc q 10 (10 ^ z) ∙ ap (λ k. q * k) swap ∙ sym (mul_assoc q (10 ^ z) 10) ∙ more_zeros q z
+    ap (λ k. k * 10 ^ z) e ∙ mul_assoc q 10 (10 ^ z) ∙ ap (λ k. q * k) swap ∙ sym (mul_assoc q (10 ^ z) 10)
+    ∙ more_zeros q z
 
 pub last_digit : (x d : ℕ) → d < 10 → (x * 10 + d) % 10 ≡ d
 last_digit x d lt = let e : x * 10 + d ≡ d + x * 10 = omega arith in rw (e, add-mul-mod_self_right) (mod-eq_of_lt lt)
@@ -32,7 +33,8 @@ with_digit n f z d low high e = record {
 
 pub long_front : (f z : ℕ) → 0 < f → 17 < z → 2 ^ 62 ≤ f * 10 ^ (z + 1)
 long_front f z some lt =
-    let p : 10 ^ 19 ≤ 10 ^ (z + 1) = (let some : 0 < 10 = omega arith in let le : 19 ≤ z + 1 = omega arith in pow-le-pow_right some le) in
+    let p : 10 ^ 19 ≤ 10 ^ (z + 1) = (let some : 0 < 10 = omega arith in let le : 19 ≤ z + 1 = omega arith in
+    pow-le-pow_right some le) in
     let q : 10 ^ (z + 1) ≤ f * 10 ^ (z + 1) = omega (arith, mul-le-mul_right (10 ^ (z + 1)) some) in
     omega arith
 

@@ -21,8 +21,10 @@ split_power s e h = let k : (e - s) + s ≡ e = omega (arith, h) in sym (pow-add
 
 twice : (n q s : ℕ) → n % 2 ≡ 0 → n / 2 ≡ q * 2 ^ s → n ≡ q * 2 ^ suc s
 twice n q s even half =
-    let d = div-add-mod' n 2 in let one : suc s ≡ s + 1 = omega arith in let p : 2 ^ suc s ≡ 2 ^ s + 2 ^ s = ap (λ (k : ℕ). 2 ^ k) one ∙ double_power s in
-    let e : q * 2 ^ suc s ≡ q * 2 ^ s + q * 2 ^ s = ap (λ (k : ℕ). q * k) p ∙ (let m : q * (2 ^ s + 2 ^ s) ≡ q * 2 ^ s + q * 2 ^ s = grind arith in m) in
+    let d = div-add-mod' n 2 in let one : suc s ≡ s + 1 = omega arith in
+    let p : 2 ^ suc s ≡ 2 ^ s + 2 ^ s = ap (λ (k : ℕ). 2 ^ k) one ∙ double_power s in
+    let e : q * 2 ^ suc s ≡ q * 2 ^ s + q * 2 ^ s = ap (λ (k : ℕ). q * k) p
+    ∙ (let m : q * (2 ^ s + 2 ^ s) ≡ q * 2 ^ s + q * 2 ^ s = grind arith in m) in
     omega (arith, d, even, half, e)
 
 pub halved : (k n s : ℕ) → s ≤ count_trailing_zeros k n → Halved k n s
@@ -36,16 +38,21 @@ halved (suc k) n zero l = record { rest = n; is = once n; odd = λ e _. by (n % 
     by (suc d) h e = let m = mod_below n 2 (omega arith) in omega (arith, h, m)
 halved (suc k) n (suc s) l = by (n % 2) refl l (halved k (n / 2) s)
   where
-    by : (d : ℕ) → n % 2 ≡ d → suc s ≤ under d (count_trailing_zeros k (n / 2)) → (s ≤ count_trailing_zeros k (n / 2) → Halved k (n / 2) s) → Halved (suc k) n (suc s)
+    by : (d : ℕ) → n % 2 ≡ d → suc s ≤ under d (count_trailing_zeros k (n / 2)) →
+        (s ≤ count_trailing_zeros k (n / 2) → Halved k (n / 2) s) → Halved (suc k) n (suc s)
     by zero h l half = let r = half (omega (arith, l)) in record {
       rest = r.rest;
       is = twice n r.rest s h r.is;
-      odd = λ e lt. r.odd (let f : suc s ≡ suc (count_trailing_zeros k (n / 2)) = e ∙ ap (λ (d : ℕ). under d (count_trailing_zeros k (n / 2))) h in omega (arith, f)) (omega (arith, lt));
+      odd = λ e lt. r.odd (let f : suc s ≡ suc (count_trailing_zeros k (n / 2)) = e
+          ∙ ap (λ (d : ℕ). under d (count_trailing_zeros k (n / 2))) h in omega (arith, f)) (omega (arith, lt));
     }
     by (suc d) h l half = absurd (omega (arith, l))
 
 shifted_is : (f q t : ℕ) → f ≡ q * 2 ^ t → f / 2 ^ t ≡ q
-shifted_is f q t is = let p = pow_pos t in let e : f ≡ q * 2 ^ t + 0 = omega (arith, is) in ap (λ (n : ℕ). n / 2 ^ t) e ∙ div-mul-add q (2 ^ t) 0 p
+shifted_is f q t is =
+    let p = pow_pos t in
+    let e : f ≡ q * 2 ^ t + 0 = omega (arith, is) in
+    ap (λ (n : ℕ). n / 2 ^ t) e ∙ div-mul-add q (2 ^ t) 0 p
 
 few_left : (f q t s : ℕ) → t ≤ s → f < 2 ^ s → f ≡ q * 2 ^ t → q < 2 ^ (s - t)
 few_left f q t s fits few is = by (q < 2 ^ (s - t)) (below q (2 ^ (s - t)))
@@ -55,7 +62,8 @@ few_left f q t s fits few is = by (q < 2 ^ (s - t)) (below q (2 ^ (s - t)))
 
     by : (G : Type 0) → G ⊎ (2 ^ (s - t) ≤ q) → G
     by G (inl h) = h
-    by G (inr h) = absurd (let p = split_power t s fits in let m = mul-le (2 ^ (s - t)) (2 ^ t) q (2 ^ t) h (omega arith) in omega (arith, few, is, p, m))
+    by G (inr h) = absurd (let p = split_power t s fits in
+        let m = mul-le (2 ^ (s - t)) (2 ^ t) q (2 ^ t) h (omega arith) in omega (arith, few, is, p, m))
 
 -- places that don't all end in zeros, without those zeros
 pub record Parts (f s t : ℕ) : Type 0 where

@@ -25,8 +25,10 @@ saturated_more : (n v d : ℕ) → v ≡ saturated n → saturated (saturated (v
 saturated_more n v d e = omega arith
 
 -- a loop that has read i digits goes on by one
-pub digits_go_on : (f : List ℕ) (i v : ℕ) → i < length f → is_ascii_digit (get_or f i 0) ≡ true → AllDigits 10 (take i f) → v ≡ saturated (digits_value 10 (take i f))
-    → AllDigits 10 (take (i + 1) f) × (saturated (saturated (v * 10) + (get_or f i 0 - 48)) ≡ saturated (digits_value 10 (take (i + 1) f)))
+pub digits_go_on : (f : List ℕ) (i v : ℕ) → i < length f → is_ascii_digit (get_or f i 0) ≡ true →
+    AllDigits 10 (take i f) → v ≡ saturated (digits_value 10 (take i f))
+    → AllDigits 10 (take (i + 1) f) ×
+    (saturated (saturated (v * 10) + (get_or f i 0 - 48)) ≡ saturated (digits_value 10 (take (i + 1) f)))
 digits_go_on f i v lt one before e =
     let d = digit_is (get_or f i 0) one in (
       digits_more 10 f i lt before (omega (arith, d.0, d.1)),
@@ -34,7 +36,8 @@ digits_go_on f i v lt one before e =
     )
 
 -- it ends with all digits read
-pub digits_end : (f : List ℕ) (i v : ℕ) → length f ≤ i → AllDigits 10 (take i f) → v ≡ saturated (digits_value 10 (take i f)) → Some v ≡ option_map saturated (digits_of f)
+pub digits_end : (f : List ℕ) (i v : ℕ) → length f ≤ i → AllDigits 10 (take i f) →
+    v ≡ saturated (digits_value 10 (take i f)) → Some v ≡ option_map saturated (digits_of f)
 digits_end f i v le before e =
     let whole = take_all i f le in
     let one : all_ascii_digits f ≡ true = digits_model.from f (subst (λ ds. AllDigits 10 ds) whole before) in
@@ -42,8 +45,11 @@ digits_end f i v le before e =
 
 -- of at least one digit
 pub number_of_digits : (f : List ℕ) → 0 < length f → option_map saturated (digits_of f) ≡ number_kept f
-number_of_digits f some = let t : nat_lt 0 (length f) ≡ true = search (rules, tests) in by (all_ascii_digits f) (nat_lt 0 (length f)) t
+number_of_digits f some =
+    let t : nat_lt 0 (length f) ≡ true = search (rules, tests) in by (all_ascii_digits f) (nat_lt 0 (length f)) t
   where
-    by : (b s : Bool) → s ≡ true → option_map saturated (if b then Some (digits_value 10 f) else None) ≡ (if b && s then Some (saturated (digits_value 10 f)) else None)
+    by : (b s : Bool) → s ≡ true →
+        option_map saturated (if b then Some (digits_value 10 f) else None) ≡ (if b &&
+        s then Some (saturated (digits_value 10 f)) else None)
     by true s e = rw e refl
     by false s e = refl

@@ -10,7 +10,8 @@ use Rattle.fx_rational.proofs.Lowest.{suc_pred}
 use Rattle.fx_rational.specs.Decimal.{Decimal, decimal_value, quantised}
 
 -- `v << s`
-pub left_is : (v : ℤ) (s : ℕ) → s < 127 → FitsSigned w128 v → FitsSigned w128 (v *ℤ pos (2 ^ s)) → to_z w128 ((of_z w128 v * 2 ^ s) % 2 ^ 128) ≡ v *ℤ pos (2 ^ s)
+pub left_is : (v : ℤ) (s : ℕ) → s < 127 → FitsSigned w128 v → FitsSigned w128 (v *ℤ pos (2 ^ s)) →
+    to_z w128 ((of_z w128 v * 2 ^ s) % 2 ^ 128) ≡ v *ℤ pos (2 ^ s)
 left_is v s lt f g =
     let p : FitsSigned w128 (pos (2 ^ s)) = record { sfits = pow_below s 127 lt } in
     wrapping_mul_is w128 v (pos (2 ^ s)) f p ∙ int_wrap_fits w128 (v *ℤ pos (2 ^ s)) g
@@ -25,25 +26,31 @@ pub ten_pos : (b : ℕ) → 0 < 10 ^ b
 ten_pos b = let p = one-le-pow b 10 (omega arith) in omega arith
 
 pub up_fits : (a x : ℤ) (s : ℕ) → unsigned_abs a < 2 ^ 62 → s ≤ 62 → x ≡ a → FitsSigned w128 (x *ℤ pos (2 ^ s))
-up_fits a x s h le e = rw e (fits_signed_mul w128 a (pos (2 ^ s)) (2 ^ 62) (2 ^ 62) (omega arith) (two_up s 62 le) (lit< tt))
+up_fits a x s h le e =
+    rw e (fits_signed_mul w128 a (pos (2 ^ s)) (2 ^ 62) (2 ^ 62) (omega arith) (two_up s 62 le) (lit< tt))
 
 -- two divisions are one by the product
 floor_twice : (a : ℤ) (m n : ℕ) → floor_div (floor_div a m) n ≡ floor_div a (m * n)
 floor_twice (pos k) m n = ap pos (div-div-eq-div-mul k m n)
 floor_twice (negsuc k) m n = ap negsuc (div-div-eq-div-mul k m n)
 
-pub quantised_low : (d : Decimal) (f : ℤ) (s : ℕ) → f <ℤ pos 0 → s ≡ unsigned_abs f → floor_div (floor_div d.a (2 ^ s)) (10 ^ d.b) ≡ quantised d f
+pub quantised_low : (d : Decimal) (f : ℤ) (s : ℕ) → f <ℤ pos 0 → s ≡ unsigned_abs f →
+    floor_div (floor_div d.a (2 ^ s)) (10 ^ d.b) ≡ quantised d f
 unfolding quantised scaled floor decimal_value over
 quantised_low d (pos k) s below g = absurd (omega (arith, ints))
 quantised_low d (negsuc k) s below g =
     let p : suc (pred (10 ^ d.b)) ≡ 10 ^ d.b = suc_pred (10 ^ d.b) (ten_pos d.b) in
-    let q : 0 < suc (pred (10 ^ d.b)) * 2 ^ suc k = mul-lt 0 0 (suc (pred (10 ^ d.b))) (2 ^ suc k) (omega arith) (pow_pos (suc k)) in
+    let q : 0 < suc (pred (10 ^ d.b)) * 2 ^ suc k =
+    mul-lt 0 0 (suc (pred (10 ^ d.b))) (2 ^ suc k) (omega arith) (pow_pos (suc k)) in
     floor_twice d.a (2 ^ s) (10 ^ d.b)
-    ∙ ap (floor_div d.a) (mul_comm (2 ^ s) (10 ^ d.b) ∙ (λ i. sym p i * 2 ^ (g i)) ∙ sym (suc_pred (suc (pred (10 ^ d.b)) * 2 ^ suc k) q))
+    ∙ ap (floor_div d.a) (mul_comm (2 ^ s) (10 ^ d.b) ∙ (λ i. sym p i * 2 ^ (g i))
+    ∙ sym (suc_pred (suc (pred (10 ^ d.b)) * 2 ^ suc k) q))
 
-pub quantised_high : (d : Decimal) (f : ℤ) (s : ℕ) → pos 0 ≤ℤ f → s ≡ unsigned_abs f → floor_div (d.a *ℤ pos (2 ^ s)) (10 ^ d.b) ≡ quantised d f
+pub quantised_high : (d : Decimal) (f : ℤ) (s : ℕ) → pos 0 ≤ℤ f → s ≡ unsigned_abs f →
+    floor_div (d.a *ℤ pos (2 ^ s)) (10 ^ d.b) ≡ quantised d f
 unfolding quantised scaled floor decimal_value over
-quantised_high d (pos k) s above g = rw g (ap (floor_div (d.a *ℤ pos (2 ^ k))) (sym (suc_pred (10 ^ d.b) (ten_pos d.b))))
+quantised_high d (pos k) s above g =
+    rw g (ap (floor_div (d.a *ℤ pos (2 ^ k))) (sym (suc_pred (10 ^ d.b) (ten_pos d.b))))
 quantised_high d (negsuc k) s above g = absurd (omega (arith, ints))
 
 -- x, 10x, 100x ..

@@ -19,49 +19,69 @@ use Rattle.fx_fraction.proofs.Shifts.{fewest_front, fewest_zero, fewest_long, to
 
 -- ---- an exponent past 64 bits is beyond all texts
 
-far : (negative back : Bool) (f z v l : ℕ) → 0 < f → z < 2 ^ 63 → l < 2 ^ 63 → 2 ^ 64 - 1 ≤ v → within_limits negative (by_shift f (pos z -ℤ (pos l -ℤ signed back v))) ≡ Err TooLong
-far negative true f z v l some less short le = too_far negative f (pos z -ℤ (pos l -ℤ neg_ℤ (pos v))) some (inl (omega (arith, ints)))
-far negative false f z v l some less short le = too_far negative f (pos z -ℤ (pos l -ℤ pos v)) some (inr (omega (arith, ints)))
+far : (negative back : Bool) (f z v l : ℕ) → 0 < f → z < 2 ^ 63 → l < 2 ^ 63 → 2 ^ 64 - 1 ≤ v →
+    within_limits negative (by_shift f (pos z -ℤ (pos l -ℤ signed back v))) ≡ Err TooLong
+far negative true f z v l some less short le =
+    too_far negative f (pos z -ℤ (pos l -ℤ neg_ℤ (pos v))) some (inl (omega (arith, ints)))
+far negative false f z v l some less short le =
+    too_far negative f (pos z -ℤ (pos l -ℤ pos v)) some (inr (omega (arith, ints)))
 
-same_signed : (negative back : Bool) (n v l : ℕ) (s : Significant) → Keeps n s → FitsFront s → zeros_of s < 2 ^ 63 → l < 2 ^ 63
-    → within_limits negative (fewest_places n (pos l -ℤ signed back (saturated v))) ≡ within_limits negative (fewest_places n (pos l -ℤ signed back v))
+same_signed : (negative back : Bool) (n v l : ℕ) (s : Significant) → Keeps n s → FitsFront s → zeros_of s < 2 ^ 63 →
+    l < 2 ^ 63
+    → within_limits negative (fewest_places n (pos l -ℤ signed back (saturated v)))
+    ≡ within_limits negative (fewest_places n (pos l -ℤ signed back v))
 same_signed negative back n v l Zero h fits less short =
-    rw h (ap (within_limits negative) (fewest_zero (pos l -ℤ signed back (saturated v)) ∙ sym (fewest_zero (pos l -ℤ signed back v))))
+    rw h (ap (within_limits negative) (fewest_zero (pos l -ℤ signed back (saturated v))
+    ∙ sym (fewest_zero (pos l -ℤ signed back v))))
 same_signed negative back n v l Long h fits less short =
-    fewest_long negative n h.0 h.1 (pos l -ℤ signed back (saturated v)) h.2 h.3 ∙ sym (fewest_long negative n h.0 h.1 (pos l -ℤ signed back v) h.2 h.3)
+    fewest_long negative n h.0 h.1 (pos l -ℤ signed back (saturated v)) h.2 h.3
+    ∙ sym (fewest_long negative n h.0 h.1 (pos l -ℤ signed back v) h.2 h.3)
 same_signed negative back n v l (Front f z) h fits less short =
     ap (within_limits negative) (fewest_front n f z (pos l -ℤ signed back (saturated v)) h.0)
     ∙ by (ltb v (2 ^ 64)) refl
     ∙ sym (ap (within_limits negative) (fewest_front n f z (pos l -ℤ signed back v) h.0))
   where
-    by : (b : Bool) → ltb v (2 ^ 64) ≡ b → within_limits negative (by_shift f (pos z -ℤ (pos l -ℤ signed back (saturated v)))) ≡ within_limits negative (by_shift f (pos z -ℤ (pos l -ℤ signed back v)))
-    by true e = let m : saturated v ≡ v = grind (arith, tests) in ap (λ w. within_limits negative (by_shift f (pos z -ℤ (pos l -ℤ signed back w)))) m
+    by : (b : Bool) → ltb v (2 ^ 64) ≡ b →
+        within_limits negative (by_shift f (pos z -ℤ (pos l -ℤ signed back (saturated v))))
+        ≡ within_limits negative (by_shift f (pos z -ℤ (pos l -ℤ signed back v)))
+    by true e =
+        let m : saturated v ≡ v = grind (arith, tests) in
+        ap (λ w. within_limits negative (by_shift f (pos z -ℤ (pos l -ℤ signed back w)))) m
     by false e =
         let le : 2 ^ 64 ≤ v = grind (arith, tests) in
-        far negative back f z (saturated v) l (omega (arith, fits.0)) less short (omega arith) ∙ sym (far negative back f z v l (omega (arith, fits.0)) less short (omega arith))
+        far negative back f z (saturated v) l (omega (arith, fits.0)) less short (omega arith)
+        ∙ sym (far negative back f z v l (omega (arith, fits.0)) less short (omega arith))
 
-same_exponent : (negative : Bool) (p : Option Power) (n l : ℕ) (s : Significant) → Keeps n s → FitsFront s → zeros_of s < 2 ^ 63 → l < 2 ^ 63
-    → within_limits negative (fewest_places n (pos l -ℤ kept_exponent p)) ≡ within_limits negative (fewest_places n (pos l -ℤ exponent p))
+same_exponent : (negative : Bool) (p : Option Power) (n l : ℕ) (s : Significant) → Keeps n s → FitsFront s →
+    zeros_of s < 2 ^ 63 → l < 2 ^ 63
+    → within_limits negative (fewest_places n (pos l -ℤ kept_exponent p))
+    ≡ within_limits negative (fewest_places n (pos l -ℤ exponent p))
 same_exponent negative None n l s h fits less short = refl
-same_exponent negative (Some p) n l s h fits less short = same_signed negative (is_minus p.sign) n (digits_value 10 p.digits) l s h fits less short
+same_exponent negative (Some p) n l s h fits less short =
+    same_signed negative (is_minus p.sign) n (digits_value 10 p.digits) l s h fits less short
 
 -- ---- the whole text
 
 abbrev pub malformed : Result Decimal NumberFault
 malformed = Err Malformed
 
-pub no_digit : (text body : List ℕ) → body ≡ behind_sign text → digit_count body + length (part_digits (part_of (behind_digits body))) ≡ 0 → malformed ≡ decimal_of text
+pub no_digit : (text body : List ℕ) → body ≡ behind_sign text →
+    digit_count body + length (part_digits (part_of (behind_digits body))) ≡ 0 → malformed ≡ decimal_of text
 unfolding decimal_of numeral_of
-no_digit text body e none = by (behind_sign text) (subst (λ (xs : List ℕ). digit_count xs + length (part_digits (part_of (behind_digits xs))) ≡ 0) e none)
+no_digit text body e none =
+    by (behind_sign text) (subst
+    (λ (xs : List ℕ). digit_count xs + length (part_digits (part_of (behind_digits xs))) ≡ 0) e none)
   where
-    by : (xs : List ℕ) → digit_count xs + length (part_digits (part_of (behind_digits xs))) ≡ 0 → malformed ≡ decimal_from (unsigned_of (sign_of text) xs)
+    by : (xs : List ℕ) → digit_count xs + length (part_digits (part_of (behind_digits xs))) ≡ 0 →
+        malformed ≡ decimal_from (unsigned_of (sign_of text) xs)
     by xs none = rw none refl
 
 none_mapped : {X Y : Type 0} (f : X → Y) (o : Option X) → option_map f o ≡ None → o ≡ None
 none_mapped f None e = refl
 none_mapped f (Some x) e = absurd cc
 
-some_mapped : {X Y : Type 0} (f : X → Y) (o : Option X) (y : Y) → option_map f o ≡ Some y → (x : X) × (o ≡ Some x) × (f x ≡ y)
+some_mapped : {X Y : Type 0} (f : X → Y) (o : Option X) (y : Y) → option_map f o ≡ Some y →
+    (x : X) × (o ≡ Some x) × (f x ≡ y)
 some_mapped f None y e = absurd cc
 some_mapped f (Some x) y e = (x, refl, cc)
 
@@ -69,34 +89,50 @@ some_mapped f (Some x) y e = (x, refl, cc)
 abbrev pub rest_of : List ℕ → ℕ → List ℕ
 rest_of body end = take (length body - end) (drop end body)
 
-rest_is : (body : List ℕ) (s : Significant) (places end : ℕ) → IsMantissa body s places end → rest_of body end ≡ behind_part (behind_digits body)
-rest_is body s places end m = take_all (length body - end) (drop end body) (omega (arith, length-drop end body)) ∙ m.rest
+rest_is : (body : List ℕ) (s : Significant) (places end : ℕ) → IsMantissa body s places end →
+    rest_of body end ≡ behind_part (behind_digits body)
+rest_is body s places end m =
+    take_all (length body - end) (drop end body) (omega (arith, length-drop end body)) ∙ m.rest
 
-no_power_in : (sign : Sign) (body : List ℕ) → power_of (behind_part (behind_digits body)) ≡ None → malformed ≡ decimal_from (unsigned_of sign body)
+no_power_in : (sign : Sign) (body : List ℕ) → power_of (behind_part (behind_digits body)) ≡ None →
+    malformed ≡ decimal_from (unsigned_of sign body)
 no_power_in sign body e = rw e (by (nat_lt 0 (digit_count body + length (part_digits (part_of (behind_digits body))))))
   where
     by : (b : Bool) → malformed ≡ decimal_from (cond b None None)
     by true = refl
     by false = refl
 
-pub no_power : (text body : List ℕ) (s : Significant) (places end : ℕ) → body ≡ behind_sign text → IsMantissa body s places end → exponent_kept (rest_of body end) ≡ None → malformed ≡ decimal_of text
+pub no_power : (text body : List ℕ) (s : Significant) (places end : ℕ) → body ≡ behind_sign text →
+    IsMantissa body s places end → exponent_kept (rest_of body end) ≡ None → malformed ≡ decimal_of text
 unfolding decimal_of numeral_of
 no_power text body s places end b m e =
-    no_power_in (sign_of text) body (none_mapped kept_exponent (power_of (behind_part (behind_digits body))) (ap exponent_kept (sym (rest_is body s places end m)) ∙ e))
+    no_power_in (sign_of text) body
+    (none_mapped kept_exponent (power_of (behind_part (behind_digits body)))
+    (ap exponent_kept (sym (rest_is body s places end m)) ∙ e))
     ∙ ap (λ (xs : List ℕ). decimal_from (unsigned_of (sign_of text) xs)) b
 
 -- the decimal of a text that has digits and a power
-from_parts : (sign : Sign) (body : List ℕ) (p : Option Power) → nat_lt 0 (digit_count body + length (part_digits (part_of (behind_digits body)))) ≡ true → power_of (behind_part (behind_digits body)) ≡ Some p
-    → within_limits (is_minus sign) (fewest_places (digits_value 10 (first_digits body ++ part_digits (part_of (behind_digits body)))) (pos (length (part_digits (part_of (behind_digits body)))) -ℤ exponent p)) ≡ decimal_from (unsigned_of sign body)
+from_parts : (sign : Sign) (body : List ℕ) (p : Option Power) →
+    nat_lt 0 (digit_count body + length (part_digits (part_of (behind_digits body)))) ≡ true →
+    power_of (behind_part (behind_digits body)) ≡ Some p
+    → within_limits (is_minus sign)
+    (fewest_places (digits_value 10 (first_digits body ++ part_digits (part_of (behind_digits body))))
+    (pos (length (part_digits (part_of (behind_digits body)))) -ℤ exponent p))
+    ≡ decimal_from (unsigned_of sign body)
 from_parts sign body p some e = rw (some, e) refl
 
-pub read_is : (text body : List ℕ) (s : Significant) (places end : ℕ) (z : ℤ) (r : Result Decimal NumberFault) → body ≡ behind_sign text → IsMantissa body s places end
+pub read_is : (text body : List ℕ) (s : Significant) (places end : ℕ) (z : ℤ) (r : Result Decimal NumberFault) →
+    body ≡ behind_sign text → IsMantissa body s places end
     → exponent_kept (rest_of body end) ≡ Some z
-    → ((n : ℕ) → Keeps n s → r ≡ within_limits (is_minus (sign_of text)) (fewest_places n (pos places -ℤ z))) → r ≡ decimal_of text
+    → ((n : ℕ) → Keeps n s → r ≡ within_limits (is_minus (sign_of text)) (fewest_places n (pos places -ℤ z))) →
+    r ≡ decimal_of text
 unfolding decimal_of numeral_of
 read_is text body s places end z r b m e gives =
-    let p = some_mapped kept_exponent (power_of (behind_part (behind_digits body))) z (ap exponent_kept (sym (rest_is body s places end m)) ∙ e) in
-    let some : nat_lt 0 (digit_count body + length (part_digits (part_of (behind_digits body)))) ≡ true = (let h = m.some in search (rules, tests)) in
+    let p =
+    some_mapped kept_exponent (power_of (behind_part (behind_digits body))) z
+    (ap exponent_kept (sym (rest_is body s places end m)) ∙ e) in
+    let some : nat_lt 0 (digit_count body + length (part_digits (part_of (behind_digits body)))) ≡ true =
+    (let h = m.some in search (rules, tests)) in
     let n = digits_value 10 (first_digits body ++ part_digits (part_of (behind_digits body))) in
     gives n m.value
     ∙ ap (λ w. within_limits (is_minus (sign_of text)) (fewest_places n (pos places -ℤ w))) (sym p.2)
@@ -128,19 +164,26 @@ in_128 places z = to_z w128 (of_z w128 (to_z w128 places -ℤ to_z w128 (of_z w1
 pub places_is : (places : ℕ) (z : ℤ) → places < 2 ^ 63 → IsNear z → in_128 places z ≡ pos places -ℤ z
 places_is places z short n = let l = n.low in let h = n.high in omega (arith, ints)
 
-pub places_near : (places : ℕ) (z : ℤ) → places < 2 ^ 63 → IsNear z → (negsuc (2 ^ 65) ≤ℤ in_128 places z) × (in_128 places z ≤ℤ pos (2 ^ 65))
-places_near places z short n = let l = n.low in let h = n.high in (rw (places_is places z short n) (omega (arith, ints)), rw (places_is places z short n) (omega (arith, ints)))
+pub places_near : (places : ℕ) (z : ℤ) → places < 2 ^ 63 → IsNear z →
+    (negsuc (2 ^ 65) ≤ℤ in_128 places z) × (in_128 places z ≤ℤ pos (2 ^ 65))
+places_near places z short n =
+    let l = n.low in
+    let h = n.high in
+    (rw (places_is places z short n) (omega (arith, ints)), rw (places_is places z short n) (omega (arith, ints)))
 
 -- ---- a text without a power
 
-pub plain_is : (text body : List ℕ) (size places end : ℕ) → body ≡ behind_sign text → IsShortNumber body size places end → length body ≤ end
+pub plain_is : (text body : List ℕ) (size places end : ℕ) → body ≡ behind_sign text →
+    IsShortNumber body size places end → length body ≤ end
     → within_limits (is_minus (sign_of text)) (trimmed size places) ≡ decimal_of text
 unfolding decimal_of numeral_of
 plain_is text body size places end b n ends =
     let whole = digits_value 10 (first_digits body ++ part_digits (part_of (behind_digits body))) in
     let nothing : behind_part (behind_digits body) ≡ [] = sym n.rest ∙ drop_all end body ends in
-    let some : nat_lt 0 (digit_count body + length (part_digits (part_of (behind_digits body)))) ≡ true = (let h = n.some in search (rules, tests)) in
-    let e : pos (length (part_digits (part_of (behind_digits body)))) ≡ pos (length (part_digits (part_of (behind_digits body)))) -ℤ pos 0 = omega (arith, ints) in
+    let some : nat_lt 0 (digit_count body + length (part_digits (part_of (behind_digits body)))) ≡ true =
+    (let h = n.some in search (rules, tests)) in
+    let e : pos (length (part_digits (part_of (behind_digits body))))
+    ≡ pos (length (part_digits (part_of (behind_digits body)))) -ℤ pos 0 = omega (arith, ints) in
     ap (λ (m : ℕ). within_limits (is_minus (sign_of text)) (trimmed m places)) n.value
     ∙ ap (λ (q : ℕ). within_limits (is_minus (sign_of text)) (fewest_places whole (pos q))) n.places_are
     ∙ ap (λ z. within_limits (is_minus (sign_of text)) (fewest_places whole z)) e

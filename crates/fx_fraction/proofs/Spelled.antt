@@ -16,18 +16,23 @@ pub tens : (n : ℕ) → 10 ^ n ≡ 2 ^ n * 5 ^ n
 tens zero = refl
 tens (suc n) =
     let step : (2 ^ n * 5 ^ n) * 10 ≡ (2 ^ n * 2) * (5 ^ n * 5) = grind arith in
-    pow-suc 10 n ∙ ap (λ (k : ℕ). k * 10) (tens n) ∙ step ∙ sym (ap (λ (k : ℕ). k * 5 ^ suc n) (pow-suc 2 n) ∙ ap (λ (k : ℕ). (2 ^ n * 2) * k) (pow-suc 5 n))
+    pow-suc 10 n ∙ ap (λ (k : ℕ). k * 10) (tens n) ∙ step
+    ∙ sym (ap (λ (k : ℕ). k * 5 ^ suc n) (pow-suc 2 n) ∙ ap (λ (k : ℕ). (2 ^ n * 2) * k) (pow-suc 5 n))
 
 -- one digit more, with any factors two and five
-joined : (a m d r two five : ℕ) → 5 * m ≡ d * two + r → a * ((two * five) * 10) + m * (five * 5) ≡ (a * 10 + d) * (two * five) + r * five
+joined : (a m d r two five : ℕ) → 5 * m ≡ d * two + r →
+    a * ((two * five) * 10) + m * (five * 5) ≡ (a * 10 + d) * (two * five) + r * five
 joined a m d r two five h =
     let before : a * ((two * five) * 10) + m * (five * 5) ≡ a * ((two * five) * 10) + (5 * m) * five = grind arith in
-    let behind : a * ((two * five) * 10) + (d * two + r) * five ≡ (a * 10 + d) * (two * five) + r * five = grind arith in
+    let behind : a * ((two * five) * 10) + (d * two + r) * five ≡ (a * 10 + d) * (two * five) + r * five =
+    grind arith in
     before ∙ ap (λ (k : ℕ). a * ((two * five) * 10) + k * five) h ∙ behind
 
-pub one_more : (a m n d r : ℕ) → 5 * m ≡ d * 2 ^ n + r → a * 10 ^ suc n + m * 5 ^ suc n ≡ (a * 10 + d) * 10 ^ n + r * 5 ^ n
+pub one_more : (a m n d r : ℕ) → 5 * m ≡ d * 2 ^ n + r →
+    a * 10 ^ suc n + m * 5 ^ suc n ≡ (a * 10 + d) * 10 ^ n + r * 5 ^ n
 one_more a m n d r h =
-    ap (λ (k : ℕ). a * k + m * 5 ^ suc n) (pow-suc 10 n ∙ ap (λ (k : ℕ). k * 10) (tens n)) ∙ ap (λ (k : ℕ). a * ((2 ^ n * 5 ^ n) * 10) + m * k) (pow-suc 5 n)
+    ap (λ (k : ℕ). a * k + m * 5 ^ suc n) (pow-suc 10 n ∙ ap (λ (k : ℕ). k * 10) (tens n))
+    ∙ ap (λ (k : ℕ). a * ((2 ^ n * 5 ^ n) * 10) + m * k) (pow-suc 5 n)
     ∙ joined a m d r (2 ^ n) (5 ^ n) h ∙ ap (λ (k : ℕ). (a * 10 + d) * k + r * 5 ^ n) (sym (tens n))
 
 -- ---- one step of the division, whatever ends stand behind
@@ -41,15 +46,21 @@ pub digit_is : (n ends m : ℕ) → 5 * (m * 2 ^ ends) / 2 ^ (n + ends) ≡ 5 * 
 digit_is n ends m =
     let d = 5 * m / 2 ^ n in let r = 5 * m % 2 ^ n in
     let h : 5 * m ≡ d * 2 ^ n + r = let e = div-add-mod' (5 * m) (2 ^ n) in omega (arith, e) in
-    let small = mul-lt-mul_of_pos_right {m = r} {n = 2 ^ n} {k = 2 ^ ends} (mod_below (5 * m) (2 ^ n) (pow_pos n)) (pow_pos ends) in
-    ap₂ (λ (a b : ℕ). a / b) (scaled m d r (2 ^ n) (2 ^ ends) h) (pow-add 2 n ends) ∙ div-mul-add d (2 ^ n * 2 ^ ends) (r * 2 ^ ends) small
+    let small =
+    mul-lt-mul_of_pos_right {m = r} {n = 2 ^ n} {k = 2 ^ ends} (mod_below (5 * m) (2 ^ n) (pow_pos n))
+    (pow_pos ends) in
+    ap₂ (λ (a b : ℕ). a / b) (scaled m d r (2 ^ n) (2 ^ ends) h) (pow-add 2 n ends)
+    ∙ div-mul-add d (2 ^ n * 2 ^ ends) (r * 2 ^ ends) small
 
 pub rest_is : (n ends m : ℕ) → 5 * (m * 2 ^ ends) % 2 ^ (n + ends) ≡ (5 * m % 2 ^ n) * 2 ^ ends
 rest_is n ends m =
     let d = 5 * m / 2 ^ n in let r = 5 * m % 2 ^ n in
     let h : 5 * m ≡ d * 2 ^ n + r = let e = div-add-mod' (5 * m) (2 ^ n) in omega (arith, e) in
-    let small = mul-lt-mul_of_pos_right {m = r} {n = 2 ^ n} {k = 2 ^ ends} (mod_below (5 * m) (2 ^ n) (pow_pos n)) (pow_pos ends) in
-    ap₂ (λ (a b : ℕ). a % b) (scaled m d r (2 ^ n) (2 ^ ends) h) (pow-add 2 n ends) ∙ mod-mul-add d (2 ^ n * 2 ^ ends) (r * 2 ^ ends) small
+    let small =
+    mul-lt-mul_of_pos_right {m = r} {n = 2 ^ n} {k = 2 ^ ends} (mod_below (5 * m) (2 ^ n) (pow_pos n))
+    (pow_pos ends) in
+    ap₂ (λ (a b : ℕ). a % b) (scaled m d r (2 ^ n) (2 ^ ends) h) (pow-add 2 n ends)
+    ∙ mod-mul-add d (2 ^ n * 2 ^ ends) (r * 2 ^ ends) small
 
 odd_rest : (n m : ℕ) → m % 2 ≡ 1 → 0 < n → (5 * m % 2 ^ n) % 2 ≡ 1
 odd_rest zero m odd some = absurd (omega arith)
@@ -58,7 +69,8 @@ odd_rest (suc j) m odd some =
     ap (λ (k : ℕ). 5 * m % 2 ^ k % 2) one ∙ mod-mod-pow (5 * m) j 1 ∙ (let e : 5 * m % 2 ≡ 1 = omega (arith, odd) in e)
 
 some_rest : (m ends : ℕ) → m % 2 ≡ 1 → m * 2 ^ ends ≢ 0
-some_rest m ends odd e = let p = pow_pos ends in let k = mul-le 1 1 m (2 ^ ends) (omega (arith, odd)) p in omega (arith, e, k)
+some_rest m ends odd e =
+    let p = pow_pos ends in let k = mul-le 1 1 m (2 ^ ends) (omega (arith, odd)) p in omega (arith, e, k)
 
 -- ---- all digits
 pub spelled : (a n ends m : ℕ) → 0 < a → m < 2 ^ n → (0 < n → m % 2 ≡ 1) → a * 10 ^ n + m * 5 ^ n < 2 ^ 64
@@ -67,7 +79,8 @@ spelled a zero ends m some below odd small =
     let z : m ≡ 0 = omega (arith, below) in
     let none : m * 2 ^ ends ≡ 0 = rw z (omega arith) in
     let whole : a * 10 ^ 0 + m * 5 ^ 0 ≡ a = omega (arith, z) in
-    ap decimal whole ∙ sym (append-nil (decimal a)) ∙ ap (λ ds. decimal a ++ glyphs ds) (sym (ap (digits_after (0 + ends)) none ∙ after_zero (0 + ends)))
+    ap decimal whole ∙ sym (append-nil (decimal a))
+    ∙ ap (λ ds. decimal a ++ glyphs ds) (sym (ap (digits_after (0 + ends)) none ∙ after_zero (0 + ends)))
 spelled a (suc n) ends m some below odd small =
     let d = 5 * m / 2 ^ n in let r = 5 * m % 2 ^ n in
     let h : 5 * m ≡ d * 2 ^ n + r = let e = div-add-mod' (5 * m) (2 ^ n) in omega (arith, e) in
@@ -75,14 +88,19 @@ spelled a (suc n) ends m some below odd small =
     let ten = below_ten n m below in
     let front : (a * 10 + d) / 10 ≡ a = omega (arith, ten) in
     let last : (a * 10 + d) % 10 ≡ d = omega (arith, ten) in
-    let lower : a * 10 + d ≤ (a * 10 + d) * 10 ^ n + r * 5 ^ n = let t = tens n in let p = pow_pos n in let q = mul-le (a * 10 + d) 1 (a * 10 + d) (10 ^ n) (omega arith) (power_some n) in omega (arith, q) in
+    let lower : a * 10 + d ≤ (a * 10 + d) * 10 ^ n + r * 5 ^ n = let t = tens n in let p = pow_pos n in
+    let q = mul-le (a * 10 + d) 1 (a * 10 + d) (10 ^ n) (omega arith) (power_some n) in omega (arith, q) in
     let step = decimal_step (a * 10 + d) (omega (arith, some)) (omega (arith, e, small, lower)) in
-    let next = spelled (a * 10 + d) n ends r (omega (arith, some)) (mod_below (5 * m) (2 ^ n) (pow_pos n)) (odd_rest n m (odd (omega arith))) (omega (arith, e, small)) in
+    let next =
+    spelled (a * 10 + d) n ends r (omega (arith, some)) (mod_below (5 * m) (2 ^ n) (pow_pos n))
+    (odd_rest n m (odd (omega arith))) (omega (arith, e, small)) in
     let one : suc n + ends ≡ suc (n + ends) = omega arith in
-    ap decimal e ∙ next ∙ ap (λ xs. xs ++ glyphs (digits_after (n + ends) (r * 2 ^ ends))) (step ∙ ap₂ (λ (x y : ℕ). decimal x ++ (48 + y) ∷ []) front last)
+    ap decimal e ∙ next ∙ ap (λ xs. xs ++ glyphs (digits_after (n + ends) (r * 2 ^ ends))) (step
+    ∙ ap₂ (λ (x y : ℕ). decimal x ++ (48 + y) ∷ []) front last)
     ∙ append_assoc (decimal a) ((48 + d) ∷ []) _
     ∙ ap (λ ds. decimal a ++ glyphs ds) (sym (
-    ap (λ (k : ℕ). digits_after k (m * 2 ^ ends)) one ∙ after_more (n + ends) (m * 2 ^ ends) (some_rest m ends (odd (omega arith)))
+    ap (λ (k : ℕ). digits_after k (m * 2 ^ ends)) one
+    ∙ after_more (n + ends) (m * 2 ^ ends) (some_rest m ends (odd (omega arith)))
     ∙ ap₂ (λ (x y : ℕ). x ∷ digits_after (n + ends) y) (digit_is n ends m) (rest_is n ends m)
     ))
   where
@@ -97,11 +115,14 @@ length_is zero ends m odd below =
     ap (λ (r : ℕ). length (digits_after (0 + ends) r)) none ∙ ap length (after_zero (0 + ends))
 length_is (suc n) ends m odd below =
     let one : suc n + ends ≡ suc (n + ends) = omega arith in
-    ap (λ (k : ℕ). length (digits_after k (m * 2 ^ ends))) one ∙ ap length (after_more (n + ends) (m * 2 ^ ends) (some_rest m ends (odd (omega arith))))
-    ∙ ap suc (ap (λ (r : ℕ). length (digits_after (n + ends) r)) (rest_is n ends m) ∙ length_is n ends (5 * m % 2 ^ n) (odd_rest n m (odd (omega arith))) (mod_below (5 * m) (2 ^ n) (pow_pos n)))
+    ap (λ (k : ℕ). length (digits_after k (m * 2 ^ ends))) one
+    ∙ ap length (after_more (n + ends) (m * 2 ^ ends) (some_rest m ends (odd (omega arith))))
+    ∙ ap suc (ap (λ (r : ℕ). length (digits_after (n + ends) r)) (rest_is n ends m)
+    ∙ length_is n ends (5 * m % 2 ^ n) (odd_rest n m (odd (omega arith))) (mod_below (5 * m) (2 ^ n) (pow_pos n)))
 
 -- ---- a point in the place of the one before them
-apart : {A : Type 0} (e : ℕ) (xs front back : List A) → xs ≡ front ++ back → length front ≡ e → (take e xs ≡ front) × (drop e xs ≡ back)
+apart : {A : Type 0} (e : ℕ) (xs front back : List A) → xs ≡ front ++ back → length front ≡ e →
+    (take e xs ≡ front) × (drop e xs ≡ back)
 apart e xs front back is long =
     let taken : take e xs ≡ front = ap₂ (λ (n : ℕ) ys. take n ys) (sym long) is ∙ take-append_seam front back in
     let dropped : drop e xs ≡ back = ap₂ (λ (n : ℕ) ys. drop n ys) (sym long) is ∙ drop-append_seam front back in
@@ -109,14 +130,20 @@ apart e xs front back is long =
 
 -- what `write_digits` leaves, and a byte put over the first digit
 pub pointed_over : (old buf new ds : List ℕ) (at places one byte : ℕ) → at ≤ length old → length ds ≡ places
-    → drop at buf ≡ (one ∷ ds) ++ drop (at + places + 1) old → take at buf ≡ take at old → take (at + 1) new ≡ take at buf ++ byte ∷ [] → drop (at + 1) new ≡ drop (at + 1) buf
-    → (take (at + places + 1) new ≡ take at old ++ byte ∷ ds) × (drop (at + places + 1) new ≡ drop (at + places + 1) old)
+    → drop at buf ≡ (one ∷ ds) ++ drop (at + places + 1) old → take at buf ≡ take at old →
+    take (at + 1) new ≡ take at buf ++ byte ∷ [] → drop (at + 1) new ≡ drop (at + 1) buf
+    → (take (at + places + 1) new ≡ take at old ++ byte ∷ ds) ×
+    (drop (at + places + 1) new ≡ drop (at + places + 1) old)
 pointed_over old buf new ds at places one byte fits long behind before first rest =
-    let back : drop (at + 1) new ≡ ds ++ drop (at + places + 1) old = rest ∙ sym (drop-drop 1 at buf) ∙ ap (drop 1) behind in
+    let back : drop (at + 1) new ≡ ds ++ drop (at + places + 1) old = rest ∙ sym (drop-drop 1 at buf)
+    ∙ ap (drop 1) behind in
     let whole : new ≡ (take at old ++ byte ∷ ds) ++ drop (at + places + 1) old =
-    sym (take-append-drop (at + 1) new) ∙ ap₂ (λ (x y : List ℕ). x ++ y) (first ∙ ap (λ xs. xs ++ byte ∷ []) before) back
-    ∙ append_assoc (take at old) (byte ∷ []) (ds ++ drop (at + places + 1) old) ∙ sym (append_assoc (take at old) (byte ∷ ds) (drop (at + places + 1) old)) in
-    let size : length (take at old ++ byte ∷ ds) ≡ at + places + 1 = length-append (take at old) (byte ∷ ds) ∙ (let t = length-take-le at old fits in omega (arith, t, long)) in
+    sym (take-append-drop (at + 1) new)
+    ∙ ap₂ (λ (x y : List ℕ). x ++ y) (first ∙ ap (λ xs. xs ++ byte ∷ []) before) back
+    ∙ append_assoc (take at old) (byte ∷ []) (ds ++ drop (at + places + 1) old)
+    ∙ sym (append_assoc (take at old) (byte ∷ ds) (drop (at + places + 1) old)) in
+    let size : length (take at old ++ byte ∷ ds) ≡ at + places + 1 = length-append (take at old) (byte ∷ ds)
+    ∙ (let t = length-take-le at old fits in omega (arith, t, long)) in
     apart (at + places + 1) new (take at old ++ byte ∷ ds) (drop (at + places + 1) old) whole size
 
 -- the number that is spelled, and how many digits it has with the one
@@ -125,20 +152,28 @@ pub record Number (n ends rest number : ℕ) : Type 0 where
   pub is : decimal number ≡ 49 ∷ glyphs (digits_after (n + ends) (rest * 2 ^ ends))
   pub count : length (glyphs (digits_after (n + ends) (rest * 2 ^ ends))) ≡ n
 
-pub number : (n ends rest power : ℕ) → n ≤ 18 → rest < 2 ^ n → (0 < n → rest % 2 ≡ 1) → power ≡ 10 ^ n → Number n ends rest (power + rest * (power / 2 ^ n))
+pub number : (n ends rest power : ℕ) → n ≤ 18 → rest < 2 ^ n → (0 < n → rest % 2 ≡ 1) → power ≡ 10 ^ n →
+    Number n ends rest (power + rest * (power / 2 ^ n))
 number n ends rest power low below odd is =
     let p = pow_pos n in
-    let five : power / 2 ^ n ≡ 5 ^ n = let e : power ≡ 5 ^ n * 2 ^ n + 0 = omega (arith, is ∙ tens n) in ap (λ (k : ℕ). k / 2 ^ n) e ∙ div-mul-add (5 ^ n) (2 ^ n) 0 p in
+    let five : power / 2 ^ n ≡ 5 ^ n = let e : power ≡ 5 ^ n * 2 ^ n + 0 = omega (arith, is ∙ tens n) in
+    ap (λ (k : ℕ). k / 2 ^ n) e ∙ div-mul-add (5 ^ n) (2 ^ n) 0 p in
     let sum : power + rest * (power / 2 ^ n) ≡ 1 * 10 ^ n + rest * 5 ^ n = rw five (omega (arith, is)) in
-    let top : rest * 5 ^ n ≤ 10 ^ n = let t = tens n in let m = mul-le rest (5 ^ n) (2 ^ n) (5 ^ n) (omega (arith, below)) (omega arith) in omega (arith, t, m) in
+    let top : rest * 5 ^ n ≤ 10 ^ n = let t = tens n in
+    let m = mul-le rest (5 ^ n) (2 ^ n) (5 ^ n) (omega (arith, below)) (omega arith) in omega (arith, t, m) in
     let few : 10 ^ n ≤ 10 ^ 18 = ten_small n low in
     let small : 1 * 10 ^ n + rest * 5 ^ n < 2 ^ 64 = omega (arith, top, few) in
     record {
       fits = omega (arith, sum, small);
-      is = ap decimal sum ∙ spelled 1 n ends rest (omega arith) below odd small ∙ ap (λ xs. xs ++ glyphs (digits_after (n + ends) (rest * 2 ^ ends))) (decimal_digit 1 (omega arith));
-      count = length-map (digits_after (n + ends) (rest * 2 ^ ends)) (λ (k : ℕ). 48 + k) ∙ length_is n ends rest odd below;
+      is = ap decimal sum ∙ spelled 1 n ends rest (omega arith) below odd small
+          ∙ ap (λ xs. xs ++ glyphs (digits_after (n + ends) (rest * 2 ^ ends))) (decimal_digit 1 (omega arith));
+      count =
+          length-map (digits_after (n + ends) (rest * 2 ^ ends)) (λ (k : ℕ). 48 + k) ∙ length_is n ends rest odd below;
     }
 
-pub pointed_digits : (n ends rest : ℕ) → rest < 2 ^ n → rest % 2 ≡ 1 → 46 ∷ glyphs (digits_after (n + ends) (rest * 2 ^ ends)) ≡ pointed (digits_after (n + ends) (rest * 2 ^ ends))
+pub pointed_digits : (n ends rest : ℕ) → rest < 2 ^ n → rest % 2 ≡ 1 →
+    46 ∷ glyphs (digits_after (n + ends) (rest * 2 ^ ends)) ≡ pointed (digits_after (n + ends) (rest * 2 ^ ends))
 pointed_digits n ends rest below odd =
-    point_some (n + ends) (rest * 2 ^ ends) (some_rest rest ends odd) (subst (λ (k : ℕ). rest * 2 ^ ends < k) (sym (pow-add 2 n ends)) (mul-lt-mul_of_pos_right {m = rest} {n = 2 ^ n} {k = 2 ^ ends} below (pow_pos ends)))
+    point_some (n + ends) (rest * 2 ^ ends) (some_rest rest ends odd)
+    (subst (λ (k : ℕ). rest * 2 ^ ends < k) (sym (pow-add 2 n ends))
+    (mul-lt-mul_of_pos_right {m = rest} {n = 2 ^ n} {k = 2 ^ ends} below (pow_pos ends)))

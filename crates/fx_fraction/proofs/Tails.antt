@@ -13,7 +13,8 @@ glyphs ds = map (λ k. 48 + k) ds
 pub drop_later : {X : Type 0} (i j : ℕ) (xs ys : List X) → i ≤ j → drop i xs ≡ drop i ys → drop j xs ≡ drop j ys
 drop_later i j xs ys le e =
     let k : i + (j - i) ≡ j = omega arith in
-    sym (drop-drop (j - i) i xs ∙ ap (λ (n : ℕ). drop n xs) k) ∙ ap (drop (j - i)) e ∙ drop-drop (j - i) i ys ∙ ap (λ (n : ℕ). drop n ys) k
+    sym (drop-drop (j - i) i xs ∙ ap (λ (n : ℕ). drop n xs) k) ∙ ap (drop (j - i)) e ∙ drop-drop (j - i) i ys
+    ∙ ap (λ (n : ℕ). drop n ys) k
 
 pub rest_is : (n f : ℕ) → f < 128 → bit_and n (1 * 2 ^ f % 2 ^ 128 - 1) ≡ n % 2 ^ f
 rest_is n f h = rw (one_shl f 128 h) (and_mask n f)
@@ -28,7 +29,8 @@ unfolding digits_after
 after_more f r h = let e : eqb r 0 ≡ false = search (rules, tests) in rw e refl
 
 -- one more digit
-pub digits_step : (front new : List ℕ) (l now d rest : ℕ) → now ≢ 0 → 0 < l → d ≡ 5 * now / 2 ^ (l - 1) → rest ≡ 5 * now % 2 ^ (l - 1) → new ≡ front ++ (48 + d) ∷ []
+pub digits_step : (front new : List ℕ) (l now d rest : ℕ) → now ≢ 0 → 0 < l → d ≡ 5 * now / 2 ^ (l - 1) →
+    rest ≡ 5 * now % 2 ^ (l - 1) → new ≡ front ++ (48 + d) ∷ []
     → new ++ glyphs (digits_after (l - 1) rest) ≡ front ++ glyphs (digits_after l now)
 digits_step front new zero now d rest some high p q e = absurd (omega arith)
 digits_step front new (suc l) now d rest some high p q e =
@@ -48,7 +50,8 @@ point_some (suc f) r some h = rw (after_more f r some) refl
 pub point_none : (f r : ℕ) → r ≡ 0 → pointed (digits_after f r) ≡ []
 point_none f r e = rw (e, after_zero f) refl
 
-pub with_point : (front new done : List ℕ) (f r : ℕ) → r ≢ 0 → r < 2 ^ f → new ≡ front ++ 46 ∷ [] → done ≡ new ++ glyphs (digits_after f r) → done ≡ front ++ pointed (digits_after f r)
+pub with_point : (front new done : List ℕ) (f r : ℕ) → r ≢ 0 → r < 2 ^ f → new ≡ front ++ 46 ∷ [] →
+    done ≡ new ++ glyphs (digits_after f r) → done ≡ front ++ pointed (digits_after f r)
 with_point front new done f r some h e g = g ∙ rw (e, append_assoc) (ap (λ xs. front ++ xs) (point_some f r some h))
 
 -- the shift of a point
@@ -63,22 +66,26 @@ high_few (negsuc n) s above high e = absurd (omega (arith, ints))
 raised : (n s : ℕ) → n ≤ 2 ^ 63 → s ≤ 64 → n * 2 ^ s % 2 ^ 128 ≡ n * 2 ^ s
 raised n s h le = let lt : n < 2 ^ 64 = omega arith in shl_whole n 64 s 128 lt (omega arith)
 
-pub size_low : (n : ℕ) (p : ℤ) (s m : ℕ) → n ≤ 2 ^ 63 → negsuc 63 ≤ℤ p → p <ℤ pos 0 → s ≡ unsigned_abs p → m ≡ n → decimal (m * 2 ^ s % 2 ^ 128) ≡ size_text n p
+pub size_low : (n : ℕ) (p : ℤ) (s m : ℕ) → n ≤ 2 ^ 63 → negsuc 63 ≤ℤ p → p <ℤ pos 0 → s ≡ unsigned_abs p → m ≡ n →
+    decimal (m * 2 ^ s % 2 ^ 128) ≡ size_text n p
 unfolding size_text
 size_low n (pos f) s m h low below e g = absurd (omega (arith, ints))
 size_low n (negsuc f) s m h low below e g = rw (g, raised n s h (low_few (negsuc f) s low below e), e) refl
 
-pub size_high : (n : ℕ) (p : ℤ) (s : ℕ) → pos 0 ≤ℤ p → s ≡ unsigned_abs p → decimal (n / 2 ^ s) ++ pointed (digits_after s (n % 2 ^ s)) ≡ size_text n p
+pub size_high : (n : ℕ) (p : ℤ) (s : ℕ) → pos 0 ≤ℤ p → s ≡ unsigned_abs p →
+    decimal (n / 2 ^ s) ++ pointed (digits_after s (n % 2 ^ s)) ≡ size_text n p
 unfolding size_text
 size_high n (pos f) s above e = rw e refl
 size_high n (negsuc f) s above e = absurd (omega (arith, ints))
 
-pub size_in_two : (front mid done : List ℕ) (n : ℕ) (p : ℤ) (s m r : ℕ) → pos 0 ≤ℤ p → s ≡ unsigned_abs p → m ≡ n / 2 ^ s → r ≡ n % 2 ^ s
+pub size_in_two : (front mid done : List ℕ) (n : ℕ) (p : ℤ) (s m r : ℕ) → pos 0 ≤ℤ p → s ≡ unsigned_abs p →
+    m ≡ n / 2 ^ s → r ≡ n % 2 ^ s
     → mid ≡ front ++ decimal m → done ≡ mid ++ pointed (digits_after s r) → done ≡ front ++ size_text n p
 size_in_two front mid done n p s m r above e em er em2 ed =
     ed ∙ rw (em2, append_assoc, em, er) (ap (λ xs. front ++ xs) (size_high n p s above e))
 
-pub text_in_two : (w f : ℤ) (b : Bool) (mid done : List ℕ) (n : ℕ) → b ≡ int_lt w (pos 0) → n ≡ unsigned_abs w → mid ≡ cond b (45 ∷ []) [] → done ≡ mid ++ size_text n f → done ≡ decimal_text w f
+pub text_in_two : (w f : ℤ) (b : Bool) (mid done : List ℕ) (n : ℕ) → b ≡ int_lt w (pos 0) → n ≡ unsigned_abs w →
+    mid ≡ cond b (45 ∷ []) [] → done ≡ mid ++ size_text n f → done ≡ decimal_text w f
 unfolding decimal_text
 text_in_two w f b mid done n e g em ed = ed ∙ rw (em, e, g) refl
 

@@ -18,15 +18,18 @@ tenth n e = omega arith
 times : (a k : ℕ) → a * 10 ^ k * 10 ≡ a * 10 * 10 ^ k
 times a k = mul_assoc a (10 ^ k) 10 ∙ ap (λ y. a * y) (mul_comm (10 ^ k) 10) ∙ sym (mul_assoc a 10 (10 ^ k))
 
-trimmed_more : (n p : ℕ) → IsTrimmed (n / 10) p (trimmed (n / 10) p) → (b : Bool) → eqb (n % 10) 0 ≡ b → IsTrimmed n (suc p) (cond b (trimmed (n / 10) p) (n, suc p))
+trimmed_more : (n p : ℕ) → IsTrimmed (n / 10) p (trimmed (n / 10) p) → (b : Bool) → eqb (n % 10) 0 ≡ b →
+    IsTrimmed n (suc p) (cond b (trimmed (n / 10) p) (n, suc p))
 trimmed_more n p h true e =
     let t = tenth n (eqb-true _ _ e) in
     record {
-      value = rw pow-suc (sym (mul_assoc (trimmed (n / 10) p).0 (10 ^ p) 10) ∙ ap (λ y. y * 10) h.value ∙ times (n / 10) (trimmed (n / 10) p).1 ∙ ap (λ y. y * 10 ^ (trimmed (n / 10) p).1) t);
+      value = rw pow-suc (sym (mul_assoc (trimmed (n / 10) p).0 (10 ^ p) 10) ∙ ap (λ y. y * 10) h.value
+          ∙ times (n / 10) (trimmed (n / 10) p).1 ∙ ap (λ y. y * 10 ^ (trimmed (n / 10) p).1) t);
       fewest = h.fewest;
       within = omega (arith, h.within);
     }
-trimmed_more n p h false e = record { value = refl; fewest = inr (λ h. absurd (search (rules, tests))); within = omega arith }
+trimmed_more n p h false e =
+    record { value = refl; fewest = inr (λ h. absurd (search (rules, tests))); within = omega arith }
 
 pub trimmed_is : (n p : ℕ) → IsTrimmed n p (trimmed n p)
 unfolding trimmed
@@ -65,7 +68,8 @@ trimmed_stops n (suc p) (inl e) = absurd (omega arith)
 trimmed_stops n (suc p) (inr last) = let b : eqb (n % 10) 0 ≡ false = search (rules, tests) in rw b refl
 
 -- what is within the limits
-pub limits_keep : (s : Bool) (a b : ℕ) → a < 2 ^ 62 → b ≤ 18 → within_limits s (a, b) ≡ Ok (record { a = signed s a; b = b })
+pub limits_keep : (s : Bool) (a b : ℕ) → a < 2 ^ 62 → b ≤ 18 →
+    within_limits s (a, b) ≡ Ok (record { a = signed s a; b = b })
 limits_keep s a b small few =
     let t : nat_lt a (2 ^ 62) ≡ true = search (rules, tests) in
     let u : nat_le b 18 ≡ true = search (rules, tests) in

@@ -34,7 +34,11 @@ fewest_value : (s : Bool) (n : ℕ) (p : ℤ) → Equal (pair_value s (fewest_pl
 unfolding over
 fewest_value s n (pos p) =
     let x = trimmed n p in
-    record { equal = ap (λ (k : ℕ). signed s x.0 *ℤ pos k) (tens p) ∙ signed-mul s x.0 (10 ^ p) ∙ ap (signed s) (trimmed_is n p).value ∙ sym (signed-mul s n (10 ^ x.1)) ∙ ap (λ (k : ℕ). signed s n *ℤ pos k) (sym (tens x.1)) }
+    record {
+      equal = ap (λ (k : ℕ). signed s x.0 *ℤ pos k) (tens p) ∙ signed-mul s x.0 (10 ^ p)
+          ∙ ap (signed s) (trimmed_is n p).value ∙ sym (signed-mul s n (10 ^ x.1))
+          ∙ ap (λ (k : ℕ). signed s n *ℤ pos k) (sym (tens x.1));
+    }
 fewest_value s n (negsuc p) = record { equal = ap (λ z. z *ℤ pos 1) (sym (signed-mul s n (10 ^ suc p))) }
 
 fewest_fewest : (n : ℕ) (p : ℤ) → IsFewest (fewest_places n p).0 (fewest_places n p).1
@@ -57,7 +61,9 @@ cancelled a p c q e = omega (arith, e)
 fewest_same : (a b c d : ℕ) → IsFewest a b → IsFewest c d → a * 10 ^ d ≡ c * 10 ^ b → (a ≡ c) × (b ≡ d)
 fewest_same a zero c zero h k e = (omega arith, refl)
 fewest_same a (suc b) c (suc d) h k e =
-    let r = fewest_same a b c d (inr (not_zero_places a b h)) (inr (not_zero_places c d k)) (cancelled a (10 ^ d) c (10 ^ b) (rw (pow-suc 10 d, pow-suc 10 b) at e)) in
+    let r =
+    fewest_same a b c d (inr (not_zero_places a b h)) (inr (not_zero_places c d k))
+    (cancelled a (10 ^ d) c (10 ^ b) (rw (pow-suc 10 d, pow-suc 10 b) at e)) in
     (r.0, ap suc r.1)
 fewest_same a zero c (suc d) h k e = absurd (not_zero_places c d k (ends_in_zero a c d (omega (arith, e))))
 fewest_same a (suc b) c zero h k e = absurd (not_zero_places a b h (ends_in_zero c a b (omega (arith, e))))
@@ -79,26 +85,37 @@ fewest_some a b (inr h) some = by (a % 10) h
     by (suc r) h = omega arith
 
 -- a decimal of the value of a pair with the fewest places is that pair
-only_pair : (d : Decimal) (s : Bool) (x : ℕ × ℕ) → IsDecimal d.a d.b → IsFewest x.0 x.1 → Equal (decimal_value d) (pair_value s x) → (unsigned_abs d.a ≡ x.0) × (d.b ≡ x.1)
+only_pair : (d : Decimal) (s : Bool) (x : ℕ × ℕ) → IsDecimal d.a d.b → IsFewest x.0 x.1 →
+    Equal (decimal_value d) (pair_value s x) → (unsigned_abs d.a ≡ x.0) × (d.b ≡ x.1)
 unfolding decimal_value over
 only_pair d s x k h e =
-    let g : d.a *ℤ pos (10 ^ x.1) ≡ signed s x.0 *ℤ pos (10 ^ d.b) = (λ i. d.a *ℤ pos (sym (tens x.1) i)) ∙ e.equal ∙ (λ i. signed s x.0 *ℤ pos (tens d.b i)) in
+    let g : d.a *ℤ pos (10 ^ x.1) ≡ signed s x.0 *ℤ pos (10 ^ d.b) = (λ i. d.a *ℤ pos (sym (tens x.1) i)) ∙ e.equal
+    ∙ (λ i. signed s x.0 *ℤ pos (tens d.b i)) in
     fewest_same (unsigned_abs d.a) d.b x.0 x.1 (decimal_fewest d k) h
-    (sym (unsigned_abs-mul d.a (pos (10 ^ x.1))) ∙ ap unsigned_abs g ∙ unsigned_abs-mul (signed s x.0) (pos (10 ^ d.b)) ∙ ap (λ (n : ℕ). n * 10 ^ d.b) (signed_size s x.0))
+    (sym (unsigned_abs-mul d.a (pos (10 ^ x.1))) ∙ ap unsigned_abs g ∙ unsigned_abs-mul (signed s x.0) (pos (10 ^ d.b))
+    ∙ ap (λ (n : ℕ). n * 10 ^ d.b) (signed_size s x.0))
 
 -- the reading of a pair
-pair_reading : (s : Bool) (x : ℕ × ℕ) (v : Rational) → IsFewest x.0 x.1 → Equal (pair_value s x) v → IsReading (within_limits s x) v
+pair_reading : (s : Bool) (x : ℕ × ℕ) (v : Rational) → IsFewest x.0 x.1 → Equal (pair_value s x) v →
+    IsReading (within_limits s x) v
 unfolding decimal_value
 pair_reading s x v h e = by (nat_lt x.0 (2 ^ 62)) refl (nat_le x.1 18) refl
   where
     found : Result Decimal NumberFault
     found = Ok (record { a = signed s x.0; b = x.1 })
 
-    by : (p : Bool) → nat_lt x.0 (2 ^ 62) ≡ p → (q : Bool) → nat_le x.1 18 ≡ q → IsReading (cond (p && q) found (Err TooLong)) v
+    by : (p : Bool) → nat_lt x.0 (2 ^ 62) ≡ p → (q : Bool) → nat_le x.1 18 ≡ q →
+        IsReading (cond (p && q) found (Err TooLong)) v
     by true t true u =
         let small : x.0 < 2 ^ 62 = search (rules, tests) in
-        let few : x.1 ≤ 18 = search (rules, tests) in
-        (record { small = rw (signed_size s x.0) small; places = few; fewest = λ some. rw (signed_size s x.0) (fewest_some x.0 x.1 h some) }, e)
+        let few : x.1 ≤ 18 = search (rules, tests) in (
+          record {
+            small = rw (signed_size s x.0) small;
+            places = few;
+            fewest = λ some. rw (signed_size s x.0) (fewest_some x.0 x.1 h some);
+          },
+          e,
+        )
     by true t false u = λ d k f.
         let o = only_pair d s x k h (equal_trans f (equal_sym e)) in
         let few : x.1 ≤ 18 = (let p = k.places in omega (arith, o.1)) in
@@ -109,18 +126,22 @@ pair_reading s x v h e = by (nat_lt x.0 (2 ^ 62)) refl (nat_le x.1 18) refl
         let c : nat_lt x.0 (2 ^ 62) ≡ true = search (rules, tests) in absurd cc
 
 numeral_reading : (n : Numeral) → IsReading (decimal_from (Some n)) (numeral_value n)
-numeral_reading n = pair_reading (is_minus n.sign) (fewest_places (mantissa n) (places n)) (numeral_value n) (fewest_fewest (mantissa n) (places n)) (fewest_value (is_minus n.sign) (mantissa n) (places n))
+numeral_reading n =
+    pair_reading (is_minus n.sign) (fewest_places (mantissa n) (places n)) (numeral_value n)
+    (fewest_fewest (mantissa n) (places n)) (fewest_value (is_minus n.sign) (mantissa n) (places n))
 
 text_reading : (n : Numeral) → IsNumeral n → IsReading (decimal_of (numeral_text n)) (numeral_value n)
 unfolding decimal_of
-text_reading n h = subst (λ o. IsReading (decimal_from o) (numeral_value n)) (sym (numeral_back n h)) (numeral_reading n)
+text_reading n h =
+    subst (λ o. IsReading (decimal_from o) (numeral_value n)) (sym (numeral_back n h)) (numeral_reading n)
 
 -- ---- what is malformed
 
 not_malformed : (r : Result Decimal NumberFault) (v : Rational) → IsReading r v → r ≡ Err Malformed → ⊥
 not_malformed r v h e = subst (λ q. IsReading q v) e h
 
-malformed_is : (text : List ℕ) → ((n : Numeral) → IsNumeral n → numeral_text n ≡ text → ⊥) → decimal_of text ≡ Err Malformed
+malformed_is : (text : List ℕ) → ((n : Numeral) → IsNumeral n → numeral_text n ≡ text → ⊥) →
+    decimal_of text ≡ Err Malformed
 unfolding decimal_of
 malformed_is text none = by (numeral_of text) refl
   where
@@ -130,7 +151,12 @@ malformed_is text none = by (numeral_of text) refl
 
 pub reading_is : ReadingLaw
 reading_is = record {
-  malformed = λ text. (λ e n h t. not_malformed (decimal_of (numeral_text n)) (numeral_value n) (text_reading n h) (ap decimal_of t ∙ e), malformed_is text);
+  malformed =
+      λ text. (
+        λ e n h t. not_malformed (decimal_of (numeral_text n)) (numeral_value n) (text_reading n h)
+            (ap decimal_of t ∙ e),
+        malformed_is text,
+      );
   one = λ n m h k e. (let s : Some n ≡ Some m = sym (numeral_back n h) ∙ ap numeral_of e ∙ numeral_back m k in cc);
   value = text_reading;
 }

@@ -17,7 +17,8 @@ fewest_places n (negsuc p) = (n * 10 ^ suc p, 0)
 
 -- a / 10^b with a sign, if a is below 2^62 and b at most 18
 abbrev pub within_limits : Bool → ℕ × ℕ → Result Decimal NumberFault
-within_limits is_negative x = if nat_lt x.0 (2 ^ 62) && nat_le x.1 18 then Ok (record { a = signed is_negative x.0; b = x.1 }) else Err TooLong
+within_limits is_negative x =
+    if nat_lt x.0 (2 ^ 62) && nat_le x.1 18 then Ok (record { a = signed is_negative x.0; b = x.1 }) else Err TooLong
 
 -- the decimal of a numeral: none is Malformed, and one beyond the limits is TooLong
 abbrev pub decimal_from : Option Numeral → Result Decimal NumberFault

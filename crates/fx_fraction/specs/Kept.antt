@@ -1,4 +1,5 @@
--- What the reader keeps of digits: those up to the last that isn't 0, and the count of zeros behind it. No clause of a public call rests on this.
+-- What the reader keeps of digits: those up to the last that isn't 0, and the count of zeros behind it. No clause of a
+-- public call rests on this.
 use Rattle.std.specs.Prelude.{◌≡◌, ◌≢◌, ℕ, ◌*◌, ◌^◌, ◌%◌, ◌<◌, ◌≤◌, ℤ, pos, Option, Some, None}
 use Rattle.std.specs.Str.Parse.{digits_value}
 use Rattle.fx_fraction.specs.Digits.{saturated}

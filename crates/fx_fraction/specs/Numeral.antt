@@ -1,5 +1,5 @@
--- A number in text: an optional sign, digits with at most one point among or around them, at least one digit, then optionally e or E,
--- an optional sign and digits.
+-- A number in text: an optional sign, digits with at most one point among or around them, at least one digit, then
+-- optionally e or E, an optional sign and digits.
 use Rattle.std.specs.Prelude.{◌≡◌, ◌==◌, ℕ, ◌+◌, ℤ, pos, ◌-ℤ◌, neg_ℤ, Bool, true, false, ◌&&◌, ◌||◌, List, [], ◌∷◌, ◌++◌, length, take, drop, slice_index, Option, Some, None, nat_lt, if◌then◌else◌, option_map}
 use Rattle.std.specs.List.{prefix_len}
 use Rattle.std.specs.Char.{is_ascii_digit}
@@ -105,13 +105,19 @@ behind_part text = if slice_index text 0 == 46 then behind_digits (drop 1 text) 
 -- the power of ten, which may be left out; none where the text is neither
 abbrev pub power_of : List ℕ → Option (Option Power)
 power_of [] = Some None
-power_of (c ∷ cs) = if is_e c && is_number (behind_sign cs) then Some (Some (record { letter = c; sign = sign_of cs; digits = behind_sign cs })) else None
+power_of (c ∷ cs) = if is_e c && is_number (behind_sign cs)
+    then Some (Some (record { letter = c; sign = sign_of cs; digits = behind_sign cs })) else None
 
 -- the numeral that the text is, if it is one
 abbrev pub unsigned_of : Sign → List ℕ → Option Numeral
 unsigned_of sign text =
     if nat_lt 0 (digit_count text + length (part_digits (part_of (behind_digits text))))
-    then option_map (λ p. record { sign = sign; whole = first_digits text; part = part_of (behind_digits text); power = p }) (power_of (behind_part (behind_digits text)))
+    then option_map (λ p. record {
+      sign = sign;
+      whole = first_digits text;
+      part = part_of (behind_digits text);
+      power = p;
+    }) (power_of (behind_part (behind_digits text)))
     else None
 
 -- the numeral that a text spells, if it spells one

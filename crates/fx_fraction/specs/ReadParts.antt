@@ -31,7 +31,8 @@ pub record IsShortPart (start : ℕ) (text : List ℕ) (r : ℕ × ℕ × ℕ) :
   pub within : r.2 ≤ length text
   pub rest : drop r.2 text ≡ behind_part text
 
--- few digits and the point that stand first: what the digits come to, how many stand behind the point, and where all end
+-- few digits and the point that stand first: what the digits come to, how many stand behind the point, and where all
+-- end
 pub record IsShortNumber (text : List ℕ) (size places end : ℕ) : Type 0 where
   pub some : 0 < digit_count text + length (part_digits (part_of (behind_digits text)))
   pub value : size ≡ digits_value 10 (first_digits text ++ part_digits (part_of (behind_digits text)))
@@ -40,7 +41,8 @@ pub record IsShortNumber (text : List ℕ) (size places end : ℕ) : Type 0 wher
   pub within : end ≤ length text
   pub rest : drop end text ≡ behind_part (behind_digits text)
 
--- the digits and the point that stand first: what is kept of the digits, how many stand behind the point, and where all end
+-- the digits and the point that stand first: what is kept of the digits, how many stand behind the point, and where all
+-- end
 pub record IsMantissa (text : List ℕ) (digits : Significant) (places end : ℕ) : Type 0 where
   pub some : 0 < digit_count text + length (part_digits (part_of (behind_digits text)))
   pub value : Keeps (digits_value 10 (first_digits text ++ part_digits (part_of (behind_digits text)))) digits

@@ -22,8 +22,10 @@ IsReading (Ok d) v = IsDecimal d.a d.b × Equal (decimal_value d) v
 IsReading (Err Malformed) v = ⊥
 IsReading (Err TooLong) v = (d : Decimal) → IsDecimal d.a d.b → Equal (decimal_value d) v → ⊥
 
--- a text is malformed exactly where it is the text of no numeral, it is the text of one at most, and its reading has that one's value
+-- a text is malformed exactly where it is the text of no numeral, it is the text of one at most, and its reading has
+-- that one's value
 pub record ReadingLaw : Type 0 where
-  pub malformed : (text : List ℕ) → (decimal_of text ≡ Err Malformed) ↔ ((n : Numeral) → IsNumeral n → numeral_text n ≡ text → ⊥)
+  pub malformed : (text : List ℕ) → (decimal_of text ≡ Err Malformed) ↔
+      ((n : Numeral) → IsNumeral n → numeral_text n ≡ text → ⊥)
   pub one : (n m : Numeral) → IsNumeral n → IsNumeral m → numeral_text n ≡ numeral_text m → n ≡ m
   pub value : (n : Numeral) → IsNumeral n → IsReading (decimal_of (numeral_text n)) (numeral_value n)

@@ -1,7 +1,7 @@
 //! A dyadic beside a fraction.
 //!
-//! Of `m / 2^e` and `p / q` only `m * q` is formed: `p * 2^e` could have a million bits, but `m * q <= p * 2^e` says the
-//! same as that the ceiling of `m * q / 2^e` is at most `p`.
+//! Of `m / 2^e` and `p / q` only `m * q` is formed: `p * 2^e` could have a million bits, but `m * q <= p * 2^e` says
+//! the same as that the ceiling of `m * q / 2^e` is at most `p`.
 
 ghost use Rattle.std.specs.Prelude.{◌*ℤ◌, pos, IsTrue};
 ghost use Rattle.std.specs.Option.{SomeIff};

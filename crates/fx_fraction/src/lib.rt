@@ -1,7 +1,7 @@
 //! Exact decimals and fractions, and the text of words.
 //!
-//! Every number that a user writes is a `Decimal`, every constant of a formula a `Fraction`; both have one spelling as a
-//! struct, so that `==` is equality of values. A call gives the exact value, or `None` or a fault exactly where that
+//! Every number that a user writes is a `Decimal`, every constant of a formula a `Fraction`; both have one spelling as
+//! a struct, so that `==` is equality of values. A call gives the exact value, or `None` or a fault exactly where that
 //! leaves the limits: nothing is rounded but by `quantise`, which gives the floor. Nothing here allocates.
 //!
 //! The trap: a `None` speaks of the result in lowest terms, never of a number on the way to it.

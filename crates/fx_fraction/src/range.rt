@@ -1,7 +1,7 @@
 //! A range that is widened by an error, made once for all the numbers that are compared with it.
 //!
-//! Its ends are whole numbers of 10^-18, the least place of a decimal: the bounds of a decimal keep those, and the sum of
-//! two, inside 128 bits.
+//! Its ends are whole numbers of 10^-18, the least place of a decimal: the bounds of a decimal keep those, and the sum
+//! of two, inside 128 bits.
 
 ghost use Rattle.std.specs.Prelude.{◌≡◌, ◌≤◌, ◌^◌, ◌*◌, ◌&&◌, unsigned_abs, int_le};
 ghost use Rattle.fx_rational.specs.Rational.{is_at_most, minus, plus};
@@ -27,13 +27,15 @@ fn smallest_units(d: Decimal) -> i128
 }
 
 fn least_of(lo: Decimal, err: Decimal) -> i128
-    ensures { (g : Number) → g.b ≤ 18 → int_le result (smallest_units g) ≡ is_at_most (minus (decimal_value lo) (decimal_value err)) (decimal_value g) }
+    ensures { (g : Number) → g.b ≤ 18 →
+        int_le result (smallest_units g) ≡ is_at_most (minus (decimal_value lo) (decimal_value err)) (decimal_value g) }
 {
     smallest_units(lo) - smallest_units(err)
 }
 
 fn most_of(hi: Decimal, err: Decimal) -> i128
-    ensures { (g : Number) → g.b ≤ 18 → int_le (smallest_units g) result ≡ is_at_most (decimal_value g) (plus (decimal_value hi) (decimal_value err)) }
+    ensures { (g : Number) → g.b ≤ 18 →
+        int_le (smallest_units g) result ≡ is_at_most (decimal_value g) (plus (decimal_value hi) (decimal_value err)) }
 {
     smallest_units(hi) + smallest_units(err)
 }

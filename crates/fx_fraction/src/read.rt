@@ -49,7 +49,8 @@ pub(crate) struct Mantissa {
 fn read_part(whole: Significant, text: &[u8]) -> Mantissa
     requires zeros { zeros_of whole + length text.now < 2 ^ 63 }
     requires fits { FitsFront whole }
-    ensures value { (n : ℕ) → Keeps n whole → Keeps (digits_value_after 10 n (part_digits (part_of text.now))) result.digits }
+    ensures value { (n : ℕ) → Keeps n whole →
+        Keeps (digits_value_after 10 n (part_digits (part_of text.now))) result.digits }
     ensures zeros { zeros_of result.digits ≤ zeros_of whole + length text.now }
     ensures fits { FitsFront result.digits }
     ensures places { result.places ≡ length (part_digits (part_of text.now)) }

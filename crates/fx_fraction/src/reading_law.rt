@@ -1,8 +1,8 @@
 //! The law of reading decimals.
 //!
-//! `read_decimal` answers `decimal_of` of the text, which is a definition by functions on lists. What that means is said
-//! here in the words of the grammar: which texts are numerals, that each is one numeral at most, and that the reading
-//! is the decimal of its value.
+//! `read_decimal` answers `decimal_of` of the text, which is a definition by functions on lists. What that means is
+//! said here in the words of the grammar: which texts are numerals, that each is one numeral at most, and that the
+//! reading is the decimal of its value.
 
 ghost use Rattle.fx_fraction.specs.ReadingLaw.{ReadingLaw};
 

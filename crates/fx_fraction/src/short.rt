@@ -1,7 +1,8 @@
 //! The quick form of most numbers: texts of at most 19 bytes behind the sign, whose digits come to less than 2^62.
 //!
-//! The digits are added up in one word, and the zeros come off at the end, where `Significant` counts them as they come.
-//! What is longer is read digit by digit. Nearly always there is no power of ten either, and then the decimal is there at once.
+//! The digits are added up in one word, and the zeros come off at the end, where `Significant` counts them as they
+//! come. What is longer is read digit by digit. Nearly always there is no power of ten either, and then the decimal is
+//! there at once.
 
 ghost use Rattle.std.specs.Prelude.{◌≡◌, ◌+◌, ◌-◌, ◌<◌, ◌≤◌, ◌^◌, length, drop, IfSome, Ok};
 ghost use Rattle.std.specs.Str.Parse.{digits_value_after};
@@ -20,8 +21,8 @@ const FEW: usize = 19;
 // What is read of a short text is below this.
 const KEPT: u64 = 1 << 62;
 
-/// The digits that stand first in a text of few bytes, behind those that came to `start`: what they come to, and how many
-/// they are.
+/// The digits that stand first in a text of few bytes, behind those that came to `start`: what they come to, and how
+/// many they are.
 fn few_digits(start: u64, text: &[u8]) -> (u64, usize)
     requires { IsBelowTens start (length text.now) }
     ensures count { result.1 ≡ digit_count text.now }

@@ -1,9 +1,9 @@
 //! The decimal text of a word at a binary point.
 //!
-//! The whole part goes through `itoa`, and so do at most 18 digits behind the point: of an odd number over 2^places there
-//! are as many as places, and they are the number times 5^places. More digits come by long division, one at each step: ten
-//! times the rest over 2^(left + 1) is five times the rest over 2^left, so that 64 bits hold every step but the first at
-//! 62 places. The division ends by itself, with a digit that isn't 0, since 2 divides 10.
+//! The whole part goes through `itoa`, and so do at most 18 digits behind the point: of an odd number over 2^places
+//! there are as many as places, and they are the number times 5^places. More digits come by long division, one at each
+//! step: ten times the rest over 2^(left + 1) is five times the rest over 2^left, so that 64 bits hold every step but
+//! the first at 62 places. The division ends by itself, with a digit that isn't 0, since 2 divides 10.
 
 ghost use Rattle.std.specs.Prelude.{◌≡◌, ◌+◌, ◌*◌, ◌-◌, ◌/◌, ◌%◌, ◌^◌, ◌≤◌, ◌<◌, ◌++◌, ◌∷◌, [], map, take, drop, length, decimal, pos, negsuc, neg_ℤ, ◌≤ℤ◌, ◌<ℤ◌, unsigned_abs, ℕ};
 ghost use Rattle.fx_model.specs.WordText.{digits_after, pointed, size_text, minus_sign, decimal_text};
@@ -68,7 +68,8 @@ fn put_few(out: &mut [u8], at: usize, rest: u64, places: u32) -> usize
     requires below { rest < 2 ^ places }
     requires odd { rest % 2 ≡ 1 }
     requires room { at + places + 1 ≤ length out.old }
-    ensures written { (zeros : ℕ) → take result out.new ≡ take at out.old ++ pointed (digits_after (places + zeros) (rest * 2 ^ zeros)) }
+    ensures written { (zeros : ℕ) →
+        take result out.new ≡ take at out.old ++ pointed (digits_after (places + zeros) (rest * 2 ^ zeros)) }
     ensures rest { drop result out.new ≡ drop result out.old }
     ensures end { result ≡ at + places + 1 }
 {

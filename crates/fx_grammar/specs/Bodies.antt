@@ -39,7 +39,11 @@ typed_at end ts = if next_head ts ==ₕ heads.Colon then (real_at end (drop 1 ts
 
 -- the body with one more temp of this name, for the vals behind it
 abbrev pub with_temp : Body → Text → Operand → Body
-with_temp b name x = record b { names = b.names ++ name ∷ []; temps = b.temps ++ record { name = name; tree = tree_or x.tree } ∷ []; nodes = counted_nodes (b.nodes + x.nodes) }
+with_temp b name x = record b {
+  names = b.names ++ name ∷ [];
+  temps = b.temps ++ record { name = name; tree = tree_or x.tree } ∷ [];
+  nodes = counted_nodes (b.nodes + x.nodes);
+}
 
 -- val = "val" name [ ":" "Real" ] "=" expr [ ";" ], behind the word
 unfoldable pub val_at : ℕ → Body → Tokens → Parsed Body
@@ -66,7 +70,9 @@ count_of b results nodes = b.inputs + b.states + results + nodes
 
 -- the fault of one result that is too high: it loses to too many nodes, where the function ends right behind it
 abbrev pub single_high : ℕ → ℕ → ℕ → Body → ℕ → Tokens → SourceFault
-single_high end word first b nodes ts = if (next_head ts ==ₕ heads.CloseBrace) && (not (next_head (drop 1 ts) ==ₕ heads.Ensuring) && nat_lt node_limit (count_of b 1 (counted_nodes (b.nodes + nodes))))
+single_high end word first b nodes ts = if (next_head ts ==ₕ heads.CloseBrace) &&
+    (not (next_head (drop 1 ts) ==ₕ heads.Ensuring) &&
+    nat_lt node_limit (count_of b 1 (counted_nodes (b.nodes + nodes))))
     then fault word kinds.TooMany
     else too_high end first ts
 
@@ -81,7 +87,8 @@ single_at end word b ts = expr_at (known_of end b) true height_limit ts >>= λ x
 unfoldable pub element_at : ℕ → ℕ → ℕ → Body → Results → Tokens → Parsed Results
 element_at end first reals b r ts = expr_at (known_of end b) false height_limit ts >>= λ x.
     if is_high x.0
-    then Err (if (next_head x.1 ==ₕ heads.Close) && not (length r.trees + 1 == reals) then fault first kinds.WrongArity else too_high end (next_place end ts) x.1)
+    then Err (if (next_head x.1 ==ₕ heads.Close) && not (length r.trees + 1 == reals) then fault first kinds.WrongArity
+    else too_high end (next_place end ts) x.1)
     else Ok (record { trees = r.trees ++ tree_or x.0.tree ∷ []; nodes = counted_nodes (r.nodes + x.0.nodes) }, x.1)
 
 -- "(" expr { "," expr } ")", as many as the type has Real

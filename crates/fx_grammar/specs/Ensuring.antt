@@ -15,7 +15,8 @@ use Rattle.fx_grammar.specs.Ranges.{Subject, Subjects, new_subject, names_of, is
 unfoldable pub output_at : ℕ → Subjects → Tokens → Parsed Subjects
 output_at end subjects ts = do
   t ← want end heads.Name ts
-  if has_name (names_of subjects) t.0.text then Err (fault t.0.at kinds.NamedTwice) else Ok (subjects ++ new_subject t.0 ∷ [], t.1)
+  if has_name (names_of subjects) t.0.text then Err (fault t.0.at kinds.NamedTwice)
+      else Ok (subjects ++ new_subject t.0 ∷ [], t.1)
 
 -- where the first name stands
 abbrev pub first_place : Subjects → ℕ
@@ -34,7 +35,11 @@ outputs_at end outputs ts = if next_head ts ==ₕ heads.Open
 
 -- what is said of an output
 abbrev pub declared_demand : Subject → Demand
-declared_demand s = record { err = option_map decimal_value s.err; lo = option_map decimal_value s.lo; hi = option_map decimal_value s.hi }
+declared_demand s = record {
+  err = option_map decimal_value s.err;
+  lo = option_map decimal_value s.lo;
+  hi = option_map decimal_value s.hi;
+}
 
 -- both ends are given, and the lower one lies above the upper one
 abbrev pub is_empty_demand : Subject → Bool
@@ -60,4 +65,5 @@ ensuring_at end outputs ts = do
 
 -- [ ensuring ]: without it each output is free
 unfoldable pub maybe_ensuring_at : ℕ → ℕ → Tokens → Parsed (List Demand)
-maybe_ensuring_at end outputs ts = if next_head ts ==ₕ heads.Ensuring then ensuring_at end outputs (drop 1 ts) else Ok (replicate outputs free, ts)
+maybe_ensuring_at end outputs ts =
+    if next_head ts ==ₕ heads.Ensuring then ensuring_at end outputs (drop 1 ts) else Ok (replicate outputs free, ts)

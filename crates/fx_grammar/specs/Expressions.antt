@@ -43,7 +43,8 @@ found_name known t (Some p) ts = Ok (leaf (meant known p) 0, ts)
 
 -- a name, which is no call
 abbrev pub named : Known → Lexeme → Reader
-named known t ts = if is_call ts then Err (fault t.at kinds.Unsupported) else found_name known t (name_place known.names t.text) ts
+named known t ts =
+    if is_call ts then Err (fault t.at kinds.Unsupported) else found_name known t (name_place known.names t.text) ts
 
 -- the parenthesis that closes
 unfoldable pub closed : Known → Operand → Reader
@@ -78,7 +79,8 @@ behind_minus known inner ts = when (next_head ts ==ₕ heads.Number)
 
 -- factor = [ "-" ] atom
 unfoldable pub factor_of : Known → Option Reader → Reader
-factor_of known inner ts = when (next_head ts ==ₕ heads.Minus) (λ _. behind_minus known inner (drop 1 ts)) (λ _. atom_of known inner ts)
+factor_of known inner ts =
+    when (next_head ts ==ₕ heads.Minus) (λ _. behind_minus known inner (drop 1 ts)) (λ _. atom_of known inner ts)
 
 -- one more operand to the right of a tree; they group to the left
 abbrev pub one_more : Reader → Operand → Reader
@@ -90,7 +92,8 @@ goes_on_product left ts = (next_head ts ==ₕ heads.Star) || (next_head ts ==ₕ
 
 -- outside parentheses a minus that begins its line doesn't go on
 abbrev pub goes_on_sum : Bool → Operand → Tokens → Bool
-goes_on_sum outside left ts = (next_head ts ==ₕ heads.Plus) || ((next_head ts ==ₕ heads.Minus) && not (outside && is_fresh ts))
+goes_on_sum outside left ts =
+    (next_head ts ==ₕ heads.Plus) || ((next_head ts ==ₕ heads.Minus) && not (outside && is_fresh ts))
 
 -- term = factor { ( "*" | "/" ) factor }
 unfoldable pub term_of : Known → Option Reader → Reader

@@ -33,7 +33,13 @@ declared_state end h ts = do
   r ← real_at end c.1
   e ← want end heads.Equals r.1
   d ← signed_at end e.1
-  Ok (record { names = h.names ++ t.0.text ∷ []; states = h.states ++ record { name = t.0.text; start = decimal_value d.0 } ∷ [] }, d.1)
+  Ok (
+    record {
+      names = h.names ++ t.0.text ∷ [];
+      states = h.states ++ record { name = t.0.text; start = decimal_value d.0 } ∷ [];
+    },
+    d.1,
+  )
 
 -- [ "(" state { "," state } ")" ]
 unfoldable pub states_at : ℕ → List Text → Tokens → Parsed Declared

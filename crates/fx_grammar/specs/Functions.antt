@@ -47,11 +47,18 @@ front_at end functions ts = do
 
 -- the body behind the brace, with no temps yet
 abbrev pub body_of : Front → Body
-body_of f = record { names = f.declared.names; inputs = length f.subjects; states = length f.declared.states; temps = []; nodes = 0 }
+body_of f = record {
+  names = f.declared.names;
+  inputs = length f.subjects;
+  states = length f.declared.states;
+  temps = [];
+  nodes = 0;
+}
 
 -- the function, if it has no more than 4,000 nodes; else the fault at its word
 abbrev pub within_nodes : ℕ → Body → Results → Function → Tokens → Parsed Function
-within_nodes word b r f ts = if nat_lt node_limit (count_of b (length r.trees) r.nodes) then Err (fault word kinds.TooMany) else Ok (f, ts)
+within_nodes word b r f ts =
+    if nat_lt node_limit (count_of b (length r.trees) r.nodes) then Err (fault word kinds.TooMany) else Ok (f, ts)
 
 -- require { val } result [ ";" ] "}" [ ensuring ]
 unfoldable pub body_at : ℕ → ℕ → Front → Tokens → Parsed Function
@@ -62,7 +69,14 @@ body_at end word f ts = do
   results ← result_at end word f.reals b.0 b.1
   c ← want end heads.CloseBrace (past_semicolon results.1)
   demands ← maybe_ensuring_at end (f.reals - length f.declared.states) c.1
-  within_nodes word b.0 results.0 (record { name = f.name; inputs = inputs.0; states = f.declared.states; temps = b.0.temps; results = results.0.trees; demands = demands.0 }) demands.1
+  within_nodes word b.0 results.0 (record {
+    name = f.name;
+    inputs = inputs.0;
+    states = f.declared.states;
+    temps = b.0.temps;
+    results = results.0.trees;
+    demands = demands.0;
+  }) demands.1
 
 -- def, behind the word, which stands at word
 unfoldable pub def_at : ℕ → ℕ → List Text → Tokens → Parsed Function

@@ -32,7 +32,9 @@ negation_of (Some x) = Some (Negation x)
 
 -- the negation of an operand, one higher, of one node more
 abbrev pub negation : Operand → Operand
-negation a = let h = min (height_limit + 1) (1 + a.height) in record { tree = low_tree h (negation_of a.tree); height = h; nodes = counted_nodes (1 + a.nodes) }
+negation a =
+    let h = min (height_limit + 1) (1 + a.height) in
+    record { tree = low_tree h (negation_of a.tree); height = h; nodes = counted_nodes (1 + a.nodes) }
 
 -- the operation of a sign
 abbrev pub operation : Head → Tree → Tree → Tree
@@ -49,7 +51,9 @@ both sign (Some x) (Some y) = Some (operation sign x y)
 
 -- the operation of two operands, higher than both by one, of one node more
 abbrev pub combined_operand : Head → Operand → Operand → Operand
-combined_operand sign a b = let h = min (height_limit + 1) (1 + max a.height b.height) in record { tree = low_tree h (both sign a.tree b.tree); height = h; nodes = counted_nodes (1 + a.nodes + b.nodes) }
+combined_operand sign a b =
+    let h = min (height_limit + 1) (1 + max a.height b.height) in
+    record { tree = low_tree h (both sign a.tree b.tree); height = h; nodes = counted_nodes (1 + a.nodes + b.nodes) }
 
 -- the tree is higher than 200
 abbrev pub is_high : Operand → Bool

@@ -53,7 +53,8 @@ with_side Error d s = record s { err = Some d }
 
 -- the subject at a place learns one thing; t is its name where that is said
 abbrev pub said_at : Side → Decimal → Lexeme → Subjects → ℕ → Subject → Result Subjects SourceFault
-said_at side d t subjects k s = if is_said (side_of side s) then Err (fault t.at kinds.NamedTwice) else Ok (slice_set subjects k (with_side side d s))
+said_at side d t subjects k s = if is_said (side_of side s) then Err (fault t.at kinds.NamedTwice)
+    else Ok (slice_set subjects k (with_side side d s))
 
 -- the subject at a place that is there
 abbrev pub subject_or : Subjects → ℕ → Subject
@@ -100,12 +101,14 @@ name_first end subjects ts = do
   t ← want end heads.Name ts
   k ← subject_at subjects t.0
   if next_head t.1 ==ₕ heads.PlusMinus then stated_error end subjects t.0 k (drop 1 t.1) else (
-      if is_relation (next_head t.1) then bound_at end subjects t.0 k (if is_upward (next_head t.1) then High else Low) (drop 1 t.1)
+      if is_relation (next_head t.1)
+      then bound_at end subjects t.0 k (if is_upward (next_head t.1) then High else Low) (drop 1 t.1)
       else Err (wrong end t.1))
 
 -- a number stands next, with or without a minus
 abbrev pub is_signed : Tokens → Bool
-is_signed ts = (next_head ts ==ₕ heads.Number) || ((next_head ts ==ₕ heads.Minus) && (next_head (drop 1 ts) ==ₕ heads.Number))
+is_signed ts =
+    (next_head ts ==ₕ heads.Number) || ((next_head ts ==ₕ heads.Minus) && (next_head (drop 1 ts) ==ₕ heads.Number))
 
 -- signed rel name, behind the relation; the condition begins at first
 unfoldable pub behind_relation : ℕ → ℕ → Subjects → Decimal → Side → Tokens → Parsed Subjects
@@ -119,12 +122,15 @@ behind_relation end first subjects d side ts = if is_signed ts then Err (fault f
 unfoldable pub number_first : ℕ → Subjects → Tokens → Parsed Subjects
 number_first end subjects ts = do
   d ← signed_at end ts
-  if is_relation (next_head d.1) then behind_relation end (next_place end ts) subjects d.0 (if is_upward (next_head d.1) then Low else High) (drop 1 d.1)
+  if is_relation (next_head d.1)
+      then behind_relation end (next_place end ts) subjects d.0 (if is_upward (next_head d.1) then Low
+      else High) (drop 1 d.1)
       else Err (wrong end d.1)
 
 -- a condition without parentheses around it
 unfoldable pub condition_at : ℕ → Subjects → Tokens → Parsed Subjects
-condition_at end subjects ts = if next_head ts ==ₕ heads.Name then name_first end subjects ts else number_first end subjects ts
+condition_at end subjects ts =
+    if next_head ts ==ₕ heads.Name then name_first end subjects ts else number_first end subjects ts
 
 -- what was read of the conditions: how many parentheses are open, whether a condition is due, what was said
 pub record Conditions : Type 0 where
@@ -141,7 +147,10 @@ abbrev pub wanted_at : ℕ → Conditions → Tokens → Parsed Conditions
 wanted_at end c [] = Err (fault end kinds.EndOfText)
 wanted_at end c (t ∷ ts) = if head_of t ==ₕ heads.Open
     then Ok (record c { depth = c.depth + 1 }, ts)
-    else (condition_at end c.subjects (t ∷ ts) >>= λ x. Ok (record { depth = c.depth; wants = false; subjects = x.0 }, x.1))
+    else (condition_at end c.subjects (t ∷ ts) >>= λ x. Ok (
+      record { depth = c.depth; wants = false; subjects = x.0 },
+      x.1,
+    ))
 
 -- behind a condition: a parenthesis that closes, or && and another condition is due
 abbrev pub read_at : ℕ → Conditions → Tokens → Parsed Conditions
@@ -167,7 +176,12 @@ or_zero (Some d) = d
 
 -- the input with its range and its error, which is zero where none is given
 abbrev pub declared_input : Subject → Input
-declared_input s = record { name = s.name; lo = decimal_value (or_zero s.lo); hi = decimal_value (or_zero s.hi); err = decimal_value (or_zero s.err) }
+declared_input s = record {
+  name = s.name;
+  lo = decimal_value (or_zero s.lo);
+  hi = decimal_value (or_zero s.hi);
+  err = decimal_value (or_zero s.err);
+}
 
 -- the lower or the upper end is not given
 abbrev pub is_lacking : Subject → Bool

@@ -17,20 +17,27 @@ use Rattle.fx_judging.specs.Judging.{Forms}
 use Rattle.fx_grid.proofs.Settled.{narrowest_long}
 
 -- ---- a comparison
-pub over_some : (o : Option Bool) (x : Dyadic) (c : Rational) (f : Formula) (r : Rational) (v : Bool) → SomeIff o (IsTrue (fits_128 (x.m *ℤ pos (bottom c)))) v → Forms (Some x) f → c ≡ lowest r → is_some o ≡ fits_over f r
+pub over_some : (o : Option Bool) (x : Dyadic) (c : Rational) (f : Formula) (r : Rational) (v : Bool) →
+    SomeIff o (IsTrue (fits_128 (x.m *ℤ pos (bottom c)))) v → Forms (Some x) f → c ≡ lowest r →
+    is_some o ≡ fits_over f r
 over_some o x c f r v h k e =
-    let same : fits_128 (x.m *ℤ pos (bottom c)) ≡ fits_128 ((formed f).m *ℤ pos (bottom (lowest r))) = (λ i. fits_128 ((k.1 i).m *ℤ pos (bottom (e i)))) in
+    let same : fits_128 (x.m *ℤ pos (bottom c)) ≡ fits_128 ((formed f).m *ℤ pos (bottom (lowest r))) =
+    (λ i. fits_128 ((k.1 i).m *ℤ pos (bottom (e i)))) in
     by o h ∙ same ∙ sym (ap (λ (t : Bool). t && fits_128 ((formed f).m *ℤ pos (bottom (lowest r)))) k.0)
   where
-    by : (o : Option Bool) → SomeIff o (IsTrue (fits_128 (x.m *ℤ pos (bottom c)))) v → is_some o ≡ fits_128 (x.m *ℤ pos (bottom c))
+    by : (o : Option Bool) → SomeIff o (IsTrue (fits_128 (x.m *ℤ pos (bottom c)))) v →
+        is_some o ≡ fits_128 (x.m *ℤ pos (bottom c))
     by (Some b) g = sym g.0
     by None g = sym (false_from_ne_true (fits_128 (x.m *ℤ pos (bottom c))) g)
 
 pub over_none : (f : Formula) (r : Rational) → Forms None f → false ≡ fits_over f r
-over_none f r h = sym (ap (λ (t : Bool). t && fits_128 ((formed f).m *ℤ pos (bottom (lowest r)))) (false_from_ne_true (formula_fits f) h))
+over_none f r h =
+    sym (ap (λ (t : Bool). t && fits_128 ((formed f).m *ℤ pos (bottom (lowest r))))
+    (false_from_ne_true (formula_fits f) h))
 
 -- ---- the answer
-pub if_fitting_none : (e : ℕ) (b : Bounds) (claims : Interval → List Claim) → IsIfSmall None (narrow e b) → Path (Result Interval Why) (Err Beyond) (narrowest e b claims)
+pub if_fitting_none : (e : ℕ) (b : Bounds) (claims : Interval → List Claim) → IsIfSmall None (narrow e b) →
+    Path (Result Interval Why) (Err Beyond) (narrowest e b claims)
 if_fitting_none e b claims k = narrowest_long e b claims k
 
 all_of : (s a b : Bool) → s ≡ true → (a && b) ≡ (s && (a && (b && true)))
@@ -38,18 +45,23 @@ all_of s true true h = sym (rw h refl)
 all_of s true false h = sym (rw h refl)
 all_of s false b h = sym (rw h refl)
 
-pub if_fitting_some : (g : Interval) (e : ℕ) (b : Bounds) (claims : Interval → List Claim) (p q : Bool) → IsIfSmall (Some g) (narrow e b) → list_all fits (claims g) ≡ (p && (q && true)) → if_fitting g p q ≡ narrowest e b claims
+pub if_fitting_some : (g : Interval) (e : ℕ) (b : Bounds) (claims : Interval → List Claim) (p q : Bool) →
+    IsIfSmall (Some g) (narrow e b) → list_all fits (claims g) ≡ (p && (q && true)) →
+    if_fitting g p q ≡ narrowest e b claims
 if_fitting_some g e b claims p q k is =
     (λ i. let r : Result Interval Why = if test i then Ok (k.0 i) else Err Beyond in r)
   where
     test : (p && q) ≡ (is_small (narrow e b).lo && is_small (narrow e b).hi && list_all fits (claims (narrow e b)))
-    test = all_of (is_small (narrow e b).lo && is_small (narrow e b).hi) p q k.1 ∙ ap (λ (t : Bool). (is_small (narrow e b).lo && is_small (narrow e b).hi) && t) (sym is ∙ ap (λ (i : Interval). list_all fits (claims i)) k.0)
+    test = all_of (is_small (narrow e b).lo && is_small (narrow e b).hi) p q k.1
+        ∙ ap (λ (t : Bool). (is_small (narrow e b).lo && is_small (narrow e b).hi) && t) (sym is
+        ∙ ap (λ (i : Interval). list_all fits (claims i)) k.0)
 
 -- ---- words
 pub word_high : (w f : ℤ) (k : ℕ) (o : Option Dyadic) → f ≡ pos k → Forms o (Num (dyadic w k)) → Forms o (word_at w f)
 word_high w f k o e h = subst (λ (z : ℤ). Forms o (word_at w z)) (sym e) h
 
-pub word_low : (w f : ℤ) (k : ℕ) (o : Option Dyadic) → f ≡ negsuc k → Forms o (Num (record { m = w *ℤ pos (2 ^ suc k); e = 0 })) → Forms o (word_at w f)
+pub word_low : (w f : ℤ) (k : ℕ) (o : Option Dyadic) → f ≡ negsuc k →
+    Forms o (Num (record { m = w *ℤ pos (2 ^ suc k); e = 0 })) → Forms o (word_at w f)
 word_low w f k o e h = subst (λ (z : ℤ). Forms o (word_at w z)) (sym e) h
 
 plain_zero : (z : ℤ) → dyadic z 0 ≡ (record { m = z; e = 0 })
@@ -57,7 +69,8 @@ plain_zero (pos zero) = refl
 plain_zero (pos (suc n)) = refl
 plain_zero (negsuc n) = refl
 
-pub raised_some : (x : Dyadic) (m z : ℤ) → fits_128 z ≡ true → m ≡ z → x ≡ dyadic m 0 → Forms (Some x) (Num (record { m = z; e = 0 }))
+pub raised_some : (x : Dyadic) (m z : ℤ) → fits_128 z ≡ true → m ≡ z → x ≡ dyadic m 0 →
+    Forms (Some x) (Num (record { m = z; e = 0 }))
 unfolding formula_fits formed
 raised_some x m z h e is = (h, is ∙ ap (λ (y : ℤ). dyadic y 0) e ∙ plain_zero z)
 

@@ -16,19 +16,25 @@ use Rattle.fx_grid.specs.Grid.{is_even, lowest_dyadic, grid_down, grid_up}
 pub half_of : (m : ℤ) → is_even m ≡ true → floor_div m 2 *ℤ pos 2 ≡ m
 half_of (pos n) h = let d = div-add-mod' n 2 in let z : n % 2 ≡ 0 = grind (arith, h) in omega (arith, ints, d, z)
 half_of (negsuc n) h =
-    let d = div-add-mod' n 2 in let l = mod_below n 2 (omega arith) in let c = div-add-mod' (suc n) 2 in let z : suc n % 2 ≡ 0 = grind (arith, h) in
+    let d = div-add-mod' n 2 in let l = mod_below n 2 (omega arith) in let c = div-add-mod' (suc n) 2 in
+    let z : suc n % 2 ≡ 0 = grind (arith, h) in
     omega (arith, ints, d, l, c, z)
 
 odd_of : (m : ℤ) → is_even m ≡ false → unsigned_abs m % 2 ≡ 1
-odd_of m h = let l = mod_below (unsigned_abs m) 2 (omega arith) in let z : (unsigned_abs m % 2 ≡ 0 → ⊥) = λ e. absurd (grind (arith, h, e)) in grind (arith, l, z)
+odd_of m h =
+    let l = mod_below (unsigned_abs m) 2 (omega arith) in
+    let z : (unsigned_abs m % 2 ≡ 0 → ⊥) = λ e. absurd (grind (arith, h, e)) in
+    grind (arith, l, z)
 
 -- half the mantissa with one place less is the same number
-halved : (m : ℤ) (e : ℕ) → is_even m ≡ true → Equal (dyadic_value (as_written (floor_div m 2) e)) (dyadic_value (as_written m (suc e)))
+halved : (m : ℤ) (e : ℕ) → is_even m ≡ true →
+    Equal (dyadic_value (as_written (floor_div m 2) e)) (dyadic_value (as_written m (suc e)))
 halved m e h =
     let d = as_written (floor_div m 2) e in
     let one : suc e - e ≡ 1 = omega arith in
     let is : aligned d (suc e) ≡ m = ap (λ (k : ℕ). floor_div m 2 *ℤ pos (2 ^ k)) one ∙ half_of m h in
-    equal_sym (subst (λ (z : ℤ). Equal (dyadic_value (as_written z (suc e))) (dyadic_value d)) is (aligned_is d (suc e) (omega arith)))
+    equal_sym (subst (λ (z : ℤ). Equal (dyadic_value (as_written z (suc e))) (dyadic_value d)) is
+    (aligned_is d (suc e) (omega arith)))
 
 pub record IsLowestDyadic (m : ℤ) (e : ℕ) (d : Dyadic) : Type 0 where
   pub value : Equal (dyadic_value d) (dyadic_value (as_written m e))
@@ -40,18 +46,26 @@ unfolding lowest_dyadic
 lowest_dyadic_is m zero = record { value = equal_refl _; places = omega arith; lowest = λ h. absurd (omega (arith, h)) }
 lowest_dyadic_is m (suc e) = by (is_even m) refl (lowest_dyadic_is (floor_div m 2) e)
   where
-    by : (t : Bool) → is_even m ≡ t → IsLowestDyadic (floor_div m 2) e (lowest_dyadic (floor_div m 2) e) → IsLowestDyadic m (suc e) (if t then lowest_dyadic (floor_div m 2) e else record { m = m; e = suc e })
-    by true h half = record { value = equal_trans half.value (halved m e h); places = let p = half.places in omega (arith, p); lowest = half.lowest }
+    by : (t : Bool) → is_even m ≡ t → IsLowestDyadic (floor_div m 2) e (lowest_dyadic (floor_div m 2) e) →
+        IsLowestDyadic m (suc e) (if t then lowest_dyadic (floor_div m 2) e else record { m = m; e = suc e })
+    by true h half = record {
+      value = equal_trans half.value (halved m e h);
+      places = let p = half.places in
+          omega (arith, p);
+      lowest = half.lowest;
+    }
     by false h half = record { value = equal_refl _; places = omega arith; lowest = λ _. odd_of m h }
 
 -- ---- m / 2^e beside a rational
-pub at_most_written : (m : ℤ) (e : ℕ) (x : Rational) → AtMost (dyadic_value (as_written m e)) x ↔ ((m *ℤ pos (bottom x)) ≤ℤ (x.top *ℤ pos (2 ^ e)))
+pub at_most_written : (m : ℤ) (e : ℕ) (x : Rational) →
+    AtMost (dyadic_value (as_written m e)) x ↔ ((m *ℤ pos (bottom x)) ≤ℤ (x.top *ℤ pos (2 ^ e)))
 unfolding dyadic_value over
 at_most_written m e x =
     let P : ℕ → Type 0 = λ k. (m *ℤ pos (bottom x)) ≤ℤ (x.top *ℤ pos k) in
     (λ h. subst P (power_bottom e) h.at_most, λ h. record { at_most = subst P (sym (power_bottom e)) h })
 
-pub written_at_most : (m : ℤ) (e : ℕ) (x : Rational) → AtMost x (dyadic_value (as_written m e)) ↔ ((x.top *ℤ pos (2 ^ e)) ≤ℤ (m *ℤ pos (bottom x)))
+pub written_at_most : (m : ℤ) (e : ℕ) (x : Rational) →
+    AtMost x (dyadic_value (as_written m e)) ↔ ((x.top *ℤ pos (2 ^ e)) ≤ℤ (m *ℤ pos (bottom x)))
 unfolding dyadic_value over
 written_at_most m e x =
     let P : ℕ → Type 0 = λ k. (x.top *ℤ pos k) ≤ℤ (m *ℤ pos (bottom x)) in
@@ -77,7 +91,8 @@ grid_down_is e x =
           let v = aligned d e in let same = aligned_is d e p in
           let k = (at_most_written v e x).0 (le_trans (le_of_equal same) h) in
           let l = (le_floor v (x.top *ℤ pos (2 ^ e)) (bottom x) (suc_above x.less)).1 k in
-          le_trans (le_of_equal (equal_sym same)) (le_trans (le_at_one_exponent v r e l) (le_of_equal (equal_sym t.value)));
+          le_trans (le_of_equal (equal_sym same))
+          (le_trans (le_at_one_exponent v r e l) (le_of_equal (equal_sym t.value)));
     }
 
 pub record IsUp (e : ℕ) (x : Rational) (r : Dyadic) : Type 0 where

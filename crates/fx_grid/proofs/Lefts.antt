@@ -9,7 +9,8 @@ use Rattle.fx_rational.proofs.Fits.{fits_in}
 
 pub left_small : (p : ℤ) (s : ℕ) → unsigned_abs p < 2 ^ 62 → s ≤ 64 → unsigned_abs (p *ℤ pos (2 ^ s)) < 2 ^ 126
 left_small p s h l =
-    let e = unsigned_abs-mul p (pos (2 ^ s)) in let q : 2 ^ s ≤ 2 ^ 64 = pow_mono l in let m = mul-le (unsigned_abs p) (2 ^ s) (2 ^ 62 - 1) (2 ^ 64) (omega (arith, h)) q in
+    let e = unsigned_abs-mul p (pos (2 ^ s)) in let q : 2 ^ s ≤ 2 ^ 64 = pow_mono l in
+    let m = mul-le (unsigned_abs p) (2 ^ s) (2 ^ 62 - 1) (2 ^ 64) (omega (arith, h)) q in
     omega (arith, e, m)
 
 pub sized_fits : (z : ℤ) → unsigned_abs z < 2 ^ 127 → fits_128 z ≡ true

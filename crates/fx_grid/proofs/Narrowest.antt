@@ -30,18 +30,35 @@ around_covers g b = (λ h. record { low = h.low; high = h.high }, λ h. record {
 same_interval : (i j : Interval) → Path (Result Interval Why) (Ok i) (Ok j) → i ≡ j
 same_interval i j e = cc
 
-pub narrowest_is : (e : ℕ) (b : Bounds) (claims : Interval → List Claim) (g : Interval) → e ≤ 96 → ((j : Interval) → Around (span j) b ↔ (list_all holds (claims j) ≡ true)) → narrowest e b claims ≡ Ok g → IsNarrowestOf e claims g
-narrowest_is e b claims g few meets made = by (is_small (narrow e b).lo && is_small (narrow e b).hi && list_all fits (claims (narrow e b))) refl made
+pub narrowest_is : (e : ℕ) (b : Bounds) (claims : Interval → List Claim) (g : Interval) → e ≤ 96 →
+    ((j : Interval) → Around (span j) b ↔ (list_all holds (claims j) ≡ true)) → narrowest e b claims ≡ Ok g →
+    IsNarrowestOf e claims g
+narrowest_is e b claims g few meets made =
+    by (is_small (narrow e b).lo && is_small (narrow e b).hi && list_all fits (claims (narrow e b))) refl made
   where
-    by : (t : Bool) → (is_small (narrow e b).lo && is_small (narrow e b).hi && list_all fits (claims (narrow e b))) ≡ t → (if t then Ok (narrow e b) else Err Beyond) ≡ Ok g → IsNarrowestOf e claims g
+    by : (t : Bool) → (is_small (narrow e b).lo && is_small (narrow e b).hi && list_all fits (claims (narrow e b)))
+        ≡ t → (if t then Ok (narrow e b) else Err Beyond) ≡ Ok g → IsNarrowestOf e claims g
     by false t made = absurd cc
-    by true t made = subst (IsNarrowestOf e claims) (same_interval (narrow e b) g made) (let n = narrow_is e b in let grid = n.grid in let gl = grid.lo in let gh = grid.hi in record {
-      fit = both_right (is_small (narrow e b).lo && is_small (narrow e b).hi) _ t;
-      hold = (meets (narrow e b)).0 ((around_covers (narrow e b) b).1 n.covers);
-      written = (
-        record { small = short_small (narrow e b).lo (both_left (is_small (narrow e b).lo) (is_small (narrow e b).hi) (both_left _ _ t)); places = omega (arith, few, gl); one_spelling = n.lo_lowest },
-        record { small = short_small (narrow e b).hi (both_right (is_small (narrow e b).lo) (is_small (narrow e b).hi) (both_left _ _ t)); places = omega (arith, few, gh); one_spelling = n.hi_lowest },
-      );
-      grid = n.grid;
-      inside = λ j on h. n.inside j on ((around_covers j b).0 ((meets j).1 h));
-    })
+    by true t made = subst (IsNarrowestOf e claims) (same_interval (narrow e b) g made) (let n = narrow_is e b in
+        let grid = n.grid in let gl = grid.lo in let gh = grid.hi in record {
+          fit = both_right (is_small (narrow e b).lo && is_small (narrow e b).hi) _ t;
+          hold = (meets (narrow e b)).0 ((around_covers (narrow e b) b).1 n.covers);
+          written = (
+            record {
+              small =
+                  short_small (narrow e b).lo
+                  (both_left (is_small (narrow e b).lo) (is_small (narrow e b).hi) (both_left _ _ t));
+              places = omega (arith, few, gl);
+              one_spelling = n.lo_lowest;
+            },
+            record {
+              small =
+                  short_small (narrow e b).hi
+                  (both_right (is_small (narrow e b).lo) (is_small (narrow e b).hi) (both_left _ _ t));
+              places = omega (arith, few, gh);
+              one_spelling = n.hi_lowest;
+            },
+          );
+          grid = n.grid;
+          inside = λ j on h. n.inside j on ((around_covers j b).0 ((meets j).1 h));
+        })

@@ -38,7 +38,8 @@ ratio_some : (p q : Rational) → Above q → quotient p q ≡ Some (ratio p q)
 unfolding quotient divided ratio
 ratio_some p q h = go q.top q.less h.top
   where
-    go : (n : ℤ) (l : ℕ) → pos 0 <ℤ n → quotient p (record { top = n; less = l }) ≡ Some (ratio p (record { top = n; less = l }))
+    go : (n : ℤ) (l : ℕ) → pos 0 <ℤ n →
+        quotient p (record { top = n; less = l }) ≡ Some (ratio p (record { top = n; less = l }))
     go (pos zero) l h = absurd (omega (arith, ints))
     go (pos (suc n)) l h = refl
     go (negsuc n) l h = absurd (omega (arith, ints))
@@ -66,7 +67,10 @@ pub record Around (c : Span) (b : Bounds) : Type 0 where
 pub around_inside : (s c : Span) → Around c (span_bounds s) ↔ (list_all holds (inside s c) ≡ true)
 around_inside s c = (
   λ h. both (at_most_holds h.low) (both (at_most_holds h.high) refl),
-  λ h. record { low = at_most_true _ _ (both_left _ _ h); high = at_most_true _ _ (both_left _ _ (both_right (holds (Below c.lo s.lo)) _ h)) },
+  λ h. record {
+    low = at_most_true _ _ (both_left _ _ h);
+    high = at_most_true _ _ (both_left _ _ (both_right (holds (Below c.lo s.lo)) _ h));
+  },
 )
 
 -- both ends above zero
@@ -74,35 +78,57 @@ pub record IsAbove (b : Span) : Type 0 where
   pub lo : Above (formula_value b.lo)
   pub hi : Above (formula_value b.hi)
 
-positive_around : (a b c : Span) → IsAbove b → Around c (positive_bounds a b) ↔ (list_all holds (positive_quotient_claims a b c) ≡ true)
+positive_around : (a b c : Span) → IsAbove b →
+    Around c (positive_bounds a b) ↔ (list_all holds (positive_quotient_claims a b c) ≡ true)
 unfolding formula_value
 positive_around a b c above =
-    let l = below_lesser (formula_value c.lo) (ratio (formula_value a.lo) (formula_value b.lo)) (ratio (formula_value a.lo) (formula_value b.hi)) in
-    let g = above_greater (formula_value c.hi) (ratio (formula_value a.hi) (formula_value b.lo)) (ratio (formula_value a.hi) (formula_value b.hi)) in
+    let l =
+    below_lesser (formula_value c.lo) (ratio (formula_value a.lo) (formula_value b.lo))
+    (ratio (formula_value a.lo) (formula_value b.hi)) in
+    let g =
+    above_greater (formula_value c.hi) (ratio (formula_value a.hi) (formula_value b.lo))
+    (ratio (formula_value a.hi) (formula_value b.hi)) in
     let l0 = below_ratio (formula_value c.lo) (formula_value a.lo) (formula_value b.lo) above.lo in
     let l1 = below_ratio (formula_value c.lo) (formula_value a.lo) (formula_value b.hi) above.hi in
     let g0 = above_ratio (formula_value c.hi) (formula_value a.hi) (formula_value b.lo) above.lo in
     let g1 = above_ratio (formula_value c.hi) (formula_value a.hi) (formula_value b.hi) above.hi in
-    let k0 = Below (Product c.lo b.lo) a.lo in let k1 = Below (Product c.lo b.hi) a.lo in let k2 = Below a.hi (Product c.hi b.lo) in let k3 = Below a.hi (Product c.hi b.hi) in (
+    let k0 = Below (Product c.lo b.lo) a.lo in
+    let k1 = Below (Product c.lo b.hi) a.lo in
+    let k2 = Below a.hi (Product c.hi b.lo) in
+    let k3 = Below a.hi (Product c.hi b.hi) in (
       λ h. let p = l.0 h.low in let q = g.0 h.high in
-          both (at_most_holds (l0.0 p.0)) (both (at_most_holds (l1.0 p.1)) (both (at_most_holds (g0.0 q.0)) (both (at_most_holds (g1.0 q.1)) refl))),
+          both (at_most_holds (l0.0 p.0))
+          (both (at_most_holds (l1.0 p.1))
+          (both (at_most_holds (g0.0 q.0)) (both (at_most_holds (g1.0 q.1)) refl))),
       λ h.
           let r1 = both_right (holds k0) (list_all holds (k1 ∷ k2 ∷ k3 ∷ [])) h in
           let r2 = both_right (holds k1) (list_all holds (k2 ∷ k3 ∷ [])) r1 in
           let r3 = both_right (holds k2) (list_all holds (k3 ∷ [])) r2 in
           record {
-            low = l.1 (l0.1 (at_most_true _ _ (both_left (holds k0) _ h)), l1.1 (at_most_true _ _ (both_left (holds k1) _ r1)));
-            high = g.1 (g0.1 (at_most_true _ _ (both_left (holds k2) _ r2)), g1.1 (at_most_true _ _ (both_left (holds k3) _ r3)));
+            low = l.1 (
+              l0.1 (at_most_true _ _ (both_left (holds k0) _ h)),
+              l1.1 (at_most_true _ _ (both_left (holds k1) _ r1)),
+            );
+            high = g.1 (
+              g0.1 (at_most_true _ _ (both_left (holds k2) _ r2)),
+              g1.1 (at_most_true _ _ (both_left (holds k3) _ r3)),
+            );
           },
     )
 
 flipped_hi : (b : Span) → Above (negative (formula_value b.hi)) → Above (formula_value (span_difference zero_span b).lo)
 unfolding formula_value dyadic_value over
-flipped_hi b h = above_more h (le_of_equal (by_quotes {ρ = formula_value b.hi ∷ []} {b = minus (whole (pos 0)) (formula_value b.hi)} (search quotes depth 20) (search quotes depth 20) refl))
+flipped_hi b h =
+    above_more h (le_of_equal
+    (by_quotes {ρ = formula_value b.hi ∷ []} {b = minus (whole (pos 0)) (formula_value b.hi)} (search quotes depth 20)
+    (search quotes depth 20) refl))
 
 flipped_lo : (b : Span) → Above (negative (formula_value b.lo)) → Above (formula_value (span_difference zero_span b).hi)
 unfolding formula_value dyadic_value over
-flipped_lo b h = above_more h (le_of_equal (by_quotes {ρ = formula_value b.lo ∷ []} {b = minus (whole (pos 0)) (formula_value b.lo)} (search quotes depth 20) (search quotes depth 20) refl))
+flipped_lo b h =
+    above_more h (le_of_equal
+    (by_quotes {ρ = formula_value b.lo ∷ []} {b = minus (whole (pos 0)) (formula_value b.lo)} (search quotes depth 20)
+    (search quotes depth 20) refl))
 
 -- what a test of both ends says
 apart_parts : (p q r s : Bool) → ((p && q) || (r && s)) ≡ true → ((p ≡ true) × (q ≡ true)) ⊎ ((r ≡ true) × (s ≡ true))
@@ -118,19 +144,32 @@ not_both x p q = go x.top p q
     go (pos n) p q = absurd cc
     go (negsuc n) p q = absurd cc
 
-pub quotient_around : (a b c : Span) → is_apart b ≡ true → Around c (quotient_bounds a b) ↔ (list_all holds (quotient_claims a b c) ≡ true)
+pub quotient_around : (a b c : Span) → is_apart b ≡ true →
+    Around c (quotient_bounds a b) ↔ (list_all holds (quotient_claims a b c) ≡ true)
 quotient_around a b c apart = by (is_positive (formula_value b.lo)) refl
   where
-    parts : ((is_positive (formula_value b.lo) ≡ true) × (is_positive (formula_value b.hi) ≡ true)) ⊎ ((is_negative (formula_value b.lo) ≡ true) × (is_negative (formula_value b.hi) ≡ true))
-    parts = apart_parts (is_positive (formula_value b.lo)) (is_positive (formula_value b.hi)) (is_negative (formula_value b.lo)) (is_negative (formula_value b.hi)) apart
+    parts : ((is_positive (formula_value b.lo) ≡ true) × (is_positive (formula_value b.hi) ≡ true)) ⊎
+        ((is_negative (formula_value b.lo) ≡ true) × (is_negative (formula_value b.hi) ≡ true))
+    parts =
+        apart_parts (is_positive (formula_value b.lo)) (is_positive (formula_value b.hi))
+        (is_negative (formula_value b.lo)) (is_negative (formula_value b.hi)) apart
 
     over_zero : is_positive (formula_value b.lo) ≡ true → IsAbove b
-    over_zero e = ⊎_elim (λ p. record { lo = positive_above _ p.0; hi = positive_above _ p.1 }) (λ p. absurd (not_both (formula_value b.lo) e p.0)) parts
+    over_zero e =
+        ⊎_elim (λ p. record { lo = positive_above _ p.0; hi = positive_above _ p.1 })
+        (λ p. absurd (not_both (formula_value b.lo) e p.0)) parts
 
     under_zero : is_positive (formula_value b.lo) ≡ false → IsAbove (span_difference zero_span b)
-    under_zero e = ⊎_elim (λ p. absurd (let q = p.0 in cc)) (λ p. record { lo = flipped_hi b (negative_above _ p.1); hi = flipped_lo b (negative_above _ p.0) }) parts
+    under_zero e =
+        ⊎_elim (λ p. absurd (let q = p.0 in cc)) (λ p. record {
+          lo = flipped_hi b (negative_above _ p.1);
+          hi = flipped_lo b (negative_above _ p.0);
+        }) parts
 
     by : (t : Bool) → is_positive (formula_value b.lo) ≡ t →
-        Around c (if t then positive_bounds a b else positive_bounds (span_difference zero_span a) (span_difference zero_span b)) ↔ (list_all holds (if t then positive_quotient_claims a b c else positive_quotient_claims (span_difference zero_span a) (span_difference zero_span b) c) ≡ true)
+        Around c (if t then positive_bounds a b
+        else positive_bounds (span_difference zero_span a) (span_difference zero_span b)) ↔
+        (list_all holds (if t then positive_quotient_claims a b c
+        else positive_quotient_claims (span_difference zero_span a) (span_difference zero_span b) c) ≡ true)
     by true e = positive_around a b c (over_zero e)
     by false e = positive_around (span_difference zero_span a) (span_difference zero_span b) c (under_zero e)

@@ -32,4 +32,5 @@ unit_quotient f s t = if is_apart t then around_quotient f (widened f (quotient_
 abbrev pub cleared_quotient : ℤ → Span → Span → Span → Result Interval Why
 cleared_quotient f g s t =
     let claims : List Claim = Clear g t ∷ [] in
-    if list_all fits claims then if list_all holds claims && is_apart t then around_quotient f (widened f (quotient_bounds s t)) s t else Err Zero else Err Beyond
+    if list_all fits claims then if list_all holds claims &&
+    is_apart t then around_quotient f (widened f (quotient_bounds s t)) s t else Err Zero else Err Beyond

@@ -23,15 +23,18 @@ pub record IsNarrowest (e : ℕ) (b : Bounds) (g : Interval) : Type 0 where
   pub grid : IsOnGrid e g
   pub lo_lowest : 0 < g.lo.e → unsigned_abs g.lo.m % 2 ≡ 1
   pub hi_lowest : 0 < g.hi.e → unsigned_abs g.hi.m % 2 ≡ 1
-  pub inside : (j : Interval) → IsOnGrid e j → Covers j b → AtMost (dyadic_value j.lo) (dyadic_value g.lo) × AtMost (dyadic_value g.hi) (dyadic_value j.hi)
+  pub inside : (j : Interval) → IsOnGrid e j → Covers j b →
+      AtMost (dyadic_value j.lo) (dyadic_value g.lo) × AtMost (dyadic_value g.hi) (dyadic_value j.hi)
 
 abbrev pub NarrowLaw : Type 0
 NarrowLaw = (e : ℕ) (b : Bounds) → IsNarrowest e b (narrow e b)
 
--- the narrowest on grid e that meets claims of it: they fit and hold, it can be written, and it lies inside each other one of which they hold
+-- the narrowest on grid e that meets claims of it: they fit and hold, it can be written, and it lies inside each other
+-- one of which they hold
 pub record IsNarrowestOf (e : ℕ) (claims : Interval → List Claim) (g : Interval) : Type 0 where
   pub fit : list_all fits (claims g) ≡ true
   pub hold : list_all holds (claims g) ≡ true
   pub written : IsWrittenInterval g
   pub grid : IsOnGrid e g
-  pub inside : (j : Interval) → IsOnGrid e j → list_all holds (claims j) ≡ true → AtMost (dyadic_value j.lo) (dyadic_value g.lo) × AtMost (dyadic_value g.hi) (dyadic_value j.hi)
+  pub inside : (j : Interval) → IsOnGrid e j → list_all holds (claims j) ≡ true →
+      AtMost (dyadic_value j.lo) (dyadic_value g.lo) × AtMost (dyadic_value g.hi) (dyadic_value j.hi)

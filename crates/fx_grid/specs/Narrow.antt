@@ -38,16 +38,19 @@ greater_value x y = if is_at_most y x then x else y
 abbrev pub positive_bounds : Span → Span → Bounds
 positive_bounds a b = record {
   lo = lesser_value (ratio (formula_value a.lo) (formula_value b.lo)) (ratio (formula_value a.lo) (formula_value b.hi));
-  hi = greater_value (ratio (formula_value a.hi) (formula_value b.lo)) (ratio (formula_value a.hi) (formula_value b.hi));
+  hi =
+      greater_value (ratio (formula_value a.hi) (formula_value b.lo)) (ratio (formula_value a.hi) (formula_value b.hi));
 }
 
 -- the same for a divisor of either sign
 abbrev pub quotient_bounds : Span → Span → Bounds
-quotient_bounds a b = if is_positive (formula_value b.lo) then positive_bounds a b else positive_bounds (span_difference zero_span a) (span_difference zero_span b)
+quotient_bounds a b = if is_positive (formula_value b.lo) then positive_bounds a b
+    else positive_bounds (span_difference zero_span a) (span_difference zero_span b)
 
 -- both ends above zero, or both below
 abbrev pub is_apart : Span → Bool
-is_apart s = (is_positive (formula_value s.lo) && is_positive (formula_value s.hi)) || (is_negative (formula_value s.lo) && is_negative (formula_value s.hi))
+is_apart s = (is_positive (formula_value s.lo) && is_positive (formula_value s.hi)) ||
+    (is_negative (formula_value s.lo) && is_negative (formula_value s.hi))
 
 -- ---- units
 -- 2^-f, which a machine's operation loses at point f
@@ -65,4 +68,5 @@ single x = record { lo = x; hi = x }
 -- ---- where it is there
 -- the narrowest on grid e round the bounds, where it is short and these claims of it fit
 abbrev pub narrowest : ℕ → Bounds → (Interval → List Claim) → Result Interval Why
-narrowest e b claims = let g = narrow e b in if is_small g.lo && is_small g.hi && list_all fits (claims g) then Ok g else Err Beyond
+narrowest e b claims =
+    let g = narrow e b in if is_small g.lo && is_small g.hi && list_all fits (claims g) then Ok g else Err Beyond

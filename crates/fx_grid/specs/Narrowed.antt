@@ -44,4 +44,6 @@ pub record HasFewPlaces (i : Interval) : Type 0 where
 
 -- a quotient of plain ranges
 abbrev pub plain_quotient : Interval → Interval → Result Interval Why
-plain_quotient a b = if is_apart (span b) then narrowest 24 (quotient_bounds (span a) (span b)) (λ g. quotient_claims (span a) (span b) (span g)) else Err Zero
+plain_quotient a b = if is_apart (span b)
+    then narrowest 24 (quotient_bounds (span a) (span b)) (λ g. quotient_claims (span a) (span b) (span g))
+    else Err Zero

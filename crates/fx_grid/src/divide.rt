@@ -1,7 +1,7 @@
 //! The error of a quotient.
 //!
-//! Of the four quotients of ends only the least and the greatest are formed: the sign of the dividend's end says which end
-//! of the divisor gives them.
+//! Of the four quotients of ends only the least and the greatest are formed: the sign of the dividend's end says which
+//! end of the divisor gives them.
 
 ghost use Rattle.std.specs.Prelude.{◌≡◌, ◌*◌, ◌<◌, ◌≤◌, ◌^◌, ◌*ℤ◌, ◌-ℤ◌, neg_ℤ, pos, ltb, true, ◌&&◌, unsigned_abs, Some};
 ghost use Rattle.fx_rational.specs.Rational.{floor_div, minus, plus, above_zero, below_zero};
@@ -50,7 +50,9 @@ fn opposite_less(m: i128, p: u32, d: u128, c: u32, point: i32) -> Option<Dyadic>
     requires some { 0 < d }
     requires few { d < 2 ^ 127 }
     requires places { p ≤ 2 ^ 20 }
-    ensures { IsEnd result (lowest_dyadic (floor_div ((neg_ℤ m *ℤ pos (2 ^ p)) *ℤ pos (2 ^ error_grid point)) (d * 2 ^ c) -ℤ pos (units_below point)) (error_grid point)) }
+    ensures { IsEnd result (lowest_dyadic
+        (floor_div ((neg_ℤ m *ℤ pos (2 ^ p)) *ℤ pos (2 ^ error_grid point)) (d * 2 ^ c) -ℤ pos (units_below point))
+        (error_grid point)) }
 {
     if is_turnable(m) {
         return quotient_less(negate(m), p, d, c, point);
@@ -73,7 +75,8 @@ fn positive_mantissa(b: Dyadic) -> u128
 fn below(a: Dyadic, b: Dyadic, point: i32) -> Option<Dyadic>
     requires point { IsPoint point }
     requires above { above_zero b.m ≡ true }
-    ensures { IsEnd result (grid_down (error_grid point) (minus (ratio (dyadic_value a) (dyadic_value b)) (unit_value point))) }
+    ensures { IsEnd result (grid_down (error_grid point)
+        (minus (ratio (dyadic_value a) (dyadic_value b)) (unit_value point))) }
 {
     let d = positive_mantissa(b);
     let p = exponent(b);
@@ -85,7 +88,8 @@ fn below(a: Dyadic, b: Dyadic, point: i32) -> Option<Dyadic>
 fn above(a: Dyadic, b: Dyadic, point: i32) -> Option<Dyadic>
     requires point { IsPoint point }
     requires above { above_zero b.m ≡ true }
-    ensures { IsEnd result (grid_up (error_grid point) (plus (ratio (dyadic_value a) (dyadic_value b)) (unit_value point))) }
+    ensures { IsEnd result (grid_up (error_grid point)
+        (plus (ratio (dyadic_value a) (dyadic_value b)) (unit_value point))) }
 {
     let d = positive_mantissa(b);
     let p = exponent(b);
@@ -126,7 +130,8 @@ fn unit_ends(a: Interval, b: Interval, point: i32) -> Option<Interval>
     requires point { IsPoint point }
     requires lo { above_zero b.lo.m ≡ true }
     requires hi { above_zero b.hi.m ≡ true }
-    ensures { (s t : Span) → FormsSpan (Some a) s → FormsSpan (Some b) t → IsIfSmall result (narrow (error_grid point) (widened point (positive_bounds s t))) }
+    ensures { (s t : Span) → FormsSpan (Some a) s → FormsSpan (Some b) t →
+        IsIfSmall result (narrow (error_grid point) (widened point (positive_bounds s t))) }
 {
     let al = low(a);
     let ah = high(a);
@@ -153,7 +158,8 @@ fn fitted(
     point: i32,
 ) -> Result<Interval, Why>
     requires { IsPoint point }
-    ensures { (bounds : Bounds) (s t : Span) → FormsSpan a s → FormsSpan b t → IsShortSpan 512 t → IsIfSmall kept (narrow (error_grid point) bounds) →
+    ensures { (bounds : Bounds) (s t : Span) → FormsSpan a s → FormsSpan b t → IsShortSpan 512 t →
+        IsIfSmall kept (narrow (error_grid point) bounds) →
         result ≡ dividing.around_quotient point bounds s t }
 {
     match kept {
@@ -170,7 +176,8 @@ fn over(a: Option<Interval>, b: Interval, point: i32) -> Result<Interval, Why>
     requires point { IsPoint point }
     requires lo { above_zero b.lo.m ≡ true }
     requires hi { above_zero b.hi.m ≡ true }
-    ensures { (s t : Span) → FormsSpan a s → FormsSpan (Some b) t → IsShortSpan 512 t → result ≡ dividing.unit_quotient point s t }
+    ensures { (s t : Span) → FormsSpan a s → FormsSpan (Some b) t → IsShortSpan 512 t →
+        result ≡ dividing.unit_quotient point s t }
 {
     match a {
         None => Err(Why::Beyond),
@@ -181,8 +188,10 @@ fn over(a: Option<Interval>, b: Interval, point: i32) -> Result<Interval, Why>
 /// The error of a quotient whose divisor is below zero, both with the other sign being `y` and `z`.
 fn turned(x: Interval, b: Interval, y: Interval, z: Interval, point: i32) -> Result<Interval, Why>
     requires point { IsPoint point }
-    ensures { (s t : Span) → FormsSpan (Some x) s → FormsSpan (Some b) t → FormsSpan (Some y) (span_difference zero_span s) → FormsSpan (Some z) (span_difference zero_span t) →
-        IsShortSpan 512 t → (below_zero b.lo.m && below_zero b.hi.m) ≡ true → result ≡ dividing.unit_quotient point s t }
+    ensures { (s t : Span) → FormsSpan (Some x) s → FormsSpan (Some b) t →
+        FormsSpan (Some y) (span_difference zero_span s) → FormsSpan (Some z) (span_difference zero_span t) →
+        IsShortSpan 512 t → (below_zero b.lo.m && below_zero b.hi.m) ≡ true →
+        result ≡ dividing.unit_quotient point s t }
 {
     if both_above(z) {
         fitted(unit_ends(y, z, point), Some(x), Some(b), point)
@@ -195,7 +204,8 @@ fn turned(x: Interval, b: Interval, y: Interval, z: Interval, point: i32) -> Res
 fn under(a: Option<Interval>, b: Interval, point: i32) -> Result<Interval, Why>
     requires point { IsPoint point }
     requires below { (below_zero b.lo.m && below_zero b.hi.m) ≡ true }
-    ensures { (s t : Span) → FormsSpan a s → FormsSpan (Some b) t → IsShortSpan 512 t → result ≡ dividing.unit_quotient point s t }
+    ensures { (s t : Span) → FormsSpan a s → FormsSpan (Some b) t → IsShortSpan 512 t →
+        result ≡ dividing.unit_quotient point s t }
 {
     match a {
         None => Err(Why::Beyond),
@@ -212,7 +222,8 @@ fn under(a: Option<Interval>, b: Interval, point: i32) -> Result<Interval, Why>
 /// The error of a quotient of what lies in `a` by what lies in `b`.
 fn unit_quotient(a: Option<Interval>, b: Interval, point: i32) -> Result<Interval, Why>
     requires point { IsPoint point }
-    ensures { (s t : Span) → FormsSpan a s → FormsSpan (Some b) t → IsShortSpan 512 t → result ≡ dividing.unit_quotient point s t }
+    ensures { (s t : Span) → FormsSpan a s → FormsSpan (Some b) t → IsShortSpan 512 t →
+        result ≡ dividing.unit_quotient point s t }
 {
     if both_above(b) {
         over(a, b, point)
@@ -226,7 +237,8 @@ fn unit_quotient(a: Option<Interval>, b: Interval, point: i32) -> Result<Interva
 /// The same after the test of the exact divisor `g` and the machine's `b`.
 fn cleared(g: Interval, a: Option<Interval>, b: Interval, point: i32) -> Result<Interval, Why>
     requires point { IsPoint point }
-    ensures { (s t : Span) → FormsSpan a s → FormsSpan (Some b) t → IsShortSpan 512 t → result ≡ dividing.cleared_quotient point (span g) s t }
+    ensures { (s t : Span) → FormsSpan a s → FormsSpan (Some b) t → IsShortSpan 512 t →
+        result ≡ dividing.cleared_quotient point (span g) s t }
 {
     match clear(interval(g), Some(b)) {
         Judgement::Holds => unit_quotient(a, b, point),
@@ -247,7 +259,8 @@ pub fn quotient_error(
     requires g { HasFewPlaces g }
     requires gb { HasFewPlaces gb }
     requires hb { HasFewPlaces hb }
-    ensures { result ≡ dividing.cleared_quotient point (span gb) (spans.quotient_error (span g) (span ha) (span hb)) (spans.machine_range (span gb) (span hb)) }
+    ensures { result ≡ dividing.cleared_quotient point (span gb) (spans.quotient_error (span g) (span ha) (span hb))
+        (spans.machine_range (span gb) (span hb)) }
 {
     match plus(interval(gb), interval(hb)) {
         None => Err(Why::Beyond),

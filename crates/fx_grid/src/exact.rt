@@ -131,7 +131,8 @@ fn literal_answer(
 ) -> Result<Interval, Why>
     requires { c ≡ lowest c }
     ensures { (e : ℕ) (b : Bounds) (f : Formula) → IsIfSmall kept (narrow e b) → Forms word f →
-        result ≡ narrowest e b (λ h. BelowFraction (Difference f (Num h.hi)) c ∷ AboveFraction c (Difference f (Num h.lo)) ∷ []) }
+        result ≡ narrowest e b (λ h. BelowFraction (Difference f (Num h.hi)) c
+        ∷ AboveFraction c (Difference f (Num h.lo)) ∷ []) }
 {
     match kept {
         None => Err(Why::Beyond),
@@ -150,7 +151,8 @@ fn input_answer(
     minus_c: Fraction,
     c: Fraction,
 ) -> Result<Interval, Why>
-    ensures { (e : ℕ) (b : Bounds) (f : Formula) (r : Rational) → IsIfSmall kept (narrow e b) → Forms u f → minus_c ≡ lowest (negative r) → c ≡ lowest r →
+    ensures { (e : ℕ) (b : Bounds) (f : Formula) (r : Rational) → IsIfSmall kept (narrow e b) → Forms u f →
+        minus_c ≡ lowest (negative r) → c ≡ lowest r →
         result ≡ narrowest e b (λ h. BelowFraction (Sum (Num h.lo) f) (negative r) ∷ AboveFraction r (Num h.hi) ∷ []) }
 {
     match kept {
@@ -167,7 +169,8 @@ fn input_answer(
 pub fn literal_error(c: Fraction, f: i32) -> Result<Interval, Why>
     requires { IsPoint f }
     ensures { result ≡ narrowest (error_grid f) (single (minus (formula_value (word_at (floor (scaled c f)) f)) c))
-        (λ h. BelowFraction (Difference (word_at (floor (scaled c f)) f) (Num h.hi)) c ∷ AboveFraction c (Difference (word_at (floor (scaled c f)) f) (Num h.lo)) ∷ []) }
+        (λ h. BelowFraction (Difference (word_at (floor (scaled c f)) f) (Num h.hi)) c
+        ∷ AboveFraction c (Difference (word_at (floor (scaled c f)) f) (Num h.lo)) ∷ []) }
 {
     reduced(c);
     let top = top_of(c, f);
@@ -204,7 +207,8 @@ fn minus_both(p: i128, q: u128) -> i128
 /// The error of an input at a point.
 pub fn input_error(input: &Input, f: i32) -> Result<Interval, Why>
     requires { IsPoint f }
-    ensures { (r : Rational) → (input_of input.now).err ≡ r → result ≡ narrowest (error_grid f) record { lo = minus (negative r) (unit_value f); hi = r }
+    ensures { (r : Rational) → (input_of input.now).err ≡ r →
+        result ≡ narrowest (error_grid f) record { lo = minus (negative r) (unit_value f); hi = r }
         (λ h. BelowFraction (Sum (Num h.lo) (unit_at f)) (negative r) ∷ AboveFraction r (Num h.hi) ∷ []) }
 {
     let c = to_fraction(input.err);

@@ -1,7 +1,8 @@
 //! Quotients of dyadics on the grid of an error, less a unit of its point.
 //!
-//! A quotient is `n * 2^p` over `d * 2^c`. Its floor can pass 128 bits and still have few in lowest terms, so its whole part
-//! and its binary places are kept apart; once the whole part passes 66 bits, the end has more than 62, whatever its places.
+//! A quotient is `n * 2^p` over `d * 2^c`. Its floor can pass 128 bits and still have few in lowest terms, so its whole
+//! part and its binary places are kept apart; once the whole part passes 66 bits, the end has more than 62, whatever
+//! its places.
 
 ghost use Rattle.std.specs.Prelude.{◌≡◌, ◌+◌, ◌-◌, ◌*◌, ◌<◌, ◌≤◌, ◌^◌, ◌*ℤ◌, ◌+ℤ◌, ◌-ℤ◌, pos, ltb, unsigned_abs, ℤ};
 ghost use Rattle.fx_rational.specs.Rational.{floor_div};
@@ -61,7 +62,8 @@ fn less_low(w: i128, f: u128, k: u32, e: u32) -> Option<Dyadic>
 fn less_unit(w: i128, f: u128, point: i32) -> Option<Dyadic>
     requires point { IsPoint point }
     requires places { f < 2 ^ error_grid point }
-    ensures { IsEnd result (lowest_dyadic ((w *ℤ pos (2 ^ error_grid point) +ℤ pos f) -ℤ pos (units_below point)) (error_grid point)) }
+    ensures { IsEnd result (lowest_dyadic ((w *ℤ pos (2 ^ error_grid point) +ℤ pos f) -ℤ pos (units_below point))
+        (error_grid point)) }
 {
     if !is_near(w) {
         return None;
@@ -94,7 +96,10 @@ fn raised(w: i128, r: u128, d: u128, t: u32, point: i32) -> Option<Dyadic>
     requires point { IsPoint point }
     requires rest { r < d }
     requires few { d < 2 ^ 127 }
-    ensures { (v : ℤ) → v ≡ w *ℤ pos d +ℤ pos r → IsEnd result (lowest_dyadic (floor_div ((v *ℤ pos (2 ^ t)) *ℤ pos (2 ^ error_grid point)) d -ℤ pos (units_below point)) (error_grid point)) }
+    ensures { (v : ℤ) → v ≡ w *ℤ pos d +ℤ pos r →
+        IsEnd result (lowest_dyadic
+        (floor_div ((v *ℤ pos (2 ^ t)) *ℤ pos (2 ^ error_grid point)) d -ℤ pos (units_below point))
+        (error_grid point)) }
 {
     if !is_near(w) {
         return None;
@@ -137,7 +142,8 @@ fn lowered(n: i128, d: u128, j: u32, point: i32) -> Option<Dyadic>
     requires some { 0 < d }
     requires few { d < 2 ^ 127 }
     requires within { j ≤ error_grid point }
-    ensures { IsEnd result (lowest_dyadic (floor_div (n *ℤ pos (2 ^ error_grid point)) (d * 2 ^ j) -ℤ pos (units_below point)) (error_grid point)) }
+    ensures { IsEnd result (lowest_dyadic
+        (floor_div (n *ℤ pos (2 ^ error_grid point)) (d * 2 ^ j) -ℤ pos (units_below point)) (error_grid point)) }
 {
     let e = grid(point);
     let m = whole(n, d);
@@ -153,7 +159,9 @@ fn shifted(n: i128, d: u128, i: u32, point: i32) -> Option<Dyadic>
     requires point { IsPoint point }
     requires some { 0 < d }
     requires few { d < 2 ^ 127 }
-    ensures { IsEnd result (lowest_dyadic (floor_div (n *ℤ pos (2 ^ error_grid point)) (d * 2 ^ (i + error_grid point)) -ℤ pos (units_below point)) (error_grid point)) }
+    ensures { IsEnd result (lowest_dyadic
+        (floor_div (n *ℤ pos (2 ^ error_grid point)) (d * 2 ^ (i + error_grid point)) -ℤ pos (units_below point))
+        (error_grid point)) }
 {
     let e = grid(point);
     let m = floor_shift(whole(n, d), i);
@@ -166,7 +174,9 @@ pub fn quotient_less(n: i128, p: u32, d: u128, c: u32, point: i32) -> Option<Dya
     requires point { IsPoint point }
     requires some { 0 < d }
     requires few { d < 2 ^ 127 }
-    ensures { IsEnd result (lowest_dyadic (floor_div ((n *ℤ pos (2 ^ p)) *ℤ pos (2 ^ error_grid point)) (d * 2 ^ c) -ℤ pos (units_below point)) (error_grid point)) }
+    ensures { IsEnd result (lowest_dyadic
+        (floor_div ((n *ℤ pos (2 ^ p)) *ℤ pos (2 ^ error_grid point)) (d * 2 ^ c) -ℤ pos (units_below point))
+        (error_grid point)) }
 {
     if p >= c {
         return raised(whole(n, d), rest(n, d), d, p - c, point);

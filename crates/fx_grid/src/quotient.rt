@@ -25,7 +25,10 @@ use fx_num::Dyadic;
 pub fn between(lo: Fraction, hi: Fraction, e: u32) -> Result<Interval, Why>
     requires { e ≤ 64 }
     ensures { (x y : Rational) → lo ≡ lowest x → hi ≡ lowest y →
-        result ≡ narrowest e record { lo = x; hi = y } (λ g. BelowFraction (Num g.lo) x ∷ AboveFraction y (Num g.hi) ∷ []) }
+        result ≡ narrowest e record {
+          lo = x;
+          hi = y;
+        } (λ g. BelowFraction (Num g.lo) x ∷ AboveFraction y (Num g.hi) ∷ []) }
 {
     let _p = denominator(lo);
     let _q = denominator(hi);
@@ -121,7 +124,8 @@ fn positive(a: Interval, b: Interval) -> Result<Interval, Why>
     requires b { IsPlainInterval b }
     requires lo { above_zero b.lo.m ≡ true }
     requires hi { above_zero b.hi.m ≡ true }
-    ensures { (s t : Span) → FormsSpan (Some a) s → FormsSpan (Some b) t → result ≡ narrowest 24 (positive_bounds s t) (λ g. positive_quotient_claims s t (span g)) }
+    ensures { (s t : Span) → FormsSpan (Some a) s → FormsSpan (Some b) t →
+        result ≡ narrowest 24 (positive_bounds s t) (λ g. positive_quotient_claims s t (span g)) }
 {
     let al = low(a);
     let ah = high(a);

@@ -1,7 +1,7 @@
 //! Sums and products of intervals.
 //!
-//! Where mantissas have at most 62 bits, as those of plain ranges and errors do, nothing can leave 128 bits, and no operation
-//! is tested for it. Longer ones are left to `fx_judging`.
+//! Where mantissas have at most 62 bits, as those of plain ranges and errors do, nothing can leave 128 bits, and no
+//! operation is tested for it. Longer ones are left to `fx_judging`.
 
 ghost use Rattle.std.specs.Prelude.{◌≡◌, ◌+◌, ◌≤◌, ◌<◌, ◌^◌, ◌+ℤ◌, ◌*ℤ◌, unsigned_abs, true};
 ghost use Rattle.fx_rational.specs.Dyadic.{dyadic_sum, dyadic_product};
@@ -140,7 +140,8 @@ pub fn plus(a: Option<Interval>, b: Option<Interval>) -> Option<Interval>
 
 /// From the least to the greatest of the four products of ends, of at most 512 binary places each.
 pub fn times(a: Option<Interval>, b: Option<Interval>) -> Option<Interval>
-    ensures { (s t : Span) → IsShortSpan 512 s → IsShortSpan 512 t → FormsSpan a s → FormsSpan b t → FormsSpan result (span_product s t) }
+    ensures { (s t : Span) → IsShortSpan 512 s → IsShortSpan 512 t → FormsSpan a s → FormsSpan b t →
+        FormsSpan result (span_product s t) }
 {
     if let Some(x) = a {
         if let Some(y) = b {

@@ -15,61 +15,91 @@ use Rattle.fx_lanes.specs.RowsSideBySide.{AreWordsAt, row_at, lane}
 use Rattle.fx_lanes.proofs.Sixteen.{side_at, sides_all, each_all, some_at, row_number, row_length, replicate_at}
 
 -- words of n bits, rows of i numbers, and the words of the codes before
-module _ (n i : ℕ) (code : Code) (rows : List Decimal) (vs : List (List ℤ)) (runs : (k : ℕ) → k < 16 → IsSome (word_of n code (map decimal_value (row_at i k rows)) [] (lane k vs))) where
+module _ (n i : ℕ) (code : Code) (rows : List Decimal) (vs : List (List ℤ)) (runs : (k : ℕ) → k < 16 →
+    IsSome (word_of n code (map decimal_value (row_at i k rows)) [] (lane k vs))) where
   -- lane by lane these are the code's words
   pub record Made (ws : List ℤ) : Type 0 where
     pub fits : All (IsWord n) ws
-    pub are : (r : List ℤ) → r ≡ ws → (k : ℕ) → k < 16 → word_of n code (map decimal_value (row_at i k rows)) [] (lane k vs) ≡ Some (at (pos 0) r k)
+    pub are : (r : List ℤ) → r ≡ ws → (k : ℕ) → k < 16 →
+        word_of n code (map decimal_value (row_at i k rows)) [] (lane k vs) ≡ Some (at (pos 0) r k)
 
-  each : (f : ℤ → ℤ) (x : List ℤ) → length x ≡ 16 → ((k : ℕ) → k < 16 → Runs n code (map decimal_value (row_at i k rows)) [] (lane k vs) (f (at (pos 0) x k))) → Made (map f x)
+  each : (f : ℤ → ℤ) (x : List ℤ) → length x ≡ 16 →
+      ((k : ℕ) → k < 16 → Runs n code (map decimal_value (row_at i k rows)) [] (lane k vs) (f (at (pos 0) x k))) →
+      Made (map f x)
   each f x many run = record {
     fits = each_all (IsWord n) f x many (λ k lt. (run k lt).fits);
-    are = λ r e k lt. (run k lt).gives ∙ ap Some (sym (ap (λ (v : List ℤ). at (pos 0) v k) e ∙ at_map_any f x k (pos 0) (pos 0) (omega (arith, many))));
+    are = λ r e k lt. (run k lt).gives
+        ∙ ap Some (sym (ap (λ (v : List ℤ). at (pos 0) v k) e
+        ∙ at_map_any f x k (pos 0) (pos 0) (omega (arith, many))));
   }
 
-  both : (f : ℤ → ℤ → ℤ) (x y : List ℤ) → length x ≡ 16 → length y ≡ 16 → ((k : ℕ) → k < 16 → Runs n code (map decimal_value (row_at i k rows)) [] (lane k vs) (f (at (pos 0) x k) (at (pos 0) y k))) → Made (zip2 f x y)
+  both : (f : ℤ → ℤ → ℤ) (x y : List ℤ) → length x ≡ 16 → length y ≡ 16 →
+      ((k : ℕ) → k < 16 → Runs n code (map decimal_value (row_at i k rows)) [] (lane k vs)
+      (f (at (pos 0) x k) (at (pos 0) y k))) → Made (zip2 f x y)
   both f x y mx my run = record {
     fits = sides_all (IsWord n) f x y mx my (λ k lt. (run k lt).fits);
-    are = λ r e k lt. (run k lt).gives ∙ ap Some (sym (ap (λ (v : List ℤ). at (pos 0) v k) e ∙ side_at f x y k (pos 0) mx my lt));
+    are = λ r e k lt. (run k lt).gives
+        ∙ ap Some (sym (ap (λ (v : List ℤ). at (pos 0) v k) e ∙ side_at f x y k (pos 0) mx my lt));
   }
 
-  pub sums : (a b : ℕ) (sa sb s t : ℤ) (x y : List ℤ) → code ≡ machine.Add a b sa sb → AreWordsAt vs a x → AreWordsAt vs b y → s ≡ sa → t ≡ sb → Made (added s t x y)
+  pub sums : (a b : ℕ) (sa sb s t : ℤ) (x y : List ℤ) → code ≡ machine.Add a b sa sb → AreWordsAt vs a x →
+      AreWordsAt vs b y → s ≡ sa → t ≡ sb → Made (added s t x y)
   sums a b sa sb s t x y e p q es et = both (λ v w. shifted v s +ℤ shifted w t) x y p.many q.many
-      (λ k lt. runs_add n code (map decimal_value (row_at i k rows)) [] (lane k vs) a b sa sb (at (pos 0) x k) (at (pos 0) y k) s t e (runs k lt) (p.each k) (q.each k) es et)
+      (λ k lt. runs_add n code (map decimal_value (row_at i k rows)) [] (lane k vs) a b sa sb (at (pos 0) x k)
+      (at (pos 0) y k) s t e (runs k lt) (p.each k) (q.each k) es et)
 
-  pub differences : (a b : ℕ) (sa sb s t : ℤ) (x y : List ℤ) → code ≡ machine.Sub a b sa sb → AreWordsAt vs a x → AreWordsAt vs b y → s ≡ sa → t ≡ sb → Made (subtracted s t x y)
+  pub differences : (a b : ℕ) (sa sb s t : ℤ) (x y : List ℤ) → code ≡ machine.Sub a b sa sb → AreWordsAt vs a x →
+      AreWordsAt vs b y → s ≡ sa → t ≡ sb → Made (subtracted s t x y)
   differences a b sa sb s t x y e p q es et = both (λ v w. shifted v s -ℤ shifted w t) x y p.many q.many
-      (λ k lt. runs_sub n code (map decimal_value (row_at i k rows)) [] (lane k vs) a b sa sb (at (pos 0) x k) (at (pos 0) y k) s t e (runs k lt) (p.each k) (q.each k) es et)
+      (λ k lt. runs_sub n code (map decimal_value (row_at i k rows)) [] (lane k vs) a b sa sb (at (pos 0) x k)
+      (at (pos 0) y k) s t e (runs k lt) (p.each k) (q.each k) es et)
 
-  pub products : (r : Round) (a b s : ℕ) (x y : List ℤ) → code ≡ machine.Mul r a b s → AreWordsAt vs a x → AreWordsAt vs b y → Made (multiplied r s x y)
+  pub products : (r : Round) (a b s : ℕ) (x y : List ℤ) → code ≡ machine.Mul r a b s → AreWordsAt vs a x →
+      AreWordsAt vs b y → Made (multiplied r s x y)
   products r a b s x y e p q = both (λ v w. rounded r (v *ℤ w) (pos s)) x y p.many q.many
-      (λ k lt. runs_mul n code (map decimal_value (row_at i k rows)) [] (lane k vs) r a b s (at (pos 0) x k) (at (pos 0) y k) e (runs k lt) (p.each k) (q.each k))
+      (λ k lt. runs_mul n code (map decimal_value (row_at i k rows)) [] (lane k vs) r a b s (at (pos 0) x k)
+      (at (pos 0) y k) e (runs k lt) (p.each k) (q.each k))
 
-  pub copies : (r : Round) (a : ℕ) (s t : ℤ) (x : List ℤ) → code ≡ machine.Copy r a s → AreWordsAt vs a x → t ≡ s → Made (copied r t x)
+  pub copies : (r : Round) (a : ℕ) (s t : ℤ) (x : List ℤ) → code ≡ machine.Copy r a s → AreWordsAt vs a x → t ≡ s →
+      Made (copied r t x)
   copies r a s t x e p et = each (λ v. rounded r v t) x p.many
-      (λ k lt. runs_copy n code (map decimal_value (row_at i k rows)) [] (lane k vs) r a s (at (pos 0) x k) t e (runs k lt) (p.each k) et)
+      (λ k lt. runs_copy n code (map decimal_value (row_at i k rows)) [] (lane k vs) r a s (at (pos 0) x k) t e
+      (runs k lt) (p.each k) et)
 
   pub opposites : (a : ℕ) (x : List ℤ) → code ≡ machine.Neg a → AreWordsAt vs a x → Made (map neg_ℤ x)
-  opposites a x e p = each neg_ℤ x p.many (λ k lt. runs_neg n code (map decimal_value (row_at i k rows)) [] (lane k vs) a (at (pos 0) x k) e (runs k lt) (p.each k))
+  opposites a x e p =
+      each neg_ℤ x p.many (λ k lt. runs_neg n code (map decimal_value (row_at i k rows)) [] (lane k vs) a
+      (at (pos 0) x k) e (runs k lt) (p.each k))
 
   -- a constant is the same word in each
   pub record Same (w : ℤ) : Type 0 where
     pub fits : IsWord n w
-    pub are : (r : List ℤ) → r ≡ replicate 16 w → (k : ℕ) → k < 16 → word_of n code (map decimal_value (row_at i k rows)) [] (lane k vs) ≡ Some (at (pos 0) r k)
+    pub are : (r : List ℤ) → r ≡ replicate 16 w → (k : ℕ) → k < 16 →
+        word_of n code (map decimal_value (row_at i k rows)) [] (lane k vs) ≡ Some (at (pos 0) r k)
 
   pub constant : (w f v : ℤ) → code ≡ machine.Const w f → v ≡ w → Same v
   constant w f v e ev =
-      let run = λ (k : ℕ) (lt : k < 16). runs_const n code (map decimal_value (row_at i k rows)) [] (lane k vs) w f v e (runs k lt) ev in
-      record { fits = (run 0 (lit< tt)).fits; are = λ r er k lt. (run k lt).gives ∙ ap Some (sym (ap (λ (v : List ℤ). at (pos 0) v k) er ∙ replicate_at k v lt)) }
+      let run =
+      λ (k : ℕ) (lt : k < 16). runs_const n code (map decimal_value (row_at i k rows)) [] (lane k vs) w f v e
+      (runs k lt) ev in
+      record {
+        fits = (run 0 (lit< tt)).fits;
+        are = λ r er k lt. (run k lt).gives
+            ∙ ap Some (sym (ap (λ (v : List ℤ). at (pos 0) v k) er ∙ replicate_at k v lt));
+      }
 
   pub record Divided (s : ℕ) (x y : List ℤ) : Type 0 where
     pub fits : All (IsSomeWord n) (divided s x y)
-    pub are : (r : List ℤ) → map (λ q. Some q) r ≡ divided s x y → (k : ℕ) → k < 16 → word_of n code (map decimal_value (row_at i k rows)) [] (lane k vs) ≡ Some (at (pos 0) r k)
+    pub are : (r : List ℤ) → map (λ q. Some q) r ≡ divided s x y → (k : ℕ) → k < 16 →
+        word_of n code (map decimal_value (row_at i k rows)) [] (lane k vs) ≡ Some (at (pos 0) r k)
 
-  pub quotients : (a b s : ℕ) (x y : List ℤ) → code ≡ machine.Div a b s → AreWordsAt vs a x → AreWordsAt vs b y → Divided s x y
+  pub quotients : (a b s : ℕ) (x y : List ℤ) → code ≡ machine.Div a b s → AreWordsAt vs a x → AreWordsAt vs b y →
+      Divided s x y
   quotients a b s x y e p q =
       let quotient = λ (v w : ℤ). floor_divided (v *ℤ pos (2 ^ s)) w in
-      let run = λ (k : ℕ) (lt : k < 16). runs_div n code (map decimal_value (row_at i k rows)) [] (lane k vs) a b s (at (pos 0) x k) (at (pos 0) y k) e (runs k lt) (p.each k) (q.each k) in
+      let run =
+      λ (k : ℕ) (lt : k < 16). runs_div n code (map decimal_value (row_at i k rows)) [] (lane k vs) a b s
+      (at (pos 0) x k) (at (pos 0) y k) e (runs k lt) (p.each k) (q.each k) in
       record {
         fits = sides_all (IsSomeWord n) quotient x y p.many q.many (λ k lt. (run k lt).fits);
         are = λ r er k lt. (run k lt).gives (at (pos 0) r k) (some_at r quotient x y k er p.many q.many lt);
@@ -78,13 +108,19 @@ module _ (n i : ℕ) (code : Code) (rows : List Decimal) (vs : List (List ℤ)) 
   -- input j of each row, rounded at the point t
   pub record Input (j : ℕ) (t : ℤ) : Type 0 where
     pub fits : (k : ℕ) (d : Decimal) → k < 16 → IsWord n (quantised (slice_index_or rows (k * i + j) d) t)
-    pub are : (r : List ℤ) → ((k : ℕ) (d : Decimal) → k < 16 → at (pos 0) r k ≡ quantised (slice_index_or rows (k * i + j) d) t) → (k : ℕ) → k < 16 → word_of n code (map decimal_value (row_at i k rows)) [] (lane k vs) ≡ Some (at (pos 0) r k)
+    pub are : (r : List ℤ) →
+        ((k : ℕ) (d : Decimal) → k < 16 → at (pos 0) r k ≡ quantised (slice_index_or rows (k * i + j) d) t) → (k : ℕ) →
+        k < 16 → word_of n code (map decimal_value (row_at i k rows)) [] (lane k vs) ≡ Some (at (pos 0) r k)
 
   pub inputs : (j : ℕ) (f t : ℤ) → code ≡ machine.Input j f → length rows ≡ 16 * i → j < i → t ≡ f → Input j t
   inputs j f t e many within et =
       let run = λ (k : ℕ) (d : Decimal) (lt : k < 16).
       let row = row_at i k rows in let x = slice_index_or rows (k * i + j) d in
       let inside : j < length row = omega (arith, row_length i k rows many lt) in
-      runs_input n code row [] (lane k vs) j f t x e (runs k lt) inside (sym (row_number i k j rows d within) ∙ get_or_default row j d x inside) et in
+      runs_input n code row [] (lane k vs) j f t x e (runs k lt) inside (sym (row_number i k j rows d within)
+      ∙ get_or_default row j d x inside) et in
       let none : Decimal = record { a = pos 0; b = 0 } in
-      record { fits = λ k d lt. (run k d lt).fits; are = λ r er k lt. (run k none lt).gives ∙ ap Some (sym (er k none lt)) }
+      record {
+        fits = λ k d lt. (run k d lt).fits;
+        are = λ r er k lt. (run k none lt).gives ∙ ap Some (sym (er k none lt));
+      }

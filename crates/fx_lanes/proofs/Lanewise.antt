@@ -22,8 +22,10 @@ pub same_word : (n : ℕ) (held : List ℤ) (v : ℤ) → held ≡ replicate 16 
 same_word n held v e h = gives n held (replicate 16 v) e refl (All-replicate (IsWord n) 16 v h)
 
 -- ---- that there are sixteen
-pub both_many : {Z : Type 0} (f : ℤ → ℤ → Z) (xs vs ys us : List ℤ) → xs ≡ vs → ys ≡ us → length xs ≡ 16 → length ys ≡ 16 → length (zip2 f vs us) ≡ 16
-both_many f xs vs ys us e k a b = ap₂ (λ zs ts. length (zip2 f zs ts)) (sym e) (sym k) ∙ length-zip2 f xs ys (a ∙ sym b) ∙ a
+pub both_many : {Z : Type 0} (f : ℤ → ℤ → Z) (xs vs ys us : List ℤ) → xs ≡ vs → ys ≡ us → length xs ≡ 16 →
+    length ys ≡ 16 → length (zip2 f vs us) ≡ 16
+both_many f xs vs ys us e k a b =
+    ap₂ (λ zs ts. length (zip2 f zs ts)) (sym e) (sym k) ∙ length-zip2 f xs ys (a ∙ sym b) ∙ a
 
 pub each_many : (f : ℤ → ℤ) (xs vs : List ℤ) → xs ≡ vs → length xs ≡ 16 → length (map f vs) ≡ 16
 each_many f xs vs e a = ap (λ zs. length (map f zs)) (sym e) ∙ length-map xs f ∙ a
@@ -40,56 +42,76 @@ module _ (n : ℕ) (w : Width) (fit : (v : ℤ) → IsWord n v → FitsSigned w 
   wrapped_difference x y = int_wrap-sub_right w (int_wrap w x) y ∙ int_wrap-add_left w x (neg_ℤ y)
 
   sums_of_shifted : (sa sb : ℤ) (xs ys : List ℤ) → All (IsWord n) (added sa sb xs ys)
-      → zip2 (λ x y. int_wrap w (x +ℤ y)) (map (λ x. int_wrap w (shifted x sa)) xs) (map (λ y. int_wrap w (shifted y sb)) ys) ≡ added sa sb xs ys
+      → zip2 (λ x y. int_wrap w (x +ℤ y)) (map (λ x. int_wrap w (shifted x sa)) xs)
+      (map (λ y. int_wrap w (shifted y sb)) ys) ≡ added sa sb xs ys
   sums_of_shifted sa sb [] ys h = refl
   sums_of_shifted sa sb (x ∷ xs) [] h = refl
   sums_of_shifted sa sb (x ∷ xs) (y ∷ ys) h =
-      ap₂ ◌∷◌ (wrapped_sum (shifted x sa) (shifted y sb) ∙ wrapped_word _ (All-head (IsWord n) (shifted x sa +ℤ shifted y sb) (added sa sb xs ys) h))
+      ap₂ ◌∷◌ (wrapped_sum (shifted x sa) (shifted y sb)
+      ∙ wrapped_word _ (All-head (IsWord n) (shifted x sa +ℤ shifted y sb) (added sa sb xs ys) h))
       (sums_of_shifted sa sb xs ys (All-tail (IsWord n) (shifted x sa +ℤ shifted y sb) (added sa sb xs ys) h))
 
   differences_of_shifted : (sa sb : ℤ) (xs ys : List ℤ) → All (IsWord n) (subtracted sa sb xs ys)
-      → zip2 (λ x y. int_wrap w (x -ℤ y)) (map (λ x. int_wrap w (shifted x sa)) xs) (map (λ y. int_wrap w (shifted y sb)) ys) ≡ subtracted sa sb xs ys
+      → zip2 (λ x y. int_wrap w (x -ℤ y)) (map (λ x. int_wrap w (shifted x sa)) xs)
+      (map (λ y. int_wrap w (shifted y sb)) ys) ≡ subtracted sa sb xs ys
   differences_of_shifted sa sb [] ys h = refl
   differences_of_shifted sa sb (x ∷ xs) [] h = refl
   differences_of_shifted sa sb (x ∷ xs) (y ∷ ys) h =
-      ap₂ ◌∷◌ (wrapped_difference (shifted x sa) (shifted y sb) ∙ wrapped_word _ (All-head (IsWord n) (shifted x sa -ℤ shifted y sb) (subtracted sa sb xs ys) h))
-      (differences_of_shifted sa sb xs ys (All-tail (IsWord n) (shifted x sa -ℤ shifted y sb) (subtracted sa sb xs ys) h))
+      ap₂ ◌∷◌ (wrapped_difference (shifted x sa) (shifted y sb)
+      ∙ wrapped_word _ (All-head (IsWord n) (shifted x sa -ℤ shifted y sb) (subtracted sa sb xs ys) h))
+      (differences_of_shifted sa sb xs ys
+      (All-tail (IsWord n) (shifted x sa -ℤ shifted y sb) (subtracted sa sb xs ys) h))
 
-  copies_of : (s : ℤ) (xs : List ℤ) → All (IsWord n) (copied Floor s xs) → map (λ x. int_wrap w (shifted x s)) xs ≡ copied Floor s xs
+  copies_of : (s : ℤ) (xs : List ℤ) → All (IsWord n) (copied Floor s xs) →
+      map (λ x. int_wrap w (shifted x s)) xs ≡ copied Floor s xs
   copies_of s [] h = refl
   copies_of s (x ∷ xs) h =
-      ap₂ ◌∷◌ (wrapped_word _ (All-head (IsWord n) (shifted x s) (copied Floor s xs) h)) (copies_of s xs (All-tail (IsWord n) (shifted x s) (copied Floor s xs) h))
+      ap₂ ◌∷◌ (wrapped_word _ (All-head (IsWord n) (shifted x s) (copied Floor s xs) h))
+      (copies_of s xs (All-tail (IsWord n) (shifted x s) (copied Floor s xs) h))
 
   opposites : (ys : List ℤ) → All (IsWord n) (map neg_ℤ ys) → map (λ y. int_wrap w (pos 0 -ℤ y)) ys ≡ map neg_ℤ ys
   opposites [] h = refl
   opposites (y ∷ ys) h =
       let e : pos 0 -ℤ y ≡ neg_ℤ y = omega (arith, ints) in
-      ap₂ ◌∷◌ (ap (int_wrap w) e ∙ wrapped_word _ (All-head (IsWord n) (neg_ℤ y) (map neg_ℤ ys) h)) (opposites ys (All-tail (IsWord n) (neg_ℤ y) (map neg_ℤ ys) h))
+      ap₂ ◌∷◌ (ap (int_wrap w) e
+      ∙ wrapped_word _ (All-head (IsWord n) (neg_ℤ y) (map neg_ℤ ys) h)) (opposites ys
+      (All-tail (IsWord n) (neg_ℤ y) (map neg_ℤ ys) h))
 
   -- the same of vectors that are shown to be these; s and t are sa and sb as they are passed
-  pub added_is : (sa sb s t : ℤ) → s ≡ sa → t ≡ sb → (xs vs ys us u v r : List ℤ) → xs ≡ vs → ys ≡ us → length xs ≡ 16 → length ys ≡ 16
-      → u ≡ map (λ x. int_wrap w (shifted x s)) xs → v ≡ map (λ y. int_wrap w (shifted y t)) ys → r ≡ zip2 (λ x y. int_wrap w (x +ℤ y)) u v
+  pub added_is : (sa sb s t : ℤ) → s ≡ sa → t ≡ sb → (xs vs ys us u v r : List ℤ) → xs ≡ vs → ys ≡ us → length xs ≡ 16 →
+      length ys ≡ 16
+      → u ≡ map (λ x. int_wrap w (shifted x s)) xs → v ≡ map (λ y. int_wrap w (shifted y t)) ys →
+      r ≡ zip2 (λ x y. int_wrap w (x +ℤ y)) u v
       → All (IsWord n) (added sa sb vs us) → Gives n r (added sa sb vs us)
   added_is sa sb s t es et xs vs ys us u v r e k a b eu ev er h = gives n r (added sa sb vs us)
-      (er ∙ ap₂ (zip2 (λ x y. int_wrap w (x +ℤ y))) (eu ∙ ap₂ (λ d zs. map (λ x. int_wrap w (shifted x d)) zs) es e) (ev ∙ ap₂ (λ d zs. map (λ x. int_wrap w (shifted x d)) zs) et k) ∙ sums_of_shifted sa sb vs us h)
+      (er ∙ ap₂ (zip2 (λ x y. int_wrap w (x +ℤ y))) (eu ∙ ap₂ (λ d zs. map (λ x. int_wrap w (shifted x d)) zs) es e) (ev
+      ∙ ap₂ (λ d zs. map (λ x. int_wrap w (shifted x d)) zs) et k) ∙ sums_of_shifted sa sb vs us h)
       (both_many (λ x y. shifted x sa +ℤ shifted y sb) xs vs ys us e k a b) h
 
-  pub subtracted_is : (sa sb s t : ℤ) → s ≡ sa → t ≡ sb → (xs vs ys us u v r : List ℤ) → xs ≡ vs → ys ≡ us → length xs ≡ 16 → length ys ≡ 16
-      → u ≡ map (λ x. int_wrap w (shifted x s)) xs → v ≡ map (λ y. int_wrap w (shifted y t)) ys → r ≡ zip2 (λ x y. int_wrap w (x -ℤ y)) u v
+  pub subtracted_is : (sa sb s t : ℤ) → s ≡ sa → t ≡ sb → (xs vs ys us u v r : List ℤ) → xs ≡ vs → ys ≡ us →
+      length xs ≡ 16 → length ys ≡ 16
+      → u ≡ map (λ x. int_wrap w (shifted x s)) xs → v ≡ map (λ y. int_wrap w (shifted y t)) ys →
+      r ≡ zip2 (λ x y. int_wrap w (x -ℤ y)) u v
       → All (IsWord n) (subtracted sa sb vs us) → Gives n r (subtracted sa sb vs us)
   subtracted_is sa sb s t es et xs vs ys us u v r e k a b eu ev er h = gives n r (subtracted sa sb vs us)
-      (er ∙ ap₂ (zip2 (λ x y. int_wrap w (x -ℤ y))) (eu ∙ ap₂ (λ d zs. map (λ x. int_wrap w (shifted x d)) zs) es e) (ev ∙ ap₂ (λ d zs. map (λ x. int_wrap w (shifted x d)) zs) et k) ∙ differences_of_shifted sa sb vs us h)
+      (er ∙ ap₂ (zip2 (λ x y. int_wrap w (x -ℤ y))) (eu ∙ ap₂ (λ d zs. map (λ x. int_wrap w (shifted x d)) zs) es e) (ev
+      ∙ ap₂ (λ d zs. map (λ x. int_wrap w (shifted x d)) zs) et k) ∙ differences_of_shifted sa sb vs us h)
       (both_many (λ x y. shifted x sa -ℤ shifted y sb) xs vs ys us e k a b) h
 
-  pub copied_is : (s t : ℤ) → t ≡ s → (xs vs r : List ℤ) → xs ≡ vs → length xs ≡ 16 → r ≡ map (λ x. int_wrap w (shifted x t)) xs
+  pub copied_is : (s t : ℤ) → t ≡ s → (xs vs r : List ℤ) → xs ≡ vs → length xs ≡ 16 →
+      r ≡ map (λ x. int_wrap w (shifted x t)) xs
       → All (IsWord n) (copied Floor s vs) → Gives n r (copied Floor s vs)
   copied_is s t et xs vs r e a er h = gives n r (copied Floor s vs)
-      (er ∙ ap₂ (λ d zs. map (λ x. int_wrap w (shifted x d)) zs) et e ∙ copies_of s vs h) (each_many (λ x. shifted x s) xs vs e a) h
+      (er ∙ ap₂ (λ d zs. map (λ x. int_wrap w (shifted x d)) zs) et e
+      ∙ copies_of s vs h) (each_many (λ x. shifted x s) xs vs e a) h
 
-  pub negated_is : (xs vs z r : List ℤ) → xs ≡ vs → length xs ≡ 16 → z ≡ replicate 16 (pos 0) → r ≡ zip2 (λ x y. int_wrap w (x -ℤ y)) z xs
+  pub negated_is : (xs vs z r : List ℤ) → xs ≡ vs → length xs ≡ 16 → z ≡ replicate 16 (pos 0) →
+      r ≡ zip2 (λ x y. int_wrap w (x -ℤ y)) z xs
       → All (IsWord n) (map neg_ℤ vs) → Gives n r (map neg_ℤ vs)
   negated_is xs vs z r e a ez er h = gives n r (map neg_ℤ vs)
-      (er ∙ ap (λ zs. zip2 (λ x y. int_wrap w (x -ℤ y)) zs xs) ez ∙ zip2_splat_left (λ x y. int_wrap w (x -ℤ y)) (pos 0) 16 xs a ∙ ap (map (λ y. int_wrap w (pos 0 -ℤ y))) e ∙ opposites vs h)
+      (er ∙ ap (λ zs. zip2 (λ x y. int_wrap w (x -ℤ y)) zs xs) ez
+      ∙ zip2_splat_left (λ x y. int_wrap w (x -ℤ y)) (pos 0) 16 xs a ∙ ap (map (λ y. int_wrap w (pos 0 -ℤ y))) e
+      ∙ opposites vs h)
       (each_many neg_ℤ xs vs e a) h
 
 -- ---- to the nearest

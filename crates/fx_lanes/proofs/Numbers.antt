@@ -16,15 +16,18 @@ use Rattle.fx_lanes.specs.WordsSideBySide.{AreNumbers, CanDivide}
 
 -- ---- what fits 32 bits is a word of 32 bits, and fits 64
 pub fits_32 : (n : ℕ) (v : ℤ) → n ≤ 32 → IsWord n v → FitsSigned w32 v
-fits_32 n v le h = by (2 ^ (n - 1)) v (pow-le-pow_right {n = 2} (lit≤ tt) {i = n - 1} {j = 31} (omega arith)) (held n v h)
+fits_32 n v le h =
+    by (2 ^ (n - 1)) v (pow-le-pow_right {n = 2} (lit≤ tt) {i = n - 1} {j = 31} (omega arith)) (held n v h)
   where
     by : (m : ℕ) (v : ℤ) → m ≤ 2 ^ 31 → Held m v → FitsSigned w32 v
     by m (pos a) p h = let l = h.high in record { sfits = omega (arith, ints) }
     by m (negsuc a) p h = let l = h.low in record { sfits = omega (arith, ints) }
 
 word_32 : (v : ℤ) → FitsSigned w32 v → IsWord 32 v
-word_32 (pos a) f = let p = f.sfits in is_word_from 32 (pos a) (record { low = omega (arith, ints); high = omega (arith, ints) })
-word_32 (negsuc a) f = let p = f.sfits in is_word_from 32 (negsuc a) (record { low = omega (arith, ints); high = omega (arith, ints) })
+word_32 (pos a) f =
+    let p = f.sfits in is_word_from 32 (pos a) (record { low = omega (arith, ints); high = omega (arith, ints) })
+word_32 (negsuc a) f =
+    let p = f.sfits in is_word_from 32 (negsuc a) (record { low = omega (arith, ints); high = omega (arith, ints) })
 
 pub fits_wide : (v : ℤ) → FitsSigned w32 v → FitsSigned w64 v
 fits_wide v f = let p = f.sfits in record { sfits = omega arith }
@@ -44,19 +47,25 @@ wrapped_fit : (w : Width) (f : ℤ → ℤ) (xs : List ℤ) → All (FitsSigned 
 wrapped_fit w f xs = All-map (FitsSigned w) (λ x. int_wrap w (f x)) xs (λ k d lt. SFits-int_wrap w (f _))
 
 all_zip2 : (P : ℤ → Type 0) (f : ℤ → ℤ → ℤ) (xs ys : List ℤ)
-    → ((k : ℕ) (c d : ℤ) → k < length xs → k < length ys → P (f (slice_index_or xs k c) (slice_index_or ys k d))) → All P (zip2 f xs ys)
+    → ((k : ℕ) (c d : ℤ) → k < length xs → k < length ys → P (f (slice_index_or xs k c) (slice_index_or ys k d))) →
+    All P (zip2 f xs ys)
 all_zip2 P f [] ys h = All-nil P
 all_zip2 P f (x ∷ xs) [] h = All-nil P
 all_zip2 P f (x ∷ xs) (y ∷ ys) h =
-    All-cons P (f x y) (zip2 f xs ys) (h 0 x y (omega arith) (omega arith)) (all_zip2 P f xs ys (λ k c d l m. h (suc k) c d (omega arith) (omega arith)))
+    All-cons P (f x y) (zip2 f xs ys) (h 0 x y (omega arith) (omega arith))
+    (all_zip2 P f xs ys (λ k c d l m. h (suc k) c d (omega arith) (omega arith)))
 
-pub sixteen_both : (w : Width) (f : ℤ → ℤ → ℤ) (xs ys : List ℤ) → length xs ≡ 16 → length ys ≡ 16 → AreNumbers w (zip2 (λ x y. int_wrap w (f x y)) xs ys)
+pub sixteen_both : (w : Width) (f : ℤ → ℤ → ℤ) (xs ys : List ℤ) → length xs ≡ 16 → length ys ≡ 16 →
+    AreNumbers w (zip2 (λ x y. int_wrap w (f x y)) xs ys)
 sixteen_both w f xs ys a b = record {
   many = length-zip2 (λ x y. int_wrap w (f x y)) xs ys (a ∙ sym b) ∙ a;
-  fits = all_zip2 (FitsSigned w) (λ x y. int_wrap w (f x y)) xs ys (λ k c d l m. SFits-int_wrap w (f (slice_index_or xs k c) (slice_index_or ys k d)));
+  fits =
+      all_zip2 (FitsSigned w) (λ x y. int_wrap w (f x y)) xs ys
+      (λ k c d l m. SFits-int_wrap w (f (slice_index_or xs k c) (slice_index_or ys k d)));
 }
 
-pub sixteen_wrapped : (w : Width) (f : ℤ → ℤ) (xs : List ℤ) → length xs ≡ 16 → AreNumbers w (map (λ x. int_wrap w (f x)) xs)
+pub sixteen_wrapped : (w : Width) (f : ℤ → ℤ) (xs : List ℤ) → length xs ≡ 16 →
+    AreNumbers w (map (λ x. int_wrap w (f x)) xs)
 sixteen_wrapped w f xs a = record { many = length-map xs (λ x. int_wrap w (f x)) ∙ a; fits = wrapped_fit w f xs }
 
 pub sixteen_lowered : (w : Width) (d : ℕ) (xs : List ℤ) → AreNumbers w xs → AreNumbers w (map (λ x. floor_div x d) xs)
@@ -71,7 +80,8 @@ sixteen_products xs ys g h = record {
   fits = all_zip2 (FitsSigned w64) ◌*ℤ◌ xs ys (λ k c d l m. product_fits _ _ (g.fits k c l) (h.fits k d m));
 }
 
-pub sixteen_raised : (s : ℕ) → s ≤ 32 → (xs : List ℤ) → AreNumbers w32 xs → AreNumbers w64 (map (λ x. x *ℤ pos (2 ^ s)) xs)
+pub sixteen_raised : (s : ℕ) → s ≤ 32 → (xs : List ℤ) → AreNumbers w32 xs →
+    AreNumbers w64 (map (λ x. x *ℤ pos (2 ^ s)) xs)
 sixteen_raised s le xs h = record {
   many = length-map xs (λ x. x *ℤ pos (2 ^ s)) ∙ h.many;
   fits = All-map (FitsSigned w64) (λ x. x *ℤ pos (2 ^ s)) xs (λ k e lt. raised_fits _ s le (h.fits k e lt));
@@ -80,7 +90,10 @@ sixteen_raised s le xs h = record {
 quotients_all : (xs ys : List ℤ) → CanDivide xs ys → All (FitsSigned w64) (zip2 int_div xs ys)
 quotients_all [] ys h = All-nil (FitsSigned w64)
 quotients_all (x ∷ xs) [] h = All-nil (FitsSigned w64)
-quotients_all (x ∷ xs) (y ∷ ys) h = All-cons (FitsSigned w64) (int_div x y) (zip2 int_div xs ys) h.0.1 (quotients_all xs ys h.1)
+quotients_all (x ∷ xs) (y ∷ ys) h =
+    All-cons (FitsSigned w64) (int_div x y) (zip2 int_div xs ys) h.0.1 (quotients_all xs ys h.1)
 
-pub sixteen_quotients : (xs ys : List ℤ) → AreNumbers w64 xs → AreNumbers w32 ys → CanDivide xs ys → AreNumbers w64 (zip2 int_div xs ys)
-sixteen_quotients xs ys g h c = record { many = length-zip2 int_div xs ys (g.many ∙ sym h.many) ∙ g.many; fits = quotients_all xs ys c }
+pub sixteen_quotients : (xs ys : List ℤ) → AreNumbers w64 xs → AreNumbers w32 ys → CanDivide xs ys →
+    AreNumbers w64 (zip2 int_div xs ys)
+sixteen_quotients xs ys g h c =
+    record { many = length-zip2 int_div xs ys (g.many ∙ sym h.many) ∙ g.many; fits = quotients_all xs ys c }

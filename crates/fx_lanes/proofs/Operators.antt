@@ -24,20 +24,24 @@ shows : (w : Width) (shown xs : List ℤ) → shown ≡ xs → AreNumbers w xs �
 shows w shown xs e h = record { is = e; are = subst (AreNumbers w) (sym e) h }
 
 -- the same where the numbers are known by another name
-renamed : (w : Width) (shown : List ℤ) (f : List ℤ → List ℤ) (xs vs : List ℤ) → xs ≡ vs → Shows w shown (f xs) → Shows w shown (f vs)
+renamed : (w : Width) (shown : List ℤ) (f : List ℤ → List ℤ) (xs vs : List ℤ) → xs ≡ vs → Shows w shown (f xs) →
+    Shows w shown (f vs)
 renamed w shown f xs vs e h = record { is = h.is ∙ ap f e; are = h.are }
 
-both_renamed : (w : Width) (shown : List ℤ) (f : List ℤ → List ℤ → List ℤ) (xs vs ys us : List ℤ) → xs ≡ vs → ys ≡ us → Shows w shown (f xs ys) → Shows w shown (f vs us)
+both_renamed : (w : Width) (shown : List ℤ) (f : List ℤ → List ℤ → List ℤ) (xs vs ys us : List ℤ) → xs ≡ vs → ys ≡ us →
+    Shows w shown (f xs ys) → Shows w shown (f vs us)
 both_renamed w shown f xs vs ys us e k h = record { is = h.is ∙ ap₂ f e k; are = h.are }
 
 -- ---- what is put into lanes is taken out again
 pub taken_out : (w : Width) (xs : List ℤ) → All (FitsSigned w) xs → map (to_z w) (map (of_z w) xs) ≡ xs
 taken_out w [] f = refl
-taken_out w (x ∷ xs) f = ap₂ ◌∷◌ (to_z-of_z w x (All-head (FitsSigned w) x xs f)) (taken_out w xs (All-tail (FitsSigned w) x xs f))
+taken_out w (x ∷ xs) f =
+    ap₂ ◌∷◌ (to_z-of_z w x (All-head (FitsSigned w) x xs f)) (taken_out w xs (All-tail (FitsSigned w) x xs f))
 
 -- ---- sums and differences
 sums_are : (w : Width) (xs ys : List ℤ) → All (FitsSigned w) xs → All (FitsSigned w) ys
-    → map (to_z w) (zip2 (λ m n. (m + n) % 2 ^ bits w) (map (of_z w) xs) (map (of_z w) ys)) ≡ zip2 (λ x y. int_wrap w (x +ℤ y)) xs ys
+    → map (to_z w) (zip2 (λ m n. (m + n) % 2 ^ bits w) (map (of_z w) xs) (map (of_z w) ys))
+    ≡ zip2 (λ x y. int_wrap w (x +ℤ y)) xs ys
 sums_are w [] ys f g = refl
 sums_are w (x ∷ xs) [] f g = refl
 sums_are w (x ∷ xs) (y ∷ ys) f g =
@@ -45,7 +49,8 @@ sums_are w (x ∷ xs) (y ∷ ys) f g =
     (sums_are w xs ys (All-tail (FitsSigned w) x xs f) (All-tail (FitsSigned w) y ys g))
 
 differences_are : (w : Width) (xs ys : List ℤ) → All (FitsSigned w) xs → All (FitsSigned w) ys
-    → map (to_z w) (zip2 (λ m n. (m + (2 ^ bits w - n)) % 2 ^ bits w) (map (of_z w) xs) (map (of_z w) ys)) ≡ zip2 (λ x y. int_wrap w (x -ℤ y)) xs ys
+    → map (to_z w) (zip2 (λ m n. (m + (2 ^ bits w - n)) % 2 ^ bits w) (map (of_z w) xs) (map (of_z w) ys))
+    ≡ zip2 (λ x y. int_wrap w (x -ℤ y)) xs ys
 differences_are w [] ys f g = refl
 differences_are w (x ∷ xs) [] f g = refl
 differences_are w (x ∷ xs) (y ∷ ys) f g =
@@ -53,12 +58,18 @@ differences_are w (x ∷ xs) (y ∷ ys) f g =
     (differences_are w xs ys (All-tail (FitsSigned w) x xs f) (All-tail (FitsSigned w) y ys g))
 
 pub sums : (w : Width) (xs vs ys us : List ℤ) → xs ≡ vs → ys ≡ us → AreNumbers w xs → AreNumbers w ys
-    → Shows w (map (to_z w) (zip2 (λ m n. (m + n) % 2 ^ bits w) (map (of_z w) xs) (map (of_z w) ys))) (zip2 (λ x y. int_wrap w (x +ℤ y)) vs us)
-sums w xs vs ys us e k g h = both_renamed w _ (zip2 (λ x y. int_wrap w (x +ℤ y))) xs vs ys us e k (shows w _ _ (sums_are w xs ys g.fits h.fits) (sixteen_both w ◌+ℤ◌ xs ys g.many h.many))
+    → Shows w (map (to_z w) (zip2 (λ m n. (m + n) % 2 ^ bits w) (map (of_z w) xs) (map (of_z w) ys)))
+    (zip2 (λ x y. int_wrap w (x +ℤ y)) vs us)
+sums w xs vs ys us e k g h =
+    both_renamed w _ (zip2 (λ x y. int_wrap w (x +ℤ y))) xs vs ys us e k
+    (shows w _ _ (sums_are w xs ys g.fits h.fits) (sixteen_both w ◌+ℤ◌ xs ys g.many h.many))
 
 pub differences : (w : Width) (xs vs ys us : List ℤ) → xs ≡ vs → ys ≡ us → AreNumbers w xs → AreNumbers w ys
-    → Shows w (map (to_z w) (zip2 (λ m n. (m + (2 ^ bits w - n)) % 2 ^ bits w) (map (of_z w) xs) (map (of_z w) ys))) (zip2 (λ x y. int_wrap w (x -ℤ y)) vs us)
-differences w xs vs ys us e k g h = both_renamed w _ (zip2 (λ x y. int_wrap w (x -ℤ y))) xs vs ys us e k (shows w _ _ (differences_are w xs ys g.fits h.fits) (sixteen_both w ◌-ℤ◌ xs ys g.many h.many))
+    → Shows w (map (to_z w) (zip2 (λ m n. (m + (2 ^ bits w - n)) % 2 ^ bits w) (map (of_z w) xs) (map (of_z w) ys)))
+    (zip2 (λ x y. int_wrap w (x -ℤ y)) vs us)
+differences w xs vs ys us e k g h =
+    both_renamed w _ (zip2 (λ x y. int_wrap w (x -ℤ y))) xs vs ys us e k
+    (shows w _ _ (differences_are w xs ys g.fits h.fits) (sixteen_both w ◌-ℤ◌ xs ys g.many h.many))
 
 -- ---- shifts by as much in each lane
 shr_floor : (x : ℤ) (d : ℕ) → shr_z x d ≡ floor_div x d
@@ -70,7 +81,8 @@ lowered_are : (w : Width) (s : ℕ) (xs : List ℤ) → All (FitsSigned w) xs
 lowered_are w s [] f = refl
 lowered_are w s (x ∷ xs) f =
     let fx = All-head (FitsSigned w) x xs f in
-    ap₂ ◌∷◌ (ap (λ v. to_z w (of_z w (shr_z v (2 ^ s)))) (to_z-of_z w x fx) ∙ ap (λ v. to_z w (of_z w v)) (shr_floor x (2 ^ s)) ∙ to_z-of_z w _ (floor_fits w x (2 ^ s) fx))
+    ap₂ ◌∷◌ (ap (λ v. to_z w (of_z w (shr_z v (2 ^ s)))) (to_z-of_z w x fx)
+    ∙ ap (λ v. to_z w (of_z w v)) (shr_floor x (2 ^ s)) ∙ to_z-of_z w _ (floor_fits w x (2 ^ s) fx))
     (lowered_are w s xs (All-tail (FitsSigned w) x xs f))
 
 raised_are : (w : Width) (s : ℕ) → s < hbits w → (xs : List ℤ) → All (FitsSigned w) xs
@@ -85,19 +97,26 @@ bits_many : (w : Width) (xs : List ℤ) → length xs ≡ 16 → length (map (of
 bits_many w xs many = length-map xs (of_z w) ∙ many
 
 pub lowered : (w : Width) (s : ℕ) (xs vs : List ℤ) → xs ≡ vs → AreNumbers w xs
-    → Shows w (map (to_z w) (zip2 (λ m k. of_z w (shr_z (to_z w m) (2 ^ k))) (map (of_z w) xs) (replicate 16 s))) (map (λ x. floor_div x (2 ^ s)) vs)
+    → Shows w (map (to_z w) (zip2 (λ m k. of_z w (shr_z (to_z w m) (2 ^ k))) (map (of_z w) xs) (replicate 16 s)))
+    (map (λ x. floor_div x (2 ^ s)) vs)
 lowered w s xs vs e g = renamed w _ (map (λ x. floor_div x (2 ^ s))) xs vs e
-    (shows w _ _ (ap (map (to_z w)) (zip2_splat (λ m k. of_z w (shr_z (to_z w m) (2 ^ k))) (map (of_z w) xs) 16 s (bits_many w xs g.many)) ∙ lowered_are w s xs g.fits) (sixteen_lowered w (2 ^ s) xs g))
+    (shows w _ _ (ap (map (to_z w))
+    (zip2_splat (λ m k. of_z w (shr_z (to_z w m) (2 ^ k))) (map (of_z w) xs) 16 s (bits_many w xs g.many))
+    ∙ lowered_are w s xs g.fits) (sixteen_lowered w (2 ^ s) xs g))
 
 pub raised : (w : Width) (s : ℕ) → s < hbits w → (xs vs : List ℤ) → xs ≡ vs → AreNumbers w xs
-    → Shows w (map (to_z w) (zip2 (λ m k. (m * 2 ^ k) % 2 ^ bits w) (map (of_z w) xs) (replicate 16 s))) (map (λ x. int_wrap w (x *ℤ pos (2 ^ s))) vs)
+    → Shows w (map (to_z w) (zip2 (λ m k. (m * 2 ^ k) % 2 ^ bits w) (map (of_z w) xs) (replicate 16 s)))
+    (map (λ x. int_wrap w (x *ℤ pos (2 ^ s))) vs)
 raised w s le xs vs e g = renamed w _ (map (λ x. int_wrap w (x *ℤ pos (2 ^ s)))) xs vs e
-    (shows w _ _ (ap (map (to_z w)) (zip2_splat (λ m k. (m * 2 ^ k) % 2 ^ bits w) (map (of_z w) xs) 16 s (bits_many w xs g.many)) ∙ raised_are w s le xs g.fits) (sixteen_wrapped w (λ x. x *ℤ pos (2 ^ s)) xs g.many))
+    (shows w _ _ (ap (map (to_z w))
+    (zip2_splat (λ m k. (m * 2 ^ k) % 2 ^ bits w) (map (of_z w) xs) 16 s (bits_many w xs g.many))
+    ∙ raised_are w s le xs g.fits) (sixteen_wrapped w (λ x. x *ℤ pos (2 ^ s)) xs g.many))
 
 -- ---- from 32 bits to 64
 
 widely_raised_are : (s : ℕ) → s ≤ 32 → (xs : List ℤ) → All (FitsSigned w32) xs
-    → map (to_z w64) (map (λ m. (m * 2 ^ s) % 2 ^ 64) (map (λ m. of_z w64 (to_z w32 m)) (map (of_z w32) xs))) ≡ map (λ x. x *ℤ pos (2 ^ s)) xs
+    → map (to_z w64) (map (λ m. (m * 2 ^ s) % 2 ^ 64) (map (λ m. of_z w64 (to_z w32 m)) (map (of_z w32) xs)))
+    ≡ map (λ x. x *ℤ pos (2 ^ s)) xs
 widely_raised_are s le [] f = refl
 widely_raised_are s le (x ∷ xs) f =
     let fx = All-head (FitsSigned w32) x xs f in
@@ -106,14 +125,20 @@ widely_raised_are s le (x ∷ xs) f =
     (widely_raised_are s le xs (All-tail (FitsSigned w32) x xs f))
 
 pub widely_raised : (s : ℕ) → s ≤ 32 → (xs vs : List ℤ) → xs ≡ vs → AreNumbers w32 xs
-    → Shows w64 (map (to_z w64) (zip2 (λ m k. (m * 2 ^ k) % 2 ^ 64) (map (λ m. of_z w64 (to_z w32 m)) (map (of_z w32) xs)) (replicate 16 s))) (map (λ x. x *ℤ pos (2 ^ s)) vs)
+    → Shows w64 (map (to_z w64)
+    (zip2 (λ m k. (m * 2 ^ k) % 2 ^ 64) (map (λ m. of_z w64 (to_z w32 m)) (map (of_z w32) xs)) (replicate 16 s)))
+    (map (λ x. x *ℤ pos (2 ^ s)) vs)
 widely_raised s le xs vs e g =
-    let many : length (map (λ m. of_z w64 (to_z w32 m)) (map (of_z w32) xs)) ≡ 16 = length-map (map (of_z w32) xs) (λ m. of_z w64 (to_z w32 m)) ∙ bits_many w32 xs g.many in
+    let many : length (map (λ m. of_z w64 (to_z w32 m)) (map (of_z w32) xs)) ≡ 16 =
+    length-map (map (of_z w32) xs) (λ m. of_z w64 (to_z w32 m)) ∙ bits_many w32 xs g.many in
     renamed w64 _ (map (λ x. x *ℤ pos (2 ^ s))) xs vs e
-    (shows w64 _ _ (ap (map (to_z w64)) (zip2_splat (λ m k. (m * 2 ^ k) % 2 ^ 64) (map (λ m. of_z w64 (to_z w32 m)) (map (of_z w32) xs)) 16 s many) ∙ widely_raised_are s le xs g.fits) (sixteen_raised s le xs g))
+    (shows w64 _ _ (ap (map (to_z w64))
+    (zip2_splat (λ m k. (m * 2 ^ k) % 2 ^ 64) (map (λ m. of_z w64 (to_z w32 m)) (map (of_z w32) xs)) 16 s many)
+    ∙ widely_raised_are s le xs g.fits) (sixteen_raised s le xs g))
 
 products_are : (xs ys : List ℤ) → All (FitsSigned w32) xs → All (FitsSigned w32) ys
-    → map (to_z w64) (zip2 (λ m n. (m * n) % 2 ^ 64) (map (λ m. of_z w64 (to_z w32 m)) (map (of_z w32) xs)) (map (λ m. of_z w64 (to_z w32 m)) (map (of_z w32) ys))) ≡ zip2 ◌*ℤ◌ xs ys
+    → map (to_z w64) (zip2 (λ m n. (m * n) % 2 ^ 64) (map (λ m. of_z w64 (to_z w32 m)) (map (of_z w32) xs))
+    (map (λ m. of_z w64 (to_z w32 m)) (map (of_z w32) ys))) ≡ zip2 ◌*ℤ◌ xs ys
 products_are [] ys f g = refl
 products_are (x ∷ xs) [] f g = refl
 products_are (x ∷ xs) (y ∷ ys) f g =
@@ -123,11 +148,16 @@ products_are (x ∷ xs) (y ∷ ys) f g =
     (products_are xs ys (All-tail (FitsSigned w32) x xs f) (All-tail (FitsSigned w32) y ys g))
 
 pub products : (xs vs ys us : List ℤ) → xs ≡ vs → ys ≡ us → AreNumbers w32 xs → AreNumbers w32 ys
-    → Shows w64 (map (to_z w64) (zip2 (λ m n. (m * n) % 2 ^ 64) (map (λ m. of_z w64 (to_z w32 m)) (map (of_z w32) xs)) (map (λ m. of_z w64 (to_z w32 m)) (map (of_z w32) ys)))) (zip2 ◌*ℤ◌ vs us)
-products xs vs ys us e k g h = both_renamed w64 _ (zip2 ◌*ℤ◌) xs vs ys us e k (shows w64 _ _ (products_are xs ys g.fits h.fits) (sixteen_products xs ys g h))
+    → Shows w64 (map (to_z w64)
+    (zip2 (λ m n. (m * n) % 2 ^ 64) (map (λ m. of_z w64 (to_z w32 m)) (map (of_z w32) xs))
+    (map (λ m. of_z w64 (to_z w32 m)) (map (of_z w32) ys)))) (zip2 ◌*ℤ◌ vs us)
+products xs vs ys us e k g h =
+    both_renamed w64 _ (zip2 ◌*ℤ◌) xs vs ys us e k
+    (shows w64 _ _ (products_are xs ys g.fits h.fits) (sixteen_products xs ys g h))
 
 -- ---- from 64 bits to 32
-pub narrow_fits : (xs vs : List ℤ) → xs ≡ vs → All (FitsSigned w32) vs → Each1 (λ m. FitsSigned w32 (to_z w64 m)) (map (of_z w64) xs)
+pub narrow_fits : (xs vs : List ℤ) → xs ≡ vs → All (FitsSigned w32) vs →
+    Each1 (λ m. FitsSigned w32 (to_z w64 m)) (map (of_z w64) xs)
 narrow_fits xs vs e f = by xs (subst (All (FitsSigned w32)) (sym e) f)
   where
     by : (xs : List ℤ) → All (FitsSigned w32) xs → Each1 (λ m. FitsSigned w32 (to_z w64 m)) (map (of_z w64) xs)
@@ -136,14 +166,16 @@ narrow_fits xs vs e f = by xs (subst (All (FitsSigned w32)) (sym e) f)
         let fx = All-head (FitsSigned w32) x xs f in
         (subst (FitsSigned w32) (sym (to_z-of_z w64 x (fits_wide x fx))) fx, by xs (All-tail (FitsSigned w32) x xs f))
 
-narrowed_are : (xs : List ℤ) → All (FitsSigned w32) xs → map (to_z w32) (map (λ m. of_z w32 (to_z w64 m)) (map (of_z w64) xs)) ≡ xs
+narrowed_are : (xs : List ℤ) → All (FitsSigned w32) xs →
+    map (to_z w32) (map (λ m. of_z w32 (to_z w64 m)) (map (of_z w64) xs)) ≡ xs
 narrowed_are [] f = refl
 narrowed_are (x ∷ xs) f =
     let fx = All-head (FitsSigned w32) x xs f in
     ap₂ ◌∷◌ (ap (λ v. to_z w32 (of_z w32 v)) (to_z-of_z w64 x (fits_wide x fx)) ∙ to_z-of_z w32 x fx)
     (narrowed_are xs (All-tail (FitsSigned w32) x xs f))
 
-pub narrowed : (xs vs : List ℤ) → xs ≡ vs → length xs ≡ 16 → All (FitsSigned w32) vs → Shows w32 (map (to_z w32) (map (λ m. of_z w32 (to_z w64 m)) (map (of_z w64) xs))) vs
+pub narrowed : (xs vs : List ℤ) → xs ≡ vs → length xs ≡ 16 → All (FitsSigned w32) vs →
+    Shows w32 (map (to_z w32) (map (λ m. of_z w32 (to_z w64 m)) (map (of_z w64) xs))) vs
 narrowed xs vs e many f =
     let fx = subst (All (FitsSigned w32)) (sym e) f in
     renamed w32 _ (λ zs. zs) xs vs e (shows w32 _ _ (narrowed_are xs fx) (record { many = many; fits = fx }))
@@ -156,7 +188,8 @@ some_bits (pos (suc n)) h f = omega arith
 some_bits (negsuc n) h f = let p = f.sfits in omega (arith, ints)
 
 quotients_fit_lanes : (xs ys : List ℤ) → All (FitsSigned w64) xs → All (FitsSigned w32) ys → CanDivide xs ys
-    → Each2 (λ m n. (0 < n) × FitsSigned w64 (int_div (to_z w64 m) (to_z w64 n))) (map (of_z w64) xs) (map (λ m. of_z w64 (to_z w32 m)) (map (of_z w32) ys))
+    → Each2 (λ m n. (0 < n) × FitsSigned w64 (int_div (to_z w64 m) (to_z w64 n))) (map (of_z w64) xs)
+    (map (λ m. of_z w64 (to_z w32 m)) (map (of_z w32) ys))
 quotients_fit_lanes [] ys f g h = tt
 quotients_fit_lanes (x ∷ xs) [] f g h = tt
 quotients_fit_lanes (x ∷ xs) (y ∷ ys) f g h =
@@ -168,23 +201,29 @@ quotients_fit_lanes (x ∷ xs) (y ∷ ys) f g h =
     )
 
 quotients_are : (xs ys : List ℤ) → All (FitsSigned w64) xs → All (FitsSigned w32) ys → CanDivide xs ys
-    → map (to_z w64) (zip2 (λ m n. of_z w64 (int_div (to_z w64 m) (to_z w64 n))) (map (of_z w64) xs) (map (λ m. of_z w64 (to_z w32 m)) (map (of_z w32) ys))) ≡ zip2 int_div xs ys
+    → map (to_z w64) (zip2 (λ m n. of_z w64 (int_div (to_z w64 m) (to_z w64 n))) (map (of_z w64) xs)
+    (map (λ m. of_z w64 (to_z w32 m)) (map (of_z w32) ys))) ≡ zip2 int_div xs ys
 quotients_are [] ys f g h = refl
 quotients_are (x ∷ xs) [] f g h = refl
 quotients_are (x ∷ xs) (y ∷ ys) f g h =
     let fx = All-head (FitsSigned w64) x xs f in let gy = All-head (FitsSigned w32) y ys g in
-    ap₂ ◌∷◌ (ap (λ v. to_z w64 (of_z w64 (int_div (to_z w64 (of_z w64 x)) (to_z w64 (of_z w64 v))))) (to_z-of_z w32 y gy) ∙ quot_is w64 x y fx (fits_wide y gy) h.0.1)
+    ap₂ ◌∷◌ (ap (λ v. to_z w64 (of_z w64 (int_div (to_z w64 (of_z w64 x)) (to_z w64 (of_z w64 v)))))
+    (to_z-of_z w32 y gy) ∙ quot_is w64 x y fx (fits_wide y gy) h.0.1)
     (quotients_are xs ys (All-tail (FitsSigned w64) x xs f) (All-tail (FitsSigned w32) y ys g) h.1)
 
 divides_these : (xs vs ys us : List ℤ) → xs ≡ vs → ys ≡ us → CanDivide vs us → CanDivide xs ys
 divides_these xs vs ys us e k h = subst (CanDivide xs) (sym k) (subst (λ zs. CanDivide zs us) (sym e) h)
 
 pub quotients_fit : (xs vs ys us : List ℤ) → xs ≡ vs → ys ≡ us → AreNumbers w64 xs → AreNumbers w32 ys → CanDivide vs us
-    → Each2 (λ m n. (0 < n) × FitsSigned w64 (int_div (to_z w64 m) (to_z w64 n))) (map (of_z w64) xs) (map (λ m. of_z w64 (to_z w32 m)) (map (of_z w32) ys))
+    → Each2 (λ m n. (0 < n) × FitsSigned w64 (int_div (to_z w64 m) (to_z w64 n))) (map (of_z w64) xs)
+    (map (λ m. of_z w64 (to_z w32 m)) (map (of_z w32) ys))
 quotients_fit xs vs ys us e k g h c = quotients_fit_lanes xs ys g.fits h.fits (divides_these xs vs ys us e k c)
 
 pub quotients : (xs vs ys us : List ℤ) → xs ≡ vs → ys ≡ us → AreNumbers w64 xs → AreNumbers w32 ys → CanDivide vs us
-    → Shows w64 (map (to_z w64) (zip2 (λ m n. of_z w64 (int_div (to_z w64 m) (to_z w64 n))) (map (of_z w64) xs) (map (λ m. of_z w64 (to_z w32 m)) (map (of_z w32) ys)))) (zip2 int_div vs us)
+    → Shows w64 (map (to_z w64)
+    (zip2 (λ m n. of_z w64 (int_div (to_z w64 m) (to_z w64 n))) (map (of_z w64) xs)
+    (map (λ m. of_z w64 (to_z w32 m)) (map (of_z w32) ys)))) (zip2 int_div vs us)
 quotients xs vs ys us e k g h c =
     let d = divides_these xs vs ys us e k c in
-    both_renamed w64 _ (zip2 int_div) xs vs ys us e k (shows w64 _ _ (quotients_are xs ys g.fits h.fits d) (sixteen_quotients xs ys g h d))
+    both_renamed w64 _ (zip2 int_div) xs vs ys us e k
+    (shows w64 _ _ (quotients_are xs ys g.fits h.fits d) (sixteen_quotients xs ys g h d))

@@ -15,30 +15,40 @@ pub words_fit : (n : ℕ) → n ≤ 32 → (xs : List ℤ) → All (IsWord n) xs
 words_fit n le xs h = All-weaker (IsWord n) (FitsSigned w32) (λ v. fits_32 n v le) xs h
 
 -- ---- products
-each_rounded : (r : Round) (s : ℕ) (xs ys : List ℤ) → map (λ x. rounded r x (pos s)) (zip2 ◌*ℤ◌ xs ys) ≡ multiplied r s xs ys
+each_rounded : (r : Round) (s : ℕ) (xs ys : List ℤ) →
+    map (λ x. rounded r x (pos s)) (zip2 ◌*ℤ◌ xs ys) ≡ multiplied r s xs ys
 each_rounded r s [] ys = refl
 each_rounded r s (x ∷ xs) [] = refl
 each_rounded r s (x ∷ xs) (y ∷ ys) = ap (λ zs. rounded r (x *ℤ y) (pos s) ∷ zs) (each_rounded r s xs ys)
 
-pub rounded_products : (r : Round) (s : ℕ) (xs vs ys us p q : List ℤ) → xs ≡ vs → ys ≡ us → p ≡ zip2 ◌*ℤ◌ xs ys → q ≡ map (λ x. rounded r x (pos s)) p → q ≡ multiplied r s vs us
-rounded_products r s xs vs ys us p q e k ep eq = eq ∙ ap (map (λ x. rounded r x (pos s))) (ep ∙ ap₂ (zip2 ◌*ℤ◌) e k) ∙ each_rounded r s vs us
+pub rounded_products : (r : Round) (s : ℕ) (xs vs ys us p q : List ℤ) → xs ≡ vs → ys ≡ us → p ≡ zip2 ◌*ℤ◌ xs ys →
+    q ≡ map (λ x. rounded r x (pos s)) p → q ≡ multiplied r s vs us
+rounded_products r s xs vs ys us p q e k ep eq =
+    eq ∙ ap (map (λ x. rounded r x (pos s))) (ep ∙ ap₂ (zip2 ◌*ℤ◌) e k) ∙ each_rounded r s vs us
 
-pub products_fit : (n : ℕ) → n ≤ 32 → (r : Round) (s : ℕ) (vs us q : List ℤ) → q ≡ multiplied r s vs us → All (IsWord n) (multiplied r s vs us) → All (FitsSigned w32) q
+pub products_fit : (n : ℕ) → n ≤ 32 → (r : Round) (s : ℕ) (vs us q : List ℤ) → q ≡ multiplied r s vs us →
+    All (IsWord n) (multiplied r s vs us) → All (FitsSigned w32) q
 products_fit n le r s vs us q e h = subst (All (FitsSigned w32)) (sym e) (words_fit n le (multiplied r s vs us) h)
 
-pub multiplied_is : (n : ℕ) (r : Round) (s : ℕ) (xs vs ys us q z : List ℤ) → xs ≡ vs → ys ≡ us → length xs ≡ 16 → length ys ≡ 16 → q ≡ multiplied r s vs us → z ≡ q
+pub multiplied_is : (n : ℕ) (r : Round) (s : ℕ) (xs vs ys us q z : List ℤ) → xs ≡ vs → ys ≡ us → length xs ≡ 16 →
+    length ys ≡ 16 → q ≡ multiplied r s vs us → z ≡ q
     → All (IsWord n) (multiplied r s vs us) → Gives n z (multiplied r s vs us)
-multiplied_is n r s xs vs ys us q z e k a b eq ez h = gives n z (multiplied r s vs us) (ez ∙ eq) (both_many (λ x y. rounded r (x *ℤ y) (pos s)) xs vs ys us e k a b) h
+multiplied_is n r s xs vs ys us q z e k a b eq ez h =
+    gives n z (multiplied r s vs us) (ez ∙ eq) (both_many (λ x y. rounded r (x *ℤ y) (pos s)) xs vs ys us e k a b) h
 
 -- room for a half
-pub room : (n s : ℕ) → IsNarrow n → s ≤ 2 * n - 2 → (xs ys p : List ℤ) → p ≡ zip2 ◌*ℤ◌ xs ys → AreLanes n xs → AreLanes n ys → All (FitsSigned w64) (map (λ x. x +ℤ half (pos s)) p)
-room n s width le xs ys p e g h = subst (λ zs. All (FitsSigned w64) (map (λ x. x +ℤ half (pos s)) zs)) (sym e) (by xs ys g.words h.words)
+pub room : (n s : ℕ) → IsNarrow n → s ≤ 2 * n - 2 → (xs ys p : List ℤ) → p ≡ zip2 ◌*ℤ◌ xs ys → AreLanes n xs →
+    AreLanes n ys → All (FitsSigned w64) (map (λ x. x +ℤ half (pos s)) p)
+room n s width le xs ys p e g h =
+    subst (λ zs. All (FitsSigned w64) (map (λ x. x +ℤ half (pos s)) zs)) (sym e) (by xs ys g.words h.words)
   where
-    by : (xs ys : List ℤ) → All (IsWord n) xs → All (IsWord n) ys → All (FitsSigned w64) (map (λ x. x +ℤ half (pos s)) (zip2 ◌*ℤ◌ xs ys))
+    by : (xs ys : List ℤ) → All (IsWord n) xs → All (IsWord n) ys →
+        All (FitsSigned w64) (map (λ x. x +ℤ half (pos s)) (zip2 ◌*ℤ◌ xs ys))
     by [] ys g h = All-nil (FitsSigned w64)
     by (x ∷ xs) [] g h = All-nil (FitsSigned w64)
     by (x ∷ xs) (y ∷ ys) g h =
-        let double = product_half_wide n s x y width.least (All-head (IsWord n) x xs g) (All-head (IsWord n) y ys h) le in
+        let double =
+        product_half_wide n s x y width.least (All-head (IsWord n) x xs g) (All-head (IsWord n) y ys h) le in
         All-cons (FitsSigned w64) _ _ (fits_64 (2 * n) _ (let l = width.most in omega arith) double)
         (by xs ys (All-tail (IsWord n) x xs g) (All-tail (IsWord n) y ys h))
 
@@ -54,49 +64,67 @@ divides n p (pos (suc m)) h = record { some = λ e. absurd cc; word = h; gives =
 divides n p (negsuc m) h = record { some = λ e. absurd cc; word = h; gives = refl }
 
 -- what each division of words gives
-divides_first : (n s : ℕ) (x y : ℤ) (xs ys : List ℤ) → All (IsSomeWord n) (divided s (x ∷ xs) (y ∷ ys)) → Divides n (x *ℤ pos (2 ^ s)) y
-divides_first n s x y xs ys h = divides n (x *ℤ pos (2 ^ s)) y (All-head (IsSomeWord n) (floor_divided (x *ℤ pos (2 ^ s)) y) (divided s xs ys) h)
+divides_first : (n s : ℕ) (x y : ℤ) (xs ys : List ℤ) → All (IsSomeWord n) (divided s (x ∷ xs) (y ∷ ys)) →
+    Divides n (x *ℤ pos (2 ^ s)) y
+divides_first n s x y xs ys h =
+    divides n (x *ℤ pos (2 ^ s)) y (All-head (IsSomeWord n) (floor_divided (x *ℤ pos (2 ^ s)) y) (divided s xs ys) h)
 
-others : (n s : ℕ) (x y : ℤ) (xs ys : List ℤ) → All (IsSomeWord n) (divided s (x ∷ xs) (y ∷ ys)) → All (IsSomeWord n) (divided s xs ys)
+others : (n s : ℕ) (x y : ℤ) (xs ys : List ℤ) → All (IsSomeWord n) (divided s (x ∷ xs) (y ∷ ys)) →
+    All (IsSomeWord n) (divided s xs ys)
 others n s x y xs ys h = All-tail (IsSomeWord n) (floor_divided (x *ℤ pos (2 ^ s)) y) (divided s xs ys) h
 
-can_divide_lanes : (n s : ℕ) → n ≤ 32 → (xs ys : List ℤ) → All (IsSomeWord n) (divided s xs ys) → CanDivide (map (λ x. x *ℤ pos (2 ^ s)) xs) ys
+can_divide_lanes : (n s : ℕ) → n ≤ 32 → (xs ys : List ℤ) → All (IsSomeWord n) (divided s xs ys) →
+    CanDivide (map (λ x. x *ℤ pos (2 ^ s)) xs) ys
 can_divide_lanes n s le [] ys h = tt
 can_divide_lanes n s le (x ∷ xs) [] h = tt
 can_divide_lanes n s le (x ∷ xs) (y ∷ ys) h =
-    let d = divides_first n s x y xs ys h in ((d.some, fits_64 n _ (omega arith) d.word), can_divide_lanes n s le xs ys (others n s x y xs ys h))
+    let d = divides_first n s x y xs ys h in
+    ((d.some, fits_64 n _ (omega arith) d.word), can_divide_lanes n s le xs ys (others n s x y xs ys h))
 
-quotients_are_words : (n s : ℕ) (xs ys : List ℤ) → All (IsSomeWord n) (divided s xs ys) → All (IsWord n) (zip2 int_div (map (λ x. x *ℤ pos (2 ^ s)) xs) ys)
+quotients_are_words : (n s : ℕ) (xs ys : List ℤ) → All (IsSomeWord n) (divided s xs ys) →
+    All (IsWord n) (zip2 int_div (map (λ x. x *ℤ pos (2 ^ s)) xs) ys)
 quotients_are_words n s [] ys h = All-nil (IsWord n)
 quotients_are_words n s (x ∷ xs) [] h = All-nil (IsWord n)
-quotients_are_words n s (x ∷ xs) (y ∷ ys) h = All-cons (IsWord n) _ _ (divides_first n s x y xs ys h).word (quotients_are_words n s xs ys (others n s x y xs ys h))
+quotients_are_words n s (x ∷ xs) (y ∷ ys) h =
+    All-cons (IsWord n) _ _ (divides_first n s x y xs ys h).word
+    (quotients_are_words n s xs ys (others n s x y xs ys h))
 
-divided_is : (n s : ℕ) (xs ys : List ℤ) → All (IsSomeWord n) (divided s xs ys) → map (λ q. Some q) (zip2 int_div (map (λ x. x *ℤ pos (2 ^ s)) xs) ys) ≡ divided s xs ys
+divided_is : (n s : ℕ) (xs ys : List ℤ) → All (IsSomeWord n) (divided s xs ys) →
+    map (λ q. Some q) (zip2 int_div (map (λ x. x *ℤ pos (2 ^ s)) xs) ys) ≡ divided s xs ys
 divided_is n s [] ys h = refl
 divided_is n s (x ∷ xs) [] h = refl
-divided_is n s (x ∷ xs) (y ∷ ys) h = ap₂ ◌∷◌ (sym (divides_first n s x y xs ys h).gives) (divided_is n s xs ys (others n s x y xs ys h))
+divided_is n s (x ∷ xs) (y ∷ ys) h =
+    ap₂ ◌∷◌ (sym (divides_first n s x y xs ys h).gives) (divided_is n s xs ys (others n s x y xs ys h))
 
 -- the dividends p, that are shown to be the words vs times 2^s
-pub can_divide : (n s : ℕ) → n ≤ 32 → (xs vs ys us p : List ℤ) → xs ≡ vs → ys ≡ us → p ≡ map (λ x. x *ℤ pos (2 ^ s)) xs → All (IsSomeWord n) (divided s vs us) → CanDivide p ys
+pub can_divide : (n s : ℕ) → n ≤ 32 → (xs vs ys us p : List ℤ) → xs ≡ vs → ys ≡ us →
+    p ≡ map (λ x. x *ℤ pos (2 ^ s)) xs → All (IsSomeWord n) (divided s vs us) → CanDivide p ys
 can_divide n s le xs vs ys us p e k ep h =
-    subst (CanDivide p) (sym k) (subst (λ zs. CanDivide zs us) (sym (ep ∙ ap (map (λ x. x *ℤ pos (2 ^ s))) e)) (can_divide_lanes n s le vs us h))
+    subst (CanDivide p) (sym k)
+    (subst (λ zs. CanDivide zs us) (sym (ep ∙ ap (map (λ x. x *ℤ pos (2 ^ s))) e))
+    (can_divide_lanes n s le vs us h))
 
 pub record Quotients (n s : ℕ) (vs us q : List ℤ) : Type 0 where
   pub some : map (λ x. Some x) q ≡ divided s vs us
   pub are : AreLanes n q
 
-pub quotients_are : (n s : ℕ) (xs vs ys us p q : List ℤ) → xs ≡ vs → ys ≡ us → length xs ≡ 16 → length ys ≡ 16 → p ≡ map (λ x. x *ℤ pos (2 ^ s)) xs → q ≡ zip2 int_div p ys
+pub quotients_are : (n s : ℕ) (xs vs ys us p q : List ℤ) → xs ≡ vs → ys ≡ us → length xs ≡ 16 → length ys ≡ 16 →
+    p ≡ map (λ x. x *ℤ pos (2 ^ s)) xs → q ≡ zip2 int_div p ys
     → All (IsSomeWord n) (divided s vs us) → Quotients n s vs us q
 quotients_are n s xs vs ys us p q e k a b ep eq h =
-    let f = ep ∙ ap (map (λ x. x *ℤ pos (2 ^ s))) e in let all : q ≡ zip2 int_div (map (λ x. x *ℤ pos (2 ^ s)) vs) us = eq ∙ ap₂ (zip2 int_div) f k in
+    let f = ep ∙ ap (map (λ x. x *ℤ pos (2 ^ s))) e in
+    let all : q ≡ zip2 int_div (map (λ x. x *ℤ pos (2 ^ s)) vs) us = eq ∙ ap₂ (zip2 int_div) f k in
     let many : length p ≡ 16 = ap length ep ∙ each_many (λ x. x *ℤ pos (2 ^ s)) xs xs refl a in
     record {
       some = ap (map (λ x. Some x)) all ∙ divided_is n s vs us h;
-      are = (gives n q _ all (both_many int_div p (map (λ x. x *ℤ pos (2 ^ s)) vs) ys us f k many b) (quotients_are_words n s vs us h)).are;
+      are =
+          (gives n q _ all (both_many int_div p (map (λ x. x *ℤ pos (2 ^ s)) vs) ys us f k many b)
+          (quotients_are_words n s vs us h)).are;
     }
 
 pub quotients_fit : (n : ℕ) → n ≤ 32 → (s : ℕ) (vs us q : List ℤ) → Quotients n s vs us q → All (FitsSigned w32) q
 quotients_fit n le s vs us q h = words_fit n le q h.are.words
 
 pub quotients_narrowed : (n s : ℕ) (vs us q r : List ℤ) → r ≡ q → Quotients n s vs us q → Quotients n s vs us r
-quotients_narrowed n s vs us q r e h = record { some = ap (map (λ x. Some x)) e ∙ h.some; are = subst (AreLanes n) (sym e) h.are }
+quotients_narrowed n s vs us q r e h =
+    record { some = ap (map (λ x. Some x)) e ∙ h.some; are = subst (AreLanes n) (sym e) h.are }

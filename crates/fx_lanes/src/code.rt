@@ -46,8 +46,10 @@ fn input_lanes<const B: u32, L: SideBySide<B>>(rows: &[Decimal], inputs: usize, 
     requires few { inputs ≤ 64 }
     requires within { k < inputs }
     requires point { IsPoint f }
-    requires words { (j : ℕ) (d : rational.Decimal) → j < 16 → IsWord B (quantised (slice_index_or rows.now (j * inputs + k) d) f) }
-    ensures { (j : ℕ) (d : rational.Decimal) → j < 16 → at (pos 0) (L.words result) j ≡ quantised (slice_index_or rows.now (j * inputs + k) d) f }
+    requires words { (j : ℕ) (d : rational.Decimal) → j < 16 →
+        IsWord B (quantised (slice_index_or rows.now (j * inputs + k) d) f) }
+    ensures { (j : ℕ) (d : rational.Decimal) → j < 16 →
+        at (pos 0) (L.words result) j ≡ quantised (slice_index_or rows.now (j * inputs + k) d) f }
 {
     let mut words = [0i64; 16];
     for j in 0..16usize {
@@ -69,8 +71,12 @@ pub(crate) fn code_lanes<const B: u32, L: SideBySide<B>>(
     requires many { length rows.now ≡ 16 * inputs }
     requires few { inputs ≤ 64 }
     requires lawful { IsCodeAt B inputs 0 (length words.now) (code_of code.now) }
-    requires runs { (k : ℕ) → k < 16 → IsSome (word_of B (code_of code.now) (map decimal_value (row_at inputs k rows.now)) [] (lane k (map L.words words.now))) }
-    ensures { (k : ℕ) → k < 16 → word_of B (code_of code.now) (map decimal_value (row_at inputs k rows.now)) [] (lane k (map L.words words.now)) ≡ Some (at (pos 0) (L.words result) k) }
+    requires runs { (k : ℕ) → k < 16 →
+        IsSome (word_of B (code_of code.now) (map decimal_value (row_at inputs k rows.now)) []
+        (lane k (map L.words words.now))) }
+    ensures { (k : ℕ) → k < 16 →
+        word_of B (code_of code.now) (map decimal_value (row_at inputs k rows.now)) [] (lane k (map L.words words.now))
+        ≡ Some (at (pos 0) (L.words result) k) }
 {
     match *code {
         Code::Input { k, f } => input_lanes::<B, L>(rows, inputs, k, f),

@@ -1,7 +1,8 @@
 //! Sixteen words of at most 32 bits side by side, and the operations of the machine on them.
 //!
-//! A `NarrowLanes<B>` can't hold anything but sixteen words of `B` bits. Each operation gives of each lane what the machine's gives
-//! of its word. The trap: what lies on the way to a word is kept modulo 2^32, so that nothing but a word may be read from it.
+//! A `NarrowLanes<B>` can't hold anything but sixteen words of `B` bits. Each operation gives of each lane what the
+//! machine's gives of its word. The trap: what lies on the way to a word is kept modulo 2^32, so that nothing but a
+//! word may be read from it.
 
 ghost use Rattle.fx_lanes.specs.WordsSideBySide.{IsNarrow};
 

@@ -12,7 +12,8 @@ pub fn put_at(rows: &mut [Decimal], k: usize, row: &[Decimal])
     requires within { k < 16 }
     ensures same { length rows.new ≡ length rows.old }
     ensures put { row_at (length row.now) k rows.new ≡ row.now }
-    ensures others { (j : ℕ) → j < 16 → j ≢ k → row_at (length row.now) j rows.new ≡ row_at (length row.now) j rows.old }
+    ensures others { (j : ℕ) → j < 16 → j ≢ k →
+        row_at (length row.now) j rows.new ≡ row_at (length row.now) j rows.old }
 {
     let from = k * row.len();
     rows[from..from + row.len()].copy_from_slice(row);

@@ -29,10 +29,15 @@ fn run_one<const B: u32, L: SideBySide<B>>(
     requires sizes { length words.old ≡ length codes.now }
     requires within { i < length codes.now }
     requires lawful { AreCodes B inputs 0 (map code_of codes.now) }
-    requires runs { (k : ℕ) → k < 16 → IsSome (words_after B (map code_of (drop i codes.now)) (map decimal_value (row_at inputs k rows.now)) [] (lane k (map L.words (take i words.old)))) }
+    requires runs { (k : ℕ) → k < 16 →
+        IsSome (words_after B (map code_of (drop i codes.now)) (map decimal_value (row_at inputs k rows.now)) []
+        (lane k (map L.words (take i words.old)))) }
     ensures sizes { length words.new ≡ length codes.now }
-    ensures goes_on { (k : ℕ) → k < 16 → words_after B (map code_of (drop (i + 1) codes.now)) (map decimal_value (row_at inputs k rows.now)) [] (lane k (map L.words (take (i + 1) words.new)))
-        ≡ words_after B (map code_of (drop i codes.now)) (map decimal_value (row_at inputs k rows.now)) [] (lane k (map L.words (take i words.old))) }
+    ensures goes_on { (k : ℕ) → k < 16 →
+        words_after B (map code_of (drop (i + 1) codes.now)) (map decimal_value (row_at inputs k rows.now)) []
+        (lane k (map L.words (take (i + 1) words.new)))
+        ≡ words_after B (map code_of (drop i codes.now)) (map decimal_value (row_at inputs k rows.now)) []
+        (lane k (map L.words (take i words.old))) }
 {
     let word = code_lanes::<B, L>(&codes[i], inputs, rows, &words[..i]);
     words[i] = word;
@@ -51,9 +56,12 @@ pub fn run_lanes<const B: u32, L: SideBySide<B>>(
     requires few { inputs ≤ 64 }
     requires sizes { length words.old ≡ length codes.now }
     requires lawful { AreCodes B inputs 0 (map code_of codes.now) }
-    requires runs { (k : ℕ) → k < 16 → IsSome (words_after B (map code_of codes.now) (map decimal_value (row_at inputs k rows.now)) [] []) }
+    requires runs { (k : ℕ) → k < 16 →
+        IsSome (words_after B (map code_of codes.now) (map decimal_value (row_at inputs k rows.now)) [] []) }
     ensures sizes { length words.new ≡ length codes.now }
-    ensures words { (k : ℕ) → k < 16 → words_after B (map code_of codes.now) (map decimal_value (row_at inputs k rows.now)) [] [] ≡ Some (lane k (map L.words words.new)) }
+    ensures words { (k : ℕ) → k < 16 →
+        words_after B (map code_of codes.now) (map decimal_value (row_at inputs k rows.now)) [] []
+        ≡ Some (lane k (map L.words words.new)) }
 {
     for i in 0..codes.len() {
         run_one::<B, L>(codes, i, inputs, rows, words);

@@ -43,9 +43,12 @@ fn step_words<const B: u32, L: SideBySide<B>>(
     requires states { program.now.states ≡ 0 }
     requires words { length words.old.items ≡ length program.now.codes }
     requires many { length rows.now ≡ 16 * program.now.inputs }
-    requires runs { (k : ℕ) → k < 16 → IsSome (words_of program.now (map decimal_value (row_at program.now.inputs k rows.now)) []) }
+    requires runs { (k : ℕ) → k < 16 →
+        IsSome (words_of program.now (map decimal_value (row_at program.now.inputs k rows.now)) []) }
     ensures sizes { length words.new.items ≡ length program.now.codes }
-    ensures words { (k : ℕ) → k < 16 → words_of program.now (map decimal_value (row_at program.now.inputs k rows.now)) [] ≡ Some (lane k (map L.words words.new.items)) }
+    ensures words { (k : ℕ) → k < 16 →
+        words_of program.now (map decimal_value (row_at program.now.inputs k rows.now)) []
+        ≡ Some (lane k (map L.words words.new.items)) }
 {
     run_lanes::<B, L>(
         program.codes.as_slice(),
@@ -66,9 +69,12 @@ pub fn step_lanes<const B: u32, L: SideBySide<B>>(
     requires states { program.now.states ≡ 0 }
     requires words { length registers.old ≡ length program.now.codes }
     requires many { length rows.now ≡ 16 * program.now.inputs }
-    requires runs { (k : ℕ) → k < 16 → IsSome (words_of program.now (map decimal_value (row_at program.now.inputs k rows.now)) []) }
+    requires runs { (k : ℕ) → k < 16 →
+        IsSome (words_of program.now (map decimal_value (row_at program.now.inputs k rows.now)) []) }
     ensures sizes { length registers.new ≡ length program.now.codes }
-    ensures words { (k : ℕ) → k < 16 → words_of program.now (map decimal_value (row_at program.now.inputs k rows.now)) [] ≡ Some (lane k registers.new) }
+    ensures words { (k : ℕ) → k < 16 →
+        words_of program.now (map decimal_value (row_at program.now.inputs k rows.now)) []
+        ≡ Some (lane k registers.new) }
 {
     step_words::<B, L>(program, &mut registers.words, rows);
 }

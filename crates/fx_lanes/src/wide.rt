@@ -1,7 +1,8 @@
 //! Sixteen words of any width side by side, and the operations of the machine on them.
 //!
-//! A `WideLanes<B>` can't hold anything but sixteen words of `B` bits. Sums, differences, opposites and copies are made of whole
-//! vectors. The trap: what lies on the way to such a word is kept modulo 2^64, so that nothing but a word may be read from it.
+//! A `WideLanes<B>` can't hold anything but sixteen words of `B` bits. Sums, differences, opposites and copies are made
+//! of whole vectors. The trap: what lies on the way to such a word is kept modulo 2^64, so that nothing but a word may
+//! be read from it.
 
 ghost use Rattle.fx_word.specs.Words.{IsWidth};
 

@@ -18,7 +18,8 @@ whole_leads text d read = record {
   stop = λ lt. absurd (omega arith);
 }
 
-pub piece_leads : (text piece rest : List ℕ) (d : Decimal) → cut_at 44 text ≡ Some (piece, rest) → Ok d ≡ decimal_of piece → IsLeading text d (length piece)
+pub piece_leads : (text piece rest : List ℕ) (d : Decimal) → cut_at 44 text ≡ Some (piece, rest) →
+    Ok d ≡ decimal_of piece → IsLeading text d (length piece)
 piece_leads text piece rest d cut read =
     let h = cut_at-parts 44 text piece rest cut in
     let at = position_or_len (λ b. eqb b 44) text in

@@ -15,7 +15,9 @@ abbrev plain : Sign → List ℕ → Option (List ℕ) → Numeral
 plain sign whole part = record { sign = sign; whole = whole; part = part; power = None }
 
 plain_is : (sign : Sign) (whole : List ℕ) (part : Option (List ℕ)) → is_number (whole ++ part_digits part) ≡ true
-    → decimal_of (sign_text sign ++ (whole ++ part_text part)) ≡ within_limits (is_minus sign) (trimmed (digits_value 10 (whole ++ part_digits part)) (length (part_digits part)))
+    → decimal_of (sign_text sign ++ (whole ++ part_text part))
+    ≡ within_limits (is_minus sign)
+    (trimmed (digits_value 10 (whole ++ part_digits part)) (length (part_digits part)))
 unfolding decimal_of
 plain_is sign whole part digits =
     let size = digits_value 10 (whole ++ part_digits part) in
@@ -25,7 +27,8 @@ plain_is sign whole part digits =
     ∙ ap (λ z. within_limits (is_minus sign) (fewest_places size z)) places
 
 -- the sign by where it ends
-signed_is : (text : List ℕ) (end : ℕ) (b : Bool) → eqb (get_or text 0 0) 45 ≡ b → (start : ℕ) → start ≡ sign_end text → start ≤ end
+signed_is : (text : List ℕ) (end : ℕ) (b : Bool) → eqb (get_or text 0 0) 45 ≡ b → (start : ℕ) → start ≡ sign_end text →
+    start ≤ end
     → (sign : Sign) × (is_minus sign ≡ nat_lt 0 start) × (take end text ≡ sign_text sign ++ slice_range text start end)
 signed_is text end true e start is le = let one : start ≡ 1 = is ∙ rw e refl in by text end e start one le
   where
@@ -37,21 +40,24 @@ signed_is text end true e start is le = let one : start ≡ 1 = is ∙ rw e refl
         let k : n ≡ suc n - 1 = omega arith in (
           minus,
           ap (nat_lt 0) (sym one),
-          ap (λ y. y ∷ take n xs) (eqb-true x 45 e) ∙ ap (λ m. 45 ∷ take m xs) k ∙ ap (λ s. 45 ∷ slice_range (x ∷ xs) s (suc n)) (sym one),
+          ap (λ y. y ∷ take n xs) (eqb-true x 45 e) ∙ ap (λ m. 45 ∷ take m xs) k
+              ∙ ap (λ s. 45 ∷ slice_range (x ∷ xs) s (suc n)) (sym one),
         )
 signed_is text end false e start is le =
     let none : start ≡ 0 = is ∙ rw e refl in
     let k : end ≡ end - 0 = omega arith in
     (unwritten, ap (nat_lt 0) (sym none), ap (λ m. take m text) k ∙ ap (λ s. slice_range text s end) (sym none))
 
-pub leads : (text : List ℕ) (start size places end : ℕ) (d : Decimal) → start ≡ sign_end text → IsUnsigned text start size places end → IsEnd text end
+pub leads : (text : List ℕ) (start size places end : ℕ) (d : Decimal) → start ≡ sign_end text →
+    IsUnsigned text start size places end → IsEnd text end
     → within_limits (nat_lt 0 start) (trimmed size places) ≡ Ok d → IsLeading text d end
 leads text start size places end d is u stop value =
     let s = signed_is text end (eqb (get_or text 0 0) 45) refl start is u.after in
     record {
       within = u.within;
       number = ap decimal_of (s.2 ∙ ap (λ l. sign_text s.0 ++ l) u.text_is) ∙ plain_is s.0 u.whole u.part u.digits
-          ∙ ap (λ b. within_limits b (trimmed (digits_value 10 (u.whole ++ part_digits u.part)) (length (part_digits u.part)))) s.1
+          ∙ ap (λ b. within_limits b
+          (trimmed (digits_value 10 (u.whole ++ part_digits u.part)) (length (part_digits u.part)))) s.1
           ∙ ap (λ n. within_limits (nat_lt 0 start) (trimmed n (length (part_digits u.part)))) (sym u.value)
           ∙ ap (λ n. within_limits (nat_lt 0 start) (trimmed size n)) (sym u.places_are) ∙ value;
       stop = stop;

@@ -41,7 +41,8 @@ fn plain_decimal(text: &[u8]) -> Option<(Decimal, usize)>
     Some((value, number.end))
 }
 
-// The decimal of any number, cut at its comma. Out of line, so that the quick way is short enough to stand where it is called.
+// The decimal of any number, cut at its comma. Out of line, so that the quick way is short enough to stand where it is
+// called.
 #[inline(never)]
 fn any_decimal(text: &[u8]) -> Option<(Decimal, usize)>
     ensures { IfSome result (λ r. IsLeading text.now r.0 r.1) }

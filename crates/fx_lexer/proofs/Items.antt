@@ -19,7 +19,8 @@ use Rattle.fx_lexer.specs.Characters.{is_line_feed}
 use Rattle.fx_lexer.specs.Tokens.{signs}
 use Rattle.fx_lexer.specs.Numbers.{digits_at, part_len, mark_len, power_len, number_len}
 
--- a cut behind n bytes, not at the front; the byte before it or the byte behind it is ASCII, so it is between characters
+-- a cut behind n bytes, not at the front; the byte before it or the byte behind it is ASCII, so it is between
+-- characters
 pub record IsItem (text : List ℕ) (n : ℕ) : Type 0 where
   pub some : 0 < n
   pub within : n ≤ length text
@@ -49,8 +50,15 @@ there (x ∷ text) zero lt = omega arith
 there (x ∷ text) (suc k) lt = let h = there text k lt in omega arith
 
 -- a run of ASCII bytes is cut between characters
-pub run_is : (p : ℕ → Bool) (ascii : (c : ℕ) → p c ≡ true → c < 128) (xs : List ℕ) → 0 < length xs → p (get_or xs 0 0) ≡ true → IsItem xs (prefix_len p xs)
-run_is p ascii xs lt e = let b = begins p xs lt e in record { some = b; within = prefix_len-le-length p xs; border = inl (ascii _ (prefix_len_passes p xs (prefix_len p xs - 1) 0 (omega arith))) }
+pub run_is : (p : ℕ → Bool) (ascii : (c : ℕ) → p c ≡ true → c < 128) (xs : List ℕ) → 0 < length xs →
+    p (get_or xs 0 0) ≡ true → IsItem xs (prefix_len p xs)
+run_is p ascii xs lt e =
+    let b = begins p xs lt e in
+    record {
+      some = b;
+      within = prefix_len-le-length p xs;
+      border = inl (ascii _ (prefix_len_passes p xs (prefix_len p xs - 1) 0 (omega arith)));
+    }
 
 -- so is a word
 pub word_is : (xs : List ℕ) → is_letter (get_or xs 0 0) ≡ true → IsItem xs (prefix_len is_word_byte xs)
@@ -66,7 +74,9 @@ line_is (x ∷ xs) e =
     record {
       some = some;
       within = prefix_len-le-length (λ c. not (is_line_feed c)) (x ∷ xs);
-      border = inr (λ lt. let h : is_line_feed (get_or (x ∷ xs) (position_or_len is_line_feed (x ∷ xs)) 0) ≡ true = passes_at_first is_line_feed (x ∷ xs) 0 lt in feeds _ h);
+      border =
+          inr (λ lt. let h : is_line_feed (get_or (x ∷ xs) (position_or_len is_line_feed (x ∷ xs)) 0)
+          ≡ true = passes_at_first is_line_feed (x ∷ xs) 0 lt in feeds _ h);
     }
   where
     feeds : (c : ℕ) → is_line_feed c ≡ true → c < 128
@@ -80,7 +90,8 @@ unfolding digits_at
 digits_end i text lt =
     let n = prefix_len is_ascii_digit (drop i text) in
     let le : n ≤ length (drop i text) = prefix_len-le-length is_ascii_digit (drop i text) in
-    let p : get_or (drop i text) (n - 1) 0 < 128 = digit_ascii _ (prefix_len_passes is_ascii_digit (drop i text) (n - 1) 0 (omega arith)) in
+    let p : get_or (drop i text) (n - 1) 0 < 128 =
+    digit_ascii _ (prefix_len_passes is_ascii_digit (drop i text) (n - 1) 0 (omega arith)) in
     let q : get_or text (i + (n - 1)) 0 < 128 = subst (λ c. c < 128) (get_or-drop i text (n - 1) 0) p in
     let e : i + (n - 1) ≡ i + n - 1 = omega arith in
     record {
@@ -90,7 +101,8 @@ digits_end i text lt =
     }
 
 -- an optional part of a number is empty or ends between characters
-pick : (text : List ℕ) (i m d : ℕ) (b c : Bool) → eqb d 0 ≡ c → (0 < d → IsItem text ((i + m) + d)) → (cond b (cond c 0 (m + d)) 0 ≡ 0) ⊎ IsItem text (i + cond b (cond c 0 (m + d)) 0)
+pick : (text : List ℕ) (i m d : ℕ) (b c : Bool) → eqb d 0 ≡ c → (0 < d → IsItem text ((i + m) + d)) →
+    (cond b (cond c 0 (m + d)) 0 ≡ 0) ⊎ IsItem text (i + cond b (cond c 0 (m + d)) 0)
 pick text i m d false c e h = inl refl
 pick text i m d true true e h = inl refl
 pick text i m d true false e h = inr (subst (IsItem text) (add_assoc i m d) (h (search (rules, tests))))
@@ -98,12 +110,16 @@ pick text i m d true false e h = inr (subst (IsItem text) (add_assoc i m d) (h (
 -- the digits behind a point
 part_end : (i : ℕ) (text : List ℕ) → (part_len i text ≡ 0) ⊎ IsItem text (i + part_len i text)
 unfolding part_len
-part_end i text = pick text i 1 (digits_at (i + 1) text) (eqb (get_or text i 0) 46) (eqb (digits_at (i + 1) text) 0) refl (digits_end (i + 1) text)
+part_end i text =
+    pick text i 1 (digits_at (i + 1) text) (eqb (get_or text i 0) 46) (eqb (digits_at (i + 1) text) 0) refl
+    (digits_end (i + 1) text)
 
 -- the power of ten
 power_end : (i : ℕ) (text : List ℕ) → (power_len i text ≡ 0) ⊎ IsItem text (i + power_len i text)
 unfolding power_len
-power_end i text = pick text i (mark_len i text) (digits_at (i + mark_len i text) text) (is_e (get_or text i 0)) (eqb (digits_at (i + mark_len i text) text) 0) refl (digits_end (i + mark_len i text) text)
+power_end i text =
+    pick text i (mark_len i text) (digits_at (i + mark_len i text) text) (is_e (get_or text i 0))
+    (eqb (digits_at (i + mark_len i text) text) 0) refl (digits_end (i + mark_len i text) text)
 
 -- a part behind a part
 further : (text : List ℕ) (i n : ℕ) → IsItem text i → (n ≡ 0) ⊎ IsItem text (i + n) → IsItem text (i + n)
@@ -118,23 +134,28 @@ number_is (x ∷ text) e =
     let whole = digits_at 0 (x ∷ text) in
     let w : IsItem (x ∷ text) whole = run_is is_ascii_digit digit_ascii (x ∷ text) (omega arith) e in
     let pointed = further (x ∷ text) whole (part_len whole (x ∷ text)) w (part_end whole (x ∷ text)) in
-    further (x ∷ text) (whole + part_len whole (x ∷ text)) (power_len (whole + part_len whole (x ∷ text)) (x ∷ text)) pointed (power_end (whole + part_len whole (x ∷ text)) (x ∷ text))
+    further (x ∷ text) (whole + part_len whole (x ∷ text))
+    (power_len (whole + part_len whole (x ∷ text)) (x ∷ text)) pointed
+    (power_end (whole + part_len whole (x ∷ text)) (x ∷ text))
 
 -- ---- signs
 
 -- what is found passes its test, and what all pass
-found_passes : (p q : List ℕ → Bool) (xs : List (List ℕ)) (x : List ℕ) → list_all q xs ≡ true → find p xs ≡ Some x → (p x ≡ true) × (q x ≡ true)
+found_passes : (p q : List ℕ → Bool) (xs : List (List ℕ)) (x : List ℕ) → list_all q xs ≡ true → find p xs ≡ Some x →
+    (p x ≡ true) × (q x ≡ true)
 found_passes p q [] x all e = absurd cc
 found_passes p q (y ∷ ys) x all e = by (p y) (q y) refl refl all e (found_passes p q ys x)
   where
     by : (b c : Bool) → p y ≡ b → q y ≡ c → (c && list_all q ys) ≡ true → cond b (Some y) (find p ys) ≡ Some x
         → (list_all q ys ≡ true → find p ys ≡ Some x → (p x ≡ true) × (q x ≡ true)) → (p x ≡ true) × (q x ≡ true)
     by b false g h all e more = absurd cc
-    by true true g h all e more = let same : y ≡ x = cc in (subst (λ z. p z ≡ true) same g, subst (λ z. q z ≡ true) same h)
+    by true true g h all e more =
+        let same : y ≡ x = cc in (subst (λ z. p z ≡ true) same g, subst (λ z. q z ≡ true) same h)
     by false true g h all e more = more all e
 
 -- a search in a mapped list
-find-map : {X Y : Type 0} (p : Y → Bool) (f : X → Y) (xs : List X) → find p (map f xs) ≡ option_map f (find (λ x. p (f x)) xs)
+find-map : {X Y : Type 0} (p : Y → Bool) (f : X → Y) (xs : List X) →
+    find p (map f xs) ≡ option_map f (find (λ x. p (f x)) xs)
 find-map p f [] = refl
 find-map p f (x ∷ xs) = by (p (f x)) (find-map p f xs)
   where
@@ -144,11 +165,14 @@ find-map p f (x ∷ xs) = by (p (f x)) (find-map p f xs)
     by false same = same
 
 -- what `find` gave of references to signs
-pub found_of : (text : List ℕ) (xs : List (Bor (List ℕ))) (from : List (Bor (List ℕ))) → from ≡ xs → (r : Option (Bor (Bor (List ℕ)))) → option_map (λ s. s.now) r ≡ find (λ s. starts_with eqb text s.now) xs
+pub found_of : (text : List ℕ) (xs : List (Bor (List ℕ))) (from : List (Bor (List ℕ))) → from ≡ xs →
+    (r : Option (Bor (Bor (List ℕ)))) → option_map (λ s. s.now) r ≡ find (λ s. starts_with eqb text s.now) xs
     → find (λ s. starts_with eqb text s) (map (λ s. s.now) xs) ≡ option_map (λ s. s.now.now) r
-found_of text xs from same r e = find-map (λ s. starts_with eqb text s) (λ (s : Bor (List ℕ)). s.now) xs ∙ ap (option_map (λ (s : Bor (List ℕ)). s.now)) (sym e) ∙ twice r
+found_of text xs from same r e = find-map (λ s. starts_with eqb text s) (λ (s : Bor (List ℕ)). s.now) xs
+    ∙ ap (option_map (λ (s : Bor (List ℕ)). s.now)) (sym e) ∙ twice r
   where
-    twice : (r : Option (Bor (Bor (List ℕ)))) → option_map (λ s. s.now) (option_map (λ s. s.now) r) ≡ option_map (λ s. s.now.now) r
+    twice : (r : Option (Bor (Bor (List ℕ)))) →
+        option_map (λ s. s.now) (option_map (λ s. s.now) r) ≡ option_map (λ s. s.now.now) r
     twice None = refl
     twice (Some s) = refl
 
@@ -161,9 +185,11 @@ sign_begins : (text sign : List ℕ) → starts_with eqb text sign ≡ true → 
 sign_begins text sign e = (starts_is Decides-eqb text sign (starts_with eqb text sign) refl).0 e
 
 -- the text begins with the sign that is found
-pub sign_at : (text sign : List ℕ) → find (λ s. starts_with eqb text s) signs ≡ Some sign → (take (length sign) text ≡ sign) × IsTrue (list_any (λ s. bytes_eq s sign) signs)
+pub sign_at : (text sign : List ℕ) → find (λ s. starts_with eqb text s) signs ≡ Some sign →
+    (take (length sign) text ≡ sign) × IsTrue (list_any (λ s. bytes_eq s sign) signs)
 sign_at text sign e =
-    let found = found_passes (λ s. starts_with eqb text s) (λ x. list_any (λ s. bytes_eq s x) signs) signs sign refl e in
+    let found =
+    found_passes (λ s. starts_with eqb text s) (λ x. list_any (λ s. bytes_eq s x) signs) signs sign refl e in
     (ap (take (length sign)) (sign_begins text sign found.0) ∙ take-append_seam sign (drop (length sign) text), found.1)
 
 -- a sign is cut between characters
@@ -174,7 +200,9 @@ sign_is text sign e =
     let begins : text ≡ sign ++ drop (length sign) text = sign_begins text sign found.0 in
     let some : 0 < length sign = search (rules, tests) in
     let ascii : get_or sign (length sign - 1) 0 < 128 = search (rules, tests) in
-    let at : get_or text (length sign - 1) 0 ≡ get_or sign (length sign - 1) 0 = ap (λ t. get_or t (length sign - 1) 0) begins ∙ get_or_append_left sign (drop (length sign) text) 0 (length sign - 1) (omega arith) in
+    let at : get_or text (length sign - 1) 0 ≡ get_or sign (length sign - 1) 0 =
+    ap (λ t. get_or t (length sign - 1) 0) begins
+    ∙ get_or_append_left sign (drop (length sign) text) 0 (length sign - 1) (omega arith) in
     record {
       some = some;
       within = omega (arith, ap length begins, length-append sign (drop (length sign) text));
@@ -194,5 +222,7 @@ pub border_of : (text : List ℕ) (n : ℕ) → IsUtf8 text → IsItem text n �
 border_of text n u i = by i.border
   where
     by : (get_or text (n - 1) 0 < 128) ⊎ (n < length text → get_or text n 0 < 128) → IsCharBoundary text n
-    by (inl a) = let e : n - 1 + 1 ≡ n = omega (arith, i.some) in subst (IsCharBoundary text) e (IsCharBoundary-after_ascii text (n - 1) u (omega (arith, i.some, i.within)) a)
+    by (inl a) =
+        let e : n - 1 + 1 ≡ n = omega (arith, i.some) in
+        subst (IsCharBoundary text) e (IsCharBoundary-after_ascii text (n - 1) u (omega (arith, i.some, i.within)) a)
     by (inr b) = (i.within, λ lt high. absurd (let h = b lt in omega arith))

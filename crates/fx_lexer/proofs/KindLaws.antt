@@ -22,18 +22,21 @@ pub all_first : (p : ℕ → Bool) (xs : List ℕ) → list_all p (take (prefix_
 all_first p [] = refl
 all_first p (x ∷ xs) = by (p x) refl (all_first p xs)
   where
-    by : (b : Bool) → p x ≡ b → list_all p (take (prefix_len p xs) xs) ≡ true → list_all p (take (cond b (1 + prefix_len p xs) 0) (x ∷ xs)) ≡ true
+    by : (b : Bool) → p x ≡ b → list_all p (take (prefix_len p xs) xs) ≡ true →
+        list_all p (take (cond b (1 + prefix_len p xs) 0) (x ∷ xs)) ≡ true
     by true e more = let one : 1 + prefix_len p xs ≡ suc (prefix_len p xs) = omega arith in rw (one, e) more
     by false e more = refl
 
 -- the letter of a word and the rest of it
-word_first : (c : ℕ) (cs : List ℕ) → is_letter c ≡ true → take (prefix_len is_word_byte (c ∷ cs)) (c ∷ cs) ≡ c ∷ take (prefix_len is_word_byte cs) cs
+word_first : (c : ℕ) (cs : List ℕ) → is_letter c ≡ true →
+    take (prefix_len is_word_byte (c ∷ cs)) (c ∷ cs) ≡ c ∷ take (prefix_len is_word_byte cs) cs
 word_first c cs e =
     let one : 1 + prefix_len is_word_byte cs ≡ suc (prefix_len is_word_byte cs) = omega arith in
     rw (letter_word c e, one) refl
 
 -- a word is a name or reserved
-word_kind : (text : List ℕ) → is_letter (get_or text 0 0) ≡ true → (b : Bool) → is_reserved (take (prefix_len is_word_byte text) text) ≡ b
+word_kind : (text : List ℕ) → is_letter (get_or text 0 0) ≡ true → (b : Bool) →
+    is_reserved (take (prefix_len is_word_byte text) text) ≡ b
     → IsOfKind (cond b Word Name) (take (prefix_len is_word_byte text) text)
 word_kind [] e b r = absurd cc
 word_kind (c ∷ cs) e true r = r
@@ -45,7 +48,8 @@ word_kind (c ∷ cs) e false r =
     subst IsName (sym first) name
 
 module _ (text : List ℕ) (item : Item) (kind : TokenKind) (k : item.kind ≡ Some kind) where
-  is : (found : Item) (other : TokenKind) → found.kind ≡ Some other → IsOfKind other (take found.len text) → found ≡ item → IsOfKind kind (take item.len text)
+  is : (found : Item) (other : TokenKind) → found.kind ≡ Some other → IsOfKind other (take found.len text) →
+      found ≡ item → IsOfKind kind (take item.len text)
   is found other j h same =
       let l : Some other ≡ Some kind = sym j ∙ ap (λ x. x.kind) same ∙ k in
       let other_is : other ≡ kind = cc in
@@ -54,7 +58,8 @@ module _ (text : List ℕ) (item : Item) (kind : TokenKind) (k : item.kind ≡ S
   no_gap : (n : ℕ) → gap n ≡ item → IsOfKind kind (take item.len text)
   no_gap n same = absurd (let l : None ≡ Some kind = ap (λ x. x.kind) same ∙ k in cc)
 
-  number_kind : (a b : Bool) → is_err (decimal_of (take (number_len text) text)) ≡ a → cond a (Err NumberTooLong) (cond b (Err BadNumber) (Ok (token_item Number (number_len text)))) ≡ Ok item
+  number_kind : (a b : Bool) → is_err (decimal_of (take (number_len text) text)) ≡ a →
+      cond a (Err NumberTooLong) (cond b (Err BadNumber) (Ok (token_item Number (number_len text)))) ≡ Ok item
       → IsOfKind kind (take item.len text)
   number_kind true b d e = absurd cc
   number_kind false true d e = absurd cc
@@ -64,7 +69,8 @@ module _ (text : List ℕ) (item : Item) (kind : TokenKind) (k : item.kind ≡ S
   comment_kind (Some n) e = no_gap n cc
   comment_kind None e = absurd cc
 
-  sign_kind : (found : Option (List ℕ)) → find (λ s. starts_with (λ a b. eqb a b) text s) signs ≡ found → found_sign found ≡ Ok item → IsOfKind kind (take item.len text)
+  sign_kind : (found : Option (List ℕ)) → find (λ s. starts_with (λ a b. eqb a b) text s) signs ≡ found →
+      found_sign found ≡ Ok item → IsOfKind kind (take item.len text)
   sign_kind (Some s) f e =
       let (taken, is_sign) = sign_at text s f in
       is (token_item Sign (length s)) Sign refl (rw taken is_sign) cc
@@ -88,7 +94,9 @@ module _ (text : List ℕ) (kind : SourceKind) where
   same_kind : (found : SourceKind) → is_lexical found ≡ true → found ≡ kind → IsTrue (is_lexical kind)
   same_kind found h same = subst (λ x. is_lexical x ≡ true) same h
 
-  number_fault : (a b : Bool) (n : ℕ) → cond a (Err NumberTooLong) (cond b (Err BadNumber) (Ok (token_item Number n))) ≡ Err kind → IsTrue (is_lexical kind)
+  number_fault : (a b : Bool) (n : ℕ) →
+      cond a (Err NumberTooLong) (cond b (Err BadNumber) (Ok (token_item Number n))) ≡ Err kind →
+      IsTrue (is_lexical kind)
   number_fault true b n e = same_kind NumberTooLong refl cc
   number_fault false true n e = same_kind BadNumber refl cc
   number_fault false false n e = absurd cc

@@ -20,7 +20,8 @@ pub record IsOn (front : List Lexeme) (at : ℕ) (fresh : Bool) (text : List ℕ
   pub same : with_front front (tokens_from items at fresh text) ≡ whole
 
 -- a token moves over to the front
-regroup : (front : List Lexeme) (t : Lexeme) (r : Lexemes) → with_front front (before t r) ≡ with_front (front ++ t ∷ []) r
+regroup : (front : List Lexeme) (t : Lexeme) (r : Lexemes) →
+    with_front front (before t r) ≡ with_front (front ++ t ∷ []) r
 regroup front t (Ok ts) = ap (λ (us : List Lexeme). Ok us) (sym (append_assoc front (t ∷ []) ts))
 regroup front t (Err e) = refl
 
@@ -32,29 +33,40 @@ no_front (Err e) = refl
 -- where the loop begins
 pub at_front : (text : List ℕ) → IsOn [] 0 true text (tokens_of text)
 unfolding tokens_of
-at_front text = record { items = length text; enough = omega arith; same = no_front (tokens_from (length text) 0 true text) }
+at_front text =
+    record { items = length text; enough = omega arith; same = no_front (tokens_from (length text) 0 true text) }
 
 module _ (front : List Lexeme) (at : ℕ) (fresh : Bool) (whole : Lexemes) where
   -- a token at the front
-  pub takes : (text : List ℕ) (item : Item) (kind : TokenKind) → 0 < length text → first_item text ≡ Ok item → item.kind ≡ Some kind → 0 < item.len
+  pub takes : (text : List ℕ) (item : Item) (kind : TokenKind) → 0 < length text → first_item text ≡ Ok item →
+      item.kind ≡ Some kind → 0 < item.len
       → IsOn front at fresh text whole
-      → IsOn (front ++ record { kind = kind; text = take item.len text; at = at; fresh = fresh } ∷ []) (at + item.len) false (drop item.len text) whole
+      → IsOn (front ++ record { kind = kind; text = take item.len text; at = at; fresh = fresh } ∷ [])
+      (at + item.len) false (drop item.len text) whole
   unfolding tokens_from
   takes [] item kind some e k lt h = absurd (omega arith)
   takes (c ∷ cs) item kind some e k lt h = by h.items h.enough h.same
     where
       by : (items : ℕ) → length (c ∷ cs) ≤ items → with_front front (tokens_from items at fresh (c ∷ cs)) ≡ whole
-          → IsOn (front ++ record { kind = kind; text = take item.len (c ∷ cs); at = at; fresh = fresh } ∷ []) (at + item.len) false (drop item.len (c ∷ cs)) whole
+          → IsOn (front ++ record { kind = kind; text = take item.len (c ∷ cs); at = at; fresh = fresh } ∷ [])
+          (at + item.len) false (drop item.len (c ∷ cs)) whole
       by zero le same = absurd (omega arith)
       by (suc items) le same =
           let after = tokens_from items (at + item.len) false (drop item.len (c ∷ cs)) in
           let t : Lexeme = record { kind = kind; text = take item.len (c ∷ cs); at = at; fresh = fresh } in
-          let one : with_front front (tokens_from (suc items) at fresh (c ∷ cs)) ≡ with_front front (before t after) = rw (e, k) refl in
-          record { items = items; enough = omega (arith, length-drop item.len (c ∷ cs)); same = sym (regroup front t after) ∙ sym one ∙ same }
+          let one : with_front front (tokens_from (suc items) at fresh (c ∷ cs)) ≡ with_front front (before t after) =
+          rw (e, k) refl in
+          record {
+            items = items;
+            enough = omega (arith, length-drop item.len (c ∷ cs));
+            same = sym (regroup front t after) ∙ sym one ∙ same;
+          }
 
   -- a gap at the front
-  pub skips : (text : List ℕ) (item : Item) → 0 < length text → first_item text ≡ Ok item → item.kind ≡ None → 0 < item.len
-      → IsOn front at fresh text whole → IsOn front (at + item.len) (fresh || has_line_feed (take item.len text)) (drop item.len text) whole
+  pub skips : (text : List ℕ) (item : Item) → 0 < length text → first_item text ≡ Ok item → item.kind ≡ None →
+      0 < item.len
+      → IsOn front at fresh text whole →
+      IsOn front (at + item.len) (fresh || has_line_feed (take item.len text)) (drop item.len text) whole
   unfolding tokens_from
   skips [] item some e k lt h = absurd (omega arith)
   skips (c ∷ cs) item some e k lt h = by h.items h.enough h.same
@@ -63,12 +75,15 @@ module _ (front : List Lexeme) (at : ℕ) (fresh : Bool) (whole : Lexemes) where
           → IsOn front (at + item.len) (fresh || has_line_feed (take item.len (c ∷ cs))) (drop item.len (c ∷ cs)) whole
       by zero le same = absurd (omega arith)
       by (suc items) le same =
-          let after = tokens_from items (at + item.len) (fresh || has_line_feed (take item.len (c ∷ cs))) (drop item.len (c ∷ cs)) in
-          let one : with_front front (tokens_from (suc items) at fresh (c ∷ cs)) ≡ with_front front after = rw (e, k) refl in
+          let after = tokens_from items (at + item.len) (fresh ||
+          has_line_feed (take item.len (c ∷ cs))) (drop item.len (c ∷ cs)) in
+          let one : with_front front (tokens_from (suc items) at fresh (c ∷ cs)) ≡ with_front front after =
+          rw (e, k) refl in
           record { items = items; enough = omega (arith, length-drop item.len (c ∷ cs)); same = sym one ∙ same }
 
   -- a fault at the front
-  pub fails : (text : List ℕ) (kind : SourceKind) → 0 < length text → first_item text ≡ Err kind → IsOn front at fresh text whole
+  pub fails : (text : List ℕ) (kind : SourceKind) → 0 < length text → first_item text ≡ Err kind →
+      IsOn front at fresh text whole
       → whole ≡ Err (record { at = place_of kind at (at + length text); kind = kind })
   unfolding tokens_from
   fails [] kind some e h = absurd (omega arith)
@@ -80,7 +95,8 @@ module _ (front : List Lexeme) (at : ℕ) (fresh : Bool) (whole : Lexemes) where
       by (suc items) le same = sym same ∙ rw e refl
 
 -- where it ends
-pub is_over : (front : List Lexeme) (at : ℕ) (fresh : Bool) (text : List ℕ) (whole : Lexemes) → length text ≡ 0 → IsOn front at fresh text whole → whole ≡ Ok front
+pub is_over : (front : List Lexeme) (at : ℕ) (fresh : Bool) (text : List ℕ) (whole : Lexemes) → length text ≡ 0 →
+    IsOn front at fresh text whole → whole ≡ Ok front
 unfolding tokens_from
 is_over front at fresh (c ∷ cs) whole e h = absurd (omega arith)
 is_over front at fresh [] whole e h = by h.items h.same
@@ -90,6 +106,7 @@ is_over front at fresh [] whole e h = by h.items h.same
     by (suc items) same = sym same ∙ ap (λ (ts : List Lexeme). Ok ts) (append-nil front)
 
 -- equal states are on the same way
-pub moves : {front front' : List Lexeme} {at : ℕ} {fresh fresh' : Bool} {text : List ℕ} {whole : Lexemes} → front' ≡ front → fresh' ≡ fresh
+pub moves : {front front' : List Lexeme} {at : ℕ} {fresh fresh' : Bool} {text : List ℕ} {whole : Lexemes} →
+    front' ≡ front → fresh' ≡ fresh
     → IsOn front at fresh text whole → IsOn front' at fresh' text whole
 moves {at = at} {text = text} {whole = whole} p q h = rw (p, q) h

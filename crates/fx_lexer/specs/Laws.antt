@@ -44,4 +44,5 @@ is_lexical _ = false
 
 -- a fault is lexical, and its place is in the text or at its end
 abbrev pub FaultLaw : Type 0
-FaultLaw = (text : List ℕ) (fault : SourceFault) → tokens_of text ≡ Err fault → IsTrue (is_lexical fault.kind) × (fault.at ≤ length text)
+FaultLaw = (text : List ℕ) (fault : SourceFault) → tokens_of text ≡ Err fault →
+    IsTrue (is_lexical fault.kind) × (fault.at ≤ length text)

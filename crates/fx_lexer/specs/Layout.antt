@@ -11,8 +11,10 @@ is_mark a b = ((a == 47) && (b == 42)) || ((a == 42) && (b == 47))
 -- what may stand in a comment that nests: bytes with which no mark begins, and whole comments
 pub data IsInside : List ℕ → Type 0 where
   nothing : IsInside []
-  byte : (c : ℕ) (rest : List ℕ) → is_mark c (slice_index (rest ++ codes "*/") 0) ≡ false → IsInside rest → IsInside (c ∷ rest)
-  inner : (inside rest : List ℕ) → IsInside inside → IsInside rest → IsInside (codes "/*" ++ (inside ++ (codes "*/" ++ rest)))
+  byte : (c : ℕ) (rest : List ℕ) → is_mark c (slice_index (rest ++ codes "*/") 0) ≡ false → IsInside rest →
+      IsInside (c ∷ rest)
+  inner : (inside rest : List ℕ) → IsInside inside → IsInside rest →
+      IsInside (codes "/*" ++ (inside ++ (codes "*/" ++ rest)))
 
 -- where a comment to the end of the line ends: before a line feed, or at the end of the text
 abbrev pub ends_line : List ℕ → Bool
@@ -22,11 +24,12 @@ ends_line (c ∷ cs) = is_line_feed c
 -- what may stand between tokens, and the text behind it
 pub data IsGap : List ℕ → List ℕ → Type 0 where
   blank : (c : ℕ) (rest : List ℕ) → is_blank c ≡ true → IsGap (c ∷ []) rest
-  line : (inside rest : List ℕ) → has_line_feed inside ≡ false → ends_line rest ≡ true → IsGap (codes "//" ++ inside) rest
+  line : (inside rest : List ℕ) → has_line_feed inside ≡ false → ends_line rest ≡ true →
+      IsGap (codes "//" ++ inside) rest
   nested : (inside rest : List ℕ) → IsInside inside → IsGap (codes "/*" ++ (inside ++ codes "*/")) rest
 
--- A text from a place on, and its tokens: gaps and tokens in any order. A token is fresh where a line feed stands in a gap
--- before it and behind the token before, or at the front.
+-- A text from a place on, and its tokens: gaps and tokens in any order. A token is fresh where a line feed stands in a
+-- gap before it and behind the token before, or at the front.
 pub data IsLaidOut : ℕ → Bool → List ℕ → List Lexeme → Type 0 where
   over : (at : ℕ) (fresh : Bool) → IsLaidOut at fresh [] []
   gap : (at : ℕ) (fresh : Bool) (front rest : List ℕ) (ts : List Lexeme) → IsGap front rest

@@ -21,9 +21,11 @@ mark_len i text = if (slice_index text (i + 1) == 43) || (slice_index text (i + 
 -- the power of ten at a place; 0 where its letter or its digits are missing
 unfoldable pub power_len : ℕ → List ℕ → ℕ
 power_len i text = if is_e (slice_index text i)
-    then (if digits_at (i + mark_len i text) text == 0 then 0 else mark_len i text + digits_at (i + mark_len i text) text)
+    then (if digits_at (i + mark_len i text) text == 0 then 0
+    else mark_len i text + digits_at (i + mark_len i text) text)
     else 0
 
 -- the number at the front
 unfoldable pub number_len : List ℕ → ℕ
-number_len text = let mantissa = digits_at 0 text + part_len (digits_at 0 text) text in mantissa + power_len mantissa text
+number_len text =
+    let mantissa = digits_at 0 text + part_len (digits_at 0 text) text in mantissa + power_len mantissa text

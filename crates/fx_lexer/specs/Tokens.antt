@@ -102,14 +102,16 @@ abbrev pub next : ℕ → Bool → List ℕ → Result Item SourceKind → (ℕ 
 next at fresh text (Err kind) rest = Err (record { at = place_of kind at (at + length text); kind = kind })
 next at fresh text (Ok item) rest = elim item.kind [
   | None ↦ rest (at + item.len) (fresh || has_line_feed (take item.len text)) (drop item.len text)
-  | Some kind ↦ before (record { kind = kind; text = take item.len text; at = at; fresh = fresh }) (rest (at + item.len) false (drop item.len text))
+  | Some kind ↦ before (record { kind = kind; text = take item.len text; at = at; fresh = fresh })
+      (rest (at + item.len) false (drop item.len text))
 ]
 
 -- the tokens from a place on, in at most so many items
 unfoldable pub tokens_from : ℕ → ℕ → Bool → List ℕ → Lexemes
 tokens_from zero at fresh text = Ok []
 tokens_from (suc items) at fresh [] = Ok []
-tokens_from (suc items) at fresh (c ∷ cs) = next at fresh (c ∷ cs) (first_item (c ∷ cs)) (λ at fresh rest. tokens_from items at fresh rest)
+tokens_from (suc items) at fresh (c ∷ cs) =
+    next at fresh (c ∷ cs) (first_item (c ∷ cs)) (λ at fresh rest. tokens_from items at fresh rest)
 
 -- the tokens of a text, or its first lexical fault; an item has a byte at least
 unfoldable pub tokens_of : List ℕ → Lexemes

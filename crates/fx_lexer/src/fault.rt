@@ -1,7 +1,7 @@
 //! What is wrong with a source text, and where.
 //!
-//! Here stand the kinds of the lexer and of the parser, since a user sees one list of them. The trap: want of memory may
-//! come at any byte and is no fault of the text, so it has the place 0.
+//! Here stand the kinds of the lexer and of the parser, since a user sees one list of them. The trap: want of memory
+//! may come at any byte and is no fault of the text, so it has the place 0.
 
 ghost use Rattle.std.specs.Prelude.{◌≡◌};
 ghost use Rattle.fx_lexer.specs.Faults.{source_memory};
@@ -10,7 +10,8 @@ use std::alloc::{AllocError, AllocFailed};
 use std::error::Error;
 use std::fmt;
 
-/// What is wrong with a source text. Where one token completes two faults, the lower row of the grammar's table decides.
+/// What is wrong with a source text. Where one token completes two faults, the lower row of the grammar's table
+/// decides.
 #[derive(Clone, Copy, Debug, PartialEq, Eq)]
 pub enum SourceKind {
     /// The bytes aren't UTF-8. The place is the first byte of the first bad sequence.

@@ -5,9 +5,9 @@
 ghost use Rattle.fx_lexer.specs.Layout.{LayoutLaw};
 ghost use Rattle.fx_lexer.specs.Laws.{FaultLaw, PlacesLaw};
 
-/// A text has tokens exactly where it consists of gaps and tokens in turn: of blanks, comments to the end of the line and
-/// comments that nest by their grammar, and of the longest tokens. A token is fresh exactly where no token stands before
-/// it, or a line feed stands between it and the token before.
+/// A text has tokens exactly where it consists of gaps and tokens in turn: of blanks, comments to the end of the line
+/// and comments that nest by their grammar, and of the longest tokens. A token is fresh exactly where no token stands
+/// before it, or a line feed stands between it and the token before.
 pub fn layout_law()
     ensures { LayoutLaw }
 {}

@@ -1,7 +1,7 @@
 //! Signs: the longest that stands at the front.
 //!
-//! The list is tried in its order. The trap: a longer sign has to stand before those that it begins with, so that `<=` is
-//! never `<` and then `=`; `+/` is two signs, and a lone `&` is none.
+//! The list is tried in its order. The trap: a longer sign has to stand before those that it begins with, so that `<=`
+//! is never `<` and then `=`; `+/` is two signs, and a lone `&` is none.
 
 ghost use Rattle.std.specs.Prelude.{◌≡◌};
 ghost use Rattle.fx_lexer.specs.Tokens.{sign_item};

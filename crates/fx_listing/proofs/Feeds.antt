@@ -7,32 +7,42 @@ use Rattle.memchr.specs.Find.{IsLastByte, is_byte}
 use Rattle.fx_listing.specs.LastLine.{IsLastLine}
 
 -- the bytes before a line feed, and those behind it
-at-feed : (bytes : List ℕ) (end : ℕ) → end < length bytes → is_byte 10 (get_or bytes end 0) ≡ true → bytes ≡ take end bytes ++ 10 ∷ drop (suc end) bytes
+at-feed : (bytes : List ℕ) (end : ℕ) → end < length bytes → is_byte 10 (get_or bytes end 0) ≡ true →
+    bytes ≡ take end bytes ++ 10 ∷ drop (suc end) bytes
 at-feed bytes end within feed =
     let ten : get_or bytes end 0 ≡ 10 = grind (arith, common_steps) in
-    sym (take-append-drop end bytes) ∙ ap (λ t. take end bytes ++ t) (drop-cons bytes end 0 within ∙ ap (λ x. x ∷ drop (suc end) bytes) ten)
+    sym (take-append-drop end bytes)
+    ∙ ap (λ t. take end bytes ++ t) (drop-cons bytes end 0 within ∙ ap (λ x. x ∷ drop (suc end) bytes) ten)
 
 -- behind the last feed of the lines stands none
-behind : (lines : List ℕ) (before : ℕ) → IsLastByte (is_byte 10) lines (Some before) → (k : ℕ) → k < length (drop (suc before) lines) → get_or (drop (suc before) lines) k 10 ≡ 10 → ⊥
+behind : (lines : List ℕ) (before : ℕ) → IsLastByte (is_byte 10) lines (Some before) → (k : ℕ) →
+    k < length (drop (suc before) lines) → get_or (drop (suc before) lines) k 10 ≡ 10 → ⊥
 behind lines before last k within ten =
     let count = length-drop (suc before) lines in
     last.0.after (suc before + k) (omega arith) (omega (arith, within, count))
-    (ap (is_byte 10) (sym (get_or-drop (suc before) lines k 0) ∙ get_or_default (drop (suc before) lines) k 0 10 within ∙ ten))
+    (ap (is_byte 10) (sym (get_or-drop (suc before) lines k 0) ∙ get_or_default (drop (suc before) lines) k 0 10 within
+    ∙ ten))
 
 -- the last feed ends the page, and the one before it the other lines
-last-line : (page : List ℕ) (end before : ℕ) → IsLastByte (is_byte 10) page (Some end) → length page ≤ suc end → IsLastByte (is_byte 10) (take end page) (Some before) →
+last-line : (page : List ℕ) (end before : ℕ) → IsLastByte (is_byte 10) page (Some end) → length page ≤ suc end →
+    IsLastByte (is_byte 10) (take end page) (Some before) →
     IsLastLine page (drop (suc before) (take end page))
 last-line page end before last over other =
     let lines = take end page in record {
       before = take before lines;
-      parts = at-feed page end last.0.high last.1 ∙ ap (λ rest. lines ++ 10 ∷ rest) (drop_all (suc end) page over) ∙ ap (λ ls. ls ++ 10 ∷ []) (at-feed lines before other.0.high other.1);
+      parts = at-feed page end last.0.high last.1 ∙ ap (λ rest. lines ++ 10 ∷ rest) (drop_all (suc end) page over)
+          ∙ ap (λ ls. ls ++ 10 ∷ []) (at-feed lines before other.0.high other.1);
       one = λ c. behind lines before other c.0 c.1 c.2;
     }
 
 -- as a slice has it
-pub last-line-of : (page : List ℕ) (end before : ℕ) → IsLastByte (is_byte 10) page (Some end) → length page ≤ end + 1 → IsLastByte (is_byte 10) (take end page) (Some before) →
+pub last-line-of : (page : List ℕ) (end before : ℕ) → IsLastByte (is_byte 10) page (Some end) → length page ≤ end + 1 →
+    IsLastByte (is_byte 10) (take end page) (Some before) →
     IsLastLine page (take (length (take end page) - (before + 1)) (drop (before + 1) (take end page)))
 last-line-of page end before last over other =
     let lines = take end page in let next : suc before ≡ before + 1 = omega arith in
-    let all : take (length lines - (before + 1)) (drop (before + 1) lines) ≡ drop (before + 1) lines = take_all (length lines - (before + 1)) (drop (before + 1) lines) (omega (arith, length-drop (before + 1) lines)) in
-    subst (IsLastLine page) (ap (λ n. drop n lines) next ∙ sym all) (last-line page end before last (omega (arith, over)) other)
+    let all : take (length lines - (before + 1)) (drop (before + 1) lines) ≡ drop (before + 1) lines =
+    take_all (length lines - (before + 1)) (drop (before + 1) lines)
+    (omega (arith, length-drop (before + 1) lines)) in
+    subst (IsLastLine page) (ap (λ n. drop n lines) next
+    ∙ sym all) (last-line page end before last (omega (arith, over)) other)

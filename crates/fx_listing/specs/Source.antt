@@ -13,7 +13,8 @@ temp_line i = codes "  val t" ++ decimal i ++ codes " = 0." ++ two_digits (37 * 
 
 -- what stands before the temps
 abbrev pub head_text : List ℕ
-head_text = codes "def demo(x: Real, y: Real): Real = {\n" ++ codes "  require(-1 <= x && x <= 1 && -1 <= y && y <= 1)\n"
+head_text =
+    codes "def demo(x: Real, y: Real): Real = {\n" ++ codes "  require(-1 <= x && x <= 1 && -1 <= y && y <= 1)\n"
 
 -- the result
 abbrev pub result_text : ℕ → List ℕ

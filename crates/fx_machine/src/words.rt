@@ -1,8 +1,8 @@
 //! Where the words of a step stand.
 //!
-//! A code reads the words before it, and the state words, by this trait, so that what a code does is written and proved once,
-//! whether words stand in cells of one size or each in a width of its own.
-//! The trap: a word is read as one of the program's width, though the place where it stands may be narrower or wider.
+//! A code reads the words before it, and the state words, by this trait, so that what a code does is written and proved
+//! once, whether words stand in cells of one size or each in a width of its own. The trap: a word is read as one of the
+//! program's width, though the place where it stands may be narrower or wider.
 
 ghost use Rattle.std.specs.Prelude.{◌≡◌, ◌<◌, ℤ, List, pos, length, All};
 ghost use Rattle.fx_model.specs.Machine.{IsWord};

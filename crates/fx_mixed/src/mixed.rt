@@ -98,7 +98,8 @@ fn width_of(certified: &Certified) -> u32
 
 /// What is certified, and a word for each code, each in its own width.
 ///
-/// The words are those of the last row, and 0 before the first, but in the places of the states stand those of the next row.
+/// The words are those of the last row, and 0 before the first, but in the places of the states stand those of the next
+/// row.
 #[derive(Drop)]
 pub struct Mixed<'a> {
     certified: &'a Certified,
@@ -122,7 +123,10 @@ impl<'a> Model for Mixed<'a> {
 impl<'a> Mixed<'a> {
     /// What is certified before its first row. All room is made here.
     pub fn new(alloc: Global, certified: &'a Certified) -> Result<Mixed<'a>, Memory>
-        ensures { IfOk result (λ m. m ≡ record { accepted = certified.now; words = first_words certified.now.program }) }
+        ensures { IfOk result (λ m. m ≡ record {
+          accepted = certified.now;
+          words = first_words certified.now.program;
+        }) }
     {
         let bank = first_bank(alloc, certified)?;
         Ok(Mixed { certified, bank })
@@ -135,7 +139,8 @@ impl<'a> Mixed<'a> {
         self.bank.widths()
     }
 
-    /// The words as they lie in memory: each in so many bytes as its width has, the least byte first, in two's complement.
+    /// The words as they lie in memory: each in so many bytes as its width has, the least byte first, in two's
+    /// complement.
     pub fn bytes(&self) -> &[u8]
         ensures { result.now ≡ packed (widths_of self.now.accepted) self.now.words }
     {
@@ -144,15 +149,18 @@ impl<'a> Mixed<'a> {
 
     /// Carries out a row, and puts the next states' words in the places of the states.
     ///
-    /// No word leaves its own width and no divisor is zero. For every exact state that the state words are near and every row
-    /// true of the given one, the exact step is there and the machine's is near it.
+    /// No word leaves its own width and no divisor is zero. For every exact state that the state words are near and
+    /// every row true of the given one, the exact step is there and the machine's is near it.
     pub fn turn(&mut self, row: &[Decimal])
         requires { IsInRange self.old.accepted.function.inputs (map decimal_value row.now) }
         ensures accepted { self.new.accepted ≡ self.old.accepted }
         ensures turned { IsTurned self.old.accepted (map decimal_value row.now) self.old.words self.new.words }
-        ensures near { (true_row state : List Rational) → IsTrueOf self.old.accepted.function.inputs (map decimal_value row.now) true_row →
-            IsNear self.old.accepted.function self.old.accepted.program self.old.accepted.certificate (states_among self.old.accepted.program self.old.words) state →
-            StepIsNear self.old.accepted.function self.old.accepted.program self.old.accepted.certificate (map decimal_value row.now) true_row (states_among self.old.accepted.program self.old.words) state }
+        ensures near { (true_row state : List Rational) →
+            IsTrueOf self.old.accepted.function.inputs (map decimal_value row.now) true_row →
+            IsNear self.old.accepted.function self.old.accepted.program self.old.accepted.certificate
+            (states_among self.old.accepted.program self.old.words) state →
+            StepIsNear self.old.accepted.function self.old.accepted.program self.old.accepted.certificate
+            (map decimal_value row.now) true_row (states_among self.old.accepted.program self.old.words) state }
     {
         self.certified.certified();
         step_law();

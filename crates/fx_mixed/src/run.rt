@@ -1,7 +1,7 @@
 //! The run of what is certified over a source and a sink, each word in its own width.
 //!
-//! What is printed and when it is written is just what `run_rows` of `fx_run` prints and writes: the loop over the rows is the
-//! same, and the machine's codes are too.
+//! What is printed and when it is written is just what `run_rows` of `fx_run` prints and writes: the loop over the rows
+//! is the same, and the machine's codes are too.
 ghost use Rattle.std.specs.Prelude.{◌≡◌, ◌-◌, ◌^◌, ◌<◌, ◌≤◌, ◌++◌, ◌∷◌, ◌↔◌, ℕ, List, length, map, IfOk, IfErr, OnOk, IsErrOf, IfSome, Some};
 ghost use Rattle.std.specs.Io.KnownBytes.{Consumes, IsAtEnd};
 ghost use Rattle.fx_base.specs.Causes.{Rose};
@@ -40,7 +40,8 @@ fn turn_row(mixed: &mut Mixed, row: &[Decimal], page: &mut Page)
     ensures accepted { mixed.new.accepted ≡ mixed.old.accepted }
     ensures put { (text : List ℕ) × (page.new ≡ page.old ++ text)
         × ((rest : List (List rational.Decimal)) → lines_from mixed.old.accepted.program (row.now ∷ rest) (states_among mixed.old.accepted.program mixed.old.words)
-        ≡ text ++ lines_from mixed.new.accepted.program rest (states_among mixed.new.accepted.program mixed.new.words)) }
+        ≡ text ++ lines_from mixed.new.accepted.program rest
+        (states_among mixed.new.accepted.program mixed.new.words)) }
 {
     mixed.certified().certified();
     mixed.turn(row);
@@ -82,7 +83,8 @@ impl<'a> RowStep for Mixed<'a> {
     ghost none = { λ m _. nothing_from m.accepted.program (states_among m.accepted.program m.words) };
 }
 
-/// Runs the rows of a source through what is certified, each word in its own width, and writes their page. Gives the number of rows.
+/// Runs the rows of a source through what is certified, each word in its own width, and writes their page. Gives the
+/// number of rows.
 ///
 /// The page, the order of reads and writes and every fault are those of `run_rows` of `fx_run`.
 pub fn run_mixed<S: Source<K>, K: Sink>(
@@ -94,12 +96,17 @@ pub fn run_mixed<S: Source<K>, K: Sink>(
 ) -> Result<u64, MixedFault>
     requires limit { limit < 2 ^ 64 - 1 }
     ensures done { let o = run_outcome certified.now.function certified.now.program in
-        IfOk result (λ n. IfSome (S.left source.old) (λ all. IsDone (o (lines_in all)) n (K.taken sink.old) (K.taken sink.new))) }
+        IfOk result (λ n. IfSome (S.left source.old)
+        (λ all. IsDone (o (lines_in all)) n (K.taken sink.old) (K.taken sink.new))) }
     ensures end { OnOk result (IsAtEnd (S.left source.new)) }
     ensures due { let o = run_outcome certified.now.function certified.now.program in
-        IfErr result (IsDue row_fault_of o (S.left source.old) (S.left source.new) (K.taken sink.old) (K.taken sink.new)) }
-    ensures prompt { HoldsEachTime (IsAnswered (run_outcome certified.now.function certified.now.program) (S.left source.old) (K.taken sink.old)) (S.asked source.old) (S.asked source.new) }
-    ensures taken { (taken : List ℕ) × Consumes (S.left source.old) (S.left source.new) taken × (IsErrOf result TooLong ↔ (limit < length taken)) }
+        IfErr result (IsDue row_fault_of o (S.left source.old) (S.left source.new) (K.taken sink.old)
+        (K.taken sink.new)) }
+    ensures prompt { HoldsEachTime
+        (IsAnswered (run_outcome certified.now.function certified.now.program) (S.left source.old) (K.taken sink.old))
+        (S.asked source.old) (S.asked source.new) }
+    ensures taken { (taken : List ℕ) × Consumes (S.left source.old) (S.left source.new) taken ×
+        (IsErrOf result TooLong ↔ (limit < length taken)) }
     ensures honest { RowsLaw certified.now.function certified.now.program certified.now.certificate }
     ensures grown { Grows (K.taken sink.old) (K.taken sink.new) }
     ensures read_fault { IsErrOf result ReadFault → Rose (S.faults source.old) (S.faults source.new) }

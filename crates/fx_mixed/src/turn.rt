@@ -1,7 +1,7 @@
 //! One row through a program whose words stand in a bank.
 //!
-//! Each code's word is written over the last row's. A state's code reads the state and writes it back, so that the states stand
-//! there until all codes are done; then the next states take their places.
+//! Each code's word is written over the last row's. A state's code reads the state and writes it back, so that the
+//! states stand there until all codes are done; then the next states take their places.
 ghost use Rattle.std.specs.Prelude.{◌≡◌, ◌+◌, ◌≤◌, ◌<◌, ℕ, ℤ, List, pos, length, map, take, drop, All, IsSome, Some};
 ghost use Rattle.fx_rational.specs.Decimal.{decimal_value};
 ghost use Rattle.fx_model.specs.Machine.{IsWord, Const, words_after, words_of};
@@ -42,15 +42,20 @@ fn turn_one<const B: u32>(
     requires row { length row.now ≡ inputs }
     requires lawful { AreCodes B inputs states (map code_of codes.now) }
     requires words { All (IsWord B) bank.old.words }
-    requires runs { IsSome (words_after B (map code_of (drop n codes.now)) (map decimal_value row.now) (take states (drop inputs bank.old.words)) (take n bank.old.words)) }
-    requires fits { (w : ℤ) → word_of B (at (Const (pos 0) (pos 0)) (map code_of codes.now) n) (map decimal_value row.now) (take states (drop inputs bank.old.words)) (take n bank.old.words) ≡ Some w
+    requires runs { IsSome (words_after B (map code_of (drop n codes.now)) (map decimal_value row.now)
+        (take states (drop inputs bank.old.words)) (take n bank.old.words)) }
+    requires fits { (w : ℤ) →
+        word_of B (at (Const (pos 0) (pos 0)) (map code_of codes.now) n) (map decimal_value row.now)
+        (take states (drop inputs bank.old.words)) (take n bank.old.words) ≡ Some w
         → IsWord (at 0 bank.old.widths n) w }
     ensures widths { bank.new.widths ≡ bank.old.widths }
     ensures counted { length bank.new.words ≡ length bank.old.words }
     ensures words { All (IsWord B) bank.new.words }
     ensures states { take states (drop inputs bank.new.words) ≡ take states (drop inputs bank.old.words) }
-    ensures goes_on { words_after B (map code_of (drop (n + 1) codes.now)) (map decimal_value row.now) (take states (drop inputs bank.old.words)) (take (n + 1) bank.new.words)
-        ≡ words_after B (map code_of (drop n codes.now)) (map decimal_value row.now) (take states (drop inputs bank.old.words)) (take n bank.old.words) }
+    ensures goes_on { words_after B (map code_of (drop (n + 1) codes.now)) (map decimal_value row.now)
+        (take states (drop inputs bank.old.words)) (take (n + 1) bank.new.words)
+        ≡ words_after B (map code_of (drop n codes.now)) (map decimal_value row.now)
+        (take states (drop inputs bank.old.words)) (take n bank.old.words) }
 {
     bank.keeps();
     let state = Places {
@@ -73,10 +78,14 @@ fn turn_codes<const B: u32>(program: &Program, row: &[Decimal], bank: &mut Bank)
     requires counted { length bank.old.widths ≡ length program.now.codes }
     requires row { length row.now ≡ program.now.inputs }
     requires words { All (IsWord B) bank.old.words }
-    requires runs { IsSome (words_of program.now (map decimal_value row.now) (states_among program.now bank.old.words)) }
-    requires fits { (ws : List ℤ) → words_of program.now (map decimal_value row.now) (states_among program.now bank.old.words) ≡ Some ws → FitWidths bank.old.widths ws }
+    requires runs { IsSome (words_of program.now (map decimal_value row.now)
+        (states_among program.now bank.old.words)) }
+    requires fits { (ws : List ℤ) →
+        words_of program.now (map decimal_value row.now) (states_among program.now bank.old.words) ≡ Some ws →
+        FitWidths bank.old.widths ws }
     ensures widths { bank.new.widths ≡ bank.old.widths }
-    ensures words { words_of program.now (map decimal_value row.now) (states_among program.now bank.old.words) ≡ Some bank.new.words }
+    ensures words { words_of program.now (map decimal_value row.now) (states_among program.now bank.old.words)
+        ≡ Some bank.new.words }
 {
     program.keeps();
     bank.keeps();
@@ -89,7 +98,9 @@ fn turn_codes<const B: u32>(program: &Program, row: &[Decimal], bank: &mut Bank)
 // Puts the next states' words in the places of the states.
 fn carry_states(program: &Program, bank: &mut Bank)
     requires counted { length bank.old.widths ≡ length program.now.codes }
-    requires fits { (k : ℕ) → k < program.now.states → IsWord (at 0 bank.old.widths (program.now.inputs + k)) (at (pos 0) (step_taken program.now bank.old.words).next k) }
+    requires fits { (k : ℕ) → k < program.now.states →
+        IsWord (at 0 bank.old.widths (program.now.inputs + k))
+        (at (pos 0) (step_taken program.now bank.old.words).next k) }
     ensures widths { bank.new.widths ≡ bank.old.widths }
     ensures words { bank.new.words ≡ carried program.now bank.old.words }
 {

@@ -3,7 +3,8 @@ use Rattle.std.proofs.Common.{◌≡◌, ◌<◌, ◌+◌, ◌-◌, ℕ, suc, Li
 use Rattle.fx_model.specs.LineText.{numbered_lines}
 
 -- the line of number n, and those behind it
-pub next_line : (line : ℕ → List ℕ) (m n : ℕ) → n < m → numbered_lines line n (m - n) ≡ line n ++ numbered_lines line (n + 1) (m - (n + 1))
+pub next_line : (line : ℕ → List ℕ) (m n : ℕ) → n < m →
+    numbered_lines line n (m - n) ≡ line n ++ numbered_lines line (n + 1) (m - (n + 1))
 next_line line m n l = let e : m - n ≡ suc (m - (n + 1)) = omega (arith, l) in rw e refl
 
 -- none is left

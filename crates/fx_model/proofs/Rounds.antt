@@ -35,7 +35,8 @@ found_passes : {X : Type 0} (test : X → Bool) (xs : List X) (x : X) → find t
 found_passes test [] x e = absurd cc
 found_passes {X} test (y ∷ ys) x e = by (test y) refl e (found_passes test ys x)
   where
-    by : (b : Bool) → test y ≡ b → cond b (Some y) (find test ys) ≡ Some x → (find test ys ≡ Some x → test x ≡ true) → test x ≡ true
+    by : (b : Bool) → test y ≡ b → cond b (Some y) (find test ys) ≡ Some x → (find test ys ≡ Some x → test x ≡ true) →
+        test x ≡ true
     by true passes e rest = let same : y ≡ x = cc in subst (λ (z : X). test z ≡ true) same passes
     by false fails e rest = rest e
 

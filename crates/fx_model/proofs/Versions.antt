@@ -22,7 +22,15 @@ second_lawful p l =
     record {
       version = (1, omega arith, refl);
       width = l.width;
-      counts = record { some_input = k.some_input; inputs = k.inputs; states = k.states; some_output = k.some_output; outputs = k.outputs; enough = k.enough; codes = k.codes };
+      counts = record {
+        some_input = k.some_input;
+        inputs = k.inputs;
+        states = k.states;
+        some_output = k.some_output;
+        outputs = k.outputs;
+        enough = k.enough;
+        codes = k.codes;
+      };
       codes = l.codes;
       points = l.points;
       copies = l.copies;

@@ -1,7 +1,7 @@
 //! A function on its way, and the steps that led to it.
 //!
-//! A draft is changed in place, one rule at a time. A rule that doesn't match leaves it as it is, and a step that undoes an
-//! earlier one takes that away, so that the list of steps stays short.
+//! A draft is changed in place, one rule at a time. A rule that doesn't match leaves it as it is, and a step that
+//! undoes an earlier one takes that away, so that the list of steps stays short.
 
 ghost use Rattle.std.specs.Prelude.{◌<◌, length, IfSome};
 

@@ -1,5 +1,5 @@
-//! Factoring: `x * g + y * g` to `(x + y) * g`, where `g` stands anywhere in both products, and the products anywhere in a
-//! chain of sums.
+//! Factoring: `x * g + y * g` to `(x + y) * g`, where `g` stands anywhere in both products, and the products anywhere
+//! in a chain of sums.
 
 use crate::draft::{Draft, Site, joined};
 use crate::drawing::draw_index;

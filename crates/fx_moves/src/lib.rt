@@ -1,19 +1,21 @@
 //! Drafts of a function, and random moves from one to another.
 //!
-//! A draft is a function with the steps of `fx_rewrite` that led to it from its source. Rewriting changes nothing of what a
-//! function means over the rationals, and much of what its rounding costs, so a search looks for the best draft.
+//! A draft is a function with the steps of `fx_rewrite` that led to it from its source. Rewriting changes nothing of
+//! what a function means over the rationals, and much of what its rounding costs, so a search looks for the best draft.
 //!
-//! - `factor_all` begins at the source: literals are folded, and common factors taken out in a random order until none is
+//! - `factor_all` begins at the source: literals are folded, and common factors taken out in a random order until none
+//!   is
 //!   left (`factor`, `cleaning`). That alone mostly brings the greatest gain.
-//! - `mutate` makes one to three random moves. A move is a few rules at one place (`moves`, `factor`, `cleaning`), or any one
+//! - `mutate` makes one to three random moves. A move is a few rules at one place (`moves`, `factor`, `cleaning`), or
+//!   any one
 //!   rule (`mutation`).
 //!
 //! Every choice is drawn from a generator by `draw`, so that a seed gives the same drafts on every machine. Nothing is
 //! promised of a draft but that its function is lawful by its type; whoever certifies it has the steps made again.
 //!
-//! The traps: a rule that matches may be refused at a limit, so a move can end in its middle; what was done stays, and is a
-//! draft as good as any. And a step that undoes an earlier one takes that away only where no step between them is at a tree
-//! above or below it.
+//! The traps: a rule that matches may be refused at a limit, so a move can end in its middle; what was done stays, and
+//! is a draft as good as any. And a step that undoes an earlier one takes that away only where no step between them is
+//! at a tree above or below it.
 #![tactic(auto)]
 
 mod cleaning;

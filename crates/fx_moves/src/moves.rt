@@ -1,7 +1,7 @@
 //! Moves: a few rules at one place, in a fixed order.
 //!
-//! A move looks at the signs first and then follows its table. Where a rule in the middle is refused, as at a limit, what
-//! was done stays: the steps so far are a draft as good as any.
+//! A move looks at the signs first and then follows its table. Where a rule in the middle is refused, as at a limit,
+//! what was done stays: the steps so far are a draft as good as any.
 
 use crate::draft::{Draft, Site};
 use crate::rule::{

@@ -23,7 +23,8 @@ name_utf8 [] h = absurd cc
 name_utf8 (c ∷ cs) h =
     let t = and_parts (is_letter c && list_all is_word_byte cs) (not (is_reserved (c ∷ cs))) h in
     let u = and_parts (is_letter c) (list_all is_word_byte cs) t.0 in
-    IsUtf8-from_ascii (c ∷ cs) (IsAscii-from_all (c ∷ cs) (All-from_recursion (λ b. b < 128) (c ∷ cs) (small u.0, ascii cs u.1)))
+    IsUtf8-from_ascii (c ∷ cs)
+    (IsAscii-from_all (c ∷ cs) (All-from_recursion (λ b. b < 128) (c ∷ cs) (small u.0, ascii cs u.1)))
   where
     small : is_letter c ≡ true → c < 128
     small h = grind (arith, tests)

@@ -17,32 +17,51 @@ use Rattle.fx_node.proofs.Printed.{lines_from_start}
 
 -- the state words of each unit before its first row
 many_states : (a : Accepted) (units : ℕ) → length (states_of (first_units a units)) ≡ units
-many_states a units = length-map (replicate units (first_registers a.program)) (λ (r : Contents). r.states) ∙ length-replicate units (first_registers a.program)
+many_states a units = length-map (replicate units (first_registers a.program)) (λ (r : Contents). r.states)
+    ∙ length-replicate units (first_registers a.program)
 
-first_states : (a : Accepted) (units u : ℕ) → u < units → get_or (states_of (first_units a units)) u [] ≡ start_words a.program.codes
+first_states : (a : Accepted) (units u : ℕ) → u < units →
+    get_or (states_of (first_units a units)) u [] ≡ start_words a.program.codes
 first_states a units u below =
-    get_or-map (λ (r : Contents). r.states) (replicate units (first_registers a.program)) u record { words = []; states = [] }
-    ∙ ap (λ (r : Contents). r.states) (get_or-replicate units u (first_registers a.program) record { words = []; states = [] } below)
+    get_or-map (λ (r : Contents). r.states) (replicate units (first_registers a.program)) u record {
+      words = [];
+      states = [];
+    }
+    ∙ ap (λ (r : Contents). r.states) (get_or-replicate units u (first_registers a.program) record {
+      words = [];
+      states = [];
+    } below)
 
 -- what comes of the events that are read
 first_outcome : Accepted → ℕ → ReadEvents → Outcome LineFlaw
 first_outcome a units r = record {
-  text = if r.has_header then node_head a.program ++ lines_from a.program r.given.events (states_of (first_units a units)) else [];
+  text =
+      if r.has_header then node_head a.program ++ lines_from a.program r.given.events (states_of (first_units a units))
+      else [];
   rows = length r.given.events;
   bad = r.given.bad;
 }
 
-start : (a : Accepted) (units : ℕ) → UnitsLaw a.function a.program a.certificate → (ls : List (List ℕ)) → units_outcome (first_units a units) None ls ≡ node_outcome a.function a.program units ls
+start : (a : Accepted) (units : ℕ) → UnitsLaw a.function a.program a.certificate → (ls : List (List ℕ)) →
+    units_outcome (first_units a units) None ls ≡ node_outcome a.function a.program units ls
 unfolding first_outcome
 start a units law ls =
     let r = events_read a.function units ls in
     ap (λ n. first_outcome a units (events_read a.function n ls)) (length-replicate units (first_registers a.program))
-    ∙ ap (λ t. record { text = if r.has_header then node_head a.program ++ t else []; rows = length r.given.events; bad = r.given.bad })
-    (lines_from_start a.program units (states_of (first_units a units)) r.given.events (many_states a units) (first_states a units)
-    (all_below a.function units r.given.events (good_events a.function units ls)) (λ u. ((law units ls u).run, (law units ls u).own)))
+    ∙ ap (λ t. record {
+      text = if r.has_header then node_head a.program ++ t else [];
+      rows = length r.given.events;
+      bad = r.given.bad;
+    })
+    (lines_from_start a.program units (states_of (first_units a units)) r.given.events (many_states a units)
+    (first_states a units)
+    (all_below a.function units r.given.events (good_events a.function units ls))
+    (λ u. ((law units ls u).run, (law units ls u).own)))
 
-pub outcome_is : (a : Accepted) (units : ℕ) (node : Units) (reader : Option NodeReader) → node ≡ first_units a units → reader ≡ None → UnitsLaw a.function a.program a.certificate
-    → (ls : List (List ℕ)) → units_outcome node (option_map node_columns reader) ls ≡ node_outcome a.function a.program units ls
+pub outcome_is : (a : Accepted) (units : ℕ) (node : Units) (reader : Option NodeReader) → node ≡ first_units a units →
+    reader ≡ None → UnitsLaw a.function a.program a.certificate
+    → (ls : List (List ℕ)) →
+    units_outcome node (option_map node_columns reader) ls ≡ node_outcome a.function a.program units ls
 outcome_is a units node reader same before law ls =
     ap (λ (n : Units). units_outcome n (option_map node_columns reader) ls) same
     ∙ ap (λ (r : Option NodeReader). units_outcome (first_units a units) (option_map node_columns r) ls) before

@@ -1,4 +1,5 @@
--- The events of lines: of these the first that isn't blank is the header, and the others are rows of units up to the first bad one.
+-- The events of lines: of these the first that isn't blank is the header, and the others are rows of units up to the
+-- first bad one.
 use Rattle.std.specs.Prelude.{ℕ, ◌==◌, Bool, true, false, List, [], ◌∷◌, filter, map, codes, Option, Some, None, Result, Ok, Err}
 use Rattle.fx_rational.specs.Decimal.{Decimal}
 use Rattle.fx_model.specs.Function.{Function}
@@ -65,7 +66,8 @@ pub record NodeColumns : Type 0 where
 -- the events of these lines, for so many units, at the columns of the header
 abbrev pub events_from : Function → ℕ → NodeColumns → List (List ℕ) → GivenEvents
 events_from f units columns [] = record { events = []; bad = None }
-events_from f units columns (l ∷ ls) = after_line (row_of f columns.inputs l) (unit_of units columns.unit l) (events_from f units columns ls)
+events_from f units columns (l ∷ ls) =
+    after_line (row_of f columns.inputs l) (unit_of units columns.unit l) (events_from f units columns ls)
 
 abbrev pub with_unit : List ℕ → Column → Result (Option NodeColumns) LineFlaw
 with_unit inputs Missing = Err (InUnit NoUnitColumn)
@@ -90,7 +92,8 @@ pub record ReadEvents : Type 0 where
 abbrev pub after_header : Function → ℕ → Result (Option NodeColumns) LineFlaw → List (List ℕ) → ReadEvents → ReadEvents
 after_header f units (Err flaw) ls more = record { has_header = false; given = flawed_here flaw }
 after_header f units (Ok None) ls more = record { has_header = more.has_header; given = behind_line more.given }
-after_header f units (Ok (Some columns)) ls more = record { has_header = true; given = behind_line (events_from f units columns ls) }
+after_header f units (Ok (Some columns)) ls more =
+    record { has_header = true; given = behind_line (events_from f units columns ls) }
 
 -- the events of these lines; where none is a header, a column is missing behind the last
 abbrev pub events_read : Function → ℕ → List (List ℕ) → ReadEvents
@@ -99,4 +102,5 @@ events_read f units (l ∷ ls) = after_header f units (node_header_of f l) ls (e
 
 -- each row of each unit has a value in range for each input
 abbrev pub EventsInRangeLaw : Type 0
-EventsInRangeLaw = (f : Function) (units : ℕ) (ls : List (List ℕ)) (u : ℕ) → AreInRange f (rows_of (events_read f units ls).given.events u)
+EventsInRangeLaw = (f : Function) (units : ℕ) (ls : List (List ℕ)) (u : ℕ) →
+    AreInRange f (rows_of (events_read f units ls).given.events u)

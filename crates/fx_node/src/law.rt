@@ -7,8 +7,9 @@ use fx_model::in_range_law;
 use fx_sound::{bound_law, run_law};
 use fx_widths::own_width_law;
 
-/// On each unit's rows of any lines the machine isn't stuck, each word lies in its least width, each printed value keeps the ends that the source demands of
-/// it, and for all rows that may be the true ones the exact run is there and each output is within its certified bound of it.
+/// On each unit's rows of any lines the machine isn't stuck, each word lies in its least width, each printed value
+/// keeps the ends that the source demands of it, and for all rows that may be the true ones the exact run is there and
+/// each output is within its certified bound of it.
 pub fn units_law(certified: &Certified)
     ensures { UnitsLaw certified.now.function certified.now.program certified.now.certificate }
 {

@@ -1,7 +1,7 @@
 //! Many units of one certified program: rows of all of them come interleaved, and each has a state of its own.
 //!
-//! One event is one row of one unit. What is printed for a unit is what the program's run over that unit's rows alone prints,
-//! and every clause of a run over rows holds of each unit. The order of reads and writes is `fx_stream`'s.
+//! One event is one row of one unit. What is printed for a unit is what the program's run over that unit's rows alone
+//! prints, and every clause of a run over rows holds of each unit. The order of reads and writes is `fx_stream`'s.
 #![tactic(auto)]
 
 mod fault;

@@ -124,9 +124,12 @@ impl<'a, const B: u32> Node<'a, B> {
         requires unit { unit < length self.old.registers }
         requires in_range { IsInRange self.old.accepted.function.inputs (map decimal_value row.now) }
         ensures turned { IsTurned unit (map decimal_value row.now) self.old self.new }
-        ensures near { (true_row state : List Rational) → IsTrueOf self.old.accepted.function.inputs (map decimal_value row.now) true_row →
-            IsNear self.old.accepted.function self.old.accepted.program self.old.accepted.certificate (registers_of self.old unit).states state →
-            StepIsNear self.old.accepted.function self.old.accepted.program self.old.accepted.certificate (map decimal_value row.now) true_row (registers_of self.old unit).states state }
+        ensures near { (true_row state : List Rational) →
+            IsTrueOf self.old.accepted.function.inputs (map decimal_value row.now) true_row →
+            IsNear self.old.accepted.function self.old.accepted.program self.old.accepted.certificate
+            (registers_of self.old unit).states state →
+            StepIsNear self.old.accepted.function self.old.accepted.program self.old.accepted.certificate
+            (map decimal_value row.now) true_row (registers_of self.old unit).states state }
     {
         certified_step::<B>(self.certified, &mut self.registers[unit as usize], row);
     }
@@ -135,7 +138,8 @@ impl<'a, const B: u32> Node<'a, B> {
     pub fn unit_output(&self, unit: u32, j: u32) -> (i64, i32)
         requires unit { unit < length self.now.registers }
         requires within { j < self.now.accepted.program.outputs }
-        ensures word { result.0 ≡ at (pos 0) (step_taken self.now.accepted.program (registers_of self.now unit).words).outputs j }
+        ensures word { result.0
+            ≡ at (pos 0) (step_taken self.now.accepted.program (registers_of self.now unit).words).outputs j }
         ensures point { result.1 ≡ at (pos 0) (output_points self.now.accepted.program) j }
     {
         self.registers[unit as usize].output(self.certified.program(), j)
@@ -160,7 +164,8 @@ impl<'a, const B: u32> Node<'a, B> {
     pub(crate) fn put_line(&self, unit: u32, page: &mut Page)
         requires unit { unit < length self.now.registers }
         requires room { HasRoom page.old }
-        ensures { page.new ≡ page.old ++ unit_line self.now.accepted.program unit (step_taken self.now.accepted.program (registers_of self.now unit).words).outputs }
+        ensures { page.new ≡ page.old ++ unit_line self.now.accepted.program unit
+            (step_taken self.now.accepted.program (registers_of self.now unit).words).outputs }
     {
         put_unit::<B>(
             page,

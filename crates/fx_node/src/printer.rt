@@ -1,7 +1,8 @@
 //! The printer of events: the header, and then a line for each row of a unit.
 //!
-//! What may be wrong with a header or a row comes first, and what is wrong with its unit behind it. No row is held back:
-//! each steps its own unit and is printed at once. The trap: the numbers of a row find their room before the first row.
+//! What may be wrong with a header or a row comes first, and what is wrong with its unit behind it. No row is held
+//! back: each steps its own unit and is printed at once. The trap: the numbers of a row find their room before the
+//! first row.
 ghost use Rattle.std.specs.Prelude.{◌≡◌, ◌≢◌, ◌<◌, ◌≤◌, ◌⊎◌, ◌++◌, ◌∷◌, ℕ, List, [], false, length, map, codes, option_map, is_some, Some, None, Ok, Err, IfOk, IfErr, IfSome, OnOk};
 ghost use Rattle.std.specs.List.{list_any};
 ghost use Rattle.std.specs.Vec.{vec_capacity};
@@ -66,7 +67,8 @@ pub(crate) struct NodePrinter<'a, const B: u32> {
 
 // Want of memory is no fault of the line.
 fn stop_of(fault: RowFault) -> Stop<Flaw>
-    ensures { (fault.kind ≡ kind.Memory × result ≡ stop.Memory) ⊎ (fault.kind ≢ kind.Memory × result ≡ stop.Bad (flaw.Row fault)) }
+    ensures { (fault.kind ≡ kind.Memory × result ≡ stop.Memory) ⊎
+        (fault.kind ≢ kind.Memory × result ≡ stop.Bad (flaw.Row fault)) }
 {
     if fault.kind == RowKind::Memory {
         Stop::Memory
@@ -78,8 +80,10 @@ fn stop_of(fault: RowFault) -> Stop<Flaw>
 // The column of the units in a header line.
 fn unit_column(alloc: Global, line: &[u8]) -> Result<u32, Stop<Flaw>>
     requires { length line.now ≤ line_limit }
-    ensures found { IfOk result (λ place. (inputs : List ℕ) → with_unit inputs (column_of (codes "unit") line.now) ≡ Ok (Some record { inputs = inputs; unit = place })) }
-    ensures bad { IfErr result (IfBad (λ fault. (inputs : List ℕ) → with_unit inputs (column_of (codes "unit") line.now) ≡ Err (flaw_of fault))) }
+    ensures found { IfOk result (λ place. (inputs : List ℕ) →
+        with_unit inputs (column_of (codes "unit") line.now) ≡ Ok (Some record { inputs = inputs; unit = place })) }
+    ensures bad { IfErr result (IfBad (λ fault. (inputs : List ℕ) →
+        with_unit inputs (column_of (codes "unit") line.now) ≡ Err (flaw_of fault))) }
 {
     match find_column(alloc, line, UNIT) {
         Ok(Column::At(place)) => Ok(place),
@@ -125,10 +129,15 @@ fn read_event(
 ) -> Result<Option<u32>, Stop<Flaw>>
     requires serves { Serves reader.now.rows function.now }
     requires room { length function.now.inputs ≤ vec_capacity row.old }
-    ensures event { IfOk result (λ o. (more : GivenEvents) → after_line (row_of function.now (node_columns reader.now).inputs line.now) (unit_of units reader.now.unit line.now) more ≡ event_then row.new.items o more) }
-    ensures bad { IfErr result (IfBad (λ fault. (more : GivenEvents) → after_line (row_of function.now (node_columns reader.now).inputs line.now) (unit_of units reader.now.unit line.now) more ≡ flawed_here (flaw_of fault))) }
+    ensures event { IfOk result (λ o. (more : GivenEvents) →
+        after_line (row_of function.now (node_columns reader.now).inputs line.now)
+        (unit_of units reader.now.unit line.now) more ≡ event_then row.new.items o more) }
+    ensures bad { IfErr result (IfBad (λ fault. (more : GivenEvents) →
+        after_line (row_of function.now (node_columns reader.now).inputs line.now)
+        (unit_of units reader.now.unit line.now) more ≡ flawed_here (flaw_of fault))) }
     ensures below { IfOk result (λ o. IfSome o (λ u. u < units)) }
-    ensures in_range { IfOk result (λ o. IfSome o (λ u. IsInRange function.now.inputs (map decimal_value row.new.items))) }
+    ensures in_range { IfOk result
+        (λ o. IfSome o (λ u. IsInRange function.now.inputs (map decimal_value row.new.items))) }
     ensures kept { vec_capacity row.old ≤ vec_capacity row.new }
     ensures memory { list_any is_special line.now ≡ false → result ≢ Err stop.Memory }
 {
@@ -154,9 +163,12 @@ fn take_header<'a, const B: u32>(
     requires room { HasRoom page.old }
     ensures serves { IfOk result (λ o. IfSome o (λ r. Serves r.rows node.now.accepted.function)) }
     ensures taken { IfOk result (λ o. (text : List ℕ) × (page.new ≡ page.old ++ text)
-        × ((rest : List (List ℕ)) → units_outcome node.now None (line.now ∷ rest) ≡ behind_lines 1 text 0 (units_outcome node.now (option_map node_columns o) rest))) }
+        × ((rest : List (List ℕ)) →
+        units_outcome node.now None (line.now ∷ rest)
+        ≡ behind_lines 1 text 0 (units_outcome node.now (option_map node_columns o) rest))) }
     ensures bad { IfErr result (IfBad (λ fault. (text : List ℕ) × (page.new ≡ page.old ++ text)
-        × ((rest : List (List ℕ)) → units_outcome node.now None (line.now ∷ rest) ≡ behind_text text (stopped_lines (flaw_of fault))))) }
+        × ((rest : List (List ℕ)) →
+        units_outcome node.now None (line.now ∷ rest) ≡ behind_text text (stopped_lines (flaw_of fault))))) }
 {
     match reader_of(alloc, line, node.certified().function()) {
         Ok(Some(reader)) => {
@@ -190,7 +202,9 @@ fn take_event<'a, const B: u32>(
         × ((rest : List (List ℕ)) → units_outcome node.old (Some (node_columns reader.now)) (line.now ∷ rest)
         ≡ behind_lines 1 text (one is_row) (units_outcome node.new (Some (node_columns reader.now)) rest))) }
     ensures bad { IfErr result (IfBad (λ fault. (text : List ℕ) × (page.new ≡ page.old ++ text)
-        × ((rest : List (List ℕ)) → units_outcome node.old (Some (node_columns reader.now)) (line.now ∷ rest) ≡ behind_text text (stopped_lines (flaw_of fault))))) }
+        × ((rest : List (List ℕ)) →
+        units_outcome node.old (Some (node_columns reader.now)) (line.now ∷ rest)
+        ≡ behind_text text (stopped_lines (flaw_of fault))))) }
 {
     match read_event(alloc, line, reader, node.certified().function(), units, row) {
         Ok(Some(unit)) => {

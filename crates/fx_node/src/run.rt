@@ -65,12 +65,16 @@ fn run_at<const B: u32, S: Source<K>, K: Sink>(
     requires few { units ≤ 1024 }
     requires limit { limit < 2 ^ 64 - 1 }
     ensures done { let o = node_outcome certified.now.function certified.now.program units in
-        IfOk result (λ n. IfSome (S.left source.old) (λ all. IsDone (o (lines_in all)) n (K.taken sink.old) (K.taken sink.new))) }
+        IfOk result (λ n. IfSome (S.left source.old)
+        (λ all. IsDone (o (lines_in all)) n (K.taken sink.old) (K.taken sink.new))) }
     ensures end { OnOk result (IsAtEnd (S.left source.new)) }
     ensures due { let o = node_outcome certified.now.function certified.now.program units in
         IfErr result (IsDue flaw_of o (S.left source.old) (S.left source.new) (K.taken sink.old) (K.taken sink.new)) }
-    ensures prompt { HoldsEachTime (IsAnswered (node_outcome certified.now.function certified.now.program units) (S.left source.old) (K.taken sink.old)) (S.asked source.old) (S.asked source.new) }
-    ensures taken { (taken : List ℕ) × Consumes (S.left source.old) (S.left source.new) taken × (IsErrOf result TooLong ↔ (limit < length taken)) }
+    ensures prompt { HoldsEachTime
+        (IsAnswered (node_outcome certified.now.function certified.now.program units) (S.left source.old)
+        (K.taken sink.old)) (S.asked source.old) (S.asked source.new) }
+    ensures taken { (taken : List ℕ) × Consumes (S.left source.old) (S.left source.new) taken ×
+        (IsErrOf result TooLong ↔ (limit < length taken)) }
     ensures grown { Grows (K.taken sink.old) (K.taken sink.new) }
     ensures read_fault { IsErrOf result ReadFault → Rose (S.faults source.old) (S.faults source.new) }
     ensures write_fault { IsErrOf result WriteFault → Rose (K.faults sink.old) (K.faults sink.new) }
@@ -97,8 +101,8 @@ fn width_of(certified: &Certified) -> u32
 /// number of rows.
 ///
 /// Lines are read as `run_rows` of `fx_run` reads them; the header has a column `unit` besides, which may also be an
-/// input's, and each row names a unit from 0 that is below `units`. A row steps its own unit alone, and its line is that
-/// unit's number with the outputs behind it.
+/// input's, and each row names a unit from 0 that is below `units`. A row steps its own unit alone, and its line is
+/// that unit's number with the outputs behind it.
 pub fn run_node<S: Source<K>, K: Sink>(
     alloc: Global,
     certified: &Certified,
@@ -111,12 +115,16 @@ pub fn run_node<S: Source<K>, K: Sink>(
     requires few { units ≤ 1024 }
     requires limit { limit < 2 ^ 64 - 1 }
     ensures done { let o = node_outcome certified.now.function certified.now.program units in
-        IfOk result (λ n. IfSome (S.left source.old) (λ all. IsDone (o (lines_in all)) n (K.taken sink.old) (K.taken sink.new))) }
+        IfOk result (λ n. IfSome (S.left source.old)
+        (λ all. IsDone (o (lines_in all)) n (K.taken sink.old) (K.taken sink.new))) }
     ensures end { OnOk result (IsAtEnd (S.left source.new)) }
     ensures due { let o = node_outcome certified.now.function certified.now.program units in
         IfErr result (IsDue flaw_of o (S.left source.old) (S.left source.new) (K.taken sink.old) (K.taken sink.new)) }
-    ensures prompt { HoldsEachTime (IsAnswered (node_outcome certified.now.function certified.now.program units) (S.left source.old) (K.taken sink.old)) (S.asked source.old) (S.asked source.new) }
-    ensures taken { (taken : List ℕ) × Consumes (S.left source.old) (S.left source.new) taken × (IsErrOf result TooLong ↔ (limit < length taken)) }
+    ensures prompt { HoldsEachTime
+        (IsAnswered (node_outcome certified.now.function certified.now.program units) (S.left source.old)
+        (K.taken sink.old)) (S.asked source.old) (S.asked source.new) }
+    ensures taken { (taken : List ℕ) × Consumes (S.left source.old) (S.left source.new) taken ×
+        (IsErrOf result TooLong ↔ (limit < length taken)) }
     ensures honest { UnitsLaw certified.now.function certified.now.program certified.now.certificate }
     ensures grown { Grows (K.taken sink.old) (K.taken sink.new) }
     ensures read_fault { IsErrOf result ReadFault → Rose (S.faults source.old) (S.faults source.new) }

@@ -26,14 +26,16 @@ floor_far (negsuc a) s f h l = absurd (omega (arith, ints))
 -- by 128 and more a ceiling is 1 above zero
 pub ceiling_far_above : (v : ℤ) (s : ℕ) → FitsSigned w128 v → 128 ≤ s → pos 0 <ℤ v → pos 1 ≡ ceil_div v (2 ^ s)
 ceiling_far_above (pos zero) s f h l = absurd (omega (arith, ints))
-ceiling_far_above (pos (suc a)) s f h l = ap (λ (n : ℕ). pos (suc n)) (sym (nothing_above a 127 s (let q = f.sfits in omega arith) (omega arith)))
+ceiling_far_above (pos (suc a)) s f h l =
+    ap (λ (n : ℕ). pos (suc n)) (sym (nothing_above a 127 s (let q = f.sfits in omega arith) (omega arith)))
 ceiling_far_above (negsuc a) s f h l = absurd (omega (arith, ints))
 
 -- and 0 else
 pub ceiling_far : (v : ℤ) (s : ℕ) → FitsSigned w128 v → 128 ≤ s → v ≤ℤ pos 0 → pos 0 ≡ ceil_div v (2 ^ s)
 ceiling_far (pos zero) s f h l = sym (ap (λ (n : ℕ). neg_ℤ (pos n)) (nothing_above 0 127 s (lit< tt) (omega arith)))
 ceiling_far (pos (suc a)) s f h l = absurd (omega (arith, ints))
-ceiling_far (negsuc a) s f h l = sym (ap (λ (n : ℕ). neg_ℤ (pos n)) (nothing_above (suc a) 128 s (let q = f.sfits in omega arith) h))
+ceiling_far (negsuc a) s f h l =
+    sym (ap (λ (n : ℕ). neg_ℤ (pos n)) (nothing_above (suc a) 128 s (let q = f.sfits in omega arith) h))
 
 -- a magnitude fits once it's shifted by one or more
 pub half_fits : (n s : ℕ) → n ≤ 2 ^ 127 → (s ≡ 0 → ⊥) → n / 2 ^ s < 2 ^ 127
@@ -56,10 +58,15 @@ room_back a s h l =
 
 -- no bit of a is at place k or above
 none_from : (a k : ℕ) → a / 2 ^ k ≡ 0 → a < 2 ^ k
-none_from a k e = let d = div-add-mod' a (2 ^ k) in let l = mod_below a (2 ^ k) (pow_pos k) in let z = ap (λ (n : ℕ). n * 2 ^ k) e in omega arith
+none_from a k e =
+    let d = div-add-mod' a (2 ^ k) in
+    let l = mod_below a (2 ^ k) (pow_pos k) in
+    let z = ap (λ (n : ℕ). n * 2 ^ k) e in
+    omega arith
 
 -- all that a shift to the left drops is the sign exactly where the product fits
-pub only_sign : (v : ℤ) (s : ℕ) → FitsSigned w128 v → s < 128 → of_z w128 (floor_div v (2 ^ (127 - s))) ≡ of_z w128 (floor_div v (2 ^ 127)) → In128 (v *ℤ pos (2 ^ s))
+pub only_sign : (v : ℤ) (s : ℕ) → FitsSigned w128 v → s < 128 →
+    of_z w128 (floor_div v (2 ^ (127 - s))) ≡ of_z w128 (floor_div v (2 ^ 127)) → In128 (v *ℤ pos (2 ^ s))
 only_sign (pos a) s f h e =
     let l = f.sfits in let z = nothing_above a 127 127 l (omega arith) in
     let r = room a s h (none_from a (127 - s) (omega arith)) in let p = pow_pos s in
@@ -71,7 +78,8 @@ only_sign (negsuc a) s f h e =
     record { low = omega (arith, ints); high = omega (arith, ints) }
 
 -- and back
-pub only_sign_back : (v : ℤ) (s : ℕ) → FitsSigned w128 v → s < 128 → In128 (v *ℤ pos (2 ^ s)) → of_z w128 (floor_div v (2 ^ (127 - s))) ≡ of_z w128 (floor_div v (2 ^ 127))
+pub only_sign_back : (v : ℤ) (s : ℕ) → FitsSigned w128 v → s < 128 → In128 (v *ℤ pos (2 ^ s)) →
+    of_z w128 (floor_div v (2 ^ (127 - s))) ≡ of_z w128 (floor_div v (2 ^ 127))
 only_sign_back (pos a) s f h i =
     let u = i.high in let z = nothing_above a 127 127 f.sfits (omega arith) in
     let y = div-eq_of_lt (room_back a s h (omega (arith, ints))) in omega arith
@@ -80,7 +88,8 @@ only_sign_back (negsuc a) s f h i =
     let y = div-eq_of_lt (room_back a s h (omega (arith, ints))) in omega arith
 
 -- where m stands for -k in 128 bits, m times a number stands for -k times it
-negative_times : (m k q : ℕ) → m + k ≡ 2 ^ 128 → 0 < k * suc q → k * suc q ≤ 2 ^ 128 → (m * suc q) % 2 ^ 128 ≡ 2 ^ 128 - k * suc q
+negative_times : (m k q : ℕ) → m + k ≡ 2 ^ 128 → 0 < k * suc q → k * suc q ≤ 2 ^ 128 →
+    (m * suc q) % 2 ^ 128 ≡ 2 ^ 128 - k * suc q
 negative_times m k q h above below =
     let e : m * suc q ≡ q * 2 ^ 128 + (2 ^ 128 - k * suc q) = omega (arith, ap (λ (n : ℕ). n * suc q) h) in
     ap (λ (n : ℕ). n % 2 ^ 128) e ∙ mod-mul-add q (2 ^ 128) (2 ^ 128 - k * suc q) (omega arith)
@@ -99,7 +108,8 @@ left_is (pos a) (suc q) above i =
 left_is (negsuc a) (suc q) above i =
     let l = i.low in
     let some : 0 < suc a * suc q = omega arith in let half : suc a * suc q ≤ 2 ^ 127 = omega (arith, ints) in
-    ap (to_z w128) (negative_times (2 ^ 128 - suc a) (suc a) q (omega (arith, ints)) some (omega arith)) ∙ negative_is (suc a * suc q) some half
+    ap (to_z w128) (negative_times (2 ^ 128 - suc a) (suc a) q (omega (arith, ints)) some (omega arith))
+    ∙ negative_is (suc a * suc q) some half
 
 -- by 128 and more nothing but zero fits
 pub far_left : (v : ℤ) (s : ℕ) → (v ≡ pos 0 → ⊥) → 128 ≤ s → In128 (v *ℤ pos (2 ^ s)) → ⊥
@@ -117,5 +127,6 @@ pub short_power : (k : ℕ) → k ≤ 62 → to_z w64 (1 * 2 ^ k % 1844674407370
 short_power k h =
     let p : 2 ^ k ≤ 2 ^ 62 = pow_mono h in
     let a : 1 * 2 ^ k ≡ 2 ^ k = omega arith in
-    let b : 1 * 2 ^ k % 18446744073709551616 ≡ 2 ^ k = ap (λ (n : ℕ). n % 18446744073709551616) a ∙ mod-eq_of_lt (omega arith) in
+    let b : 1 * 2 ^ k % 18446744073709551616 ≡ 2 ^ k = ap (λ (n : ℕ). n % 18446744073709551616) a
+    ∙ mod-eq_of_lt (omega arith) in
     ap (λ (n : ℕ). to_z w64 n) b ∙ to_z_pos w64 (2 ^ k) (omega arith)

@@ -79,7 +79,8 @@ pub fn lowest(m: i128, e: u32) -> Dyadic {
     )
 }
 
-/// `a + b`, both mantissas brought to the greater exponent. None where a mantissa leaves 128 bits, after that or in the sum.
+/// `a + b`, both mantissas brought to the greater exponent. None where a mantissa leaves 128 bits, after that or in the
+/// sum.
 #[tactic(auto, unfolding(fx_rational::specs::Dyadic::sum_fits, fx_rational::specs::Dyadic::dyadic_sum))]
 pub fn dadd(a: Dyadic, b: Dyadic) -> Option<Dyadic>
     ensures { SomeIff result (IsTrue (sum_fits a b)) (dyadic_sum a b) }

@@ -1,7 +1,7 @@
 //! The limits of functions, programs and certificates, each once, as `fx_model/specs/Limits.antt` defines them.
 //!
-//! They stand here since every reader, judge and search stands on this crate. The limits of a command's own files and rows
-//! are that command's.
+//! They stand here since every reader, judge and search stands on this crate. The limits of a command's own files and
+//! rows are that command's.
 
 /// The most inputs.
 pub const INPUT_LIMIT: u32 = 64;

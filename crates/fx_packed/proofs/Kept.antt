@@ -12,5 +12,7 @@ unpacked_counted (n ∷ ns) bs = ap suc (unpacked_counted ns (drop (n / 8) bs))
 pub unpacked_fit : WrappedLaw → (ns bs : List ℕ) → AreKnown ns → FitWidths ns (unpacked ns bs)
 unpacked_fit law [] bs known k lt = absurd (omega arith)
 unpacked_fit law (n ∷ ns) bs known zero lt =
-    let w = (width_of n (known 0 (omega arith))).least in (law n (pos (number_of (take (n / 8) bs))) (omega arith)).0.word
-unpacked_fit law (n ∷ ns) bs known (suc k) lt = unpacked_fit law ns (drop (n / 8) bs) (λ j l. known (suc j) (omega arith)) k (omega arith)
+    let w = (width_of n (known 0 (omega arith))).least in
+    (law n (pos (number_of (take (n / 8) bs))) (omega arith)).0.word
+unpacked_fit law (n ∷ ns) bs known (suc k) lt =
+    unpacked_fit law ns (drop (n / 8) bs) (λ j l. known (suc j) (omega arith)) k (omega arith)

@@ -38,11 +38,13 @@ zero_bytes (suc k) = ap (λ bs. 0 ∷ bs) (zero_bytes k)
 zeros_packed : (ns : List ℕ) → packed ns (replicate (length ns) (pos 0)) ≡ replicate (size_of ns) 0
 zeros_packed [] = refl
 zeros_packed (n ∷ ns) =
-    ap (λ bs. bs ++ packed ns (replicate (length ns) (pos 0))) (zero_bytes (n / 8)) ∙ ap (λ bs. replicate (n / 8) 0 ++ bs) (zeros_packed ns)
+    ap (λ bs. bs ++ packed ns (replicate (length ns) (pos 0))) (zero_bytes (n / 8))
+    ∙ ap (λ bs. replicate (n / 8) 0 ++ bs) (zeros_packed ns)
     ∙ replicate-append-replicate (n / 8) (size_of ns) 0
 
 zero_word : (n : ℕ) → IsWord n (pos 0)
-zero_word n = let p = pow_pos (n - 1) in is_word_from n (pos 0) (record { low = omega (arith, ints); high = omega (arith, ints) })
+zero_word n =
+    let p = pow_pos (n - 1) in is_word_from n (pos 0) (record { low = omega (arith, ints); high = omega (arith, ints) })
 
 zero_at : (m k : ℕ) → at (pos 0) (replicate m (pos 0)) k ≡ pos 0
 zero_at zero k = refl
@@ -50,7 +52,8 @@ zero_at (suc m) zero = refl
 zero_at (suc m) (suc k) = zero_at m k
 
 -- bytes of 0 are words of 0
-pub zeros_unpacked : PackedLaw → (ns : List ℕ) → AreKnown ns → unpacked ns (replicate (size_of ns) 0) ≡ replicate (length ns) (pos 0)
+pub zeros_unpacked : PackedLaw → (ns : List ℕ) → AreKnown ns →
+    unpacked ns (replicate (size_of ns) 0) ≡ replicate (length ns) (pos 0)
 zeros_unpacked law ns known =
     ap (unpacked ns) (sym (zeros_packed ns))
     ∙ law ns (replicate (length ns) (pos 0)) known (length-replicate (length ns) (pos 0))

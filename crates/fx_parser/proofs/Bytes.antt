@@ -12,7 +12,8 @@ pub of_text : (bytes : List ℕ) (name : Option Text) → IsUtf8 bytes → parse
 unfolding parsed
 of_text bytes name u = rw (is_utf8-from_IsUtf8 bytes u) refl
 
-pub of_no_text : (bytes : List ℕ) (name : Option Text) → (IsUtf8 bytes → ⊥) → parsed bytes name ≡ Err (fault (utf8_valid_len bytes) BadUtf8)
+pub of_no_text : (bytes : List ℕ) (name : Option Text) → (IsUtf8 bytes → ⊥) →
+    parsed bytes name ≡ Err (fault (utf8_valid_len bytes) BadUtf8)
 unfolding parsed
 of_no_text bytes name lacks = by (is_utf8 bytes) refl where
   by : (b : Bool) → is_utf8 bytes ≡ b → parsed bytes name ≡ Err (fault (utf8_valid_len bytes) BadUtf8)

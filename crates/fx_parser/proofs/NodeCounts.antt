@@ -14,5 +14,7 @@ with_copies : (es : List Tree) → result_nodes es ≡ all_tree_nodes es + lengt
 with_copies [] = refl
 with_copies (e ∷ es) = omega (arith, with_copies es)
 
-pub all_nodes : (f : Function) → length (nodes_of f) ≡ length f.inputs + length f.states + temp_nodes f.temps + all_tree_nodes f.results + length f.results
+pub all_nodes : (f : Function) →
+    length (nodes_of f) ≡ length f.inputs + length f.states + temp_nodes f.temps + all_tree_nodes f.results +
+    length f.results
 all_nodes f = omega (arith, node_count_is f, with_copies f.results)

@@ -11,11 +11,13 @@ use Rattle.fx_grammar.specs.Steps.{when, Tokens, Parsed, want, wrong, real_at, p
 use Rattle.fx_model.proofs.Steps.{on_ok}
 use Rattle.fx_parser.specs.LawfulTokens.{IsSound, AreSound}
 
-pub on_if : {A E P : Type 0} (b : Bool) (r s : Result A E) (y : A) → cond b r s ≡ Ok y → (b ≡ true → r ≡ Ok y → P) → (b ≡ false → s ≡ Ok y → P) → P
+pub on_if : {A E P : Type 0} (b : Bool) (r s : Result A E) (y : A) → cond b r s ≡ Ok y → (b ≡ true → r ≡ Ok y → P) →
+    (b ≡ false → s ≡ Ok y → P) → P
 on_if true r s y e f g = f refl e
 on_if false r s y e f g = g refl e
 
-pub on_when : {A E P : Type 0} (b : Bool) (r s : Unit {0} → Result A E) (y : A) → when b r s ≡ Ok y → (b ≡ true → r (tt {0}) ≡ Ok y → P) → (b ≡ false → s (tt {0}) ≡ Ok y → P) → P
+pub on_when : {A E P : Type 0} (b : Bool) (r s : Unit {0} → Result A E) (y : A) → when b r s ≡ Ok y →
+    (b ≡ true → r (tt {0}) ≡ Ok y → P) → (b ≡ false → s (tt {0}) ≡ Ok y → P) → P
 on_when true r s y e f g = f refl e
 on_when false r s y e f g = g refl e
 
@@ -24,7 +26,8 @@ pub passed : {A E : Type 0} (b : Bool) (x y : A) (f : E) → cond b (Ok x) (Err 
 passed true x y f e = (refl, cc)
 passed false x y f e = absurd cc
 
-pub refused : {A E : Type 0} (b : Bool) (f : E) (r : Result A E) (y : A) → cond b (Err f) r ≡ Ok y → (b ≡ false) × (r ≡ Ok y)
+pub refused : {A E : Type 0} (b : Bool) (f : E) (r : Result A E) (y : A) → cond b (Err f) r ≡ Ok y →
+    (b ≡ false) × (r ≡ Ok y)
 refused true f r y e = absurd cc
 refused false f r y e = (refl, e)
 
@@ -47,12 +50,14 @@ sound_semicolon ts s = by (next_head ts ==ₕ heads.Semicolon) where
   by false = s
 
 -- a token that was wanted, and the rest
-pub want_ok : (end : ℕ) (h : Head) (ts : Tokens) (x : Lexeme × Tokens) → AreSound ts → want end h ts ≡ Ok x → ((head_of x.0 ==ₕ h) ≡ true) × IsSound x.0 × AreSound x.1
+pub want_ok : (end : ℕ) (h : Head) (ts : Tokens) (x : Lexeme × Tokens) → AreSound ts → want end h ts ≡ Ok x →
+    ((head_of x.0 ==ₕ h) ≡ true) × IsSound x.0 × AreSound x.1
 unfolding want
 want_ok end h [] x s e = absurd cc
 want_ok end h (t ∷ ts) x s e =
     let p = passed (head_of t ==ₕ h) (t, ts) x (wrong end (t ∷ ts)) e in
-    subst (λ (y : Lexeme × Tokens). ((head_of y.0 ==ₕ h) ≡ true) × IsSound y.0 × AreSound y.1) p.1 (p.0, All-head IsSound t ts s, All-tail IsSound t ts s)
+    subst (λ (y : Lexeme × Tokens). ((head_of y.0 ==ₕ h) ≡ true) × IsSound y.0 ×
+    AreSound y.1) p.1 (p.0, All-head IsSound t ts s, All-tail IsSound t ts s)
 
 pub real_ok : (end : ℕ) (ts : Tokens) (x : Lexeme × Tokens) → AreSound ts → real_at end ts ≡ Ok x → AreSound x.1
 unfolding real_at
@@ -64,9 +69,11 @@ real_ok end ts x s e = on_ok _ _ x e (λ t te e.
 
 pub repeat_ok : {S : Type 0} (P : S → Type 0) (goes_on : S → Tokens → Bool) (step : S → Tokens → Parsed S)
     → ((s : S) (ts : Tokens) (x : S × Tokens) → P s → AreSound ts → step s ts ≡ Ok x → P x.0 × AreSound x.1)
-    → (turns : ℕ) (s : S) (ts : Tokens) (x : S × Tokens) → P s → AreSound ts → repeat goes_on step turns s ts ≡ Ok x → P x.0 × AreSound x.1
+    → (turns : ℕ) (s : S) (ts : Tokens) (x : S × Tokens) → P s → AreSound ts → repeat goes_on step turns s ts ≡ Ok x →
+    P x.0 × AreSound x.1
 unfolding repeat
-repeat_ok {S} P goes_on step k zero s ts x p o e = subst (λ (y : S × Tokens). P y.0 × AreSound y.1) (same_ok (s, ts) x e) (p, o)
+repeat_ok {S} P goes_on step k zero s ts x p o e =
+    subst (λ (y : S × Tokens). P y.0 × AreSound y.1) (same_ok (s, ts) x e) (p, o)
 repeat_ok {S} P goes_on step k (suc turns) s ts x p o e =
     on_when (goes_on s ts) _ _ x e
     (λ on e. on_ok _ _ x e (λ y ye e. let q = k s ts y p o ye in repeat_ok P goes_on step k turns y.0 y.1 x q.0 q.1 e))
@@ -76,11 +83,13 @@ repeat_ok {S} P goes_on step k (suc turns) s ts x p o e =
 pub separated_ok : {S : Type 0} (P Q : S → Type 0) (sign : Head) (item : S → Tokens → Parsed S)
     → ((s : S) (ts : Tokens) (x : S × Tokens) → P s → AreSound ts → item s ts ≡ Ok x → Q x.0 × AreSound x.1)
     → ((s : S) (ts : Tokens) (x : S × Tokens) → Q s → AreSound ts → item s ts ≡ Ok x → Q x.0 × AreSound x.1)
-    → (s : S) (ts : Tokens) (x : S × Tokens) → P s → AreSound ts → separated sign item s ts ≡ Ok x → Q x.0 × AreSound x.1
+    → (s : S) (ts : Tokens) (x : S × Tokens) → P s → AreSound ts → separated sign item s ts ≡ Ok x →
+    Q x.0 × AreSound x.1
 unfolding separated
 separated_ok P Q sign item j k s ts x p o e = on_ok _ _ x e (λ y ye e.
     let q = j s ts y p o ye in
-    repeat_ok Q (stands_next sign) (behind item) (λ s ts x p o e. k s (drop 1 ts) x p (sound_drop 1 ts o) e) (suc (length y.1)) y.0 y.1 x q.0 q.1 e)
+    repeat_ok Q (stands_next sign) (behind item) (λ s ts x p o e. k s (drop 1 ts) x p (sound_drop 1 ts o) e)
+    (suc (length y.1)) y.0 y.1 x q.0 q.1 e)
 
 pub listed_ok : {S : Type 0} (P Q : S → Type 0) (item : S → Tokens → Parsed S) (end : ℕ)
     → ((s : S) (ts : Tokens) (x : S × Tokens) → P s → AreSound ts → item s ts ≡ Ok x → Q x.0 × AreSound x.1)

@@ -42,12 +42,25 @@ from_numeral : (n : Numeral) → is_minus n.sign ≡ false → IsSize (value_or 
 from_numeral n e = rw e (kept (fewest_places (mantissa n) (places n)))
 
 unsigned_size : (text : List ℕ) → IsSize (value_or (decimal_from (unsigned_of unwritten text)))
-unsigned_size text = by (nat_lt 0 (digit_count text + length (part_digits (part_of (behind_digits text))))) (power_of (behind_part (behind_digits text))) where
-  by : (b : Bool) (o : Option (Option Power)) → IsSize (value_or (decimal_from (cond b
-      (option_map (λ p. record { sign = unwritten; whole = first_digits text; part = part_of (behind_digits text); power = p }) o) None)))
-  by false o = is_size 0 0
-  by true None = is_size 0 0
-  by true (Some p) = from_numeral (record { sign = unwritten; whole = first_digits text; part = part_of (behind_digits text); power = p }) refl
+unsigned_size text =
+    by (nat_lt 0 (digit_count text + length (part_digits (part_of (behind_digits text)))))
+    (power_of (behind_part (behind_digits text))) where
+      by : (b : Bool) (o : Option (Option Power)) → IsSize (value_or (decimal_from (cond b
+          (option_map (λ p. record {
+            sign = unwritten;
+            whole = first_digits text;
+            part = part_of (behind_digits text);
+            power = p;
+          }) o) None)))
+      by false o = is_size 0 0
+      by true None = is_size 0 0
+      by true (Some p) =
+          from_numeral (record {
+            sign = unwritten;
+            whole = first_digits text;
+            part = part_of (behind_digits text);
+            power = p;
+          }) refl
 
 number_size : (text : List ℕ) → sign_of text ≡ unwritten → IsSize (decimal text)
 unfolding decimal decimal_of numeral_of
@@ -66,17 +79,24 @@ no_sign (suc n) (c ∷ cs) d =
 -- ---- names
 
 -- the word at the front is reserved or a name
-word_sound : (text : List ℕ) → is_letter (get_or text 0 0) ≡ true → IsSoundText (cond (is_reserved (take (prefix_len is_word_byte text) text)) Word Name) (take (prefix_len is_word_byte text) text)
+word_sound : (text : List ℕ) → is_letter (get_or text 0 0) ≡ true →
+    IsSoundText (cond (is_reserved (take (prefix_len is_word_byte text) text)) Word Name)
+    (take (prefix_len is_word_byte text) text)
 word_sound [] w = absurd cc
 word_sound (c ∷ cs) w =
     let first : is_word_byte c ≡ true = rw w refl in
     let one : 1 + prefix_len is_word_byte cs ≡ suc (prefix_len is_word_byte cs) = omega arith in
-    let q : take (prefix_len is_word_byte (c ∷ cs)) (c ∷ cs) ≡ c ∷ take (prefix_len is_word_byte cs) cs = rw (first, one) refl in
-    subst (λ (t : List ℕ). IsSoundText (cond (is_reserved t) Word Name) t) (sym q) (by (is_reserved (c ∷ take (prefix_len is_word_byte cs) cs)) refl)
+    let q : take (prefix_len is_word_byte (c ∷ cs)) (c ∷ cs) ≡ c ∷ take (prefix_len is_word_byte cs) cs =
+    rw (first, one) refl in
+    subst (λ (t : List ℕ). IsSoundText (cond (is_reserved t) Word Name) t) (sym q)
+    (by (is_reserved (c ∷ take (prefix_len is_word_byte cs) cs)) refl)
   where
-    by : (b : Bool) → is_reserved (c ∷ take (prefix_len is_word_byte cs) cs) ≡ b → IsSoundText (cond b Word Name) (c ∷ take (prefix_len is_word_byte cs) cs)
+    by : (b : Bool) → is_reserved (c ∷ take (prefix_len is_word_byte cs) cs) ≡ b →
+        IsSoundText (cond b Word Name) (c ∷ take (prefix_len is_word_byte cs) cs)
     by true e = tt {0}
-    by false e = let rest : list_all is_word_byte (take (prefix_len is_word_byte cs) cs) ≡ true = all_first is_word_byte cs in rw (w, rest, e) refl
+    by false e =
+        let rest : list_all is_word_byte (take (prefix_len is_word_byte cs) cs) ≡ true = all_first is_word_byte cs in
+        rw (w, rest, e) refl
 
 -- ---- tokens
 
@@ -86,16 +106,26 @@ item_good x = Ok x
 item_ok : (x y : Item) → item_good x ≡ Ok y → x ≡ y
 item_ok x y e = cc
 
-sound_item : (text : List ℕ) (kind : TokenKind) (n : ℕ) → first_item text ≡ Ok (token_item kind n) → IsSoundText kind (take n text)
+sound_item : (text : List ℕ) (kind : TokenKind) (n : ℕ) → first_item text ≡ Ok (token_item kind n) →
+    IsSoundText kind (take n text)
 sound_item text kind n e = by (first_item text) (front_is text) e
   where
-    same : (k : TokenKind) (m : ℕ) → token_item k m ≡ token_item kind n → IsSoundText k (take m text) → IsSoundText kind (take n text)
-    same k m e s = let some : Some k ≡ Some kind = ap (λ (i : Item). i.kind) e in let p : k ≡ kind = cc in let q : m ≡ n = ap (λ (i : Item). i.len) e in subst (λ (j : TokenKind). IsSoundText j (take n text)) p (subst (λ (i : ℕ). IsSoundText k (take i text)) q s)
+    same : (k : TokenKind) (m : ℕ) → token_item k m ≡ token_item kind n → IsSoundText k (take m text) →
+        IsSoundText kind (take n text)
+    same k m e s =
+        let some : Some k ≡ Some kind = ap (λ (i : Item). i.kind) e in
+        let p : k ≡ kind = cc in
+        let q : m ≡ n = ap (λ (i : Item). i.len) e in
+        subst (λ (j : TokenKind). IsSoundText j (take n text)) p (subst (λ (i : ℕ). IsSoundText k (take i text)) q s)
 
-    number : (a b : Bool) → is_ascii_digit (get_or text 0 0) ≡ true → cond a (Err NumberTooLong) (cond b (Err BadNumber) (Ok (token_item Number (number_len text)))) ≡ Ok (token_item kind n) → IsSoundText kind (take n text)
+    number : (a b : Bool) → is_ascii_digit (get_or text 0 0) ≡ true →
+        cond a (Err NumberTooLong) (cond b (Err BadNumber) (Ok (token_item Number (number_len text))))
+        ≡ Ok (token_item kind n) → IsSoundText kind (take n text)
     number true b d e = absurd cc
     number false true d e = absurd cc
-    number false false d e = same Number (number_len text) (item_ok _ _ e) (number_size (take (number_len text) text) (no_sign (number_len text) text d))
+    number false false d e =
+        same Number (number_len text) (item_ok _ _ e)
+        (number_size (take (number_len text) text) (no_sign (number_len text) text d))
 
     no_token : (m : ℕ) → item_good (item_gap m) ≡ Ok (token_item kind n) → IsSoundText kind (take n text)
     no_token m e = let k : None ≡ Some kind = ap (λ (i : Item). i.kind) (item_ok _ _ e) in absurd cc
@@ -110,7 +140,9 @@ sound_item text kind n e = by (first_item text) (front_is text) e
 
     by : (r : Result Item SourceKind) → IsFront text r → r ≡ Ok (token_item kind n) → IsSoundText kind (take n text)
     by r (at_blank b) e = no_token 1 e
-    by r (at_word w) e = same (cond (is_reserved (take (prefix_len is_word_byte text) text)) Word Name) (prefix_len is_word_byte text) (item_ok _ _ e) (word_sound text w)
+    by r (at_word w) e =
+        same (cond (is_reserved (take (prefix_len is_word_byte text) text)) Word Name) (prefix_len is_word_byte text)
+        (item_ok _ _ e) (word_sound text w)
     by r (at_number d) e = number _ _ d e
     by r (at_line p q) e = no_token _ e
     by r (at_comment p q) e = comment _ e
@@ -120,7 +152,8 @@ sound : {at : ℕ} {fresh : Bool} {text : List ℕ} {ts : Tokens} → IsLaidOut 
 sound (nothing at fresh) = All-nil IsSound
 sound (gap at fresh front rest ts g h) = sound h
 sound (token at fresh kind front rest ts some f h) =
-    All-cons IsSound _ ts (subst (IsSoundText kind) (take-append_seam front rest) (sound_item (front ++ rest) kind (length front) f)) (sound h)
+    All-cons IsSound _ ts (subst (IsSoundText kind) (take-append_seam front rest)
+    (sound_item (front ++ rest) kind (length front) f)) (sound h)
 
 pub tokens_sound : (text : List ℕ) (ts : Tokens) → tokens_of text ≡ Ok ts → AreSound ts
 tokens_sound text ts e = sound ((layout text ts).0 e)

@@ -28,21 +28,25 @@ abbrev pub IsOperand : ℕ → ℕ → ℕ → Operand → Type 0
 IsOperand i k m x = IsTree i k m x.tree x.height x.nodes
 
 module _ (i k m : ℕ) where
-  negated_tree : (t : Option Tree) (h n : ℕ) → IsTree i k m t h n → IsTree i k m (low_tree (min 201 (1 + h)) (negation_of t)) (min 201 (1 + h)) (counted_nodes (1 + n))
+  negated_tree : (t : Option Tree) (h n : ℕ) → IsTree i k m t h n →
+      IsTree i k m (low_tree (min 201 (1 + h)) (negation_of t)) (min 201 (1 + h)) (counted_nodes (1 + n))
   negated_tree None h n e = by (nat_le (min 201 (1 + h)) 200) where
     by : (b : Bool) → IsTree i k m (cond b None None) (min 201 (1 + h)) (counted_nodes (1 + n))
     by true = omega (arith, e)
     by false = omega (arith, e)
   negated_tree (Some t) h n e = by (nat_le (min 201 (1 + h)) 200) refl where
-    by : (b : Bool) → nat_le (min 201 (1 + h)) 200 ≡ b → IsTree i k m (cond b (Some (Negation t)) None) (min 201 (1 + h)) (counted_nodes (1 + n))
-    by true q = let le : min 201 (1 + h) ≤ 200 = search (rules, tests) in (e.0, omega (arith, le, e.1), le, omega (arith, e.3))
+    by : (b : Bool) → nat_le (min 201 (1 + h)) 200 ≡ b →
+        IsTree i k m (cond b (Some (Negation t)) None) (min 201 (1 + h)) (counted_nodes (1 + n))
+    by true q =
+        let le : min 201 (1 + h) ≤ 200 = search (rules, tests) in (e.0, omega (arith, le, e.1), le, omega (arith, e.3))
     by false q = let lt : 200 < min 201 (1 + h) = search (rules, tests) in omega (arith, lt)
 
   pub negation_ok : (x : Operand) → IsOperand i k m x → IsOperand i k m (negation x)
   negation_ok x e = negated_tree x.tree x.height x.nodes e
 
   -- one of the four operations
-  by_sign : (P : Tree → Type 0) (x y : Tree) → P (Sum x y) → P (Difference x y) → P (Product x y) → P (Quotient x y) → (sign : Head) → P (operation sign x y)
+  by_sign : (P : Tree → Type 0) (x y : Tree) → P (Sum x y) → P (Difference x y) → P (Product x y) → P (Quotient x y) →
+      (sign : Head) → P (operation sign x y)
   by_sign P x y s d p q heads.End = q
   by_sign P x y s d p q heads.Name = q
   by_sign P x y s d p q heads.Number = q
@@ -75,7 +79,8 @@ module _ (i k m : ℕ) where
   by_sign P x y s d p q heads.Unsupported = q
 
   joined_tree : (sign : Head) (x y : Option Tree) (a b n l : ℕ) → IsTree i k m x a n → IsTree i k m y b l
-      → IsTree i k m (low_tree (min 201 (1 + max a b)) (both sign x y)) (min 201 (1 + max a b)) (counted_nodes (1 + n + l))
+      → IsTree i k m (low_tree (min 201 (1 + max a b)) (both sign x y)) (min 201 (1 + max a b))
+      (counted_nodes (1 + n + l))
   joined_tree sign None y a b n l e f = by (nat_le (min 201 (1 + max a b)) 200) where
     by : (c : Bool) → IsTree i k m (cond c None None) (min 201 (1 + max a b)) (counted_nodes (1 + n + l))
     by true = omega (arith, e)
@@ -85,7 +90,8 @@ module _ (i k m : ℕ) where
     by true = omega (arith, f)
     by false = omega (arith, f)
   joined_tree sign (Some x) (Some y) a b n l e f = by (nat_le (min 201 (1 + max a b)) 200) refl where
-    by : (c : Bool) → nat_le (min 201 (1 + max a b)) 200 ≡ c → IsTree i k m (cond c (Some (operation sign x y)) None) (min 201 (1 + max a b)) (counted_nodes (1 + n + l))
+    by : (c : Bool) → nat_le (min 201 (1 + max a b)) 200 ≡ c →
+        IsTree i k m (cond c (Some (operation sign x y)) None) (min 201 (1 + max a b)) (counted_nodes (1 + n + l))
     by true q =
         let le : min 201 (1 + max a b) ≤ 200 = search (rules, tests) in
         let h : min 201 (1 + max a b) ≡ suc (max (height x) (height y)) = omega (arith, le, e.1, f.1) in
@@ -94,7 +100,8 @@ module _ (i k m : ℕ) where
         ((e.0, f.0), h, le, c) ((e.0, f.0), h, le, c) ((e.0, f.0), h, le, c) ((e.0, f.0), h, le, c) sign
     by false q = let lt : 200 < min 201 (1 + max a b) = search (rules, tests) in omega (arith, lt)
 
-  pub joined_ok : (sign : Head) (x y : Operand) → IsOperand i k m x → IsOperand i k m y → IsOperand i k m (combined_operand sign x y)
+  pub joined_ok : (sign : Head) (x y : Operand) → IsOperand i k m x → IsOperand i k m y →
+      IsOperand i k m (combined_operand sign x y)
   joined_ok sign x y e f = joined_tree sign x.tree y.tree x.height y.height x.nodes y.nodes e f
 
   literal_ok : (d : Decimal) → IsOperand i k m (literal d)
@@ -112,7 +119,8 @@ module _ (known : Known) (m : ℕ) (size : length known.names ≡ known.inputs +
   Inner None = Unit {0}
   Inner (Some r) = Reads_well r
 
-  done : (x : Operand) (ts : Tokens) (y : Operand × Tokens) → fine (x, ts) ≡ Ok y → Good x → AreSound ts → Good y.0 × AreSound y.1
+  done : (x : Operand) (ts : Tokens) (y : Operand × Tokens) → fine (x, ts) ≡ Ok y → Good x → AreSound ts →
+      Good y.0 × AreSound y.1
   done x ts y e g s = subst (λ (z : Operand × Tokens). Good z.0 × AreSound z.1) (same_ok (x, ts) y e) (g, s)
 
   meant_ok : (p : ℕ) → p < length known.names → Good (leaf (meant known p) 0)
@@ -121,16 +129,23 @@ module _ (known : Known) (m : ℕ) (size : length known.names ≡ known.inputs +
         → Good (leaf (cond a (Input p) (cond b (State (p - known.inputs)) (Temp (p - known.inputs - known.states)))) 0)
     by true b e f = let l : p < known.inputs = search (rules, tests) in (l, refl, omega arith, refl)
     by false true e f =
-        let g : known.inputs ≤ p = search (rules, tests) in let l : p < known.inputs + known.states = search (rules, tests) in (omega (arith, g, l), refl, omega arith, refl)
+        let g : known.inputs ≤ p = search (rules, tests) in
+        let l : p < known.inputs + known.states = search (rules, tests) in
+        (omega (arith, g, l), refl, omega arith, refl)
     by false false e f =
-        let g : known.inputs + known.states ≤ p = search (rules, tests) in (omega (arith, g, lt, size), refl, omega arith, refl)
+        let g : known.inputs + known.states ≤ p = search (rules, tests) in
+        (omega (arith, g, lt, size), refl, omega arith, refl)
 
-  found_ok : (t : Lexeme) (ts : Tokens) (o : Option ℕ) → name_place known.names t.text ≡ o → (x : Operand × Tokens) → AreSound ts → found_name known t o ts ≡ Ok x → Good x.0 × AreSound x.1
+  found_ok : (t : Lexeme) (ts : Tokens) (o : Option ℕ) → name_place known.names t.text ≡ o → (x : Operand × Tokens) →
+      AreSound ts → found_name known t o ts ≡ Ok x → Good x.0 × AreSound x.1
   found_ok t ts None q x s e = absurd cc
-  found_ok t ts (Some p) q x s e = done _ ts x e (meant_ok p (position-Some (λ name. bytes_eq name t.text) known.names p [] q).0) s
+  found_ok t ts (Some p) q x s e =
+      done _ ts x e (meant_ok p (position-Some (λ name. bytes_eq name t.text) known.names p [] q).0) s
 
   named_ok : (t : Lexeme) → Reads_well (named known t)
-  named_ok t ts x s e = let r = refused (is_call ts) _ (found_name known t (name_place known.names t.text) ts) x e in found_ok t ts _ refl x s r.1
+  named_ok t ts x s e =
+      let r = refused (is_call ts) _ (found_name known t (name_place known.names t.text) ts) x e in
+      found_ok t ts _ refl x s r.1
 
   closed_ok : (y : Operand) → Good y → Reads_well (closed known y)
   unfolding closed
@@ -141,7 +156,8 @@ module _ (known : Known) (m : ℕ) (size : length known.names ≡ known.inputs +
   opened_ok None g t ts x s e = absurd cc
   opened_ok (Some r) g t ts x s e = on_ok _ _ x e (λ y ye e. let q = g ts y s ye in closed_ok y.0 q.0 y.1 x q.1 e)
 
-  atom_by_ok : (inner : Option Reader) → Inner inner → (t : Lexeme) (ts : Tokens) (h : Head) (x : Operand × Tokens) → AreSound ts → atom_by known inner t ts h ≡ Ok x → Good x.0 × AreSound x.1
+  atom_by_ok : (inner : Option Reader) → Inner inner → (t : Lexeme) (ts : Tokens) (h : Head) (x : Operand × Tokens) →
+      AreSound ts → atom_by known inner t ts h ≡ Ok x → Good x.0 × AreSound x.1
   atom_by_ok inner g t ts heads.End x s e = absurd cc
   atom_by_ok inner g t ts heads.Name x s e = named_ok t ts x s e
   atom_by_ok inner g t ts heads.Number x s e = done _ ts x e (literal_ok known.inputs known.states m (decimal t.text)) s
@@ -181,8 +197,11 @@ module _ (known : Known) (m : ℕ) (size : length known.names ≡ known.inputs +
   negated_ok : (inner : Option Reader) → Inner inner → Reads_well (behind_minus known inner)
   unfolding behind_minus
   negated_ok inner g ts x s e = on_when (next_head ts ==ₕ heads.Number) _ _ x e
-      (λ on e. on_ok _ _ x e (λ t te e. done _ t.1 x e (literal_ok known.inputs known.states m (negative_decimal (decimal t.0.text))) (want_ok known.end heads.Number ts t s te).2))
-      (λ off e. on_ok _ _ x e (λ y ye e. let q = atom_ok inner g ts y s ye in done _ y.1 x e (negation_ok known.inputs known.states m y.0 q.0) q.1))
+      (λ on e. on_ok _ _ x e (λ t te e. done _ t.1 x e
+      (literal_ok known.inputs known.states m (negative_decimal (decimal t.0.text)))
+      (want_ok known.end heads.Number ts t s te).2))
+      (λ off e. on_ok _ _ x e (λ y ye e. let q = atom_ok inner g ts y s ye in
+      done _ y.1 x e (negation_ok known.inputs known.states m y.0 q.0) q.1))
 
   factor_ok : (inner : Option Reader) → Inner inner → Reads_well (factor_of known inner)
   unfolding factor_of
@@ -190,7 +209,8 @@ module _ (known : Known) (m : ℕ) (size : length known.names ≡ known.inputs +
       (λ on e. negated_ok inner g (drop 1 ts) x (sound_drop 1 ts s) e)
       (λ off e. atom_ok inner g ts x s e)
 
-  more_ok : (r : Reader) → Reads_well r → (left : Operand) (ts : Tokens) (x : Operand × Tokens) → Good left → AreSound ts → one_more r left ts ≡ Ok x → Good x.0 × AreSound x.1
+  more_ok : (r : Reader) → Reads_well r → (left : Operand) (ts : Tokens) (x : Operand × Tokens) → Good left →
+      AreSound ts → one_more r left ts ≡ Ok x → Good x.0 × AreSound x.1
   more_ok r g left ts x l s e = on_ok _ _ x e (λ y ye e.
       let q = g (drop 1 ts) y (sound_drop 1 ts s) ye in
       done _ y.1 x e (joined_ok known.inputs known.states m (next_head ts) left y.0 l q.0) q.1)
@@ -199,13 +219,15 @@ module _ (known : Known) (m : ℕ) (size : length known.names ≡ known.inputs +
   unfolding term_of
   term_ok inner g ts x s e = on_ok _ _ x e (λ y ye e.
       let q = factor_ok inner g ts y s ye in
-      repeat_ok Good goes_on_product (one_more (factor_of known inner)) (more_ok (factor_of known inner) (factor_ok inner g)) (suc (length y.1)) y.0 y.1 x q.0 q.1 e)
+      repeat_ok Good goes_on_product (one_more (factor_of known inner))
+      (more_ok (factor_of known inner) (factor_ok inner g)) (suc (length y.1)) y.0 y.1 x q.0 q.1 e)
 
   sum_ok : (outside : Bool) (inner : Option Reader) → Inner inner → Reads_well (sum_from known outside inner)
   unfolding sum_from
   sum_ok outside inner g ts x s e = on_ok _ _ x e (λ y ye e.
       let q = term_ok inner g ts y s ye in
-      repeat_ok Good (goes_on_sum outside) (one_more (term_of known inner)) (more_ok (term_of known inner) (term_ok inner g)) (suc (length y.1)) y.0 y.1 x q.0 q.1 e)
+      repeat_ok Good (goes_on_sum outside) (one_more (term_of known inner))
+      (more_ok (term_of known inner) (term_ok inner g)) (suc (length y.1)) y.0 y.1 x q.0 q.1 e)
 
   -- what an expression gives is known
   pub expr_ok : (outside : Bool) (room : ℕ) → Reads_well (expr_at known outside room)

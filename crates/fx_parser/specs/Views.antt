@@ -31,17 +31,25 @@ abbrev pub temp_value : Temp → model.Temp
 temp_value t = record { name = t.name.now; tree = tree t.expr }
 
 abbrev pub body_value : Body → bodies.Body
-body_value b = record { names = b.names; inputs = b.inputs; states = b.states; temps = map temp_value b.temps.items; nodes = b.nodes }
+body_value b = record {
+  names = b.names;
+  inputs = b.inputs;
+  states = b.states;
+  temps = map temp_value b.temps.items;
+  nodes = b.nodes;
+}
 
 -- the names are few: inputs, states and temps keep their limits
 abbrev pub HasBodyRoom : Body → Type 0
-HasBodyRoom b = (length b.names ≤ input_limit + state_limit + length b.temps.items) × (length b.temps.items ≤ temp_limit)
+HasBodyRoom b =
+    (length b.names ≤ input_limit + state_limit + length b.temps.items) × (length b.temps.items ≤ temp_limit)
 
 abbrev pub results_value : Results → bodies.Results
 results_value r = record { trees = map tree r.trees.items; nodes = r.nodes }
 
 abbrev pub front_value : Front → functions.Front
-front_value f = record { name = f.name.now; subjects = subjects_of f.subjects; declared = declared_of f.declared; reals = f.reals }
+front_value f =
+    record { name = f.name.now; subjects = subjects_of f.subjects; declared = declared_of f.declared; reals = f.reals }
 
 abbrev pub source_function_of : SourceFunction → model.Function
 source_function_of f = record {

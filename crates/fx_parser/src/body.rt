@@ -1,7 +1,7 @@
 //! Temps and results of a function, behind its `require`.
 //!
-//! The nodes are counted as they come, up to one past the limit, so that no tree is walked again. The trap: the fault of a
-//! tree that is too high is found at the token behind its expression, and loses there to some others.
+//! The nodes are counted as they come, up to one past the limit, so that no tree is walked again. The trap: the fault
+//! of a tree that is too high is found at the token behind its expression, and loses there to some others.
 ghost use Rattle.std.specs.Prelude.{◌≡◌, ◌≤◌, ◌<◌, ◌+◌, ◌^◌, length, map, min, option_map, IfOk, [], ◌∷◌, ◌++◌, Ok, None};
 ghost use Rattle.fx_lexer.specs.Faults.{GivesParsed};
 ghost use Rattle.fx_cursor.specs.Views.{lexemes};
@@ -83,7 +83,8 @@ fn read<'t, 'a>(
     tokens: &'t [Token<'a>],
 ) -> Parsed<'t, 'a, Operand>
     requires { length body.now.names < 2 ^ 32 }
-    ensures value { GivesParsed (λ x. (operand_of x.0, lexemes x.1.now)) result (expr_at (known_of end (body_value body.now)) outside 200 (lexemes tokens.now)) }
+    ensures value { GivesParsed (λ x. (operand_of x.0, lexemes x.1.now)) result
+        (expr_at (known_of end (body_value body.now)) outside 200 (lexemes tokens.now)) }
     ensures shorter { IfOk result (λ x. length x.1.now < length tokens.now) }
 {
     let context = Context {
@@ -105,7 +106,8 @@ fn whole<'t, 'a>(
     tokens: &'t [Token<'a>],
 ) -> Parsed<'t, 'a, Operand>
     requires { length body.now.names < 2 ^ 32 }
-    ensures value { GivesParsed (λ x. (operand_of x.0, lexemes x.1.now)) result (whole_at end (body_value body.now) (lexemes tokens.now)) }
+    ensures value { GivesParsed (λ x. (operand_of x.0, lexemes x.1.now)) result
+        (whole_at end (body_value body.now) (lexemes tokens.now)) }
     ensures shorter { IfOk result (λ x. length x.1.now < length tokens.now) }
 {
     let (operand, rest) = read(alloc, end, true, body, tokens)?;
@@ -130,8 +132,10 @@ fn typed<'t, 'a>(end: u32, tokens: &'t [Token<'a>]) -> Result<&'t [Token<'a>], S
 
 fn with_temp<'a>(body: Body<'a>, name: &'a str, operand: Operand) -> Result<Body<'a>, SourceFault>
     requires { name_place body.names name.now ≡ None }
-    ensures value { GivesParsed body_value result (Ok (with_temp (body_value body.entry) name.now (operand_of operand))) }
-    ensures room { IfOk result (λ b. (length b.names ≡ length body.entry.names + 1) × (length b.temps.items ≡ length body.entry.temps.items + 1)) }
+    ensures value { GivesParsed body_value result
+        (Ok (with_temp (body_value body.entry) name.now (operand_of operand))) }
+    ensures room { IfOk result (λ b. (length b.names ≡ length body.entry.names + 1) ×
+        (length b.temps.items ≡ length body.entry.temps.items + 1)) }
     ensures kept { IfOk result (λ b. (b.inputs ≡ body.entry.inputs) × (b.states ≡ body.entry.states)) }
 {
     let Body {
@@ -169,7 +173,8 @@ fn val<'t, 'a>(
     tokens: &'t [Token<'a>],
 ) -> Parsed<'t, 'a, Body<'a>>
     requires room { HasBodyRoom body }
-    ensures value { GivesParsed (λ x. (body_value x.0, lexemes x.1.now)) result (val_at end (body_value body.entry) (lexemes tokens.now)) }
+    ensures value { GivesParsed (λ x. (body_value x.0, lexemes x.1.now)) result
+        (val_at end (body_value body.entry) (lexemes tokens.now)) }
     ensures shorter { IfOk result (λ x. length x.1.now < length tokens.now) }
     ensures room { IfOk result (λ x. HasBodyRoom x.0) }
     ensures kept { IfOk result (λ x. (x.0.inputs ≡ body.entry.inputs) × (x.0.states ≡ body.entry.states)) }
@@ -222,7 +227,8 @@ pub fn vals<'t, 'a>(
     tokens: &'t [Token<'a>],
 ) -> Parsed<'t, 'a, Body<'a>>
     requires { HasBodyRoom body }
-    ensures value { GivesParsed (λ x. (body_value x.0, lexemes x.1.now)) result (vals_at end (body_value body.entry) (past_semicolon (lexemes tokens.now))) }
+    ensures value { GivesParsed (λ x. (body_value x.0, lexemes x.1.now)) result
+        (vals_at end (body_value body.entry) (past_semicolon (lexemes tokens.now))) }
     ensures shorter { IfOk result (λ x. length x.1.now ≤ length tokens.now) }
     ensures room { IfOk result (λ x. HasBodyRoom x.0) }
     ensures kept { IfOk result (λ x. (x.0.inputs ≡ body.entry.inputs) × (x.0.states ≡ body.entry.states)) }
@@ -279,7 +285,8 @@ fn single<'t, 'a>(
     requires room { length body.now.names < 2 ^ 32 }
     requires inputs { body.now.inputs ≤ 64 }
     requires states { body.now.states ≤ 32 }
-    ensures value { GivesParsed (λ x. (results_value x.0, lexemes x.1.now)) result (single_at end word (body_value body.now) (lexemes tokens.now)) }
+    ensures value { GivesParsed (λ x. (results_value x.0, lexemes x.1.now)) result
+        (single_at end word (body_value body.now) (lexemes tokens.now)) }
     ensures shorter { IfOk result (λ x. length x.1.now < length tokens.now) }
 {
     let (operand, rest) = read(alloc, end, true, body, tokens)?;
@@ -293,7 +300,11 @@ fn single<'t, 'a>(
 }
 
 fn with_tree(results: Results, expr: Expr, nodes: u32) -> Result<Results, SourceFault>
-    ensures { GivesParsed results_value result (Ok (record { trees = map tree results.trees.items ++ tree expr ∷ []; nodes = min 4001 (results.nodes + nodes) })) }
+    ensures { GivesParsed results_value result
+        (Ok (record {
+          trees = map tree results.trees.items ++ tree expr ∷ [];
+          nodes = min 4001 (results.nodes + nodes);
+        })) }
 {
     let Results {
         mut trees,
@@ -318,7 +329,8 @@ fn element<'t, 'a>(
     tokens: &'t [Token<'a>],
 ) -> Parsed<'t, 'a, Results>
     requires { length body.now.names < 2 ^ 32 }
-    ensures value { GivesParsed (λ x. (results_value x.0, lexemes x.1.now)) result (element_at end first reals (body_value body.now) (results_value results) (lexemes tokens.now)) }
+    ensures value { GivesParsed (λ x. (results_value x.0, lexemes x.1.now)) result
+        (element_at end first reals (body_value body.now) (results_value results) (lexemes tokens.now)) }
     ensures shorter { IfOk result (λ x. length x.1.now < length tokens.now) }
 {
     let (operand, rest) = read(alloc, end, false, body, tokens)?;
@@ -375,7 +387,8 @@ fn tuple<'t, 'a>(
     tokens: &'t [Token<'a>],
 ) -> Parsed<'t, 'a, Results>
     requires { length body.now.names < 2 ^ 32 }
-    ensures value { GivesParsed (λ x. (results_value x.0, lexemes x.1.now)) result (tuple_at end reals (body_value body.now) (lexemes tokens.now)) }
+    ensures value { GivesParsed (λ x. (results_value x.0, lexemes x.1.now)) result
+        (tuple_at end reals (body_value body.now) (lexemes tokens.now)) }
     ensures shorter { IfOk result (λ x. length x.1.now < length tokens.now) }
 {
     let (open, rest) = want(end, Head::Open, tokens)?;
@@ -410,7 +423,8 @@ pub fn outcome<'t, 'a>(
     requires room { length body.now.names < 2 ^ 32 }
     requires inputs { body.now.inputs ≤ 64 }
     requires states { body.now.states ≤ 32 }
-    ensures value { GivesParsed (λ x. (results_value x.0, lexemes x.1.now)) result (result_at end word reals (body_value body.now) (lexemes tokens.now)) }
+    ensures value { GivesParsed (λ x. (results_value x.0, lexemes x.1.now)) result
+        (result_at end word reals (body_value body.now) (lexemes tokens.now)) }
     ensures shorter { IfOk result (λ x. length x.1.now < length tokens.now) }
 {
     if reals < 2 {

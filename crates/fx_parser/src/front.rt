@@ -47,7 +47,8 @@ pub struct Declared<'a> {
 fn param<'t, 'a>(end: u32, named: Named<'a>, tokens: &'t [Token<'a>]) -> Parsed<'t, 'a, Named<'a>>
     requires few { length named.subjects.items ≤ 64 }
     requires same { IsNamed named }
-    ensures value { GivesParsed (λ x. (subjects_of x.0.subjects, lexemes x.1.now)) result (param_at end (subjects_of named.entry.subjects) (lexemes tokens.now)) }
+    ensures value { GivesParsed (λ x. (subjects_of x.0.subjects, lexemes x.1.now)) result
+        (param_at end (subjects_of named.entry.subjects) (lexemes tokens.now)) }
     ensures shorter { IfOk result (λ x. length x.1.now < length tokens.now) }
     ensures few { IfOk result (λ x. length x.0.subjects.items ≤ 64) }
     ensures same { IfOk result (λ x. IsNamed x.0) }
@@ -89,7 +90,8 @@ impl<'a> Rule<'a> for ParameterRule {
 
 /// All parameters, and the parenthesis that closes them.
 pub fn params<'t, 'a>(alloc: Global, end: u32, tokens: &'t [Token<'a>]) -> Parsed<'t, 'a, Named<'a>>
-    ensures value { GivesParsed (λ x. (subjects_of x.0.subjects, lexemes x.1.now)) result (listed (param_at end) end [] (lexemes tokens.now)) }
+    ensures value { GivesParsed (λ x. (subjects_of x.0.subjects, lexemes x.1.now)) result
+        (listed (param_at end) end [] (lexemes tokens.now)) }
     ensures shorter { IfOk result (λ x. length x.1.now < length tokens.now) }
     ensures few { IfOk result (λ x. length x.0.subjects.items ≤ 64) }
     ensures same { IfOk result (λ x. IsNamed x.0) }
@@ -106,9 +108,11 @@ fn one_state<'t, 'a>(
 ) -> Parsed<'t, 'a, Declared<'a>>
     requires states { length declared.states.items ≤ 32 }
     requires names { length declared.names ≤ 64 + length declared.states.items }
-    ensures value { GivesParsed (λ x. (declared_of x.0, lexemes x.1.now)) result (declared_state end (declared_of declared.entry) (lexemes tokens.now)) }
+    ensures value { GivesParsed (λ x. (declared_of x.0, lexemes x.1.now)) result
+        (declared_state end (declared_of declared.entry) (lexemes tokens.now)) }
     ensures shorter { IfOk result (λ x. length x.1.now < length tokens.now) }
-    ensures few { IfOk result (λ x. (length x.0.states.items ≤ 32) × (length x.0.names ≤ 64 + length x.0.states.items)) }
+    ensures few { IfOk result (λ x. (length x.0.states.items ≤ 32) ×
+        (length x.0.names ≤ 64 + length x.0.states.items)) }
 {
     let Declared { names, mut states } = declared;
     let (token, rest) = want(end, Head::Name, tokens)?;
@@ -136,7 +140,8 @@ fn one_real<'t, 'a>(
 ) -> Parsed<'t, 'a, usize>
     requires states { states ≤ 32 }
     requires reals { reals ≤ 96 }
-    ensures value { GivesParsed (λ x. (x.0, lexemes x.1.now)) result (one_real end first states reals (lexemes tokens.now)) }
+    ensures value { GivesParsed (λ x. (x.0, lexemes x.1.now)) result
+        (one_real end first states reals (lexemes tokens.now)) }
     ensures shorter { IfOk result (λ x. (length x.1.now < length tokens.now) × (x.0 ≤ 96)) }
 {
     let (_, rest) = real(end, tokens)?;
@@ -197,7 +202,8 @@ fn more_than<'t, 'a>(
     count: usize,
     rest: &'t [Token<'a>],
 ) -> Parsed<'t, 'a, usize>
-    ensures value { GivesParsed (λ x. (x.0, lexemes x.1.now)) result (more_than first states (count, lexemes rest.now)) }
+    ensures value { GivesParsed (λ x. (x.0, lexemes x.1.now)) result
+        (more_than first states (count, lexemes rest.now)) }
     ensures shorter { IfOk result (λ x. length x.1.now ≤ length rest.now) }
     ensures more { IfOk result (λ x. states < x.0) }
 {
@@ -225,7 +231,8 @@ impl<'a> Rule<'a> for StateRule {
 
     ghost value_of = { λ declared. declared_of declared };
 
-    ghost can_go_on = { λ rule declared. (length declared.states.items ≤ 32) × (length declared.names ≤ 64 + length declared.states.items) };
+    ghost can_go_on = { λ rule declared. (length declared.states.items ≤ 32) ×
+        (length declared.names ≤ 64 + length declared.states.items) };
 
     ghost item_at = { λ rule. declared_state rule.end };
 
@@ -247,9 +254,11 @@ pub fn states<'t, 'a>(
     tokens: &'t [Token<'a>],
 ) -> Parsed<'t, 'a, Declared<'a>>
     requires { length names ≤ 64 }
-    ensures value { GivesParsed (λ x. (declared_of x.0, lexemes x.1.now)) result (states_at end names.entry (lexemes tokens.now)) }
+    ensures value { GivesParsed (λ x. (declared_of x.0, lexemes x.1.now)) result
+        (states_at end names.entry (lexemes tokens.now)) }
     ensures shorter { IfOk result (λ x. length x.1.now ≤ length tokens.now) }
-    ensures few { IfOk result (λ x. (length x.0.states.items ≤ 32) × (length x.0.names ≤ 64 + length x.0.states.items)) }
+    ensures few { IfOk result (λ x. (length x.0.states.items ≤ 32) ×
+        (length x.0.names ≤ 64 + length x.0.states.items)) }
 {
     let declared = Declared {
         names,

@@ -47,9 +47,11 @@ pub fn read_front<'t, 'a>(
     functions: &Names<'_>,
     tokens: &'t [Token<'a>],
 ) -> Parsed<'t, 'a, Front<'a>>
-    ensures value { GivesParsed (λ x. (front_value x.0, lexemes x.1.now)) result (front_at end functions.now (lexemes tokens.now)) }
+    ensures value { GivesParsed (λ x. (front_value x.0, lexemes x.1.now)) result
+        (front_at end functions.now (lexemes tokens.now)) }
     ensures shorter { IfOk result (λ x. length x.1.now < length tokens.now) }
-    ensures few { IfOk result (λ x. (length x.0.subjects.items ≤ 64) × (length x.0.declared.states.items ≤ 32) × (length x.0.declared.names ≤ 96) × (length x.0.declared.states.items < x.0.reals)) }
+    ensures few { IfOk result (λ x. (length x.0.subjects.items ≤ 64) × (length x.0.declared.states.items ≤ 32) ×
+        (length x.0.declared.names ≤ 96) × (length x.0.declared.states.items < x.0.reals)) }
     ensures fresh { IfOk result (λ x. name_place functions.now x.0.name.now ≡ None) }
 {
     let (token, rest) = want(end, Head::Name, tokens)?;
@@ -80,7 +82,8 @@ fn require_word<'t, 'a>(
     subjects: &[Subject<'_>],
     tokens: &'t [Token<'a>],
 ) -> Result<&'t [Token<'a>], SourceFault>
-    ensures value { GivesParsed (λ r. lexemes r.now) result (require_word_at end (map subject_of subjects.now) (lexemes tokens.now)) }
+    ensures value { GivesParsed (λ r. lexemes r.now) result
+        (require_word_at end (map subject_of subjects.now) (lexemes tokens.now)) }
     ensures shorter { IfOk result (λ r. length r.now ≤ length tokens.now) }
 {
     let head = peek(tokens);
@@ -96,7 +99,13 @@ fn require_word<'t, 'a>(
 /// What is known behind the `require`, before any `val`.
 fn first_body<'a>(alloc: Global, names: Names<'a>, inputs: usize, states: usize) -> Body<'a>
     requires { (inputs ≤ 64) × (states ≤ 32) × (length names ≤ 96) }
-    ensures value { body_value result ≡ record { names = names.entry; inputs = inputs; states = states; temps = []; nodes = 0 } }
+    ensures value { body_value result ≡ record {
+      names = names.entry;
+      inputs = inputs;
+      states = states;
+      temps = [];
+      nodes = 0;
+    } }
     ensures room { HasBodyRoom result }
     ensures few { (result.inputs ≡ inputs) × (result.states ≡ states) }
 {
@@ -119,8 +128,10 @@ pub fn read_body<'t, 'a>(
     tokens: &'t [Token<'a>],
 ) -> Parsed<'t, 'a, SourceFunction<'a>>
     requires tokens { length tokens.now < 2 ^ 32 }
-    requires few { (length front.subjects.items ≤ 64) × (length front.declared.states.items ≤ 32) × (length front.declared.names ≤ 96) × (length front.declared.states.items < front.reals) }
-    ensures value { GivesParsed (λ x. (source_function_of x.0, lexemes x.1.now)) result (body_at end word (front_value front.entry) (lexemes tokens.now)) }
+    requires few { (length front.subjects.items ≤ 64) × (length front.declared.states.items ≤ 32) ×
+        (length front.declared.names ≤ 96) × (length front.declared.states.items < front.reals) }
+    ensures value { GivesParsed (λ x. (source_function_of x.0, lexemes x.1.now)) result
+        (body_at end word (front_value front.entry) (lexemes tokens.now)) }
     ensures shorter { IfOk result (λ x. length x.1.now ≤ length tokens.now) }
     ensures name { IfOk result (λ x. x.0.name.now ≡ front.entry.name.now) }
 {
@@ -160,7 +171,8 @@ fn within_nodes<'t, 'a>(
     source_function: SourceFunction<'a>,
     rest: &'t [Token<'a>],
 ) -> Parsed<'t, 'a, SourceFunction<'a>>
-    ensures value { GivesParsed (λ x. (source_function_of x.0, lexemes x.1.now)) result (bounded word nodes (source_function_of source_function.entry) (lexemes rest.now)) }
+    ensures value { GivesParsed (λ x. (source_function_of x.0, lexemes x.1.now)) result
+        (bounded word nodes (source_function_of source_function.entry) (lexemes rest.now)) }
     ensures shorter { IfOk result (λ x. length x.1.now ≤ length rest.now) }
     ensures name { IfOk result (λ x. x.0.name.now ≡ source_function.entry.name.now) }
 {

@@ -1,6 +1,7 @@
 //! The wanted function, with names of its own.
 //!
-//! Only this one is copied out of the text. That it is lawful is no test here: every function that the grammar reads is.
+//! Only this one is copied out of the text. That it is lawful is no test here: every function that the grammar reads
+//! is.
 ghost use Rattle.std.specs.Prelude.{◌≡◌, map, Ok};
 ghost use Rattle.std.specs.List.{All};
 ghost use Rattle.fx_model.specs.Names.{IsName};
@@ -32,7 +33,8 @@ fn owned_name(alloc: Global, text: &str) -> Result<Name, SourceFault>
 
 fn owned_inputs(alloc: Global, subjects: &[Subject<'_>]) -> Result<Vec<Input>, SourceFault>
     requires { All (λ s. IsName s.name.now) subjects.now }
-    ensures { GivesParsed (λ v. map parts.input_of v.items) result (Ok (map declared_input (map subject_of subjects.now))) }
+    ensures { GivesParsed (λ v. map parts.input_of v.items) result
+        (Ok (map declared_input (map subject_of subjects.now))) }
 {
     let mut inputs = Vec::new(alloc);
     for subject in subjects {

@@ -110,7 +110,8 @@ fn one_def<'t, 'a>(
 ) -> Parsed<'t, 'a, SourceFunctions<'a>>
     requires tokens { length tokens.now < 2 ^ 32 }
     requires same { AreNamed source_functions }
-    ensures value { GivesParsed (λ x. (source_functions_of x.0, lexemes x.1.now)) result (one_def end (source_functions_of source_functions.entry) (lexemes tokens.now)) }
+    ensures value { GivesParsed (λ x. (source_functions_of x.0, lexemes x.1.now)) result
+        (one_def end (source_functions_of source_functions.entry) (lexemes tokens.now)) }
     ensures shorter { IfOk result (λ x. length x.1.now < length tokens.now) }
     ensures same { IfOk result (λ x. AreNamed x.0) }
 {
@@ -144,7 +145,8 @@ fn defs<'t, 'a>(
     tokens: &'t [Token<'a>],
 ) -> Parsed<'t, 'a, SourceFunctions<'a>>
     requires { length tokens.now < 2 ^ 32 }
-    ensures value { GivesParsed (λ x. (source_functions_of x.0, lexemes x.1.now)) result (defs_at end (lexemes tokens.now)) }
+    ensures value { GivesParsed (λ x. (source_functions_of x.0, lexemes x.1.now)) result
+        (defs_at end (lexemes tokens.now)) }
     ensures shorter { IfOk result (λ x. length x.1.now ≤ length tokens.now) }
     ensures same { IfOk result (λ x. AreNamed x.0) }
 {
@@ -165,7 +167,8 @@ fn object<'t, 'a>(
     tokens: &'t [Token<'a>],
 ) -> Parsed<'t, 'a, SourceFunctions<'a>>
     requires { length tokens.now < 2 ^ 32 }
-    ensures value { GivesParsed (λ x. (source_functions_of x.0, lexemes x.1.now)) result (object_at end (lexemes tokens.now)) }
+    ensures value { GivesParsed (λ x. (source_functions_of x.0, lexemes x.1.now)) result
+        (object_at end (lexemes tokens.now)) }
     ensures shorter { IfOk result (λ x. length x.1.now ≤ length tokens.now) }
     ensures same { IfOk result (λ x. AreNamed x.0) }
 {
@@ -183,7 +186,8 @@ fn ended<'a>(
     tokens: &[Token<'_>],
 ) -> Result<SourceFunctions<'a>, SourceFault>
     requires { AreNamed source_functions }
-    ensures value { GivesParsed source_functions_of result (ended end (source_functions_of source_functions.entry) (lexemes tokens.now)) }
+    ensures value { GivesParsed source_functions_of result
+        (ended end (source_functions_of source_functions.entry) (lexemes tokens.now)) }
     ensures same { IfOk result (λ more. AreNamed more) }
 {
     if !tokens.is_empty() {

@@ -74,7 +74,8 @@ fn chosen<'a>(
     name: Option<&str>,
 ) -> Result<SourceFunction<'a>, SourceFault>
     requires { AreNamed source_functions }
-    ensures { GivesParsed source_function_of result (chosen (option_map (λ n. n.now) name.entry) (source_functions_of source_functions.entry)) }
+    ensures { GivesParsed source_function_of result
+        (chosen (option_map (λ n. n.now) name.entry) (source_functions_of source_functions.entry)) }
 {
     match number_of(&source_functions, name) {
         Ok(k) => {

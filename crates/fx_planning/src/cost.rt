@@ -19,8 +19,8 @@ pub struct Goal<'a> {
 /// What is paid for a plan, or for none.
 #[derive(Clone, Copy, Debug, PartialEq, Eq)]
 pub enum Cost {
-    /// The greatest quotient of a bound by what it has to keep, but at least 1, and more where an output leaves a demanded
-    /// end; and the mean of those by the references.
+    /// The greatest quotient of a bound by what it has to keep, but at least 1, and more where an output leaves a
+    /// demanded end; and the mean of those by the references.
     Planned { excess: Real, mean: Real },
     /// There is no plan: from the node that fails on so many are left.
     Failed { left: u32 },

@@ -1,8 +1,8 @@
 //! Demanded ends: by how much an output's values leave them, and the words that bring them back.
 //!
-//! A printed value lies in range and error together, so an error that isn't below some number keeps a lower end, and one
-//! that isn't above another keeps an upper end. Floors err downward: where a range itself ends at a demanded lower end,
-//! only a literal whose word is above it makes up for them.
+//! A printed value lies in range and error together, so an error that isn't below some number keeps a lower end, and
+//! one that isn't above another keeps an upper end. Floors err downward: where a range itself ends at a demanded lower
+//! end, only a literal whose word is above it makes up for them.
 
 use crate::plan::Plan;
 use crate::setting::Setting;

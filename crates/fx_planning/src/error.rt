@@ -1,7 +1,7 @@
 //! The second pass: the error of each node, at given points and words.
 //!
-//! An error is the machine's value less the exact one. The formulas are the checker's, rounded outward once a node. Where
-//! a node has a form, its error has one too, over the inputs' errors, and the narrower of both stands.
+//! An error is the machine's value less the exact one. The formulas are the checker's, rounded outward once a node.
+//! Where a node has a form, its error has one too, over the inputs' errors, and the narrower of both stands.
 
 use crate::centre::centred;
 use crate::setting::Setting;

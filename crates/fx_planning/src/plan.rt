@@ -164,8 +164,8 @@ pub fn move_word<'a>(
     try_word(alloc, &setting, plan, node as usize, units)
 }
 
-/// The plan of a function at these points with the nearest words, and a box in which the error of each state lies; or the
-/// first node that has none.
+/// The plan of a function at these points with the nearest words, and a box in which the error of each state lies; or
+/// the first node that has none.
 pub fn find_plan_in<'a>(
     alloc: Global,
     function: &'a Function,

@@ -102,8 +102,8 @@ impl Setting<'_> {
         self.ranges.grids().error_places_at(point)
     }
 
-    /// An error on the grid of its point, or on a coarser one where it has many bits: an input may err by far more than a
-    /// word does, and products of such errors would leave 128 bits.
+    /// An error on the grid of its point, or on a coarser one where it has many bits: an input may err by far more than
+    /// a word does, and products of such errors would leave 128 bits.
     pub fn on_error_grid(&self, error: Span, point: i32) -> Span {
         let most = self.ranges.grids().range_bits.saturating_sub(BITS_LESS);
         let few = most

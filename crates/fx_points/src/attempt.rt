@@ -143,8 +143,8 @@ fn set(points: &mut [i8], operand: Option<u32>, point: i8) {
     }
 }
 
-/// From the last node to the first, gives the operands the points that the node's own point asks for. Answers the summed
-/// cost of the outputs.
+/// From the last node to the first, gives the operands the points that the node's own point asks for. Answers the
+/// summed cost of the outputs.
 fn hand_down(nodes: &[Node], entries: &[Entry], points: &mut [i8]) -> Real {
     let mut cost = Real::ZERO;
     for n in (0..points.len()).rev() {

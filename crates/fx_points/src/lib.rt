@@ -1,12 +1,12 @@
 //! A binary point for each node: where the bits of a word are best spent.
 //!
 //! A floor at point `f` loses up to `2^-f`, but only where a shift is above zero. So a word is best nearly full, and a
-//! product is best floored at the point of the sum that it goes into. `choose_points` weighs both: from the inputs on it
-//! lists for each node the eight finest points that are worth a look, each with the least sum of losses that leads there
-//! and the operands' points, and from the outputs back it takes the cheapest. An exact literal costs nothing at any
-//! point from its least one on, so it takes the point that spares the product its shift.
-//! Costs are ranked as mantissas and exponents, so the same points come out on every machine. Nothing rests on them:
-//! what they lead to is judged by the checker. The trap: the lists stand finest point first, and ties rely on it.
+//! product is best floored at the point of the sum that it goes into. `choose_points` weighs both: from the inputs on
+//! it lists for each node the eight finest points that are worth a look, each with the least sum of losses that leads
+//! there and the operands' points, and from the outputs back it takes the cheapest. An exact literal costs nothing at
+//! any point from its least one on, so it takes the point that spares the product its shift. Costs are ranked as
+//! mantissas and exponents, so the same points come out on every machine. Nothing rests on them: what they lead to is
+//! judged by the checker. The trap: the lists stand finest point first, and ties rely on it.
 #![tactic(auto)]
 
 mod attempt;

@@ -41,7 +41,8 @@ unshifted_copy Nearest n = refl
 pub copy_is_lawful : (r : Round) (n : ℕ) (s : ℤ) → IsShift n s → IsCopyShift (copy_round r n s) n s
 copy_is_lawful r n s h = by (int_le (least_copy_shift r n) s && int_le s (greatest_copy_shift r n)) refl
   where
-    by : (t : Bool) → (int_le (least_copy_shift r n) s && int_le s (greatest_copy_shift r n)) ≡ t → IsCopyShift (if t then r else Floor) n s
+    by : (t : Bool) → (int_le (least_copy_shift r n) s && int_le s (greatest_copy_shift r n)) ≡ t →
+        IsCopyShift (if t then r else Floor) n s
     by true e =
         let b = and_parts (int_le (least_copy_shift r n) s) (int_le s (greatest_copy_shift r n)) e in
         record { low = grind (arith, ints, b.0); high = grind (arith, ints, b.1) }
@@ -66,23 +67,34 @@ rounded_is_of_version r n (Const w f) e = tt
 rounded_is_of_version r n (Neg a) e = tt
 rounded_is_of_version r n (Add a b sa sb) e = tt
 rounded_is_of_version r n (Sub a b sa sb) e = tt
-rounded_is_of_version r n (Mul r' a b s) e = subst (λ q. first_version q ≤ first_version r) (sym e) (chosen_version r (nat_le (least_shift r) s))
+rounded_is_of_version r n (Mul r' a b s) e =
+    subst (λ q. first_version q ≤ first_version r) (sym e) (chosen_version r (nat_le (least_shift r) s))
 rounded_is_of_version r n (Div a b s) e = tt
 rounded_is_of_version r n (Copy r' a s) e =
-    subst (λ q. first_version q ≤ first_version r) (sym e) (chosen_version r (int_le (least_copy_shift r n) s && int_le s (greatest_copy_shift r n)))
+    subst (λ q. first_version q ≤ first_version r) (sym e)
+    (chosen_version r (int_le (least_copy_shift r n) s && int_le s (greatest_copy_shift r n)))
 
 -- so are all
-pub rounded_are_of_version : (r : Round) (n : ℕ) (cs : List Code) → All (RoundsBy r n) cs → All (IsOfVersion (first_version r)) cs
+pub rounded_are_of_version : (r : Round) (n : ℕ) (cs : List Code) → All (RoundsBy r n) cs →
+    All (IsOfVersion (first_version r)) cs
 rounded_are_of_version r n cs all = λ k d lt. rounded_is_of_version r n (get_or cs k d) (all k d lt)
 
 -- ---- the codes of a program in memory
-each_rounds : (r : Round) (n : ℕ) (cs : List code.Code) → All (RoundsBy r n) (map code_of cs) → All (λ c. RoundsBy r n (code_of c)) cs
+each_rounds : (r : Round) (n : ℕ) (cs : List code.Code) → All (RoundsBy r n) (map code_of cs) →
+    All (λ c. RoundsBy r n (code_of c)) cs
 each_rounds r n [] h = All-nil _
-each_rounds r n (c ∷ cs) h = All-cons (λ (d : code.Code). RoundsBy r n (code_of d)) c cs (All-head (RoundsBy r n) (code_of c) (map code_of cs) h) (each_rounds r n cs (All-tail (RoundsBy r n) (code_of c) (map code_of cs) h))
+each_rounds r n (c ∷ cs) h =
+    All-cons (λ (d : code.Code). RoundsBy r n (code_of d)) c cs (All-head (RoundsBy r n) (code_of c) (map code_of cs) h)
+    (each_rounds r n cs (All-tail (RoundsBy r n) (code_of c) (map code_of cs) h))
 
 -- a program rounds so where its version and its codes do
-pub program_rounds : (r : Round) (p : Program) (cs : List code.Code) → p.codes ≡ map code_of cs → p.version ≡ first_version r → All (λ c. RoundsBy r p.width (code_of c)) cs → IsRoundedBy r p
-program_rounds r p cs is version all = record { version = version; codes = subst (All (RoundsBy r p.width)) (sym is) (All-map (RoundsBy r p.width) code_of cs all) }
+pub program_rounds : (r : Round) (p : Program) (cs : List code.Code) → p.codes ≡ map code_of cs →
+    p.version ≡ first_version r → All (λ c. RoundsBy r p.width (code_of c)) cs → IsRoundedBy r p
+program_rounds r p cs is version all = record {
+  version = version;
+  codes = subst (All (RoundsBy r p.width)) (sym is) (All-map (RoundsBy r p.width) code_of cs all);
+}
 
-pub codes_round : (r : Round) (p : Program) (cs : List code.Code) → p.codes ≡ map code_of cs → IsRoundedBy r p → All (λ c. RoundsBy r p.width (code_of c)) cs
+pub codes_round : (r : Round) (p : Program) (cs : List code.Code) → p.codes ≡ map code_of cs → IsRoundedBy r p →
+    All (λ c. RoundsBy r p.width (code_of c)) cs
 codes_round r p cs is h = each_rounds r p.width cs (subst (All (RoundsBy r p.width)) is h.codes)

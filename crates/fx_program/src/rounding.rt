@@ -1,7 +1,7 @@
 //! How codes round where a way to round is asked for.
 //!
-//! To the nearest a product rounds whose shift is from 1 on, and a copy whose shift is from 1 to the width: what drops nothing, or
-//! more than a word, has no such code and rounds down.
+//! To the nearest a product rounds whose shift is from 1 on, and a copy whose shift is from 1 to the width: what drops
+//! nothing, or more than a word, has no such code and rounds down.
 
 ghost use Rattle.std.specs.Prelude.{◌≡◌, ◌↔◌, All, IsTrue};
 ghost use Rattle.fx_model.specs.LawfulProgram.{IsShift};

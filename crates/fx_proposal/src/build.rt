@@ -136,8 +136,8 @@ impl<'a> Building<'a> {
         )
     }
 
-    /// Adds the templates of a chain at these times, and gives the number of the last. Each is shown by the next, or waits
-    /// for an exchange where the next is left out.
+    /// Adds the templates of a chain at these times, and gives the number of the last. Each is shown by the next, or
+    /// waits for an exchange where the next is left out.
     fn put_templates(
         &mut self,
         number: usize,
@@ -187,8 +187,8 @@ impl<'a> Building<'a> {
         Ok(())
     }
 
-    /// Closes a chain at its last template, which takes itself so often, or has it wait for an exchange of its image, which
-    /// has this time.
+    /// Closes a chain at its last template, which takes itself so often, or has it wait for an exchange of its image,
+    /// which has this time.
     fn close(
         &mut self,
         chain: usize,

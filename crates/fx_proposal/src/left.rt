@@ -193,7 +193,8 @@ fn finished(
     })
 }
 
-/// An end over what the template's share in itself leaves of 1, away from zero or toward it as is right for a lower end.
+/// An end over what the template's share in itself leaves of 1, away from zero or toward it as is right for a lower
+/// end.
 fn lower_over(lo: i128, down: i128, up: i128) -> Option<i128> {
     let share = if lo < 0 { up } else { down };
     let rest = (1_i128 << OWN_PLACES).checked_sub(share)?;

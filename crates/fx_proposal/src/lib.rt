@@ -1,8 +1,8 @@
 //! Which templates to propose for a certificate of a function with states, and with which bounds.
 //!
-//! Chains of images are built as long as there is place, closed on the unit templates, on themselves, or by an exchange of a
-//! few templates for others; then the bounds of all templates are solved for together, from their reaches outward until one
-//! step keeps them, and lowered again. Tries of rising room go on until one comes close to the reaches.
+//! Chains of images are built as long as there is place, closed on the unit templates, on themselves, or by an exchange
+//! of a few templates for others; then the bounds of all templates are solved for together, from their reaches outward
+//! until one step keeps them, and lowered again. Tries of rising room go on until one comes close to the reaches.
 //!
 //! Nothing is promised of what is proposed, and nothing rests on it: whoever takes it tests it.
 #![tactic(auto)]

@@ -132,8 +132,8 @@ fn found(
 
 /// Templates of the one kind that might be kept, and that hold the starts if some are given.
 ///
-/// What was proposed `before`, for a step of as many states, is kept where the linear part is the same: then only bounds
-/// are worked out anew.
+/// What was proposed `before`, for a step of as many states, is kept where the linear part is the same: then only
+/// bounds are worked out anew.
 pub fn propose_templates(
     alloc: Global,
     t: &Transition,

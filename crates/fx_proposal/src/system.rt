@@ -1,7 +1,7 @@
 //! Bounds for templates with shares: from the guessed reaches, outward until a pass proves them, and lowered again.
 //!
-//! Each template's bound is whole at a power of two of its own, so that products of coefficients and bounds fit 128 bits
-//! whatever the scales of the states are.
+//! Each template's bound is whole at a power of two of its own, so that products of coefficients and bounds fit 128
+//! bits whatever the scales of the states are.
 
 use crate::ends::{Ends, widened};
 use crate::left::{Left, left_of};

@@ -1,5 +1,5 @@
-//! Tries of rising room: each builds templates and solves them for bounds, and the first that comes close to the reaches is
-//! taken, else the best.
+//! Tries of rising room: each builds templates and solves them for bounds, and the first that comes close to the
+//! reaches is taken, else the best.
 
 use crate::build::build;
 use crate::ends::Ends;
@@ -10,8 +10,8 @@ use fx_num::{Memory, left_fits};
 use fx_reach::{Chain, Costs, Linear, Pool};
 use std::alloc::Global;
 
-/// A try: the room as a power of two below what a chain begins with, whether the outputs have chains, and whether chains
-/// that are too long have templates at growing times.
+/// A try: the room as a power of two below what a chain begins with, whether the outputs have chains, and whether
+/// chains that are too long have templates at growing times.
 #[derive(Clone, Copy, Debug)]
 struct Try {
     shift: i32,

@@ -19,7 +19,8 @@ floor_is (negsuc a) d h =
 -- the ceiling is the floor of the negated number, negated
 pub ceiling_is : CeilingLaw
 ceiling_is v d h =
-    let f = floor_is (neg_ℤ v) d h in let n = neg_ℤ-*ℤ (floor_div (neg_ℤ v) d) (pos d) in let p = f.not_above in let q = f.greatest in
+    let f = floor_is (neg_ℤ v) d h in let n = neg_ℤ-*ℤ (floor_div (neg_ℤ v) d) (pos d) in let p = f.not_above in
+    let q = f.greatest in
     record { not_below = omega (arith, ints); least = omega (arith, ints) }
 
 pub one_more_times : (w d : ℤ) → (w +ℤ pos 1) *ℤ d ≡ w *ℤ d +ℤ d
@@ -54,16 +55,25 @@ pub record Floors (q : ℤ) (x : Rational) : Type 0 where
 pub floor_floors : (x : Rational) → Floors (floor x) x
 unfolding floor plus over
 floor_floors x = let h = floor_is x.top (bottom x) (omega arith) in let p = h.not_above in let q = h.greatest in
-    record { low = record { at_most = omega (arith, ints) }; high = record { at_most = over_sum (floor_div x.top (bottom x)) x.top (pos (bottom x)) q } }
+    record {
+      low = record { at_most = omega (arith, ints) };
+      high = record { at_most = over_sum (floor_div x.top (bottom x)) x.top (pos (bottom x)) q };
+    }
   where
     over_sum : (q t b : ℤ) → t <ℤ (q *ℤ b +ℤ b) → (t *ℤ pos 1) ≤ℤ ((q *ℤ pos 1 +ℤ pos 1 *ℤ pos 1) *ℤ b)
-    over_sum q t b h = let e : (q *ℤ pos 1 +ℤ pos 1 *ℤ pos 1) *ℤ b ≡ q *ℤ b +ℤ b = by_quotes {ρ = q ∷ b ∷ []} (search quotes depth 20) (search quotes depth 20) refl in omega (arith, ints)
+    over_sum q t b h =
+        let e : (q *ℤ pos 1 +ℤ pos 1 *ℤ pos 1) *ℤ b ≡ q *ℤ b +ℤ b =
+        by_quotes {ρ = q ∷ b ∷ []} (search quotes depth 20) (search quotes depth 20) refl in
+        omega (arith, ints)
 
 pub floor-greatest : (x : Rational) (n : ℤ) → AtMost (whole n) x → n ≤ℤ floor x
 unfolding floor
-floor-greatest x n h = go n (floor_div x.top (bottom x)) x.top (pos (bottom x)) (omega (arith, ints)) h.at_most (floor_is x.top (bottom x) (omega arith)).greatest
+floor-greatest x n h =
+    go n (floor_div x.top (bottom x)) x.top (pos (bottom x)) (omega (arith, ints)) h.at_most
+    (floor_is x.top (bottom x) (omega arith)).greatest
   where
     go : (n q t b : ℤ) → pos 0 ≤ℤ b → (n *ℤ b) ≤ℤ (t *ℤ pos 1) → t <ℤ (q *ℤ b +ℤ b) → n ≤ℤ q
     go n q t b above h k =
-        let e : (q +ℤ pos 1) *ℤ b ≡ q *ℤ b +ℤ b = by_quotes {ρ = q ∷ b ∷ []} (search quotes depth 20) (search quotes depth 20) refl in
+        let e : (q +ℤ pos 1) *ℤ b ≡ q *ℤ b +ℤ b =
+        by_quotes {ρ = q ∷ b ∷ []} (search quotes depth 20) (search quotes depth 20) refl in
         let l : n <ℤ (q +ℤ pos 1) = lt_of_mul {c = b} above (omega (arith, ints)) in omega (arith, ints)

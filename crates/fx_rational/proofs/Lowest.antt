@@ -50,7 +50,8 @@ part_size (negsuc n) g = size-neg_ℤ (pos (suc n / g))
 
 part_back : (z : ℤ) (g : ℕ) → g ∣ unsigned_abs z → int_div z (pos g) *ℤ pos g ≡ z
 part_back (pos n) g d = ap pos (sym (times_back n g d))
-part_back (negsuc n) g d = neg_ℤ-*ℤ (pos (suc n / g)) (pos g) ∙ ap (λ (k : ℕ). neg_ℤ (pos k)) (sym (times_back (suc n) g d))
+part_back (negsuc n) g d =
+    neg_ℤ-*ℤ (pos (suc n / g)) (pos g) ∙ ap (λ (k : ℕ). neg_ℤ (pos k)) (sym (times_back (suc n) g d))
 
 -- ---- the spelling of r, whose numbers have the greatest common divisor g
 
@@ -86,18 +87,25 @@ bottom_back : (r : Rational) → bottom (lowest r) * divisor r ≡ bottom r
 bottom_back r = ap (λ n. n * divisor r) (lowest_bottom r) ∙ sym (times_back (bottom r) (divisor r) (divisor_is r).1)
 
 regrouped : (x q g b : ℤ) → q *ℤ g ≡ b → x *ℤ b ≡ (x *ℤ g) *ℤ q
-regrouped x q g b e = ap (λ z. x *ℤ z) (sym e) ∙ by_quotes {ρ = x ∷ q ∷ g ∷ []} (search quotes depth 20) (search quotes depth 20) refl
+regrouped x q g b e =
+    ap (λ z. x *ℤ z) (sym e) ∙ by_quotes {ρ = x ∷ q ∷ g ∷ []} (search quotes depth 20) (search quotes depth 20) refl
 
 -- ---- the law
 
 lowest_same : (r : Rational) → Equal (lowest r) r
-lowest_same r = record { equal = regrouped (lowest r).top (pos (bottom (lowest r))) (pos (divisor r)) (pos (bottom r)) (ap pos (bottom_back r)) ∙ ap (λ z. z *ℤ pos (bottom (lowest r))) (top_back r) }
+lowest_same r =
+    record {
+      equal =
+          regrouped (lowest r).top (pos (bottom (lowest r))) (pos (divisor r)) (pos (bottom r)) (ap pos (bottom_back r))
+          ∙ ap (λ z. z *ℤ pos (bottom (lowest r))) (top_back r);
+    }
 
 lowest_reduced : (r : Rational) → IsLowest (lowest r).top (bottom (lowest r))
 lowest_reduced r = record {
   above = omega arith;
   coprime = subst (λ n. IsGcd (unsigned_abs (lowest r).top) n 1) (sym (lowest_bottom r))
-      (subst (λ n. IsGcd n (bottom r / divisor r) 1) (sym (lowest_top r)) (parts_apart (unsigned_abs r.top) (bottom r) (divisor r) (divisor_some r) (divisor_is r)));
+      (subst (λ n. IsGcd n (bottom r / divisor r) 1) (sym (lowest_top r))
+      (parts_apart (unsigned_abs r.top) (bottom r) (divisor r) (divisor_some r) (divisor_is r)));
 }
 
 rational_same : (r s : Rational) → r.top ≡ s.top → bottom r ≡ bottom s → r ≡ s
@@ -105,7 +113,9 @@ rational_same r s e f = λ i. record { top = e i; less = pred (f i) }
 
 lowest_only : (r s : Rational) → Equal s r → IsLowest s.top (bottom s) → s ≡ lowest r
 lowest_only r s e h =
-    let k = one_spelling s.top (lowest r).top (bottom s) (bottom (lowest r)) h (lowest_reduced r) (equal_trans e (equal_sym (lowest_same r))).equal in
+    let k =
+    one_spelling s.top (lowest r).top (bottom s) (bottom (lowest r)) h (lowest_reduced r)
+    (equal_trans e (equal_sym (lowest_same r))).equal in
     rational_same s (lowest r) k.0 k.1
 
 pub lowest_is : LowestLaw

@@ -22,10 +22,14 @@ above_times h k = record { top = mul_above h.top k.top }
 pub whole_above : (n : ℕ) → 0 < n → Above (whole (pos n))
 whole_above n h = record { top = omega (arith, ints) }
 
-cancelled : (a b c d e f : ℤ) → pos 0 <ℤ e → pos 0 <ℤ f → ((a *ℤ e) *ℤ (d *ℤ f)) ≤ℤ ((c *ℤ e) *ℤ (b *ℤ f)) → (a *ℤ d) ≤ℤ (c *ℤ b)
-cancelled a b c d e f p q h = le_by_certificate (mul_above p q) (difference_nonneg h) (int.by_quotes {ρ = a ∷ b ∷ c ∷ d ∷ e ∷ f ∷ []} (search int.quotes depth 20) (search int.quotes depth 20) refl)
+cancelled : (a b c d e f : ℤ) → pos 0 <ℤ e → pos 0 <ℤ f → ((a *ℤ e) *ℤ (d *ℤ f)) ≤ℤ ((c *ℤ e) *ℤ (b *ℤ f)) →
+    (a *ℤ d) ≤ℤ (c *ℤ b)
+cancelled a b c d e f p q h =
+    le_by_certificate (mul_above p q) (difference_nonneg h)
+    (int.by_quotes {ρ = a ∷ b ∷ c ∷ d ∷ e ∷ f ∷ []} (search int.quotes depth 20) (search int.quotes depth 20) refl)
 
-cancelled_over : (a c : ℤ) (b d : ℤ) (e f : ℤ) (df bf : ℤ) → df ≡ d *ℤ f → bf ≡ b *ℤ f → pos 0 <ℤ e → pos 0 <ℤ f → ((a *ℤ e) *ℤ df) ≤ℤ ((c *ℤ e) *ℤ bf) → (a *ℤ d) ≤ℤ (c *ℤ b)
+cancelled_over : (a c : ℤ) (b d : ℤ) (e f : ℤ) (df bf : ℤ) → df ≡ d *ℤ f → bf ≡ b *ℤ f → pos 0 <ℤ e → pos 0 <ℤ f →
+    ((a *ℤ e) *ℤ df) ≤ℤ ((c *ℤ e) *ℤ bf) → (a *ℤ d) ≤ℤ (c *ℤ b)
 cancelled_over a c b d e f df bf p q above_e above_f h = cancelled a b c d e f above_e above_f (rw (← p, ← q) h)
 
 pub le_of_times : {x y z : Rational} → Above z → AtMost (times x z) (times y z) → AtMost x y
@@ -44,7 +48,11 @@ unfolding times over
 over_times n d h =
     let one : suc (pred d) ≡ d = omega arith in
     let e : suc (pred (suc (pred d) * 1)) ≡ d = omega arith in
-    record { equal = let k : (n *ℤ pos d) *ℤ pos 1 ≡ n *ℤ pos d = int.by_quotes {ρ = n ∷ pos d ∷ []} (search int.quotes depth 20) (search int.quotes depth 20) refl in k ∙ ap (λ c. n *ℤ pos c) (sym e) }
+    record {
+      equal = let k : (n *ℤ pos d) *ℤ pos 1 ≡ n *ℤ pos d =
+          int.by_quotes {ρ = n ∷ pos d ∷ []} (search int.quotes depth 20) (search int.quotes depth 20) refl in
+          k ∙ ap (λ c. n *ℤ pos c) (sym e);
+    }
 
 -- the quotient is there, and times the divisor it's the dividend
 pub record QuotientIs (x y : Rational) : Type 0 where
@@ -72,7 +80,8 @@ quotient_is x y nonzero = go y.top y.less nonzero
       is = refl;
       back = record {
         equal =
-            turn x.top (pos (suc e)) (pos (suc m)) (pos (bottom x)) ∙ ap (λ d. x.top *ℤ pos d) (sym (bottoms x.less m e));
+            turn x.top (pos (suc e)) (pos (suc m)) (pos (bottom x))
+            ∙ ap (λ d. x.top *ℤ pos d) (sym (bottoms x.less m e));
       };
     }
     go (negsuc m) e k = record {
@@ -80,7 +89,8 @@ quotient_is x y nonzero = go y.top y.less nonzero
       is = refl;
       back = record {
         equal =
-            turn_neg x.top (pos (suc e)) (pos (suc m)) (pos (bottom x)) ∙ ap (λ d. x.top *ℤ pos d) (sym (bottoms x.less m e));
+            turn_neg x.top (pos (suc e)) (pos (suc m)) (pos (bottom x))
+            ∙ ap (λ d. x.top *ℤ pos d) (sym (bottoms x.less m e));
       };
     }
 
@@ -101,11 +111,16 @@ pub times_cancel_any : (x y z : Rational) → (z.top ≡ pos 0 → ⊥) → Equa
 unfolding negative
 times_cancel_any x y z nonzero h = ⊎_elim
     (λ (a : Above z). times_cancel a h)
-    (λ (a : Above (negative z)). times_cancel a (equal_trans (by_quotes {ρ = x ∷ z ∷ []} {b = negative (times x z)} (search quotes depth 20) (search quotes depth 20) refl)
-    (equal_trans (negative_same h) (by_quotes {ρ = y ∷ z ∷ []} {a = negative (times y z)} (search quotes depth 20) (search quotes depth 20) refl))))
+    (λ (a : Above (negative z)). times_cancel a
+    (equal_trans (by_quotes {ρ = x ∷ z ∷ []} {b = negative (times x z)} (search quotes depth 20)
+    (search quotes depth 20) refl)
+    (equal_trans (negative_same h)
+    (by_quotes {ρ = y ∷ z ∷ []} {a = negative (times y z)} (search quotes depth 20)
+    (search quotes depth 20) refl))))
     (sides z.top z.less nonzero)
   where
-    sides : (n : ℤ) (l : ℕ) → (n ≡ pos 0 → ⊥) → Above (record { top = n; less = l }) ⊎ Above (negative (record { top = n; less = l }))
+    sides : (n : ℤ) (l : ℕ) → (n ≡ pos 0 → ⊥) →
+        Above (record { top = n; less = l }) ⊎ Above (negative (record { top = n; less = l }))
     sides (pos zero) l h = absurd (h refl)
     sides (pos (suc n)) l h = inl (record { top = omega (arith, ints) })
     sides (negsuc n) l h = inr (record { top = omega (arith, ints) })
@@ -125,7 +140,8 @@ quotient_back x y z e =
 
 -- what times the divisor is the dividend is the quotient
 pub quotient_only : (x y z r : Rational) → quotient x y ≡ Some z → Equal (times r y) x → Equal r z
-quotient_only x y z r e h = times_cancel_any r z y (quotient_some x y z e) (equal_trans h (equal_sym (quotient_back x y z e)))
+quotient_only x y z r e h =
+    times_cancel_any r z y (quotient_some x y z e) (equal_trans h (equal_sym (quotient_back x y z e)))
 
 zero_along : (y v : Rational) → Equal y v → y.top ≡ pos 0 → v.top ≡ pos 0
 zero_along y v h e = zero_top v (equal_trans (equal_sym h) (top_zero y e))
@@ -137,24 +153,28 @@ quotient_same x y u v h k = ⊎_elim
     let m : v.top ≡ pos 0 → ⊥ = λ e. n (zero_along v u (equal_sym k) e) in
     let a = quotient_is x u n in let b = quotient_is y v m in
     let same : Equal a.value b.value = times_cancel_any a.value b.value v m
-    (equal_trans (times_same (equal_refl a.value) (equal_sym k)) (equal_trans a.back (equal_trans h (equal_sym b.back)))) in
+    (equal_trans (times_same (equal_refl a.value) (equal_sym k))
+    (equal_trans a.back (equal_trans h (equal_sym b.back)))) in
     rw (a.is, b.is) same)
     (zero_or_not u.top)
 
 pub quotient_none_where : (x y : Rational) → quotient x y ≡ None → Equal y (whole (pos 0))
-quotient_none_where x y e = ⊎_elim (λ z. top_zero y z) (λ n. let t = quotient_is x y n in let is = t.is in absurd cc) (zero_or_not y.top)
+quotient_none_where x y e =
+    ⊎_elim (λ z. top_zero y z) (λ n. let t = quotient_is x y n in let is = t.is in absurd cc) (zero_or_not y.top)
 
 -- ---- the interval of a quotient, for a divisor above zero
 pub above_not : {x : Rational} → (AtMost x (whole (pos 0)) → ⊥) → Above x
 above_not {x} h = go x.top x.less h
   where
-    go : (n : ℤ) (l : ℕ) → (AtMost (record { top = n; less = l }) (whole (pos 0)) → ⊥) → Above (record { top = n; less = l })
+    go : (n : ℤ) (l : ℕ) → (AtMost (record { top = n; less = l }) (whole (pos 0)) → ⊥) →
+        Above (record { top = n; less = l })
     go (pos zero) l h = absurd (h (record { at_most = omega (arith, ints) }))
     go (pos (suc n)) l h = record { top = omega (arith, ints) }
     go (negsuc n) l h = absurd (h (record { at_most = omega (arith, ints) }))
 
 pub above_more : {x y : Rational} → Above x → AtMost x y → Above y
-above_more {x} {y} h k = record { top = go y.top (x.top *ℤ pos (bottom y)) (bottom x) (mul_above h.top (suc_above y.less)) k.at_most }
+above_more {x} {y} h k =
+    record { top = go y.top (x.top *ℤ pos (bottom y)) (bottom x) (mul_above h.top (suc_above y.less)) k.at_most }
   where
     go : (n m : ℤ) (d : ℕ) → pos 0 <ℤ m → m ≤ℤ (n *ℤ pos d) → pos 0 <ℤ n
     go (pos zero) m d p h = absurd (omega (arith, ints))

@@ -55,28 +55,38 @@ at_bottom (x ∷ ρ) (suc i) = at_bottom ρ i
 pub suc_pred : (a b : ℕ) → suc (pred (suc a * suc b)) ≡ suc a * suc b
 suc_pred a b = grind arith
 
-denominator_is : (e : Polynomial) (ρ : List Rational) → value_in (denominator_of e) (tops_and_bottoms ρ) ≡ pos (bottom (value_said e ρ))
+denominator_is : (e : Polynomial) (ρ : List Rational) →
+    value_in (denominator_of e) (tops_and_bottoms ρ) ≡ pos (bottom (value_said e ρ))
 unfolding over plus minus times negative
 denominator_is (var i) ρ = at_bottom ρ i
 denominator_is (lit k) ρ = refl
-denominator_is (add a b) ρ = (λ i. denominator_is a ρ i *ℤ denominator_is b ρ i) ∙ ap pos (sym (suc_pred (value_said a ρ).less (value_said b ρ).less))
-denominator_is (sub a b) ρ = (λ i. denominator_is a ρ i *ℤ denominator_is b ρ i) ∙ ap pos (sym (suc_pred (value_said a ρ).less (value_said b ρ).less))
-denominator_is (mul a b) ρ = (λ i. denominator_is a ρ i *ℤ denominator_is b ρ i) ∙ ap pos (sym (suc_pred (value_said a ρ).less (value_said b ρ).less))
+denominator_is (add a b) ρ = (λ i. denominator_is a ρ i *ℤ denominator_is b ρ i)
+    ∙ ap pos (sym (suc_pred (value_said a ρ).less (value_said b ρ).less))
+denominator_is (sub a b) ρ = (λ i. denominator_is a ρ i *ℤ denominator_is b ρ i)
+    ∙ ap pos (sym (suc_pred (value_said a ρ).less (value_said b ρ).less))
+denominator_is (mul a b) ρ = (λ i. denominator_is a ρ i *ℤ denominator_is b ρ i)
+    ∙ ap pos (sym (suc_pred (value_said a ρ).less (value_said b ρ).less))
 denominator_is (neg a) ρ = denominator_is a ρ
 
-numerator_is : (e : Polynomial) (ρ : List Rational) → value_in (numerator_of e) (tops_and_bottoms ρ) ≡ (value_said e ρ).top
+numerator_is : (e : Polynomial) (ρ : List Rational) →
+    value_in (numerator_of e) (tops_and_bottoms ρ) ≡ (value_said e ρ).top
 unfolding over plus minus times negative
 numerator_is (var i) ρ = at_top ρ i
 numerator_is (lit k) ρ = refl
 numerator_is (add a b) ρ = λ i. numerator_is a ρ i *ℤ denominator_is b ρ i +ℤ numerator_is b ρ i *ℤ denominator_is a ρ i
-numerator_is (sub a b) ρ = λ i. numerator_is a ρ i *ℤ denominator_is b ρ i +ℤ neg_ℤ (numerator_is b ρ i) *ℤ denominator_is a ρ i
+numerator_is (sub a b) ρ =
+    λ i. numerator_is a ρ i *ℤ denominator_is b ρ i +ℤ neg_ℤ (numerator_is b ρ i) *ℤ denominator_is a ρ i
 numerator_is (mul a b) ρ = λ i. numerator_is a ρ i *ℤ numerator_is b ρ i
 numerator_is (neg a) ρ = ap neg_ℤ (numerator_is a ρ)
 
-equal_by_ring : (ρ : List Rational) (a b : Polynomial) → vanishes (normal_form (sub (mul (numerator_of a) (denominator_of b)) (mul (numerator_of b) (denominator_of a)))) ≡ true → Equal (value_said a ρ) (value_said b ρ)
+equal_by_ring : (ρ : List Rational) (a b : Polynomial) →
+    vanishes (normal_form (sub (mul (numerator_of a) (denominator_of b)) (mul (numerator_of b) (denominator_of a))))
+    ≡ true → Equal (value_said a ρ) (value_said b ρ)
 equal_by_ring ρ a b e = record {
   equal =
-      (λ i. sym (numerator_is a ρ) i *ℤ sym (denominator_is b ρ) i) ∙ ring (tops_and_bottoms ρ) (mul (numerator_of a) (denominator_of b)) (mul (numerator_of b) (denominator_of a)) e ∙ (λ i. numerator_is b ρ i *ℤ denominator_is a ρ i);
+      (λ i. sym (numerator_is a ρ) i *ℤ sym (denominator_is b ρ) i)
+      ∙ ring (tops_and_bottoms ρ) (mul (numerator_of a) (denominator_of b))
+      (mul (numerator_of b) (denominator_of a)) e ∙ (λ i. numerator_is b ρ i *ℤ denominator_is a ρ i);
 }
 
 -- a quote of x over the fractions ρ
@@ -120,28 +130,38 @@ q5 = record { quote = var 5; is = refl }
 abbrev pub q6 : {x x0 x1 x2 x3 x4 x5 : Rational} {ρ : List Rational} → Quote (x0 ∷ x1 ∷ x2 ∷ x3 ∷ x4 ∷ x5 ∷ x ∷ ρ) x
 q6 = record { quote = var 6; is = refl }
 
-abbrev pub q7 : {x x0 x1 x2 x3 x4 x5 x6 : Rational} {ρ : List Rational} → Quote (x0 ∷ x1 ∷ x2 ∷ x3 ∷ x4 ∷ x5 ∷ x6 ∷ x ∷ ρ) x
+abbrev pub q7 : {x x0 x1 x2 x3 x4 x5 x6 : Rational} {ρ : List Rational} →
+    Quote (x0 ∷ x1 ∷ x2 ∷ x3 ∷ x4 ∷ x5 ∷ x6 ∷ x ∷ ρ) x
 q7 = record { quote = var 7; is = refl }
 
-abbrev pub q8 : {x x0 x1 x2 x3 x4 x5 x6 x7 : Rational} {ρ : List Rational} → Quote (x0 ∷ x1 ∷ x2 ∷ x3 ∷ x4 ∷ x5 ∷ x6 ∷ x7 ∷ x ∷ ρ) x
+abbrev pub q8 : {x x0 x1 x2 x3 x4 x5 x6 x7 : Rational} {ρ : List Rational} →
+    Quote (x0 ∷ x1 ∷ x2 ∷ x3 ∷ x4 ∷ x5 ∷ x6 ∷ x7 ∷ x ∷ ρ) x
 q8 = record { quote = var 8; is = refl }
 
-abbrev pub q9 : {x x0 x1 x2 x3 x4 x5 x6 x7 x8 : Rational} {ρ : List Rational} → Quote (x0 ∷ x1 ∷ x2 ∷ x3 ∷ x4 ∷ x5 ∷ x6 ∷ x7 ∷ x8 ∷ x ∷ ρ) x
+abbrev pub q9 : {x x0 x1 x2 x3 x4 x5 x6 x7 x8 : Rational} {ρ : List Rational} →
+    Quote (x0 ∷ x1 ∷ x2 ∷ x3 ∷ x4 ∷ x5 ∷ x6 ∷ x7 ∷ x8 ∷ x ∷ ρ) x
 q9 = record { quote = var 9; is = refl }
 
-abbrev pub q10 : {x x0 x1 x2 x3 x4 x5 x6 x7 x8 x9 : Rational} {ρ : List Rational} → Quote (x0 ∷ x1 ∷ x2 ∷ x3 ∷ x4 ∷ x5 ∷ x6 ∷ x7 ∷ x8 ∷ x9 ∷ x ∷ ρ) x
+abbrev pub q10 : {x x0 x1 x2 x3 x4 x5 x6 x7 x8 x9 : Rational} {ρ : List Rational} →
+    Quote (x0 ∷ x1 ∷ x2 ∷ x3 ∷ x4 ∷ x5 ∷ x6 ∷ x7 ∷ x8 ∷ x9 ∷ x ∷ ρ) x
 q10 = record { quote = var 10; is = refl }
 
-abbrev pub q11 : {x x0 x1 x2 x3 x4 x5 x6 x7 x8 x9 x10 : Rational} {ρ : List Rational} → Quote (x0 ∷ x1 ∷ x2 ∷ x3 ∷ x4 ∷ x5 ∷ x6 ∷ x7 ∷ x8 ∷ x9 ∷ x10 ∷ x ∷ ρ) x
+abbrev pub q11 : {x x0 x1 x2 x3 x4 x5 x6 x7 x8 x9 x10 : Rational} {ρ : List Rational} →
+    Quote (x0 ∷ x1 ∷ x2 ∷ x3 ∷ x4 ∷ x5 ∷ x6 ∷ x7 ∷ x8 ∷ x9 ∷ x10 ∷ x ∷ ρ) x
 q11 = record { quote = var 11; is = refl }
 
-abbrev pub q12 : {x x0 x1 x2 x3 x4 x5 x6 x7 x8 x9 x10 x11 : Rational} {ρ : List Rational} → Quote (x0 ∷ x1 ∷ x2 ∷ x3 ∷ x4 ∷ x5 ∷ x6 ∷ x7 ∷ x8 ∷ x9 ∷ x10 ∷ x11 ∷ x ∷ ρ) x
+abbrev pub q12 : {x x0 x1 x2 x3 x4 x5 x6 x7 x8 x9 x10 x11 : Rational} {ρ : List Rational} →
+    Quote (x0 ∷ x1 ∷ x2 ∷ x3 ∷ x4 ∷ x5 ∷ x6 ∷ x7 ∷ x8 ∷ x9 ∷ x10 ∷ x11 ∷ x ∷ ρ) x
 q12 = record { quote = var 12; is = refl }
 
-abbrev pub q13 : {x x0 x1 x2 x3 x4 x5 x6 x7 x8 x9 x10 x11 x12 : Rational} {ρ : List Rational} → Quote (x0 ∷ x1 ∷ x2 ∷ x3 ∷ x4 ∷ x5 ∷ x6 ∷ x7 ∷ x8 ∷ x9 ∷ x10 ∷ x11 ∷ x12 ∷ x ∷ ρ) x
+abbrev pub q13 : {x x0 x1 x2 x3 x4 x5 x6 x7 x8 x9 x10 x11 x12 : Rational} {ρ : List Rational} →
+    Quote (x0 ∷ x1 ∷ x2 ∷ x3 ∷ x4 ∷ x5 ∷ x6 ∷ x7 ∷ x8 ∷ x9 ∷ x10 ∷ x11 ∷ x12 ∷ x ∷ ρ) x
 q13 = record { quote = var 13; is = refl }
 
-pub ruleset quotes = (q0, q1, q2, q3, q4, q5, q6, q7, q8, q9, q10, q11, q12, q13, q_plus, q_minus, q_times, q_negative, q_whole)
+pub ruleset quotes =
+    (q0, q1, q2, q3, q4, q5, q6, q7, q8, q9, q10, q11, q12, q13, q_plus, q_minus, q_times, q_negative, q_whole)
 
-pub by_quotes : {ρ : List Rational} {a b : Rational} (p : Quote ρ a) (q : Quote ρ b) → vanishes (normal_form (sub (mul (numerator_of p.quote) (denominator_of q.quote)) (mul (numerator_of q.quote) (denominator_of p.quote)))) ≡ true → Equal a b
+pub by_quotes : {ρ : List Rational} {a b : Rational} (p : Quote ρ a) (q : Quote ρ b) →
+    vanishes (normal_form (sub (mul (numerator_of p.quote) (denominator_of q.quote))
+    (mul (numerator_of q.quote) (denominator_of p.quote)))) ≡ true → Equal a b
 by_quotes {ρ} p q e = subst₂ Equal p.is q.is (equal_by_ring ρ p.quote q.quote e)

@@ -11,8 +11,10 @@ use Rattle.fx_rational.proofs.Floors.{le_floor, ceiling_le}
 use Rattle.fx_rational.proofs.Dyadics.{as_written, order, dyadic_is, dyadic_exponent, aligned_is, below_finer, below_coarser}
 
 -- at one exponent the mantissas decide
-pub le_at_one_exponent : (v w : ℤ) (e : ℕ) → v ≤ℤ w → AtMost (dyadic_value (as_written v e)) (dyadic_value (as_written w e))
-le_at_one_exponent v w e h = (order (as_written v e) (as_written w e)).1 (mul_le_right h (nonneg_of_above (pow_above e)))
+pub le_at_one_exponent : (v w : ℤ) (e : ℕ) → v ≤ℤ w →
+    AtMost (dyadic_value (as_written v e)) (dyadic_value (as_written w e))
+le_at_one_exponent v w e h =
+    (order (as_written v e) (as_written w e)).1 (mul_le_right h (nonneg_of_above (pow_above e)))
 
 down : (d : Dyadic) (e : ℕ) → e ≤ d.e → IsRoundedDown d e (dyadic (floor_div d.m (2 ^ (d.e - e))) e)
 down d e l =
@@ -20,11 +22,14 @@ down d e l =
     let lifted = λ (v : ℤ). below_finer (as_written v e) d l in
     record {
       exponent = dyadic_exponent r e;
-      not_above = le_trans (le_of_equal (dyadic_is r e)) ((lifted r).1 ((le_floor r d.m (2 ^ s) above).0 (omega (arith, ints))));
+      not_above =
+          le_trans (le_of_equal (dyadic_is r e))
+          ((lifted r).1 ((le_floor r d.m (2 ^ s) above).0 (omega (arith, ints))));
       greatest = λ x p h.
           let v = aligned x e in
           let k = (le_floor v d.m (2 ^ s) above).1 ((lifted v).0 (le_trans (le_of_equal (aligned_is x e p)) h)) in
-          le_trans (le_of_equal (equal_sym (aligned_is x e p))) (le_trans (le_at_one_exponent v r e k) (le_of_equal (equal_sym (dyadic_is r e))));
+          le_trans (le_of_equal (equal_sym (aligned_is x e p)))
+          (le_trans (le_at_one_exponent v r e k) (le_of_equal (equal_sym (dyadic_is r e))));
     }
 
 pub rounded_down_is : RoundedDownLaw
@@ -41,11 +46,16 @@ up d e l =
     let lifted = λ (v : ℤ). below_coarser d (as_written v e) l in
     record {
       exponent = dyadic_exponent r e;
-      not_below = le_trans ((lifted r).1 ((ceiling_le d.m r (2 ^ s) above).0 (omega (arith, ints)))) (le_of_equal (equal_sym (dyadic_is r e)));
+      not_below =
+          le_trans ((lifted r).1 ((ceiling_le d.m r (2 ^ s) above).0 (omega (arith, ints))))
+          (le_of_equal (equal_sym (dyadic_is r e)));
       least = λ x p h.
           let v = aligned x e in
-          let k = (ceiling_le d.m v (2 ^ s) above).1 ((lifted v).0 (le_trans h (le_of_equal (equal_sym (aligned_is x e p))))) in
-          le_trans (le_of_equal (dyadic_is r e)) (le_trans (le_at_one_exponent r v e k) (le_of_equal (aligned_is x e p)));
+          let k =
+          (ceiling_le d.m v (2 ^ s) above).1
+          ((lifted v).0 (le_trans h (le_of_equal (equal_sym (aligned_is x e p))))) in
+          le_trans (le_of_equal (dyadic_is r e))
+          (le_trans (le_at_one_exponent r v e k) (le_of_equal (aligned_is x e p)));
     }
 
 pub rounded_up_is : RoundedUpLaw

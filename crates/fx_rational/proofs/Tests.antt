@@ -17,7 +17,8 @@ at_most_false p q e = record { at_most = go (p.top *ℤ pos (bottom q)) (q.top *
 
 pub at_most_test : (p q : Rational) → IsTrue (is_at_most p q) ↔ AtMost p q
 unfolding is_at_most
-at_most_test p q = (at_most_true p q, λ h. holds (int_le (p.top *ℤ pos (bottom q)) (q.top *ℤ pos (bottom p))) h.at_most.le)
+at_most_test p q =
+    (at_most_true p q, λ h. holds (int_le (p.top *ℤ pos (bottom q)) (q.top *ℤ pos (bottom p))) h.at_most.le)
   where
     holds : (b : Bool) → T b → b ≡ true
     holds true h = refl

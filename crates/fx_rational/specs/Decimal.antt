@@ -24,4 +24,5 @@ quantised d f = floor (scaled (decimal_value d) f)
 -- lo - err <= g <= hi + err
 unfoldable pub is_within : Decimal → Decimal → Decimal → Decimal → Bool
 is_within g lo hi err =
-    is_at_most (minus (decimal_value lo) (decimal_value err)) (decimal_value g) && is_at_most (decimal_value g) (plus (decimal_value hi) (decimal_value err))
+    is_at_most (minus (decimal_value lo) (decimal_value err)) (decimal_value g) &&
+    is_at_most (decimal_value g) (plus (decimal_value hi) (decimal_value err))

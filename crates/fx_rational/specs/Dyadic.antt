@@ -76,11 +76,13 @@ fits_128 m = int_le (neg_ℤ (pos (2 ^ 127))) m && int_lt m (pos (2 ^ 127))
 
 -- each mantissa fits after its alignment, and so does the result's
 unfoldable pub sum_fits : Dyadic → Dyadic → Bool
-sum_fits a b = let e = max a.e b.e in fits_128 (aligned a e) && fits_128 (aligned b e) && fits_128 (aligned a e +ℤ aligned b e)
+sum_fits a b =
+    let e = max a.e b.e in fits_128 (aligned a e) && fits_128 (aligned b e) && fits_128 (aligned a e +ℤ aligned b e)
 
 -- of a difference
 unfoldable pub difference_fits : Dyadic → Dyadic → Bool
-difference_fits a b = let e = max a.e b.e in fits_128 (aligned a e) && fits_128 (aligned b e) && fits_128 (aligned a e -ℤ aligned b e)
+difference_fits a b =
+    let e = max a.e b.e in fits_128 (aligned a e) && fits_128 (aligned b e) && fits_128 (aligned a e -ℤ aligned b e)
 
 -- of a product
 unfoldable pub product_fits : Dyadic → Dyadic → Bool

@@ -69,7 +69,8 @@ GreatestLaw = (a b : Dyadic) → IsGreatest a b (greatest a b)
 pub record IsRoundedDown (d : Dyadic) (e : ℕ) (r : Dyadic) : Type 0 where
   pub exponent : r.e ≤ e
   pub not_above : AtMost (dyadic_value r) (dyadic_value d)
-  pub greatest : (x : Dyadic) → x.e ≤ e → AtMost (dyadic_value x) (dyadic_value d) → AtMost (dyadic_value x) (dyadic_value r)
+  pub greatest : (x : Dyadic) → x.e ≤ e → AtMost (dyadic_value x) (dyadic_value d) →
+      AtMost (dyadic_value x) (dyadic_value r)
 
 -- rounded_down is that dyadic
 abbrev pub RoundedDownLaw : Type 0
@@ -79,7 +80,8 @@ RoundedDownLaw = (d : Dyadic) (e : ℕ) → IsRoundedDown d e (rounded_down d e)
 pub record IsRoundedUp (d : Dyadic) (e : ℕ) (r : Dyadic) : Type 0 where
   pub exponent : r.e ≤ e
   pub not_below : AtMost (dyadic_value d) (dyadic_value r)
-  pub least : (x : Dyadic) → x.e ≤ e → AtMost (dyadic_value d) (dyadic_value x) → AtMost (dyadic_value r) (dyadic_value x)
+  pub least : (x : Dyadic) → x.e ≤ e → AtMost (dyadic_value d) (dyadic_value x) →
+      AtMost (dyadic_value r) (dyadic_value x)
 
 -- rounded_up is that dyadic
 abbrev pub RoundedUpLaw : Type 0
@@ -96,11 +98,13 @@ IntervalSumLaw = (a b : Interval) (x y : Rational) → Holds a x → Holds b y �
 
 -- and a difference the difference
 abbrev pub IntervalDifferenceLaw : Type 0
-IntervalDifferenceLaw = (a b : Interval) (x y : Rational) → Holds a x → Holds b y → Holds (interval_difference a b) (minus x y)
+IntervalDifferenceLaw =
+    (a b : Interval) (x y : Rational) → Holds a x → Holds b y → Holds (interval_difference a b) (minus x y)
 
 -- and a product the product
 abbrev pub IntervalProductLaw : Type 0
-IntervalProductLaw = (a b : Interval) (x y : Rational) → Holds a x → Holds b y → Holds (interval_product a b) (times x y)
+IntervalProductLaw =
+    (a b : Interval) (x y : Rational) → Holds a x → Holds b y → Holds (interval_product a b) (times x y)
 
 -- what lies inside another interval has no member that the other lacks
 abbrev pub InsideLaw : Type 0

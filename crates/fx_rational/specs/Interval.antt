@@ -22,7 +22,8 @@ interval_difference a b = record { lo = dyadic_difference a.lo b.hi; hi = dyadic
 -- the least and the greatest of the ends' products in the order lo lo, lo hi, hi lo, hi hi: of equal ones the first
 unfoldable pub interval_product : Interval → Interval → Interval
 interval_product a b =
-    let ll = dyadic_product a.lo b.lo in let lh = dyadic_product a.lo b.hi in let hl = dyadic_product a.hi b.lo in let hh = dyadic_product a.hi b.hi in
+    let ll = dyadic_product a.lo b.lo in let lh = dyadic_product a.lo b.hi in let hl = dyadic_product a.hi b.lo in
+    let hh = dyadic_product a.hi b.hi in
     record { lo = least (least ll lh) (least hl hh); hi = greatest (greatest ll lh) (greatest hl hh) }
 
 -- each mantissa of a sum fits
@@ -35,7 +36,8 @@ interval_difference_fits a b = difference_fits a.lo b.hi && difference_fits a.hi
 
 -- of the four products of ends
 unfoldable pub interval_product_fits : Interval → Interval → Bool
-interval_product_fits a b = product_fits a.lo b.lo && product_fits a.lo b.hi && product_fits a.hi b.lo && product_fits a.hi b.hi
+interval_product_fits a b =
+    product_fits a.lo b.lo && product_fits a.lo b.hi && product_fits a.hi b.lo && product_fits a.hi b.hi
 
 -- a lies in b
 unfoldable pub is_inside : Interval → Interval → Bool

@@ -67,14 +67,20 @@ pub record BoundsProducts (lo hi a b c d : Rational) : Type 0 where
 -- with x from a to b and y from c to d: where their sum, difference, product and quotient lie
 pub record IntervalsHold : Type 0 where
   pub sum : (a b c d x y : Rational) → IsBetween a b x → IsBetween c d y → IsBetween (plus a c) (plus b d) (plus x y)
-  pub difference : (a b c d x y : Rational) → IsBetween a b x → IsBetween c d y → IsBetween (minus a d) (minus b c) (minus x y)
-  pub product : (a b c d lo hi x y : Rational) → IsBetween a b x → IsBetween c d y → BoundsProducts lo hi a b c d → IsBetween lo hi (times x y)
+  pub difference : (a b c d x y : Rational) → IsBetween a b x → IsBetween c d y →
+      IsBetween (minus a d) (minus b c) (minus x y)
+  pub product : (a b c d lo hi x y : Rational) → IsBetween a b x → IsBetween c d y → BoundsProducts lo hi a b c d →
+      IsBetween lo hi (times x y)
   -- for a divisor above zero: lo times either end is at most a, and b is at most hi times either end
-  pub quotient : (a b c d lo hi x y z : Rational) → IsBetween a b x → IsBetween c d y → quotient x y ≡ Some z → (AtMost c (whole (pos 0)) → ⊥) →
+  pub quotient : (a b c d lo hi x y z : Rational) → IsBetween a b x → IsBetween c d y → quotient x y ≡ Some z →
+      (AtMost c (whole (pos 0)) → ⊥) →
       AtMost (times lo c) a → AtMost (times lo d) a → AtMost b (times hi c) → AtMost b (times hi d) → IsBetween lo hi z
 
 -- how errors dx of x and dy of y, and the centres mx and my of a form, enter a product and a quotient
 pub record ErrorIdentities : Type 0 where
-  pub product : (x y dx dy : Rational) → Equal (minus (times (plus x dx) (plus y dy)) (times x y)) (plus (plus (times x dy) (times y dx)) (times dx dy))
-  pub centred : (x y mx my : Rational) → Equal (times x y) (plus (minus (plus (times my x) (times mx y)) (times mx my)) (times (minus x mx) (minus y my)))
-  pub quotient : (x y dx dy z r d : Rational) → quotient x y ≡ Some z → quotient (plus x dx) (plus y dy) ≡ Some r → quotient (minus dx (times z dy)) (plus y dy) ≡ Some d → Equal (minus r z) d
+  pub product : (x y dx dy : Rational) →
+      Equal (minus (times (plus x dx) (plus y dy)) (times x y)) (plus (plus (times x dy) (times y dx)) (times dx dy))
+  pub centred : (x y mx my : Rational) →
+      Equal (times x y) (plus (minus (plus (times my x) (times mx y)) (times mx my)) (times (minus x mx) (minus y my)))
+  pub quotient : (x y dx dy z r d : Rational) → quotient x y ≡ Some z → quotient (plus x dx) (plus y dy) ≡ Some r →
+      quotient (minus dx (times z dy)) (plus y dy) ≡ Some d → Equal (minus r z) d

@@ -3,7 +3,8 @@ use Rattle.std.specs.Prelude.{◌≡◌}
 use Rattle.fx_algebra.specs.Gcd.{IsLowest}
 use Rattle.fx_rational.specs.Rational.{Rational, bottom, Equal, lowest}
 
--- `lowest r` is the same number in lowest terms, no other spelling of that number is, and equal numbers have the same one
+-- `lowest r` is the same number in lowest terms, no other spelling of that number is, and equal numbers have the same
+-- one
 pub record LowestLaw : Type 0 where
   pub same : (r : Rational) → Equal (lowest r) r
   pub reduced : (r : Rational) → IsLowest (lowest r).top (bottom (lowest r))

@@ -1,4 +1,5 @@
-//! Numbers that proofs speak of: rationals without bound, and what is written of them as dyadics, intervals and decimals.
+//! Numbers that proofs speak of: rationals without bound, and what is written of them as dyadics, intervals and
+//! decimals.
 //!
 //! All of it is for contracts and proofs, so that nothing here runs. `specs/` has the definitions; the functions below
 //! have empty bodies, and each carries a law that the crates above may believe. A polynomial identity over rationals is

@@ -1,8 +1,8 @@
 //! Looking ahead: a template, its images under the linear part, and how far each reaches.
 //!
-//! A template of the states becomes its image one step later, and what drives it is added. The sum of all later drives is the
-//! template's reach, the least bound that any certificate could have. It is known before a template is kept, so that what a
-//! closing of a chain costs is known too.
+//! A template of the states becomes its image one step later, and what drives it is added. The sum of all later drives
+//! is the template's reach, the least bound that any certificate could have. It is known before a template is kept, so
+//! that what a closing of a chain costs is known too.
 
 use crate::linear::Linear;
 use crate::templates::Templates;

@@ -1,8 +1,8 @@
 //! Chains of images, and where they are closed.
 //!
-//! A template is shown by its image, that by the next, and so on. Inside a chain nothing is lost; only where it is closed, on
-//! the unit templates, on itself or by an exchange. With every bound at its reach and a room for the whole chain, a closing
-//! holds exactly where what it costs is at most the image's reach and that room.
+//! A template is shown by its image, that by the next, and so on. Inside a chain nothing is lost; only where it is
+//! closed, on the unit templates, on itself or by an exchange. With every bound at its reach and a room for the whole
+//! chain, a closing holds exactly where what it costs is at most the image's reach and that room.
 
 use crate::ahead::Ahead;
 use crate::whole::{PLACES, floor_at, moved_down, product, share_of};
@@ -108,8 +108,8 @@ fn on_itself(ahead: &Ahead, i: usize, costs: &Costs, limit: i128) -> Option<Dyad
     if cost <= limit { Some(times) } else { None }
 }
 
-/// How often the image of template `i` takes that template, where the chain can be closed behind it: not at all where the
-/// unit templates suffice.
+/// How often the image of template `i` takes that template, where the chain can be closed behind it: not at all where
+/// the unit templates suffice.
 pub fn find_closing(ahead: &Ahead, i: usize, costs: &Costs) -> Option<Dyadic> {
     let first = ahead.templates.width(0);
     let next = i.saturating_add(1);
@@ -124,7 +124,8 @@ pub fn find_closing(ahead: &Ahead, i: usize, costs: &Costs) -> Option<Dyadic> {
     on_itself(ahead, i, costs, limit)
 }
 
-/// How many templates a chain wants to have: up to the first behind which it can be closed, else all that were looked at.
+/// How many templates a chain wants to have: up to the first behind which it can be closed, else all that were looked
+/// at.
 pub fn wanted_length(ahead: &Ahead, costs: &Costs) -> usize {
     let end = ahead.templates.len().saturating_sub(1);
     for i in 0..end {
@@ -158,8 +159,8 @@ fn first_times(alloc: Global, count: usize) -> Result<Vec<usize>, Memory> {
     Ok(times)
 }
 
-/// The times of the templates that are kept of a chain that wants to have `length` and is closed behind them or not, at most
-/// so many; none where they don't suffice.
+/// The times of the templates that are kept of a chain that wants to have `length` and is closed behind them or not, at
+/// most so many; none where they don't suffice.
 pub fn times_of(
     alloc: Global,
     length: usize,

@@ -1,12 +1,13 @@
 //! How far templates of states reach, and chains of their images.
 //!
-//! A template of the states, its image one step later, the image of that and so on show each other without loss: only where
-//! the chain is closed something may be lost. What later drives add to a template is its reach, the least bound that any
-//! certificate could have; it is worked out ahead, so that what a closing costs is known before a template is kept.
+//! A template of the states, its image one step later, the image of that and so on show each other without loss: only
+//! where the chain is closed something may be lost. What later drives add to a template is its reach, the least bound
+//! that any certificate could have; it is worked out ahead, so that what a closing costs is known before a template is
+//! kept.
 //!
-//! Nothing is promised of these numbers, and nothing rests on them: templates made of them are tested by who takes them. All
-//! are whole numbers of 128 bits, and one that leaves them drops what asked for it.
-//! The trap: sizes are whole at one power of two for all, coefficients at another, bounds at one for each template.
+//! Nothing is promised of these numbers, and nothing rests on them: templates made of them are tested by who takes
+//! them. All are whole numbers of 128 bits, and one that leaves them drops what asked for it. The trap: sizes are whole
+//! at one power of two for all, coefficients at another, bounds at one for each template.
 #![tactic(auto)]
 
 mod ahead;

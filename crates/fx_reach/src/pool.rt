@@ -140,7 +140,8 @@ impl Pool {
         self.push_reach(alloc, reach, 0)
     }
 
-    /// Adds a template whose coefficients are rounded to as many places as the width of its chain's first template calls for.
+    /// Adds a template whose coefficients are rounded to as many places as the width of its chain's first template
+    /// calls for.
     pub fn push_template(
         &mut self,
         alloc: Global,

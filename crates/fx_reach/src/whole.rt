@@ -66,7 +66,8 @@ pub fn greater(a: Option<i32>, b: Option<i32>) -> Option<i32> {
     }
 }
 
-/// One more than the exponent of the greatest power of two that isn't above the greater end's size; None for zero alone.
+/// One more than the exponent of the greatest power of two that isn't above the greater end's size; None for zero
+/// alone.
 pub fn magnitude(x: Interval) -> Option<i32> {
     greater(magnitude_of(x.lo), magnitude_of(x.hi))
 }
@@ -110,8 +111,8 @@ fn short_share(n: i128, d: i128) -> Option<Dyadic> {
     Some(lowest(floor_shift(m, 1), e))
 }
 
-/// `n / d` with about 30 significant bits and at most 40 binary places, unless one of them is 0. Of numbers that are too
-/// long to be moved up the last bits are left out.
+/// `n / d` with about 30 significant bits and at most 40 binary places, unless one of them is 0. Of numbers that are
+/// too long to be moved up the last bits are left out.
 pub fn share_of(n: i128, d: i128) -> Option<Dyadic> {
     let longest = bits(n.unsigned_abs()).max(bits(d.unsigned_abs()));
     let over = longest.saturating_sub(QUOTIENT_BITS);

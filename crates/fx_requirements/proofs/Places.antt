@@ -21,34 +21,53 @@ module _ (names : List Text) (text : Text) where
   abbrev is_it : Text → Bool
   is_it name = bytes_eq name text
 
-  pub is_here : (i : ℕ) → i < length names → ((k : ℕ) → k < i → is_it (get_or names k []) ≡ false) → is_it (get_or names i []) ≡ true → Some i ≡ name_place names text
+  pub is_here : (i : ℕ) → i < length names → ((k : ℕ) → k < i → is_it (get_or names k []) ≡ false) →
+      is_it (get_or names i []) ≡ true → Some i ≡ name_place names text
   is_here i lt before here =
       let p = position_or_len_is is_it names i [] (omega arith) before (λ _. here) in
       let t : ltb i (length names) ≡ true = search (rules, tests) in
       rw (p, t) refl
 
-  pub is_nowhere : (i : ℕ) → length names ≤ i → ((k : ℕ) → k < i → is_it (get_or names k []) ≡ false) → None ≡ name_place names text
+  pub is_nowhere : (i : ℕ) → length names ≤ i → ((k : ℕ) → k < i → is_it (get_or names k []) ≡ false) →
+      None ≡ name_place names text
   is_nowhere i le before =
-      let p = position_or_len_is is_it names (length names) [] (omega arith) (λ k lt. before k (omega arith)) (λ lt. absurd (omega arith)) in
+      let p =
+      position_or_len_is is_it names (length names) [] (omega arith) (λ k lt. before k (omega arith))
+      (λ lt. absurd (omega arith)) in
       rw (p, le-ltb (length names) (length names) (omega arith)) refl
 
-pub name_at : (subjects : List Subject) (i : ℕ) (d : Subject) (text : Text) (b : Bool) → i < length subjects → bytes_eq (get_or subjects i d).name.now text ≡ b → bytes_eq (get_or (names_of (map subject_of subjects)) i []) text ≡ b
+pub name_at : (subjects : List Subject) (i : ℕ) (d : Subject) (text : Text) (b : Bool) → i < length subjects →
+    bytes_eq (get_or subjects i d).name.now text ≡ b →
+    bytes_eq (get_or (names_of (map subject_of subjects)) i []) text ≡ b
 name_at subjects i d text b lt e =
     let le : i < length (map subject_of subjects) = simp length-map lt in
-    rw (get_or-map (λ s. s.name) (map subject_of subjects) i (subject_of d) [] le, get_or-map subject_of subjects i d (subject_of d) lt) e
+    rw (
+      get_or-map (λ s. s.name) (map subject_of subjects) i (subject_of d) [] le,
+      get_or-map subject_of subjects i d (subject_of d) lt,
+    ) e
 
-seated : (xs : List Subject) (k : ℕ) (s : Subject) → k < length xs → s ≡ get_or xs k s → subject_or (map subject_of xs) k ≡ subject_of s
+seated : (xs : List Subject) (k : ℕ) (s : Subject) → k < length xs → s ≡ get_or xs k s →
+    subject_or (map subject_of xs) k ≡ subject_of s
 seated xs k s lt e = get_or-map subject_of xs k s _ lt ∙ ap subject_of (sym e)
 
-pub said_twice : (side : Side) (d : Decimal) (t : Lexeme) (xs : List Subject) (k : ℕ) (s : Subject) → k < length xs → s ≡ get_or xs k s → is_said (side_of side (subject_of s)) ≡ true → said side d t (map subject_of xs) k ≡ Err (fault t.at NamedTwice)
+pub said_twice : (side : Side) (d : Decimal) (t : Lexeme) (xs : List Subject) (k : ℕ) (s : Subject) → k < length xs →
+    s ≡ get_or xs k s → is_said (side_of side (subject_of s)) ≡ true →
+    said side d t (map subject_of xs) k ≡ Err (fault t.at NamedTwice)
 unfolding said
-said_twice side d t xs k s lt e given = let g : said_at side d t (map subject_of xs) k (subject_of s) ≡ Err (fault t.at NamedTwice) = rw given refl in ap (said_at side d t (map subject_of xs) k) (seated xs k s lt e) ∙ g
+said_twice side d t xs k s lt e given =
+    let g : said_at side d t (map subject_of xs) k (subject_of s) ≡ Err (fault t.at NamedTwice) = rw given refl in
+    ap (said_at side d t (map subject_of xs) k) (seated xs k s lt e) ∙ g
 
 made : Subjects → Result Subjects SourceFault
 made subjects = Ok subjects
 
-pub said_once : (side : Side) (d : Decimal) (t : Lexeme) (xs : List Subject) (k : ℕ) (s s' : Subject) → k < length xs → s ≡ get_or xs k s → is_said (side_of side (subject_of s)) ≡ false → subject_of s' ≡ with_side side d (subject_of s) → said side d t (map subject_of xs) k ≡ Ok (map subject_of (set xs k s'))
+pub said_once : (side : Side) (d : Decimal) (t : Lexeme) (xs : List Subject) (k : ℕ) (s s' : Subject) → k < length xs →
+    s ≡ get_or xs k s → is_said (side_of side (subject_of s)) ≡ false →
+    subject_of s' ≡ with_side side d (subject_of s) →
+    said side d t (map subject_of xs) k ≡ Ok (map subject_of (set xs k s'))
 unfolding said made
 said_once side d t xs k s s' lt e given w =
-    let g : said_at side d t (map subject_of xs) k (subject_of s) ≡ made (set (map subject_of xs) k (with_side side d (subject_of s))) = rw given refl in
-    ap (said_at side d t (map subject_of xs) k) (seated xs k s lt e) ∙ g ∙ ap (λ v. made (set (map subject_of xs) k v)) (sym w) ∙ ap made (sym (map-set subject_of xs k s'))
+    let g : said_at side d t (map subject_of xs) k (subject_of s)
+    ≡ made (set (map subject_of xs) k (with_side side d (subject_of s))) = rw given refl in
+    ap (said_at side d t (map subject_of xs) k) (seated xs k s lt e) ∙ g
+    ∙ ap (λ v. made (set (map subject_of xs) k v)) (sym w) ∙ ap made (sym (map-set subject_of xs k s'))

@@ -14,7 +14,13 @@ use Rattle.fx_requirements.specs.declared.condition.Conditions.{Conditions}
 use Rattle.fx_requirements.specs.declared.ensuring.Demanded.{Demanded}
 
 abbrev pub subject_of : Subject → ranges.Subject
-subject_of s = record { name = s.name.now; at = s.at; lo = option_map numeral_decimal s.lo; hi = option_map numeral_decimal s.hi; err = option_map numeral_decimal s.err }
+subject_of s = record {
+  name = s.name.now;
+  at = s.at;
+  lo = option_map numeral_decimal s.lo;
+  hi = option_map numeral_decimal s.hi;
+  err = option_map numeral_decimal s.err;
+}
 
 abbrev pub subjects_of : Vec Subject Global → ranges.Subjects
 subjects_of v = map subject_of v.items

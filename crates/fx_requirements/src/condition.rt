@@ -1,8 +1,8 @@
-//! Conditions, each of which gives an end or an error of an input or an output; and those of `require`, in parentheses that
-//! may nest.
+//! Conditions, each of which gives an end or an error of an input or an output; and those of `require`, in parentheses
+//! that may nest.
 //!
-//! Parentheses are counted, not followed, so that a million of them need no stack. The trap: a relation with a number or a name
-//! on both sides is found at its second side, and told at its first token.
+//! Parentheses are counted, not followed, so that a million of them need no stack. The trap: a relation with a number
+//! or a name on both sides is found at its second side, and told at its first token.
 ghost use Rattle.std.specs.Prelude.{◌≡◌, ◌≤◌, ◌<◌, ◌+◌, ◌^◌, length, IfOk, Bool, true, false};
 ghost use Rattle.fx_lexer.specs.Faults.{GivesParsed};
 ghost use Rattle.fx_lexer.specs.Tokens.{lexeme_of};
@@ -46,7 +46,8 @@ fn error_at<'t, 'a>(
     tokens: &'t [Token<'a>],
 ) -> Parsed<'t, 'a, Vec<Subject<'a>>>
     requires { k < length subjects.items }
-    ensures value { GivesParsed (λ x. (subjects_of x.0, lexemes x.1.now)) result (stated_error end (subjects_of subjects.entry) (lexeme_of token.now) k (lexemes tokens.now)) }
+    ensures value { GivesParsed (λ x. (subjects_of x.0, lexemes x.1.now)) result
+        (stated_error end (subjects_of subjects.entry) (lexeme_of token.now) k (lexemes tokens.now)) }
     ensures shorter { IfOk result (λ x. length x.1.now < length tokens.now) }
 {
     let (value, rest) = number(end, tokens)?;
@@ -64,7 +65,8 @@ fn bound_at<'t, 'a>(
     tokens: &'t [Token<'a>],
 ) -> Parsed<'t, 'a, Vec<Subject<'a>>>
     requires { k < length subjects.items }
-    ensures value { GivesParsed (λ x. (subjects_of x.0, lexemes x.1.now)) result (bound_at end (subjects_of subjects.entry) (lexeme_of token.now) k side (lexemes tokens.now)) }
+    ensures value { GivesParsed (λ x. (subjects_of x.0, lexemes x.1.now)) result
+        (bound_at end (subjects_of subjects.entry) (lexeme_of token.now) k side (lexemes tokens.now)) }
     ensures shorter { IfOk result (λ x. length x.1.now < length tokens.now) }
 {
     if peek(tokens) == Head::Name {
@@ -82,7 +84,8 @@ fn name_first<'t, 'a>(
     subjects: Vec<Subject<'a>>,
     tokens: &'t [Token<'a>],
 ) -> Parsed<'t, 'a, Vec<Subject<'a>>>
-    ensures value { GivesParsed (λ x. (subjects_of x.0, lexemes x.1.now)) result (name_first end (subjects_of subjects.entry) (lexemes tokens.now)) }
+    ensures value { GivesParsed (λ x. (subjects_of x.0, lexemes x.1.now)) result
+        (name_first end (subjects_of subjects.entry) (lexemes tokens.now)) }
     ensures shorter { IfOk result (λ x. length x.1.now < length tokens.now) }
 {
     let (token, rest) = want(end, Head::Name, tokens)?;
@@ -111,7 +114,9 @@ fn behind_relation<'t, 'a>(
     side: Side,
     tokens: &'t [Token<'a>],
 ) -> Parsed<'t, 'a, Vec<Subject<'a>>>
-    ensures value { GivesParsed (λ x. (subjects_of x.0, lexemes x.1.now)) result (behind_relation end first (subjects_of subjects.entry) (numeral_decimal value.entry) side (lexemes tokens.now)) }
+    ensures value { GivesParsed (λ x. (subjects_of x.0, lexemes x.1.now)) result
+        (behind_relation end first (subjects_of subjects.entry) (numeral_decimal value.entry) side
+        (lexemes tokens.now)) }
     ensures shorter { IfOk result (λ x. length x.1.now < length tokens.now) }
 {
     if is_signed(tokens) {
@@ -130,7 +135,8 @@ fn number_first<'t, 'a>(
     subjects: Vec<Subject<'a>>,
     tokens: &'t [Token<'a>],
 ) -> Parsed<'t, 'a, Vec<Subject<'a>>>
-    ensures value { GivesParsed (λ x. (subjects_of x.0, lexemes x.1.now)) result (number_first end (subjects_of subjects.entry) (lexemes tokens.now)) }
+    ensures value { GivesParsed (λ x. (subjects_of x.0, lexemes x.1.now)) result
+        (number_first end (subjects_of subjects.entry) (lexemes tokens.now)) }
     ensures shorter { IfOk result (λ x. length x.1.now < length tokens.now) }
 {
     let (value, rest) = signed(end, tokens)?;
@@ -160,7 +166,8 @@ pub(crate) fn condition_at<'t, 'a>(
     subjects: Vec<Subject<'a>>,
     tokens: &'t [Token<'a>],
 ) -> Parsed<'t, 'a, Vec<Subject<'a>>>
-    ensures value { GivesParsed (λ x. (subjects_of x.0, lexemes x.1.now)) result (condition_at end (subjects_of subjects.entry) (lexemes tokens.now)) }
+    ensures value { GivesParsed (λ x. (subjects_of x.0, lexemes x.1.now)) result
+        (condition_at end (subjects_of subjects.entry) (lexemes tokens.now)) }
     ensures shorter { IfOk result (λ x. length x.1.now < length tokens.now) }
 {
     if peek(tokens) == Head::Name {
@@ -186,8 +193,11 @@ fn wanted_at<'t, 'a>(
     tokens: &'t [Token<'a>],
 ) -> Parsed<'t, 'a, Conditions<'a>>
     requires { depth + length tokens.now < 2 ^ 63 }
-    ensures value { GivesParsed (λ x. (conditions_in x.0, lexemes x.1.now)) result (wanted_at end (record { depth = depth; wants = true; subjects = subjects_of subjects.entry }) (lexemes tokens.now)) }
-    ensures room { IfOk result (λ x. (length x.1.now < length tokens.now) × (x.0.depth + length x.1.now ≤ depth + length tokens.now)) }
+    ensures value { GivesParsed (λ x. (conditions_in x.0, lexemes x.1.now)) result
+        (wanted_at end (record { depth = depth; wants = true; subjects = subjects_of subjects.entry })
+        (lexemes tokens.now)) }
+    ensures room { IfOk result (λ x. (length x.1.now < length tokens.now) ×
+        (x.0.depth + length x.1.now ≤ depth + length tokens.now)) }
 {
     let Some((token, rest)) = tokens.split_first() else {
         return Err(SourceFault::at(end, SourceKind::EndOfText));
@@ -216,8 +226,11 @@ fn read_at<'t, 'a>(
     tokens: &'t [Token<'a>],
 ) -> Parsed<'t, 'a, Conditions<'a>>
     requires { 0 < depth }
-    ensures value { GivesParsed (λ x. (conditions_in x.0, lexemes x.1.now)) result (read_at end (record { depth = depth; wants = false; subjects = subjects_of subjects.entry }) (lexemes tokens.now)) }
-    ensures room { IfOk result (λ x. (length x.1.now < length tokens.now) × (x.0.depth + length x.1.now ≤ depth + length tokens.now)) }
+    ensures value { GivesParsed (λ x. (conditions_in x.0, lexemes x.1.now)) result
+        (read_at end (record { depth = depth; wants = false; subjects = subjects_of subjects.entry })
+        (lexemes tokens.now)) }
+    ensures room { IfOk result (λ x. (length x.1.now < length tokens.now) ×
+        (x.0.depth + length x.1.now ≤ depth + length tokens.now)) }
 {
     let Some((token, rest)) = tokens.split_first() else {
         return Err(SourceFault::at(end, SourceKind::EndOfText));
@@ -251,8 +264,10 @@ fn conditions_step<'t, 'a>(
 ) -> Parsed<'t, 'a, Conditions<'a>>
     requires open { 0 < conditions.depth }
     requires room { conditions.depth + length tokens.now < 2 ^ 63 }
-    ensures value { GivesParsed (λ x. (conditions_in x.0, lexemes x.1.now)) result (conditions_step end (conditions_in conditions.entry) (lexemes tokens.now)) }
-    ensures room { IfOk result (λ x. (length x.1.now < length tokens.now) × (x.0.depth + length x.1.now ≤ conditions.entry.depth + length tokens.now)) }
+    ensures value { GivesParsed (λ x. (conditions_in x.0, lexemes x.1.now)) result
+        (conditions_step end (conditions_in conditions.entry) (lexemes tokens.now)) }
+    ensures room { IfOk result (λ x. (length x.1.now < length tokens.now) ×
+        (x.0.depth + length x.1.now ≤ conditions.entry.depth + length tokens.now)) }
 {
     let Conditions {
         depth,
@@ -275,7 +290,8 @@ pub fn all_conditions<'t, 'a>(
 ) -> Parsed<'t, 'a, Conditions<'a>>
     requires open { 0 < conditions.depth }
     requires room { conditions.depth + length tokens.now < 2 ^ 63 }
-    ensures value { GivesParsed (λ x. (conditions_in x.0, lexemes x.1.now)) result (conditions_at end (conditions_in conditions.entry) (lexemes tokens.now)) }
+    ensures value { GivesParsed (λ x. (conditions_in x.0, lexemes x.1.now)) result
+        (conditions_at end (conditions_in conditions.entry) (lexemes tokens.now)) }
     ensures shorter { IfOk result (λ x. length x.1.now < length tokens.now) }
 {
     let (mut now, mut rest) = conditions_step(end, conditions, tokens)?;

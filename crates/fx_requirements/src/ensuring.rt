@@ -31,7 +31,8 @@ pub struct Demanded<'a> {
 #[tactic(auto, unfolding(fx_grammar::specs::Ensuring::output_at))]
 fn output<'t, 'a>(end: u32, named: Named<'a>, tokens: &'t [Token<'a>]) -> Parsed<'t, 'a, Named<'a>>
     requires { IsNamed named }
-    ensures value { GivesParsed (λ x. (subjects_of x.0.subjects, lexemes x.1.now)) result (output_at end (subjects_of named.entry.subjects) (lexemes tokens.now)) }
+    ensures value { GivesParsed (λ x. (subjects_of x.0.subjects, lexemes x.1.now)) result
+        (output_at end (subjects_of named.entry.subjects) (lexemes tokens.now)) }
     ensures shorter { IfOk result (λ x. length x.1.now < length tokens.now) }
     ensures same { IfOk result (λ x. IsNamed x.0) }
 {
@@ -85,7 +86,8 @@ fn counted<'t, 'a>(
     named: Named<'a>,
     rest: &'t [Token<'a>],
 ) -> Parsed<'t, 'a, Vec<Subject<'a>>>
-    ensures value { GivesParsed (λ x. (subjects_of x.0, lexemes x.1.now)) result (of_arity outputs (subjects_of named.entry.subjects, lexemes rest.now)) }
+    ensures value { GivesParsed (λ x. (subjects_of x.0, lexemes x.1.now)) result
+        (of_arity outputs (subjects_of named.entry.subjects, lexemes rest.now)) }
     ensures shorter { IfOk result (λ x. length x.1.now ≤ length rest.now) }
 {
     let Named { subjects, .. } = named;
@@ -103,7 +105,8 @@ fn outputs_at<'t, 'a>(
     outputs: usize,
     tokens: &'t [Token<'a>],
 ) -> Parsed<'t, 'a, Vec<Subject<'a>>>
-    ensures value { GivesParsed (λ x. (subjects_of x.0, lexemes x.1.now)) result (outputs_at end outputs (lexemes tokens.now)) }
+    ensures value { GivesParsed (λ x. (subjects_of x.0, lexemes x.1.now)) result
+        (outputs_at end outputs (lexemes tokens.now)) }
     ensures shorter { IfOk result (λ x. length x.1.now < length tokens.now) }
 {
     if peek(tokens) == Head::Open {
@@ -170,7 +173,8 @@ fn all_demanded<'a>(
     alloc: Global,
     subjects: &[Subject<'a>],
 ) -> Result<Vec<Demanded<'a>>, SourceFault>
-    ensures { GivesParsed (λ v. map demand_value v.items) result (Ok (map declared_demand (map subject_of subjects.now))) }
+    ensures { GivesParsed (λ v. map demand_value v.items) result
+        (Ok (map declared_demand (map subject_of subjects.now))) }
 {
     let mut demands = Vec::new(alloc);
     for subject in subjects {
@@ -206,7 +210,8 @@ fn ensuring_at<'t, 'a>(
     outputs: usize,
     tokens: &'t [Token<'a>],
 ) -> Parsed<'t, 'a, Vec<Demanded<'a>>>
-    ensures value { GivesParsed (λ x. (map demand_value x.0.items, lexemes x.1.now)) result (ensuring_at end outputs (lexemes tokens.now)) }
+    ensures value { GivesParsed (λ x. (map demand_value x.0.items, lexemes x.1.now)) result
+        (ensuring_at end outputs (lexemes tokens.now)) }
     ensures shorter { IfOk result (λ x. length x.1.now < length tokens.now) }
 {
     let (_, rest) = want(end, Head::Open, tokens)?;
@@ -226,7 +231,8 @@ pub fn maybe_ensuring<'t, 'a>(
     outputs: usize,
     tokens: &'t [Token<'a>],
 ) -> Parsed<'t, 'a, Vec<Demanded<'a>>>
-    ensures value { GivesParsed (λ x. (map demand_value x.0.items, lexemes x.1.now)) result (maybe_ensuring_at end outputs (lexemes tokens.now)) }
+    ensures value { GivesParsed (λ x. (map demand_value x.0.items, lexemes x.1.now)) result
+        (maybe_ensuring_at end outputs (lexemes tokens.now)) }
     ensures shorter { IfOk result (λ x. length x.1.now ≤ length tokens.now) }
 {
     if peek(tokens) == Head::Ensuring {

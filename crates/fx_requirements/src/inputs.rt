@@ -32,7 +32,8 @@ pub fn require<'t, 'a>(
     tokens: &'t [Token<'a>],
 ) -> Parsed<'t, 'a, Vec<Subject<'a>>>
     requires { length tokens.now < 2 ^ 32 }
-    ensures value { GivesParsed (λ x. (inputs_value x.0, lexemes x.1.now)) result (require_at end (subjects_of subjects.entry) (lexemes tokens.now)) }
+    ensures value { GivesParsed (λ x. (inputs_value x.0, lexemes x.1.now)) result
+        (require_at end (subjects_of subjects.entry) (lexemes tokens.now)) }
     ensures shorter { IfOk result (λ x. length x.1.now < length tokens.now) }
 {
     let (_, rest) = want(end, Head::Open, tokens)?;

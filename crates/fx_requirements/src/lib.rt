@@ -1,8 +1,8 @@
 //! What a function says of its inputs and outputs: `require` and `ensuring`.
 //!
-//! Both speak of subjects, inputs or outputs by name, of which each learns a lower end, an upper end and an error at most
-//! once. `require` gives the inputs with their ranges and `maybe_ensuring` the demands, exactly as the definitions of
-//! `fx_grammar` do, or that memory ran out.
+//! Both speak of subjects, inputs or outputs by name, of which each learns a lower end, an upper end and an error at
+//! most once. `require` gives the inputs with their ranges and `maybe_ensuring` the demands, exactly as the definitions
+//! of `fx_grammar` do, or that memory ran out.
 //!
 //! The trap: where one token completes two faults, the order of two tests is the grammar's table; no test may move.
 #![tactic(auto)]

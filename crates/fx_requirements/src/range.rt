@@ -102,7 +102,8 @@ impl Flaw {
 
 /// The first subject that has the flaw gives the fault.
 pub fn none_has(flaw: Flaw, subjects: &[Subject<'_>]) -> Result<(), SourceFault>
-    ensures { GivesParsed (λ u. tt) result (all_pass (has flaw) (λ at. fault at (kind_of flaw)) (map subject_of subjects.now)) }
+    ensures { GivesParsed (λ u. tt) result
+        (all_pass (has flaw) (λ at. fault at (kind_of flaw)) (map subject_of subjects.now)) }
 {
     for subject in subjects {
         if flaw.is_in(subject) {

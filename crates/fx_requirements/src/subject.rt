@@ -66,7 +66,8 @@ pub fn no_subjects<'a>(alloc: Global) -> Named<'a>
 pub fn with_subject<'a>(named: Named<'a>, token: &Token<'a>) -> Result<Named<'a>, SourceFault>
     requires same { IsNamed named }
     requires new { name_place named.names token.now.text.now ≡ None }
-    ensures value { GivesParsed (λ more. subjects_of more.subjects) result (Ok (subjects_of named.entry.subjects ++ new_subject (lexeme_of token.now) ∷ [])) }
+    ensures value { GivesParsed (λ more. subjects_of more.subjects) result
+        (Ok (subjects_of named.entry.subjects ++ new_subject (lexeme_of token.now) ∷ [])) }
     ensures same { IfOk result (λ more. IsNamed more) }
     ensures count { IfOk result (λ more. length more.subjects.items ≡ length named.entry.subjects.items + 1) }
 {
@@ -155,7 +156,8 @@ pub fn said<'a>(
     k: usize,
 ) -> Result<Vec<Subject<'a>>, SourceFault>
     requires { k < length subjects.items }
-    ensures { GivesParsed (λ v. subjects_of v) result (said side (numeral_decimal value.entry) (lexeme_of token.now) (subjects_of subjects.entry) k) }
+    ensures { GivesParsed (λ v. subjects_of v) result
+        (said side (numeral_decimal value.entry) (lexeme_of token.now) (subjects_of subjects.entry) k) }
 {
     let subject = subjects[k];
     if is_said(side, &subject) {

@@ -19,23 +19,47 @@ no_rules r h = let e : 31 - r ≡ 0 = omega arith in ap (numbers_from r) e
 pub no_rule_left : (f : Function) (place : ℕ) (path : List ℕ) (r : ℕ) → 30 < r → Begins f place path r None
 no_rule_left f place path r h = ap (λ ns. there f (steps_by place path ns)) (no_rules r h)
 
-pub rule_is_there : (f : Function) (place : ℕ) (path : List ℕ) (r : ℕ) (h : Function) → r ≤ 30 → rewrite f (record { place = place; path = path; rule = r }) ≡ Some h → Begins f place path r (Some r)
-rule_is_there f place path r h l e =
-    (l, ap (λ ns. there f (steps_by place path ns)) (rules_split r l) ∙ ap (λ (b : Bool). cond b (record { place = place; path = path; rule = r } ∷ there f (steps_by place path (rules_from (r + 1)))) (there f (steps_by place path (rules_from (r + 1))))) (ap is_some e))
+pub rule_is_there : (f : Function) (place : ℕ) (path : List ℕ) (r : ℕ) (h : Function) → r ≤ 30 →
+    rewrite f (record { place = place; path = path; rule = r }) ≡ Some h → Begins f place path r (Some r)
+rule_is_there f place path r h l e = (
+  l,
+  ap (λ ns. there f (steps_by place path ns)) (rules_split r l)
+      ∙ ap (λ (b : Bool). cond b (record {
+        place = place;
+        path = path;
+        rule =
+            r;
+      } ∷ there f (steps_by place path (rules_from (r + 1)))) (there f (steps_by place path (rules_from (r + 1)))))
+      (ap is_some e),
+)
 
-pub rule_is_not : (f : Function) (place : ℕ) (path : List ℕ) (r : ℕ) (o : Option ℕ) → r ≤ 30 → rewrite f (record { place = place; path = path; rule = r }) ≡ None → Begins f place path (r + 1) o → Begins f place path r o
+pub rule_is_not : (f : Function) (place : ℕ) (path : List ℕ) (r : ℕ) (o : Option ℕ) → r ≤ 30 →
+    rewrite f (record { place = place; path = path; rule = r }) ≡ None → Begins f place path (r + 1) o →
+    Begins f place path r o
 rule_is_not f place path r o l e b =
     let same : there f (steps_by place path (rules_from r)) ≡ there f (steps_by place path (rules_from (r + 1))) =
-    ap (λ ns. there f (steps_by place path ns)) (rules_split r l) ∙ ap (λ (b : Bool). cond b (record { place = place; path = path; rule = r } ∷ there f (steps_by place path (rules_from (r + 1)))) (there f (steps_by place path (rules_from (r + 1))))) (ap is_some e) in
+    ap (λ ns. there f (steps_by place path ns)) (rules_split r l)
+    ∙ ap (λ (b : Bool). cond b (record {
+      place = place;
+      path = path;
+      rule =
+          r;
+    } ∷ there f (steps_by place path (rules_from (r + 1)))) (there f (steps_by place path (rules_from (r + 1)))))
+    (ap is_some e) in
     moved o b same
   where
-    moved : (o : Option ℕ) → Begins f place path (r + 1) o → there f (steps_by place path (rules_from r)) ≡ there f (steps_by place path (rules_from (r + 1))) → Begins f place path r o
+    moved : (o : Option ℕ) → Begins f place path (r + 1) o →
+        there f (steps_by place path (rules_from r)) ≡ there f (steps_by place path (rules_from (r + 1))) →
+        Begins f place path r o
     moved None b same = same ∙ b
     moved (Some q) b same = (b.0, same ∙ b.1)
 
 -- where no tree is found, no step is there
-pub nothing_found : (f : Function) (place : ℕ) (path ns : List ℕ) → found f place path ≡ None → there f (steps_by place path ns) ≡ []
+pub nothing_found : (f : Function) (place : ℕ) (path ns : List ℕ) → found f place path ≡ None →
+    there f (steps_by place path ns) ≡ []
 nothing_found f place path [] e = refl
 nothing_found f place path (n ∷ ns) e =
-    let none : rewrite f (record { place = place; path = path; rule = n }) ≡ None = ap (option_and_then (λ old. after f (record { place = place; path = path; rule = n }) (turned n old))) e in
-    ap (λ (b : Bool). cond b (record { place = place; path = path; rule = n } ∷ there f (steps_by place path ns)) (there f (steps_by place path ns))) (ap is_some none) ∙ nothing_found f place path ns e
+    let none : rewrite f (record { place = place; path = path; rule = n }) ≡ None =
+    ap (option_and_then (λ old. after f (record { place = place; path = path; rule = n }) (turned n old))) e in
+    ap (λ (b : Bool). cond b (record { place = place; path = path; rule = n } ∷ there f (steps_by place path ns))
+    (there f (steps_by place path ns))) (ap is_some none) ∙ nothing_found f place path ns e

@@ -19,7 +19,8 @@ use Rattle.fx_fold.specs.declared.measure.Measure.TheVariants.{NoMatch, TooLong,
 use Rattle.fx_rewrite.specs.declared.fault.StepFault.TheVariants as faults
 
 -- rewriting where a tree is found and the rule has an outcome
-pub rewrite_is : (f : Function) (s : Rewriting) (old : Tree) (o : Turned) → found f s.place s.path ≡ Some old → turned s.rule old ≡ o → rewrite f s ≡ after f s o
+pub rewrite_is : (f : Function) (s : Rewriting) (old : Tree) (o : Turned) → found f s.place s.path ≡ Some old →
+    turned s.rule old ≡ o → rewrite f s ≡ after f s o
 rewrite_is f s old o there is = ap (option_and_then (λ old. after f s (turned s.rule old))) there ∙ ap (after f s) is
 
 no_match : (old : Tree) (o : Turned) → NoMatch ≡ measure_of old o → o ≡ rules.NoMatch
@@ -46,37 +47,48 @@ given : (old : Tree) (o : Turned) (sizes : Sizes) → Gives sizes ≡ measure_of
 given old rules.NoMatch sizes e = absurd cc
 given old rules.TooLong sizes e = absurd cc
 given old (rules.Becomes new) sizes e =
-    let same : sizes ≡ record { old = size_of old; new = size_of new } = gives_same sizes (record { old = size_of old; new = size_of new }) e in
+    let same : sizes ≡ record { old = size_of old; new = size_of new } =
+    gives_same sizes (record { old = size_of old; new = size_of new }) e in
     record { new = new; becomes = refl; less = ap (λ (s : Sizes). s.old) same; more = ap (λ (s : Sizes). s.new) same }
 
-pub unmatched : (f : Function) (s : Rewriting) (old : Tree) (m : Measure) → found f s.place s.path ≡ Some old → m ≡ NoMatch → m ≡ measure_of old (turned s.rule old) → IsRefusedThere faults.NoMatch f s
+pub unmatched : (f : Function) (s : Rewriting) (old : Tree) (m : Measure) → found f s.place s.path ≡ Some old →
+    m ≡ NoMatch → m ≡ measure_of old (turned s.rule old) → IsRefusedThere faults.NoMatch f s
 unmatched f s old m there n e =
     let is = no_match old (turned s.rule old) (sym n ∙ e) in
     ((old, there, turned_judges s.rule old rules.NoMatch is), rewrite_is f s old rules.NoMatch there is)
 
-pub overlong : (f : Function) (s : Rewriting) (old : Tree) (m : Measure) → found f s.place s.path ≡ Some old → m ≡ TooLong → m ≡ measure_of old (turned s.rule old) → IsRefusedThere faults.TooLong f s
+pub overlong : (f : Function) (s : Rewriting) (old : Tree) (m : Measure) → found f s.place s.path ≡ Some old →
+    m ≡ TooLong → m ≡ measure_of old (turned s.rule old) → IsRefusedThere faults.TooLong f s
 overlong f s old m there n e =
     let is = too_long old (turned s.rule old) (sym n ∙ e) in
     let j = turned_judges s.rule old rules.TooLong is in
     let none = rewrite_is f s old rules.TooLong there is in
     ((old, j.0, there, j.1, none), none)
 
-pub overfull : (f : Function) (s : Rewriting) (old : Tree) (m : Measure) (sizes : Sizes) → found f s.place s.path ≡ Some old → m ≡ Gives sizes → m ≡ measure_of old (turned s.rule old) →
-    ((new : Tree) → sizes.old ≡ size_of old → sizes.new ≡ size_of new → false ≡ is_within_limits (with_tree f s.place s.path new) s.place) → IsRefusedThere faults.TooLong f s
+pub overfull : (f : Function) (s : Rewriting) (old : Tree) (m : Measure) (sizes : Sizes) →
+    found f s.place s.path ≡ Some old → m ≡ Gives sizes → m ≡ measure_of old (turned s.rule old) →
+    ((new : Tree) → sizes.old ≡ size_of old → sizes.new ≡ size_of new →
+    false ≡ is_within_limits (with_tree f s.place s.path new) s.place) → IsRefusedThere faults.TooLong f s
 overfull f s old m sizes there n e out =
     let g = given old (turned s.rule old) sizes (sym n ∙ e) in
     let j = turned_judges s.rule old (rules.Becomes g.new) g.becomes in
-    let none = rewrite_is f s old (rules.Becomes g.new) there g.becomes ∙ ap (λ (b : Bool). if b then Some (with_tree f s.place s.path g.new) else None) (sym (out g.new g.less g.more)) in
+    let none = rewrite_is f s old (rules.Becomes g.new) there g.becomes
+    ∙ ap (λ (b : Bool). if b then Some (with_tree f s.place s.path g.new)
+    else None) (sym (out g.new g.less g.more)) in
     ((old, g.new, there, j.0, none), none)
 
-pub admitted : (f : Function) (s : Rewriting) (old : Tree) (m : Measure) (sizes : Sizes) → found f s.place s.path ≡ Some old → m ≡ Gives sizes → m ≡ measure_of old (turned s.rule old) →
-    ((new : Tree) → sizes.old ≡ size_of old → sizes.new ≡ size_of new → true ≡ is_within_limits (with_tree f s.place s.path new) s.place) → IsAdmitted f s old sizes
+pub admitted : (f : Function) (s : Rewriting) (old : Tree) (m : Measure) (sizes : Sizes) →
+    found f s.place s.path ≡ Some old → m ≡ Gives sizes → m ≡ measure_of old (turned s.rule old) →
+    ((new : Tree) → sizes.old ≡ size_of old → sizes.new ≡ size_of new →
+    true ≡ is_within_limits (with_tree f s.place s.path new) s.place) → IsAdmitted f s old sizes
 admitted f s old m sizes there n e within =
     let g = given old (turned s.rule old) sizes (sym n ∙ e) in
     record {
       new = g.new;
       becomes = g.becomes;
-      is = rewrite_is f s old (rules.Becomes g.new) there g.becomes ∙ ap (λ (b : Bool). if b then Some (with_tree f s.place s.path g.new) else None) (sym (within g.new g.less g.more));
+      is = rewrite_is f s old (rules.Becomes g.new) there g.becomes
+          ∙ ap (λ (b : Bool). if b then Some (with_tree f s.place s.path g.new)
+          else None) (sym (within g.new g.less g.more));
       less = g.less;
       more = g.more;
     }

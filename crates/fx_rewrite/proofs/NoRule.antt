@@ -11,7 +11,10 @@ past (x ∷ xs) (suc n) h = past xs n (omega arith)
 
 pub no_rule : (n : ℕ) (e : Tree) → (n ≡ 0) ⊎ (30 < n) → turned n e ≡ NoMatch
 no_rule zero e h = refl
-no_rule (suc n) e h = ap (λ o. turned_by o e) (past turns n (⊎_elim (λ (z : suc n ≡ 0). absurd (omega arith)) (λ (l : 30 < suc n). let k : 30 ≤ n = omega arith in k) h))
+no_rule (suc n) e h =
+    ap (λ o. turned_by o e)
+    (past turns n (⊎_elim (λ (z : suc n ≡ 0). absurd (omega arith)) (λ (l : 30 < suc n). let k : 30 ≤ n = omega arith in
+    k) h))
 
 pub unturned : {P : Type 0} {t : Tree} → NoMatch ≡ Becomes t → P
 unturned e = absurd cc

@@ -8,7 +8,8 @@ use Rattle.fx_model.specs.Function.{Function}
 use Rattle.fx_model.specs.Paths.{child, subtree, child_changed, put, tree_in, tree_at, found, temps_changed, results_changed, results_after, changed, with_tree}
 use Rattle.fx_model.proofs.Options.{some_then}
 
-child_twice : (d : ℕ) (f g h : Tree → Tree) (e : Tree) → ((t : Tree) → f (g t) ≡ h t) → child_changed d f (child_changed d g e) ≡ child_changed d h e
+child_twice : (d : ℕ) (f g h : Tree → Tree) (e : Tree) → ((t : Tree) → f (g t) ≡ h t) →
+    child_changed d f (child_changed d g e) ≡ child_changed d h e
 child_twice zero f g h (Negation a) p = ap Negation (p a)
 child_twice zero f g h (Sum a b) p = ap (λ t. Sum t b) (p a)
 child_twice zero f g h (Difference a b) p = ap (λ t. Difference t b) (p a)
@@ -24,26 +25,31 @@ put_twice : (path : List ℕ) (mid new e : Tree) → put path new (put path mid 
 put_twice [] mid new e = refl
 put_twice (d ∷ ds) mid new e = child_twice d (put ds new) (put ds mid) (put ds new) e (λ t. put_twice ds mid new t)
 
-temps_twice : (ts : List function.Temp) (k : ℕ) (f g h : Tree → Tree) → ((t : Tree) → f (g t) ≡ h t) → temps_changed (temps_changed ts k g) k f ≡ temps_changed ts k h
+temps_twice : (ts : List function.Temp) (k : ℕ) (f g h : Tree → Tree) → ((t : Tree) → f (g t) ≡ h t) →
+    temps_changed (temps_changed ts k g) k f ≡ temps_changed ts k h
 temps_twice [] k f g h p = refl
 temps_twice (t ∷ ts) zero f g h p = λ i. record { name = t.name; tree = p t.tree i } ∷ ts
 temps_twice (t ∷ ts) (suc k) f g h p = ap (λ (us : List function.Temp). t ∷ us) (temps_twice ts k f g h p)
 
-results_twice : (es : List Tree) (k : ℕ) (f g h : Tree → Tree) → ((t : Tree) → f (g t) ≡ h t) → results_changed (results_changed es k g) k f ≡ results_changed es k h
+results_twice : (es : List Tree) (k : ℕ) (f g h : Tree → Tree) → ((t : Tree) → f (g t) ≡ h t) →
+    results_changed (results_changed es k g) k f ≡ results_changed es k h
 results_twice [] k f g h p = refl
 results_twice (e ∷ es) zero f g h p = ap (λ (t : Tree). t ∷ es) (p e)
 results_twice (e ∷ es) (suc k) f g h p = ap (λ (us : List Tree). e ∷ us) (results_twice es k f g h p)
 
-after_twice : (ts : List function.Temp) (es : List Tree) (k : ℕ) (f g h : Tree → Tree) → ((t : Tree) → f (g t) ≡ h t) → results_after (temps_changed ts k g) (results_after ts es k g) k f ≡ results_after ts es k h
+after_twice : (ts : List function.Temp) (es : List Tree) (k : ℕ) (f g h : Tree → Tree) → ((t : Tree) → f (g t) ≡ h t) →
+    results_after (temps_changed ts k g) (results_after ts es k g) k f ≡ results_after ts es k h
 after_twice [] es k f g h p = results_twice es k f g h p
 after_twice (t ∷ ts) es zero f g h p = refl
 after_twice (t ∷ ts) es (suc k) f g h p = after_twice ts es k f g h p
 
 -- the last one stays
-pub with_twice : (f : Function) (k : ℕ) (path : List ℕ) (mid new : Tree) → with_tree (with_tree f k path mid) k path new ≡ with_tree f k path new
+pub with_twice : (f : Function) (k : ℕ) (path : List ℕ) (mid new : Tree) →
+    with_tree (with_tree f k path mid) k path new ≡ with_tree f k path new
 with_twice f k path mid new = λ i. record (with_tree f k path new) {
   temps = temps_twice f.temps k (put path new) (put path mid) (put path new) (λ t. put_twice path mid new t) i;
-  results = after_twice f.temps f.results k (put path new) (put path mid) (put path new) (λ t. put_twice path mid new t) i;
+  results =
+      after_twice f.temps f.results k (put path new) (put path mid) (put path new) (λ t. put_twice path mid new t) i;
 }
 
 child_there : (d : ℕ) (e a : Tree) (f : Tree → Tree) → child d e ≡ Some a → child d (child_changed d f e) ≡ Some (f a)
@@ -64,21 +70,25 @@ put_there (d ∷ ds) e old new i =
     let s = some_then (subtree ds) (child d e) old i in
     ap (option_and_then (subtree ds)) (child_there d e s.0 (put ds new) s.1) ∙ put_there ds s.0 old new s.2
 
-list_there : (es : List Tree) (k : ℕ) (e : Tree) (g : Tree → Tree) → slice_get es k ≡ Some e → slice_get (results_changed es k g) k ≡ Some (g e)
+list_there : (es : List Tree) (k : ℕ) (e : Tree) (g : Tree → Tree) → slice_get es k ≡ Some e →
+    slice_get (results_changed es k g) k ≡ Some (g e)
 list_there [] k e g i = absurd cc
 list_there (a ∷ es) zero e g i = let same : a ≡ e = cc in ap (λ t. Some (g t)) same
 list_there (a ∷ es) (suc k) e g i = list_there es k e g i
 
-in_there : (ts : List function.Temp) (es : List Tree) (k : ℕ) (e : Tree) (g : Tree → Tree) → tree_in ts es k ≡ Some e → tree_in (temps_changed ts k g) (results_after ts es k g) k ≡ Some (g e)
+in_there : (ts : List function.Temp) (es : List Tree) (k : ℕ) (e : Tree) (g : Tree → Tree) → tree_in ts es k ≡ Some e →
+    tree_in (temps_changed ts k g) (results_after ts es k g) k ≡ Some (g e)
 in_there [] es k e g i = list_there es k e g i
 in_there (t ∷ ts) es zero e g i = let same : t.tree ≡ e = cc in ap (λ t. Some (g t)) same
 in_there (t ∷ ts) es (suc k) e g i = in_there ts es k e g i
 
-pub tree_there : (f : Function) (k : ℕ) (e : Tree) (g : Tree → Tree) → tree_at f k ≡ Some e → tree_at (changed f k g) k ≡ Some (g e)
+pub tree_there : (f : Function) (k : ℕ) (e : Tree) (g : Tree → Tree) → tree_at f k ≡ Some e →
+    tree_at (changed f k g) k ≡ Some (g e)
 tree_there f k e g i = in_there f.temps f.results k e g i
 
 -- what was put there is found there
-pub with_there : (f : Function) (k : ℕ) (path : List ℕ) (old new : Tree) → found f k path ≡ Some old → found (with_tree f k path new) k path ≡ Some new
+pub with_there : (f : Function) (k : ℕ) (path : List ℕ) (old new : Tree) → found f k path ≡ Some old →
+    found (with_tree f k path new) k path ≡ Some new
 with_there f k path old new there =
     let s = some_then (subtree path) (tree_at f k) old there in
     ap (option_and_then (subtree path)) (tree_there f k s.0 (put path new) s.1) ∙ put_there path s.0 old new s.2

@@ -25,7 +25,9 @@ same_test false P m n h f g = by (nat_le m n) refl
     by true e = absurd (let k : m ≤ n = search (rules, tests) in let x : IsTrue false = h.1 (g k) in cc)
     by false e = sym e
 
-pub low_is : (f : Function) (k : ℕ) (path : List ℕ) (old new : Tree) (b : Bool) → IsLawfulFunction f → found f k path ≡ Some old → (IsTrue b ↔ (length path + (size_of new).height ≤ 200)) → b ≡ is_low (tree_at (with_tree f k path new) k)
+pub low_is : (f : Function) (k : ℕ) (path : List ℕ) (old new : Tree) (b : Bool) → IsLawfulFunction f →
+    found f k path ≡ Some old → (IsTrue b ↔ (length path + (size_of new).height ≤ 200)) →
+    b ≡ is_low (tree_at (with_tree f k path new) k)
 low_is f k path old new b is there h =
     let s = some_then (subtree path) (tree_at f k) old there in
     let whole = low_in f.temps f.results k s.0 is.low_temps is.low_results s.1 in
@@ -36,14 +38,17 @@ low_is f k path old new b is there h =
     (λ l. omega arith)
     ∙ sym (ap is_low (tree_there f k s.0 (put path new) s.1))
 
-pub small_is : (f : Function) (k : ℕ) (path : List ℕ) (old new : Tree) (n : ℕ) (b : Bool) → IsLawfulFunction f → found f k path ≡ Some old → n ≡ length (nodes_of f) → (IsTrue b ↔ (n + (size_of new).nodes ≤ 4000 + (size_of old).nodes)) →
+pub small_is : (f : Function) (k : ℕ) (path : List ℕ) (old new : Tree) (n : ℕ) (b : Bool) → IsLawfulFunction f →
+    found f k path ≡ Some old → n ≡ length (nodes_of f) →
+    (IsTrue b ↔ (n + (size_of new).nodes ≤ 4000 + (size_of old).nodes)) →
     b ≡ nat_le (length (nodes_of (with_tree f k path new))) 4000
 small_is f k path old new n b is there e h =
     let x = nodes_after f k path old new there in let y = part_nodes f k path old there in
     let c = node_count_is f in let d = node_count_is (with_tree f k path new) in
     let few = is.sizes.nodes in
     let s = nodes_counted old in let t = nodes_counted new in
-    same_test b (n + (size_of new).nodes ≤ 4000 + (size_of old).nodes) (length (nodes_of (with_tree f k path new))) 4000 h (λ l. omega arith) (λ l. omega arith)
+    same_test b (n + (size_of new).nodes ≤ 4000 + (size_of old).nodes)
+    (length (nodes_of (with_tree f k path new))) 4000 h (λ l. omega arith) (λ l. omega arith)
 
 and_true : (b : Bool) → b ≡ (b && true)
 and_true true = refl
@@ -54,8 +59,14 @@ and_false true = refl
 and_false false = refl
 
 -- both at once, where the height is tested first
-pub within_low : (f : Function) (k : ℕ) (path : List ℕ) (new : Tree) (low small : Bool) → low ≡ is_low (tree_at (with_tree f k path new) k) → small ≡ nat_le (length (nodes_of (with_tree f k path new))) 4000 → low ≡ true → small ≡ is_within_limits (with_tree f k path new) k
-within_low f k path new low small p q t = and_true small ∙ ap (λ b. b && true) q ∙ ap (λ b. nat_le (length (nodes_of (with_tree f k path new))) 4000 && b) (sym t ∙ p)
+pub within_low : (f : Function) (k : ℕ) (path : List ℕ) (new : Tree) (low small : Bool) →
+    low ≡ is_low (tree_at (with_tree f k path new) k) →
+    small ≡ nat_le (length (nodes_of (with_tree f k path new))) 4000 → low ≡ true →
+    small ≡ is_within_limits (with_tree f k path new) k
+within_low f k path new low small p q t = and_true small ∙ ap (λ b. b && true) q
+    ∙ ap (λ b. nat_le (length (nodes_of (with_tree f k path new))) 4000 && b) (sym t ∙ p)
 
-pub not_within : (f : Function) (k : ℕ) (path : List ℕ) (new : Tree) (low : Bool) → low ≡ is_low (tree_at (with_tree f k path new) k) → low ≡ false → low ≡ is_within_limits (with_tree f k path new) k
-not_within f k path new low p t = t ∙ and_false (nat_le (length (nodes_of (with_tree f k path new))) 4000) ∙ ap (λ b. nat_le (length (nodes_of (with_tree f k path new))) 4000 && b) (sym t ∙ p)
+pub not_within : (f : Function) (k : ℕ) (path : List ℕ) (new : Tree) (low : Bool) →
+    low ≡ is_low (tree_at (with_tree f k path new) k) → low ≡ false → low ≡ is_within_limits (with_tree f k path new) k
+not_within f k path new low p t = t ∙ and_false (nat_le (length (nodes_of (with_tree f k path new))) 4000)
+    ∙ ap (λ b. nat_le (length (nodes_of (with_tree f k path new))) 4000 && b) (sym t ∙ p)

@@ -30,7 +30,8 @@ paths_after _ _ = []
 -- the steps from a place on: at a path, by a rule and those after it, and then at the paths and places behind
 abbrev pub ahead_in : List Tree → ℕ → List ℕ → ℕ → List Rewriting
 ahead_in [] k path r = []
-ahead_in (e ∷ es) k path r = steps_by k path (rules_from r) ++ (steps_along k (paths_after path e) ++ steps_in (k + 1) es)
+ahead_in (e ∷ es) k path r =
+    steps_by k path (rules_from r) ++ (steps_along k (paths_after path e) ++ steps_in (k + 1) es)
 
 -- the same in a function, whether they are there or not
 abbrev pub ahead : Function → ℕ → List ℕ → ℕ → List Rewriting

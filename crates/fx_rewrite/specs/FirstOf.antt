@@ -8,4 +8,8 @@ use Rattle.fx_rewrite.specs.Ahead.{rules_from, there}
 abbrev pub Begins : Function → ℕ → List ℕ → ℕ → Option ℕ → Type 0
 Begins f place path from None = there f (steps_by place path (rules_from from)) ≡ []
 Begins f place path from (Some r) =
-    (r ≤ 30) × (there f (steps_by place path (rules_from from)) ≡ record { place = place; path = path; rule = r } ∷ there f (steps_by place path (rules_from (r + 1))))
+    (r ≤ 30) × (there f (steps_by place path (rules_from from)) ≡ record {
+      place = place;
+      path = path;
+      rule = r;
+    } ∷ there f (steps_by place path (rules_from (r + 1))))

@@ -12,11 +12,13 @@ use Rattle.fx_fold.specs.declared.measure.Sizes.{Sizes}
 use Rattle.fx_rewrite.specs.declared.fault.StepFault.{StepFault}
 use Rattle.fx_rewrite.specs.declared.fault.StepFault.TheVariants.{NoPlace, NoMatch, TooLong, Memory}
 
--- the place or the path leads nowhere; a tree is there and the rule's left side doesn't match it; it matches, and a limit isn't kept
+-- the place or the path leads nowhere; a tree is there and the rule's left side doesn't match it; it matches, and a
+-- limit isn't kept
 abbrev pub IsRefused : StepFault → Function → Rewriting → Type 0
 IsRefused NoPlace f s = found f s.place s.path ≡ None
 IsRefused NoMatch f s = (old : Tree) × (found f s.place s.path ≡ Some old) × IsUnmatched s.rule old
-IsRefused TooLong f s = (old : Tree) × (new : Tree) × (found f s.place s.path ≡ Some old) × RewritesTree s.rule old new × (rewrite f s ≡ None)
+IsRefused TooLong f s = (old : Tree) × (new : Tree) × (found f s.place s.path ≡ Some old) ×
+    RewritesTree s.rule old new × (rewrite f s ≡ None)
 IsRefused Memory f s = Unit {0}
 
 -- so refused, it is no step

@@ -1,8 +1,8 @@
 //! A step on a function, in place.
 //!
-//! First the step is judged and its memory is taken, by reference; then the subtree is moved out, turned, and moved in. So
-//! a refusal finds the function untouched, and nothing but the subtree is walked over. While the subtree is out, a leaf
-//! stands in its place, by which the function stays lawful.
+//! First the step is judged and its memory is taken, by reference; then the subtree is moved out, turned, and moved in.
+//! So a refusal finds the function untouched, and nothing but the subtree is walked over. While the subtree is out, a
+//! leaf stands in its place, by which the function stays lawful.
 ghost use Rattle.std.specs.Prelude.{◌≡◌, Some, IfErr, OnErr, OnOk, MatchResult};
 ghost use Rattle.fx_rules.specs.Steps.{rewrite};
 ghost use Rattle.fx_rewrite.specs.Prepared.{IsPrepared};
@@ -19,7 +19,8 @@ use std::alloc::Global;
 
 /// Whether the step is there, and then the memory that it needs and the sizes of what goes and comes.
 fn prepared(alloc: Global, function: &Function, step: &Step) -> Result<(Spare, Sizes), StepFault>
-    ensures { MatchResult result (λ x. IsPrepared function.now (step_view step.now) x.0 x.1) (λ fault. IsRefused fault function.now (step_view step.now)) }
+    ensures { MatchResult result (λ x. IsPrepared function.now (step_view step.now) x.0 x.1)
+        (λ fault. IsRefused fault function.now (step_view step.now)) }
 {
     let path = step.path.as_slice();
     let Some(old) = find(function, step.place, path) else {

@@ -38,7 +38,8 @@ impl<'a> SingleSteps<'a> {
 
     /// The next one, if there is one.
     pub fn next(&mut self, alloc: Global) -> Result<Option<Step>, Memory>
-        ensures next { IfOk result (λ o. MatchOption o (left self.old ≡ []) (λ s. left self.old ≡ step_view s ∷ left self.new)) }
+        ensures next { IfOk result
+            (λ o. MatchOption o (left self.old ≡ []) (λ s. left self.old ≡ step_view s ∷ left self.new)) }
         ensures same { OnErr result (left self.new ≡ left self.old) }
     {
         while let Some(whole) = self.function.tree(self.place) {

@@ -12,7 +12,8 @@ use fx_expr::{Expr, Function, at};
 
 /// The first of the rules from this number on that can be applied to `old`, which is found so deep in the function.
 fn first_rule(function: &Function, old: &Expr, depth: usize, from: u8) -> Option<u8>
-    ensures { (place : ℕ) → (path : List ℕ) → found function.now place path ≡ Some (tree old.now) → depth ≡ length path →
+    ensures { (place : ℕ) → (path : List ℕ) → found function.now place path ≡ Some (tree old.now) →
+        depth ≡ length path →
         Begins function.now place path from result }
 {
     if from > 30 {
@@ -26,7 +27,8 @@ fn first_rule(function: &Function, old: &Expr, depth: usize, from: u8) -> Option
 
 /// The same at a path in a tree of the function.
 pub fn first_at(function: &Function, whole: &Expr, path: &[u8], from: u8) -> Option<u8>
-    ensures { (place : ℕ) → tree_at function.now place ≡ Some (tree whole.now) → Begins function.now place path.now from result }
+    ensures { (place : ℕ) → tree_at function.now place ≡ Some (tree whole.now) →
+        Begins function.now place path.now from result }
 {
     let Some(old) = at(whole, path) else {
         return None;

@@ -21,7 +21,8 @@ use fx_step::Step;
 
 /// The tree that a step speaks of.
 pub fn find<'a>(function: &'a Function, place: u32, path: &[u8]) -> Option<&'a Expr>
-    ensures { MatchOption result (found function.now place path.now ≡ None) (λ e. found function.now place path.now ≡ Some (tree e.now)) }
+    ensures { MatchOption result (found function.now place path.now ≡ None)
+        (λ e. found function.now place path.now ≡ Some (tree e.now)) }
 {
     let whole = function.tree(place)?;
     at(whole, path)
@@ -45,18 +46,21 @@ fn is_small(nodes: u32, old: u32, new: u32) -> bool
 
 /// Whether the limits are kept with a tree in place of `old`, by the sizes of both.
 fn fits(function: &Function, old: &Expr, depth: usize, sizes: Sizes) -> bool
-    ensures { (place : ℕ) → (path : List ℕ) → (new : Tree) → found function.now place path ≡ Some (tree old.now) → depth ≡ length path → sizes.old ≡ size_of (tree old.now) → sizes.new ≡ size_of new →
+    ensures { (place : ℕ) → (path : List ℕ) → (new : Tree) → found function.now place path ≡ Some (tree old.now) →
+        depth ≡ length path → sizes.old ≡ size_of (tree old.now) → sizes.new ≡ size_of new →
         result ≡ is_within_limits (with_tree function.now place path new) place }
 {
     function.keeps();
     is_low(depth, sizes.new.height) && is_small(function.nodes(), sizes.old.nodes, sizes.new.nodes)
 }
 
-/// The sizes of `old`, which is found so deep in the function, and of what the rule of this number makes of it, or why it can't be
-/// applied there.
+/// The sizes of `old`, which is found so deep in the function, and of what the rule of this number makes of it, or why
+/// it can't be applied there.
 pub fn admit(function: &Function, old: &Expr, depth: usize, rule: u8) -> Result<Sizes, StepFault>
-    ensures { (place : ℕ) → (path : List ℕ) → found function.now place path ≡ Some (tree old.now) → depth ≡ length path → let s : Rewriting = record { place = place; path = path; rule = rule } in
-        MatchResult result (λ sizes. IsAdmitted function.now s (tree old.now) sizes) (λ fault. IsRefusedThere fault function.now s) }
+    ensures { (place : ℕ) → (path : List ℕ) → found function.now place path ≡ Some (tree old.now) →
+        depth ≡ length path → let s : Rewriting = record { place = place; path = path; rule = rule } in
+        MatchResult result (λ sizes. IsAdmitted function.now s (tree old.now) sizes)
+        (λ fault. IsRefusedThere fault function.now s) }
 {
     match measure(old, rule) {
         Measure::NoMatch => Err(StepFault::NoMatch),

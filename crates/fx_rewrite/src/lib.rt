@@ -1,7 +1,7 @@
 //! Rewriting: a function is changed in place by a step of a certificate, and keeps its meaning.
 //!
-//! A step names a tree, a path in it and a rule (`fx_step`). What the rules are stands in `fx_rules`, by which contracts say
-//! what a step gives.
+//! A step names a tree, a path in it and a rule (`fx_step`). What the rules are stands in `fx_rules`, by which
+//! contracts say what a step gives.
 #![tactic(auto)]
 
 mod change;

@@ -1,7 +1,7 @@
 //! What each rule would make of a tree, by its size alone.
 //!
-//! Nothing is built: a rule is tried by reference, and the sizes of its two sides follow from the sizes of its letters, so
-//! that each letter is walked over once. Each function is a row of the table.
+//! Nothing is built: a rule is tried by reference, and the sizes of its two sides follow from the sizes of its letters,
+//! so that each letter is walked over once. Each function is a row of the table.
 ghost use Rattle.std.specs.Prelude.{◌≡◌, IsTrue};
 ghost use Rattle.fx_expr.specs.TreeOf.{tree};
 ghost use Rattle.fx_rules.specs.Turned.{same_tree, turned_1, turned_2, turned_3, turned_4, turned_5, turned_6, turned_7, turned_8, turned_9, turned_10, turned_11, turned_12, turned_13, turned_14, turned_15, turned_16, turned_17, turned_18, turned_19, turned_20, turned_21, turned_22, turned_23, turned_24};

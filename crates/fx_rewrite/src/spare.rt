@@ -35,7 +35,8 @@ fn doubled_operand(rule: u8) -> u8
 /// A copy of the letter, and a box.
 fn double(alloc: Global, e: &Expr, rule: u8) -> Result<Spare, Memory>
     requires { IsDoubling rule }
-    ensures { IfOk result (λ s. (new : Tree) → turned rule (tree e.now) ≡ Becomes new → IsSpareReady rule (tree e.now) s) }
+    ensures { IfOk result (λ s. (new : Tree) → turned rule (tree e.now) ≡ Becomes new →
+        IsSpareReady rule (tree e.now) s) }
 {
     let path = [doubled_operand(rule)];
     let Some(letter) = at(e, &path) else {
@@ -48,7 +49,8 @@ fn double(alloc: Global, e: &Expr, rule: u8) -> Result<Spare, Memory>
 
 /// What the rule of this number needs for a tree that it matches.
 pub fn prepare(alloc: Global, e: &Expr, rule: u8) -> Result<Spare, Memory>
-    ensures { IfOk result (λ s. (new : Tree) → turned rule (tree e.now) ≡ Becomes new → IsSpareReady rule (tree e.now) s) }
+    ensures { IfOk result (λ s. (new : Tree) → turned rule (tree e.now) ≡ Becomes new →
+        IsSpareReady rule (tree e.now) s) }
 {
     if rule == 15 || rule == 20 {
         return Ok(Spare::One(Box::new(alloc, leaf())?));

@@ -80,7 +80,8 @@ pub fn position_after(
     path: &[u8],
 ) -> Result<Position, Memory>
     requires { tree_at function.now place ≡ Some (tree whole.now) }
-    ensures { IfOk result (λ p. steps_behind function.now place path.now (tree whole.now) ≡ ahead function.now p.place p.path.items 1) }
+    ensures { IfOk result (λ p. steps_behind function.now place path.now (tree whole.now)
+        ≡ ahead function.now p.place p.path.items 1) }
 {
     function.keeps();
     match next_in(alloc, whole, path)? {

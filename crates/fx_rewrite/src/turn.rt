@@ -1,7 +1,7 @@
 //! What each rule makes of a tree, moved and not copied.
 //!
-//! A tree is taken apart, its boxes are used again, and what a rule needs beyond them is handed in: a box, and a copy of
-//! the letter that stands twice on the right. A tree that a rule doesn't match comes back as it was.
+//! A tree is taken apart, its boxes are used again, and what a rule needs beyond them is handed in: a box, and a copy
+//! of the letter that stands twice on the right. A tree that a rule doesn't match comes back as it was.
 ghost use Rattle.std.specs.Prelude.{◌≡◌, Some};
 ghost use Rattle.fx_expr.specs.TreeOf.{tree};
 ghost use Rattle.fx_model.specs.Tree as model;

@@ -1,4 +1,5 @@
--- What stands in a text that a number is spelled by: digits, signs, a point and the letter of a power, and nothing else.
+-- What stands in a text that a number is spelled by: digits, signs, a point and the letter of a power, and nothing
+-- else.
 use Rattle.std.proofs.Common.{◌≡◌, ℕ, ◌-◌, ◌<◌, ◌≤◌, Bool, true, false, eqb, List, [], ◌∷◌, ◌++◌, length, get_or, Option, Some, None, Ok, refl, sym, ap, subst, ◌∙◌, arith, rules, tests}
 use Rattle.std.specs.Prelude.{◌||◌, ◌==◌, nat_lt, Result}
 use Rattle.std.specs.List.{All, list_any}
@@ -48,7 +49,8 @@ module _ (bad : ℕ → Bool) (h : Spares bad) where
   in_two : (xs ys : List ℕ) → Spared xs → Spared ys → Spared (xs ++ ys)
   in_two xs ys s t = All-append (λ x. bad x ≡ false) xs ys s t
 
-  digits_front : (xs ys : List ℕ) → all_ascii_digits (xs ++ ys) ≡ true → (all_ascii_digits xs ≡ true) × (all_ascii_digits ys ≡ true)
+  digits_front : (xs ys : List ℕ) → all_ascii_digits (xs ++ ys) ≡ true →
+      (all_ascii_digits xs ≡ true) × (all_ascii_digits ys ≡ true)
   digits_front [] ys e = (refl, e)
   digits_front (x ∷ xs) ys e =
       let b = and_parts (is_ascii_digit x) (all_ascii_digits (xs ++ ys)) e in
@@ -69,11 +71,15 @@ module _ (bad : ℕ → Bool) (h : Spares bad) where
   power_spared (Some p) e =
       let b = and_parts (is_e p.letter) (is_number p.digits) e in
       one_spared p.letter (sign_text p.sign ++ p.digits) (h.letter p.letter b.0)
-      (in_two (sign_text p.sign) p.digits (sign_spared p.sign) (digits_spared p.digits (and_parts (all_ascii_digits p.digits) (nat_lt 0 (length p.digits)) b.1).0))
+      (in_two (sign_text p.sign) p.digits (sign_spared p.sign)
+      (digits_spared p.digits (and_parts (all_ascii_digits p.digits) (nat_lt 0 (length p.digits)) b.1).0))
 
   numeral_spared : (n : Numeral) → IsNumeral n → Spared (numeral_text n)
   numeral_spared n k =
-      let d = digits_front n.whole (part_digits n.part) (and_parts (all_ascii_digits (n.whole ++ part_digits n.part)) (nat_lt 0 (length (n.whole ++ part_digits n.part))) k.digits).0 in
+      let d =
+      digits_front n.whole (part_digits n.part)
+      (and_parts (all_ascii_digits (n.whole ++ part_digits n.part))
+      (nat_lt 0 (length (n.whole ++ part_digits n.part))) k.digits).0 in
       in_two (sign_text n.sign) (n.whole ++ (part_text n.part ++ power_text n.power)) (sign_spared n.sign)
       (in_two n.whole (part_text n.part ++ power_text n.power) (digits_spared n.whole d.0)
       (in_two (part_text n.part) (power_text n.power) (part_spared n.part d.1) (power_spared n.power k.power)))
@@ -113,7 +119,12 @@ spares_by bad h p = record {
 }
 
 special_spares : Spares is_special
-special_spares = spares_by is_special (λ c lo hi. rw (higher 34 c (omega arith), higher 13 c (omega arith), higher 10 c (omega arith)) refl) refl
+special_spares =
+    spares_by is_special (λ c lo hi. rw (
+      higher 34 c (omega arith),
+      higher 13 c (omega arith),
+      higher 10 c (omega arith),
+    ) refl) refl
 
 return_spares : Spares is_return
 return_spares = spares_by is_return (λ c lo hi. higher 13 c (omega arith)) refl
@@ -157,7 +168,8 @@ module _ (line : List ℕ) (d : Decimal) (read : Ok d ≡ decimal_of line) where
 
   one_field : line_fields line ≡ plain_fields line → line_fields line ≡ Some (line ∷ [])
   unfolding decimal_of numeral_of
-  one_field e = e ∙ by line read ∙ ap Some (slice_split_none (λ b. b == 44) line (number_spared (λ b. b == 44) comma_spares line d read))
+  one_field e = e ∙ by line read
+      ∙ ap Some (slice_split_none (λ b. b == 44) line (number_spared (λ b. b == 44) comma_spares line d read))
     where
       by : (xs : List ℕ) → Ok d ≡ decimal_of xs → plain_fields xs ≡ Some (pieces xs)
       by [] r = absurd cc
@@ -169,4 +181,5 @@ module _ (line : List ℕ) (d : Decimal) (read : Ok d ≡ decimal_of line) where
   unfolding values_from field_at
   one_value x t e =
       ap (row_of_fields (x ∷ []) (0 ∷ [])) (one_field e)
-      ∙ ap (λ (r : Result Decimal RowKind). Some (after_value 0 r (record { values = []; fault = None }))) (sym (number_value x t))
+      ∙ ap (λ (r : Result Decimal RowKind). Some (after_value 0 r (record { values = []; fault = None })))
+      (sym (number_value x t))

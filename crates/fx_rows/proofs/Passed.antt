@@ -24,10 +24,13 @@ pub passed_one : (c : ℕ) → c ≢ 44 → c ≢ 34 → c ≢ 13 → c ≢ 10 �
 passed_one c comma quote ret feed = (rw (other c 34 quote, other c 13 ret, other c 10 feed) refl, other c 44 comma)
 
 -- what holds of each byte of a front, by its places
-front_all : (bad : ℕ → Bool) (text : List ℕ) (i : ℕ) → i ≤ length text → ((k : ℕ) → k < i → bad (get_or text k 0) ≡ false) → All (λ b. bad b ≡ false) (take i text)
+front_all : (bad : ℕ → Bool) (text : List ℕ) (i : ℕ) → i ≤ length text →
+    ((k : ℕ) → k < i → bad (get_or text k 0) ≡ false) → All (λ b. bad b ≡ false) (take i text)
 front_all bad text zero le h = All-nil (λ b. bad b ≡ false)
 front_all bad [] (suc i) le h = absurd (omega arith)
-front_all bad (x ∷ xs) (suc i) le h = All-cons (λ b. bad b ≡ false) x (take i xs) (h 0 (omega arith)) (front_all bad xs i (omega arith) (λ k lt. h (suc k) (omega arith)))
+front_all bad (x ∷ xs) (suc i) le h =
+    All-cons (λ b. bad b ≡ false) x (take i xs) (h 0 (omega arith))
+    (front_all bad xs i (omega arith) (λ k lt. h (suc k) (omega arith)))
 
 pub piece_at : (text : List ℕ) (i : ℕ) → i ≤ length text → PassedTo text i → IsEnd text i → IsPiece text i
 piece_at text i le h stop = record {
@@ -49,15 +52,20 @@ leading_piece text d end l = record {
 -- ---- what stands behind a piece
 module _ (text : List ℕ) (end : ℕ) (p : IsPiece text end) where
   cut : end < length text → take end text ++ 44 ∷ drop (end + 1) text ≡ text
-  cut lt = ap (λ b. take end text ++ b ∷ drop (end + 1) text) (sym (p.stop lt)) ∙ ap (λ l. take end text ++ l) (sym (place-at text end lt)) ∙ take-append-drop end text
+  cut lt = ap (λ b. take end text ++ b ∷ drop (end + 1) text) (sym (p.stop lt))
+      ∙ ap (λ l. take end text ++ l) (sym (place-at text end lt)) ∙ take-append-drop end text
 
   rest_is : end < length text → take (length text - (end + 1)) (drop (end + 1) text) ≡ drop (end + 1) text
   rest_is lt = take_all _ (drop (end + 1) text) (omega (arith, length-drop (end + 1) text))
 
-  pub pieces_behind : end < length text → pieces text ≡ take end text ∷ pieces (take (length text - (end + 1)) (drop (end + 1) text))
-  pieces_behind lt = ap pieces (sym (cut lt)) ∙ slice_split_at (λ b. b == 44) (take end text) 44 (drop (end + 1) text) p.one refl ∙ ap (λ l. take end text ∷ pieces l) (sym (rest_is lt))
+  pub pieces_behind : end < length text →
+      pieces text ≡ take end text ∷ pieces (take (length text - (end + 1)) (drop (end + 1) text))
+  pieces_behind lt = ap pieces (sym (cut lt))
+      ∙ slice_split_at (λ b. b == 44) (take end text) 44 (drop (end + 1) text) p.one refl
+      ∙ ap (λ l. take end text ∷ pieces l) (sym (rest_is lt))
 
-  pub special_behind : end < length text → list_any is_special (take (length text - (end + 1)) (drop (end + 1) text)) ≡ list_any is_special text
+  pub special_behind : end < length text →
+      list_any is_special (take (length text - (end + 1)) (drop (end + 1) text)) ≡ list_any is_special text
   special_behind lt =
       ap (list_any is_special) (rest_is lt) ∙ ap (λ b. b || list_any is_special (drop (end + 1) text)) (sym p.plain)
       ∙ sym (list_any-append is_special (take end text) (44 ∷ drop (end + 1) text)) ∙ ap (list_any is_special) (cut lt)
@@ -72,5 +80,9 @@ module _ (text : List ℕ) (end : ℕ) (p : IsPiece text end) where
   special_last le = sym p.plain ∙ ap (list_any is_special) (whole le)
 
 -- a text of which each byte is plain
-pub plain_text : (text : List ℕ) → ((k : ℕ) → k < length text → is_special (get_or text k 0) ≡ false) → list_any is_special text ≡ false
-plain_text text h = list_any_none is_special text (subst (All (λ b. is_special b ≡ false)) (take_all (length text) text (omega arith)) (front_all is_special text (length text) (omega arith) h))
+pub plain_text : (text : List ℕ) → ((k : ℕ) → k < length text → is_special (get_or text k 0) ≡ false) →
+    list_any is_special text ≡ false
+plain_text text h =
+    list_any_none is_special text
+    (subst (All (λ b. is_special b ≡ false)) (take_all (length text) text (omega arith))
+    (front_all is_special text (length text) (omega arith) h))

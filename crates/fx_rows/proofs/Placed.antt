@@ -28,16 +28,21 @@ piece_left (x ∷ xs) (suc n) k zero e = absurd (omega (arith, e))
 piece_left (x ∷ xs) (suc n) k (suc m) e = piece_left xs n k m (omega (arith, e))
 
 -- a number in range, behind so many columns of what is left of a text
-pub column_value : (x : Input) (fields left others : List (List ℕ)) (text : List ℕ) (range : Range) (d : Decimal) (end column count place : ℕ) → IsRangeOf x range → IsValue text range d end
-    → left ≡ drop column fields → place ≡ column + count → pieces text ≡ drop count left → pieces text ≡ take end text ∷ others → field_value x (field_at fields place) ≡ Ok d
+pub column_value : (x : Input) (fields left others : List (List ℕ)) (text : List ℕ) (range : Range) (d : Decimal)
+    (end column count place : ℕ) → IsRangeOf x range → IsValue text range d end
+    → left ≡ drop column fields → place ≡ column + count → pieces text ≡ drop count left →
+    pieces text ≡ take end text ∷ others → field_value x (field_at fields place) ≡ Ok d
 column_value x fields left others text range d end column count place h v behind there here first =
-    ap (field_value x) (sym (first_there left (pieces text) others (take end text) count first here ∙ ap (λ l. field_at l count) behind ∙ piece_left fields column count place there))
+    ap (field_value x) (sym (first_there left (pieces text) others (take end text) count first here
+    ∙ ap (λ l. field_at l count) behind ∙ piece_left fields column count place there))
     ∙ sym (number_value (take end text) d (sym v.leads.number) x (sym (h d v.places) ∙ v.held))
 
 module _ (is : List Input) (ps : List ℕ) (fields : List (List ℕ)) where
   -- one more value in the row, and those before it
-  pub one_placed : (order : List ℕ) (row : List Decimal) (k : ℕ) (v : Decimal) (x : Input) → get_or order k 0 < length row
-      → drop (get_or order k 0) is ≡ x ∷ drop (get_or order k 0 + 1) is → field_value x (field_at fields (get_or ps (get_or order k 0) 0)) ≡ Ok v
+  pub one_placed : (order : List ℕ) (row : List Decimal) (k : ℕ) (v : Decimal) (x : Input) →
+      get_or order k 0 < length row
+      → drop (get_or order k 0) is ≡ x ∷ drop (get_or order k 0 + 1) is →
+      field_value x (field_at fields (get_or ps (get_or order k 0) 0)) ≡ Ok v
       → ((j : ℕ) → j < k → HasValue is ps fields row (get_or order j 0))
       → (j : ℕ) → j < k + 1 → HasValue is ps fields (set row (get_or order k 0) v) (get_or order j 0)
   one_placed order row k v x lt at_input value before j below = by (eqb (get_or order j 0) i) refl (ltb j k) refl
@@ -46,21 +51,37 @@ module _ (is : List Input) (ps : List ℕ) (fields : List (List ℕ)) where
       i = get_or order k 0
 
       here : HasValue is ps fields (set row i v) i
-      here = record { input = x; at_input = at_input; value = value ∙ ap Ok (sym (get_or-set_same row i v zero_decimal lt)) }
+      here = record {
+        input = x;
+        at_input = at_input;
+        value = value ∙ ap Ok (sym (get_or-set_same row i v zero_decimal lt));
+      }
 
-      by : (b : Bool) → eqb (get_or order j 0) i ≡ b → (c : Bool) → ltb j k ≡ c → HasValue is ps fields (set row i v) (get_or order j 0)
+      by : (b : Bool) → eqb (get_or order j 0) i ≡ b → (c : Bool) → ltb j k ≡ c →
+          HasValue is ps fields (set row i v) (get_or order j 0)
       by true e c f = subst (HasValue is ps fields (set row i v)) (sym (eqb-true (get_or order j 0) i e)) here
       by false e true f =
           let h = before j (ltb-true j k f) in
-          record { input = h.input; at_input = h.at_input; value = h.value ∙ ap Ok (sym (get_or-set_other row i (get_or order j 0) v zero_decimal (eqb-false (get_or order j 0) i e))) }
-      by false e false f = let same : j ≡ k = omega (arith, ltb-false j k f, below) in absurd (eqb-false (get_or order j 0) i e (ap (λ n. get_or order n 0) same))
+          record {
+            input = h.input;
+            at_input = h.at_input;
+            value =
+                h.value ∙ ap Ok (sym (get_or-set_other row i (get_or order j 0) v zero_decimal
+                (eqb-false (get_or order j 0) i e)));
+          }
+      by false e false f =
+          let same : j ≡ k = omega (arith, ltb-false j k f, below) in
+          absurd (eqb-false (get_or order j 0) i e (ap (λ n. get_or order n 0) same))
 
   -- a row that has all values
-  module _ (row : List Decimal) (many : length ps ≡ length is) (long : length row ≡ length is) (all : (i : ℕ) → i < length is → HasValue is ps fields row i) where
-    values_behind : (n k : ℕ) → n + k ≡ length is → values_from k (drop k is) (drop k ps) fields ≡ record { values = drop k row; fault = None }
+  module _ (row : List Decimal) (many : length ps ≡ length is) (long : length row ≡ length is) (all : (i : ℕ) →
+      i < length is → HasValue is ps fields row i) where
+    values_behind : (n k : ℕ) → n + k ≡ length is →
+        values_from k (drop k is) (drop k ps) fields ≡ record { values = drop k row; fault = None }
     unfolding values_from
     values_behind zero k e =
-        ap (λ l. values_from k l (drop k ps) fields) (drop_all k is (omega (arith, e))) ∙ ap (λ l. values_from k [] l fields) (drop_all k ps (omega (arith, e, many)))
+        ap (λ l. values_from k l (drop k ps) fields) (drop_all k is (omega (arith, e)))
+        ∙ ap (λ l. values_from k [] l fields) (drop_all k ps (omega (arith, e, many)))
         ∙ ap (λ l. record { values = l; fault = None }) (sym (drop_all k row (omega (arith, e, long))))
     values_behind (suc n) k e =
         let lt : k < length is = omega (arith, e) in
@@ -71,31 +92,40 @@ module _ (is : List Input) (ps : List ℕ) (fields : List (List ℕ)) where
         ∙ ap (λ l. values_from k (h.input ∷ drop (k + 1) is) l fields) (place-at ps k (omega (arith, lt, many)))
         ∙ ap (λ (r : Result Decimal RowKind). after_value k r rest) h.value
         ∙ ap (λ w. after_value k (Ok v) w) (values_behind n (k + 1) (omega (arith, e)))
-        ∙ ap (λ l. record { values = l; fault = None }) (sym (drop-cons row k zero_decimal (omega (arith, lt, long)) ∙ ap (λ m. v ∷ drop m row) (sym (add-one k))))
+        ∙ ap (λ l. record { values = l; fault = None })
+        (sym (drop-cons row k zero_decimal (omega (arith, lt, long)) ∙ ap (λ m. v ∷ drop m row) (sym (add-one k))))
 
     pub all_placed : values_from 0 is ps fields ≡ record { values = row; fault = None }
     all_placed = values_behind (length is) 0 (omega arith)
 
 -- where an input is found in the order
-found_at : (order : List ℕ) (i : ℕ) → list_any (λ j. j == i) order ≡ true → (k : ℕ) × (k < length order) × (get_or order k 0 ≡ i)
+found_at : (order : List ℕ) (i : ℕ) → list_any (λ j. j == i) order ≡ true →
+    (k : ℕ) × (k < length order) × (get_or order k 0 ≡ i)
 found_at [] i e = absurd cc
 found_at (j ∷ order) i e = by (eqb j i) refl e (found_at order i)
   where
     by : (b : Bool) → eqb j i ≡ b → (b || list_any (λ j. j == i) order) ≡ true
-        → (list_any (λ j. j == i) order ≡ true → (k : ℕ) × (k < length order) × (get_or order k 0 ≡ i)) → (k : ℕ) × (k < length (j ∷ order)) × (get_or (j ∷ order) k 0 ≡ i)
+        → (list_any (λ j. j == i) order ≡ true → (k : ℕ) × (k < length order) × (get_or order k 0 ≡ i)) →
+        (k : ℕ) × (k < length (j ∷ order)) × (get_or (j ∷ order) k 0 ≡ i)
     by true s h later = (0, omega arith, eqb-true j i s)
     by false s h later = let r = later h in (suc r.0, omega (arith, r.1), r.2)
 
 -- the row of a line whose fields are its pieces
-pub row_placed : (is : List Input) (ps : List ℕ) (line order : List ℕ) (row : List Decimal) (o : Option (List (List ℕ))) → length ps ≡ length is → length row ≡ length is → 0 < length line
-    → o ≡ plain_fields line → IsOrder (length is) order → 0 < length order → ((k : ℕ) → k < length order → HasValue is ps (pieces line) row (get_or order k 0))
+pub row_placed : (is : List Input) (ps : List ℕ) (line order : List ℕ) (row : List Decimal)
+    (o : Option (List (List ℕ))) → length ps ≡ length is → length row ≡ length is → 0 < length line
+    → o ≡ plain_fields line → IsOrder (length is) order → 0 < length order →
+    ((k : ℕ) → k < length order → HasValue is ps (pieces line) row (get_or order k 0))
     → IsRowRead (Ok true) row (row_of_fields is ps o)
 row_placed is ps [] order row o many long some fields inputs any placed = absurd (omega arith)
 row_placed is ps (b ∷ bs) order row o many long some fields inputs any placed =
     let all : (i : ℕ) → i < length is → HasValue is ps (pieces (b ∷ bs)) row i = λ i lt. (
     let k = found_at order i (inputs.all any i lt) in subst (HasValue is ps (pieces (b ∷ bs)) row) k.2 (placed k.0 k.1)
     ) in
-    subst (λ (w : Option Values). IsRowRead (Ok true) row w) (sym (ap (row_of_fields is ps) fields ∙ ap Some (all_placed is ps (pieces (b ∷ bs)) row many long all))) (refl, refl)
+    subst (λ (w : Option Values). IsRowRead (Ok true) row w)
+    (sym (ap (row_of_fields is ps) fields ∙ ap Some (all_placed is ps (pieces (b ∷ bs)) row many long all))) (
+      refl,
+      refl,
+    )
 
 -- no line end at all is no return
 pub no_return_in : (xs : List ℕ) → list_any is_special xs ≡ false → list_any is_return xs ≡ false

@@ -30,7 +30,8 @@ range-at (y ∷ is) (s ∷ rs) h (suc i) past lt =
     (k.0, k.1 ∙ ap (λ (n : ℕ). k.0 ∷ drop n (y ∷ is)) (sym next), k.2)
 
 -- one more input with its range
-pub ranges-more : (is : List Input) (rs : List Range) (i : Input) (r : Range) → AreRangesOf is rs → IsRangeOf i r → AreRangesOf (is ++ i ∷ []) (rs ++ r ∷ [])
+pub ranges-more : (is : List Input) (rs : List Range) (i : Input) (r : Range) → AreRangesOf is rs → IsRangeOf i r →
+    AreRangesOf (is ++ i ∷ []) (rs ++ r ∷ [])
 ranges-more [] [] i r h k = (k, tt {0})
 ranges-more [] (s ∷ rs) i r h k = absurd h
 ranges-more (j ∷ is) [] i r h k = absurd h

@@ -1,4 +1,5 @@
--- The rows of an input: of its lines the first that isn't blank is the header, and the others are rows up to the first bad one.
+-- The rows of an input: of its lines the first that isn't blank is the header, and the others are rows up to the first
+-- bad one.
 use Rattle.std.specs.Prelude.{ℕ, ◌+◌, Bool, true, false, List, [], ◌∷◌, map, All, Option, Some, None, Result, Ok, Err}
 use Rattle.fx_rational.specs.Decimal.{Decimal, decimal_value}
 use Rattle.fx_model.specs.Function.{Function}

@@ -36,7 +36,8 @@ is_unit_text text = nat_le 1 (length text) && (nat_le (length text) 10 && all_as
 
 -- the unit that digits name, of so many
 abbrev pub unit_named : ℕ → List ℕ → Option ℕ
-unit_named units text = if is_unit_text text && nat_lt (digits_value 10 text) units then Some (digits_value 10 text) else None
+unit_named units text =
+    if is_unit_text text && nat_lt (digits_value 10 text) units then Some (digits_value 10 text) else None
 
 -- the same of the field at the unit's column, if there is one
 abbrev pub unit_in_field : ℕ → Option (List ℕ) → Option ℕ

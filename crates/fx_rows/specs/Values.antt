@@ -41,7 +41,8 @@ after_value k (Ok v) rest = value_before v rest
 
 -- the values of these inputs at these columns, where the first is input k
 unfoldable pub values_from : ℕ → List Input → List ℕ → List (List ℕ) → Values
-values_from k (i ∷ is) (p ∷ ps) fields = after_value k (field_value i (field_at fields p)) (values_from (k + 1) is ps fields)
+values_from k (i ∷ is) (p ∷ ps) fields =
+    after_value k (field_value i (field_at fields p)) (values_from (k + 1) is ps fields)
 values_from k _ _ fields = record { values = []; fault = None }
 
 -- nothing where the line is blank

@@ -38,7 +38,8 @@ fn seen_columns<'r>(
     row: &'r ByteRecord,
 ) -> Result<IndexMap<&'r [u8], Option<u32>>, Memory>
     requires { length (fields_of row.now) ≤ line_limit + 1 }
-    ensures { IfOk result (λ m. (name : List ℕ) → get_by (λ k. bytes_eq name k.now) m ≡ kept_of (places_of name (map without_blanks (fields_of row.now)))) }
+    ensures { IfOk result (λ m. (name : List ℕ) →
+        get_by (λ k. bytes_eq name k.now) m ≡ kept_of (places_of name (map without_blanks (fields_of row.now)))) }
 {
     let mut seen = IndexMap::new(alloc);
     for i in 0..row.len() {
@@ -61,8 +62,10 @@ fn places_in(alloc: Global, row: &ByteRecord, inputs: &[Input]) -> Result<Items<
     requires few_inputs { length inputs.now ≤ input_limit }
     requires few_fields { length (fields_of row.now) ≤ line_limit + 1 }
     ensures { MatchResult result
-        (λ ps. columns_from 0 (map (λ i. i.name) (map input_of inputs.now)) (map without_blanks (fields_of row.now)) ≡ Ok ps)
-        (λ e. IsHeaderFault e (columns_from 0 (map (λ i. i.name) (map input_of inputs.now)) (map without_blanks (fields_of row.now)))) }
+        (λ ps. columns_from 0 (map (λ i. i.name) (map input_of inputs.now)) (map without_blanks (fields_of row.now))
+        ≡ Ok ps)
+        (λ e. IsHeaderFault e (columns_from 0 (map (λ i. i.name) (map input_of inputs.now))
+        (map without_blanks (fields_of row.now)))) }
 {
     let seen = match seen_columns(alloc, row) {
         Ok(seen) => seen,

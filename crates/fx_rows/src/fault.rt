@@ -1,7 +1,7 @@
 //! What is wrong with a line of rows, and at which input.
 //!
-//! A fault of the line as a whole comes before those of its inputs, and these in declared order. The trap: want of memory
-//! may come at any point of a call and is no fault of the line, so it has the input 0.
+//! A fault of the line as a whole comes before those of its inputs, and these in declared order. The trap: want of
+//! memory may come at any point of a call and is no fault of the line, so it has the input 0.
 ghost use Rattle.std.specs.Prelude.{◌≡◌, ◌≤◌, false, IfNone, nat_lt, length, if◌then◌else◌, Some, None};
 ghost use Rattle.std.specs.List.{list_any};
 ghost use Rattle.fx_model.specs.Limits.{line_limit};
@@ -63,7 +63,8 @@ pub(crate) const LINE_LIMIT: usize = 65_536;
 
 /// What is wrong with a line as a whole.
 pub(crate) fn line_fault(line: &[u8]) -> Option<RowKind>
-    ensures fault { result ≡ (if nat_lt line_limit (length line.now) then Some LineTooLong else if list_any is_return line.now then Some StrayReturn else None) }
+    ensures fault { result ≡ (if nat_lt line_limit (length line.now) then Some LineTooLong
+        else if list_any is_return line.now then Some StrayReturn else None) }
     ensures short { IfNone result (length line.now ≤ line_limit) }
     ensures no_return { IfNone result (list_any is_return line.now ≡ false) }
 {

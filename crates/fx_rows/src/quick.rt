@@ -1,8 +1,8 @@
 //! The quick way to the values of a row: one walk over the line, by the inputs in the order of their columns.
 //!
-//! Each number is read where it stands and written into the row at its input's place. Nothing here says what is wrong: at
-//! a quote, a line end, a blank round a number, a field that is no number or out of range, the whole way begins from the
-//! start, and finds the first fault in declared order.
+//! Each number is read where it stands and written into the row at its input's place. Nothing here says what is wrong:
+//! at a quote, a line end, a blank round a number, a field that is no number or out of range, the whole way begins from
+//! the start, and finds the first fault in declared order.
 ghost use Rattle.std.specs.Prelude.{◌≡◌, ◌<◌, ◌≤◌, List, ℕ, true, false, Ok, All, length, IfSome, IsTrue, OnSome, slice_index};
 ghost use Rattle.std.specs.List.{list_any};
 ghost use Rattle.std.specs.Vec.{vec_capacity, vec_len};
@@ -106,7 +106,8 @@ pub(crate) fn read_quick(
     requires many { length places.now ≡ length ranges.now }
     ensures short { IsTrue result → length line.now ≤ line_limit }
     ensures no_return { IsTrue result → list_any is_return line.now ≡ false }
-    ensures read { IsTrue result → (is : List Input) → AreRangesOf is ranges.now → IsRowRead (Ok true) row.new.items (row_of_fields is places.now (line_fields line.now)) }
+    ensures read { IsTrue result → (is : List Input) → AreRangesOf is ranges.now →
+        IsRowRead (Ok true) row.new.items (row_of_fields is places.now (line_fields line.now)) }
     ensures kept { vec_capacity row.old ≤ vec_capacity row.new }
 {
     let inputs = order.inputs.as_slice();

@@ -52,7 +52,8 @@ fn add_value(
     i: u32,
     row: &mut Vec<Decimal>,
 ) -> Result<(), RowFault>
-    ensures added { (x : Input) → IsRangeOf x range.now → IsAdded result i (field_value x (option_map (λ f. f.now) field.entry)) row.old.items row.new.items }
+    ensures added { (x : Input) → IsRangeOf x range.now →
+        IsAdded result i (field_value x (option_map (λ f. f.now) field.entry)) row.old.items row.new.items }
     ensures longer { OnOk result (vec_len row.new ≡ vec_len row.old + 1) }
     ensures room { IfErr result (λ e. e.kind ≡ kind.Memory → vec_capacity row.old < vec_len row.old + 1) }
     ensures kept { vec_capacity row.old ≤ vec_capacity row.new }
@@ -80,7 +81,8 @@ fn read_along(
     requires many { length places.now ≡ length ranges.now }
     requires few { length ranges.now ≤ input_limit }
     requires empty { row.old.items ≡ [] }
-    ensures read { (is : List Input) → AreRangesOf is ranges.now → IsRead result row.new.items (values_from 0 is places.now (pieces text.now)) }
+    ensures read { (is : List Input) → AreRangesOf is ranges.now →
+        IsRead result row.new.items (values_from 0 is places.now (pieces text.now)) }
     ensures room { IfErr result (λ e. e.kind ≡ kind.Memory → vec_capacity row.old < length ranges.now) }
     ensures kept { vec_capacity row.old ≤ vec_capacity row.new }
 {
@@ -106,7 +108,8 @@ fn read_values(
     requires many { length places.now ≡ length ranges.now }
     requires few { length ranges.now ≤ input_limit }
     requires empty { row.old.items ≡ [] }
-    ensures read { (is : List Input) → AreRangesOf is ranges.now → IsRead result row.new.items (values_from 0 is places.now (seen fields.now)) }
+    ensures read { (is : List Input) → AreRangesOf is ranges.now →
+        IsRead result row.new.items (values_from 0 is places.now (seen fields.now)) }
     ensures room { IfErr result (λ e. e.kind ≡ kind.Memory → vec_capacity row.old < length ranges.now) }
     ensures kept { vec_capacity row.old ≤ vec_capacity row.new }
 {
@@ -139,7 +142,8 @@ fn read_pieces(
     requires many { length places.now ≡ length ranges.now }
     requires few { length ranges.now ≤ input_limit }
     requires empty { row.old.items ≡ [] }
-    ensures read { (is : List Input) → AreRangesOf is ranges.now → IsRead result row.new.items (values_from 0 is places.now (pieces text.now)) }
+    ensures read { (is : List Input) → AreRangesOf is ranges.now →
+        IsRead result row.new.items (values_from 0 is places.now (pieces text.now)) }
     ensures room { IfErr result (λ e. e.kind ≡ kind.Memory → vec_capacity row.old < length ranges.now) }
     ensures kept { vec_capacity row.old ≤ vec_capacity row.new }
 {
@@ -161,7 +165,8 @@ fn read_table(
     requires many { length places.now ≡ length ranges.now }
     requires few { length ranges.now ≤ input_limit }
     requires empty { row.old.items ≡ [] }
-    ensures read { (is : List Input) → AreRangesOf is ranges.now → IsRead result row.new.items (values_from 0 is places.now (pieces text.now)) }
+    ensures read { (is : List Input) → AreRangesOf is ranges.now →
+        IsRead result row.new.items (values_from 0 is places.now (pieces text.now)) }
     ensures room { IfErr result (λ e. e.kind ≡ kind.Memory → vec_capacity row.old < length ranges.now) }
     ensures kept { vec_capacity row.old ≤ vec_capacity row.new }
 {
@@ -181,7 +186,8 @@ fn read_record(
     requires many { length places.now ≡ length ranges.now }
     requires few { length ranges.now ≤ input_limit }
     requires empty { row.old.items ≡ [] }
-    ensures read { (is : List Input) → AreRangesOf is ranges.now → IsRowRead result row.new.items (row_of_fields is places.now (line_fields line.now)) }
+    ensures read { (is : List Input) → AreRangesOf is ranges.now →
+        IsRowRead result row.new.items (row_of_fields is places.now (line_fields line.now)) }
     ensures kept { vec_capacity row.old ≤ vec_capacity row.new }
 {
     match record_of(alloc, line) {
@@ -206,8 +212,10 @@ fn read_line(
     requires few { length ranges.now ≤ input_limit }
     requires empty { row.old.items ≡ [] }
     requires no_return { list_any is_return line.now ≡ false }
-    ensures read { (is : List Input) → AreRangesOf is ranges.now → IsRowRead result row.new.items (row_of_fields is places.now (line_fields line.now)) }
-    ensures room { list_any is_special line.now ≡ false → IfErr result (λ e. e.kind ≡ kind.Memory → vec_capacity row.old < length ranges.now) }
+    ensures read { (is : List Input) → AreRangesOf is ranges.now →
+        IsRowRead result row.new.items (row_of_fields is places.now (line_fields line.now)) }
+    ensures room { list_any is_special line.now ≡ false →
+        IfErr result (λ e. e.kind ≡ kind.Memory → vec_capacity row.old < length ranges.now) }
     ensures kept { vec_capacity row.old ≤ vec_capacity row.new }
 {
     let Some(text) = plain_text(line) else {
@@ -229,7 +237,8 @@ fn read_one(line: &[u8], places: &[u32], ranges: &[Range], row: &mut Vec<Decimal
     requires empty { row.old.items ≡ [] }
     ensures short { IsTrue result → length line.now ≤ line_limit }
     ensures no_return { IsTrue result → list_any is_return line.now ≡ false }
-    ensures read { IsTrue result → (is : List Input) → AreRangesOf is ranges.now → IsRowRead (Ok true) row.new.items (row_of_fields is places.now (line_fields line.now)) }
+    ensures read { IsTrue result → (is : List Input) → AreRangesOf is ranges.now →
+        IsRowRead (Ok true) row.new.items (row_of_fields is places.now (line_fields line.now)) }
     ensures left { result ≡ false → row.new.items ≡ [] }
     ensures kept { vec_capacity row.old ≤ vec_capacity row.new }
 {
@@ -257,10 +266,13 @@ fn read_by(
 ) -> Result<bool, RowFault>
     requires many { length places.now ≡ length ranges.now }
     requires few { length ranges.now ≤ input_limit }
-    ensures read { (f : model.Function) → AreRangesOf f.inputs ranges.now → IsRowRead result row.new.items (row_of f places.now line.now) }
-    ensures room { list_any is_special line.now ≡ false → IfErr result (λ e. e.kind ≡ kind.Memory → vec_capacity row.old < length ranges.now) }
+    ensures read { (f : model.Function) → AreRangesOf f.inputs ranges.now →
+        IsRowRead result row.new.items (row_of f places.now line.now) }
+    ensures room { list_any is_special line.now ≡ false →
+        IfErr result (λ e. e.kind ≡ kind.Memory → vec_capacity row.old < length ranges.now) }
     ensures kept { vec_capacity row.old ≤ vec_capacity row.new }
-    ensures in_range { (f : model.Function) → AreRangesOf f.inputs ranges.now → IfOk result (λ b. IsTrue b → IsInRange f.inputs (map decimal_value row.new.items)) }
+    ensures in_range { (f : model.Function) → AreRangesOf f.inputs ranges.now →
+        IfOk result (λ b. IsTrue b → IsInRange f.inputs (map decimal_value row.new.items)) }
 {
     if read_quick(line, order, places, ranges, row) {
         return Ok(true);
@@ -276,8 +288,8 @@ fn read_by(
 }
 
 impl RowReader {
-    /// Reads the values of a row, in the order of the inputs, and answers false at a blank line. After a fault of an input
-    /// `row` holds the values before it, after any other nothing.
+    /// Reads the values of a row, in the order of the inputs, and answers false at a blank line. After a fault of an
+    /// input `row` holds the values before it, after any other nothing.
     pub fn read(
         &self,
         alloc: Global,
@@ -287,9 +299,11 @@ impl RowReader {
     ) -> Result<bool, RowFault>
         requires { Serves self.now function.now }
         ensures read { IsRowRead result row.new.items (row_of function.now (reader_columns self.now) line.now) }
-        ensures room { list_any is_special line.now ≡ false → IfErr result (λ e. e.kind ≡ kind.Memory → vec_capacity row.old < length function.now.inputs) }
+        ensures room { list_any is_special line.now ≡ false →
+            IfErr result (λ e. e.kind ≡ kind.Memory → vec_capacity row.old < length function.now.inputs) }
         ensures kept { vec_capacity row.old ≤ vec_capacity row.new }
-        ensures in_range { IfOk result (λ b. IsTrue b → IsInRange function.now.inputs (map decimal_value row.new.items)) }
+        ensures in_range { IfOk result (λ b. IsTrue b →
+            IsInRange function.now.inputs (map decimal_value row.new.items)) }
     {
         function.keeps();
         read_by(

@@ -14,7 +14,8 @@ pub record Matches (r : Rule) (old : Tree) : Type 0 where
 abbrev pub Says : Rule → Tree → Turned → Type 0
 Says r old NoMatch = Unit {0}
 Says r old TooLong = (m : Matches r old) × (folding_fits r.folding m.letters ≡ false)
-Says r old (Becomes new) = (m : Matches r old) × (new ≡ filled m.letters r.right) × (folding_fits r.folding m.letters ≡ true)
+Says r old (Becomes new) =
+    (m : Matches r old) × (new ≡ filled m.letters r.right) × (folding_fits r.folding m.letters ≡ true)
 
 -- the outcome where the left side matches
 abbrev pub checked : Folding → Letters → Tree → Turned

@@ -87,7 +87,8 @@ sum_over a b c = ⊎_elim
     (λ (n : c.top ≡ pos 0 → ⊥).
     let u = quotient_is a c n in let v = quotient_is b c n in
     let back : Equal (times (plus u.value v.value) c) (plus a b) =
-    equal_trans (by_quotes {ρ = u.value ∷ v.value ∷ c ∷ []} {b = plus (times u.value c) (times v.value c)} (search quotes depth 20) (search quotes depth 20) refl) (plus_same u.back v.back) in
+    equal_trans (by_quotes {ρ = u.value ∷ v.value ∷ c ∷ []} {b = plus (times u.value c) (times v.value c)}
+    (search quotes depth 20) (search quotes depth 20) refl) (plus_same u.back v.back) in
     rw (u.is, v.is) (quotient_by (plus a b) c (plus u.value v.value) n back))
     (zero_or_not c.top)
 
@@ -101,8 +102,10 @@ twice_over a b c = ⊎_elim
     (λ (m : c.top ≡ pos 0 → ⊥).
     let w = quotient_is u.value c m in
     let back : Equal (times w.value (times b c)) a =
-    equal_trans (by_quotes {ρ = w.value ∷ b ∷ c ∷ []} {b = times (times w.value c) b} (search quotes depth 20) (search quotes depth 20) refl) (equal_trans (times_same w.back (equal_refl b)) u.back) in
-    rw w.is (same_sym (quotient a (times b c)) (Some w.value) (quotient_by a (times b c) w.value (nonzero_times b c n m) back)))
+    equal_trans (by_quotes {ρ = w.value ∷ b ∷ c ∷ []} {b = times (times w.value c) b} (search quotes depth 20)
+    (search quotes depth 20) refl) (equal_trans (times_same w.back (equal_refl b)) u.back) in
+    rw w.is (same_sym (quotient a (times b c)) (Some w.value)
+    (quotient_by a (times b c) w.value (nonzero_times b c n m) back)))
     (zero_or_not c.top)))
     (zero_or_not b.top)
 
@@ -121,7 +124,8 @@ rule_2 None (Some q) (Some r) = tt {0}
 rule_2 (Some p) None None = tt {0}
 rule_2 (Some p) None (Some r) = tt {0}
 rule_2 (Some p) (Some q) None = tt {0}
-rule_2 (Some p) (Some q) (Some r) = by_quotes {ρ = p ∷ q ∷ r ∷ []} (search quotes depth 20) (search quotes depth 20) refl
+rule_2 (Some p) (Some q) (Some r) =
+    by_quotes {ρ = p ∷ q ∷ r ∷ []} (search quotes depth 20) (search quotes depth 20) refl
 
 pub rule_3 : (p q r : Option Rational) → SameOption (add p (add q r)) (add (add p q) r)
 rule_3 None None None = tt {0}
@@ -131,7 +135,8 @@ rule_3 None (Some q) (Some r) = tt {0}
 rule_3 (Some p) None None = tt {0}
 rule_3 (Some p) None (Some r) = tt {0}
 rule_3 (Some p) (Some q) None = tt {0}
-rule_3 (Some p) (Some q) (Some r) = by_quotes {ρ = p ∷ q ∷ r ∷ []} (search quotes depth 20) (search quotes depth 20) refl
+rule_3 (Some p) (Some q) (Some r) =
+    by_quotes {ρ = p ∷ q ∷ r ∷ []} (search quotes depth 20) (search quotes depth 20) refl
 
 pub rule_4 : (p q : Option Rational) → SameOption (mul p q) (mul q p)
 rule_4 None None = tt {0}
@@ -147,7 +152,8 @@ rule_5 None (Some q) (Some r) = tt {0}
 rule_5 (Some p) None None = tt {0}
 rule_5 (Some p) None (Some r) = tt {0}
 rule_5 (Some p) (Some q) None = tt {0}
-rule_5 (Some p) (Some q) (Some r) = by_quotes {ρ = p ∷ q ∷ r ∷ []} (search quotes depth 20) (search quotes depth 20) refl
+rule_5 (Some p) (Some q) (Some r) =
+    by_quotes {ρ = p ∷ q ∷ r ∷ []} (search quotes depth 20) (search quotes depth 20) refl
 
 pub rule_6 : (p q r : Option Rational) → SameOption (mul p (mul q r)) (mul (mul p q) r)
 rule_6 None None None = tt {0}
@@ -157,7 +163,8 @@ rule_6 None (Some q) (Some r) = tt {0}
 rule_6 (Some p) None None = tt {0}
 rule_6 (Some p) None (Some r) = tt {0}
 rule_6 (Some p) (Some q) None = tt {0}
-rule_6 (Some p) (Some q) (Some r) = by_quotes {ρ = p ∷ q ∷ r ∷ []} (search quotes depth 20) (search quotes depth 20) refl
+rule_6 (Some p) (Some q) (Some r) =
+    by_quotes {ρ = p ∷ q ∷ r ∷ []} (search quotes depth 20) (search quotes depth 20) refl
 
 pub rule_7 : (p q r : Option Rational) → SameOption (mul p (add q r)) (add (mul p q) (mul p r))
 rule_7 None None None = tt {0}
@@ -167,7 +174,8 @@ rule_7 None (Some q) (Some r) = tt {0}
 rule_7 (Some p) None None = tt {0}
 rule_7 (Some p) None (Some r) = tt {0}
 rule_7 (Some p) (Some q) None = tt {0}
-rule_7 (Some p) (Some q) (Some r) = by_quotes {ρ = p ∷ q ∷ r ∷ []} (search quotes depth 20) (search quotes depth 20) refl
+rule_7 (Some p) (Some q) (Some r) =
+    by_quotes {ρ = p ∷ q ∷ r ∷ []} (search quotes depth 20) (search quotes depth 20) refl
 
 pub rule_8 : (p q r : Option Rational) → SameOption (mul (add p q) r) (add (mul p r) (mul q r))
 rule_8 None None None = tt {0}
@@ -177,7 +185,8 @@ rule_8 None (Some q) (Some r) = tt {0}
 rule_8 (Some p) None None = tt {0}
 rule_8 (Some p) None (Some r) = tt {0}
 rule_8 (Some p) (Some q) None = tt {0}
-rule_8 (Some p) (Some q) (Some r) = by_quotes {ρ = p ∷ q ∷ r ∷ []} (search quotes depth 20) (search quotes depth 20) refl
+rule_8 (Some p) (Some q) (Some r) =
+    by_quotes {ρ = p ∷ q ∷ r ∷ []} (search quotes depth 20) (search quotes depth 20) refl
 
 pub rule_9 : (p q r : Option Rational) → SameOption (mul p (sub q r)) (sub (mul p q) (mul p r))
 rule_9 None None None = tt {0}
@@ -187,7 +196,8 @@ rule_9 None (Some q) (Some r) = tt {0}
 rule_9 (Some p) None None = tt {0}
 rule_9 (Some p) None (Some r) = tt {0}
 rule_9 (Some p) (Some q) None = tt {0}
-rule_9 (Some p) (Some q) (Some r) = by_quotes {ρ = p ∷ q ∷ r ∷ []} (search quotes depth 20) (search quotes depth 20) refl
+rule_9 (Some p) (Some q) (Some r) =
+    by_quotes {ρ = p ∷ q ∷ r ∷ []} (search quotes depth 20) (search quotes depth 20) refl
 
 pub rule_10 : (p q r : Option Rational) → SameOption (mul (sub p q) r) (sub (mul p r) (mul q r))
 rule_10 None None None = tt {0}
@@ -197,7 +207,8 @@ rule_10 None (Some q) (Some r) = tt {0}
 rule_10 (Some p) None None = tt {0}
 rule_10 (Some p) None (Some r) = tt {0}
 rule_10 (Some p) (Some q) None = tt {0}
-rule_10 (Some p) (Some q) (Some r) = by_quotes {ρ = p ∷ q ∷ r ∷ []} (search quotes depth 20) (search quotes depth 20) refl
+rule_10 (Some p) (Some q) (Some r) =
+    by_quotes {ρ = p ∷ q ∷ r ∷ []} (search quotes depth 20) (search quotes depth 20) refl
 
 pub rule_11 : (p q r : Option Rational) → SameOption (add (mul p q) (mul p r)) (mul p (add q r))
 rule_11 None None None = tt {0}
@@ -207,7 +218,8 @@ rule_11 None (Some q) (Some r) = tt {0}
 rule_11 (Some p) None None = tt {0}
 rule_11 (Some p) None (Some r) = tt {0}
 rule_11 (Some p) (Some q) None = tt {0}
-rule_11 (Some p) (Some q) (Some r) = by_quotes {ρ = p ∷ q ∷ r ∷ []} (search quotes depth 20) (search quotes depth 20) refl
+rule_11 (Some p) (Some q) (Some r) =
+    by_quotes {ρ = p ∷ q ∷ r ∷ []} (search quotes depth 20) (search quotes depth 20) refl
 
 pub rule_12 : (p q r : Option Rational) → SameOption (add (mul p r) (mul q r)) (mul (add p q) r)
 rule_12 None None None = tt {0}
@@ -217,7 +229,8 @@ rule_12 None (Some q) (Some r) = tt {0}
 rule_12 (Some p) None None = tt {0}
 rule_12 (Some p) None (Some r) = tt {0}
 rule_12 (Some p) (Some q) None = tt {0}
-rule_12 (Some p) (Some q) (Some r) = by_quotes {ρ = p ∷ q ∷ r ∷ []} (search quotes depth 20) (search quotes depth 20) refl
+rule_12 (Some p) (Some q) (Some r) =
+    by_quotes {ρ = p ∷ q ∷ r ∷ []} (search quotes depth 20) (search quotes depth 20) refl
 
 pub rule_13 : (p q r : Option Rational) → SameOption (sub (mul p q) (mul p r)) (mul p (sub q r))
 rule_13 None None None = tt {0}
@@ -227,7 +240,8 @@ rule_13 None (Some q) (Some r) = tt {0}
 rule_13 (Some p) None None = tt {0}
 rule_13 (Some p) None (Some r) = tt {0}
 rule_13 (Some p) (Some q) None = tt {0}
-rule_13 (Some p) (Some q) (Some r) = by_quotes {ρ = p ∷ q ∷ r ∷ []} (search quotes depth 20) (search quotes depth 20) refl
+rule_13 (Some p) (Some q) (Some r) =
+    by_quotes {ρ = p ∷ q ∷ r ∷ []} (search quotes depth 20) (search quotes depth 20) refl
 
 pub rule_14 : (p q r : Option Rational) → SameOption (sub (mul p r) (mul q r)) (mul (sub p q) r)
 rule_14 None None None = tt {0}
@@ -237,7 +251,8 @@ rule_14 None (Some q) (Some r) = tt {0}
 rule_14 (Some p) None None = tt {0}
 rule_14 (Some p) None (Some r) = tt {0}
 rule_14 (Some p) (Some q) None = tt {0}
-rule_14 (Some p) (Some q) (Some r) = by_quotes {ρ = p ∷ q ∷ r ∷ []} (search quotes depth 20) (search quotes depth 20) refl
+rule_14 (Some p) (Some q) (Some r) =
+    by_quotes {ρ = p ∷ q ∷ r ∷ []} (search quotes depth 20) (search quotes depth 20) refl
 
 pub rule_15 : (p q : Option Rational) → SameOption (sub p q) (add p (neg q))
 rule_15 None None = tt {0}
@@ -303,13 +318,17 @@ rule_24 p q r = same_sym (div (div p q) r) (div p (mul q r)) (rule_23 p q r)
 pub lowest_same : (q v : Rational) → v ≡ lowest q → Equal v q
 lowest_same q v e = rw e (lowest_is.same q)
 
-pub rule_25 : (p : Option Rational) (l q v : Rational) → quotient (whole (pos 1)) l ≡ Some q → v ≡ lowest q → SameOption (div p (Some l)) (mul p (Some v))
+pub rule_25 : (p : Option Rational) (l q v : Rational) → quotient (whole (pos 1)) l ≡ Some q → v ≡ lowest q →
+    SameOption (div p (Some l)) (mul p (Some v))
 rule_25 None l q v e low = tt {0}
 rule_25 (Some a) l q v e low =
     let back : Equal (times q l) (whole (pos 1)) = quotient_back (whole (pos 1)) l q e in
     let one : Equal (times v l) (whole (pos 1)) = equal_trans (times_same (lowest_same q v low) (equal_refl l)) back in
-    quotient_by a l (times a v) (quotient_some (whole (pos 1)) l q e) (equal_trans (by_quotes {ρ = a ∷ v ∷ l ∷ []} {b = times a (times v l)} (search quotes depth 20) (search quotes depth 20) refl)
-    (equal_trans (times_same (equal_refl a) one) (by_quotes {ρ = a ∷ []} (search quotes depth 20) (search quotes depth 20) refl)))
+    quotient_by a l (times a v) (quotient_some (whole (pos 1)) l q e)
+    (equal_trans (by_quotes {ρ = a ∷ v ∷ l ∷ []} {b = times a (times v l)} (search quotes depth 20)
+    (search quotes depth 20) refl)
+    (equal_trans (times_same (equal_refl a) one)
+    (by_quotes {ρ = a ∷ []} (search quotes depth 20) (search quotes depth 20) refl)))
 
 pub rule_folded : (p : Option Rational) (q v : Rational) → p ≡ Some q → v ≡ lowest q → SameOption p (Some v)
 rule_folded p q v e low = rw e (equal_sym (lowest_same q v low))

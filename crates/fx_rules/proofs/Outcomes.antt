@@ -69,7 +69,9 @@ agrees_4 = record { back = back_4; there = λ s f. refl }
 
 -- ---- rule 5
 abbrev row_5 : Rule
-row_5 = plain (table.Product (table.Product table.A table.B) table.C) (table.Product table.A (table.Product table.B table.C))
+row_5 =
+    plain (table.Product (table.Product table.A table.B) table.C)
+    (table.Product table.A (table.Product table.B table.C))
 
 back_5 : (old : Tree) → Says row_5 old (turned_5 old)
 back_5 (Product (Product a b) c) = (record { letters = letters a b c; left = refl; folded = tt {0} }, refl, refl)
@@ -80,7 +82,9 @@ agrees_5 = record { back = back_5; there = λ s f. refl }
 
 -- ---- rule 6
 abbrev row_6 : Rule
-row_6 = plain (table.Product table.A (table.Product table.B table.C)) (table.Product (table.Product table.A table.B) table.C)
+row_6 =
+    plain (table.Product table.A (table.Product table.B table.C))
+    (table.Product (table.Product table.A table.B) table.C)
 
 back_6 : (old : Tree) → Says row_6 old (turned_6 old)
 back_6 (Product a (Product b c)) = (record { letters = letters a b c; left = refl; folded = tt {0} }, refl, refl)
@@ -91,7 +95,9 @@ agrees_6 = record { back = back_6; there = λ s f. refl }
 
 -- ---- rule 7
 abbrev row_7 : Rule
-row_7 = plain (table.Product table.A (table.Sum table.B table.C)) (table.Sum (table.Product table.A table.B) (table.Product table.A table.C))
+row_7 =
+    plain (table.Product table.A (table.Sum table.B table.C))
+    (table.Sum (table.Product table.A table.B) (table.Product table.A table.C))
 
 back_7 : (old : Tree) → Says row_7 old (turned_7 old)
 back_7 (Product a (Sum b c)) = (record { letters = letters a b c; left = refl; folded = tt {0} }, refl, refl)
@@ -102,7 +108,9 @@ agrees_7 = record { back = back_7; there = λ s f. refl }
 
 -- ---- rule 8
 abbrev row_8 : Rule
-row_8 = plain (table.Product (table.Sum table.A table.B) table.C) (table.Sum (table.Product table.A table.C) (table.Product table.B table.C))
+row_8 =
+    plain (table.Product (table.Sum table.A table.B) table.C)
+    (table.Sum (table.Product table.A table.C) (table.Product table.B table.C))
 
 back_8 : (old : Tree) → Says row_8 old (turned_8 old)
 back_8 (Product (Sum a b) c) = (record { letters = letters a b c; left = refl; folded = tt {0} }, refl, refl)
@@ -113,7 +121,9 @@ agrees_8 = record { back = back_8; there = λ s f. refl }
 
 -- ---- rule 9
 abbrev row_9 : Rule
-row_9 = plain (table.Product table.A (table.Difference table.B table.C)) (table.Difference (table.Product table.A table.B) (table.Product table.A table.C))
+row_9 =
+    plain (table.Product table.A (table.Difference table.B table.C))
+    (table.Difference (table.Product table.A table.B) (table.Product table.A table.C))
 
 back_9 : (old : Tree) → Says row_9 old (turned_9 old)
 back_9 (Product a (Difference b c)) = (record { letters = letters a b c; left = refl; folded = tt {0} }, refl, refl)
@@ -124,7 +134,9 @@ agrees_9 = record { back = back_9; there = λ s f. refl }
 
 -- ---- rule 10
 abbrev row_10 : Rule
-row_10 = plain (table.Product (table.Difference table.A table.B) table.C) (table.Difference (table.Product table.A table.C) (table.Product table.B table.C))
+row_10 =
+    plain (table.Product (table.Difference table.A table.B) table.C)
+    (table.Difference (table.Product table.A table.C) (table.Product table.B table.C))
 
 back_10 : (old : Tree) → Says row_10 old (turned_10 old)
 back_10 (Product (Difference a b) c) = (record { letters = letters a b c; left = refl; folded = tt {0} }, refl, refl)
@@ -135,63 +147,115 @@ agrees_10 = record { back = back_10; there = λ s f. refl }
 
 -- ---- rule 11
 abbrev row_11 : Rule
-row_11 = plain (table.Sum (table.Product table.A table.B) (table.Product table.A table.C)) (table.Product table.A (table.Sum table.B table.C))
+row_11 =
+    plain (table.Sum (table.Product table.A table.B) (table.Product table.A table.C))
+    (table.Product table.A (table.Sum table.B table.C))
 
 back_11 : (old : Tree) → Says row_11 old (turned_11 old)
 back_11 (Sum (Product a b) (Product d c)) = by (same_tree a d) refl
   where
-    by : (t : Bool) → same_tree a d ≡ t → Says row_11 (Sum (Product a b) (Product d c)) (where_same t (Product a (Sum b c)))
-    by true e = (record { letters = letters a b c; left = ap (λ (u : Tree). (Sum (Product a b) (Product u c))) (sym (same_tree_true a d e)); folded = tt {0} }, refl, refl)
+    by : (t : Bool) → same_tree a d ≡ t →
+        Says row_11 (Sum (Product a b) (Product d c)) (where_same t (Product a (Sum b c)))
+    by true e = (
+      record {
+        letters = letters a b c;
+        left = ap (λ (u : Tree). (Sum (Product a b) (Product u c))) (sym (same_tree_true a d e));
+        folded = tt {0};
+      },
+      refl,
+      refl,
+    )
     by false e = tt {0}
 back_11 _ = tt {0}
 
 pub agrees_11 : Agrees row_11 turned_11
-agrees_11 = record { back = back_11; there = λ s f. ap (λ t. where_same t (Product s.a (Sum s.b s.c))) (same_tree_refl s.a) }
+agrees_11 =
+    record { back = back_11; there = λ s f. ap (λ t. where_same t (Product s.a (Sum s.b s.c))) (same_tree_refl s.a) }
 
 -- ---- rule 12
 abbrev row_12 : Rule
-row_12 = plain (table.Sum (table.Product table.A table.C) (table.Product table.B table.C)) (table.Product (table.Sum table.A table.B) table.C)
+row_12 =
+    plain (table.Sum (table.Product table.A table.C) (table.Product table.B table.C))
+    (table.Product (table.Sum table.A table.B) table.C)
 
 back_12 : (old : Tree) → Says row_12 old (turned_12 old)
 back_12 (Sum (Product a c) (Product b d)) = by (same_tree c d) refl
   where
-    by : (t : Bool) → same_tree c d ≡ t → Says row_12 (Sum (Product a c) (Product b d)) (where_same t (Product (Sum a b) c))
-    by true e = (record { letters = letters a b c; left = ap (λ (u : Tree). (Sum (Product a c) (Product b u))) (sym (same_tree_true c d e)); folded = tt {0} }, refl, refl)
+    by : (t : Bool) → same_tree c d ≡ t →
+        Says row_12 (Sum (Product a c) (Product b d)) (where_same t (Product (Sum a b) c))
+    by true e = (
+      record {
+        letters = letters a b c;
+        left = ap (λ (u : Tree). (Sum (Product a c) (Product b u))) (sym (same_tree_true c d e));
+        folded = tt {0};
+      },
+      refl,
+      refl,
+    )
     by false e = tt {0}
 back_12 _ = tt {0}
 
 pub agrees_12 : Agrees row_12 turned_12
-agrees_12 = record { back = back_12; there = λ s f. ap (λ t. where_same t (Product (Sum s.a s.b) s.c)) (same_tree_refl s.c) }
+agrees_12 =
+    record { back = back_12; there = λ s f. ap (λ t. where_same t (Product (Sum s.a s.b) s.c)) (same_tree_refl s.c) }
 
 -- ---- rule 13
 abbrev row_13 : Rule
-row_13 = plain (table.Difference (table.Product table.A table.B) (table.Product table.A table.C)) (table.Product table.A (table.Difference table.B table.C))
+row_13 =
+    plain (table.Difference (table.Product table.A table.B) (table.Product table.A table.C))
+    (table.Product table.A (table.Difference table.B table.C))
 
 back_13 : (old : Tree) → Says row_13 old (turned_13 old)
 back_13 (Difference (Product a b) (Product d c)) = by (same_tree a d) refl
   where
-    by : (t : Bool) → same_tree a d ≡ t → Says row_13 (Difference (Product a b) (Product d c)) (where_same t (Product a (Difference b c)))
-    by true e = (record { letters = letters a b c; left = ap (λ (u : Tree). (Difference (Product a b) (Product u c))) (sym (same_tree_true a d e)); folded = tt {0} }, refl, refl)
+    by : (t : Bool) → same_tree a d ≡ t →
+        Says row_13 (Difference (Product a b) (Product d c)) (where_same t (Product a (Difference b c)))
+    by true e = (
+      record {
+        letters = letters a b c;
+        left = ap (λ (u : Tree). (Difference (Product a b) (Product u c))) (sym (same_tree_true a d e));
+        folded = tt {0};
+      },
+      refl,
+      refl,
+    )
     by false e = tt {0}
 back_13 _ = tt {0}
 
 pub agrees_13 : Agrees row_13 turned_13
-agrees_13 = record { back = back_13; there = λ s f. ap (λ t. where_same t (Product s.a (Difference s.b s.c))) (same_tree_refl s.a) }
+agrees_13 = record {
+  back = back_13;
+  there = λ s f. ap (λ t. where_same t (Product s.a (Difference s.b s.c))) (same_tree_refl s.a);
+}
 
 -- ---- rule 14
 abbrev row_14 : Rule
-row_14 = plain (table.Difference (table.Product table.A table.C) (table.Product table.B table.C)) (table.Product (table.Difference table.A table.B) table.C)
+row_14 =
+    plain (table.Difference (table.Product table.A table.C) (table.Product table.B table.C))
+    (table.Product (table.Difference table.A table.B) table.C)
 
 back_14 : (old : Tree) → Says row_14 old (turned_14 old)
 back_14 (Difference (Product a c) (Product b d)) = by (same_tree c d) refl
   where
-    by : (t : Bool) → same_tree c d ≡ t → Says row_14 (Difference (Product a c) (Product b d)) (where_same t (Product (Difference a b) c))
-    by true e = (record { letters = letters a b c; left = ap (λ (u : Tree). (Difference (Product a c) (Product b u))) (sym (same_tree_true c d e)); folded = tt {0} }, refl, refl)
+    by : (t : Bool) → same_tree c d ≡ t →
+        Says row_14 (Difference (Product a c) (Product b d)) (where_same t (Product (Difference a b) c))
+    by true e = (
+      record {
+        letters = letters a b c;
+        left = ap (λ (u : Tree). (Difference (Product a c) (Product b u))) (sym (same_tree_true c d e));
+        folded = tt {0};
+      },
+      refl,
+      refl,
+    )
     by false e = tt {0}
 back_14 _ = tt {0}
 
 pub agrees_14 : Agrees row_14 turned_14
-agrees_14 = record { back = back_14; there = λ s f. ap (λ t. where_same t (Product (Difference s.a s.b) s.c)) (same_tree_refl s.c) }
+agrees_14 = record {
+  back = back_14;
+  there = λ s f. ap (λ t. where_same t (Product (Difference s.a s.b) s.c)) (same_tree_refl s.c);
+}
 
 -- ---- rule 15
 abbrev row_15 : Rule
@@ -220,7 +284,8 @@ abbrev row_17 : Rule
 row_17 = plain (table.Negation (table.Negation table.A)) table.A
 
 back_17 : (old : Tree) → Says row_17 old (turned_17 old)
-back_17 (Negation (Negation a)) = (record { letters = letters a no_tree no_tree; left = refl; folded = tt {0} }, refl, refl)
+back_17 (Negation (Negation a)) =
+    (record { letters = letters a no_tree no_tree; left = refl; folded = tt {0} }, refl, refl)
 back_17 _ = tt {0}
 
 pub agrees_17 : Agrees row_17 turned_17
@@ -250,7 +315,8 @@ agrees_19 = record { back = back_19; there = λ s f. refl }
 
 -- ---- rule 20
 abbrev row_20 : Rule
-row_20 = plain (table.Negation (table.Sum table.A table.B)) (table.Sum (table.Negation table.A) (table.Negation table.B))
+row_20 =
+    plain (table.Negation (table.Sum table.A table.B)) (table.Sum (table.Negation table.A) (table.Negation table.B))
 
 back_20 : (old : Tree) → Says row_20 old (turned_20 old)
 back_20 (Negation (Sum a b)) = (record { letters = letters a b no_tree; left = refl; folded = tt {0} }, refl, refl)
@@ -261,7 +327,9 @@ agrees_20 = record { back = back_20; there = λ s f. refl }
 
 -- ---- rule 21
 abbrev row_21 : Rule
-row_21 = plain (table.Quotient (table.Sum table.A table.B) table.C) (table.Sum (table.Quotient table.A table.C) (table.Quotient table.B table.C))
+row_21 =
+    plain (table.Quotient (table.Sum table.A table.B) table.C)
+    (table.Sum (table.Quotient table.A table.C) (table.Quotient table.B table.C))
 
 back_21 : (old : Tree) → Says row_21 old (turned_21 old)
 back_21 (Quotient (Sum a b) c) = (record { letters = letters a b c; left = refl; folded = tt {0} }, refl, refl)
@@ -272,22 +340,36 @@ agrees_21 = record { back = back_21; there = λ s f. refl }
 
 -- ---- rule 22
 abbrev row_22 : Rule
-row_22 = plain (table.Sum (table.Quotient table.A table.C) (table.Quotient table.B table.C)) (table.Quotient (table.Sum table.A table.B) table.C)
+row_22 =
+    plain (table.Sum (table.Quotient table.A table.C) (table.Quotient table.B table.C))
+    (table.Quotient (table.Sum table.A table.B) table.C)
 
 back_22 : (old : Tree) → Says row_22 old (turned_22 old)
 back_22 (Sum (Quotient a c) (Quotient b d)) = by (same_tree c d) refl
   where
-    by : (t : Bool) → same_tree c d ≡ t → Says row_22 (Sum (Quotient a c) (Quotient b d)) (where_same t (Quotient (Sum a b) c))
-    by true e = (record { letters = letters a b c; left = ap (λ (u : Tree). (Sum (Quotient a c) (Quotient b u))) (sym (same_tree_true c d e)); folded = tt {0} }, refl, refl)
+    by : (t : Bool) → same_tree c d ≡ t →
+        Says row_22 (Sum (Quotient a c) (Quotient b d)) (where_same t (Quotient (Sum a b) c))
+    by true e = (
+      record {
+        letters = letters a b c;
+        left = ap (λ (u : Tree). (Sum (Quotient a c) (Quotient b u))) (sym (same_tree_true c d e));
+        folded = tt {0};
+      },
+      refl,
+      refl,
+    )
     by false e = tt {0}
 back_22 _ = tt {0}
 
 pub agrees_22 : Agrees row_22 turned_22
-agrees_22 = record { back = back_22; there = λ s f. ap (λ t. where_same t (Quotient (Sum s.a s.b) s.c)) (same_tree_refl s.c) }
+agrees_22 =
+    record { back = back_22; there = λ s f. ap (λ t. where_same t (Quotient (Sum s.a s.b) s.c)) (same_tree_refl s.c) }
 
 -- ---- rule 23
 abbrev row_23 : Rule
-row_23 = plain (table.Quotient (table.Quotient table.A table.B) table.C) (table.Quotient table.A (table.Product table.B table.C))
+row_23 =
+    plain (table.Quotient (table.Quotient table.A table.B) table.C)
+    (table.Quotient table.A (table.Product table.B table.C))
 
 back_23 : (old : Tree) → Says row_23 old (turned_23 old)
 back_23 (Quotient (Quotient a b) c) = (record { letters = letters a b c; left = refl; folded = tt {0} }, refl, refl)
@@ -298,7 +380,9 @@ agrees_23 = record { back = back_23; there = λ s f. refl }
 
 -- ---- rule 24
 abbrev row_24 : Rule
-row_24 = plain (table.Quotient table.A (table.Product table.B table.C)) (table.Quotient (table.Quotient table.A table.B) table.C)
+row_24 =
+    plain (table.Quotient table.A (table.Product table.B table.C))
+    (table.Quotient (table.Quotient table.A table.B) table.C)
 
 back_24 : (old : Tree) → Says row_24 old (turned_24 old)
 back_24 (Quotient a (Product b c)) = (record { letters = letters a b c; left = refl; folded = tt {0} }, refl, refl)
@@ -314,11 +398,13 @@ row_25 = folds (table.Quotient table.A table.L) (table.Product table.A table.Mad
 back_25 : (old : Tree) → Says row_25 old (turned_25 old)
 back_25 (Quotient a (Literal l)) = there (quotient (whole (pos 1)) l) refl
   where
-    by : (q : Rational) → quotient (whole (pos 1)) l ≡ Some q → (t : Bool) → fits_literal (lowest q) ≡ t → Says row_25 (Quotient a (Literal l)) (in_product a (where_fits t (Literal (lowest q))))
+    by : (q : Rational) → quotient (whole (pos 1)) l ≡ Some q → (t : Bool) → fits_literal (lowest q) ≡ t →
+        Says row_25 (Quotient a (Literal l)) (in_product a (where_fits t (Literal (lowest q))))
     by q is true e = (record { letters = literals a l l (lowest q); left = refl; folded = (q, is, refl) }, refl, e)
     by q is false e = (record { letters = literals a l l (lowest q); left = refl; folded = (q, is, refl) }, e)
 
-    there : (o : Option Rational) → quotient (whole (pos 1)) l ≡ o → Says row_25 (Quotient a (Literal l)) (in_product a (folded_option o))
+    there : (o : Option Rational) → quotient (whole (pos 1)) l ≡ o →
+        Says row_25 (Quotient a (Literal l)) (in_product a (folded_option o))
     there None is = tt {0}
     there (Some q) is = by q is (fits_literal (lowest q)) refl
 back_25 _ = tt {0}
@@ -327,7 +413,9 @@ pub agrees_25 : Agrees row_25 turned_25
 agrees_25 = record {
   back = back_25;
   there = λ s f.
-      ap (λ (o : Option Rational). in_product s.a (folded_option o)) f.1 ∙ ap (λ (v : Rational). in_product s.a (where_fits (fits_literal v) (Literal v))) (sym f.2) ∙ product_fits s.a (Literal s.made) (fits_literal s.made);
+      ap (λ (o : Option Rational). in_product s.a (folded_option o)) f.1
+      ∙ ap (λ (v : Rational). in_product s.a (where_fits (fits_literal v) (Literal v))) (sym f.2)
+      ∙ product_fits s.a (Literal s.made) (fits_literal s.made);
 }
 
 -- ---- rule 26
@@ -337,9 +425,15 @@ row_26 = folds (table.Sum table.L table.K) table.Made (always plus)
 back_26 : (old : Tree) → Says row_26 old (turned_26 old)
 back_26 (Sum (Literal l) (Literal k)) = by (fits_literal (lowest (plus l k))) refl
   where
-    by : (t : Bool) → fits_literal (lowest (plus l k)) ≡ t → Says row_26 (Sum (Literal l) (Literal k)) (where_fits t (Literal (lowest (plus l k))))
-    by true e = (record { letters = literals no_tree l k (lowest (plus l k)); left = refl; folded = (plus l k, refl, refl) }, refl, e)
-    by false e = (record { letters = literals no_tree l k (lowest (plus l k)); left = refl; folded = (plus l k, refl, refl) }, e)
+    by : (t : Bool) → fits_literal (lowest (plus l k)) ≡ t →
+        Says row_26 (Sum (Literal l) (Literal k)) (where_fits t (Literal (lowest (plus l k))))
+    by true e = (
+      record { letters = literals no_tree l k (lowest (plus l k)); left = refl; folded = (plus l k, refl, refl) },
+      refl,
+      e,
+    )
+    by false e =
+        (record { letters = literals no_tree l k (lowest (plus l k)); left = refl; folded = (plus l k, refl, refl) }, e)
 back_26 _ = tt {0}
 
 pub agrees_26 : Agrees row_26 turned_26
@@ -358,9 +452,17 @@ row_27 = folds (table.Difference table.L table.K) table.Made (always minus)
 back_27 : (old : Tree) → Says row_27 old (turned_27 old)
 back_27 (Difference (Literal l) (Literal k)) = by (fits_literal (lowest (minus l k))) refl
   where
-    by : (t : Bool) → fits_literal (lowest (minus l k)) ≡ t → Says row_27 (Difference (Literal l) (Literal k)) (where_fits t (Literal (lowest (minus l k))))
-    by true e = (record { letters = literals no_tree l k (lowest (minus l k)); left = refl; folded = (minus l k, refl, refl) }, refl, e)
-    by false e = (record { letters = literals no_tree l k (lowest (minus l k)); left = refl; folded = (minus l k, refl, refl) }, e)
+    by : (t : Bool) → fits_literal (lowest (minus l k)) ≡ t →
+        Says row_27 (Difference (Literal l) (Literal k)) (where_fits t (Literal (lowest (minus l k))))
+    by true e = (
+      record { letters = literals no_tree l k (lowest (minus l k)); left = refl; folded = (minus l k, refl, refl) },
+      refl,
+      e,
+    )
+    by false e = (
+      record { letters = literals no_tree l k (lowest (minus l k)); left = refl; folded = (minus l k, refl, refl) },
+      e,
+    )
 back_27 _ = tt {0}
 
 pub agrees_27 : Agrees row_27 turned_27
@@ -379,9 +481,17 @@ row_28 = folds (table.Product table.L table.K) table.Made (always times)
 back_28 : (old : Tree) → Says row_28 old (turned_28 old)
 back_28 (Product (Literal l) (Literal k)) = by (fits_literal (lowest (times l k))) refl
   where
-    by : (t : Bool) → fits_literal (lowest (times l k)) ≡ t → Says row_28 (Product (Literal l) (Literal k)) (where_fits t (Literal (lowest (times l k))))
-    by true e = (record { letters = literals no_tree l k (lowest (times l k)); left = refl; folded = (times l k, refl, refl) }, refl, e)
-    by false e = (record { letters = literals no_tree l k (lowest (times l k)); left = refl; folded = (times l k, refl, refl) }, e)
+    by : (t : Bool) → fits_literal (lowest (times l k)) ≡ t →
+        Says row_28 (Product (Literal l) (Literal k)) (where_fits t (Literal (lowest (times l k))))
+    by true e = (
+      record { letters = literals no_tree l k (lowest (times l k)); left = refl; folded = (times l k, refl, refl) },
+      refl,
+      e,
+    )
+    by false e = (
+      record { letters = literals no_tree l k (lowest (times l k)); left = refl; folded = (times l k, refl, refl) },
+      e,
+    )
 back_28 _ = tt {0}
 
 pub agrees_28 : Agrees row_28 turned_28
@@ -400,8 +510,10 @@ row_29 = folds (table.Quotient table.L table.K) table.Made quotient
 back_29 : (old : Tree) → Says row_29 old (turned_29 old)
 back_29 (Quotient (Literal l) (Literal k)) = there (quotient l k) refl
   where
-    by : (q : Rational) → quotient l k ≡ Some q → (t : Bool) → fits_literal (lowest q) ≡ t → Says row_29 (Quotient (Literal l) (Literal k)) (where_fits t (Literal (lowest q)))
-    by q is true e = (record { letters = literals no_tree l k (lowest q); left = refl; folded = (q, is, refl) }, refl, e)
+    by : (q : Rational) → quotient l k ≡ Some q → (t : Bool) → fits_literal (lowest q) ≡ t →
+        Says row_29 (Quotient (Literal l) (Literal k)) (where_fits t (Literal (lowest q)))
+    by q is true e =
+        (record { letters = literals no_tree l k (lowest q); left = refl; folded = (q, is, refl) }, refl, e)
     by q is false e = (record { letters = literals no_tree l k (lowest q); left = refl; folded = (q, is, refl) }, e)
 
     there : (o : Option Rational) → quotient l k ≡ o → Says row_29 (Quotient (Literal l) (Literal k)) (folded_option o)
@@ -423,9 +535,25 @@ row_30 = folds (table.Negation table.L) table.Made (λ l k. Some (negative l))
 back_30 : (old : Tree) → Says row_30 old (turned_30 old)
 back_30 (Negation (Literal l)) = by (fits_literal (lowest (negative l))) refl
   where
-    by : (t : Bool) → fits_literal (lowest (negative l)) ≡ t → Says row_30 (Negation (Literal l)) (where_fits t (Literal (lowest (negative l))))
-    by true e = (record { letters = literals no_tree l l (lowest (negative l)); left = refl; folded = (negative l, refl, refl) }, refl, e)
-    by false e = (record { letters = literals no_tree l l (lowest (negative l)); left = refl; folded = (negative l, refl, refl) }, e)
+    by : (t : Bool) → fits_literal (lowest (negative l)) ≡ t →
+        Says row_30 (Negation (Literal l)) (where_fits t (Literal (lowest (negative l))))
+    by true e = (
+      record {
+        letters = literals no_tree l l (lowest (negative l));
+        left = refl;
+        folded = (negative l, refl, refl);
+      },
+      refl,
+      e,
+    )
+    by false e = (
+      record {
+        letters = literals no_tree l l (lowest (negative l));
+        left = refl;
+        folded = (negative l, refl, refl);
+      },
+      e,
+    )
 back_30 _ = tt {0}
 
 pub agrees_30 : Agrees row_30 turned_30

@@ -31,15 +31,25 @@ lit_same : (c d : Rational) → c.top ≡ d.top → c.less ≡ d.less → Litera
 lit_same c d p q = λ i. Literal (record { top = p i; less = q i })
 
 pub same_tree_true : (a b : Tree) → same_tree a b ≡ true → a ≡ b
-same_tree_true (Literal c) (Literal d) h = let p = and_parts (same_whole c.top d.top) (c.less == d.less) h in lit_same c d (whole_true c.top d.top p.0) (eqb-true c.less d.less p.1)
+same_tree_true (Literal c) (Literal d) h =
+    let p = and_parts (same_whole c.top d.top) (c.less == d.less) h in
+    lit_same c d (whole_true c.top d.top p.0) (eqb-true c.less d.less p.1)
 same_tree_true (Input k) (Input n) h = ap Input (eqb-true k n h)
 same_tree_true (State k) (State n) h = ap State (eqb-true k n h)
 same_tree_true (Temp k) (Temp n) h = ap Temp (eqb-true k n h)
 same_tree_true (Negation a) (Negation x) h = ap Negation (same_tree_true a x h)
-same_tree_true (Sum a b) (Sum x y) h = let p = and_parts (same_tree a x) (same_tree b y) h in λ i. Sum (same_tree_true a x p.0 i) (same_tree_true b y p.1 i)
-same_tree_true (Difference a b) (Difference x y) h = let p = and_parts (same_tree a x) (same_tree b y) h in λ i. Difference (same_tree_true a x p.0 i) (same_tree_true b y p.1 i)
-same_tree_true (Product a b) (Product x y) h = let p = and_parts (same_tree a x) (same_tree b y) h in λ i. Product (same_tree_true a x p.0 i) (same_tree_true b y p.1 i)
-same_tree_true (Quotient a b) (Quotient x y) h = let p = and_parts (same_tree a x) (same_tree b y) h in λ i. Quotient (same_tree_true a x p.0 i) (same_tree_true b y p.1 i)
+same_tree_true (Sum a b) (Sum x y) h =
+    let p = and_parts (same_tree a x) (same_tree b y) h in
+    λ i. Sum (same_tree_true a x p.0 i) (same_tree_true b y p.1 i)
+same_tree_true (Difference a b) (Difference x y) h =
+    let p = and_parts (same_tree a x) (same_tree b y) h in
+    λ i. Difference (same_tree_true a x p.0 i) (same_tree_true b y p.1 i)
+same_tree_true (Product a b) (Product x y) h =
+    let p = and_parts (same_tree a x) (same_tree b y) h in
+    λ i. Product (same_tree_true a x p.0 i) (same_tree_true b y p.1 i)
+same_tree_true (Quotient a b) (Quotient x y) h =
+    let p = and_parts (same_tree a x) (same_tree b y) h in
+    λ i. Quotient (same_tree_true a x p.0 i) (same_tree_true b y p.1 i)
 same_tree_true _ _ h = absurd cc
 
 false_apart : (r : Bool) (a b : Tree) → (a ≡ b → IsTrue r) → r ≡ false → same_tree a b ≡ false

@@ -18,7 +18,8 @@ KeepsRefers old new = (i k m : ℕ) → RefersBelow i k m old → RefersBelow i 
 
 -- a row keeps both
 abbrev pub IsSound : Rule → Type 0
-IsSound r = (s : Letters) → IsFolded r.folding s → SameTrees (filled s r.left) (filled s r.right) × KeepsRefers (filled s r.left) (filled s r.right)
+IsSound r = (s : Letters) → IsFolded r.folding s →
+    SameTrees (filled s r.left) (filled s r.right) × KeepsRefers (filled s r.left) (filled s r.right)
 
 abbrev pub AllSound : List Rule → Type 0
 AllSound [] = Unit {0}
@@ -30,7 +31,145 @@ sound_at (q ∷ rs) zero r all e = let same : q ≡ r = cc in rw (← same) all.
 sound_at (q ∷ rs) (suc n) r all e = sound_at rs n r all.1 e
 
 all_sound : AllSound rules
-all_sound = ((λ s f. ((λ t x y. each.rule_1 (value_of s.a t x y) (value_of s.b t x y)), (λ i k m h. assumption))), ((λ s f. ((λ t x y. each.rule_2 (value_of s.a t x y) (value_of s.b t x y) (value_of s.c t x y)), (λ i k m h. assumption))), ((λ s f. ((λ t x y. each.rule_3 (value_of s.a t x y) (value_of s.b t x y) (value_of s.c t x y)), (λ i k m h. assumption))), ((λ s f. ((λ t x y. each.rule_4 (value_of s.a t x y) (value_of s.b t x y)), (λ i k m h. assumption))), ((λ s f. ((λ t x y. each.rule_5 (value_of s.a t x y) (value_of s.b t x y) (value_of s.c t x y)), (λ i k m h. assumption))), ((λ s f. ((λ t x y. each.rule_6 (value_of s.a t x y) (value_of s.b t x y) (value_of s.c t x y)), (λ i k m h. assumption))), ((λ s f. ((λ t x y. each.rule_7 (value_of s.a t x y) (value_of s.b t x y) (value_of s.c t x y)), (λ i k m h. assumption))), ((λ s f. ((λ t x y. each.rule_8 (value_of s.a t x y) (value_of s.b t x y) (value_of s.c t x y)), (λ i k m h. assumption))), ((λ s f. ((λ t x y. each.rule_9 (value_of s.a t x y) (value_of s.b t x y) (value_of s.c t x y)), (λ i k m h. assumption))), ((λ s f. ((λ t x y. each.rule_10 (value_of s.a t x y) (value_of s.b t x y) (value_of s.c t x y)), (λ i k m h. assumption))), ((λ s f. ((λ t x y. each.rule_11 (value_of s.a t x y) (value_of s.b t x y) (value_of s.c t x y)), (λ i k m h. assumption))), ((λ s f. ((λ t x y. each.rule_12 (value_of s.a t x y) (value_of s.b t x y) (value_of s.c t x y)), (λ i k m h. assumption))), ((λ s f. ((λ t x y. each.rule_13 (value_of s.a t x y) (value_of s.b t x y) (value_of s.c t x y)), (λ i k m h. assumption))), ((λ s f. ((λ t x y. each.rule_14 (value_of s.a t x y) (value_of s.b t x y) (value_of s.c t x y)), (λ i k m h. assumption))), ((λ s f. ((λ t x y. each.rule_15 (value_of s.a t x y) (value_of s.b t x y)), (λ i k m h. assumption))), ((λ s f. ((λ t x y. each.rule_16 (value_of s.a t x y) (value_of s.b t x y)), (λ i k m h. assumption))), ((λ s f. ((λ t x y. each.rule_17 (value_of s.a t x y)), (λ i k m h. assumption))), ((λ s f. ((λ t x y. each.rule_18 (value_of s.a t x y) (value_of s.b t x y)), (λ i k m h. assumption))), ((λ s f. ((λ t x y. each.rule_19 (value_of s.a t x y) (value_of s.b t x y)), (λ i k m h. assumption))), ((λ s f. ((λ t x y. each.rule_20 (value_of s.a t x y) (value_of s.b t x y)), (λ i k m h. assumption))), ((λ s f. ((λ t x y. each.rule_21 (value_of s.a t x y) (value_of s.b t x y) (value_of s.c t x y)), (λ i k m h. assumption))), ((λ s f. ((λ t x y. each.rule_22 (value_of s.a t x y) (value_of s.b t x y) (value_of s.c t x y)), (λ i k m h. assumption))), ((λ s f. ((λ t x y. each.rule_23 (value_of s.a t x y) (value_of s.b t x y) (value_of s.c t x y)), (λ i k m h. assumption))), ((λ s f. ((λ t x y. each.rule_24 (value_of s.a t x y) (value_of s.b t x y) (value_of s.c t x y)), (λ i k m h. assumption))), ((λ s f. ((λ t x y. each.rule_25 (value_of s.a t x y) s.l f.0 s.made f.1 f.2), (λ i k m h. assumption))), ((λ s f. ((λ t x y. each.rule_folded (Some (plus s.l s.k)) f.0 s.made f.1 f.2), (λ i k m h. tt {0}))), ((λ s f. ((λ t x y. each.rule_folded (Some (minus s.l s.k)) f.0 s.made f.1 f.2), (λ i k m h. tt {0}))), ((λ s f. ((λ t x y. each.rule_folded (Some (times s.l s.k)) f.0 s.made f.1 f.2), (λ i k m h. tt {0}))), ((λ s f. ((λ t x y. each.rule_folded (quotient s.l s.k) f.0 s.made f.1 f.2), (λ i k m h. tt {0}))), ((λ s f. ((λ t x y. each.rule_folded (Some (negative s.l)) f.0 s.made f.1 f.2), (λ i k m h. tt {0}))), tt {0}))))))))))))))))))))))))))))))
+all_sound = (
+  (λ s f. ((λ t x y. each.rule_1 (value_of s.a t x y) (value_of s.b t x y)), (λ i k m h. assumption))),
+  (
+    (λ s f. (
+      (λ t x y. each.rule_2 (value_of s.a t x y) (value_of s.b t x y) (value_of s.c t x y)),
+      (λ i k m h. assumption),
+    )),
+    (
+      (λ s f. (
+        (λ t x y. each.rule_3 (value_of s.a t x y) (value_of s.b t x y) (value_of s.c t x y)),
+        (λ i k m h. assumption),
+      )),
+      (
+        (λ s f. ((λ t x y. each.rule_4 (value_of s.a t x y) (value_of s.b t x y)), (λ i k m h. assumption))),
+        (
+          (λ s f. (
+            (λ t x y. each.rule_5 (value_of s.a t x y) (value_of s.b t x y) (value_of s.c t x y)),
+            (λ i k m h. assumption),
+          )),
+          (
+            (λ s f. (
+              (λ t x y. each.rule_6 (value_of s.a t x y) (value_of s.b t x y) (value_of s.c t x y)),
+              (λ i k m h. assumption),
+            )),
+            (
+              (λ s f. (
+                (λ t x y. each.rule_7 (value_of s.a t x y) (value_of s.b t x y) (value_of s.c t x y)),
+                (λ i k m h. assumption),
+              )),
+              (
+                (λ s f. (
+                  (λ t x y. each.rule_8 (value_of s.a t x y) (value_of s.b t x y) (value_of s.c t x y)),
+                  (λ i k m h. assumption),
+                )),
+                (
+                  (λ s f. (
+                    (λ t x y. each.rule_9 (value_of s.a t x y) (value_of s.b t x y) (value_of s.c t x y)),
+                    (λ i k m h. assumption),
+                  )),
+                  (
+                    (λ s f. (
+                      (λ t x y. each.rule_10 (value_of s.a t x y) (value_of s.b t x y) (value_of s.c t x y)),
+                      (λ i k m h. assumption),
+                    )),
+                    (
+                      (λ s f. (
+                        (λ t x y. each.rule_11 (value_of s.a t x y) (value_of s.b t x y) (value_of s.c t x y)),
+                        (λ i k m h. assumption),
+                      )),
+                      (
+                        (λ s f. (
+                          (λ t x y. each.rule_12 (value_of s.a t x y) (value_of s.b t x y) (value_of s.c t x y)),
+                          (λ i k m h. assumption),
+                        )),
+                        (
+                          (λ s f. (
+                            (λ t x y. each.rule_13 (value_of s.a t x y) (value_of s.b t x y) (value_of s.c t x y)),
+                            (λ i k m h. assumption),
+                          )),
+                          (
+                            (λ s f. (
+                              (λ t x y. each.rule_14 (value_of s.a t x y) (value_of s.b t x y) (value_of s.c t x y)),
+                              (λ i k m h. assumption),
+                            )),
+                            (
+                              (λ s f. ((λ t x y. each.rule_15 (value_of s.a t x y) (value_of s.b t x y)), (λ i k m h. assumption))),
+                              (
+                                (λ s f. ((λ t x y. each.rule_16 (value_of s.a t x y) (value_of s.b t x y)), (λ i k m h. assumption))),
+                                (
+                                  (λ s f. ((λ t x y. each.rule_17 (value_of s.a t x y)), (λ i k m h. assumption))),
+                                  (
+                                    (λ s f. ((λ t x y. each.rule_18 (value_of s.a t x y) (value_of s.b t x y)), (λ i k m h. assumption))),
+                                    (
+                                      (λ s f. ((λ t x y. each.rule_19 (value_of s.a t x y) (value_of s.b t x y)), (λ i k m h. assumption))),
+                                      (
+                                        (λ s f. ((λ t x y. each.rule_20 (value_of s.a t x y) (value_of s.b t x y)), (λ i k m h. assumption))),
+                                        (
+                                          (λ s f. (
+                                            (λ t x y. each.rule_21 (value_of s.a t x y) (value_of s.b t x y) (value_of s.c t x y)),
+                                            (λ i k m h. assumption),
+                                          )),
+                                          (
+                                            (λ s f. (
+                                              (λ t x y. each.rule_22 (value_of s.a t x y) (value_of s.b t x y) (value_of s.c t x y)),
+                                              (λ i k m h. assumption),
+                                            )),
+                                            (
+                                              (λ s f. (
+                                                (λ t x y. each.rule_23 (value_of s.a t x y) (value_of s.b t x y) (value_of s.c t x y)),
+                                                (λ i k m h. assumption),
+                                              )),
+                                              (
+                                                (λ s f. (
+                                                  (λ t x y. each.rule_24 (value_of s.a t x y) (value_of s.b t x y) (value_of s.c t x y)),
+                                                  (λ i k m h. assumption),
+                                                )),
+                                                (
+                                                  (λ s f. ((λ t x y. each.rule_25 (value_of s.a t x y) s.l f.0 s.made f.1 f.2), (λ i k m h. assumption))),
+                                                  (
+                                                    (λ s f. ((λ t x y. each.rule_folded (Some (plus s.l s.k)) f.0 s.made f.1 f.2), (λ i k m h. tt {0}))),
+                                                    (
+                                                      (λ s f. ((λ t x y. each.rule_folded (Some (minus s.l s.k)) f.0 s.made f.1 f.2), (λ i k m h. tt {0}))),
+                                                      (
+                                                        (λ s f. ((λ t x y. each.rule_folded (Some (times s.l s.k)) f.0 s.made f.1 f.2), (λ i k m h. tt {0}))),
+                                                        (
+                                                          (λ s f. ((λ t x y. each.rule_folded (quotient s.l s.k) f.0 s.made f.1 f.2), (λ i k m h. tt {0}))),
+                                                          (
+                                                            (λ s f. ((λ t x y. each.rule_folded (Some (negative s.l)) f.0 s.made f.1 f.2), (λ i k m h. tt {0}))),
+                                                            tt {0},
+                                                          ),
+                                                        ),
+                                                      ),
+                                                    ),
+                                                  ),
+                                                ),
+                                              ),
+                                            ),
+                                          ),
+                                        ),
+                                      ),
+                                    ),
+                                  ),
+                                ),
+                              ),
+                            ),
+                          ),
+                        ),
+                      ),
+                    ),
+                  ),
+                ),
+              ),
+            ),
+          ),
+        ),
+      ),
+    ),
+  ),
+)
 
 pub rewrites_sound : (n : ℕ) (old new : Tree) → RewritesTree n old new → SameTrees old new × KeepsRefers old new
 rewrites_sound zero old new r = let e = r.is in absurd cc

@@ -21,7 +21,8 @@ rest_of_line [] = []
 rest_of_line (f ∷ fs) = line_of (f ∷ fs)
 
 -- the next field, and what stands behind it
-next_field : (f : List ℕ) (fs : List (List ℕ)) (is_last : Bool) → (is_last ≡ true → length fs ≡ 0) → (is_last ≡ false → 0 < length fs) →
+next_field : (f : List ℕ) (fs : List (List ℕ)) (is_last : Bool) → (is_last ≡ true → length fs ≡ 0) →
+    (is_last ≡ false → 0 < length fs) →
     rest_of_line (f ∷ fs) ≡ f ++ mark is_last ∷ rest_of_line fs
 next_field f [] true last more = refl
 next_field f [] false last more = absurd (let h = more refl in omega arith)
@@ -35,13 +36,16 @@ more_fields : (j n k : ℕ) → k ≡ n - (j + 1) → j < n → eqb (j + 1) n �
 more_fields j n k e lt t = grind (arith, nat_tests)
 
 -- one field more is put of the line of these fields, which stands behind other text
-pub field_put : (all : List (List ℕ)) (n j : ℕ) (field text other : List ℕ) → length all ≡ n → j < n → get_or all j [] ≡ field →
-    text ++ rest_of_line (drop j all) ≡ other ++ line_of all → (text ++ field ++ mark (eqb (j + 1) n) ∷ []) ++ rest_of_line (drop (j + 1) all) ≡ other ++ line_of all
+pub field_put : (all : List (List ℕ)) (n j : ℕ) (field text other : List ℕ) → length all ≡ n → j < n →
+    get_or all j [] ≡ field →
+    text ++ rest_of_line (drop j all) ≡ other ++ line_of all →
+    (text ++ field ++ mark (eqb (j + 1) n) ∷ []) ++ rest_of_line (drop (j + 1) all) ≡ other ++ line_of all
 field_put all n j field text other many lt is before =
     let one : suc j ≡ j + 1 = omega arith in
     let left : length (drop (j + 1) all) ≡ n - (j + 1) = length-drop (j + 1) all ∙ ap (λ k. k - (j + 1)) many in
     let next : rest_of_line (drop j all) ≡ get_or all j [] ++ mark (eqb (j + 1) n) ∷ rest_of_line (drop (j + 1) all) =
-    ap rest_of_line (drop-cons all j [] (omega arith)) ∙ ap (λ k. rest_of_line (get_or all j [] ∷ drop k all)) one ∙ next_field (get_or all j []) (drop (j + 1) all) (eqb (j + 1) n)
+    ap rest_of_line (drop-cons all j [] (omega arith)) ∙ ap (λ k. rest_of_line (get_or all j [] ∷ drop k all)) one
+    ∙ next_field (get_or all j []) (drop (j + 1) all) (eqb (j + 1) n)
     (is_last_field j n (length (drop (j + 1) all)) left lt) (more_fields j n (length (drop (j + 1) all)) left lt) in
     append_assoc (text ++ field) (mark (eqb (j + 1) n) ∷ []) (rest_of_line (drop (j + 1) all))
     ∙ append_assoc text field (mark (eqb (j + 1) n) ∷ rest_of_line (drop (j + 1) all))
@@ -55,8 +59,10 @@ no_field [] some = absurd (omega arith)
 no_field (f ∷ fs) some = refl
 
 -- behind the last field nothing is left
-pub all_fields : (all : List (List ℕ)) (n : ℕ) (text whole : List ℕ) → length all ≡ n → text ++ rest_of_line (drop n all) ≡ whole → text ≡ whole
-all_fields all n text whole many e = sym (ap (λ fs. text ++ rest_of_line fs) (drop_all n all (omega arith)) ∙ append-nil text) ∙ e
+pub all_fields : (all : List (List ℕ)) (n : ℕ) (text whole : List ℕ) → length all ≡ n →
+    text ++ rest_of_line (drop n all) ≡ whole → text ≡ whole
+all_fields all n text whole many e =
+    sym (ap (λ fs. text ++ rest_of_line fs) (drop_all n all (omega arith)) ∙ append-nil text) ∙ e
 
 -- ---- the header
 pub names_length : (i n : ℕ) → length (names_from i n) ≡ n
@@ -66,7 +72,9 @@ names_length i (suc n) = ap suc (names_length (i + 1) n)
 pub name_at : (i n j : ℕ) → j < n → get_or (names_from i n) j [] ≡ codes "out" ++ decimal (i + j)
 name_at i zero j lt = absurd (omega arith)
 name_at i (suc n) zero lt = let e : i ≡ i + 0 = omega arith in ap (λ k. codes "out" ++ decimal k) e
-name_at i (suc n) (suc j) lt = let e : i + 1 + j ≡ i + suc j = omega arith in name_at (i + 1) n j (omega arith) ∙ ap (λ k. codes "out" ++ decimal k) e
+name_at i (suc n) (suc j) lt =
+    let e : i + 1 + j ≡ i + suc j = omega arith in
+    name_at (i + 1) n j (omega arith) ∙ ap (λ k. codes "out" ++ decimal k) e
 
 -- ---- the words of a step
 texts_length : (n : ℕ) (ws fs : List ℤ) → length ws ≡ n → length fs ≡ n → length (word_texts ws fs) ≡ n
@@ -76,7 +84,8 @@ texts_length (suc n) [] fs w f = absurd (omega arith)
 texts_length (suc n) (x ∷ ws) [] w f = absurd (omega arith)
 texts_length (suc n) (x ∷ ws) (y ∷ fs) w f = ap suc (texts_length n ws fs (omega arith) (omega arith))
 
-text_at : (n j : ℕ) (ws fs : List ℤ) → length ws ≡ n → length fs ≡ n → j < n → get_or (word_texts ws fs) j [] ≡ decimal_text (at (pos 0) ws j) (at (pos 0) fs j)
+text_at : (n j : ℕ) (ws fs : List ℤ) → length ws ≡ n → length fs ≡ n → j < n →
+    get_or (word_texts ws fs) j [] ≡ decimal_text (at (pos 0) ws j) (at (pos 0) fs j)
 text_at zero j ws fs w f lt = absurd (omega arith)
 text_at (suc n) j [] fs w f lt = absurd (omega arith)
 text_at (suc n) j (x ∷ ws) [] w f lt = absurd (omega arith)
@@ -84,27 +93,37 @@ text_at (suc n) zero (x ∷ ws) (y ∷ fs) w f lt = refl
 text_at (suc n) (suc j) (x ∷ ws) (y ∷ fs) w f lt = text_at n j ws fs (omega arith) (omega arith) (omega arith)
 
 -- as many of the last words as there are outputs
-taken_length : {X : Type 0} (m s k : ℕ) (xs : List X) → length xs ≡ k → m + s ≤ k → length (take m (drop (k - (m + s)) xs)) ≡ m
+taken_length : {X : Type 0} (m s k : ℕ) (xs : List X) → length xs ≡ k → m + s ≤ k →
+    length (take m (drop (k - (m + s)) xs)) ≡ m
 taken_length m s k xs many room = omega (arith, length-take m (drop (k - (m + s)) xs), length-drop (k - (m + s)) xs)
 
-outputs_length : (p : Program) (ws : List ℤ) → IsLawfulProgram p → length ws ≡ length p.codes → length (step_taken p ws).outputs ≡ p.outputs
-outputs_length p ws lawful many = let room = lawful.counts.enough in taken_length p.outputs p.states (length p.codes) ws many (omega arith)
+outputs_length : (p : Program) (ws : List ℤ) → IsLawfulProgram p → length ws ≡ length p.codes →
+    length (step_taken p ws).outputs ≡ p.outputs
+outputs_length p ws lawful many =
+    let room = lawful.counts.enough in taken_length p.outputs p.states (length p.codes) ws many (omega arith)
 
 points_many : (p : Program) → IsLawfulProgram p → length (output_points p) ≡ p.outputs
 points_many p lawful =
     let room = lawful.counts.enough in let none : 0 + length p.codes ≡ length p.codes = omega arith in
     taken_length p.outputs p.states (length p.codes) (points_of p.codes) (points_length p.codes [] ∙ none) (omega arith)
 
-pub fields_length : (p : Program) (ws : List ℤ) → IsLawfulProgram p → length ws ≡ length p.codes → length (word_texts (step_taken p ws).outputs (output_points p)) ≡ p.outputs
-fields_length p ws lawful many = texts_length p.outputs (step_taken p ws).outputs (output_points p) (outputs_length p ws lawful many) (points_many p lawful)
+pub fields_length : (p : Program) (ws : List ℤ) → IsLawfulProgram p → length ws ≡ length p.codes →
+    length (word_texts (step_taken p ws).outputs (output_points p)) ≡ p.outputs
+fields_length p ws lawful many =
+    texts_length p.outputs (step_taken p ws).outputs (output_points p) (outputs_length p ws lawful many)
+    (points_many p lawful)
 
 pub field_at : (p : Program) (ws : List ℤ) (j : ℕ) → IsLawfulProgram p → length ws ≡ length p.codes → j < p.outputs →
-    get_or (word_texts (step_taken p ws).outputs (output_points p)) j [] ≡ decimal_text (at (pos 0) (step_taken p ws).outputs j) (at (pos 0) (output_points p) j)
-field_at p ws j lawful many lt = text_at p.outputs j (step_taken p ws).outputs (output_points p) (outputs_length p ws lawful many) (points_many p lawful) lt
+    get_or (word_texts (step_taken p ws).outputs (output_points p)) j []
+    ≡ decimal_text (at (pos 0) (step_taken p ws).outputs j) (at (pos 0) (output_points p) j)
+field_at p ws j lawful many lt =
+    text_at p.outputs j (step_taken p ws).outputs (output_points p) (outputs_length p ws lawful many)
+    (points_many p lawful) lt
 
 -- an output's point is one
 pub point_at : (p : Program) (j : ℕ) → IsLawfulProgram p → j < p.outputs → IsPoint (at (pos 0) (output_points p) j)
 point_at p j lawful lt =
     let many = points_many p lawful in
     All-get_or IsPoint (output_points p) j (pos 0) (omega arith)
-    (All-take IsPoint p.outputs (drop (first_copy p) (points_of p.codes)) (All-drop IsPoint (first_copy p) (points_of p.codes) lawful.points))
+    (All-take IsPoint p.outputs (drop (first_copy p) (points_of p.codes))
+    (All-drop IsPoint (first_copy p) (points_of p.codes) lawful.points))

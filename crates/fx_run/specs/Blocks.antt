@@ -21,10 +21,12 @@ first_rows n (suc k) ds = first_rows n k ds ++ row_at n k ds ∷ []
 
 -- the lines of these rows stand behind the text, where no row leaves a state
 abbrev pub ArePut : Program → List (List Decimal) → List ℕ → List ℕ → Type 0
-ArePut p rows old new = (text : List ℕ) × (new ≡ old ++ text) × ((rest : List (List Decimal)) → lines_from p (rows ++ rest) [] ≡ text ++ lines_from p rest [])
+ArePut p rows old new = (text : List ℕ) × (new ≡ old ++ text) ×
+    ((rest : List (List Decimal)) → lines_from p (rows ++ rest) [] ≡ text ++ lines_from p rest [])
 
 -- rows that a program without states holds back, and sixteen words for each of its codes
-pub record HoldsRows (a : Accepted) (made : List (List ℤ)) (rows : List Decimal) (held : ℕ) (filled : Bool) : Type 0 where
+pub record HoldsRows (a : Accepted) (made : List (List ℤ)) (rows : List Decimal) (held : ℕ)
+    (filled : Bool) : Type 0 where
   pub states : a.program.states ≡ 0
   pub words : length made ≡ length a.program.codes
   pub many : length rows ≡ 16 * a.program.inputs
@@ -33,7 +35,8 @@ pub record HoldsRows (a : Accepted) (made : List (List ℤ)) (rows : List Decima
   pub in_range : filled ≡ true → IsBlockInRange a.function.inputs a.program.inputs rows
 
 -- such a program of this width, with room for its words in lanes, may take a row
-pub record CanHold (Room : Type 0) (a : Accepted) (bits : ℕ) (r : Contents) (made : List (List ℤ)) (rows : List Decimal) (held : ℕ) (filled : Bool) : Type 0 where
+pub record CanHold (Room : Type 0) (a : Accepted) (bits : ℕ) (r : Contents) (made : List (List ℤ)) (rows : List Decimal)
+    (held : ℕ) (filled : Bool) : Type 0 where
   pub room : Room
   pub can : CanStep a bits r
   pub none : r.states ≡ []

@@ -33,13 +33,15 @@ run_outcome f p ls =
     let r = lines_read f ls in record { text = printed p r; rows = length r.given.rows; bad = r.given.bad }
 
 -- the exact run over these true rows is defined, and each printed output is within its certified bound of it
-pub record IsWithinBounds (f : Function) (p : Program) (cert : Certificate) (run : Run ℤ) (ts : List (List Rational)) : Type 0 where
+pub record IsWithinBounds (f : Function) (p : Program) (cert : Certificate) (run : Run ℤ)
+    (ts : List (List Rational)) : Type 0 where
   pub exact_made : Run Rational
   pub defined : exact_run f ts ≡ Some exact_made
   pub bounded : AllBounded p cert run.outputs exact_made.outputs
 
--- the machine isn't stuck on these rows, each word lies in the least width that the certificate gives its code, each printed value
--- keeps the ends that the source demands of it, and for all rows that may be the true ones the outputs keep their bounds
+-- the machine isn't stuck on these rows, each word lies in the least width that the certificate gives its code, each
+-- printed value keeps the ends that the source demands of it, and for all rows that may be the true ones the outputs
+-- keep their bounds
 pub record IsHonestRun (f : Function) (p : Program) (cert : Certificate) (gs : List (List Rational)) : Type 0 where
   pub run : Run ℤ
   pub own : machine_run p gs ≡ Some run

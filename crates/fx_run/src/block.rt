@@ -1,7 +1,7 @@
 //! Sixteen rows that lie one behind the other, each in its place.
 //!
-//! The trap: all sixteen go through a program together, so the places behind the last row have to hold rows in range too.
-//! The first row of all is therefore put in each place.
+//! The trap: all sixteen go through a program together, so the places behind the last row have to hold rows in range
+//! too. The first row of all is therefore put in each place.
 ghost use Rattle.std.specs.Prelude.{◌≡◌, ◌⊎◌, ◌≤◌, ◌<◌, ◌+◌, ◌*◌, ◌++◌, ◌∷◌, ℕ, List, [], length, map, true, IsTrue};
 ghost use Rattle.fx_rational.specs.Decimal.{decimal_value};
 ghost use Rattle.fx_model.specs.Function.{Input};
@@ -31,8 +31,10 @@ pub(crate) fn put_behind(rows: &mut [Decimal], k: usize, filled: bool, row: &[De
     requires within { k < 16 }
     requires filled { (k ≡ 0) ⊎ IsTrue filled }
     ensures same { length rows.new ≡ length rows.old }
-    ensures rows { first_rows (length row.now) (k + 1) rows.new ≡ first_rows (length row.now) k rows.old ++ row.now ∷ [] }
-    ensures in_range { (is : List Input) → IsInRange is (map decimal_value row.now) → (IsTrue filled → IsBlockInRange is (length row.now) rows.old)
+    ensures rows { first_rows (length row.now) (k + 1) rows.new ≡ first_rows (length row.now) k rows.old ++ row.now
+        ∷ [] }
+    ensures in_range { (is : List Input) → IsInRange is (map decimal_value row.now) →
+        (IsTrue filled → IsBlockInRange is (length row.now) rows.old)
         → IsBlockInRange is (length row.now) rows.new }
 {
     if filled {

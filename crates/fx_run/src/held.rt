@@ -1,5 +1,5 @@
-//! A certified program without states as what a row does: rows are held back until there are sixteen, which go through the
-//! program side by side.
+//! A certified program without states as what a row does: rows are held back until there are sixteen, which go through
+//! the program side by side.
 //!
 //! Where it settles with few of them they go one after the other: sixteen lanes cost as much as three or four rows.
 ghost use Rattle.std.specs.Prelude.{◌≡◌, ◌⊎◌, ◌≤◌, ◌<◌, ◌*◌, ℕ, [], length, map, IfOk, OnOk};
@@ -89,7 +89,8 @@ fn put_in_turn<const B: u32>(
     requires room { HasRoom page.old }
     ensures ready { IsStepReady certified.now registers.new.words registers.new.states }
     ensures none { registers.new.states ≡ [] }
-    ensures put { ArePut certified.now.program (first_rows certified.now.program.inputs count rows.now) page.old page.new }
+    ensures put { ArePut certified.now.program
+        (first_rows certified.now.program.inputs count rows.now) page.old page.new }
 {
     let n = input_count(certified);
     for k in 0..count {
@@ -114,7 +115,8 @@ fn put_side_by_side<const B: u32, L: SideBySide<B>>(
     requires few { count ≤ 16 }
     requires room { HasRoom page.old }
     ensures words { length lanes.new ≡ length certified.now.program.codes }
-    ensures put { ArePut certified.now.program (first_rows certified.now.program.inputs count rows.now) page.old page.new }
+    ensures put { ArePut certified.now.program
+        (first_rows certified.now.program.inputs count rows.now) page.old page.new }
 {
     certified_lanes::<B, L>(certified, lanes, rows);
     for k in 0..count {
@@ -136,7 +138,8 @@ impl<'a, const B: u32, L: SideBySide<B>> HeldStep<'a, B, L> {
         requires lane_room { L.HasRoom }
         requires states { certified.now.program.states ≡ 0 }
         ensures whose { IfOk result (λ s. s.certified.now ≡ certified.now) }
-        ensures can { IfOk result (λ s. CanHold L.HasRoom certified.now B s.registers s.lanes s.rows.items s.held s.filled) }
+        ensures can { IfOk result
+            (λ s. CanHold L.HasRoom certified.now B s.registers s.lanes s.rows.items s.held s.filled) }
         ensures settled { IfOk result (λ s. s.held ≡ 0) }
         ensures start { OnOk result (start_words certified.now.program.codes ≡ []) }
     {
@@ -177,7 +180,8 @@ impl<'a, const B: u32, L: SideBySide<B>> RowStep for HeldStep<'a, B, L> {
 
     ghost head = { λ s. line_of (names_from 1 s.certified.now.program.outputs) };
 
-    ghost printed = { λ s rows. lines_from s.certified.now.program (first_rows s.certified.now.program.inputs s.held s.rows.items ++ rows) [] };
+    ghost printed = { λ s rows. lines_from s.certified.now.program
+        (first_rows s.certified.now.program.inputs s.held s.rows.items ++ rows) [] };
 
     fn function(&self) -> &Function {
         self.certified.function()

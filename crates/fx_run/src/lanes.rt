@@ -25,7 +25,8 @@ pub(crate) fn certified_lanes<const B: u32, L: SideBySide<B>>(
     requires many { length rows.now ≡ 16 * certified.now.program.inputs }
     requires in_range { IsBlockInRange certified.now.function.inputs certified.now.program.inputs rows.now }
     ensures sizes { length registers.new ≡ length certified.now.program.codes }
-    ensures step { (k : ℕ) → k < 16 → machine_step certified.now.program (map decimal_value (row_at certified.now.program.inputs k rows.now)) []
+    ensures step { (k : ℕ) → k < 16 →
+        machine_step certified.now.program (map decimal_value (row_at certified.now.program.inputs k rows.now)) []
         ≡ Some (step_taken certified.now.program (lane k registers.new)) }
 {
     certified.certified();

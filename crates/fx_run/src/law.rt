@@ -7,8 +7,9 @@ use fx_rows::rows_in_range_law;
 use fx_sound::{bound_law, run_law};
 use fx_widths::own_width_law;
 
-/// On the rows of any lines the machine isn't stuck, each word lies in its least width, each printed value keeps the ends that the
-/// source demands of it, and for all rows that may be the true ones the exact run is there and each output is within its certified bound of it.
+/// On the rows of any lines the machine isn't stuck, each word lies in its least width, each printed value keeps the
+/// ends that the source demands of it, and for all rows that may be the true ones the exact run is there and each
+/// output is within its certified bound of it.
 pub fn rows_law(certified: &Certified)
     ensures { RowsLaw certified.now.function certified.now.program certified.now.certificate }
 {

@@ -58,12 +58,17 @@ fn run_in_turn<const B: u32, S: Source<K>, K: Sink>(
     requires width { certified.now.program.width ≡ B }
     requires limit { limit < 2 ^ 64 - 1 }
     ensures done { let o = run_outcome certified.now.function certified.now.program in
-        IfOk result (λ n. IfSome (S.left source.old) (λ all. IsDone (o (lines_in all)) n (K.taken sink.old) (K.taken sink.new))) }
+        IfOk result (λ n. IfSome (S.left source.old)
+        (λ all. IsDone (o (lines_in all)) n (K.taken sink.old) (K.taken sink.new))) }
     ensures end { OnOk result (IsAtEnd (S.left source.new)) }
     ensures due { let o = run_outcome certified.now.function certified.now.program in
-        IfErr result (IsDue row_fault_of o (S.left source.old) (S.left source.new) (K.taken sink.old) (K.taken sink.new)) }
-    ensures prompt { HoldsEachTime (IsAnswered (run_outcome certified.now.function certified.now.program) (S.left source.old) (K.taken sink.old)) (S.asked source.old) (S.asked source.new) }
-    ensures taken { (taken : List ℕ) × Consumes (S.left source.old) (S.left source.new) taken × (IsErrOf result TooLong ↔ (limit < length taken)) }
+        IfErr result (IsDue row_fault_of o (S.left source.old) (S.left source.new) (K.taken sink.old)
+        (K.taken sink.new)) }
+    ensures prompt { HoldsEachTime
+        (IsAnswered (run_outcome certified.now.function certified.now.program) (S.left source.old) (K.taken sink.old))
+        (S.asked source.old) (S.asked source.new) }
+    ensures taken { (taken : List ℕ) × Consumes (S.left source.old) (S.left source.new) taken ×
+        (IsErrOf result TooLong ↔ (limit < length taken)) }
     ensures grown { Grows (K.taken sink.old) (K.taken sink.new) }
     ensures read_fault { IsErrOf result ReadFault → Rose (S.faults source.old) (S.faults source.new) }
     ensures write_fault { IsErrOf result WriteFault → Rose (K.faults sink.old) (K.faults sink.new) }
@@ -90,12 +95,17 @@ fn run_held<const B: u32, L: SideBySide<B>, S: Source<K>, K: Sink>(
     requires states { certified.now.program.states ≡ 0 }
     requires limit { limit < 2 ^ 64 - 1 }
     ensures done { let o = run_outcome certified.now.function certified.now.program in
-        IfOk result (λ n. IfSome (S.left source.old) (λ all. IsDone (o (lines_in all)) n (K.taken sink.old) (K.taken sink.new))) }
+        IfOk result (λ n. IfSome (S.left source.old)
+        (λ all. IsDone (o (lines_in all)) n (K.taken sink.old) (K.taken sink.new))) }
     ensures end { OnOk result (IsAtEnd (S.left source.new)) }
     ensures due { let o = run_outcome certified.now.function certified.now.program in
-        IfErr result (IsDue row_fault_of o (S.left source.old) (S.left source.new) (K.taken sink.old) (K.taken sink.new)) }
-    ensures prompt { HoldsEachTime (IsAnswered (run_outcome certified.now.function certified.now.program) (S.left source.old) (K.taken sink.old)) (S.asked source.old) (S.asked source.new) }
-    ensures taken { (taken : List ℕ) × Consumes (S.left source.old) (S.left source.new) taken × (IsErrOf result TooLong ↔ (limit < length taken)) }
+        IfErr result (IsDue row_fault_of o (S.left source.old) (S.left source.new) (K.taken sink.old)
+        (K.taken sink.new)) }
+    ensures prompt { HoldsEachTime
+        (IsAnswered (run_outcome certified.now.function certified.now.program) (S.left source.old) (K.taken sink.old))
+        (S.asked source.old) (S.asked source.new) }
+    ensures taken { (taken : List ℕ) × Consumes (S.left source.old) (S.left source.new) taken ×
+        (IsErrOf result TooLong ↔ (limit < length taken)) }
     ensures grown { Grows (K.taken sink.old) (K.taken sink.new) }
     ensures read_fault { IsErrOf result ReadFault → Rose (S.faults source.old) (S.faults source.new) }
     ensures write_fault { IsErrOf result WriteFault → Rose (K.faults sink.old) (K.faults sink.new) }
@@ -128,12 +138,17 @@ fn run_at<const B: u32, S: Source<K>, K: Sink>(
     requires width { certified.now.program.width ≡ B }
     requires limit { limit < 2 ^ 64 - 1 }
     ensures done { let o = run_outcome certified.now.function certified.now.program in
-        IfOk result (λ n. IfSome (S.left source.old) (λ all. IsDone (o (lines_in all)) n (K.taken sink.old) (K.taken sink.new))) }
+        IfOk result (λ n. IfSome (S.left source.old)
+        (λ all. IsDone (o (lines_in all)) n (K.taken sink.old) (K.taken sink.new))) }
     ensures end { OnOk result (IsAtEnd (S.left source.new)) }
     ensures due { let o = run_outcome certified.now.function certified.now.program in
-        IfErr result (IsDue row_fault_of o (S.left source.old) (S.left source.new) (K.taken sink.old) (K.taken sink.new)) }
-    ensures prompt { HoldsEachTime (IsAnswered (run_outcome certified.now.function certified.now.program) (S.left source.old) (K.taken sink.old)) (S.asked source.old) (S.asked source.new) }
-    ensures taken { (taken : List ℕ) × Consumes (S.left source.old) (S.left source.new) taken × (IsErrOf result TooLong ↔ (limit < length taken)) }
+        IfErr result (IsDue row_fault_of o (S.left source.old) (S.left source.new) (K.taken sink.old)
+        (K.taken sink.new)) }
+    ensures prompt { HoldsEachTime
+        (IsAnswered (run_outcome certified.now.function certified.now.program) (S.left source.old) (K.taken sink.old))
+        (S.asked source.old) (S.asked source.new) }
+    ensures taken { (taken : List ℕ) × Consumes (S.left source.old) (S.left source.new) taken ×
+        (IsErrOf result TooLong ↔ (limit < length taken)) }
     ensures grown { Grows (K.taken sink.old) (K.taken sink.new) }
     ensures read_fault { IsErrOf result ReadFault → Rose (S.faults source.old) (S.faults source.new) }
     ensures write_fault { IsErrOf result WriteFault → Rose (K.faults sink.old) (K.faults sink.new) }
@@ -163,7 +178,8 @@ fn width_of(certified: &Certified) -> u32
 ///
 /// Lines end at LF, and a CR before it and the mark EF BB BF at the front are no part of one. The first line that isn't
 /// blank names the columns, in any order; the others are rows, one for each state of the machine after the other. Each
-/// row is written before a line is asked for that the bytes taken don't hold whole. More than `limit` bytes are TooLong.
+/// row is written before a line is asked for that the bytes taken don't hold whole. More than `limit` bytes are
+/// TooLong.
 pub fn run_rows<S: Source<K>, K: Sink>(
     alloc: Global,
     certified: &Certified,
@@ -173,12 +189,17 @@ pub fn run_rows<S: Source<K>, K: Sink>(
 ) -> Result<u64, RunFault>
     requires limit { limit < 2 ^ 64 - 1 }
     ensures done { let o = run_outcome certified.now.function certified.now.program in
-        IfOk result (λ n. IfSome (S.left source.old) (λ all. IsDone (o (lines_in all)) n (K.taken sink.old) (K.taken sink.new))) }
+        IfOk result (λ n. IfSome (S.left source.old)
+        (λ all. IsDone (o (lines_in all)) n (K.taken sink.old) (K.taken sink.new))) }
     ensures end { OnOk result (IsAtEnd (S.left source.new)) }
     ensures due { let o = run_outcome certified.now.function certified.now.program in
-        IfErr result (IsDue row_fault_of o (S.left source.old) (S.left source.new) (K.taken sink.old) (K.taken sink.new)) }
-    ensures prompt { HoldsEachTime (IsAnswered (run_outcome certified.now.function certified.now.program) (S.left source.old) (K.taken sink.old)) (S.asked source.old) (S.asked source.new) }
-    ensures taken { (taken : List ℕ) × Consumes (S.left source.old) (S.left source.new) taken × (IsErrOf result TooLong ↔ (limit < length taken)) }
+        IfErr result (IsDue row_fault_of o (S.left source.old) (S.left source.new) (K.taken sink.old)
+        (K.taken sink.new)) }
+    ensures prompt { HoldsEachTime
+        (IsAnswered (run_outcome certified.now.function certified.now.program) (S.left source.old) (K.taken sink.old))
+        (S.asked source.old) (S.asked source.new) }
+    ensures taken { (taken : List ℕ) × Consumes (S.left source.old) (S.left source.new) taken ×
+        (IsErrOf result TooLong ↔ (limit < length taken)) }
     ensures honest { RowsLaw certified.now.function certified.now.program certified.now.certificate }
     ensures grown { Grows (K.taken sink.old) (K.taken sink.new) }
     ensures read_fault { IsErrOf result ReadFault → Rose (S.faults source.old) (S.faults source.new) }

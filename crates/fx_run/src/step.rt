@@ -30,10 +30,12 @@ pub(crate) fn run_row<const B: u32>(
     requires in_range { IsInRange certified.now.function.inputs (map decimal_value row.now) }
     requires ready { IsStepReady certified.now registers.old.words registers.old.states }
     requires room { HasLineRoom page.old }
-    ensures step { machine_step certified.now.program (map decimal_value row.now) registers.old.states ≡ Some (step_taken certified.now.program registers.new.words) }
+    ensures step { machine_step certified.now.program (map decimal_value row.now) registers.old.states
+        ≡ Some (step_taken certified.now.program registers.new.words) }
     ensures states { registers.new.states ≡ (step_taken certified.now.program registers.new.words).next }
     ensures ready { IsStepReady certified.now registers.new.words registers.new.states }
-    ensures line { page.new ≡ page.old ++ step_line certified.now.program (step_taken certified.now.program registers.new.words) }
+    ensures line { page.new ≡ page.old
+        ++ step_line certified.now.program (step_taken certified.now.program registers.new.words) }
     ensures short { length page.new ≤ length page.old + line_room }
 {
     certified_step::<B>(certified, registers, row);

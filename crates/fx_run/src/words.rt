@@ -121,7 +121,8 @@ impl<'a, const B: u32, L: SideBySide<B>> StepWords for Lane<'a, B, L> {
 pub fn put_words<W: StepWords>(page: &mut Page, program: &Program, step: &W)
     requires words { length (W.words step.now) ≡ length program.now.codes }
     requires room { HasLineRoom page.old }
-    ensures line { page.new ≡ page.old ++ line_of (word_texts (step_taken program.now (W.words step.now)).outputs (output_points program.now)) }
+    ensures line { page.new ≡ page.old
+        ++ line_of (word_texts (step_taken program.now (W.words step.now)).outputs (output_points program.now)) }
     ensures short { length page.new ≤ length page.old + line_room }
 {
     let count = output_count(program);

@@ -16,7 +16,8 @@ use Rattle.fx_rust.specs.Around.{opening, closing}
 
 -- ---- one statement more
 -- behind the texts of a list that of one more
-one_more : {A : Type 0} (f : A → List ℕ) (xs : List A) (x : A) (old out new : List ℕ) → out ≡ old ++ flat_map f xs → new ≡ out ++ f x
+one_more : {A : Type 0} (f : A → List ℕ) (xs : List A) (x : A) (old out new : List ℕ) → out ≡ old ++ flat_map f xs →
+    new ≡ out ++ f x
     → new ≡ old ++ flat_map f (xs ++ x ∷ [])
 one_more f xs x old out new p q = q ∙ ap (λ o. o ++ f x) p ∙ flat_map_more f old xs x
 
@@ -24,10 +25,13 @@ lets_push : (k : ℕ) (ns : List ℕ) (cs : List Code) (c : Code)
     → lets_from k ns (cs ++ c ∷ []) ≡ lets_from k ns cs ++ let_of (k + length cs) (at 0 ns (k + length cs)) c ∷ []
 lets_push k ns [] c = let a : k ≡ k + 0 = omega arith in λ i. let_of (a i) (at 0 ns (a i)) c ∷ []
 lets_push k ns (d ∷ cs) c = let a : (k + 1) + length cs ≡ k + suc (length cs) = omega arith in
-    ap (λ t. let_of k (at 0 ns k) d ∷ t) (lets_push (k + 1) ns cs c ∙ (λ i. lets_from (k + 1) ns cs ++ let_of (a i) (at 0 ns (a i)) c ∷ []))
+    ap (λ t. let_of k (at 0 ns k) d ∷ t) (lets_push (k + 1) ns cs c
+    ∙ (λ i. lets_from (k + 1) ns cs ++ let_of (a i) (at 0 ns (a i)) c ∷ []))
 
-pub let_more : {X : Type 0} (f : X → Code) (ns : List ℕ) (xs : List X) (k : ℕ) (d : X) (old out new : List ℕ) → k < length xs
-    → out ≡ old ++ flat_map let_text (lets_from 0 ns (map f (take k xs))) → new ≡ out ++ let_text (let_of k (at 0 ns k) (f (get_or xs k d)))
+pub let_more : {X : Type 0} (f : X → Code) (ns : List ℕ) (xs : List X) (k : ℕ) (d : X) (old out new : List ℕ) →
+    k < length xs
+    → out ≡ old ++ flat_map let_text (lets_from 0 ns (map f (take k xs))) →
+    new ≡ out ++ let_text (let_of k (at 0 ns k) (f (get_or xs k d)))
     → new ≡ old ++ flat_map let_text (lets_from 0 ns (map f (take (k + 1) xs)))
 let_more f ns xs k d old out new lt p q =
     let cs = map f (take k xs) in let c = f (get_or xs k d) in
@@ -36,11 +40,13 @@ let_more f ns xs k d old out new lt p q =
     ∙ ap (λ ls. old ++ flat_map let_text ls) (sym (ap (lets_from 0 ns) (map_more f xs k d lt) ∙ lets_push 0 ns cs c
     ∙ ap (λ (j : ℕ). lets_from 0 ns cs ++ let_of j (at 0 ns j) c ∷ []) many))
 
-pub store_more : (c m : ℕ) (old out new : List ℕ) → out ≡ old ++ flat_map store_text (stores_of c m) → new ≡ out ++ store_text (store_of m (c + m))
+pub store_more : (c m : ℕ) (old out new : List ℕ) → out ≡ old ++ flat_map store_text (stores_of c m) →
+    new ≡ out ++ store_text (store_of m (c + m))
     → new ≡ old ++ flat_map store_text (stores_of c (m + 1))
 store_more c m old out new p q =
     one_more store_text (stores_of c m) (store_of m (c + m)) old out new p q
-    ∙ ap (λ ts. old ++ flat_map store_text ts) (sym (map-range_with_len_more (λ k. store_of k (c + k)) 0 m m (let e : 0 + m ≡ m = omega arith in e)))
+    ∙ ap (λ ts. old ++ flat_map store_text ts)
+    (sym (map-range_with_len_more (λ k. store_of k (c + k)) 0 m m (let e : 0 + m ≡ m = omega arith in e)))
 
 names_push : (c m : ℕ) → range_with_len c (m + 1) ≡ range_with_len c m ++ (c + m) ∷ []
 names_push c zero = let a : c ≡ c + 0 = omega arith in λ i. a i ∷ []
@@ -53,8 +59,10 @@ join_push : (xs : List ℕ) (x : ℕ) → 0 < length xs
 join_push [] x some = absurd (omega arith)
 join_push (y ∷ xs) x some = sym (flat_map_more (λ n. codes ", " ++ long_text n) (long_text y) xs x)
 
-pub result_more : (c m : ℕ) (old out comma new : List ℕ) → 0 < m → out ≡ old ++ join_by long_text (codes ", ") (range_with_len c m)
-    → comma ≡ out ++ codes ", " → new ≡ comma ++ long_text (c + m) → new ≡ old ++ join_by long_text (codes ", ") (range_with_len c (m + 1))
+pub result_more : (c m : ℕ) (old out comma new : List ℕ) → 0 < m →
+    out ≡ old ++ join_by long_text (codes ", ") (range_with_len c m)
+    → comma ≡ out ++ codes ", " → new ≡ comma ++ long_text (c + m) →
+    new ≡ old ++ join_by long_text (codes ", ") (range_with_len c (m + 1))
 result_more c m old out comma new some p q r =
     let x = long_text (c + m) in let so_far = join_by long_text (codes ", ") (range_with_len c m) in
     let joined : ((old ++ so_far) ++ codes ", ") ++ x ≡ old ++ (so_far ++ (codes ", " ++ x)) = simp append_assoc in
@@ -64,29 +72,38 @@ result_more c m old out comma new some p q r =
 
 -- ---- what is rounded
 -- an expression between the two
-pub rounded_text : (r : Round) (e : Wide) (s : ℕ) → wide_text (rounded r e s) ≡ opening r s ++ (wide_text e ++ closing r s)
+pub rounded_text : (r : Round) (e : Wide) (s : ℕ) →
+    wide_text (rounded r e s) ≡ opening r s ++ (wide_text e ++ closing r s)
 rounded_text Floor e s = refl
 rounded_text Nearest e zero = refl
 rounded_text Nearest e (suc s) = ap (λ t. codes "((" ++ t) (simp append_assoc)
 
 -- what was written in three pieces
-pub between : (r : Round) (e : Wide) (s : ℕ) (old before middle new : List ℕ) → before ≡ old ++ opening r s → middle ≡ before ++ wide_text e
+pub between : (r : Round) (e : Wide) (s : ℕ) (old before middle new : List ℕ) → before ≡ old ++ opening r s →
+    middle ≡ before ++ wide_text e
     → new ≡ middle ++ closing r s → new ≡ old ++ wide_text (rounded r e s)
 between r e s old before middle new p q h =
-    let joined : ((old ++ opening r s) ++ wide_text e) ++ closing r s ≡ old ++ (opening r s ++ (wide_text e ++ closing r s)) = simp append_assoc in
-    h ∙ ap (λ o. o ++ closing r s) (q ∙ ap (λ o. o ++ wide_text e) p) ∙ joined ∙ ap (λ t. old ++ t) (sym (rounded_text r e s))
+    let joined : ((old ++ opening r s) ++ wide_text e) ++ closing r s ≡ old
+    ++ (opening r s ++ (wide_text e ++ closing r s)) = simp append_assoc in
+    h ∙ ap (λ o. o ++ closing r s) (q ∙ ap (λ o. o ++ wide_text e) p) ∙ joined
+    ∙ ap (λ t. old ++ t) (sym (rounded_text r e s))
 
 -- ---- the head
 -- a comment and a signature, of a program with this inside
-pub head_is : (q : Program) (version width inputs states outputs : ℕ) (name title : List ℕ) (cs : List program.Code) (old a new : List ℕ)
-    → title ≡ name → program_with version width name inputs states outputs cs ≡ q → a ≡ old ++ codes "// " ++ title ++ codes ", width " ++ decimal width
+pub head_is : (q : Program) (version width inputs states outputs : ℕ) (name title : List ℕ) (cs : List program.Code)
+    (old a new : List ℕ)
+    → title ≡ name → program_with version width name inputs states outputs cs ≡ q →
+    a ≡ old ++ codes "// " ++ title ++ codes ", width " ++ decimal width
     → new ≡ a ++ codes "\npub fn step(s: &mut [i64; " ++ decimal states ++ codes "], x: &[i64; " ++ decimal inputs ++
     codes "]) -> [i64; " ++ decimal outputs ++ codes "] {\n"
     → new ≡ old ++ head_text (routine_of q [])
 head_is q version width inputs states outputs name title cs old a new same view p h =
-    let signature = λ (o : List ℕ). o ++ codes "\npub fn step(s: &mut [i64; " ++ decimal states ++ codes "], x: &[i64; " ++ decimal inputs ++
+    let signature =
+    λ (o : List ℕ). o ++ codes "\npub fn step(s: &mut [i64; " ++ decimal states ++ codes "], x: &[i64; "
+    ++ decimal inputs ++
     codes "]) -> [i64; " ++ decimal outputs ++ codes "] {\n" in
     let joined : signature (old ++ codes "// " ++ title ++ codes ", width " ++ decimal width) ≡
     old ++ head_text (routine_of (program_with version width title inputs states outputs cs) []) = simp append_assoc in
-    h ∙ ap signature p ∙ joined ∙ ap (λ t. old ++ head_text (routine_of (program_with version width t inputs states outputs cs) [])) same
+    h ∙ ap signature p ∙ joined
+    ∙ ap (λ t. old ++ head_text (routine_of (program_with version width t inputs states outputs cs) [])) same
     ∙ ap (λ r. old ++ head_text (routine_of r [])) view

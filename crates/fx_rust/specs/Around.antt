@@ -10,5 +10,6 @@ opening r s = codes "("
 
 -- that sum's end, and the shift
 abbrev pub closing : Round → ℕ → List ℕ
-closing Nearest (suc s) = codes " + (1i128 << " ++ (decimal s ++ (codes "))" ++ (codes " >> " ++ (decimal (suc s) ++ codes ")"))))
+closing Nearest (suc s) =
+    codes " + (1i128 << " ++ (decimal s ++ (codes "))" ++ (codes " >> " ++ (decimal (suc s) ++ codes ")"))))
 closing r s = codes " >> " ++ (decimal s ++ codes ")")

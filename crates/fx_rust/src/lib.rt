@@ -1,8 +1,8 @@
 //! A program as Rust text: one function that does a step, for code that knows nothing of `fixd`.
 //!
-//! What the text is and what it does stands in `fx_statements`; here it is written, piece by piece, so that a kind of code is
-//! one function in `value`. A way to round is asked for in two places, before what is rounded and behind it (`rounding`).
-//! The trap: the text says nothing of the states' start words, so whoever calls it brings them.
+//! What the text is and what it does stands in `fx_statements`; here it is written, piece by piece, so that a kind of
+//! code is one function in `value`. A way to round is asked for in two places, before what is rounded and behind it
+//! (`rounding`). The trap: the text says nothing of the states' start words, so whoever calls it brings them.
 #![tactic(auto)]
 
 mod piece;

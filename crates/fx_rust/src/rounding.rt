@@ -1,6 +1,7 @@
 //! What stands around an expression that is shifted to the right and rounded.
 //!
-//! The trap: by no shift nothing is dropped, so there the nearest has no half. No lawful code asks for it, but the clauses do.
+//! The trap: by no shift nothing is dropped, so there the nearest has no half. No lawful code asks for it, but the
+//! clauses do.
 
 ghost use Rattle.std.specs.Prelude.{◌≡◌, ◌++◌, ◌<◌, ◌-◌, codes, decimal, OnOk};
 ghost use Rattle.fx_program.specs.CodeView.{round_of};

@@ -64,7 +64,8 @@ fn put_sum(
     b: u32,
     sb: i32,
 ) -> Result<(), AllocError>
-    ensures { OnOk result (out.new.items ≡ out.old.items ++ codes "(" ++ wide_text (operand machine.Floor a sa) ++ operator.now ++ wide_text (operand machine.Floor b sb) ++ codes ")") }
+    ensures { OnOk result (out.new.items ≡ out.old.items ++ codes "(" ++ wide_text (operand machine.Floor a sa)
+        ++ operator.now ++ wide_text (operand machine.Floor b sb) ++ codes ")") }
 {
     put(out, b"(")?;
     put_operand(out, Round::Floor, a, i64::from(sa))?;
@@ -102,7 +103,8 @@ fn put_rounded_product(
 
 /// A quotient of a raised dividend.
 fn put_quotient(out: &mut Vec<u8>, a: u32, b: u32, s: u64) -> Result<(), AllocError>
-    ensures { OnOk result (out.new.items ≡ out.old.items ++ wide_text (Two Over (Shifted Left (Widened a) s) (Widened b))) }
+    ensures { OnOk result (out.new.items ≡ out.old.items
+        ++ wide_text (Two Over (Shifted Left (Widened a) s) (Widened b))) }
 {
     put(out, b"(")?;
     put_raised(out, a, s)?;

@@ -1,7 +1,7 @@
 //! The best polished attempt so far.
 //!
-//! A plan's errors are those that the checker certifies, so the best is known before anything is written. It stays until
-//! another is better: no bound above its, and one below.
+//! A plan's errors are those that the checker certifies, so the best is known before anything is written. It stays
+//! until another is better: no bound above its, and one below.
 
 use crate::attempt::{Attempt, attempted};
 use crate::front::Trial;
@@ -67,7 +67,8 @@ fn is_best(attempt: &Attempt, best: &Option<Polished>) -> bool {
     }
 }
 
-/// The polished attempt of a draft on grids, if there is an attempt. So many plans may be looked at; the others are left.
+/// The polished attempt of a draft on grids, if there is an attempt. So many plans may be looked at; the others are
+/// left.
 pub fn polished_attempt(
     alloc: Global,
     task: Task<'_>,

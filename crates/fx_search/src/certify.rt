@@ -1,7 +1,7 @@
 //! From an attempt to a certified program.
 //!
-//! What is written is judged by the checker. Where it refuses, a formula mostly left 128 bits, and the same attempt is made
-//! on coarser grids.
+//! What is written is judged by the checker. Where it refuses, a formula mostly left 128 bits, and the same attempt is
+//! made on coarser grids.
 ghost use Rattle.std.specs.Prelude.{IfOk};
 ghost use Rattle.fx_checker.specs.Answers.{IsOffered};
 

@@ -1,7 +1,8 @@
-//! Climbing: from the best drafts so far by small moves, with some heat, and back to one of them where nothing is gained.
+//! Climbing: from the best drafts so far by small moves, with some heat, and back to one of them where nothing is
+//! gained.
 //!
-//! Which tries begin at the source, and all that is drawn, doesn't depend on how many tries there are in all: more tries are
-//! the same ones and others behind them.
+//! Which tries begin at the source, and all that is drawn, doesn't depend on how many tries there are in all: more
+//! tries are the same ones and others behind them.
 
 use crate::front::{Front, Trial};
 use crate::task::Task;

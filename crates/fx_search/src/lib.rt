@@ -1,19 +1,27 @@
 //! The search for a small certified bound: many forms of a function are tried, and the best is certified.
 //!
-//! A draft (`fx_moves`) is the function after some rewriting steps; an attempt gives it ranges by `fx_ranges`, points by
-//! `fx_points` and errors by `fx_planning`, and its cost is one number to be lowered. All that is decided is drawn from one
-//! seeded generator by `draw`, and no number has a floating point, so that a seed gives one answer on every machine.
+//! A draft (`fx_moves`) is the function after some rewriting steps; an attempt gives it ranges by `fx_ranges`, points
+//! by `fx_points` and errors by `fx_planning`, and its cost is one number to be lowered. All that is decided is drawn
+//! from one seeded generator by `draw`, and no number has a floating point, so that a seed gives one answer on every
+//! machine.
 //!
-//! - The first try is the function as it stands, and some of the next ones begin at it too, with common factors taken out.
-//! - Then it climbs (`climb`), by random moves from the current draft. A draft that costs up to a tenth more may be taken up
-//!   too, and after twenty tries without gain one of the five best is (`front`). Where there is no plan, the draft that fails
+//! - The first try is the function as it stands, and some of the next ones begin at it too, with common factors taken
+//!   out.
+//! - Then it climbs (`climb`), by random moves from the current draft. A draft that costs up to a tenth more may be
+//!   taken up
+//! too, and after twenty tries without gain one of the five best is (`front`). Where there is no plan, the draft that
+//! fails
 //!   further on is the cheaper one.
-//! - After 1, 2, 5, 10, 20, .. tries the best are polished (`polish`), each point and each word moved by a little, and written.
-//!   Where the checker or a text refuses it, its numbers left 128 bits, and it is made again on coarser grids (`certify`).
-//!   What is certified stays until it is bettered, and no try depends on how many follow, so more tries give no worse answer.
+//! - After 1, 2, 5, 10, 20, .. tries the best are polished (`polish`), each point and each word moved by a little, and
+//!   written.
+//! Where the checker or a text refuses it, its numbers left 128 bits, and it is made again on coarser grids
+//! (`certify`).
+//! What is certified stays until it is bettered, and no try depends on how many follow, so more tries give no worse
+//! answer.
 //!
-//! Nothing rests on any of this: what is found has passed `fx_checker::check`. So `search` promises that the function, its
-//! name, the width and how codes round are those that were asked for, and that it returns. How good its answers are, no clause says.
+//! Nothing rests on any of this: what is found has passed `fx_checker::check`. So `search` promises that the function,
+//! its name, the width and how codes round are those that were asked for, and that it returns. How good its answers
+//! are, no clause says.
 //!
 //! The trap: a draft's steps are for the source's function, and its nodes for its own.
 #![tactic(auto)]

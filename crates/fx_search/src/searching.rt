@@ -1,7 +1,7 @@
 //! The search, from its first draw to what the checker has certified.
 //!
-//! At certain tries, the marks, the best drafts so far are polished, and the best of all is certified at the end. What was found up to a
-//! mark doesn't depend on how many tries follow, so more tries make no answer worse.
+//! At certain tries, the marks, the best drafts so far are polished, and the best of all is certified at the end. What
+//! was found up to a mark doesn't depend on how many tries follow, so more tries make no answer worse.
 ghost use Rattle.std.specs.Prelude.{IfOk};
 ghost use Rattle.fx_checker.specs.Answers.{IsOffered};
 
@@ -36,8 +36,8 @@ fn is_mark(tries: u32) -> bool {
     first == 1 || first == 2 || first == 5
 }
 
-/// How many plans are looked at in polishing after so many tries. Between the marks nothing is polished, so that what is
-/// found then is found at the next mark too.
+/// How many plans are looked at in polishing after so many tries. Between the marks nothing is polished, so that what
+/// is found then is found at the next mark too.
 fn plans_after(nodes: u32, tries: u32) -> u32 {
     if is_mark(tries) {
         let plans = tries.saturating_mul(2).saturating_add(PLANS);
@@ -187,9 +187,9 @@ fn best(
 
 /// The best certified program that the search finds in so many tries, if it finds one.
 ///
-/// `held` has the bounds of the answer that stands so far, one for each output, and none of them is exceeded; it is empty
-/// where there is no answer. The first try is the function as it stands. Boxes and templates of states it doesn't look for,
-/// so it finds nothing for a function that has some.
+/// `held` has the bounds of the answer that stands so far, one for each output, and none of them is exceeded; it is
+/// empty where there is no answer. The first try is the function as it stands. Boxes and templates of states it doesn't
+/// look for, so it finds nothing for a function that has some.
 pub fn search(
     alloc: Global,
     function: &Function,

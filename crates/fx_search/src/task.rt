@@ -55,8 +55,8 @@ fn held_bounds(alloc: Global, held: &[Dyadic]) -> Result<Vec<Real>, Memory> {
     Ok(bounds)
 }
 
-/// About the bounds of the function as it stands, or those of the answer where no attempt is made of that. They don't depend on the
-/// tries, so that more of them go the same way.
+/// About the bounds of the function as it stands, or those of the answer where no attempt is made of that. They don't
+/// depend on the tries, so that more of them go the same way.
 pub fn references(
     alloc: Global,
     function: &Function,

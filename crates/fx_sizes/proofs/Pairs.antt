@@ -13,14 +13,16 @@ ArePairs P k (node ∷ nodes) (x ∷ xs) = P k node x × ArePairs P (k + 1) node
 ArePairs P k [] (x ∷ xs) = ⊥
 ArePairs P k (node ∷ nodes) [] = ⊥
 
-pub pairs_length : {X : Type 0} (P : ℕ → Node → X → Type 0) (k : ℕ) (nodes : List Node) (xs : List X) → ArePairs P k nodes xs → length nodes ≡ length xs
+pub pairs_length : {X : Type 0} (P : ℕ → Node → X → Type 0) (k : ℕ) (nodes : List Node) (xs : List X) →
+    ArePairs P k nodes xs → length nodes ≡ length xs
 pairs_length P k [] [] h = refl
 pairs_length P k (node ∷ nodes) (x ∷ xs) h = let l = pairs_length P (k + 1) nodes xs h.1 in omega (arith, l)
 pairs_length P k [] (x ∷ xs) h = absurd h
 pairs_length P k (node ∷ nodes) [] h = absurd h
 
 -- two facts of each pair give a third
-pub pairs_give : {X : Type 0} (P Q R : ℕ → Node → X → Type 0) → ((k : ℕ) (node : Node) (x : X) → P k node x → Q k node x → R k node x) →
+pub pairs_give : {X : Type 0} (P Q R : ℕ → Node → X → Type 0) →
+    ((k : ℕ) (node : Node) (x : X) → P k node x → Q k node x → R k node x) →
     (k : ℕ) (nodes : List Node) (xs : List X) → ArePairs P k nodes xs → ArePairs Q k nodes xs → ArePairs R k nodes xs
 pairs_give P Q R f k [] [] h g = tt
 pairs_give P Q R f k (node ∷ nodes) (x ∷ xs) h g = (f k node x h.0 g.0, pairs_give P Q R f (k + 1) nodes xs h.1 g.1)
@@ -29,7 +31,8 @@ pairs_give P Q R f k (node ∷ nodes) [] h g = absurd h
 
 -- ---- a fold
 -- what holds of node k and its value x among the values ws of all nodes: it is what the step makes of all of them
-pub record IsFolded {X : Type 0} (none : X) (step : List X → Node → X) (i s : ℕ) (ws : List X) (k : ℕ) (node : Node) (x : X) : Type 0 where
+pub record IsFolded {X : Type 0} (none : X) (step : List X → Node →
+    X) (i s : ℕ) (ws : List X) (k : ℕ) (node : Node) (x : X) : Type 0 where
   pub is : x ≡ step ws node
   pub at : at none ws k ≡ x
   pub below : k < length ws
@@ -37,27 +40,35 @@ pub record IsFolded {X : Type 0} (none : X) (step : List X → Node → X) (i s 
 
 -- values behind its operands change nothing for a node
 abbrev pub IsKept : {X : Type 0} → (List X → Node → X) → ℕ → ℕ → Type 0
-IsKept {X} step i s = (ws more : List X) (node : Node) → IsInPlace i s (length ws) node → step ws node ≡ step (ws ++ more) node
+IsKept {X} step i s =
+    (ws more : List X) (node : Node) → IsInPlace i s (length ws) node → step ws node ≡ step (ws ++ more) node
 
 -- a fold takes each node's value behind those before it
 pub record IsFold {X : Type 0} (step : List X → Node → X) (after : List Node → List X → List X) : Type 0 where
   pub ends : (ws : List X) → after [] ws ≡ ws
-  pub goes_on : (node : Node) (nodes : List Node) (ws : List X) → after (node ∷ nodes) ws ≡ after nodes (ws ++ step ws node ∷ [])
+  pub goes_on : (node : Node) (nodes : List Node) (ws : List X) →
+      after (node ∷ nodes) ws ≡ after nodes (ws ++ step ws node ∷ [])
 
 -- the values ws in front and then one for each node
-pub record AreFolded {X : Type 0} (none : X) (step : List X → Node → X) (i s : ℕ) (nodes : List Node) (ws all : List X) : Type 0 where
+pub record AreFolded {X : Type 0} (none : X) (step : List X → Node →
+    X) (i s : ℕ) (nodes : List Node) (ws all : List X) : Type 0 where
   pub rest : List X
   pub is : all ≡ ws ++ rest
   pub pairs : ArePairs (IsFolded none step i s all) (length ws) nodes rest
 
-pub folded : {X : Type 0} (none : X) (step : List X → Node → X) (after : List Node → List X → List X) (i s : ℕ) → IsFold step after → IsKept step i s →
-    (nodes : List Node) (ws : List X) → AreInPlace i s (length ws) nodes → AreFolded none step i s nodes ws (after nodes ws)
+pub folded : {X : Type 0} (none : X) (step : List X → Node → X) (after : List Node → List X → List X) (i s : ℕ) →
+    IsFold step after → IsKept step i s →
+    (nodes : List Node) (ws : List X) → AreInPlace i s (length ws) nodes →
+    AreFolded none step i s nodes ws (after nodes ws)
 folded none step after i s fold kept [] ws h = record { rest = []; is = fold.ends ws ∙ sym (append-nil ws); pairs = tt }
 folded {X} none step after i s fold kept (node ∷ nodes) ws h =
     let x = step ws node in
     let long = length_push ws x in
-    let f = folded none step after i s fold kept nodes (ws ++ x ∷ []) (subst (λ (k : ℕ). AreInPlace i s k nodes) (sym long) h.1) in
-    let all : after (node ∷ nodes) ws ≡ ws ++ x ∷ f.rest = fold.goes_on node nodes ws ∙ f.is ∙ append_assoc ws (x ∷ []) f.rest in
+    let f =
+    folded none step after i s fold kept nodes (ws ++ x ∷ [])
+    (subst (λ (k : ℕ). AreInPlace i s k nodes) (sym long) h.1) in
+    let all : after (node ∷ nodes) ws ≡ ws ++ x ∷ f.rest = fold.goes_on node nodes ws ∙ f.is
+    ∙ append_assoc ws (x ∷ []) f.rest in
     record {
       rest = x ∷ f.rest;
       is = all;
@@ -68,7 +79,9 @@ folded {X} none step after i s fold kept (node ∷ nodes) ws h =
           below = let l = ap length all in let m = length-append ws (x ∷ f.rest) in omega (arith, l, m);
           ordered = h.0;
         },
-        subst (λ (zs : List X). ArePairs (IsFolded none step i s zs) (length ws + 1) nodes f.rest) (sym (fold.goes_on node nodes ws))
-            (subst (λ (k : ℕ). ArePairs (IsFolded none step i s (after nodes (ws ++ x ∷ []))) k nodes f.rest) long f.pairs),
+        subst (λ (zs : List X). ArePairs (IsFolded none step i s zs) (length ws + 1) nodes f.rest)
+            (sym (fold.goes_on node nodes ws))
+            (subst (λ (k : ℕ). ArePairs
+            (IsFolded none step i s (after nodes (ws ++ x ∷ []))) k nodes f.rest) long f.pairs),
       );
     }

@@ -20,8 +20,10 @@ size_above (pos n) b = omega (arith, ints)
 size_above (negsuc n) b = omega (arith, ints)
 
 size_below : (t : ℤ) (b : ℕ) → (neg_ℤ (pos (unsigned_abs t)) *ℤ pos b) ≤ℤ (t *ℤ pos b)
-size_below (pos n) b = mul_le_right {c = pos b} (let l : neg_ℤ (pos n) ≤ℤ pos n = omega (arith, ints) in l) (omega (arith, ints))
-size_below (negsuc n) b = mul_le_right {c = pos b} (let l : neg_ℤ (pos (suc n)) ≤ℤ negsuc n = omega (arith, ints) in l) (omega (arith, ints))
+size_below (pos n) b =
+    mul_le_right {c = pos b} (let l : neg_ℤ (pos n) ≤ℤ pos n = omega (arith, ints) in l) (omega (arith, ints))
+size_below (negsuc n) b =
+    mul_le_right {c = pos b} (let l : neg_ℤ (pos (suc n)) ≤ℤ negsuc n = omega (arith, ints) in l) (omega (arith, ints))
 
 pub magnitude_above : (q : Rational) → AtMost q (magnitude q)
 magnitude_above q = record { at_most = size_above q.top (bottom q) }
@@ -77,7 +79,10 @@ lost_word c f =
 
 -- a word less a unit isn't above its number, and a unit more isn't below
 pub less_unit : (v u c : Rational) → Nonneg u → Lost u (minus v c) → AtMost (minus v u) c
-less_unit v u c n h = ordered (nonneg_plus (gap h.high) n) (by_quotes {ρ = v ∷ u ∷ c ∷ []} (search quotes depth 20) (search quotes depth 20) refl)
+less_unit v u c n h =
+    ordered (nonneg_plus (gap h.high) n)
+    (by_quotes {ρ = v ∷ u ∷ c ∷ []} (search quotes depth 20) (search quotes depth 20) refl)
 
 pub more_unit : (v u c : Rational) → Lost u (minus v c) → AtMost c (minus v (negative u))
-more_unit v u c h = ordered (gap h.low) (by_quotes {ρ = v ∷ u ∷ c ∷ []} (search quotes depth 20) (search quotes depth 20) refl)
+more_unit v u c h =
+    ordered (gap h.low) (by_quotes {ρ = v ∷ u ∷ c ∷ []} (search quotes depth 20) (search quotes depth 20) refl)

@@ -22,15 +22,18 @@ claimed_right : (ks ls : List Claim) → Each Claimed (ks ++ ls) → Each Claime
 claimed_right [] ls h = h
 claimed_right (k ∷ ks) ls h = claimed_right ks ls h.1
 
-above_lower : (lo : Option Rational) (s : Span) (x : Rational) → Within s x → Each Claimed (lower_claims lo s) → IfSome lo (λ l. AtMost l x)
+above_lower : (lo : Option Rational) (s : Span) (x : Rational) → Within s x → Each Claimed (lower_claims lo s) →
+    IfSome lo (λ l. AtMost l x)
 above_lower None s x h claims = tt
 above_lower (Some l) s x h claims = le_trans claims.0 h.low
 
-below_upper : (hi : Option Rational) (s : Span) (x : Rational) → Within s x → Each Claimed (upper_claims hi s) → IfSome hi (λ u. AtMost x u)
+below_upper : (hi : Option Rational) (s : Span) (x : Rational) → Within s x → Each Claimed (upper_claims hi s) →
+    IfSome hi (λ u. AtMost x u)
 below_upper None s x h claims = tt
 below_upper (Some u) s x h claims = le_trans h.high claims.0
 
-in_ends : (d : Demand) (g h : Span) (x : Rational) → Within (span_sum g h) x → Each Claimed (demand_claims d g h) → IsInEnds d x
+in_ends : (d : Demand) (g h : Span) (x : Rational) → Within (span_sum g h) x → Each Claimed (demand_claims d g h) →
+    IsInEnds d x
 in_ends d g h x within claims =
     let s = span_sum g h in
     let ends = claimed_right (error_claims d.err h) (lower_claims d.lo s ++ upper_claims d.hi s) claims in
@@ -41,11 +44,15 @@ in_ends d g h x within claims =
 
 -- the demands of f are claimed of the lines
 abbrev pub AreDemanded : Function → Program → Certificate → Type 0
-AreDemanded fn p cert = (j : ℕ) → j < p.outputs → Each Claimed (demand_claims (at free fn.demands j) (range_at cert.lines (output_code p j)) (error_at cert.lines (output_code p j)))
+AreDemanded fn p cert = (j : ℕ) → j < p.outputs →
+    Each Claimed (demand_claims (at free fn.demands j) (range_at cert.lines (output_code p j))
+    (error_at cert.lines (output_code p j)))
 
-pub all_in_ends : (fn : Function) (p : Program) (cert : Certificate) → AreDemanded fn p cert → (made : List (List ℤ)) → AllWithin p cert made → AllInEnds fn p made
+pub all_in_ends : (fn : Function) (p : Program) (cert : Certificate) → AreDemanded fn p cert → (made : List (List ℤ)) →
+    AllWithin p cert made → AllInEnds fn p made
 all_in_ends fn p cert demanded [] within = tt
 all_in_ends fn p cert demanded (w ∷ ws) within = (
-  (λ j l. in_ends (at free fn.demands j) (range_at cert.lines (output_code p j)) (error_at cert.lines (output_code p j)) (output_value p w j) (within.0 j l) (demanded j l)),
+  (λ j l. in_ends (at free fn.demands j) (range_at cert.lines (output_code p j)) (error_at cert.lines (output_code p j))
+      (output_value p w j) (within.0 j l) (demanded j l)),
   all_in_ends fn p cert demanded ws within.1,
 )

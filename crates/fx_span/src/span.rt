@@ -1,8 +1,8 @@
 //! Intervals: two mantissas over one exponent.
 //!
 //! A certificate's intervals have a dyadic for each end. Here both ends share a grid, so that a sum aligns once and a
-//! comparison of widths is one of mantissas. Nothing rounds but `over` and `outward`, and a mantissa that leaves 128 bits gives
-//! None.
+//! comparison of widths is one of mantissas. Nothing rounds but `over` and `outward`, and a mantissa that leaves 128
+//! bits gives None.
 
 use fx_num::{Dyadic, ceil_shift, floor_shift, left_fits};
 

@@ -12,7 +12,8 @@ use Rattle.fx_statements.specs.Widths.{FitWidths}
 
 -- what the text of a program gives, row by row, each from the states that the one before it left
 abbrev pub text_run : Keeping → Program → List ℕ → List (List Rational) → Option (Run ℤ)
-text_run keep p ns rows = run_of (λ g z. routine_step keep (routine_of p ns) z (input_words p.codes g)) rows (start_words p.codes)
+text_run keep p ns rows =
+    run_of (λ g z. routine_step keep (routine_of p ns) z (input_words p.codes g)) rows (start_words p.codes)
 
 -- it gives this run, in both readings: nothing panics, and no `as` and no `<<` changes a value
 pub record GivesRun (p : Program) (ns : List ℕ) (rows : List (List Rational)) (run : Run ℤ) : Type 0 where
@@ -28,7 +29,8 @@ pub record Does (keep : Keeping) (text : List ℕ) (s x : List ℤ) (d : Option 
 
 -- in this reading the text does the machine's step wherever that isn't stuck and each word lies in its width
 abbrev pub DoesStepsIn : Keeping → Program → List ℕ → List ℕ → Type 0
-DoesStepsIn keep p ns text = (g : List Rational) (z ws : List ℤ) → length z ≡ p.states → words_of p g z ≡ Some ws → FitWidths ns ws
+DoesStepsIn keep p ns text =
+    (g : List Rational) (z ws : List ℤ) → length z ≡ p.states → words_of p g z ≡ Some ws → FitWidths ns ws
     → Does keep text z (input_words p.codes g) (machine_step p g z)
 
 -- so in both: nothing panics, and no `as` and no `<<` changes a value

@@ -19,7 +19,8 @@ use Rattle.fx_stream.proofs.Exits.{cut-here, read-failed}
 use Rattle.fx_stream.proofs.Turns.{all-written, asked-of, on-err, on-ok, right-of, total, up-to}
 
 -- what the call that takes the next line says, where `held` tells whether it is held whole
-pub record Turn (r r' : LinesState) (left1 left2 : Option (List ℕ)) (more : List ℕ) (held : Bool) (result : Result LineStep LineFault) : Type 0 where
+pub record Turn (r r' : LinesState) (left1 left2 : Option (List ℕ)) (more : List ℕ) (held : Bool)
+    (result : Result LineStep LineFault) : Type 0 where
   pub took : Consumes left1 left2 more
   pub sum : r'.taken ≡ min (r.taken + length more) 18446744073709551615
   pub few : length r.held + length more ≤ 131072
@@ -36,12 +37,17 @@ pub record Turn (r r' : LinesState) (left1 left2 : Option (List ℕ)) (more : Li
   pub unheld : held ≡ false → position (λ b. b == 10) r.held ≡ None
   pub after_end : r.is_ended ≡ true → (left2 ≡ left1) × (r'.taken ≡ r.taken) × (result ≡ Ok End)
 
-module _ {T F : Type 0} (told : F → T) (o now : List (List ℕ) → Outcome T) (r r' : LinesState) (left left1 left2 before after mid : Option (List ℕ)) (page page' more : List ℕ) (count : ℕ) (held : Bool) (result : Result LineStep LineFault)
-    (none : IsUrgent (not held) page → (now []).text ≡ []) (ran : Ran o now r left left1 before after page count r.limit) (small : r.limit < 18446744073709551615)
+module _ {T F : Type 0} (told : F → T) (o now : List (List ℕ) →
+    Outcome T) (r r' : LinesState) (left left1 left2 before after mid : Option (List ℕ)) (page page' more : List ℕ)
+    (count : ℕ) (held : Bool) (result : Result LineStep LineFault)
+    (none : IsUrgent (not held) page →
+    (now []).text ≡ []) (ran : Ran o now r left left1 before after page count r.limit) (small : r.limit
+    < 18446744073709551615)
     (flush : IsFlushed (not held) after mid page page') (t : Turn r r' left1 left2 more held result) where
   asked : Asked o now r left left1 left2 before mid page' more count r.limit
   asked =
-      asked-of o now r left left1 left2 before after mid page page' more count r.limit r'.taken held none ran flush small t.took t.sum t.few
+      asked-of o now r left left1 left2 before after mid page page' more count r.limit r'.taken held none ran flush
+      small t.took t.sum t.few
       (λ e. (t.lazy e).0) (λ e. (t.after_end e).1)
 
   unended : (result ≡ Ok End → ⊥) → r.is_ended ≡ false
@@ -65,7 +71,8 @@ module _ {T F : Type 0} (told : F → T) (o now : List (List ℕ) → Outcome T)
   summed : r'.taken ≤ r.limit → r'.taken ≡ r.taken + length more
   summed le = let sum = t.sum in omega arith
 
-  pub gave : (step : LineStep) → result ≡ Ok step → IsAsked o now r r' left left1 left2 before mid page' count r.limit step
+  pub gave : (step : LineStep) → result ≡ Ok step →
+      IsAsked o now r r' left left1 left2 before mid page' count r.limit step
   gave Line e = record {
     more = more;
     asked = asked;
@@ -96,13 +103,17 @@ module _ {T F : Type 0} (told : F → T) (o now : List (List ℕ) → Outcome T)
     };
   }
 
-  pub failed : result ≡ Err line.ReadFault → position (λ b. b == 10) r'.held ≡ None → (r.limit < r'.taken → ⊥) → IsFailed told o left left2 before mid r.limit ReadFault
+  pub failed : result ≡ Err line.ReadFault → position (λ b. b == 10) r'.held ≡ None → (r.limit < r'.taken → ⊥) →
+      IsFailed told o left left2 before mid r.limit ReadFault
   failed e nowhere not_over =
       let kept : r'.held ≡ r.held ++ more = on-err result (ap is_err e) t.kept in
       let under : r'.taken ≤ r.limit = omega (arith, not_over) in (
-        read-failed told o now r left left1 left2 before mid page' more count r.limit (none (inl (ap not (nothing-held (λ f. let z = sym e ∙ f in absurd cc))))) asked.ran (written (λ f. let z = sym e ∙ f in absurd cc)) (unended (λ f. let z = sym e ∙ f in absurd cc)) t.took
+        read-failed told o now r left left1 left2 before mid page' more count r.limit
+            (none (inl (ap not (nothing-held (λ f. let z = sym e ∙ f in absurd cc))))) asked.ran
+            (written (λ f. let z = sym e ∙ f in absurd cc)) (unended (λ f. let z = sym e ∙ f in absurd cc)) t.took
             (subst (λ h. position (λ b. b == 10) h ≡ None) kept nowhere),
-        up-to o now r left left1 left2 before mid page' more count r.limit ReadFault asked.ran t.took (let sum : r'.taken ≡ r.taken + length more = summed under in omega arith) (λ f. absurd cc),
+        up-to o now r left left1 left2 before mid page' more count r.limit ReadFault asked.ran t.took
+            (let sum : r'.taken ≡ r.taken + length more = summed under in omega arith) (λ f. absurd cc),
       )
 
   pub over : r.limit < r'.taken → IsFailed told o left left2 before mid r.limit TooLong

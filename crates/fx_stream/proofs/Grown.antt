@@ -16,13 +16,15 @@ pub grown_on : (a b c : Option (List ℕ)) → Grows a b → Grows b c → Grows
 grown_on a b c x y = (x.0 ++ y.0, Appends-trans a b c x.0 y.0 x.1 y.1)
 
 -- a page was written, or kept, or its writing failed
-pub flushed_grows : {T E : Type 0} (must : Bool) (a b : Option (List ℕ)) (old new : List ℕ) (r : Result T E) → OnOk r (IsFlushed must a b old new) → OnErr r (AppendsFront a b old) → Grows a b
+pub flushed_grows : {T E : Type 0} (must : Bool) (a b : Option (List ℕ)) (old new : List ℕ) (r : Result T E) →
+    OnOk r (IsFlushed must a b old new) → OnErr r (AppendsFront a b old) → Grows a b
 flushed_grows must a b old new (Ok u) (inl all) front = (old, all.2)
 flushed_grows must a b old new (Ok u) (inr kept) front = subst (Grows a) (sym kept.2) (none_grown a)
 flushed_grows must a b old new (Err e) flushed front = (take front.0 old, front.2)
 
 -- so at a line that stops the run
-pub stopped_grows : {F : Type 0} (stop : Stop F) (number : ℕ) (a b : Option (List ℕ)) (page : List ℕ) (f : RunFault F) → StopsAs stop number a b page f → Grows a b
+pub stopped_grows : {F : Type 0} (stop : Stop F) (number : ℕ) (a b : Option (List ℕ)) (page : List ℕ) (f : RunFault F) →
+    StopsAs stop number a b page f → Grows a b
 stopped_grows (Bad fault) number a b page f (inl whole) = (page, whole.1)
 stopped_grows (Bad fault) number a b page f (inr cut) = (take cut.1.0 page, cut.1.2)
 stopped_grows Memory number a b page f stops = subst (Grows a) (sym stops.1) (none_grown a)

@@ -20,7 +20,15 @@ nothing-left true = refl
 nothing-left false = refl
 
 pub start : {T : Type 0} (o : List (List ℕ) → Outcome T) (left before : Option (List ℕ)) (bound : ℕ) → (o []).text ≡ []
-    → Ran o o (record { line = []; held = []; number = 0; taken = 0; limit = bound; is_ready = true; is_ended = false }) left left before before [] 0 bound
+    → Ran o o (record {
+      line = [];
+      held = [];
+      number = 0;
+      taken = 0;
+      limit = bound;
+      is_ready = true;
+      is_ended = false;
+    }) left left before before [] 0 bound
 start o left before bound none = record {
   front = [];
   done = [];
@@ -48,26 +56,36 @@ start o left before bound none = record {
 }
 
 -- the lines that were answered are those of their bytes
-pub lines-front : {T : Type 0} (o now : List (List ℕ) → Outcome T) (r : LinesState) (left left' before after : Option (List ℕ)) (page : List ℕ) (count bound : ℕ)
+pub lines-front : {T : Type 0} (o now : List (List ℕ) →
+    Outcome T) (r : LinesState) (left left' before after : Option (List ℕ)) (page : List ℕ) (count bound : ℕ)
     → (ran : Ran o now r left left' before after page count bound) → lines_in ran.front ≡ ran.done
 lines-front o now r left left' before after page count bound ran =
-    ap lines_in (sym (append-nil ran.front)) ∙ ran.cuts [] (λ _. refl) ∙ ap (λ t. ran.done ++ t) (nothing-left (r.number == 0)) ∙ append-nil ran.done
+    ap lines_in (sym (append-nil ran.front)) ∙ ran.cuts [] (λ _. refl)
+    ∙ ap (λ t. ran.done ++ t) (nothing-left (r.number == 0)) ∙ append-nil ran.done
 
 -- their text
-pub text-front : {T : Type 0} (o now : List (List ℕ) → Outcome T) (r : LinesState) (left left' before after : Option (List ℕ)) (page : List ℕ) (count bound : ℕ) → (now []).text ≡ []
+pub text-front : {T : Type 0} (o now : List (List ℕ) →
+    Outcome T) (r : LinesState) (left left' before after : Option (List ℕ)) (page : List ℕ) (count bound : ℕ) →
+    (now []).text ≡ []
     → (ran : Ran o now r left left' before after page count bound) → (o (lines_in ran.front)).text ≡ ran.sent ++ page
 text-front {T = T} o now r left left' before after page count bound none ran =
     ap (λ t. (o t).text) (lines-front o now r left left' before after page count bound ran ∙ sym (append-nil ran.done))
-    ∙ ap (λ (x : Outcome T). x.text) (ran.printed []) ∙ ap (λ t. (ran.sent ++ page) ++ t) none ∙ append-nil (ran.sent ++ page)
+    ∙ ap (λ (x : Outcome T). x.text) (ran.printed []) ∙ ap (λ t. (ran.sent ++ page) ++ t) none
+    ∙ append-nil (ran.sent ++ page)
 
 -- all text is written
-pub record Fresh {T : Type 0} (o now : List (List ℕ) → Outcome T) (r : LinesState) (left left' before after : Option (List ℕ)) (page : List ℕ) (count bound : ℕ) (must : Bool) : Type 0 where
+pub record Fresh {T : Type 0} (o now : List (List ℕ) →
+    Outcome T) (r : LinesState) (left left' before after : Option (List ℕ)) (page : List ℕ) (count bound : ℕ)
+    (must : Bool) : Type 0 where
   pub ran : Ran o now r left left' before after page count bound
   pub empty : must ≡ true → page ≡ []
   pub late : must ≡ true → r.is_ended ≡ false → ran.late ≡ []
 
-written-by : {T : Type 0} (o now : List (List ℕ) → Outcome T) (r : LinesState) (left left' before after after' : Option (List ℕ)) (page : List ℕ) (count bound : ℕ) (must : Bool) (is_ended : Bool)
-    → r.is_ended ≡ is_ended → (now []).text ≡ [] → Ran o now r left left' before after page count bound → Appends after after' page
+written-by : {T : Type 0} (o now : List (List ℕ) →
+    Outcome T) (r : LinesState) (left left' before after after' : Option (List ℕ)) (page : List ℕ) (count bound : ℕ)
+    (must : Bool) (is_ended : Bool)
+    → r.is_ended ≡ is_ended → (now []).text ≡ [] → Ran o now r left left' before after page count bound →
+    Appends after after' page
     → Fresh o now r left left' before after' [] count bound must
 written-by o now r left left' before after after' page count bound must true e none ran put = record {
   ran = record {
@@ -90,7 +108,8 @@ written-by o now r left left' before after after' page count bound must true e n
     early_whole = ran.early_whole;
     prompt = ran.prompt;
     sent = ran.sent ++ page;
-    printed = λ rest. ran.printed rest ∙ behind-same _ _ _ _ _ _ (now rest) refl (sym (append-nil (ran.sent ++ page))) refl;
+    printed =
+        λ rest. ran.printed rest ∙ behind-same _ _ _ _ _ _ (now rest) refl (sym (append-nil (ran.sent ++ page))) refl;
     written = Appends-trans before after after' ran.sent page ran.written put;
     extra = ran.extra ++ page;
     early_text = ap (λ t. t ++ page) ran.early_text ∙ append_assoc (o (lines_in ran.early)).text ran.extra page;
@@ -114,14 +133,16 @@ written-by o now r left left' before after after' page count bound must false e 
     ready = ran.ready;
     few = ran.few;
     sent = ran.sent ++ page;
-    printed = λ rest. ran.printed rest ∙ behind-same _ _ _ _ _ _ (now rest) refl (sym (append-nil (ran.sent ++ page))) refl;
+    printed =
+        λ rest. ran.printed rest ∙ behind-same _ _ _ _ _ _ (now rest) refl (sym (append-nil (ran.sent ++ page))) refl;
     written = Appends-trans before after after' ran.sent page ran.written put;
     early = ran.front;
     late = [];
     parts = sym (append-nil ran.front);
     early_whole = ran.whole e;
     extra = [];
-    early_text = sym (text-front o now r left left' before after page count bound none ran) ∙ sym (append-nil (o (lines_in ran.front)).text);
+    early_text = sym (text-front o now r left left' before after page count bound none ran)
+        ∙ sym (append-nil (o (lines_in ran.front)).text);
     prompt = omega (arith, ran.prompt);
   };
   empty = λ _. refl;
@@ -129,8 +150,11 @@ written-by o now r left left' before after after' page count bound must false e 
 }
 
 -- a flush, or none
-pub flushed : {T : Type 0} (o now : List (List ℕ) → Outcome T) (r : LinesState) (left left' before after after' : Option (List ℕ)) (page page' : List ℕ) (count bound : ℕ) (must : Bool)
-    → (IsUrgent must page → (now []).text ≡ []) → Ran o now r left left' before after page count bound → IsFlushed must after after' page page'
+pub flushed : {T : Type 0} (o now : List (List ℕ) →
+    Outcome T) (r : LinesState) (left left' before after after' : Option (List ℕ)) (page page' : List ℕ)
+    (count bound : ℕ) (must : Bool)
+    → (IsUrgent must page → (now []).text ≡ []) → Ran o now r left left' before after page count bound →
+    IsFlushed must after after' page page'
     → Fresh o now r left left' before after' page' count bound must
 flushed o now r left left' before after after' page page' count bound must none ran (inl done) =
     subst (λ p. Fresh o now r left left' before after' p count bound must) (sym done.1)
@@ -141,53 +165,61 @@ flushed o now r left left' before after after' page page' count bound must none 
     (record { ran = ran; empty = λ e. absurd (cc); late = λ e _. absurd (cc) }))
 
 -- what was held back is printed
-pub put-out : {T : Type 0} (o now now' : List (List ℕ) → Outcome T) (r : LinesState) (left left' before after : Option (List ℕ)) (page page' : List ℕ) (count bound : ℕ)
+pub put-out : {T : Type 0} (o now now' : List (List ℕ) →
+    Outcome T) (r : LinesState) (left left' before after : Option (List ℕ)) (page page' : List ℕ) (count bound : ℕ)
     → Ran o now r left left' before after page count bound
     → (text : List ℕ) × (page' ≡ page ++ text) × ((rest : List (List ℕ)) → now rest ≡ behind_text text (now' rest))
     → Ran o now' r left left' before after page' count bound
-put-out o now now' r left left' before after page page' count bound ran put = subst (λ p. Ran o now' r left left' before after p count bound) (sym put.1) (record {
-  front = ran.front;
-  done = ran.done;
-  sent = ran.sent;
-  taken = ran.taken;
-  size = ran.size;
-  cuts = ran.cuts;
-  whole = ran.whole;
-  ended = ran.ended;
-  printed = λ rest. ran.printed rest ∙ ap (behind_lines (length ran.done) (ran.sent ++ page) count) (put.2 rest)
-      ∙ behind-held (length ran.done) (ran.sent ++ page) put.0 count (now' rest)
-      ∙ behind-same _ _ _ _ _ _ (now' rest) refl (append_assoc ran.sent page put.0) refl;
-  written = ran.written;
-  number = ran.number;
-  counts = ran.counts;
-  limit = ran.limit;
-  within = ran.within;
-  ready = ran.ready;
-  few = ran.few;
-  early = ran.early;
-  late = ran.late;
-  parts = ran.parts;
-  early_whole = ran.early_whole;
-  extra = ran.extra;
-  early_text = ran.early_text;
-  prompt = ran.prompt;
-})
+put-out o now now' r left left' before after page page' count bound ran put =
+    subst (λ p. Ran o now' r left left' before after p count bound) (sym put.1) (record {
+      front = ran.front;
+      done = ran.done;
+      sent = ran.sent;
+      taken = ran.taken;
+      size = ran.size;
+      cuts = ran.cuts;
+      whole = ran.whole;
+      ended = ran.ended;
+      printed = λ rest. ran.printed rest ∙ ap (behind_lines (length ran.done) (ran.sent ++ page) count) (put.2 rest)
+          ∙ behind-held (length ran.done) (ran.sent ++ page) put.0 count (now' rest)
+          ∙ behind-same _ _ _ _ _ _ (now' rest) refl (append_assoc ran.sent page put.0) refl;
+      written = ran.written;
+      number = ran.number;
+      counts = ran.counts;
+      limit = ran.limit;
+      within = ran.within;
+      ready = ran.ready;
+      few = ran.few;
+      early = ran.early;
+      late = ran.late;
+      parts = ran.parts;
+      early_whole = ran.early_whole;
+      extra = ran.extra;
+      early_text = ran.early_text;
+      prompt = ran.prompt;
+    })
 
 -- the bytes of a line behind others
 fed-behind : (front raw : List ℕ) → EndsLine raw → AreWholeLines (front ++ raw)
 fed-behind front raw fed = inr (front ++ fed.0, ap (λ t. front ++ t) fed.1 ∙ sym (append_assoc front fed.0 (10 ∷ [])))
 
 -- a line was taken
-pub stepped : {T : Type 0} (o now now' : List (List ℕ) → Outcome T) (r r' : LinesState) (left left1 left2 before after : Option (List ℕ)) (page text more : List ℕ) (count n bound : ℕ)
-    → (ran : Ran o now r left left1 before after page count bound) → r.is_ended ≡ false → Consumes left1 left2 more → TakesLine r r' more
-    → r'.taken ≡ r.taken + length more → r'.number + length r'.held ≤ r'.taken → r'.limit ≡ r.limit → r'.taken ≤ bound → r'.is_ready ≡ true
+pub stepped : {T : Type 0} (o now now' : List (List ℕ) →
+    Outcome T) (r r' : LinesState) (left left1 left2 before after : Option (List ℕ)) (page text more : List ℕ)
+    (count n bound : ℕ)
+    → (ran : Ran o now r left left1 before after page count bound) → r.is_ended ≡ false → Consumes left1 left2 more →
+    TakesLine r r' more
+    → r'.taken ≡ r.taken + length more → r'.number + length r'.held ≤ r'.taken → r'.limit ≡ r.limit → r'.taken ≤ bound →
+    r'.is_ready ≡ true
     → (r'.is_ended ≡ true → IsAtEnd left2) → length ran.late + (length r.held + length more) ≤ 131072
     → ((rest : List (List ℕ)) → now (r'.line ∷ rest) ≡ behind_lines 1 text n (now' rest)) → n ≤ 1
     → Ran o now' r' left left2 before after (page ++ text) (count + n) bound
-stepped o now now' r r' left left1 left2 before after page text more count n bound ran unended took t taken counts limit within ready ended prompt prints few =
+stepped o now now' r r' left left1 left2 before after page text more count n bound ran unended took t taken counts limit
+    within ready ended prompt prints few =
     let raw = t.raw in
     let held : r.held ++ more ≡ raw ++ r'.held = t.parts in
-    let sizes : length r.held + length more ≡ length raw + length r'.held = sym (length-append r.held more) ∙ ap length held ∙ length-append raw r'.held in
+    let sizes : length r.held + length more ≡ length raw + length r'.held = sym (length-append r.held more)
+    ∙ ap length held ∙ length-append raw r'.held in
     let next : r'.number ≡ r.number + 1 = t.number in
     let later : (r'.number == 0) ≡ false = grind arith in
     record {
@@ -195,7 +227,8 @@ stepped o now now' r r' left left1 left2 before after page text more count n bou
       done = ran.done ++ r'.line ∷ [];
       sent = ran.sent;
       taken = subst (Consumes left left2)
-          (append_assoc ran.front r.held more ∙ ap (λ x. ran.front ++ x) held ∙ sym (append_assoc ran.front raw r'.held))
+          (append_assoc ran.front r.held more ∙ ap (λ x. ran.front ++ x) held
+          ∙ sym (append_assoc ran.front raw r'.held))
           (Consumes-trans left left1 left2 (ran.front ++ r.held) more ran.taken took);
       size = omega (arith, ran.size, length-append ran.front raw);
       cuts = λ rest end.
@@ -204,7 +237,8 @@ stepped o now now' r r' left left1 left2 before after page text more count n bou
           let line : r'.line ≡ first.whole = first.line ∙ take_all 65537 first.whole (omega arith) in
           ap lines_in (append_assoc ran.front raw rest)
           ∙ ran.cuts (raw ++ rest) (λ e. absurd (cc))
-          ∙ ap (λ x. ran.done ++ x) (first.cut ∙ ap (λ x. x ∷ first.behind) (sym line) ∙ ap (λ x. r'.line ∷ x) (first.rest ready))
+          ∙ ap (λ x. ran.done ++ x) (first.cut ∙ ap (λ x. x ∷ first.behind) (sym line)
+          ∙ ap (λ x. r'.line ∷ x) (first.rest ready))
           ∙ sym (append_assoc ran.done (r'.line ∷ []) (lines rest))
           ∙ ap (λ b. (ran.done ++ r'.line ∷ []) ++ lines (text_at b rest)) (sym later);
       whole = λ e. fed-behind ran.front raw (t.fed ready e);
@@ -212,7 +246,8 @@ stepped o now now' r r' left left1 left2 before after page text more count n bou
       printed = λ rest. ap o (append_assoc ran.done (r'.line ∷ []) rest) ∙ ran.printed (r'.line ∷ rest)
           ∙ ap (behind_lines (length ran.done) (ran.sent ++ page) count) (prints rest)
           ∙ behind-twice (length ran.done) 1 (ran.sent ++ page) text count n (now' rest)
-          ∙ behind-same _ _ _ _ _ _ (now' rest) (sym (length-append ran.done (r'.line ∷ []))) (append_assoc ran.sent page text) refl;
+          ∙ behind-same _ _ _ _ _ _ (now' rest) (sym (length-append ran.done (r'.line ∷ [])))
+          (append_assoc ran.sent page text) refl;
       written = ran.written;
       number = next ∙ ap (λ k. k + 1) ran.number ∙ sym (length-append ran.done (r'.line ∷ []));
       counts = counts;

@@ -32,10 +32,12 @@ right-of b e (inr p) = p
 -- what isn't held is nowhere
 pub unheld : {B : Type 0} (held : Bool) (place : Option B) → held ≡ true ↔ (place ≢ None) → held ≡ false → place ≡ None
 unheld held None say e = refl
-unheld held (Some n) say e = let t : held ≡ true = say.1 (λ f. absurd cc) in let z : true ≡ false = sym t ∙ e in absurd cc
+unheld held (Some n) say e =
+    let t : held ≡ true = say.1 (λ f. absurd cc) in let z : true ≡ false = sym t ∙ e in absurd cc
 
 -- text goes out where that is due
-pub urgent : {P : Type 0} (held : Bool) (r : LinesState) (page : List ℕ) → held ≡ true ↔ (position (λ b. b == 10) r.held ≢ None) → (GoesOut r page → P) → IsUrgent (not held) page → P
+pub urgent : {P : Type 0} (held : Bool) (r : LinesState) (page : List ℕ) →
+    held ≡ true ↔ (position (λ b. b == 10) r.held ≢ None) → (GoesOut r page → P) → IsUrgent (not held) page → P
 urgent true r page say due (inl must) = let z : false ≡ true = must in absurd cc
 urgent false r page say due (inl must) = due (inl (unheld false _ say refl))
 urgent held r page say due (inr full) = due (inr full)
@@ -52,9 +54,13 @@ at-least whole ready = let much : 65537 ≤ length whole = ltb-false (length who
 none-more : (taken more : ℕ) → taken < 18446744073709551615 → taken ≡ min (taken + more) 18446744073709551615 → more ≡ 0
 none-more taken more h e = omega arith
 
-near-by : {T : Type 0} (o now : List (List ℕ) → Outcome T) (r : LinesState) (left left1 before mid : Option (List ℕ)) (page more : List ℕ) (count bound taken : ℕ) (held : Bool) (h : Bool) → held ≡ h
-    → (fresh : Fresh o now r left left1 before mid page count bound (not held)) → bound < 18446744073709551615 → taken ≡ min (r.taken + length more) 18446744073709551615
-    → length r.held + length more ≤ 131072 → (held ≡ true → taken ≡ r.taken) → r.is_ended ≡ false → length fresh.ran.late + (length r.held + length more) ≤ 131072
+near-by : {T : Type 0} (o now : List (List ℕ) →
+    Outcome T) (r : LinesState) (left left1 before mid : Option (List ℕ)) (page more : List ℕ) (count bound taken : ℕ)
+    (held : Bool) (h : Bool) → held ≡ h
+    → (fresh : Fresh o now r left left1 before mid page count bound (not held)) → bound < 18446744073709551615 →
+    taken ≡ min (r.taken + length more) 18446744073709551615
+    → length r.held + length more ≤ 131072 → (held ≡ true → taken ≡ r.taken) → r.is_ended ≡ false →
+    length fresh.ran.late + (length r.held + length more) ≤ 131072
 near-by o now r left left1 before mid page more count bound taken held true e fresh small sum few lazy unended =
     let within : r.taken ≤ bound = fresh.ran.within in
     let none : length more ≡ 0 = none-more r.taken (length more) (omega arith) (sym (lazy e) ∙ sum) in
@@ -62,22 +68,29 @@ near-by o now r left left1 before mid page more count bound taken held true e fr
 near-by o now r left left1 before mid page more count bound taken held false e fresh small sum few lazy unended =
     omega (arith, ap length (fresh.late (ap not e) unended))
 
-pub asked-of : {T : Type 0} (o now : List (List ℕ) → Outcome T) (r : LinesState) (left left1 left2 before after mid : Option (List ℕ)) (page page' more : List ℕ) (count bound taken : ℕ) (held : Bool)
-    → (IsUrgent (not held) page → (now []).text ≡ []) → Ran o now r left left1 before after page count bound → IsFlushed (not held) after mid page page' → bound < 18446744073709551615
-    → Consumes left1 left2 more → taken ≡ min (r.taken + length more) 18446744073709551615 → length r.held + length more ≤ 131072
+pub asked-of : {T : Type 0} (o now : List (List ℕ) →
+    Outcome T) (r : LinesState) (left left1 left2 before after mid : Option (List ℕ)) (page page' more : List ℕ)
+    (count bound taken : ℕ) (held : Bool)
+    → (IsUrgent (not held) page → (now []).text ≡ []) → Ran o now r left left1 before after page count bound →
+    IsFlushed (not held) after mid page page' → bound < 18446744073709551615
+    → Consumes left1 left2 more → taken ≡ min (r.taken + length more) 18446744073709551615 →
+    length r.held + length more ≤ 131072
     → (held ≡ true → taken ≡ r.taken) → (r.is_ended ≡ true → taken ≡ r.taken)
     → Asked o now r left left1 left2 before mid page' more count bound
-asked-of o now r left left1 left2 before after mid page page' more count bound taken held none ran flush small took sum few lazy over =
+asked-of o now r left left1 left2 before after mid page page' more count bound taken held none ran flush small took sum
+    few lazy over =
     let fresh = flushed o now r left left1 before after mid page page' count bound (not held) none ran flush in
     record {
       ran = fresh.ran;
       took = took;
       near = near-by o now r left left1 before mid page' more count bound taken held held refl fresh small sum few lazy;
-      quiet = λ e. let within : r.taken ≤ bound = ran.within in none-more r.taken (length more) (omega arith) (sym (over e) ∙ sum);
+      quiet = λ e. let within : r.taken ≤ bound = ran.within in
+          none-more r.taken (length more) (omega arith) (sym (over e) ∙ sum);
     }
 
 -- what had to be written is written
-pub all-written : (before after : Option (List ℕ)) (page page' : List ℕ) (held : Bool) → IsFlushed (not held) before after page page' → (held ≡ true → ⊥) → page' ≡ []
+pub all-written : (before after : Option (List ℕ)) (page page' : List ℕ) (held : Bool) →
+    IsFlushed (not held) before after page page' → (held ≡ true → ⊥) → page' ≡ []
 all-written before after page page' held (inl done) unheld = done.1
 all-written before after page page' true (inr kept) unheld = absurd (unheld refl)
 all-written before after page page' false (inr kept) unheld = absurd (let e : true ≡ false = kept.0 in cc)
@@ -87,25 +100,34 @@ one-few true = omega arith
 one-few false = omega arith
 
 -- a line that is shown whole is bad where it is as it was shown
-pub told-bad : {T F : Type 0} (told : F → T) (r : Result Bool (Stop F)) (page' page : List ℕ) (now : List (List ℕ) → Outcome T) (lines : LinesState) (line : List ℕ)
+pub told-bad : {T F : Type 0} (told : F → T) (r : Result Bool (Stop F)) (page' page : List ℕ) (now : List (List ℕ) →
+    Outcome T) (lines : LinesState) (line : List ℕ)
     → line ≡ lines.line → lines.is_ready ≡ true
-    → IfErr r (IfBad (λ f. (text : List ℕ) × (page' ≡ page ++ text) × ((rest : List (List ℕ)) → now (line ∷ rest) ≡ behind_text text (stopped_lines (told f)))))
+    → IfErr r (IfBad (λ f. (text : List ℕ) × (page' ≡ page ++ text) ×
+    ((rest : List (List ℕ)) → now (line ∷ rest) ≡ behind_text text (stopped_lines (told f)))))
     → IfErr r (IfBad (λ f. (text : List ℕ) × (page' ≡ page ++ text) × IsBadLine told now lines text f))
 told-bad told (Ok x) page' page now lines line same ready h = tt
 told-bad told (Err Memory) page' page now lines line same ready h = tt
-told-bad told (Err (Bad f)) page' page now lines line same ready h =
-    (h.0, h.1, λ whole rest shown. ap (λ l. now (l ∷ rest)) (whole-line lines.line whole shown.0 (sym ready ∙ shown.1) ∙ sym same) ∙ h.2 rest)
+told-bad told (Err (Bad f)) page' page now lines line same ready h = (
+  h.0,
+  h.1,
+  λ whole rest shown. ap (λ l. now (l ∷ rest)) (whole-line lines.line whole shown.0 (sym ready ∙ shown.1)
+      ∙ sym same) ∙ h.2 rest,
+)
 
 -- a line that isn't shown whole is bad, since it is too long
-pub long-bad : {T F : Type 0} (told : F → T) (now now' : List (List ℕ) → Outcome T) (lines : LinesState) (text : List ℕ) (f : F) → false ≡ lines.is_ready
+pub long-bad : {T F : Type 0} (told : F → T) (now now' : List (List ℕ) →
+    Outcome T) (lines : LinesState) (text : List ℕ) (f : F) → false ≡ lines.is_ready
     → ((rest : List (List ℕ)) → now rest ≡ behind_text text (now' rest))
     → ((line : List ℕ) (rest : List (List ℕ)) → line_limit < length line → now' (line ∷ rest) ≡ stopped_lines (told f))
     → IsBadLine told now lines text f
 long-bad told now now' lines text f unready puts long =
-    λ whole rest shown. puts (whole ∷ rest) ∙ ap (behind_text text) (long whole rest (at-least whole (unready ∙ shown.1)))
+    λ whole rest shown. puts (whole ∷ rest)
+    ∙ ap (behind_text text) (long whole rest (at-least whole (unready ∙ shown.1)))
 
 -- all bytes that were taken
-pub total : {T : Type 0} (o now : List (List ℕ) → Outcome T) (r : LinesState) (left left1 left2 before after : Option (List ℕ)) (page more : List ℕ) (count bound : ℕ)
+pub total : {T : Type 0} (o now : List (List ℕ) →
+    Outcome T) (r : LinesState) (left left1 left2 before after : Option (List ℕ)) (page more : List ℕ) (count bound : ℕ)
     → Ran o now r left left1 before after page count bound → Consumes left1 left2 more
     → (taken : List ℕ) × Consumes left left2 taken × (length taken ≡ r.taken + length more)
 total o now r left left1 left2 before after page more count bound ran took = (
@@ -115,8 +137,11 @@ total o now r left left1 left2 before after page more count bound ran took = (
 )
 
 -- all bytes that were taken, and that they are within the limit
-pub up-to : {T F : Type 0} (o now : List (List ℕ) → Outcome T) (r : LinesState) (left left1 left2 before after : Option (List ℕ)) (page more : List ℕ) (count bound : ℕ) (f : RunFault F)
-    → Ran o now r left left1 before after page count bound → Consumes left1 left2 more → r.taken + length more ≤ bound → (f ≡ fault.TooLong → ⊥)
+pub up-to : {T F : Type 0} (o now : List (List ℕ) →
+    Outcome T) (r : LinesState) (left left1 left2 before after : Option (List ℕ)) (page more : List ℕ) (count bound : ℕ)
+    (f : RunFault F)
+    → Ran o now r left left1 before after page count bound → Consumes left1 left2 more → r.taken + length more ≤ bound →
+    (f ≡ fault.TooLong → ⊥)
     → RunTakesUpTo left left2 bound f
 up-to o now r left left1 left2 before after page more count bound f ran took within other =
     let all = total o now r left left1 left2 before after page more count bound ran took in

@@ -17,7 +17,8 @@ stopped_lines f = record { text = []; rows = 0; bad = Some (0, f) }
 
 -- the outcome of lines behind k others, which printed this text and were so many rows
 abbrev pub behind_lines : {T : Type 0} → ℕ → List ℕ → ℕ → Outcome T → Outcome T
-behind_lines k text rows more = record { text = text ++ more.text; rows = rows + more.rows; bad = moved_down k more.bad }
+behind_lines k text rows more =
+    record { text = text ++ more.text; rows = rows + more.rows; bad = moved_down k more.bad }
 
 -- the same behind a text that was held back
 abbrev pub behind_text : {T : Type 0} → List ℕ → Outcome T → Outcome T

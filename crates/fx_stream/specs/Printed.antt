@@ -14,6 +14,12 @@ abbrev pub outcome_of : List ℕ → (List (List Decimal) → List ℕ) → Read
 outcome_of head page r = record { text = page_of head page r; rows = length r.given.rows; bad = r.given.bad }
 
 -- what comes of lines, before the header or behind it
-abbrev pub lines_outcome : Function → List ℕ → (List (List Decimal) → List ℕ) → Option (List ℕ) → List (List ℕ) → Outcome RowFlaw
+abbrev pub lines_outcome : Function → List ℕ → (List (List Decimal) → List ℕ) → Option (List ℕ) → List (List ℕ) →
+    Outcome RowFlaw
 lines_outcome f head page None ls = outcome_of head page (lines_read f ls)
-lines_outcome f head page (Some columns) ls = record { text = page (rows_from f columns ls).rows; rows = length (rows_from f columns ls).rows; bad = (rows_from f columns ls).bad }
+lines_outcome f head page (Some columns) ls =
+    record {
+      text = page (rows_from f columns ls).rows;
+      rows = length (rows_from f columns ls).rows;
+      bad = (rows_from f columns ls).bad;
+    }

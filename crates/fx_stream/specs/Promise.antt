@@ -37,7 +37,8 @@ abbrev pub AreWholeLines : List ℕ → Type 0
 AreWholeLines bytes = (bytes ≡ []) ⊎ EndsLine bytes
 
 -- exactly the text of the taken lines that end with a line feed is printed
-pub record PrintsWholeLines {T : Type 0} (o : List (List ℕ) → Outcome T) (left left' before after : Option (List ℕ)) : Type 0 where
+pub record PrintsWholeLines {T : Type 0} (o : List (List ℕ) →
+    Outcome T) (left left' before after : Option (List ℕ)) : Type 0 where
   pub front : List ℕ
   pub rest : List ℕ
   pub taken : Consumes left left' (front ++ rest)
@@ -50,7 +51,8 @@ abbrev pub IsAnswered : {T : Type 0} → (List (List ℕ) → Outcome T) → Opt
 IsAnswered o left before m = PrintsWholeLines o left m.left before m.taken
 
 -- of the taken bytes all but the last 131,072 at most are lines whose text is printed whole
-pub record IsPrompt {T : Type 0} (o : List (List ℕ) → Outcome T) (left left' before after : Option (List ℕ)) : Type 0 where
+pub record IsPrompt {T : Type 0} (o : List (List ℕ) →
+    Outcome T) (left left' before after : Option (List ℕ)) : Type 0 where
   pub front : List ℕ
   pub rest : List ℕ
   pub more : List ℕ
@@ -68,17 +70,24 @@ pub record IsLineNear (line : ℕ) (left left' : Option (List ℕ)) : Type 0 whe
   pub few : length rest ≤ 131072
 
 -- what holds after each fault, where `told` is what the definitions call what is wrong with a line
-abbrev pub IsDue : {T F : Type 0} → (F → T) → (List (List ℕ) → Outcome T) → Option (List ℕ) → Option (List ℕ) → Option (List ℕ) → Option (List ℕ) → RunFault F → Type 0
-IsDue told o left left' before after (Row line fault) = IfSome left (λ all. IsBadAt (o (lines_in all)) line (told fault) before after) × IsLineNear line left left'
-IsDue told o left left' before after ReadFault = IfSome left (λ all. PrintsFront (o (lines_in all)).text before after) × PrintsWholeLines o left left' before after
-IsDue told o left left' before after WriteFault = IfSome left (λ all. PrintsFront (o (lines_in all)).text before after) × IsPrompt o left left' before after
+abbrev pub IsDue : {T F : Type 0} → (F → T) → (List (List ℕ) → Outcome T) → Option (List ℕ) → Option (List ℕ) →
+    Option (List ℕ) → Option (List ℕ) → RunFault F → Type 0
+IsDue told o left left' before after (Row line fault) =
+    IfSome left (λ all. IsBadAt (o (lines_in all)) line (told fault) before after) × IsLineNear line left left'
+IsDue told o left left' before after ReadFault =
+    IfSome left (λ all. PrintsFront (o (lines_in all)).text before after) × PrintsWholeLines o left left' before after
+IsDue told o left left' before after WriteFault =
+    IfSome left (λ all. PrintsFront (o (lines_in all)).text before after) × IsPrompt o left left' before after
 IsDue told o left left' before after TooLong = IfSome left (λ all. PrintsFront (o (lines_in all)).text before after)
 IsDue told o left left' before after Memory = IfSome left (λ all. PrintsFront (o (lines_in all)).text before after)
 
 -- bytes were taken from the front, and more than `limit` of them exactly where the fault is TooLong
 abbrev pub RunTakesUpTo : {F : Type 0} → Option (List ℕ) → Option (List ℕ) → ℕ → RunFault F → Type 0
-RunTakesUpTo left left' limit fault = (taken : List ℕ) × Consumes left left' taken × ((fault ≡ TooLong) ↔ (limit < length taken))
+RunTakesUpTo left left' limit fault =
+    (taken : List ℕ) × Consumes left left' taken × ((fault ≡ TooLong) ↔ (limit < length taken))
 
 -- both
-abbrev pub IsFailed : {T F : Type 0} → (F → T) → (List (List ℕ) → Outcome T) → Option (List ℕ) → Option (List ℕ) → Option (List ℕ) → Option (List ℕ) → ℕ → RunFault F → Type 0
-IsFailed told o left left' before after limit fault = IsDue told o left left' before after fault × RunTakesUpTo left left' limit fault
+abbrev pub IsFailed : {T F : Type 0} → (F → T) → (List (List ℕ) → Outcome T) → Option (List ℕ) → Option (List ℕ) →
+    Option (List ℕ) → Option (List ℕ) → ℕ → RunFault F → Type 0
+IsFailed told o left left' before after limit fault =
+    IsDue told o left left' before after fault × RunTakesUpTo left left' limit fault

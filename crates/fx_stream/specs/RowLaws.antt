@@ -16,29 +16,38 @@ use Rattle.fx_rows.specs.ReadRows.{Given, rows_from, after_row, after_header, li
 use Rattle.fx_stream.specs.Printed.{outcome_of, lines_outcome}
 
 -- where no line is left nothing is printed, and no row is read
-pub nothing_printed : (f : Function) (head : List ℕ) (page : List (List Decimal) → List ℕ) → page [] ≡ [] → (columns : Option (List ℕ))
+pub nothing_printed : (f : Function) (head : List ℕ) (page : List (List Decimal) → List ℕ) → page [] ≡ [] →
+    (columns : Option (List ℕ))
     → ((lines_outcome f head page columns []).text ≡ []) × ((lines_outcome f head page columns []).rows ≡ 0)
 nothing_printed f head page e None = (refl, refl)
 nothing_printed f head page e (Some columns) = (e, refl)
 
 long_header : (f : Function) (line : List ℕ) (t : Bool) → t ≡ true
-    → (if t then Err (at_input LineTooLong 0) else if list_any is_return line then Err (at_input StrayReturn 0) else header_of_fields (column_names f) (line_fields line))
+    → (if t then Err (at_input LineTooLong 0) else if list_any is_return line then Err (at_input StrayReturn 0)
+    else header_of_fields (column_names f) (line_fields line))
     ≡ Err (at_input LineTooLong 0)
-long_header f line t e = ap (λ t. if t then Err (at_input LineTooLong 0) else if list_any is_return line then Err (at_input StrayReturn 0) else header_of_fields (column_names f) (line_fields line)) e
+long_header f line t e =
+    ap (λ t. if t then Err (at_input LineTooLong 0) else if list_any is_return line then Err (at_input StrayReturn 0)
+    else header_of_fields (column_names f) (line_fields line)) e
 
 long_row : (f : Function) (columns line : List ℕ) (t : Bool) → t ≡ true
-    → (if t then Some (row_stopped (at_input LineTooLong 0)) else if list_any is_return line then Some (row_stopped (at_input StrayReturn 0)) else row_of_fields f.inputs columns (line_fields line))
+    → (if t then Some (row_stopped (at_input LineTooLong 0)) else if list_any is_return line
+    then Some (row_stopped (at_input StrayReturn 0)) else row_of_fields f.inputs columns (line_fields line))
     ≡ Some (row_stopped (at_input LineTooLong 0))
 long_row f columns line t e =
-    ap (λ t. if t then Some (row_stopped (at_input LineTooLong 0)) else if list_any is_return line then Some (row_stopped (at_input StrayReturn 0)) else row_of_fields f.inputs columns (line_fields line)) e
+    ap (λ t. if t then Some (row_stopped (at_input LineTooLong 0)) else if list_any is_return line
+    then Some (row_stopped (at_input StrayReturn 0)) else row_of_fields f.inputs columns (line_fields line)) e
 
 -- a line that is too long is bad
-pub long_stops : (f : Function) (head : List ℕ) (page : List (List Decimal) → List ℕ) → page [] ≡ [] → (columns : Option (List ℕ)) (line : List ℕ) (rest : List (List ℕ))
+pub long_stops : (f : Function) (head : List ℕ) (page : List (List Decimal) → List ℕ) → page [] ≡ [] →
+    (columns : Option (List ℕ)) (line : List ℕ) (rest : List (List ℕ))
     → line_limit < length line → lines_outcome f head page columns (line ∷ rest) ≡ stopped_lines too_long
 long_stops f head page e None line rest h =
-    ap (λ x. outcome_of head page (after_header f x rest (lines_read f rest))) (long_header f line (nat_lt line_limit (length line)) (lt-ltb line_limit (length line) h))
+    ap (λ x. outcome_of head page (after_header f x rest (lines_read f rest)))
+    (long_header f line (nat_lt line_limit (length line)) (lt-ltb line_limit (length line) h))
 long_stops f head page e (Some columns) line rest h =
-    ap (λ x. lines_outcome_by page (after_row x (rows_from f columns rest))) (long_row f columns line (nat_lt line_limit (length line)) (lt-ltb line_limit (length line) h))
+    ap (λ x. lines_outcome_by page (after_row x (rows_from f columns rest)))
+    (long_row f columns line (nat_lt line_limit (length line)) (lt-ltb line_limit (length line) h))
     ∙ ap (λ t. record { text = t; rows = 0; bad = Some (0, too_long) }) e
   where
     lines_outcome_by : (List (List Decimal) → List ℕ) → Given → Outcome RowFlaw

@@ -16,16 +16,20 @@ use Rattle.fx_stream.specs.declared.printer.Stop.{Stop}
 use Rattle.fx_stream.specs.declared.printer.Stop.TheVariants.{Bad, Memory}
 
 -- the bytes of the lines that were answered, and those lines
-pub record Ran {T : Type 0} (first now : List (List ℕ) → Outcome T) (r : LinesState) (left left' before after : Option (List ℕ)) (page : List ℕ) (count bound : ℕ) : Type 0 where
+pub record Ran {T : Type 0} (first now : List (List ℕ) →
+    Outcome T) (r : LinesState) (left left' before after : Option (List ℕ)) (page : List ℕ)
+    (count bound : ℕ) : Type 0 where
   pub front : List ℕ
   pub done : List (List ℕ)
   pub sent : List ℕ
   pub taken : Consumes left left' (front ++ r.held)
   pub size : r.taken ≡ length front + length r.held
-  pub cuts : (rest : List ℕ) → (r.is_ended ≡ true → rest ≡ []) → lines_in (front ++ rest) ≡ done ++ lines (text_at (r.number == 0) rest)
+  pub cuts : (rest : List ℕ) → (r.is_ended ≡ true → rest ≡ []) →
+      lines_in (front ++ rest) ≡ done ++ lines (text_at (r.number == 0) rest)
   pub whole : r.is_ended ≡ false → AreWholeLines front
   pub ended : r.is_ended ≡ true → (r.held ≡ []) × IsAtEnd left'
-  pub printed : (rest : List (List ℕ)) → first (done ++ rest) ≡ behind_lines (length done) (sent ++ page) count (now rest)
+  pub printed : (rest : List (List ℕ)) →
+      first (done ++ rest) ≡ behind_lines (length done) (sent ++ page) count (now rest)
   pub written : Appends before after sent
   pub number : r.number ≡ length done
   pub counts : r.number + length r.held ≤ r.taken
@@ -52,10 +56,13 @@ IsUrgent must page = (must ≡ true) ⊎ (HasRoom page → ⊥)
 
 -- all is written with reason, or nothing where that isn't asked for
 abbrev pub IsFlushed : Bool → Option (List ℕ) → Option (List ℕ) → List ℕ → List ℕ → Type 0
-IsFlushed must before after old new = (IsUrgent must old × (new ≡ []) × Appends before after old) ⊎ ((must ≡ false) × (new ≡ old) × (after ≡ before))
+IsFlushed must before after old new =
+    (IsUrgent must old × (new ≡ []) × Appends before after old) ⊎ ((must ≡ false) × (new ≡ old) × (after ≡ before))
 
 -- the next line was asked for: what was printed before is written or kept, and these bytes more were taken
-pub record Asked {T : Type 0} (o now : List (List ℕ) → Outcome T) (r : LinesState) (left left1 left2 before mid : Option (List ℕ)) (page more : List ℕ) (count bound : ℕ) : Type 0 where
+pub record Asked {T : Type 0} (o now : List (List ℕ) →
+    Outcome T) (r : LinesState) (left left1 left2 before mid : Option (List ℕ)) (page more : List ℕ)
+    (count bound : ℕ) : Type 0 where
   pub ran : Ran o now r left left1 before mid page count bound
   pub took : Consumes left1 left2 more
   pub near : r.is_ended ≡ false → length ran.late + (length r.held + length more) ≤ 131072
@@ -81,7 +88,9 @@ HasStepped Line r r' left page more = HasLine r r' left more
 HasStepped End r r' left page more = HasNoLine r r' left page more
 
 -- what asking for a line gives
-pub record IsAsked {T : Type 0} (o now : List (List ℕ) → Outcome T) (r r' : LinesState) (left left1 left2 before mid : Option (List ℕ)) (page : List ℕ) (count bound : ℕ) (step : LineStep) : Type 0 where
+pub record IsAsked {T : Type 0} (o now : List (List ℕ) →
+    Outcome T) (r r' : LinesState) (left left1 left2 before mid : Option (List ℕ)) (page : List ℕ) (count bound : ℕ)
+    (step : LineStep) : Type 0 where
   pub more : List ℕ
   pub asked : Asked o now r left left1 left2 before mid page more count bound
   pub sum : r'.taken ≡ r.taken + length more
@@ -96,11 +105,13 @@ IsShown r whole = (r.line ≡ take 65537 whole) × (r.is_ready ≡ nat_lt (lengt
 
 -- what a bad line comes to behind what was held back, told of the lines that it may be
 abbrev pub IsBadLine : {T F : Type 0} → (F → T) → (List (List ℕ) → Outcome T) → LinesState → List ℕ → F → Type 0
-IsBadLine told now r text f = (whole : List ℕ) (rest : List (List ℕ)) → IsShown r whole → now (whole ∷ rest) ≡ behind_text text (stopped_lines (told f))
+IsBadLine told now r text f = (whole : List ℕ) (rest : List (List ℕ)) → IsShown r whole →
+    now (whole ∷ rest) ≡ behind_text text (stopped_lines (told f))
 
 -- how the run ends at a line that stops it: what was printed before is written, or the write fails
 abbrev pub StopsAs : {F : Type 0} → Stop F → ℕ → Option (List ℕ) → Option (List ℕ) → List ℕ → RunFault F → Type 0
-StopsAs (Bad f) number before after page g = ((g ≡ fault.Row number f) × Appends before after page) ⊎ ((g ≡ fault.WriteFault) × AppendsFront before after page)
+StopsAs (Bad f) number before after page g =
+    ((g ≡ fault.Row number f) × Appends before after page) ⊎ ((g ≡ fault.WriteFault) × AppendsFront before after page)
 StopsAs Memory number before after page g = (g ≡ fault.Memory) × (after ≡ before)
 
 -- how it ends where no line is left: with the number of rows, or with what is missing

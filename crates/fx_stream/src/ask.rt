@@ -30,7 +30,8 @@ fn flush<K: Sink>(page: &mut Page, must: bool, sink: &mut K) -> Result<(), Faile
     Ok(())
 }
 
-// Reads on to the next line. What is printed so far is written before, where the bytes that were taken don't hold it whole.
+// Reads on to the next line. What is printed so far is written before, where the bytes that were taken don't hold it
+// whole.
 fn ask<P: Printer, S: Source<K>, K: Sink>(
     lines: &mut Lines,
     page: &mut Page,
@@ -41,12 +42,15 @@ fn ask<P: Printer, S: Source<K>, K: Sink>(
     requires limit { lines.old.limit < 2 ^ 64 - 1 }
     ensures written { position (λ b. b == 10) lines.old.held ≡ None → result ≢ Err WriteFault → page.new ≡ [] }
     ensures untouched { IsErrOf result WriteFault → (source.new ≡ source.old) × (lines.new ≡ lines.old) }
-    ensures asked { (o now : List (List ℕ) → Outcome P.Told) (left before : Option (List ℕ)) (count : ℕ) → (GoesOut lines.old page.old → (now []).text ≡ [])
+    ensures asked { (o now : List (List ℕ) → Outcome P.Told) (left before : Option (List ℕ)) (count : ℕ) →
+        (GoesOut lines.old page.old → (now []).text ≡ [])
         → Ran o now lines.old left (S.left source.old) before (K.taken sink.old) page.old count lines.old.limit
         → MatchResult result
-        (λ step. IsAsked o now lines.old lines.new left (S.left source.old) (S.left source.new) before (K.taken sink.new) page.new count lines.old.limit step)
+        (λ step. IsAsked o now lines.old lines.new left (S.left source.old) (S.left source.new) before
+        (K.taken sink.new) page.new count lines.old.limit step)
         (λ fault. IsFailed P.told o left (S.left source.new) before (K.taken sink.new) lines.old.limit fault) }
-    ensures prompt { (o now : List (List ℕ) → Outcome P.Told) (left before : Option (List ℕ)) (count : ℕ) → (GoesOut lines.old page.old → (now []).text ≡ [])
+    ensures prompt { (o now : List (List ℕ) → Outcome P.Told) (left before : Option (List ℕ)) (count : ℕ) →
+        (GoesOut lines.old page.old → (now []).text ≡ [])
         → Ran o now lines.old left (S.left source.old) before (K.taken sink.old) page.old count lines.old.limit
         → HoldsEachTime (IsAnswered o left before) (S.asked source.old) (S.asked source.new) }
     ensures room { OnOk result (HasRoom page.new) }
@@ -98,7 +102,8 @@ pub(crate) fn next<P: Printer, S: Source<K>, K: Sink>(
     ensures asked { (o : List (List ℕ) → Outcome P.Told) (left before : Option (List ℕ)) (count : ℕ)
         → Ran o (P.outcome printer.old) lines.old left (S.left source.old) before (K.taken sink.old) page.old count lines.old.limit
         → MatchResult result
-        (λ step. IsAsked o (P.outcome printer.new) lines.old lines.new left (S.left source.old) (S.left source.new) before (K.taken sink.new) page.new count lines.old.limit step)
+        (λ step. IsAsked o (P.outcome printer.new) lines.old lines.new left (S.left source.old)
+        (S.left source.new) before (K.taken sink.new) page.new count lines.old.limit step)
         (λ fault. IsFailed P.told o left (S.left source.new) before (K.taken sink.new) lines.old.limit fault) }
     ensures prompt { (o : List (List ℕ) → Outcome P.Told) (left before : Option (List ℕ)) (count : ℕ)
         → Ran o (P.outcome printer.old) lines.old left (S.left source.old) before (K.taken sink.old) page.old count lines.old.limit
@@ -126,8 +131,12 @@ pub(crate) fn take_line<P: Printer>(
     ensures held { OnOk result (P.is_settled printer.new ⊎ HasRoom page.new) }
     ensures ready { OnOk result (lines.now.is_ready ≡ true) }
     ensures taken { IfOk result (λ is_row. (text : List ℕ) × (page.new ≡ page.old ++ text)
-        × ((rest : List (List ℕ)) → P.outcome printer.old (lines.now.line ∷ rest) ≡ behind_lines 1 text (one is_row) (P.outcome printer.new rest))) }
-    ensures bad { IfErr result (IfBad (λ fault. (text : List ℕ) × (page.new ≡ page.old ++ text) × IsBadLine P.told (P.outcome printer.old) lines.now text fault)) }
+        × ((rest : List (List ℕ)) →
+        P.outcome printer.old (lines.now.line ∷ rest)
+        ≡ behind_lines 1 text (one is_row) (P.outcome printer.new rest))) }
+    ensures bad { IfErr result
+        (IfBad (λ fault. (text : List ℕ) × (page.new ≡ page.old ++ text) ×
+        IsBadLine P.told (P.outcome printer.old) lines.now text fault)) }
 {
     if !lines.ready() {
         printer.settle(page);

@@ -1,8 +1,8 @@
 //! What is printed of lines that come one at a time.
 //!
-//! A printer may hold text back, so that several rows can go through a program together. It prints what it holds when it is
-//! told to settle, which it is before each read that might wait. The trap: where a page has no room nothing is held back, so
-//! that what is written between two rows is always the text of whole lines.
+//! A printer may hold text back, so that several rows can go through a program together. It prints what it holds when
+//! it is told to settle, which it is before each read that might wait. The trap: where a page has no room nothing is
+//! held back, so that what is written between two rows is always the text of whole lines.
 ghost use Rattle.std.specs.Prelude.{◌≡◌, ◌⊎◌, ℕ, List, [], ◌∷◌, ◌++◌, ◌<◌, length, option_map, IfOk, IfErr, OnOk};
 ghost use Rattle.fx_model.specs.Limits.{line_limit};
 ghost use Rattle.fx_stream.specs.Rooms.{HasRoom};
@@ -19,7 +19,8 @@ pub enum Stop<F> {
     Memory,
 }
 
-/// A printer of lines, which has seen some. What it will print is a matter of what it holds back and of the lines to come.
+/// A printer of lines, which has seen some. What it will print is a matter of what it holds back and of the lines to
+/// come.
 pub trait Printer {
     /// What may be wrong with a line.
     type Flaw: Drop;
@@ -46,7 +47,8 @@ pub trait Printer {
         ensures can { OnOk result (can_take self.new) }
         ensures held { OnOk result (is_settled self.new ⊎ (page.new ≡ page.old)) }
         ensures taken { IfOk result (λ is_row. (text : List ℕ) × (page.new ≡ page.old ++ text)
-            × ((rest : List (List ℕ)) → outcome self.old (line.now ∷ rest) ≡ behind_lines 1 text (one is_row) (outcome self.new rest))) }
+            × ((rest : List (List ℕ)) →
+            outcome self.old (line.now ∷ rest) ≡ behind_lines 1 text (one is_row) (outcome self.new rest))) }
         ensures bad { IfErr result (IfBad (λ fault. (text : List ℕ) × (page.new ≡ page.old ++ text)
             × ((rest : List (List ℕ)) → outcome self.old (line.now ∷ rest) ≡ behind_text text (stopped_lines (told fault))))) };
 

@@ -69,7 +69,8 @@ pub trait RowStep {
         requires in_range { IsInRange (meaning self.old).inputs (map decimal_value row.now) }
         ensures can { can_run self.new }
         ensures put { (text : List ℕ) × (page.new ≡ page.old ++ text)
-            × ((rest : List (List rational.Decimal)) → printed self.old (row.now ∷ rest) ≡ text ++ printed self.new rest) }
+            × ((rest : List (List rational.Decimal)) →
+            printed self.old (row.now ∷ rest) ≡ text ++ printed self.new rest) }
         ensures held { is_settled self.new ⊎ (page.new ≡ page.old) }
         ensures function { meaning self.new ≡ meaning self.old }
         ensures before { head self.new ≡ head self.old };
@@ -121,9 +122,13 @@ fn take_header<M: RowStep>(
     ensures serves { IfOk result (λ o. IfSome o (λ r. Serves r (M.meaning step.now))) }
     ensures taken { IfOk result (λ o. (text : List ℕ) × (page.new ≡ page.old ++ text)
         × ((rest : List (List ℕ)) → lines_outcome (M.meaning step.now) (M.head step.now) (M.printed step.now) None (line.now ∷ rest)
-        ≡ behind_lines 1 text 0 (lines_outcome (M.meaning step.now) (M.head step.now) (M.printed step.now) (option_map reader_columns o) rest))) }
+        ≡ behind_lines 1 text 0
+        (lines_outcome (M.meaning step.now) (M.head step.now) (M.printed step.now)
+        (option_map reader_columns o) rest))) }
     ensures bad { IfErr result (IfBad (λ fault. (page.new ≡ page.old)
-        × ((rest : List (List ℕ)) → lines_outcome (M.meaning step.now) (M.head step.now) (M.printed step.now) None (line.now ∷ rest) ≡ stopped_lines (row_fault_of fault)))) }
+        × ((rest : List (List ℕ)) →
+        lines_outcome (M.meaning step.now) (M.head step.now) (M.printed step.now) None (line.now ∷ rest)
+        ≡ stopped_lines (row_fault_of fault)))) }
 {
     match read_header(alloc, line, step.function()) {
         Ok(None) => Ok(None),
@@ -157,9 +162,13 @@ fn take_row<M: RowStep>(
     ensures row_room { vec_capacity row.old ≤ vec_capacity row.new }
     ensures taken { IfOk result (λ is_row. (text : List ℕ) × (page.new ≡ page.old ++ text)
         × ((rest : List (List ℕ)) → lines_outcome (M.meaning step.old) (M.head step.old) (M.printed step.old) (Some (reader_columns reader.now)) (line.now ∷ rest)
-        ≡ behind_lines 1 text (one is_row) (lines_outcome (M.meaning step.new) (M.head step.new) (M.printed step.new) (Some (reader_columns reader.now)) rest))) }
+        ≡ behind_lines 1 text (one is_row)
+        (lines_outcome (M.meaning step.new) (M.head step.new) (M.printed step.new)
+        (Some (reader_columns reader.now)) rest))) }
     ensures bad { IfErr result (IfBad (λ fault. (text : List ℕ) × (page.new ≡ page.old ++ text)
-        × ((rest : List (List ℕ)) → lines_outcome (M.meaning step.old) (M.head step.old) (M.printed step.old) (Some (reader_columns reader.now)) (line.now ∷ rest) ≡ behind_text text (stopped_lines (row_fault_of fault))))) }
+        × ((rest : List (List ℕ)) →
+        lines_outcome (M.meaning step.old) (M.head step.old) (M.printed step.old) (Some (reader_columns reader.now))
+        (line.now ∷ rest) ≡ behind_text text (stopped_lines (row_fault_of fault))))) }
     ensures memory { list_any is_special line.now ≡ false → result ≢ Err stop.Memory }
 {
     match reader.read(alloc, line, step.function(), row) {
@@ -194,7 +203,8 @@ impl<M: RowStep + Drop> Printer for RowPrinter<M> {
 
     ghost is_settled = { λ s. M.is_settled s.step };
 
-    ghost outcome = { λ s ls. lines_outcome (M.meaning s.step) (M.head s.step) (M.printed s.step) (option_map reader_columns s.reader) ls };
+    ghost outcome = { λ s ls. lines_outcome (M.meaning s.step) (M.head s.step) (M.printed s.step)
+        (option_map reader_columns s.reader) ls };
 
     fn take(&mut self, line: &[u8], page: &mut Page) -> Result<bool, Stop<RowFault>> {
         match &self.reader {
@@ -232,7 +242,8 @@ impl<M: RowStep + Drop> Printer for RowPrinter<M> {
         }
     }
 
-    ghost none = { λ s settled. nothing_printed (M.meaning s.step) (M.head s.step) (M.printed s.step) (M.none s.step settled) (option_map reader_columns s.reader) };
+    ghost none = { λ s settled. nothing_printed (M.meaning s.step) (M.head s.step) (M.printed s.step) (M.none s.step settled)
+        (option_map reader_columns s.reader) };
 }
 
 /// Runs the rows of a source, and writes their page before each read that might wait. Gives the number of rows.
@@ -246,11 +257,19 @@ pub fn run_steps<M: RowStep + Drop, S: Source<K>, K: Sink>(
     requires limit { limit < 2 ^ 64 - 1 }
     requires can { M.can_run step }
     requires settled { M.is_settled step }
-    ensures done { IfOk result (λ n. IfSome (S.left source.old) (λ all. IsDone (outcome_of (M.head step) (M.printed step) (read_rows (M.meaning step) all)) n (K.taken sink.old) (K.taken sink.new))) }
+    ensures done { IfOk result
+        (λ n. IfSome (S.left source.old)
+        (λ all. IsDone (outcome_of (M.head step) (M.printed step) (read_rows (M.meaning step) all)) n (K.taken sink.old)
+        (K.taken sink.new))) }
     ensures end { OnOk result (IsAtEnd (S.left source.new)) }
-    ensures due { IfErr result (IsDue row_fault_of (lines_outcome (M.meaning step) (M.head step) (M.printed step) None) (S.left source.old) (S.left source.new) (K.taken sink.old) (K.taken sink.new)) }
-    ensures prompt { HoldsEachTime (IsAnswered (lines_outcome (M.meaning step) (M.head step) (M.printed step) None) (S.left source.old) (K.taken sink.old)) (S.asked source.old) (S.asked source.new) }
-    ensures taken { (taken : List ℕ) × Consumes (S.left source.old) (S.left source.new) taken × (IsErrOf result RunFault.TooLong ↔ (limit < length taken)) }
+    ensures due { IfErr result
+        (IsDue row_fault_of (lines_outcome (M.meaning step) (M.head step) (M.printed step) None) (S.left source.old)
+        (S.left source.new) (K.taken sink.old) (K.taken sink.new)) }
+    ensures prompt { HoldsEachTime
+        (IsAnswered (lines_outcome (M.meaning step) (M.head step) (M.printed step) None) (S.left source.old)
+        (K.taken sink.old)) (S.asked source.old) (S.asked source.new) }
+    ensures taken { (taken : List ℕ) × Consumes (S.left source.old) (S.left source.new) taken ×
+        (IsErrOf result RunFault.TooLong ↔ (limit < length taken)) }
     ensures grown { Grows (K.taken sink.old) (K.taken sink.new) }
     ensures read_fault { IsErrOf result RunFault.ReadFault → Rose (S.faults source.old) (S.faults source.new) }
     ensures write_fault { IsErrOf result RunFault.WriteFault → Rose (K.faults sink.old) (K.faults sink.new) }

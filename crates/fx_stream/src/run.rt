@@ -32,11 +32,17 @@ pub fn run_lines<P: Printer, S: Source<K>, K: Sink>(
     requires limit { limit < 2 ^ 64 - 1 }
     requires can { P.can_take printer.old }
     requires settled { P.is_settled printer.old }
-    ensures done { IfOk result (λ n. IfSome (S.left source.old) (λ all. IsDone (P.outcome printer.old (lines_in all)) n (K.taken sink.old) (K.taken sink.new))) }
+    ensures done { IfOk result
+        (λ n. IfSome (S.left source.old)
+        (λ all. IsDone (P.outcome printer.old (lines_in all)) n (K.taken sink.old) (K.taken sink.new))) }
     ensures end { OnOk result (IsAtEnd (S.left source.new)) }
-    ensures due { IfErr result (IsDue P.told (P.outcome printer.old) (S.left source.old) (S.left source.new) (K.taken sink.old) (K.taken sink.new)) }
-    ensures prompt { HoldsEachTime (IsAnswered (P.outcome printer.old) (S.left source.old) (K.taken sink.old)) (S.asked source.old) (S.asked source.new) }
-    ensures taken { (taken : List ℕ) × Consumes (S.left source.old) (S.left source.new) taken × (IsErrOf result RunFault.TooLong ↔ (limit < length taken)) }
+    ensures due { IfErr result
+        (IsDue P.told (P.outcome printer.old) (S.left source.old) (S.left source.new) (K.taken sink.old)
+        (K.taken sink.new)) }
+    ensures prompt { HoldsEachTime (IsAnswered (P.outcome printer.old) (S.left source.old) (K.taken sink.old))
+        (S.asked source.old) (S.asked source.new) }
+    ensures taken { (taken : List ℕ) × Consumes (S.left source.old) (S.left source.new) taken ×
+        (IsErrOf result RunFault.TooLong ↔ (limit < length taken)) }
     ensures grown { Grows (K.taken sink.old) (K.taken sink.new) }
     ensures read_fault { IsErrOf result RunFault.ReadFault → Rose (S.faults source.old) (S.faults source.new) }
     ensures write_fault { IsErrOf result RunFault.WriteFault → Rose (K.faults sink.old) (K.faults sink.new) }

@@ -10,26 +10,37 @@ Turned c (suc i) (x ∷ old) (y ∷ now) s = (y ≡ rest c x) × (digit c x ≤ 
 Turned c (suc i) old now s = ⊥
 
 -- the next is as it was
-pub same_next : (c i : ℕ) (old now : List Part) (s : ℕ) (d : Part) → Turned c i old now s → slice_index_or now i d ≡ slice_index_or old i d
+pub same_next : (c i : ℕ) (old now : List Part) (s : ℕ) (d : Part) → Turned c i old now s →
+    slice_index_or now i d ≡ slice_index_or old i d
 same_next c zero old now s d h = ap (λ (xs : List Part). slice_index_or xs 0 d) h.0
 same_next c (suc i) [] now s d h = absurd h
 same_next c (suc i) (x ∷ old) [] s d h = absurd h
 same_next c (suc i) (x ∷ old) (y ∷ now) s d h = same_next c i old now (s - digit c x) d h.2
 
-pub turned_next : (c i : ℕ) (old now : List Part) (s : ℕ) (d : Part) → i < length old → Turned c i old now s → Turned c (suc i) old (slice_set now i (rest c (slice_index_or old i d))) (s + digit c (slice_index_or old i d))
+pub turned_next : (c i : ℕ) (old now : List Part) (s : ℕ) (d : Part) → i < length old → Turned c i old now s →
+    Turned c (suc i) old (slice_set now i (rest c (slice_index_or old i d))) (s + digit c (slice_index_or old i d))
 turned_next c zero [] now s d lt h = absurd (omega (arith, lt))
 turned_next c zero (x ∷ old) now s d lt h =
     let e = h.1 in
-    subst (λ (ys : List Part). Turned c 1 (x ∷ old) (slice_set ys 0 (rest c x)) (s + digit c x)) (sym h.0) (refl, omega arith, (refl, omega (arith, e)))
+    subst (λ (ys : List Part). Turned c 1 (x ∷ old) (slice_set ys 0 (rest c x)) (s + digit c x)) (sym h.0) (
+      refl,
+      omega arith,
+      (refl, omega (arith, e)),
+    )
 turned_next c (suc i) [] now s d lt h = absurd h
 turned_next c (suc i) (x ∷ old) [] s d lt h = absurd h
 turned_next c (suc i) (x ∷ old) (y ∷ now) s d lt h =
     let l = h.1 in
     let more = turned_next c i old now (s - digit c x) d (omega (arith, lt)) h.2 in
-    let same : (s - digit c x) + digit c (slice_index_or old i d) ≡ (s + digit c (slice_index_or old i d)) - digit c x = omega (arith, l) in
-    (h.0, omega (arith, l), subst (λ (n : ℕ). Turned c (suc i) old (slice_set now i (rest c (slice_index_or old i d))) n) same more)
+    let same : (s - digit c x) + digit c (slice_index_or old i d) ≡ (s + digit c (slice_index_or old i d)) - digit c x =
+    omega (arith, l) in (
+      h.0,
+      omega (arith, l),
+      subst (λ (n : ℕ). Turned c (suc i) old (slice_set now i (rest c (slice_index_or old i d))) n) same more,
+    )
 
-pub turned_all : (c i : ℕ) (old now : List Part) (s : ℕ) → i ≡ length old → Turned c i old now s → (now ≡ rests c old) × (s ≡ digits c old)
+pub turned_all : (c i : ℕ) (old now : List Part) (s : ℕ) → i ≡ length old → Turned c i old now s →
+    (now ≡ rests c old) × (s ≡ digits c old)
 turned_all c zero [] now s e h = h
 turned_all c zero (x ∷ old) now s e h = absurd (omega (arith, e))
 turned_all c (suc i) [] now s e h = absurd h

@@ -18,7 +18,10 @@ unfolding answer decided enough
 thirds = refl
 
 -- a part in 10^18 more is above it
-one_more : answer (record { top = 1; bottom = 3 } ∷ record { top = 2; bottom = 3 } ∷ record { top = 1; bottom = 10 ^ 18 } ∷ []) 1 ≡ false
+one_more : answer (record { top = 1; bottom = 3 } ∷ record { top = 2; bottom = 3 } ∷ record {
+  top = 1;
+  bottom = 10 ^ 18;
+} ∷ []) 1 ≡ false
 unfolding answer decided enough
 one_more = refl
 

@@ -46,11 +46,13 @@ abbrev pub left : List Part → ℕ
 left [] = 0
 left (x ∷ xs) = min x.top 1 + left xs
 
--- whether s and the rests xs, below one each, add up to at most zero: long division, until s alone tells, for so many digits
+-- whether s and the rests xs, below one each, add up to at most zero: long division, until s alone tells, for so many
+-- digits
 unfoldable pub decided : ℕ → ℤ → List Part → Bool
 decided zero s xs = int_le s (pos 0)
 decided (suc t) s xs =
-    if int_le (pos 1) s then false else if int_le (s +ℤ pos (left xs)) (pos 0) then true else decided t (pos 10 *ℤ s +ℤ pos (digits 10 xs)) (rests 10 xs)
+    if int_le (pos 1) s then false else if int_le (s +ℤ pos (left xs)) (pos 0) then true
+    else decided t (pos 10 *ℤ s +ℤ pos (digits 10 xs)) (rests 10 xs)
 
 -- 122 bits for each of 64 denominators and 7 for their count, by digits of three bits and more
 unfoldable pub enough : ℕ
@@ -58,4 +60,5 @@ enough = (122 * 64 + 7) / 3
 
 -- the law: so many digits decide exactly
 abbrev pub SumLaw : Type 0
-SumLaw = (xs : List Part) (limit : ℕ) → All IsPart xs → length xs ≤ 64 → decided enough (pos (digits 1 xs) -ℤ pos limit) (rests 1 xs) ≡ is_at_most (sum_of xs) (whole (pos limit))
+SumLaw = (xs : List Part) (limit : ℕ) → All IsPart xs → length xs ≤ 64 →
+    decided enough (pos (digits 1 xs) -ℤ pos limit) (rests 1 xs) ≡ is_at_most (sum_of xs) (whole (pos limit))

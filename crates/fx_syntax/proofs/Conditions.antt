@@ -30,11 +30,13 @@ pub found_spells : (t : Lexeme) (o : Option ℕ) → OnOk (λ k. o ≡ Some k) (
 found_spells t None = failed
 found_spells t (Some k) = done refl
 
-pub subject_spells : (subjects : Subjects) (t : Lexeme) → OnOk (λ k. name_place (names_of subjects) t.text ≡ Some k) (subject_at subjects t)
+pub subject_spells : (subjects : Subjects) (t : Lexeme) →
+    OnOk (λ k. name_place (names_of subjects) t.text ≡ Some k) (subject_at subjects t)
 unfolding subject_at
 subject_spells subjects t = found_spells t (name_place (names_of subjects) t.text)
 
-pub subject_reads : (subjects : Subjects) (t : Lexeme) (k : ℕ) → name_place (names_of subjects) t.text ≡ Some k → subject_at subjects t ≡ Ok k
+pub subject_reads : (subjects : Subjects) (t : Lexeme) (k : ℕ) → name_place (names_of subjects) t.text ≡ Some k →
+    subject_at subjects t ≡ Ok k
 unfolding subject_at
 subject_reads subjects t k e = ap (found_or t) e
 
@@ -42,12 +44,15 @@ none_is : (o : Option Decimal) → is_said o ≡ false → o ≡ None
 none_is None e = refl
 none_is (Some d) e = absurd cc
 
-pub said_spells : (side : Side) (d : Decimal) (t : Lexeme) (subjects : Subjects) (k : ℕ) → name_place (names_of subjects) t.text ≡ Some k → OnOk (IsSaid side d t subjects) (said side d t subjects k)
+pub said_spells : (side : Side) (d : Decimal) (t : Lexeme) (subjects : Subjects) (k : ℕ) →
+    name_place (names_of subjects) t.text ≡ Some k → OnOk (IsSaid side d t subjects) (said side d t subjects k)
 unfolding said
 said_spells side d t subjects k p =
-    choose (is_said (side_of side (subject_or subjects k))) (λ e. failed) (λ e. done (record { place = k; known = p; fresh = none_is _ e; value = refl }))
+    choose (is_said (side_of side (subject_or subjects k))) (λ e. failed)
+    (λ e. done (record { place = k; known = p; fresh = none_is _ e; value = refl }))
 
-pub said_reads : (side : Side) (d : Decimal) (t : Lexeme) (before after : Subjects) (i : IsSaid side d t before after) → said side d t before i.place ≡ Ok after
+pub said_reads : (side : Side) (d : Decimal) (t : Lexeme) (before after : Subjects) (i : IsSaid side d t before after) →
+    said side d t before i.place ≡ Ok after
 unfolding said
 said_reads side d t before after i = on_false _ (ap is_said i.fresh) (ap (λ (s : Subjects). Ok s) (sym i.value))
 
@@ -90,18 +95,30 @@ relation_some _ e = refl
 -- ---- conditions without parentheses around them
 
 error_spells : (end : ℕ) (subjects : Subjects) (ts : Tokens) (t u : Lexeme) (k : ℕ) (signs numbers : Tokens)
-    → IsNext heads.Name ts t signs → IsNext heads.PlusMinus signs u numbers → name_place (names_of subjects) t.text ≡ Some k
+    → IsNext heads.Name ts t signs → IsNext heads.PlusMinus signs u numbers →
+    name_place (names_of subjects) t.text ≡ Some k
     → OnOk (λ x. IsErrorOf subjects ts x.0 x.1) (stated_error end subjects t k numbers)
 unfolding stated_error
 error_spells end subjects ts t u k signs numbers n sign p =
     and_then (number_spells end numbers) (λ d number.
     and_then (said_spells Error d.0 t subjects k p) (λ s said.
-    done (record { name = t; number = d.0; signs = signs; numbers = numbers; name_next = n; sign = mark sign; number_is = number; said = said })))
+    done (record {
+      name = t;
+      number = d.0;
+      signs = signs;
+      numbers = numbers;
+      name_next = n;
+      sign = mark sign;
+      number_is = number;
+      said = said;
+    })))
 
-error_reads : (end : ℕ) (before : Subjects) (after : Subjects) (numbers : Tokens) (t : Lexeme) (d : Decimal) (rest : Tokens) → IsNumber numbers d rest → (i : IsSaid Error d t before after)
+error_reads : (end : ℕ) (before : Subjects) (after : Subjects) (numbers : Tokens) (t : Lexeme) (d : Decimal)
+    (rest : Tokens) → IsNumber numbers d rest → (i : IsSaid Error d t before after)
     → stated_error end before t i.place numbers ≡ Ok (after, rest)
 unfolding stated_error
-error_reads end before after numbers t d rest n i = steps _ (number_reads end n) (steps _ (said_reads Error d t before after i) refl)
+error_reads end before after numbers t d rest n i =
+    steps _ (number_reads end n) (steps _ (said_reads Error d t before after i) refl)
 
 name_first_spells : (end : ℕ) (s : Subjects) (ts : Tokens) → OnOk (λ x. IsSimple s ts x.0 x.1) (name_first end s ts)
 unfolding name_first bound_at on_left
@@ -109,7 +126,8 @@ name_first_spells end s ts =
     and_then (want_spells end heads.Name ts) (λ t n.
     and_then (subject_spells s t.0) (λ k p.
     choose (next_head t.1 ==ₕ heads.PlusMinus)
-    (λ e. let u = next_is t.1 heads.PlusMinus (same_head _ _ e) refl in weaken (λ x i. error_of i) (error_spells end s ts t.0 u.0 k t.1 (drop 1 t.1) n u.1 p))
+    (λ e. let u = next_is t.1 heads.PlusMinus (same_head _ _ e) refl in
+    weaken (λ x i. error_of i) (error_spells end s ts t.0 u.0 k t.1 (drop 1 t.1) n u.1 p))
     (λ e. choose (is_relation (next_head t.1))
     (λ r. let u = next_is t.1 (next_head t.1) refl (relation_some _ r) in
     choose (next_head (drop 1 t.1) ==ₕ heads.Name) (λ e. failed) (λ e.
@@ -157,26 +175,33 @@ number_first_spells end s ts =
     })))))))
     (λ r. failed))
 
-pub condition_spells : (end : ℕ) (s : Subjects) (ts : Tokens) → OnOk (λ x. IsSimple s ts x.0 x.1) (condition_at end s ts)
+pub condition_spells : (end : ℕ) (s : Subjects) (ts : Tokens) →
+    OnOk (λ x. IsSimple s ts x.0 x.1) (condition_at end s ts)
 unfolding condition_at
-condition_spells end s ts = choose (next_head ts ==ₕ heads.Name) (λ e. name_first_spells end s ts) (λ e. number_first_spells end s ts)
+condition_spells end s ts =
+    choose (next_head ts ==ₕ heads.Name) (λ e. name_first_spells end s ts) (λ e. number_first_spells end s ts)
 
 -- ---- the other way
 
 -- a number with or without a minus isn't a name, nor a parenthesis
-signed_head : {ts : Tokens} {d : Decimal} {rest : Tokens} → IsSigned ts d rest → ((next_head ts ==ₕ heads.Name) ≡ false) × ((next_head ts ==ₕ heads.Open) ≡ false)
+signed_head : {ts : Tokens} {d : Decimal} {rest : Tokens} → IsSigned ts d rest →
+    ((next_head ts ==ₕ heads.Name) ≡ false) × ((next_head ts ==ₕ heads.Open) ≡ false)
 signed_head (plain n) = (not_next n.next heads.Name refl, not_next n.next heads.Open refl)
 signed_head (negative s n) = (not_next s.next heads.Name refl, not_next s.next heads.Open refl)
 
 name_not_signed : {ts : Tokens} {t : Lexeme} {us : Tokens} → IsNext heads.Name ts t us → is_signed ts ≡ false
-name_not_signed {ts = ts} n = subst (λ h. ((h ==ₕ heads.Number) || ((h ==ₕ heads.Minus) && (next_head (drop 1 ts) ==ₕ heads.Number))) ≡ false) (sym (next_head_is n)) refl
+name_not_signed {ts = ts} n =
+    subst (λ h. ((h ==ₕ heads.Number) || ((h ==ₕ heads.Minus) && (next_head (drop 1 ts) ==ₕ heads.Number))) ≡ false)
+    (sym (next_head_is n)) refl
 
-bound_reads : (end : ℕ) (s after : Subjects) (ts rest : Tokens) (t : Lexeme) (d : Decimal) (side : Side) → IsSigned ts d rest → (i : IsSaid side d t s after) → bound_at end s t i.place side ts ≡ Ok (after, rest)
+bound_reads : (end : ℕ) (s after : Subjects) (ts rest : Tokens) (t : Lexeme) (d : Decimal) (side : Side) →
+    IsSigned ts d rest → (i : IsSaid side d t s after) → bound_at end s t i.place side ts ≡ Ok (after, rest)
 unfolding bound_at
 bound_reads end s after ts rest t d side n i =
     on_false _ (signed_head n).0 (steps _ (signed_reads end n) (steps _ (said_reads side d t s after i) refl))
 
-name_first_reads : (end : ℕ) (s : Subjects) (ts : Tokens) (after : Subjects) (rest : Tokens) → IsNameFirst s ts after rest → condition_at end s ts ≡ Ok (after, rest)
+name_first_reads : (end : ℕ) (s : Subjects) (ts : Tokens) (after : Subjects) (rest : Tokens) →
+    IsNameFirst s ts after rest → condition_at end s ts ≡ Ok (after, rest)
 unfolding condition_at name_first on_left
 name_first_reads end s ts after rest i =
     let sign = relation_reads i.relation in
@@ -190,12 +215,16 @@ name_first_reads end s ts after rest i =
     ∙ ap (bound_at end s i.name i.said.place i.left) (behind_is i.sign.next)
     ∙ bound_reads end s after i.numbers rest i.name i.number i.left i.number_is i.said)))))
 
-behind_reads : (end first : ℕ) (s after : Subjects) (ts rest : Tokens) (t : Lexeme) (d : Decimal) (side : Side) → IsNext heads.Name ts t rest → IsSaid side d t s after → behind_relation end first s d side ts ≡ Ok (after, rest)
+behind_reads : (end first : ℕ) (s after : Subjects) (ts rest : Tokens) (t : Lexeme) (d : Decimal) (side : Side) →
+    IsNext heads.Name ts t rest → IsSaid side d t s after → behind_relation end first s d side ts ≡ Ok (after, rest)
 unfolding behind_relation
 behind_reads end first s after ts rest t d side n i =
-    on_false _ (name_not_signed n) (steps _ (want_reads end n) (steps _ (subject_reads s t i.place i.known) (steps _ (said_reads side d t s after i) refl)))
+    on_false _ (name_not_signed n)
+    (steps _ (want_reads end n)
+    (steps _ (subject_reads s t i.place i.known) (steps _ (said_reads side d t s after i) refl)))
 
-number_first_reads : (end : ℕ) (s : Subjects) (ts : Tokens) (after : Subjects) (rest : Tokens) → IsNumberFirst s ts after rest → condition_at end s ts ≡ Ok (after, rest)
+number_first_reads : (end : ℕ) (s : Subjects) (ts : Tokens) (after : Subjects) (rest : Tokens) →
+    IsNumberFirst s ts after rest → condition_at end s ts ≡ Ok (after, rest)
 unfolding condition_at number_first on_right
 number_first_reads end s ts after rest i =
     let sign = relation_reads i.relation in
@@ -203,11 +232,13 @@ number_first_reads end s ts after rest i =
     on_false _ (signed_head i.number_is).0 (
     steps _ (signed_reads end i.number_is) (
     on_true _ (ap is_relation head ∙ sign.relation) (
-    ap (λ side. behind_relation end (next_place end ts) s i.number side (drop 1 i.signs)) (ap on_right head ∙ sign.on_right)
+    ap (λ side. behind_relation end (next_place end ts) s i.number side (drop 1 i.signs)) (ap on_right head
+    ∙ sign.on_right)
     ∙ ap (behind_relation end (next_place end ts) s i.number i.right) (behind_is i.sign.next)
     ∙ behind_reads end (next_place end ts) s after i.names rest i.name i.number i.right i.name_next i.said)))
 
-error_of_reads : (end : ℕ) (s : Subjects) (ts : Tokens) (after : Subjects) (rest : Tokens) → IsErrorOf s ts after rest → condition_at end s ts ≡ Ok (after, rest)
+error_of_reads : (end : ℕ) (s : Subjects) (ts : Tokens) (after : Subjects) (rest : Tokens) → IsErrorOf s ts after rest →
+    condition_at end s ts ≡ Ok (after, rest)
 unfolding condition_at name_first
 error_of_reads end s ts after rest i =
     on_true _ (is_next i.name_next) (
@@ -217,7 +248,8 @@ error_of_reads end s ts after rest i =
     ap (stated_error end s i.name i.said.place) (behind_is i.sign.next)
     ∙ error_reads end s after i.numbers i.name i.number rest i.number_is i.said))))
 
-pub simple_reads : (end : ℕ) (s : Subjects) (ts : Tokens) (after : Subjects) (rest : Tokens) → IsSimple s ts after rest → condition_at end s ts ≡ Ok (after, rest)
+pub simple_reads : (end : ℕ) (s : Subjects) (ts : Tokens) (after : Subjects) (rest : Tokens) →
+    IsSimple s ts after rest → condition_at end s ts ≡ Ok (after, rest)
 simple_reads end s ts after rest (syntax.number_first i) = number_first_reads end s ts after rest i
 simple_reads end s ts after rest (syntax.name_first i) = name_first_reads end s ts after rest i
 simple_reads end s ts after rest (error_of i) = error_of_reads end s ts after rest i
@@ -229,27 +261,46 @@ pub record IsPlainStep (ts rest : Tokens) : Type 0 where
   pub head : (next_head ts ==ₕ heads.Open) ≡ false
   pub shorter : length rest < length ts
 
-number_first_step : (s : Subjects) (ts : Tokens) (after : Subjects) (rest : Tokens) → IsNumberFirst s ts after rest → IsPlainStep ts rest
-number_first_step s ts after rest i = record { head = (signed_head i.number_is).1; shorter = let a = signed_shorter i.number_is in let b = next_shorter i.sign.next in let c = next_shorter i.name_next in omega arith }
+number_first_step : (s : Subjects) (ts : Tokens) (after : Subjects) (rest : Tokens) → IsNumberFirst s ts after rest →
+    IsPlainStep ts rest
+number_first_step s ts after rest i = record {
+  head = (signed_head i.number_is).1;
+  shorter = let a = signed_shorter i.number_is in let b = next_shorter i.sign.next in
+      let c = next_shorter i.name_next in omega arith;
+}
 
-name_first_step : (s : Subjects) (ts : Tokens) (after : Subjects) (rest : Tokens) → IsNameFirst s ts after rest → IsPlainStep ts rest
-name_first_step s ts after rest i = record { head = not_next i.name_next heads.Open refl; shorter = let a = signed_shorter i.number_is in let b = next_shorter i.sign.next in let c = next_shorter i.name_next in omega arith }
+name_first_step : (s : Subjects) (ts : Tokens) (after : Subjects) (rest : Tokens) → IsNameFirst s ts after rest →
+    IsPlainStep ts rest
+name_first_step s ts after rest i = record {
+  head = not_next i.name_next heads.Open refl;
+  shorter = let a = signed_shorter i.number_is in let b = next_shorter i.sign.next in
+      let c = next_shorter i.name_next in omega arith;
+}
 
-error_of_step : (s : Subjects) (ts : Tokens) (after : Subjects) (rest : Tokens) → IsErrorOf s ts after rest → IsPlainStep ts rest
-error_of_step s ts after rest i = record { head = not_next i.name_next heads.Open refl; shorter = let a = next_shorter i.number_is.next in let b = next_shorter i.sign.next in let c = next_shorter i.name_next in omega arith }
+error_of_step : (s : Subjects) (ts : Tokens) (after : Subjects) (rest : Tokens) → IsErrorOf s ts after rest →
+    IsPlainStep ts rest
+error_of_step s ts after rest i = record {
+  head = not_next i.name_next heads.Open refl;
+  shorter = let a = next_shorter i.number_is.next in let b = next_shorter i.sign.next in
+      let c = next_shorter i.name_next in omega arith;
+}
 
-pub simple_step : (s : Subjects) (ts : Tokens) (after : Subjects) (rest : Tokens) → IsSimple s ts after rest → IsPlainStep ts rest
+pub simple_step : (s : Subjects) (ts : Tokens) (after : Subjects) (rest : Tokens) → IsSimple s ts after rest →
+    IsPlainStep ts rest
 simple_step s ts after rest (syntax.number_first i) = number_first_step s ts after rest i
 simple_step s ts after rest (syntax.name_first i) = name_first_step s ts after rest i
 simple_step s ts after rest (error_of i) = error_of_step s ts after rest i
 
 -- ---- ranges
 
-pub pass_spells : (fails : Subject → Bool) (faulty : ℕ → SourceFault) (s : Subject) (subjects : Subjects) (u : Unit {0}) → all_pass fails faulty (s ∷ subjects) ≡ Ok u → (fails s ≡ false) × (all_pass fails faulty subjects ≡ Ok u)
+pub pass_spells : (fails : Subject → Bool) (faulty : ℕ →
+    SourceFault) (s : Subject) (subjects : Subjects) (u : Unit {0}) → all_pass fails faulty (s ∷ subjects) ≡ Ok u →
+    (fails s ≡ false) × (all_pass fails faulty subjects ≡ Ok u)
 unfolding all_pass
 pass_spells fails faulty s subjects u e = by (fails s) refl e
   where
-    by : (b : Bool) → fails s ≡ b → when b (λ _. Err (faulty s.at)) (λ _. all_pass fails faulty subjects) ≡ Ok u → (fails s ≡ false) × (all_pass fails faulty subjects ≡ Ok u)
+    by : (b : Bool) → fails s ≡ b → when b (λ _. Err (faulty s.at)) (λ _. all_pass fails faulty subjects) ≡ Ok u →
+        (fails s ≡ false) × (all_pass fails faulty subjects ≡ Ok u)
     by true p e = absurd cc
     by false p e = (p, e)
 
@@ -268,12 +319,27 @@ input_is s lacking empty =
       hi = hi.0;
       low = lo.1;
       high = hi.1;
-      ordered = at_most_true _ _ (sym (ap (λ o. is_at_most (decimal_value (or_zero o)) (decimal_value (or_zero s.hi))) lo.1 ∙ ap (λ o. is_at_most (decimal_value lo.0) (decimal_value (or_zero o))) hi.1) ∙ le);
-      value = ap (λ o. record { name = s.name; lo = decimal_value (or_zero o); hi = decimal_value (or_zero s.hi); err = decimal_value (or_zero s.err) }) lo.1
-          ∙ ap (λ o. record { name = s.name; lo = decimal_value lo.0; hi = decimal_value (or_zero o); err = decimal_value (or_zero s.err) }) hi.1;
+      ordered =
+          at_most_true _ _ (sym (ap (λ o. is_at_most (decimal_value (or_zero o)) (decimal_value (or_zero s.hi))) lo.1
+          ∙ ap (λ o. is_at_most (decimal_value lo.0) (decimal_value (or_zero o))) hi.1) ∙ le);
+      value =
+          ap (λ o. record {
+            name = s.name;
+            lo = decimal_value (or_zero o);
+            hi = decimal_value (or_zero s.hi);
+            err = decimal_value (or_zero s.err);
+          }) lo.1
+          ∙ ap (λ o. record {
+            name = s.name;
+            lo = decimal_value lo.0;
+            hi = decimal_value (or_zero o);
+            err = decimal_value (or_zero s.err);
+          }) hi.1;
     }
 
-ranges_are : (lacks empties : ℕ → SourceFault) (subjects : Subjects) (u v : Unit {0}) → all_pass is_lacking lacks subjects ≡ Ok u → all_pass is_empty_range empties subjects ≡ Ok v → AreInputsOf subjects (map declared_input subjects)
+ranges_are : (lacks empties : ℕ → SourceFault) (subjects : Subjects) (u v : Unit {0}) →
+    all_pass is_lacking lacks subjects ≡ Ok u → all_pass is_empty_range empties subjects ≡ Ok v →
+    AreInputsOf subjects (map declared_input subjects)
 ranges_are lacks empties [] u v e f = none
 ranges_are lacks empties (s ∷ subjects) u v e f =
     let a = pass_spells is_lacking lacks s subjects u e in
@@ -284,23 +350,36 @@ pub ranges_spell : (subjects : Subjects) → OnOk (AreInputsOf subjects) (inputs
 unfolding inputs_at
 ranges_spell subjects =
     and_then (answered (all_pass is_lacking (λ at. fault at kinds.NoRange) subjects)) (λ u e.
-    and_then (answered (all_pass is_empty_range (λ at. fault at kinds.EmptyRange) subjects)) (λ v f. done (ranges_are _ _ subjects u v e f)))
+    and_then (answered (all_pass is_empty_range (λ at. fault at kinds.EmptyRange) subjects))
+    (λ v f. done (ranges_are _ _ subjects u v e f)))
 
-range_reads : (s : Subject) (x : Input) → IsInputOf s x → (is_lacking s ≡ false) × (is_empty_range s ≡ false) × (declared_input s ≡ x)
+range_reads : (s : Subject) (x : Input) → IsInputOf s x →
+    (is_lacking s ≡ false) × (is_empty_range s ≡ false) × (declared_input s ≡ x)
 range_reads s x i = (
   ap (λ o. not (is_said o && is_said s.hi)) i.low ∙ ap (λ o. not (is_said o)) i.high,
   ap (λ o. not (is_at_most (decimal_value (or_zero o)) (decimal_value (or_zero s.hi)))) i.low
       ∙ ap (λ o. not (is_at_most (decimal_value i.lo) (decimal_value (or_zero o)))) i.high
       ∙ ap not (true_is (is_at_most (decimal_value i.lo) (decimal_value i.hi)) ((at_most_test _ _).1 i.ordered)),
-  ap (λ o. record { name = s.name; lo = decimal_value (or_zero o); hi = decimal_value (or_zero s.hi); err = decimal_value (or_zero s.err) }) i.low
-      ∙ ap (λ o. record { name = s.name; lo = decimal_value i.lo; hi = decimal_value (or_zero o); err = decimal_value (or_zero s.err) }) i.high
+  ap (λ o. record {
+    name = s.name;
+    lo = decimal_value (or_zero o);
+    hi = decimal_value (or_zero s.hi);
+    err = decimal_value (or_zero s.err);
+  }) i.low
+      ∙ ap (λ o. record {
+        name = s.name;
+        lo = decimal_value i.lo;
+        hi = decimal_value (or_zero o);
+        err = decimal_value (or_zero s.err);
+      }) i.high
       ∙ sym i.value,
 )
   where
     true_is : (b : Bool) → b ≡ true → b ≡ true
     true_is b e = e
 
-pub passes : (fails : Subject → Bool) (faulty : ℕ → SourceFault) (s : Subject) (subjects : Subjects) → fails s ≡ false → all_pass fails faulty subjects ≡ Ok tt → all_pass fails faulty (s ∷ subjects) ≡ Ok tt
+pub passes : (fails : Subject → Bool) (faulty : ℕ → SourceFault) (s : Subject) (subjects : Subjects) → fails s ≡ false →
+    all_pass fails faulty subjects ≡ Ok tt → all_pass fails faulty (s ∷ subjects) ≡ Ok tt
 unfolding all_pass
 passes fails faulty s subjects e f = when_false _ _ e ∙ f
 
@@ -309,7 +388,8 @@ record Ranged (lacks empties : ℕ → SourceFault) (subjects : Subjects) (input
   empty : all_pass is_empty_range empties subjects ≡ Ok tt
   same : map declared_input subjects ≡ inputs
 
-ranged : (lacks empties : ℕ → SourceFault) {subjects : Subjects} {inputs : List Input} → AreInputsOf subjects inputs → Ranged lacks empties subjects inputs
+ranged : (lacks empties : ℕ → SourceFault) {subjects : Subjects} {inputs : List Input} → AreInputsOf subjects inputs →
+    Ranged lacks empties subjects inputs
 unfolding all_pass
 ranged lacks empties none = record { lacking = refl; empty = refl; same = refl }
 ranged lacks empties (one_more {s = s} {x = x} {subjects = subjects} {inputs = inputs} i others) =
@@ -321,7 +401,8 @@ ranged lacks empties (one_more {s = s} {x = x} {subjects = subjects} {inputs = i
       same = ap (λ y. y ∷ map declared_input subjects) a.2 ∙ ap (λ ys. x ∷ ys) b.same;
     }
 
-pub ranges_read : {subjects : Subjects} {inputs : List Input} → AreInputsOf subjects inputs → inputs_at subjects ≡ Ok inputs
+pub ranges_read : {subjects : Subjects} {inputs : List Input} → AreInputsOf subjects inputs →
+    inputs_at subjects ≡ Ok inputs
 unfolding inputs_at
 ranges_read i =
     let r = ranged (λ at. fault at kinds.NoRange) (λ at. fault at kinds.EmptyRange) i in

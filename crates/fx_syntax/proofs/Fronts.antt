@@ -23,7 +23,8 @@ pub record IsFree (limit count : ℕ) (names : List Text) (t : Lexeme) : Type 0 
   pub few : count < limit
   pub fresh : has_name names t.text ≡ false
 
-pub free_spells : (limit count : ℕ) (names : List Text) (t : Lexeme) → count ≤ limit → OnOk (λ u. IsFree limit count names t) (free_at limit count names t)
+pub free_spells : (limit count : ℕ) (names : List Text) (t : Lexeme) → count ≤ limit →
+    OnOk (λ u. IsFree limit count names t) (free_at limit count names t)
 unfolding free_at
 free_spells limit count names t le =
     choose (eqb count limit) (λ e. failed) (λ other.
@@ -31,9 +32,11 @@ free_spells limit count names t le =
     let ne : count ≢ limit = search (rules, tests) in
     done (record { few = omega arith; fresh = e })))
 
-pub free_reads : (limit count : ℕ) (names : List Text) (t : Lexeme) → count < limit → has_name names t.text ≡ false → free_at limit count names t ≡ Ok tt
+pub free_reads : (limit count : ℕ) (names : List Text) (t : Lexeme) → count < limit → has_name names t.text ≡ false →
+    free_at limit count names t ≡ Ok tt
 unfolding free_at
-free_reads limit count names t lt e = let p : eqb count limit ≡ false = search (rules, tests) in on_false _ p (on_false _ e refl)
+free_reads limit count names t lt e =
+    let p : eqb count limit ≡ false = search (rules, tests) in on_false _ p (on_false _ e refl)
 
 -- ---- param
 
@@ -57,9 +60,11 @@ param_spells end s room ts = as_seen (
     }))))))
 
 pub param_room : Keeps HasRoom IsParam
-param_room s ts more us i = subst HasRoom (sym i.value) (let e = length-append s (new_subject i.name ∷ []) in let few = i.few in omega arith)
+param_room s ts more us i =
+    subst HasRoom (sym i.value) (let e = length-append s (new_subject i.name ∷ []) in let few = i.few in omega arith)
 
-pub param_reads : (end : ℕ) (s : Subjects) (ts : Tokens) (more : Subjects) (us : Tokens) → IsParam s ts more us → param_at end s ts ≡ Ok (more, us)
+pub param_reads : (end : ℕ) (s : Subjects) (ts : Tokens) (more : Subjects) (us : Tokens) → IsParam s ts more us →
+    param_at end s ts ≡ Ok (more, us)
 unfolding param_at
 param_reads end s ts more us i =
     steps _ (want_reads end i.typed.name_next) (
@@ -69,9 +74,11 @@ param_reads end s ts more us i =
     ap (λ (m : Subjects). Ok (m, us)) (sym i.value)))))
 
 pub typed_shorter : {ts : Tokens} {t : Lexeme} {us : Tokens} → IsTyped ts t us → length us < length ts
-typed_shorter i = let a = next_shorter i.name_next in let b = next_shorter i.colon.next in let c = real_shorter i.real in omega arith
+typed_shorter i =
+    let a = next_shorter i.name_next in let b = next_shorter i.colon.next in let c = real_shorter i.real in omega arith
 
-pub param_shorter : (s : Subjects) (ts : Tokens) (more : Subjects) (us : Tokens) → IsParam s ts more us → length us < length ts
+pub param_shorter : (s : Subjects) (ts : Tokens) (more : Subjects) (us : Tokens) → IsParam s ts more us →
+    length us < length ts
 param_shorter s ts more us i = typed_shorter i.typed
 
 -- ---- state
@@ -102,9 +109,13 @@ state_spells end h room ts = as_seen (
     }))))))))
 
 state_room : Keeps HasPlace IsState
-state_room h ts more us i = subst HasPlace (sym i.value) (let e = length-append h.states (record { name = i.name.text; start = decimal_value i.start } ∷ []) in let few = i.few in omega arith)
+state_room h ts more us i =
+    subst HasPlace (sym i.value)
+    (let e = length-append h.states (record { name = i.name.text; start = decimal_value i.start } ∷ []) in
+    let few = i.few in omega arith)
 
-pub state_reads : (end : ℕ) (h : Declared) (ts : Tokens) (more : Declared) (us : Tokens) → IsState h ts more us → declared_state end h ts ≡ Ok (more, us)
+pub state_reads : (end : ℕ) (h : Declared) (ts : Tokens) (more : Declared) (us : Tokens) → IsState h ts more us →
+    declared_state end h ts ≡ Ok (more, us)
 unfolding declared_state
 state_reads end h ts more us i =
     steps _ (want_reads end i.typed.name_next) (
@@ -115,45 +126,62 @@ state_reads end h ts more us i =
     steps _ (signed_reads end i.start_is) (
     ap (λ (m : Declared). Ok (m, us)) (sym i.value)))))))
 
-state_shorter : (h : Declared) (ts : Tokens) (more : Declared) (us : Tokens) → IsState h ts more us → length us < length ts
-state_shorter h ts more us i = let a = typed_shorter i.typed in let b = next_shorter i.equals.next in let c = signed_shorter i.start_is in omega arith
+state_shorter : (h : Declared) (ts : Tokens) (more : Declared) (us : Tokens) → IsState h ts more us →
+    length us < length ts
+state_shorter h ts more us i =
+    let a = typed_shorter i.typed in
+    let b = next_shorter i.equals.next in
+    let c = signed_shorter i.start_is in
+    omega arith
 
-pub states_spells : (end : ℕ) (inputs : List Text) (ts : Tokens) → OnOk (λ x. IsStates inputs ts x.0 x.1) (states_at end inputs ts)
+pub states_spells : (end : ℕ) (inputs : List Text) (ts : Tokens) →
+    OnOk (λ x. IsStates inputs ts x.0 x.1) (states_at end inputs ts)
 unfolding states_at
 states_spells end inputs ts = choose (next_head ts ==ₕ heads.Open)
     (λ e. let t = next_is ts heads.Open (same_head _ _ e) refl in
-    weaken (λ x i. listed (mark t.1) i) (from_seen (listed_spells itself HasPlace IsState (declared_state end) (state_spells end) state_room end (record { names = inputs; states = [] }) (omega arith) (drop 1 ts))))
+    weaken (λ x i. listed (mark t.1) i)
+    (from_seen (listed_spells itself HasPlace IsState (declared_state end) (state_spells end) state_room end
+    (record { names = inputs; states = [] }) (omega arith) (drop 1 ts))))
     (λ e. done none)
 
-pub states_reads : (end : ℕ) {inputs : List Text} {ts : Tokens} {d : Declared} {rest : Tokens} → IsStates inputs ts d rest → (next_head rest ==ₕ heads.Open) ≡ false → states_at end inputs ts ≡ Ok (d, rest)
+pub states_reads : (end : ℕ) {inputs : List Text} {ts : Tokens} {d : Declared} {rest : Tokens} →
+    IsStates inputs ts d rest → (next_head rest ==ₕ heads.Open) ≡ false → states_at end inputs ts ≡ Ok (d, rest)
 unfolding states_at
 states_reads end none off = on_false _ off refl
 states_reads end {inputs = inputs} (listed n i) off = on_true _ (is_next n.next) (
     ap (λ us. listed_by (declared_state end) end (record { names = inputs; states = [] }) us) (behind_is n.next)
-    ∙ listed_reads itself IsState (declared_state end) (λ ts. Unit {0}) (λ a ts b us i fits. state_reads end a ts b us i) state_shorter end (λ ts t us n. tt {0}) (λ ts t us n. tt {0}) i)
+    ∙ listed_reads itself IsState (declared_state end) (λ ts. Unit {0})
+    (λ a ts b us i fits. state_reads end a ts b us i) state_shorter end (λ ts t us n. tt {0})
+    (λ ts t us n. tt {0}) i)
 
-pub states_shorter : {inputs : List Text} {ts : Tokens} {d : Declared} {rest : Tokens} → IsStates inputs ts d rest → length rest ≤ length ts
+pub states_shorter : {inputs : List Text} {ts : Tokens} {d : Declared} {rest : Tokens} → IsStates inputs ts d rest →
+    length rest ≤ length ts
 states_shorter none = omega arith
-states_shorter (listed n i) = let a = next_shorter n.next in let b = listed_shorter IsState state_shorter i in omega arith
+states_shorter (listed n i) =
+    let a = next_shorter n.next in let b = listed_shorter IsState state_shorter i in omega arith
 
 -- the names of inputs and states in a row
 HasNames : List Text → Declared → Type 0
 HasNames inputs d = d.names ≡ inputs ++ map (λ s. s.name) d.states
 
-name_snoc : (states : List State) (s : State) → map (λ s. s.name) (states ++ s ∷ []) ≡ map (λ s. s.name) states ++ s.name ∷ []
+name_snoc : (states : List State) (s : State) →
+    map (λ s. s.name) (states ++ s ∷ []) ≡ map (λ s. s.name) states ++ s.name ∷ []
 name_snoc [] s = refl
 name_snoc (u ∷ states) s = ap (λ ns. u.name ∷ ns) (name_snoc states s)
 
-state_names : (inputs : List Text) (h : Declared) (ts : Tokens) (more : Declared) (us : Tokens) → IsState h ts more us → HasNames inputs h → HasNames inputs more
+state_names : (inputs : List Text) (h : Declared) (ts : Tokens) (more : Declared) (us : Tokens) → IsState h ts more us →
+    HasNames inputs h → HasNames inputs more
 unfolding HasNames
 state_names inputs h ts more us i e = subst (HasNames inputs) (sym i.value) (
     ap (λ ns. ns ++ i.name.text ∷ []) e ∙ append_assoc inputs (map (λ s. s.name) h.states) (i.name.text ∷ [])
     ∙ ap (λ ns. inputs ++ ns) (sym (name_snoc h.states (record { name = i.name.text; start = decimal_value i.start }))))
 
-pub declared_names : {inputs : List Text} {ts : Tokens} {d : Declared} {rest : Tokens} → IsStates inputs ts d rest → d.names ≡ inputs ++ map (λ s. s.name) d.states
+pub declared_names : {inputs : List Text} {ts : Tokens} {d : Declared} {rest : Tokens} → IsStates inputs ts d rest →
+    d.names ≡ inputs ++ map (λ s. s.name) d.states
 unfolding HasNames
 declared_names {inputs = inputs} none = sym (append-nil inputs)
-declared_names {inputs = inputs} (listed n i) = listed_keeps IsState (HasNames inputs) (state_names inputs) i (sym (append-nil inputs))
+declared_names {inputs = inputs} (listed n i) =
+    listed_keeps IsState (HasNames inputs) (state_names inputs) i (sym (append-nil inputs))
 
 -- ---- type
 
@@ -165,7 +193,8 @@ one_spells end first states n any ts = as_seen (
     let le : n + 1 ≤ states + 64 = search (rules, tests) in
     done (record { real = real; few = omega arith; value = refl }))))
 
-one_reads : (end first states : ℕ) (n : ℕ) (ts : Tokens) (m : ℕ) (us : Tokens) → IsOneReal states n ts m us → one_real end first states n ts ≡ Ok (m, us)
+one_reads : (end first states : ℕ) (n : ℕ) (ts : Tokens) (m : ℕ) (us : Tokens) → IsOneReal states n ts m us →
+    one_real end first states n ts ≡ Ok (m, us)
 unfolding one_real
 one_reads end first states n ts m us i =
     let few = i.few in
@@ -175,8 +204,10 @@ one_reads end first states n ts m us i =
 one_shorter : (states n : ℕ) (ts : Tokens) (m : ℕ) (us : Tokens) → IsOneReal states n ts m us → length us < length ts
 one_shorter states n ts m us i = real_shorter i.real
 
-more_spells : (first states : ℕ) {P : ℕ × Tokens → Type 0} (x : ℕ × Tokens) → P x → OnOk (λ y. (states < y.0) × P y) (more_than first states x)
-more_spells first states {P} x p = choose (nat_le x.0 states) (λ e. failed) (λ e. let lt : states < x.0 = search (rules, tests) in done (lt, p))
+more_spells : (first states : ℕ) {P : ℕ × Tokens → Type 0} (x : ℕ × Tokens) → P x →
+    OnOk (λ y. (states < y.0) × P y) (more_than first states x)
+more_spells first states {P} x p =
+    choose (nat_le x.0 states) (λ e. failed) (λ e. let lt : states < x.0 = search (rules, tests) in done (lt, p))
 
 more_reads : (first states n : ℕ) (us : Tokens) → states < n → more_than first states (n, us) ≡ Ok (n, us)
 more_reads first states n us lt = let e : nat_le n states ≡ false = search (rules, tests) in on_false _ e refl
@@ -185,23 +216,32 @@ pub type_spells : (end states : ℕ) (ts : Tokens) → OnOk (λ x. IsType states
 unfolding type_at
 type_spells end states ts = choose (next_head ts ==ₕ heads.Open)
     (λ e. let t = next_is ts heads.Open (same_head _ _ e) refl in
-    and_then (from_seen (listed_spells itself Any (IsOneReal states) (one_real end (next_place end ts) states) (one_spells end (next_place end ts) states) (keeps_any (IsOneReal states)) end 0 (tt {0}) (drop 1 ts)))
-    (λ x i. weaken (λ y p. several (mark t.1) p.1 p.0) (more_spells (next_place end ts) states {P = λ y. IsListed (IsOneReal states) 0 (drop 1 ts) y.0 y.1} x i)))
+    and_then (from_seen (listed_spells itself Any (IsOneReal states) (one_real end (next_place end ts) states)
+    (one_spells end (next_place end ts) states) (keeps_any (IsOneReal states)) end 0 (tt {0}) (drop 1 ts)))
+    (λ x i. weaken (λ y p. several (mark t.1) p.1 p.0)
+    (more_spells (next_place end ts) states {P = λ y. IsListed (IsOneReal states) 0 (drop 1 ts) y.0 y.1} x i)))
     (λ e. and_then (from_seen (one_spells end (next_place end ts) states 0 (tt {0}) ts))
-    (λ x i. weaken (λ y p. single p.1 p.0) (more_spells (next_place end ts) states {P = λ y. IsOneReal states 0 ts y.0 y.1} x i)))
+    (λ x i. weaken (λ y p. single p.1 p.0)
+    (more_spells (next_place end ts) states {P = λ y. IsOneReal states 0 ts y.0 y.1} x i)))
 
 pub type_shorter : (states : ℕ) {ts : Tokens} {n : ℕ} {us : Tokens} → IsType states ts n us → length us < length ts
 type_shorter states (single i lt) = real_shorter i.real
-type_shorter states (several o i lt) = let a = next_shorter o.next in let b = listed_shorter (IsOneReal states) (one_shorter states) i in omega arith
+type_shorter states (several o i lt) =
+    let a = next_shorter o.next in let b = listed_shorter (IsOneReal states) (one_shorter states) i in omega arith
 
 pub type_more : (states : ℕ) {ts : Tokens} {n : ℕ} {us : Tokens} → IsType states ts n us → 0 < n
 type_more states (single i lt) = omega arith
 type_more states (several o i lt) = omega arith
 
-pub type_reads : (end states : ℕ) {ts : Tokens} {n : ℕ} {us : Tokens} → IsType states ts n us → type_at end states ts ≡ Ok (n, us)
+pub type_reads : (end states : ℕ) {ts : Tokens} {n : ℕ} {us : Tokens} → IsType states ts n us →
+    type_at end states ts ≡ Ok (n, us)
 unfolding type_at
-type_reads end states {ts = ts} {n = n} {us = us} (single i lt) = on_false _ (not_next i.real.next heads.Open refl) (steps _ (one_reads end (next_place end ts) states 0 ts n us i) (more_reads (next_place end ts) states n us lt))
+type_reads end states {ts = ts} {n = n} {us = us} (single i lt) =
+    on_false _ (not_next i.real.next heads.Open refl)
+    (steps _ (one_reads end (next_place end ts) states 0 ts n us i) (more_reads (next_place end ts) states n us lt))
 type_reads end states {ts = ts} {n = n} {us = us} (several o i lt) = on_true _ (is_next o.next) (steps _
     (ap (λ us. listed_by (one_real end (next_place end ts) states) end 0 us) (behind_is o.next)
-    ∙ listed_reads itself (IsOneReal states) (one_real end (next_place end ts) states) (λ ts. Unit {0}) (λ a ts' b us i fits. one_reads end (next_place end ts) states a ts' b us i) (one_shorter states) end (λ ts t us n. tt {0}) (λ ts t us n. tt {0}) i)
+    ∙ listed_reads itself (IsOneReal states) (one_real end (next_place end ts) states) (λ ts. Unit {0})
+    (λ a ts' b us i fits. one_reads end (next_place end ts) states a ts' b us i) (one_shorter states) end
+    (λ ts t us n. tt {0}) (λ ts t us n. tt {0}) i)
     (more_reads (next_place end ts) states n us lt))

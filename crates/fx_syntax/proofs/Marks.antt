@@ -14,7 +14,35 @@ use Rattle.fx_syntax.proofs.Outcomes.{OnOk, done, failed, and_then, choose, weak
 
 -- the head of a number
 decode : ℕ → Head
-decode n = cond (eqb n 0) heads.End (cond (eqb n 1) heads.Name (cond (eqb n 2) heads.Number (cond (eqb n 3) heads.Plus (cond (eqb n 4) heads.Minus (cond (eqb n 5) heads.Star (cond (eqb n 6) heads.Slash (cond (eqb n 7) heads.Open (cond (eqb n 8) heads.Close (cond (eqb n 9) heads.OpenBrace (cond (eqb n 10) heads.CloseBrace (cond (eqb n 11) heads.Colon (cond (eqb n 12) heads.Comma (cond (eqb n 13) heads.Dot (cond (eqb n 14) heads.Semicolon (cond (eqb n 15) heads.Equals (cond (eqb n 16) heads.Arrow (cond (eqb n 17) heads.PlusMinus (cond (eqb n 18) heads.And (cond (eqb n 19) heads.Below (cond (eqb n 20) heads.AtMost (cond (eqb n 21) heads.Above (cond (eqb n 22) heads.AtLeast (cond (eqb n 23) heads.Import (cond (eqb n 24) heads.Object (cond (eqb n 25) heads.Def (cond (eqb n 26) heads.Val (cond (eqb n 27) heads.Require (cond (eqb n 28) heads.Ensuring heads.Unsupported))))))))))))))))))))))))))))
+decode n =
+    cond (eqb n 0) heads.End
+    (cond (eqb n 1) heads.Name
+    (cond (eqb n 2) heads.Number
+    (cond (eqb n 3) heads.Plus
+    (cond (eqb n 4) heads.Minus
+    (cond (eqb n 5) heads.Star
+    (cond (eqb n 6) heads.Slash
+    (cond (eqb n 7) heads.Open
+    (cond (eqb n 8) heads.Close
+    (cond (eqb n 9) heads.OpenBrace
+    (cond (eqb n 10) heads.CloseBrace
+    (cond (eqb n 11) heads.Colon
+    (cond (eqb n 12) heads.Comma
+    (cond (eqb n 13) heads.Dot
+    (cond (eqb n 14) heads.Semicolon
+    (cond (eqb n 15) heads.Equals
+    (cond (eqb n 16) heads.Arrow
+    (cond (eqb n 17) heads.PlusMinus
+    (cond (eqb n 18) heads.And
+    (cond (eqb n 19) heads.Below
+    (cond (eqb n 20) heads.AtMost
+    (cond (eqb n 21) heads.Above
+    (cond (eqb n 22) heads.AtLeast
+    (cond (eqb n 23) heads.Import
+    (cond (eqb n 24) heads.Object
+    (cond (eqb n 25) heads.Def
+    (cond (eqb n 26) heads.Val
+    (cond (eqb n 27) heads.Require (cond (eqb n 28) heads.Ensuring heads.Unsupported))))))))))))))))))))))))))))
 
 back : (h : Head) → decode (head_number h) ≡ h
 unfolding decode
@@ -55,7 +83,8 @@ same_head a b e = sym (back a) ∙ ap decode (eqb-true (head_number a) (head_num
 -- ---- the next token
 
 -- a head stands next that isn't the end's
-pub next_is : (ts : Tokens) (h : Head) → next_head ts ≡ h → (h ==ₕ heads.End) ≡ false → (t : Lexeme) × IsNext h ts t (drop 1 ts)
+pub next_is : (ts : Tokens) (h : Head) → next_head ts ≡ h → (h ==ₕ heads.End) ≡ false →
+    (t : Lexeme) × IsNext h ts t (drop 1 ts)
 next_is [] h e some = absurd (let f : (h ==ₕ heads.End) ≡ true = subst (λ g. (g ==ₕ heads.End) ≡ true) e refl in cc)
 next_is (t ∷ ts) h e some = (t, record { tokens = refl; is = e })
 
@@ -72,16 +101,20 @@ mark {t = t} n = record { token = t; next = n }
 pub want_spells : (end : ℕ) (h : Head) (ts : Tokens) → OnOk (λ x. IsNext h ts x.0 x.1) (want end h ts)
 unfolding want
 want_spells end h [] = failed
-want_spells end h (t ∷ ts) = choose (head_of t ==ₕ h) (λ e. done (record { tokens = refl; is = same_head (head_of t) h e })) (λ e. failed)
+want_spells end h (t ∷ ts) =
+    choose (head_of t ==ₕ h) (λ e. done (record { tokens = refl; is = same_head (head_of t) h e })) (λ e. failed)
 
 same_true : (h : Head) → (h ==ₕ h) ≡ true
 same_true h = search (rules, tests)
 
-pub want_reads : (end : ℕ) {h : Head} {ts : Tokens} {t : Lexeme} {us : Tokens} → IsNext h ts t us → want end h ts ≡ Ok (t, us)
+pub want_reads : (end : ℕ) {h : Head} {ts : Tokens} {t : Lexeme} {us : Tokens} → IsNext h ts t us →
+    want end h ts ≡ Ok (t, us)
 unfolding want
-want_reads end {h} {t = t} {us = us} n = ap (want end h) n.tokens ∙ on_true _ (subst (λ g. (g ==ₕ h) ≡ true) (sym n.is) (same_true h)) refl
+want_reads end {h} {t = t} {us = us} n =
+    ap (want end h) n.tokens ∙ on_true _ (subst (λ g. (g ==ₕ h) ≡ true) (sym n.is) (same_true h)) refl
 
-pub not_next : {h : Head} {ts : Tokens} {t : Lexeme} {us : Tokens} → IsNext h ts t us → (g : Head) → (h ==ₕ g) ≡ false → (next_head ts ==ₕ g) ≡ false
+pub not_next : {h : Head} {ts : Tokens} {t : Lexeme} {us : Tokens} → IsNext h ts t us → (g : Head) → (h ==ₕ g) ≡ false →
+    (next_head ts ==ₕ g) ≡ false
 not_next n g e = subst (λ k. (k ==ₕ g) ≡ false) (sym (next_head_is n)) e
 
 pub next_shorter : {h : Head} {ts : Tokens} {t : Lexeme} {us : Tokens} → IsNext h ts t us → length us < length ts
@@ -102,7 +135,8 @@ pub real_spells : (end : ℕ) (ts : Tokens) → OnOk (λ x. IsReal ts x.1) (real
 unfolding real_at
 real_spells end ts =
     and_then (want_spells end heads.Name ts) (λ t n.
-    choose (bytes_eq t.0.text (codes "Real")) (λ e. done (record { token = t.0; next = n; text = text_same _ _ e })) (λ e. failed))
+    choose (bytes_eq t.0.text (codes "Real")) (λ e. done (record { token = t.0; next = n; text = text_same _ _ e }))
+    (λ e. failed))
 
 pub real_reads : (end : ℕ) {ts us : Tokens} (i : IsReal ts us) → real_at end ts ≡ Ok (i.token, us)
 unfolding real_at
@@ -110,9 +144,11 @@ real_reads end n = steps _ (want_reads end n.next) (on_true _ (same_text _ _ n.t
 
 pub number_spells : (end : ℕ) (ts : Tokens) → OnOk (λ x. IsNumber ts x.0 x.1) (numeral_at end ts)
 unfolding numeral_at
-number_spells end ts = and_then (want_spells end heads.Number ts) (λ t n. done (record { number = t.0; next = n; value = refl }))
+number_spells end ts =
+    and_then (want_spells end heads.Number ts) (λ t n. done (record { number = t.0; next = n; value = refl }))
 
-pub number_reads : (end : ℕ) {ts : Tokens} {d : Decimal} {us : Tokens} → IsNumber ts d us → numeral_at end ts ≡ Ok (d, us)
+pub number_reads : (end : ℕ) {ts : Tokens} {d : Decimal} {us : Tokens} → IsNumber ts d us →
+    numeral_at end ts ≡ Ok (d, us)
 unfolding numeral_at
 number_reads end {us = us} n = steps _ (want_reads end n.next) (ap (λ (d : Decimal). Ok (d, us)) (sym n.value))
 
@@ -120,13 +156,16 @@ pub signed_spells : (end : ℕ) (ts : Tokens) → OnOk (λ x. IsSigned ts x.0 x.
 unfolding signed_at
 signed_spells end ts =
     choose (next_head ts ==ₕ heads.Minus)
-    (λ e. let t = next_is ts heads.Minus (same_head _ _ e) refl in and_then (number_spells end (drop 1 ts)) (λ d n. done (negative (mark t.1) n)))
+    (λ e. let t = next_is ts heads.Minus (same_head _ _ e) refl in
+    and_then (number_spells end (drop 1 ts)) (λ d n. done (negative (mark t.1) n)))
     (λ e. weaken (λ x n. plain n) (number_spells end ts))
 
-pub signed_reads : (end : ℕ) {ts : Tokens} {d : Decimal} {us : Tokens} → IsSigned ts d us → signed_at end ts ≡ Ok (d, us)
+pub signed_reads : (end : ℕ) {ts : Tokens} {d : Decimal} {us : Tokens} → IsSigned ts d us →
+    signed_at end ts ≡ Ok (d, us)
 unfolding signed_at
 signed_reads end (plain n) = on_false _ (not_next n.next heads.Minus refl) (number_reads end n)
-signed_reads end (negative s n) = on_true _ (is_next s.next) (steps _ (ap (numeral_at end) (behind_is s.next) ∙ number_reads end n) refl)
+signed_reads end (negative s n) =
+    on_true _ (is_next s.next) (steps _ (ap (numeral_at end) (behind_is s.next) ∙ number_reads end n) refl)
 
 pub semicolon_spells : (ts : Tokens) → IsMaybeSemicolon ts (past_semicolon ts)
 semicolon_spells ts = by (next_head ts ==ₕ heads.Semicolon) refl
@@ -135,7 +174,8 @@ semicolon_spells ts = by (next_head ts ==ₕ heads.Semicolon) refl
     by true e = let t = next_is ts heads.Semicolon (same_head _ _ e) refl in written (mark t.1)
     by false e = left_out
 
-pub semicolon_reads : {ts rest : Tokens} → IsMaybeSemicolon ts rest → (next_head rest ==ₕ heads.Semicolon) ≡ false → past_semicolon ts ≡ rest
+pub semicolon_reads : {ts rest : Tokens} → IsMaybeSemicolon ts rest → (next_head rest ==ₕ heads.Semicolon) ≡ false →
+    past_semicolon ts ≡ rest
 semicolon_reads left_out stop = on_false _ stop refl
 semicolon_reads (written n) stop = on_true _ (is_next n.next) (behind_is n.next)
 

@@ -20,13 +20,15 @@ size (Product a b) = 1 + size a + size b
 size (Quotient a b) = 1 + size a + size b
 
 abbrev pub operand_of : Tree → Operand
-operand_of x = record { tree = low_tree (min 201 (height x)) (Some x); height = min 201 (height x); nodes = min 4001 (size x) }
+operand_of x =
+    record { tree = low_tree (min 201 (height x)) (Some x); height = min 201 (height x); nodes = min 4001 (size x) }
 
 made : Option Tree → ℕ → ℕ → Operand
 made x h n = record { tree = x; height = h; nodes = n }
 
 same_operand : {x y : Option Tree} {g h m n : ℕ} → x ≡ y → g ≡ h → m ≡ n → made x g m ≡ made y h n
-same_operand {x = x} {y = y} {g = g} {h = h} {m = m} {n = n} p q r = ap (λ z. made z g m) p ∙ ap (λ k. made y k m) q ∙ ap (made y h) r
+same_operand {x = x} {y = y} {g = g} {h = h} {m = m} {n = n} p q r =
+    ap (λ z. made z g m) p ∙ ap (λ k. made y k m) q ∙ ap (made y h) r
 
 abbrev no_tree : Option Tree
 no_tree = None
@@ -66,10 +68,19 @@ negation_is x = same_operand (by (low_or_high (height x))) higher nodes
     nodes : min 4001 (1 + min 4001 (size x)) ≡ min 4001 (1 + size x)
     nodes = omega arith
 
-    by : (height x ≤ 200) ⊎ (200 < height x) → low_tree (min 201 (1 + min 201 (height x))) (negation_of (low_tree (min 201 (height x)) (Some x))) ≡ low_tree (min 201 (suc (height x))) (Some (Negation x))
-    by (inl le) = let small : min 201 (height x) ≤ 200 = omega arith in ap (λ o. low_tree (min 201 (1 + min 201 (height x))) (negation_of o)) (kept_low (min 201 (height x)) (Some x) small) ∙ ap (λ h. low_tree h (Some (Negation x))) higher
-    by (inr lt) = let great : 200 < min 201 (height x) = omega arith in let great' : 200 < min 201 (suc (height x)) = omega arith in
-        ap (λ o. low_tree (min 201 (1 + min 201 (height x))) (negation_of o)) (kept_high (min 201 (height x)) (Some x) great) ∙ kept_none (min 201 (1 + min 201 (height x))) ∙ sym (kept_high (min 201 (suc (height x))) (Some (Negation x)) great')
+    by : (height x ≤ 200) ⊎ (200 < height x) →
+        low_tree (min 201 (1 + min 201 (height x))) (negation_of (low_tree (min 201 (height x)) (Some x)))
+        ≡ low_tree (min 201 (suc (height x))) (Some (Negation x))
+    by (inl le) =
+        let small : min 201 (height x) ≤ 200 = omega arith in
+        ap (λ o. low_tree (min 201 (1 + min 201 (height x))) (negation_of o))
+        (kept_low (min 201 (height x)) (Some x) small) ∙ ap (λ h. low_tree h (Some (Negation x))) higher
+    by (inr lt) =
+        let great : 200 < min 201 (height x) = omega arith in
+        let great' : 200 < min 201 (suc (height x)) = omega arith in
+        ap (λ o. low_tree (min 201 (1 + min 201 (height x))) (negation_of o))
+        (kept_high (min 201 (height x)) (Some x) great) ∙ kept_none (min 201 (1 + min 201 (height x)))
+        ∙ sym (kept_high (min 201 (suc (height x))) (Some (Negation x)) great')
 
 -- ---- two operands
 
@@ -83,7 +94,8 @@ pub record IsOperation (sign : Head) (x y z : Tree) : Type 0 where
   pub height : height z ≡ suc (max (height x) (height y))
   pub size : size z ≡ 1 + size x + size y
 
-pub joined_is : (sign : Head) (x y z : Tree) → IsOperation sign x y z → combined_operand sign (operand_of x) (operand_of y) ≡ operand_of z
+pub joined_is : (sign : Head) (x y z : Tree) → IsOperation sign x y z →
+    combined_operand sign (operand_of x) (operand_of y) ≡ operand_of z
 unfolding made
 joined_is sign x y z i = same_operand (by (low_or_high (height x)) (low_or_high (height y))) higher nodes
   where
@@ -101,21 +113,30 @@ joined_is sign x y z i = same_operand (by (low_or_high (height x)) (low_or_high 
     great (inr lt) = let e = i.height in omega arith
 
     by : (height x ≤ 200) ⊎ (200 < height x) → (height y ≤ 200) ⊎ (200 < height y)
-        → low_tree (min 201 (1 + max (min 201 (height x)) (min 201 (height y)))) (both sign (low_tree (min 201 (height x)) (Some x)) (low_tree (min 201 (height y)) (Some y))) ≡ low_tree (min 201 (height z)) (Some z)
+        → low_tree (min 201 (1 + max (min 201 (height x)) (min 201 (height y))))
+        (both sign (low_tree (min 201 (height x)) (Some x)) (low_tree (min 201 (height y)) (Some y)))
+        ≡ low_tree (min 201 (height z)) (Some z)
     by (inr lt) q =
         let g : 200 < min 201 (height x) = omega arith in
-        ap (λ o. low_tree (min 201 (1 + max (min 201 (height x)) (min 201 (height y)))) (both sign o (low_tree (min 201 (height y)) (Some y)))) (kept_high (min 201 (height x)) (Some x) g)
-        ∙ kept_none (min 201 (1 + max (min 201 (height x)) (min 201 (height y)))) ∙ sym (kept_high (min 201 (height z)) (Some z) (great (inl lt)))
+        ap (λ o. low_tree (min 201 (1 + max (min 201 (height x)) (min 201 (height y))))
+        (both sign o (low_tree (min 201 (height y)) (Some y)))) (kept_high (min 201 (height x)) (Some x) g)
+        ∙ kept_none (min 201 (1 + max (min 201 (height x)) (min 201 (height y))))
+        ∙ sym (kept_high (min 201 (height z)) (Some z) (great (inl lt)))
     by (inl le) (inr lt) =
         let g : 200 < min 201 (height y) = omega arith in
-        ap (λ o. low_tree (min 201 (1 + max (min 201 (height x)) (min 201 (height y)))) (both sign (low_tree (min 201 (height x)) (Some x)) o)) (kept_high (min 201 (height y)) (Some y) g)
-        ∙ ap (low_tree (min 201 (1 + max (min 201 (height x)) (min 201 (height y))))) (both_none sign (low_tree (min 201 (height x)) (Some x)))
-        ∙ kept_none (min 201 (1 + max (min 201 (height x)) (min 201 (height y)))) ∙ sym (kept_high (min 201 (height z)) (Some z) (great (inr lt)))
+        ap (λ o. low_tree (min 201 (1 + max (min 201 (height x)) (min 201 (height y))))
+        (both sign (low_tree (min 201 (height x)) (Some x)) o)) (kept_high (min 201 (height y)) (Some y) g)
+        ∙ ap (low_tree (min 201 (1 + max (min 201 (height x)) (min 201 (height y)))))
+        (both_none sign (low_tree (min 201 (height x)) (Some x)))
+        ∙ kept_none (min 201 (1 + max (min 201 (height x)) (min 201 (height y))))
+        ∙ sym (kept_high (min 201 (height z)) (Some z) (great (inr lt)))
     by (inl le) (inl le') =
         let a : min 201 (height x) ≤ 200 = omega arith in
         let b : min 201 (height y) ≤ 200 = omega arith in
-        ap (λ o. low_tree (min 201 (1 + max (min 201 (height x)) (min 201 (height y)))) (both sign o (low_tree (min 201 (height y)) (Some y)))) (kept_low (min 201 (height x)) (Some x) a)
-        ∙ ap (λ o. low_tree (min 201 (1 + max (min 201 (height x)) (min 201 (height y)))) (both sign (Some x) o)) (kept_low (min 201 (height y)) (Some y) b)
+        ap (λ o. low_tree (min 201 (1 + max (min 201 (height x)) (min 201 (height y))))
+        (both sign o (low_tree (min 201 (height y)) (Some y)))) (kept_low (min 201 (height x)) (Some x) a)
+        ∙ ap (λ o. low_tree (min 201 (1 + max (min 201 (height x)) (min 201 (height y)))) (both sign (Some x) o))
+        (kept_low (min 201 (height y)) (Some y) b)
         ∙ ap (λ t. low_tree (min 201 (1 + max (min 201 (height x)) (min 201 (height y)))) (Some t)) i.tree
         ∙ ap (λ k. low_tree k (Some z)) higher
 
@@ -133,7 +154,8 @@ pub low_not_high : (x : Tree) → height x ≤ 200 → is_high (operand_of x) �
 low_not_high x le = let lt : min 201 (height x) < 201 = omega arith in search (rules, tests, arith)
 
 pub tree_is : (x : Tree) → height x ≤ 200 → tree_or (operand_of x).tree ≡ x
-tree_is x le = let small : min 201 (height x) ≤ 200 = omega arith in ap tree_or (kept_low (min 201 (height x)) (Some x) small)
+tree_is x le =
+    let small : min 201 (height x) ≤ 200 = omega arith in ap tree_or (kept_low (min 201 (height x)) (Some x) small)
 
 -- the nodes of a tree in the list
 pub flat_size : (i : ℕ) (temps : List ℕ) (n : ℕ) (x : Tree) → length (flat i temps n x).list ≡ size x
@@ -142,7 +164,19 @@ flat_size i temps n (Input k) = refl
 flat_size i temps n (State k) = refl
 flat_size i temps n (Temp k) = refl
 flat_size i temps n (Negation a) = let h = flat_size i temps n a in simp length-append (omega arith)
-flat_size i temps n (Sum a b) = let h = flat_size i temps n a in let k = flat_size i temps (n + length (flat i temps n a).list) b in simp length-append (omega arith)
-flat_size i temps n (Difference a b) = let h = flat_size i temps n a in let k = flat_size i temps (n + length (flat i temps n a).list) b in simp length-append (omega arith)
-flat_size i temps n (Product a b) = let h = flat_size i temps n a in let k = flat_size i temps (n + length (flat i temps n a).list) b in simp length-append (omega arith)
-flat_size i temps n (Quotient a b) = let h = flat_size i temps n a in let k = flat_size i temps (n + length (flat i temps n a).list) b in simp length-append (omega arith)
+flat_size i temps n (Sum a b) =
+    let h = flat_size i temps n a in
+    let k = flat_size i temps (n + length (flat i temps n a).list) b in
+    simp length-append (omega arith)
+flat_size i temps n (Difference a b) =
+    let h = flat_size i temps n a in
+    let k = flat_size i temps (n + length (flat i temps n a).list) b in
+    simp length-append (omega arith)
+flat_size i temps n (Product a b) =
+    let h = flat_size i temps n a in
+    let k = flat_size i temps (n + length (flat i temps n a).list) b in
+    simp length-append (omega arith)
+flat_size i temps n (Quotient a b) =
+    let h = flat_size i temps n a in
+    let k = flat_size i temps (n + length (flat i temps n a).list) b in
+    simp length-append (omega arith)

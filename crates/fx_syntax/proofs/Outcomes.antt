@@ -12,11 +12,13 @@ done {P = P} p = record { at = λ y e. let same : _ ≡ y = cc in subst P same p
 pub failed : {A E : Type 0} {P : A → Type 0} {e : E} → OnOk P (Err e)
 failed = record { at = λ y e. absurd cc }
 
-pub and_then : {A B E : Type 0} {P : A → Type 0} {Q : B → Type 0} {r : Result A E} {f : A → Result B E} → OnOk P r → ((x : A) → P x → OnOk Q (f x)) → OnOk Q (r >>= f)
+pub and_then : {A B E : Type 0} {P : A → Type 0} {Q : B → Type 0} {r : Result A E} {f : A → Result B E} → OnOk P r →
+    ((x : A) → P x → OnOk Q (f x)) → OnOk Q (r >>= f)
 and_then {r = Ok x} p k = k x (p.at x refl)
 and_then {r = Err e} p k = failed
 
-pub choose : {A E : Type 0} {P : A → Type 0} {x y : Result A E} (b : Bool) → (b ≡ true → OnOk P x) → (b ≡ false → OnOk P y) → OnOk P (cond b x y)
+pub choose : {A E : Type 0} {P : A → Type 0} {x y : Result A E} (b : Bool) → (b ≡ true → OnOk P x) →
+    (b ≡ false → OnOk P y) → OnOk P (cond b x y)
 choose true yes' no' = yes' refl
 choose false yes' no' = no' refl
 
@@ -31,7 +33,8 @@ weaken k p = record { at = λ x e. k x (p.at x e) }
 
 -- ---- the other way
 
-pub steps : {A B E : Type 0} {r : Result A E} (f : A → Result B E) {x : A} {y : Result B E} → r ≡ Ok x → f x ≡ y → (r >>= f) ≡ y
+pub steps : {A B E : Type 0} {r : Result A E} (f : A → Result B E) {x : A} {y : Result B E} → r ≡ Ok x → f x ≡ y →
+    (r >>= f) ≡ y
 steps f {y = y} p q = subst (λ s. (s >>= f) ≡ y) (sym p) q
 
 pub on_true : {A : Type 0} {b : Bool} {x : A} (y : A) {z : A} → b ≡ true → x ≡ z → cond b x y ≡ z

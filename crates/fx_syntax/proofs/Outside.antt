@@ -78,7 +78,8 @@ faults_2 =
     faulty (codes "def f(x:Real):Real={require(0<=x&&1<=x&&x<=1) x}") 37 kinds.NamedTwice ∷
     faulty (codes "def f(x:Real):Real={require(0<=x&&x<=1&&x<=1) x}") 40 kinds.NamedTwice ∷
     faulty (codes "def f(x:Real):Real={require(0<=x&&x<=1&&x+/-1&&x+/-2) x}") 47 kinds.NamedTwice ∷
-    faulty (codes "def f(x:Real):Real={require(0<=x&&x<=1) x} def f(x:Real):Real={require(0<=x&&x<=1) x}") 47 kinds.NamedTwice ∷
+    faulty (codes "def f(x:Real):Real={require(0<=x&&x<=1) x} def f(x:Real):Real={require(0<=x&&x<=1) x}") 47
+    kinds.NamedTwice ∷
     faulty (codes "def f(x:Real):Real={ x}") 6 kinds.NoRange ∷
     faulty (codes "def f(x:Real):Real={if x}") 20 kinds.Unsupported ∷
     faulty (codes "def f(x:Real):Real={ val y = x x}") 6 kinds.NoRange ∷
@@ -178,12 +179,15 @@ within : Rational → model.Demand
 within err = record { err = Some err; lo = None; hi = None }
 
 function : Text → List model.Input → List model.State → List model.Temp → List Tree → List model.Demand → Function
-function name inputs states temps results demands = record { name = name; inputs = inputs; states = states; temps = temps; results = results; demands = demands }
+function name inputs states temps results demands =
+    record { name = name; inputs = inputs; states = states; temps = temps; results = results; demands = demands }
 
 -- a function f of x from 0 to 1, with one output that nothing is demanded of
 of_x : List model.Temp → List Tree → Function
 unfolding function input dec
-of_x temps results = function (codes "f") (input (codes "x") (dec (pos 0) 0) (dec (pos 1) 0) (dec (pos 0) 0) ∷ []) [] temps results (free ∷ [])
+of_x temps results =
+    function (codes "f") (input (codes "x") (dec (pos 0) 0) (dec (pos 1) 0) (dec (pos 0) 0) ∷ []) [] temps results
+    (free ∷ [])
 
 record Lawful : Type 0 where
   text : Text
@@ -201,22 +205,37 @@ meanings xs = map (λ x. Ok x.functions) xs
 sources_1 : List Lawful
 unfolding over
 sources_1 =
-    lawful (codes "def f(x: Real): Real = {\n  require(0 <= x && x <= 1)\n  x + 0.5\n}\n") (of_x [] ((Sum (Input 0) (Literal (over (pos 1) 2))) ∷ []) ∷ []) ∷
+    lawful (codes "def f(x: Real): Real = {\n  require(0 <= x && x <= 1)\n  x + 0.5\n}\n")
+    (of_x [] ((Sum (Input 0) (Literal (over (pos 1) 2))) ∷ []) ∷ []) ∷
     lawful (codes "def g(u: Real)(x: Real = 0.0): (Real, Real) = {\n  require(-1 <= u && u <= 1)\n  val y = 0.5 * x + 0.5 * u\n  (y, y)\n}\n") (function (codes "g") (input (codes "u") (dec (negsuc 0) 0) (dec (pos 1) 0) (dec (pos 0) 0) ∷ []) (state (codes "x") (dec (pos 0) 0) ∷ []) (temp (codes "y") (Sum (Product (Literal (over (pos 1) 2)) (State 0)) (Product (Literal (over (pos 1) 2)) (Input 0))) ∷ []) ((Temp 0) ∷ (Temp 0) ∷ []) (free ∷ []) ∷ []) ∷
     lawful (codes "import daisy.lang._\nimport Real._\n\nobject Doppler {\n  /* frequency shift */\n  def doppler(u: Real, v: Real, T: Real): Real = {\n    require(-100.0 <= u && u <= 100 && 20 <= v && v <= 20000 && -30 <= T && T <= 50)\n    val t1 = 331.4 + 0.6 * T // speed of sound\n    (- (t1) * v) / ((t1 + u) * (t1 + u))\n  } ensuring (res => res +/- 0.001)\n}\n") (function (codes "doppler") (input (codes "u") (dec (negsuc 99) 0) (dec (pos 100) 0) (dec (pos 0) 0) ∷ input (codes "v") (dec (pos 20) 0) (dec (pos 20000) 0) (dec (pos 0) 0) ∷ input (codes "T") (dec (negsuc 29) 0) (dec (pos 50) 0) (dec (pos 0) 0) ∷ []) [] (temp (codes "t1") (Sum (Literal (over (pos 1657) 5)) (Product (Literal (over (pos 3) 5)) (Input 2))) ∷ []) ((Quotient (Product (Negation (Temp 0)) (Input 1)) (Product (Sum (Temp 0) (Input 0)) (Sum (Temp 0) (Input 0)))) ∷ []) (within (dec (pos 1) 3) ∷ []) ∷ []) ∷
-    lawful (codes "def m(x: Real): Real = { require(-1.984375 <= x && x <= 1) -x }") (function (codes "m") (input (codes "x") (dec (negsuc 1984374) 6) (dec (pos 1) 0) (dec (pos 0) 0) ∷ []) [] [] ((Negation (Input 0)) ∷ []) (free ∷ []) ∷ []) ∷
-    lawful (codes "def q(x: Real): Real = { require(0.002 <= x && x <= 1) 1 / (x - 0.001) }") (function (codes "q") (input (codes "x") (dec (pos 2) 3) (dec (pos 1) 0) (dec (pos 0) 0) ∷ []) [] [] ((Quotient (Literal (over (pos 1) 1)) (Difference (Input 0) (Literal (over (pos 1) 1000)))) ∷ []) (free ∷ []) ∷ []) ∷
-    lawful (codes "def f(x:Real):Real={require(0<=x&&x<=1) x /* a /* b */ c */ + 1}") (of_x [] ((Sum (Input 0) (Literal (over (pos 1) 1))) ∷ []) ∷ []) ∷
+    lawful (codes "def m(x: Real): Real = { require(-1.984375 <= x && x <= 1) -x }")
+    (function (codes "m") (input (codes "x") (dec (negsuc 1984374) 6) (dec (pos 1) 0) (dec (pos 0) 0) ∷ []) [] []
+    ((Negation (Input 0)) ∷ []) (free ∷ []) ∷ []) ∷
+    lawful (codes "def q(x: Real): Real = { require(0.002 <= x && x <= 1) 1 / (x - 0.001) }")
+    (function (codes "q") (input (codes "x") (dec (pos 2) 3) (dec (pos 1) 0) (dec (pos 0) 0) ∷ []) [] []
+    ((Quotient (Literal (over (pos 1) 1)) (Difference (Input 0) (Literal (over (pos 1) 1000)))) ∷ []) (free ∷ [])
+    ∷ []) ∷
+    lawful (codes "def f(x:Real):Real={require(0<=x&&x<=1) x /* a /* b */ c */ + 1}")
+    (of_x [] ((Sum (Input 0) (Literal (over (pos 1) 1))) ∷ []) ∷ []) ∷
     lawful (codes "def f(x:Real):Real={require(0<=x&&x<=1) x // c\n + 1}") (of_x [] ((Sum (Input 0) (Literal (over (pos 1) 1))) ∷ []) ∷ []) ∷
-    lawful (codes "def f(x:Real):Real={require(0<=x&&x<=1) 1.5e3}") (of_x [] ((Literal (over (pos 1500) 1)) ∷ []) ∷ []) ∷
-    lawful (codes "def f(x:Real):Real={require(0<=x&&x<=1) x /**/ - 1}") (of_x [] ((Difference (Input 0) (Literal (over (pos 1) 1))) ∷ []) ∷ []) ∷
+    lawful (codes "def f(x:Real):Real={require(0<=x&&x<=1) 1.5e3}") (of_x [] ((Literal (over (pos 1500) 1)) ∷ []) ∷ [])
+    ∷
+    lawful (codes "def f(x:Real):Real={require(0<=x&&x<=1) x /**/ - 1}")
+    (of_x [] ((Difference (Input 0) (Literal (over (pos 1) 1))) ∷ []) ∷ []) ∷
     lawful (codes "") [] ∷
     lawful (codes "object O { import a.b.c }") [] ∷
-    lawful (codes "def f(x:Real):(Real,Real)={require(0<=x&&x<=1) (x,x)}") (function (codes "f") (input (codes "x") (dec (pos 0) 0) (dec (pos 1) 0) (dec (pos 0) 0) ∷ []) [] [] ((Input 0) ∷ (Input 0) ∷ []) (free ∷ free ∷ []) ∷ []) ∷
-    lawful (codes "def f(x:Real):Real={require(0<=x&&x<=1) val t = 2 (t)}") (of_x (temp (codes "t") (Literal (over (pos 2) 1)) ∷ []) ((Temp 0) ∷ []) ∷ []) ∷
-    lawful (codes "def f(x:Real):Real={require(0<=x&&x<=1) val t = x\n(t)}") (of_x (temp (codes "t") (Input 0) ∷ []) ((Temp 0) ∷ []) ∷ []) ∷
-    lawful (codes "def f(x:Real):Real={require(0<=x&&x<=1) val t = (x) (t)}") (of_x (temp (codes "t") (Input 0) ∷ []) ((Temp 0) ∷ []) ∷ []) ∷
-    lawful (codes "def f(x:Real):Real={require(0<=x&&x<=1) val t = x - 1 t}") (of_x (temp (codes "t") (Difference (Input 0) (Literal (over (pos 1) 1))) ∷ []) ((Temp 0) ∷ []) ∷ []) ∷
+    lawful (codes "def f(x:Real):(Real,Real)={require(0<=x&&x<=1) (x,x)}")
+    (function (codes "f") (input (codes "x") (dec (pos 0) 0) (dec (pos 1) 0) (dec (pos 0) 0) ∷ []) [] []
+    ((Input 0) ∷ (Input 0) ∷ []) (free ∷ free ∷ []) ∷ []) ∷
+    lawful (codes "def f(x:Real):Real={require(0<=x&&x<=1) val t = 2 (t)}")
+    (of_x (temp (codes "t") (Literal (over (pos 2) 1)) ∷ []) ((Temp 0) ∷ []) ∷ []) ∷
+    lawful (codes "def f(x:Real):Real={require(0<=x&&x<=1) val t = x\n(t)}")
+    (of_x (temp (codes "t") (Input 0) ∷ []) ((Temp 0) ∷ []) ∷ []) ∷
+    lawful (codes "def f(x:Real):Real={require(0<=x&&x<=1) val t = (x) (t)}")
+    (of_x (temp (codes "t") (Input 0) ∷ []) ((Temp 0) ∷ []) ∷ []) ∷
+    lawful (codes "def f(x:Real):Real={require(0<=x&&x<=1) val t = x - 1 t}")
+    (of_x (temp (codes "t") (Difference (Input 0) (Literal (over (pos 1) 1))) ∷ []) ((Temp 0) ∷ []) ∷ []) ∷
     []
 
 sources_1_are : lawful_readings sources_1 ≡ meanings sources_1
@@ -226,20 +245,39 @@ sources_1_are = refl
 sources_2 : List Lawful
 unfolding over
 sources_2 =
-    lawful (codes "def f(x:Real):Real={require(0<=x&&x<=1) val t = x\n- 1}") (of_x (temp (codes "t") (Input 0) ∷ []) ((Literal (over (negsuc 0) 1)) ∷ []) ∷ []) ∷
-    lawful (codes "def f(x:Real):Real={require(0<=x&&x<=1) (x\n- 1)}") (of_x [] ((Difference (Input 0) (Literal (over (pos 1) 1))) ∷ []) ∷ []) ∷
-    lawful (codes "def f(x:Real):(Real,Real)={require(0<=x&&x<=1) (x,x\n- 1)}") (function (codes "f") (input (codes "x") (dec (pos 0) 0) (dec (pos 1) 0) (dec (pos 0) 0) ∷ []) [] [] ((Input 0) ∷ (Difference (Input 0) (Literal (over (pos 1) 1))) ∷ []) (free ∷ free ∷ []) ∷ []) ∷
-    lawful (codes "def f(x:Real):Real={require(2e-1<=x&&x<=0.2) x}") (function (codes "f") (input (codes "x") (dec (pos 2) 1) (dec (pos 2) 1) (dec (pos 0) 0) ∷ []) [] [] ((Input 0) ∷ []) (free ∷ []) ∷ []) ∷
+    lawful (codes "def f(x:Real):Real={require(0<=x&&x<=1) val t = x\n- 1}")
+    (of_x (temp (codes "t") (Input 0) ∷ []) ((Literal (over (negsuc 0) 1)) ∷ []) ∷ []) ∷
+    lawful (codes "def f(x:Real):Real={require(0<=x&&x<=1) (x\n- 1)}")
+    (of_x [] ((Difference (Input 0) (Literal (over (pos 1) 1))) ∷ []) ∷ []) ∷
+    lawful (codes "def f(x:Real):(Real,Real)={require(0<=x&&x<=1) (x,x\n- 1)}")
+    (function (codes "f") (input (codes "x") (dec (pos 0) 0) (dec (pos 1) 0) (dec (pos 0) 0) ∷ []) [] []
+    ((Input 0) ∷ (Difference (Input 0) (Literal (over (pos 1) 1))) ∷ []) (free ∷ free ∷ []) ∷ []) ∷
+    lawful (codes "def f(x:Real):Real={require(2e-1<=x&&x<=0.2) x}")
+    (function (codes "f") (input (codes "x") (dec (pos 2) 1) (dec (pos 2) 1) (dec (pos 0) 0) ∷ []) [] []
+    ((Input 0) ∷ []) (free ∷ []) ∷ []) ∷
     lawful (codes "def f(x:Real):Real={require((0<=x)&&((x<=1))); x}") (of_x [] ((Input 0) ∷ []) ∷ []) ∷
     lawful (codes "def f(x:Real):Real={require(((0<=x&&x<=1))) x}") (of_x [] ((Input 0) ∷ []) ∷ []) ∷
     lawful (codes "def f(x:Real):Real={require(x>=0&&1>x) x}") (of_x [] ((Input 0) ∷ []) ∷ []) ∷
-    lawful (codes "def f(x:Real):Real={require(x>-1&&1>=x&&x+/-1e-9) x}") (function (codes "f") (input (codes "x") (dec (negsuc 0) 0) (dec (pos 1) 0) (dec (pos 1) 9) ∷ []) [] [] ((Input 0) ∷ []) (free ∷ []) ∷ []) ∷
-    lawful (codes "def f(x:Real):Real={require(-1<x&&x<-1) x}") (function (codes "f") (input (codes "x") (dec (negsuc 0) 0) (dec (negsuc 0) 0) (dec (pos 0) 0) ∷ []) [] [] ((Input 0) ∷ []) (free ∷ []) ∷ []) ∷
-    lawful (codes "def f(x:Real)(s:Real=-1.5):(Real,Real)={require(0<=x&&x<=1)(x,s)}") (function (codes "f") (input (codes "x") (dec (pos 0) 0) (dec (pos 1) 0) (dec (pos 0) 0) ∷ []) (state (codes "s") (dec (negsuc 14) 1) ∷ []) [] ((Input 0) ∷ (State 0) ∷ []) (free ∷ []) ∷ []) ∷
+    lawful (codes "def f(x:Real):Real={require(x>-1&&1>=x&&x+/-1e-9) x}")
+    (function (codes "f") (input (codes "x") (dec (negsuc 0) 0) (dec (pos 1) 0) (dec (pos 1) 9) ∷ []) [] []
+    ((Input 0) ∷ []) (free ∷ []) ∷ []) ∷
+    lawful (codes "def f(x:Real):Real={require(-1<x&&x<-1) x}")
+    (function (codes "f") (input (codes "x") (dec (negsuc 0) 0) (dec (negsuc 0) 0) (dec (pos 0) 0) ∷ []) [] []
+    ((Input 0) ∷ []) (free ∷ []) ∷ []) ∷
+    lawful (codes "def f(x:Real)(s:Real=-1.5):(Real,Real)={require(0<=x&&x<=1)(x,s)}")
+    (function (codes "f") (input (codes "x") (dec (pos 0) 0) (dec (pos 1) 0) (dec (pos 0) 0) ∷ [])
+    (state (codes "s") (dec (negsuc 14) 1) ∷ []) [] ((Input 0) ∷ (State 0) ∷ []) (free ∷ []) ∷ []) ∷
     lawful (codes "def f(x:Real):(Real)={require(0<=x&&x<=1) x}") (of_x [] ((Input 0) ∷ []) ∷ []) ∷
-    lawful (codes "def f(x:Real):(Real,Real)={require(0<=x&&x<=1) (x,x)}ensuring((a,b)=>b+/-1)") (function (codes "f") (input (codes "x") (dec (pos 0) 0) (dec (pos 1) 0) (dec (pos 0) 0) ∷ []) [] [] ((Input 0) ∷ (Input 0) ∷ []) (free ∷ within (dec (pos 1) 0) ∷ []) ∷ []) ∷
-    lawful (codes "def f(x:Real):Real={require(0<=x&&x<=1) x}ensuring(r=>r+/-1e-3)") (function (codes "f") (input (codes "x") (dec (pos 0) 0) (dec (pos 1) 0) (dec (pos 0) 0) ∷ []) [] [] ((Input 0) ∷ []) (within (dec (pos 1) 3) ∷ []) ∷ []) ∷
-    lawful (codes "def f(x:Real):Real={require(0<=x&&x<=1) x}def g(x:Real):Real={require(0<=x&&x<=1) -x}") (of_x [] ((Input 0) ∷ []) ∷ function (codes "g") (input (codes "x") (dec (pos 0) 0) (dec (pos 1) 0) (dec (pos 0) 0) ∷ []) [] [] ((Negation (Input 0)) ∷ []) (free ∷ []) ∷ []) ∷
+    lawful (codes "def f(x:Real):(Real,Real)={require(0<=x&&x<=1) (x,x)}ensuring((a,b)=>b+/-1)")
+    (function (codes "f") (input (codes "x") (dec (pos 0) 0) (dec (pos 1) 0) (dec (pos 0) 0) ∷ []) [] []
+    ((Input 0) ∷ (Input 0) ∷ []) (free ∷ within (dec (pos 1) 0) ∷ []) ∷ []) ∷
+    lawful (codes "def f(x:Real):Real={require(0<=x&&x<=1) x}ensuring(r=>r+/-1e-3)")
+    (function (codes "f") (input (codes "x") (dec (pos 0) 0) (dec (pos 1) 0) (dec (pos 0) 0) ∷ []) [] []
+    ((Input 0) ∷ []) (within (dec (pos 1) 3) ∷ []) ∷ []) ∷
+    lawful (codes "def f(x:Real):Real={require(0<=x&&x<=1) x}def g(x:Real):Real={require(0<=x&&x<=1) -x}")
+    (of_x [] ((Input 0) ∷ [])
+    ∷ function (codes "g") (input (codes "x") (dec (pos 0) 0) (dec (pos 1) 0) (dec (pos 0) 0) ∷ []) [] []
+    ((Negation (Input 0)) ∷ []) (free ∷ []) ∷ []) ∷
     lawful (codes "def f(x:Real):Real={require(0<=x&&x<=1) x}") (of_x [] ((Input 0) ∷ []) ∷ []) ∷
     lawful (codes "object O{}") [] ∷
     []
@@ -254,15 +292,28 @@ sources_3 =
     lawful (codes "import a") [] ∷
     lawful (codes "def f(x:Real):Real={require(0<=x&&x<=1) - 5}") (of_x [] ((Literal (over (negsuc 4) 1)) ∷ []) ∷ []) ∷
     lawful (codes "def f(x:Real):Real={require(0<=x&&x<=1) -(x)}") (of_x [] ((Negation (Input 0)) ∷ []) ∷ []) ∷
-    lawful (codes "def f(x:Real):Real={require(0<=x&&x<=1) x*-x}") (of_x [] ((Product (Input 0) (Negation (Input 0))) ∷ []) ∷ []) ∷
-    lawful (codes "def f(x:Real):Real={require(0<=x&&x<=1) x-\n-x}") (of_x [] ((Difference (Input 0) (Negation (Input 0))) ∷ []) ∷ []) ∷
-    lawful (codes "def f(x:Real):Real={require(0<=x&&x<=1) x*\n-x}") (of_x [] ((Product (Input 0) (Negation (Input 0))) ∷ []) ∷ []) ∷
-    lawful (codes "def f(x:Real):Real={require(0<=x&&x<=1) x - x - x / x * 2}") (of_x [] ((Difference (Difference (Input 0) (Input 0)) (Product (Quotient (Input 0) (Input 0)) (Literal (over (pos 2) 1)))) ∷ []) ∷ []) ∷
-    lawful (codes "def f(x:Real):Real={require(0<=x&&x<=1) val t=x val s=t*t s-t}") (of_x (temp (codes "t") (Input 0) ∷ temp (codes "s") (Product (Temp 0) (Temp 0)) ∷ []) ((Difference (Temp 1) (Temp 0)) ∷ []) ∷ []) ∷
-    lawful (codes "def f(x:Real):Real={require(0<=x&&x<=1) val t: Real = x; val s: Real = t\n-s}") (of_x (temp (codes "t") (Input 0) ∷ temp (codes "s") (Temp 0) ∷ []) ((Negation (Temp 1)) ∷ []) ∷ []) ∷
-    lawful (codes "def f(x:Real):Real={require(0<=x&&x<=1) ((x)+(1))*2}") (of_x [] ((Product (Sum (Input 0) (Literal (over (pos 1) 1))) (Literal (over (pos 2) 1))) ∷ []) ∷ []) ∷
-    lawful (codes "def f(x:Real):Real={require(0<=x&&x<=1) x/1/2*3}") (of_x [] ((Product (Quotient (Quotient (Input 0) (Literal (over (pos 1) 1))) (Literal (over (pos 2) 1))) (Literal (over (pos 3) 1))) ∷ []) ∷ []) ∷
-    lawful (codes "def f(x:Real):Real={require(0<=x&&x<=1) val t = (x\n-1)\n-t}") (of_x (temp (codes "t") (Difference (Input 0) (Literal (over (pos 1) 1))) ∷ []) ((Negation (Temp 0)) ∷ []) ∷ []) ∷
+    lawful (codes "def f(x:Real):Real={require(0<=x&&x<=1) x*-x}")
+    (of_x [] ((Product (Input 0) (Negation (Input 0))) ∷ []) ∷ []) ∷
+    lawful (codes "def f(x:Real):Real={require(0<=x&&x<=1) x-\n-x}")
+    (of_x [] ((Difference (Input 0) (Negation (Input 0))) ∷ []) ∷ []) ∷
+    lawful (codes "def f(x:Real):Real={require(0<=x&&x<=1) x*\n-x}")
+    (of_x [] ((Product (Input 0) (Negation (Input 0))) ∷ []) ∷ []) ∷
+    lawful (codes "def f(x:Real):Real={require(0<=x&&x<=1) x - x - x / x * 2}")
+    (of_x [] ((Difference (Difference (Input 0) (Input 0))
+    (Product (Quotient (Input 0) (Input 0)) (Literal (over (pos 2) 1)))) ∷ []) ∷ []) ∷
+    lawful (codes "def f(x:Real):Real={require(0<=x&&x<=1) val t=x val s=t*t s-t}")
+    (of_x (temp (codes "t") (Input 0) ∷ temp (codes "s") (Product (Temp 0) (Temp 0)) ∷ [])
+    ((Difference (Temp 1) (Temp 0)) ∷ []) ∷ []) ∷
+    lawful (codes "def f(x:Real):Real={require(0<=x&&x<=1) val t: Real = x; val s: Real = t\n-s}")
+    (of_x (temp (codes "t") (Input 0) ∷ temp (codes "s") (Temp 0) ∷ []) ((Negation (Temp 1)) ∷ []) ∷ []) ∷
+    lawful (codes "def f(x:Real):Real={require(0<=x&&x<=1) ((x)+(1))*2}")
+    (of_x [] ((Product (Sum (Input 0) (Literal (over (pos 1) 1))) (Literal (over (pos 2) 1))) ∷ []) ∷ []) ∷
+    lawful (codes "def f(x:Real):Real={require(0<=x&&x<=1) x/1/2*3}")
+    (of_x [] ((Product (Quotient (Quotient (Input 0) (Literal (over (pos 1) 1))) (Literal (over (pos 2) 1)))
+    (Literal (over (pos 3) 1))) ∷ []) ∷ []) ∷
+    lawful (codes "def f(x:Real):Real={require(0<=x&&x<=1) val t = (x\n-1)\n-t}")
+    (of_x (temp (codes "t") (Difference (Input 0) (Literal (over (pos 1) 1))) ∷ []) ((Negation (Temp 0)) ∷ []) ∷ [])
+    ∷
     lawful (codes "def f(a:Real,b:Real)(s:Real=-2,t:Real=0.50):(Real,Real,Real)={require(a>=0&&a<1&&(b+/-0.1&&0<b&&b<=2)) val u=s*a; (u+t,u,-t*b)}ensuring(o=>o+/-1e-3)") (function (codes "f") (input (codes "a") (dec (pos 0) 0) (dec (pos 1) 0) (dec (pos 0) 0) ∷ input (codes "b") (dec (pos 0) 0) (dec (pos 2) 0) (dec (pos 1) 1) ∷ []) (state (codes "s") (dec (negsuc 1) 0) ∷ state (codes "t") (dec (pos 5) 1) ∷ []) (temp (codes "u") (Product (State 0) (Input 0)) ∷ []) ((Sum (Temp 0) (State 1)) ∷ (Temp 0) ∷ (Product (Negation (State 1)) (Input 1)) ∷ []) (within (dec (pos 1) 3) ∷ []) ∷ []) ∷
     []
 

@@ -56,22 +56,29 @@ Differ : List Function → Type 0
 Differ [] = Unit {0}
 Differ (f ∷ fs) = (has_name (function_names fs) f.name ≡ false) × Differ fs
 
-differ-snoc : (fs : List Function) (g : Function) → Differ fs → has_name (function_names fs) g.name ≡ false → Differ (fs ++ g ∷ [])
+differ-snoc : (fs : List Function) (g : Function) → Differ fs → has_name (function_names fs) g.name ≡ false →
+    Differ (fs ++ g ∷ [])
 unfolding Differ
 differ-snoc [] g d e = (refl, tt {0})
 differ-snoc (f ∷ fs) g d e =
     let parts = both_false _ _ (sym (has-cons f.name (function_names fs) g.name) ∙ e) in (
-      ap (λ ns. has_name ns f.name) (map-append (λ f. f.name) fs (g ∷ [])) ∙ has-append (function_names fs) (g.name ∷ []) f.name
+      ap (λ ns. has_name ns f.name) (map-append (λ f. f.name) fs (g ∷ []))
+          ∙ has-append (function_names fs) (g.name ∷ []) f.name
           ∙ ap (λ b. b || has_name (g.name ∷ []) f.name) d.0 ∙ has-one g.name f.name ∙ turned f.name g.name parts.0,
       differ-snoc fs g d.1 parts.1,
     )
 
-defs_differ : {fs : List Function} {ts : Tokens} {gs : List Function} {us : Tokens} → IsRun IsNewDef fs ts gs us → Differ fs → Differ gs
+defs_differ : {fs : List Function} {ts : Tokens} {gs : List Function} {us : Tokens} → IsRun IsNewDef fs ts gs us →
+    Differ fs → Differ gs
 defs_differ over d = d
-defs_differ (more {a = fs} i others) d = defs_differ others (subst Differ (sym i.value) (differ-snoc fs i.function d (front_fresh i)))
+defs_differ (more {a = fs} i others) d =
+    defs_differ others (subst Differ (sym i.value) (differ-snoc fs i.function d (front_fresh i)))
   where
-    front_fresh : {ts : Tokens} {gs : List Function} {us : Tokens} → (i : IsNewDef fs ts gs us) → has_name (function_names fs) i.function.name ≡ false
-    front_fresh i = subst (λ n. has_name (function_names fs) n ≡ false) (sym (i.def_is.body_is.name ∙ i.def_is.front_is.named)) i.def_is.front_is.fresh
+    front_fresh : {ts : Tokens} {gs : List Function} {us : Tokens} → (i : IsNewDef fs ts gs us) →
+        has_name (function_names fs) i.function.name ≡ false
+    front_fresh i =
+        subst (λ n. has_name (function_names fs) n ≡ false)
+        (sym (i.def_is.body_is.name ∙ i.def_is.front_is.named)) i.def_is.front_is.fresh
 
 functions_differ : {ts : Tokens} {fs : List Function} → IsSource ts fs → Differ fs
 unfolding Differ
@@ -87,13 +94,24 @@ record IsAmong (name : Text) (fs : List Function) (f : Function) : Type 0 where
   parts : fs ≡ before ++ f ∷ after
   named : f.name ≡ name
 
-split : (name : Text) (fs : List Function) (f : Function) → find (λ g. bytes_eq g.name name) fs ≡ Some f → IsAmong name fs f
+split : (name : Text) (fs : List Function) (f : Function) → find (λ g. bytes_eq g.name name) fs ≡ Some f →
+    IsAmong name fs f
 split name [] f e = absurd cc
 split name (g ∷ fs) f e = by (bytes_eq g.name name) refl (λ e. split name fs f e) e
   where
-    by : (b : Bool) → bytes_eq g.name name ≡ b → (find (λ g. bytes_eq g.name name) fs ≡ Some f → IsAmong name fs f) → cond b (Some g) (find (λ g. bytes_eq g.name name) fs) ≡ Some f → IsAmong name (g ∷ fs) f
-    by true p k e = let same : g ≡ f = cc in record { before = []; after = fs; parts = ap (λ h. h ∷ fs) same; named = sym (ap (λ h. h.name) same) ∙ (bytes_eq-Decides g.name name).0 p }
-    by false p k e = let a = k e in record { before = g ∷ a.before; after = a.after; parts = ap (λ hs. g ∷ hs) a.parts; named = a.named }
+    by : (b : Bool) → bytes_eq g.name name ≡ b → (find (λ g. bytes_eq g.name name) fs ≡ Some f → IsAmong name fs f) →
+        cond b (Some g) (find (λ g. bytes_eq g.name name) fs) ≡ Some f → IsAmong name (g ∷ fs) f
+    by true p k e =
+        let same : g ≡ f = cc in
+        record {
+          before = [];
+          after = fs;
+          parts = ap (λ h. h ∷ fs) same;
+          named = sym (ap (λ h. h.name) same) ∙ (bytes_eq-Decides g.name name).0 p;
+        }
+    by false p k e =
+        let a = k e in
+        record { before = g ∷ a.before; after = a.after; parts = ap (λ hs. g ∷ hs) a.parts; named = a.named }
 
 chosen_spells : (name : Option Text) (fs : List Function) → OnOk (IsChosen name fs) (chosen name fs)
 unfolding chosen
@@ -104,20 +122,27 @@ chosen_spells (Some name) fs = by (find (λ g. bytes_eq g.name name) fs) refl
   where
     by : (o : Option Function) → find (λ g. bytes_eq g.name name) fs ≡ o → OnOk (IsChosen (Some name) fs) (called o)
     by None e = failed
-    by (Some f) e = let a = split name fs f e in done (subst (λ gs. IsChosen (Some name) gs f) (sym a.parts) (named a.before a.after a.named))
+    by (Some f) e =
+        let a = split name fs f e in
+        done (subst (λ gs. IsChosen (Some name) gs f) (sym a.parts) (named a.before a.after a.named))
 
 has_it : (before after : List Function) (f : Function) → has_name (function_names (before ++ f ∷ after)) f.name ≡ true
-has_it [] after f = has-cons f.name (function_names after) f.name ∙ ap (λ b. b || has_name (function_names after) f.name) (same_text f.name f.name refl)
-has_it (g ∷ before) after f = has-cons g.name (function_names (before ++ f ∷ after)) f.name ∙ ap (λ b. bytes_eq g.name f.name || b) (has_it before after f) ∙ by (bytes_eq g.name f.name)
+has_it [] after f = has-cons f.name (function_names after) f.name
+    ∙ ap (λ b. b || has_name (function_names after) f.name) (same_text f.name f.name refl)
+has_it (g ∷ before) after f = has-cons g.name (function_names (before ++ f ∷ after)) f.name
+    ∙ ap (λ b. bytes_eq g.name f.name || b) (has_it before after f) ∙ by (bytes_eq g.name f.name)
   where
     by : (b : Bool) → (b || true) ≡ true
     by true = refl
     by false = refl
 
-found : (name : Text) (before after : List Function) (f : Function) → f.name ≡ name → Differ (before ++ f ∷ after) → find (λ g. bytes_eq g.name name) (before ++ f ∷ after) ≡ Some f
+found : (name : Text) (before after : List Function) (f : Function) → f.name ≡ name → Differ (before ++ f ∷ after) →
+    find (λ g. bytes_eq g.name name) (before ++ f ∷ after) ≡ Some f
 unfolding Differ
 found name [] after f e d = ap (λ b. cond b (Some f) (find (λ g. bytes_eq g.name name) after)) (same_text f.name name e)
-found name (g ∷ before) after f e d = ap (λ b. cond b (Some g) (find (λ g. bytes_eq g.name name) (before ++ f ∷ after))) (by (bytes_eq g.name name) refl) ∙ found name before after f e d.1
+found name (g ∷ before) after f e d =
+    ap (λ b. cond b (Some g) (find (λ g. bytes_eq g.name name) (before ++ f ∷ after))) (by (bytes_eq g.name name) refl)
+    ∙ found name before after f e d.1
   where
     by : (b : Bool) → bytes_eq g.name name ≡ b → b ≡ false
     by true p =
@@ -127,7 +152,8 @@ found name (g ∷ before) after f e d = ap (λ b. cond b (Some g) (find (λ g. b
         absurd (let x = d.0 in cc)
     by false p = refl
 
-chosen_reads : {name : Option Text} {fs : List Function} {f : Function} → IsChosen name fs f → Differ fs → chosen name fs ≡ Ok f
+chosen_reads : {name : Option Text} {fs : List Function} {f : Function} → IsChosen name fs f → Differ fs →
+    chosen name fs ≡ Ok f
 unfolding chosen
 chosen_reads only d = refl
 chosen_reads {f = f} (named {name = name} before after e) d = ap called (found name before after f e d)
@@ -138,8 +164,12 @@ wanted_law bytes name f = (λ e. (spells.at f e), reads)
   where
     spells : OnOk (IsWanted bytes name) (parsed bytes name)
     spells = choose (is_utf8 bytes)
-        (λ u. and_then (answered (functions_of bytes)) (λ fs e. weaken (λ f c. record { functions = fs; utf8 = u; text = (text_law bytes fs).0 e; chosen = c }) (chosen_spells name fs)))
+        (λ u. and_then (answered (functions_of bytes))
+        (λ fs e. weaken (λ f c. record { functions = fs; utf8 = u; text = (text_law bytes fs).0 e; chosen = c })
+        (chosen_spells name fs)))
         (λ u. failed)
 
     reads : IsWanted bytes name f → parsed bytes name ≡ Ok f
-    reads i = on_true _ i.utf8 (steps _ ((text_law bytes i.functions).1 i.text) (chosen_reads i.chosen (functions_differ i.text.source)))
+    reads i =
+        on_true _ i.utf8 (steps _ ((text_law bytes i.functions).1 i.text)
+        (chosen_reads i.chosen (functions_differ i.text.source)))

@@ -32,19 +32,33 @@ use Rattle.fx_syntax.proofs.Sources.{text_law}
 
 -- what is read of a text, with every definition opened
 unfoldable pub read : Text → Result (List Function) SourceFault
-unfolding gcd over is_at_most lowest decimal_value numeral_of trimmed decimal_of digits_at part_len mark_len power_len number_len comment_end first_item tokens_from tokens_of head_of want real_at decimal numeral_at signed_at repeat separated listed free_at said subject_at stated_error bound_at name_first behind_relation number_first condition_at conditions_step conditions_at all_pass inputs_at require_at closed opened atom_of behind_minus factor_of term_of sum_from expr_at inner_at param_at declared_state states_at one_real type_at whole_at typed_at val_at vals_at single_at element_at tuple_at result_at output_at outputs_at demands_at ensuring_at maybe_ensuring_at require_word_at front_at body_at def_at dot_at import_at imports_at one_def defs_at object_at source_of
+unfolding gcd over is_at_most lowest decimal_value numeral_of trimmed decimal_of digits_at part_len mark_len power_len
+    number_len comment_end first_item tokens_from tokens_of head_of want real_at decimal numeral_at signed_at repeat
+    separated listed free_at said subject_at stated_error bound_at name_first behind_relation number_first condition_at
+    conditions_step conditions_at all_pass inputs_at require_at closed opened atom_of behind_minus factor_of term_of
+    sum_from expr_at inner_at param_at declared_state states_at one_real type_at whole_at typed_at val_at vals_at
+    single_at element_at tuple_at result_at output_at outputs_at demands_at ensuring_at maybe_ensuring_at
+    require_word_at front_at body_at def_at dot_at import_at imports_at one_def defs_at object_at source_of
 read text = functions_of text
 
 -- ---- expressions: the body of a function of x and y
 
 body : Text → Text
-body rest = codes "def f(x: Real, y: Real): Real = {require(0 <= x && x <= 1 && 0 <= y && y <= 1)\n" ++ rest ++ codes "}"
+body rest =
+    codes "def f(x: Real, y: Real): Real = {require(0 <= x && x <= 1 && 0 <= y && y <= 1)\n" ++ rest ++ codes "}"
 
 unit : Text → function.Input
 unit name = record { name = name; lo = whole (pos 0); hi = whole (pos 1); err = whole (pos 0) }
 
 f_of : List function.Temp → Tree → Function
-f_of temps result = record { name = codes "f"; inputs = unit (codes "x") ∷ unit (codes "y") ∷ []; states = []; temps = temps; results = result ∷ []; demands = free ∷ [] }
+f_of temps result = record {
+  name = codes "f";
+  inputs = unit (codes "x") ∷ unit (codes "y") ∷ [];
+  states = [];
+  temps = temps;
+  results = result ∷ [];
+  demands = free ∷ [];
+}
 
 abbrev x : Tree
 x = Input 0
@@ -62,7 +76,8 @@ one = Literal (whole (pos 1))
 Spells : Text → List function.Temp → Tree → Type 0
 Spells text temps result = IsSourceText (body text) (f_of temps result ∷ [])
 
-spells : (text : Text) (temps : List function.Temp) (result : Tree) → read (body text) ≡ Ok (f_of temps result ∷ []) → Spells text temps result
+spells : (text : Text) (temps : List function.Temp) (result : Tree) → read (body text) ≡ Ok (f_of temps result ∷ []) →
+    Spells text temps result
 unfolding Spells read
 spells text temps result e = (text_law (body text) (f_of temps result ∷ [])).0 e
 
@@ -131,13 +146,18 @@ scope = record { inputs = []; states = []; temps = [] }
 
 number_atom : (text : Text) (rest : Tokens) → IsAtom scope 200 (numeral text ∷ rest) (literal_tree (decimal text)) rest
 unfolding token head_of
-number_atom text rest = number (record { number = numeral text; next = record { tokens = refl; is = refl }; value = refl })
+number_atom text rest =
+    number (record { number = numeral text; next = record { tokens = refl; is = refl }; value = refl })
 
-by_hand : IsExpr scope true 200 (numeral (codes "1") ∷ sign (codes "-") ∷ numeral (codes "2") ∷ sign (codes "*") ∷ numeral (codes "3") ∷ [])
-    (Difference (literal_tree (decimal (codes "1"))) (Product (literal_tree (decimal (codes "2"))) (literal_tree (decimal (codes "3"))))) []
+by_hand : IsExpr scope true 200
+    (numeral (codes "1") ∷ sign (codes "-") ∷ numeral (codes "2") ∷ sign (codes "*") ∷ numeral (codes "3") ∷ [])
+    (Difference (literal_tree (decimal (codes "1")))
+    (Product (literal_tree (decimal (codes "2"))) (literal_tree (decimal (codes "3"))))) []
 unfolding token head_of
 by_hand =
-    difference (one_term (one_factor (one_atom (number_atom (codes "1") (sign (codes "-") ∷ numeral (codes "2") ∷ sign (codes "*") ∷ numeral (codes "3") ∷ [])))))
+    difference (one_term (one_factor
+    (one_atom (number_atom (codes "1")
+    (sign (codes "-") ∷ numeral (codes "2") ∷ sign (codes "*") ∷ numeral (codes "3") ∷ [])))))
     (record { token = sign (codes "-"); next = record { tokens = refl; is = refl } }) refl
     (product (one_factor (one_atom (number_atom (codes "2") (sign (codes "*") ∷ numeral (codes "3") ∷ []))))
     (record { token = sign (codes "*"); next = record { tokens = refl; is = refl } })
@@ -146,7 +166,8 @@ by_hand =
 -- ---- whole functions
 
 averager_text : Text
-averager_text = codes "def g(u: Real)(x: Real = 0.0): (Real, Real) = {\n  require((-1 <= u) && ((u < 1) && u +/- 0.5))\n  val y = 0.5 * x + 0.5 * u\n  (y, y)\n} ensuring (out => out +/- 1e-2)"
+averager_text =
+    codes "def g(u: Real)(x: Real = 0.0): (Real, Real) = {\n  require((-1 <= u) && ((u < 1) && u +/- 0.5))\n  val y = 0.5 * x + 0.5 * u\n  (y, y)\n} ensuring (out => out +/- 1e-2)"
 
 abbrev a_half : Rational
 a_half = over (pos 1) 2
@@ -156,7 +177,10 @@ averager = record {
   name = codes "g";
   inputs = record { name = codes "u"; lo = whole (negsuc 0); hi = whole (pos 1); err = over (pos 5) 10 } ∷ [];
   states = record { name = codes "x"; start = whole (pos 0) } ∷ [];
-  temps = record { name = codes "y"; tree = Sum (Product (Literal a_half) (State 0)) (Product (Literal a_half) (Input 0)) } ∷ [];
+  temps = record {
+    name = codes "y";
+    tree = Sum (Product (Literal a_half) (State 0)) (Product (Literal a_half) (Input 0));
+  } ∷ [];
   results = Temp 0 ∷ Temp 0 ∷ [];
   demands = record { err = Some (over (pos 1) 100); lo = None; hi = None } ∷ [];
 }
@@ -167,7 +191,8 @@ averager_is = (text_law averager_text (averager ∷ [])).0 refl
 
 -- an output that has both ends and an error
 clamped_text : Text
-clamped_text = codes "def f(x: Real): Real = {require(0 <= x && x <= 1) x + 0.5} ensuring(res => 0.5 <= res && res <= 1.5 && res +/- 0.1)"
+clamped_text =
+    codes "def f(x: Real): Real = {require(0 <= x && x <= 1) x + 0.5} ensuring(res => 0.5 <= res && res <= 1.5 && res +/- 0.1)"
 
 clamped : Function
 clamped = record {
@@ -190,17 +215,34 @@ nothing_is = (text_law [] []).0 refl
 object_text : Text
 object_text = codes "import a.b /* import */ object M { import c def f(x: Real): Real = {require(1 >= x && x > 0) x} }"
 
-object_is : IsSourceText object_text (record { name = codes "f"; inputs = unit (codes "x") ∷ []; states = []; temps = []; results = x ∷ []; demands = free ∷ [] } ∷ [])
+object_is : IsSourceText object_text (record {
+  name = codes "f";
+  inputs = unit (codes "x") ∷ [];
+  states = [];
+  temps = [];
+  results = x ∷ [];
+  demands = free ∷ [];
+} ∷ [])
 unfolding object_text unit read
-object_is = (text_law object_text (record { name = codes "f"; inputs = unit (codes "x") ∷ []; states = []; temps = []; results = x ∷ []; demands = free ∷ [] } ∷ [])).0 refl
+object_is =
+    (text_law object_text (record {
+      name = codes "f";
+      inputs = unit (codes "x") ∷ [];
+      states = [];
+      temps = [];
+      results = x ∷ [];
+      demands = free ∷ [];
+    } ∷ [])).0 refl
 
 -- ---- texts that are no source
 
 -- a text with a fault is no source
-no_source : (text : Text) (e : SourceFault) → functions_of text ≡ Err e → (fs : List Function) → IsSourceText text fs → ⊥
+no_source : (text : Text) (e : SourceFault) → functions_of text ≡ Err e → (fs : List Function) → IsSourceText text fs →
+    ⊥
 no_source text e f fs i = let g = (text_law text fs).1 i in different fs e (sym g ∙ f)
   where
-    different : (fs : List Function) (e : SourceFault) → ◌≡◌ {A = Result (List Function) SourceFault} (Ok fs) (Err e) → ⊥
+    different : (fs : List Function) (e : SourceFault) → ◌≡◌ {A = Result (List Function) SourceFault} (Ok fs) (Err e) →
+        ⊥
     different fs e h = absurd cc
 
 -- none is spelled by this body
@@ -227,18 +269,24 @@ two_results : SpellsNothing (codes "(x, y)")
 unfolding SpellsNothing body read
 two_results = no_source (body (codes "(x, y)")) (fault 81 kinds.Unexpected) refl
 
-no_comma : (fs : List Function) → IsSourceText (codes "def f(x: Real y: Real): Real = {require(0 <= x && x <= 1) x}") fs → ⊥
+no_comma : (fs : List Function) →
+    IsSourceText (codes "def f(x: Real y: Real): Real = {require(0 <= x && x <= 1) x}") fs → ⊥
 unfolding read
-no_comma = no_source (codes "def f(x: Real y: Real): Real = {require(0 <= x && x <= 1) x}") (fault 14 kinds.Unexpected) refl
+no_comma =
+    no_source (codes "def f(x: Real y: Real): Real = {require(0 <= x && x <= 1) x}") (fault 14 kinds.Unexpected) refl
 
 no_upper_end : (fs : List Function) → IsSourceText (codes "def f(x: Real): Real = {require(0 <= x) x}") fs → ⊥
 unfolding read
 no_upper_end = no_source (codes "def f(x: Real): Real = {require(0 <= x) x}") (fault 6 kinds.NoRange) refl
 
-upper_end_twice : (fs : List Function) → IsSourceText (codes "def f(x: Real): Real = {require(0 <= x && x <= 1 && x < 2) x}") fs → ⊥
+upper_end_twice : (fs : List Function) →
+    IsSourceText (codes "def f(x: Real): Real = {require(0 <= x && x <= 1 && x < 2) x}") fs → ⊥
 unfolding read
-upper_end_twice = no_source (codes "def f(x: Real): Real = {require(0 <= x && x <= 1 && x < 2) x}") (fault 52 kinds.NamedTwice) refl
+upper_end_twice =
+    no_source (codes "def f(x: Real): Real = {require(0 <= x && x <= 1 && x < 2) x}") (fault 52 kinds.NamedTwice) refl
 
-empty_range : (fs : List Function) → IsSourceText (codes "def f(x: Real): Real = {require(0.2 <= x && x <= 0.1) x}") fs → ⊥
+empty_range : (fs : List Function) →
+    IsSourceText (codes "def f(x: Real): Real = {require(0.2 <= x && x <= 0.1) x}") fs → ⊥
 unfolding read
-empty_range = no_source (codes "def f(x: Real): Real = {require(0.2 <= x && x <= 0.1) x}") (fault 6 kinds.EmptyRange) refl
+empty_range =
+    no_source (codes "def f(x: Real): Real = {require(0.2 <= x && x <= 0.1) x}") (fault 6 kinds.EmptyRange) refl

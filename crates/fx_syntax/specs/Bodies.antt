@@ -45,7 +45,8 @@ pub record IsVal (scope : Scope) (before : List Temp) (ts : Tokens) (after : Lis
   pub value : after ≡ before ++ record { name = name.text; tree = tree } ∷ []
 
 -- one more result of a tuple
-pub record IsElement (scope : Scope) (before : List Tree) (ts : Tokens) (after : List Tree) (rest : Tokens) : Type 0 where
+pub record IsElement (scope : Scope) (before : List Tree) (ts : Tokens) (after : List Tree)
+    (rest : Tokens) : Type 0 where
   pub tree : Tree
   pub expression : IsExpr scope false height_limit ts tree rest
   pub low : IsLow tree
@@ -53,6 +54,8 @@ pub record IsElement (scope : Scope) (before : List Tree) (ts : Tokens) (after :
 
 -- result = expr | "(" expr "," expr { "," expr } ")": an expression for one Real, a tuple for several
 pub data IsResult (scope : Scope) (reals : ℕ) : Tokens → List Tree → Tokens → Type 0 where
-  single : {ts rest : Tokens} {x : Tree} → reals ≡ 1 → IsWholeExpr scope ts x rest → IsResult scope reals ts (x ∷ []) rest
+  single : {ts rest : Tokens} {x : Tree} → reals ≡ 1 → IsWholeExpr scope ts x rest →
+      IsResult scope reals ts (x ∷ []) rest
   tuple : {ts us rest : Tokens} {xs : List Tree}
-      → 2 ≤ reals → IsMark heads.Open ts us → IsListed (IsElement scope) [] us xs rest → length xs ≡ reals → IsResult scope reals ts xs rest
+      → 2 ≤ reals → IsMark heads.Open ts us → IsListed (IsElement scope) [] us xs rest → length xs ≡ reals →
+      IsResult scope reals ts xs rest

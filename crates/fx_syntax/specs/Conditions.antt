@@ -78,12 +78,14 @@ mutual
   pub data IsConditions : Subjects → Tokens → Subjects → Tokens → Type 0 where
     last : {s after : Subjects} {ts rest : Tokens} → IsCondition s ts after rest → IsConditions s ts after rest
     both : {s between after : Subjects} {ts us vs rest : Tokens}
-        → IsCondition s ts between us → IsMark heads.And us vs → IsConditions between vs after rest → IsConditions s ts after rest
+        → IsCondition s ts between us → IsMark heads.And us vs → IsConditions between vs after rest →
+        IsConditions s ts after rest
 
   -- cond = "(" conds ")" | simple
   pub data IsCondition : Subjects → Tokens → Subjects → Tokens → Type 0 where
     nested : {s after : Subjects} {ts us vs rest : Tokens}
-        → IsMark heads.Open ts us → IsConditions s us after vs → IsMark heads.Close vs rest → IsCondition s ts after rest
+        → IsMark heads.Open ts us → IsConditions s us after vs → IsMark heads.Close vs rest →
+        IsCondition s ts after rest
     simple : {s after : Subjects} {ts rest : Tokens} → IsSimple s ts after rest → IsCondition s ts after rest
 
 -- both ends of an input are given, the lower one isn't above the upper one; an error that isn't given is zero
@@ -93,12 +95,18 @@ pub record IsInputOf (s : Subject) (x : Input) : Type 0 where
   pub low : s.lo ≡ Some lo
   pub high : s.hi ≡ Some hi
   pub ordered : AtMost (decimal_value lo) (decimal_value hi)
-  pub value : x ≡ record { name = s.name; lo = decimal_value lo; hi = decimal_value hi; err = decimal_value (or_zero s.err) }
+  pub value : x ≡ record {
+    name = s.name;
+    lo = decimal_value lo;
+    hi = decimal_value hi;
+    err = decimal_value (or_zero s.err);
+  }
 
 -- each parameter with the input that it is
 pub data AreInputsOf : Subjects → List Input → Type 0 where
   none : AreInputsOf [] []
-  one_more : {s : Subject} {x : Input} {subjects : Subjects} {inputs : List Input} → IsInputOf s x → AreInputsOf subjects inputs → AreInputsOf (s ∷ subjects) (x ∷ inputs)
+  one_more : {s : Subject} {x : Input} {subjects : Subjects} {inputs : List Input} → IsInputOf s x →
+      AreInputsOf subjects inputs → AreInputsOf (s ∷ subjects) (x ∷ inputs)
 
 -- require = "require" "(" conds ")", behind the word
 pub record IsRequire (subjects : Subjects) (ts : Tokens) (inputs : List Input) (rest : Tokens) : Type 0 where

@@ -22,7 +22,8 @@ pub record IsOutput (before : Subjects) (ts : Tokens) (after : Subjects) (rest :
 -- names = name | "(" name { "," name } ")", of the outputs in order
 pub data IsOutputs : Tokens → Subjects → Tokens → Type 0 where
   one : {ts rest : Tokens} {outputs : Subjects} → IsOutput [] ts outputs rest → IsOutputs ts outputs rest
-  several : {ts us rest : Tokens} {outputs : Subjects} → IsMark heads.Open ts us → IsListed IsOutput [] us outputs rest → IsOutputs ts outputs rest
+  several : {ts us rest : Tokens} {outputs : Subjects} → IsMark heads.Open ts us →
+      IsListed IsOutput [] us outputs rest → IsOutputs ts outputs rest
 
 -- the error and the ends that are said of an output; of two ends the lower one isn't above the upper one
 pub record IsDemandOf (s : Subject) (d : Demand) : Type 0 where
@@ -34,7 +35,8 @@ pub record IsDemandOf (s : Subject) (d : Demand) : Type 0 where
 -- each output with what is demanded of it
 pub data AreDemandsOf : Subjects → List Demand → Type 0 where
   none : AreDemandsOf [] []
-  one_more : {s : Subject} {d : Demand} {subjects : Subjects} {demands : List Demand} → IsDemandOf s d → AreDemandsOf subjects demands → AreDemandsOf (s ∷ subjects) (d ∷ demands)
+  one_more : {s : Subject} {d : Demand} {subjects : Subjects} {demands : List Demand} → IsDemandOf s d →
+      AreDemandsOf subjects demands → AreDemandsOf (s ∷ subjects) (d ∷ demands)
 
 -- ensuring = "ensuring" "(" names "=>" simple { "&&" simple } ")", behind the word
 pub record IsEnsuring (count : ℕ) (ts : Tokens) (demands : List Demand) (rest : Tokens) : Type 0 where
@@ -55,4 +57,5 @@ pub record IsEnsuring (count : ℕ) (ts : Tokens) (demands : List Demand) (rest 
 -- [ ensuring ]: without it each output is free
 pub data IsMaybeEnsuring (count : ℕ) : Tokens → List Demand → Tokens → Type 0 where
   left_out : {ts : Tokens} → IsMaybeEnsuring count ts (replicate count free) ts
-  written : {ts us rest : Tokens} {demands : List Demand} → IsMark heads.Ensuring ts us → IsEnsuring count us demands rest → IsMaybeEnsuring count ts demands rest
+  written : {ts us rest : Tokens} {demands : List Demand} → IsMark heads.Ensuring ts us →
+      IsEnsuring count us demands rest → IsMaybeEnsuring count ts demands rest

@@ -28,7 +28,10 @@ pub record IsParam (before : Subjects) (ts : Tokens) (after : Subjects) (rest : 
 
 -- the states with one more, whose name is known from there on
 abbrev pub with_state : Declared → Text → Decimal → Declared
-with_state before name start = record { names = before.names ++ name ∷ []; states = before.states ++ record { name = name; start = decimal_value start } ∷ [] }
+with_state before name start = record {
+  names = before.names ++ name ∷ [];
+  states = before.states ++ record { name = name; start = decimal_value start } ∷ [];
+}
 
 -- state = name ":" "Real" "=" signed; at most 32, and no input or state before has the name
 pub record IsState (before : Declared) (ts : Tokens) (after : Declared) (rest : Tokens) : Type 0 where
@@ -47,7 +50,8 @@ pub record IsState (before : Declared) (ts : Tokens) (after : Declared) (rest : 
 pub data IsStates (inputs : List Text) : Tokens → Declared → Tokens → Type 0 where
   none : {ts : Tokens} → IsStates inputs ts (record { names = inputs; states = [] }) ts
   listed : {ts us rest : Tokens} {d : Declared}
-      → IsMark heads.Open ts us → IsListed IsState (record { names = inputs; states = [] }) us d rest → IsStates inputs ts d rest
+      → IsMark heads.Open ts us → IsListed IsState (record { names = inputs; states = [] }) us d rest →
+      IsStates inputs ts d rest
 
 -- "Real", one more than so many, and at most 64 more than the states
 pub record IsOneReal (states : ℕ) (before : ℕ) (ts : Tokens) (after : ℕ) (rest : Tokens) : Type 0 where
@@ -57,5 +61,7 @@ pub record IsOneReal (states : ℕ) (before : ℕ) (ts : Tokens) (after : ℕ) (
 
 -- type = "Real" | "(" "Real" { "," "Real" } ")", of so many Real, more than the states
 pub data IsType (states : ℕ) : Tokens → ℕ → Tokens → Type 0 where
-  single : {ts rest : Tokens} {reals : ℕ} → IsOneReal states 0 ts reals rest → states < reals → IsType states ts reals rest
-  several : {ts us rest : Tokens} {reals : ℕ} → IsMark heads.Open ts us → IsListed (IsOneReal states) 0 us reals rest → states < reals → IsType states ts reals rest
+  single : {ts rest : Tokens} {reals : ℕ} → IsOneReal states 0 ts reals rest → states < reals →
+      IsType states ts reals rest
+  several : {ts us rest : Tokens} {reals : ℕ} → IsMark heads.Open ts us → IsListed (IsOneReal states) 0 us reals rest →
+      states < reals → IsType states ts reals rest

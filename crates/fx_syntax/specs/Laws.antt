@@ -32,7 +32,8 @@ TextLaw = (text : List ℕ) (fs : List Function) → (functions_of text ≡ Ok f
 -- the only function of a source, or that of this name
 pub data IsChosen : Option Text → List Function → Function → Type 0 where
   only : {f : Function} → IsChosen None (f ∷ []) f
-  named : {name : Text} {f : Function} (before after : List Function) → f.name ≡ name → IsChosen (Some name) (before ++ f ∷ after) f
+  named : {name : Text} {f : Function} (before after : List Function) → f.name ≡ name →
+      IsChosen (Some name) (before ++ f ∷ after) f
 
 -- the bytes are UTF-8, and a source of which this is the wanted function
 pub record IsWanted (bytes : List ℕ) (name : Option Text) (f : Function) : Type 0 where

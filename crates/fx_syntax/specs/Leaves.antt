@@ -1,5 +1,5 @@
--- The rules of one token or two. A rule relates the tokens from a place on, what they spell, and the tokens behind them;
--- a list of tokens within a rule is named after what begins there.
+-- The rules of one token or two. A rule relates the tokens from a place on, what they spell, and the tokens behind
+-- them; a list of tokens within a rule is named after what begins there.
 use Rattle.std.specs.Prelude.{◌≡◌, ◌∷◌, codes}
 use Rattle.fx_rational.specs.Decimal.{Decimal}
 use Rattle.fx_lexer.specs.Tokens.{Lexeme}
@@ -33,7 +33,8 @@ pub record IsNumber (ts : Tokens) (d : Decimal) (rest : Tokens) : Type 0 where
 -- signed = [ "-" ] number
 pub data IsSigned : Tokens → Decimal → Tokens → Type 0 where
   plain : {ts rest : Tokens} {d : Decimal} → IsNumber ts d rest → IsSigned ts d rest
-  negative : {ts us rest : Tokens} {d : Decimal} → IsMark heads.Minus ts us → IsNumber us d rest → IsSigned ts (negative_decimal d) rest
+  negative : {ts us rest : Tokens} {d : Decimal} → IsMark heads.Minus ts us → IsNumber us d rest →
+      IsSigned ts (negative_decimal d) rest
 
 -- [ ";" ]
 pub data IsMaybeSemicolon : Tokens → Tokens → Type 0 where

@@ -14,13 +14,15 @@ pub data IsRun {A : Type 0} (Item : GrammarRule A) : A → Tokens → A → Toke
   more : {a b c : A} {ts us rest : Tokens} → Item a ts b us → IsRun Item b us c rest → IsRun Item a ts c rest
 
 -- sign item
-pub record IsBehind {A : Type 0} (head : Head) (Item : GrammarRule A) (a : A) (ts : Tokens) (b : A) (rest : Tokens) : Type 0 where
+pub record IsBehind {A : Type 0} (head : Head) (Item : GrammarRule A) (a : A) (ts : Tokens) (b : A)
+    (rest : Tokens) : Type 0 where
   pub behind : Tokens
   pub sign : IsMark head ts behind
   pub item : Item a behind b rest
 
 -- item { sign item }
-pub record IsSeparated {A : Type 0} (head : Head) (Item : GrammarRule A) (a : A) (ts : Tokens) (c : A) (rest : Tokens) : Type 0 where
+pub record IsSeparated {A : Type 0} (head : Head) (Item : GrammarRule A) (a : A) (ts : Tokens) (c : A)
+    (rest : Tokens) : Type 0 where
   pub between : A
   pub behind : Tokens
   pub first : Item a ts between behind

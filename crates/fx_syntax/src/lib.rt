@@ -1,11 +1,12 @@
 //! The grammar of the source language, as relations by cases, and what ties the reading of tokens to it.
 //!
-//! `fx_grammar` says what tokens mean by reading them from left to right, with each fault and its place. Here `specs` says
-//! the same without faults: each rule of the grammar is a relation between the tokens from a place on, what they stand for
-//! and the tokens behind them. The limits, the names that must differ and the line breaks that matter are fields of it.
+//! `fx_grammar` says what tokens mean by reading them from left to right, with each fault and its place. Here `specs`
+//! says the same without faults: each rule of the grammar is a relation between the tokens from a place on, what they
+//! stand for and the tokens behind them. The limits, the names that must differ and the line breaks that matter are
+//! fields of it.
 //!
-//! Nothing here runs. The trap: a relation has no order of tests, so that it says which sources are lawful and what they
-//! mean, and nothing of the fault of any other.
+//! Nothing here runs. The trap: a relation has no order of tests, so that it says which sources are lawful and what
+//! they mean, and nothing of the fault of any other.
 #![tactic(auto)]
 
 mod law;

@@ -9,7 +9,8 @@ use Rattle.fx_attempts.specs.Turns.{IsBestAfter}
 use Rattle.fx_attempts.proofs.Better.{each_tried}
 use Rattle.fx_synth.specs.Synthesis.{IsSynthesised, IsUnfound}
 
-pub found : (w : Wanted) (fn : Function) (a : Accepted) → IsBestAfter w fn (take w.tries (single_steps fn)) (Some a) → IsSynthesised w fn a
+pub found : (w : Wanted) (fn : Function) (a : Accepted) → IsBestAfter w fn (take w.tries (single_steps fn)) (Some a) →
+    IsSynthesised w fn a
 found w fn a h = record {
   function_is = h.suits.answer.function_is;
   named = h.suits.answer.named;
@@ -20,5 +21,10 @@ found w fn a h = record {
   unbeaten = λ steps c t acc. each_tried w fn (Some a) h steps c t acc;
 }
 
-pub not_found : (w : Wanted) (fn : Function) (reason : Outside) → IsBestAfter w fn (take w.tries (single_steps fn)) None → outside_of w.width fn ≡ Some reason → IsUnfound w fn reason
-not_found w fn reason h outside = record { outside = outside; unpromised = h.suits; none_accepted = λ steps c t acc. each_tried w fn None h steps c t acc }
+pub not_found : (w : Wanted) (fn : Function) (reason : Outside) →
+    IsBestAfter w fn (take w.tries (single_steps fn)) None → outside_of w.width fn ≡ Some reason → IsUnfound w fn reason
+not_found w fn reason h outside = record {
+  outside = outside;
+  unpromised = h.suits;
+  none_accepted = λ steps c t acc. each_tried w fn None h steps c t acc;
+}

@@ -14,22 +14,27 @@ use Rattle.fx_attempts.specs.Bounds.{attempted, promised_powers, AreNoGreater, A
 use Rattle.fx_synth.specs.declared.fault.SynthFault.{SynthFault}
 use Rattle.fx_synth.specs.declared.fault.SynthFault.TheVariants.{NotFound, Memory}
 
--- what is found is for this function, of its name, at the width and with the rounding that are wanted: with bounds as small as promised; where nothing
--- is promised no worse than an accepted plain attempt; and no accepted attempt of so many tries has smaller bounds at all outputs
+-- what is found is for this function, of its name, at the width and with the rounding that are wanted: with bounds as
+-- small as promised; where nothing is promised no worse than an accepted plain attempt; and no accepted attempt of so
+-- many tries has smaller bounds at all outputs
 pub record IsSynthesised (w : Wanted) (fn : Function) (a : Accepted) : Type 0 where
   pub function_is : a.function ≡ fn
   pub named : a.program.name ≡ fn.name
   pub width_is : a.program.width ≡ w.width
   pub rounded : IsRoundedBy (rounding_of w) a.program
   pub bounded : IfSome (promised_powers w.width fn) (AreWithinPowers fn a.program a.certificate)
-  pub no_worse : promised_powers w.width fn ≡ None → (t : Attempt) → IsAcceptedAfter w fn [] t → AreNoGreater fn (attempted a) t
-  pub unbeaten : (steps : List Rewriting) → Contains (tried_steps w.tries fn) steps → (t : Attempt) → IsAcceptedAfter w fn steps t → ¬ AreSmaller fn t (attempted a)
+  pub no_worse : promised_powers w.width fn ≡ None → (t : Attempt) → IsAcceptedAfter w fn [] t →
+      AreNoGreater fn (attempted a) t
+  pub unbeaten : (steps : List Rewriting) → Contains (tried_steps w.tries fn) steps → (t : Attempt) →
+      IsAcceptedAfter w fn steps t → ¬ AreSmaller fn t (attempted a)
 
--- why nothing is found: neither plan serves the function, of which this keeps it from the plain one, and no attempt is accepted
+-- why nothing is found: neither plan serves the function, of which this keeps it from the plain one, and no attempt is
+-- accepted
 pub record IsUnfound (w : Wanted) (fn : Function) (reason : Outside) : Type 0 where
   pub outside : outside_of w.width fn ≡ Some reason
   pub unpromised : promised_powers w.width fn ≡ None
-  pub none_accepted : (steps : List Rewriting) → Contains (tried_steps w.tries fn) steps → (t : Attempt) → ¬ IsAcceptedAfter w fn steps t
+  pub none_accepted : (steps : List Rewriting) → Contains (tried_steps w.tries fn) steps → (t : Attempt) →
+      ¬ IsAcceptedAfter w fn steps t
 
 -- or there was no memory
 abbrev pub Explains : Wanted → Function → SynthFault → Type 0

@@ -10,7 +10,8 @@ use std::fmt;
 pub enum SynthFault {
     /// Neither plan serves the function, and this keeps it from the plain one.
     NotFound {
-        /// The first node that isn't modest, else the first output that has a demanded end or too small a demanded error.
+        /// The first node that isn't modest, else the first output that has a demanded end or too small a demanded
+        /// error.
         outside: Outside,
     },
     /// No memory was left.

@@ -1,9 +1,9 @@
 //! Synthesis: a certified program for a function, at a width.
 //!
-//! Whatever is found has passed the checker, so nothing rests on how it was found. For a function that the plain plan or
-//! the calm plan serves something is found always, with bounds of that plan; else where the plain attempt or one after a
-//! single step is accepted (`fx_attempts`), and often where a search finds more. The trap: both searches come last, so that
-//! they have the bounds to keep of what stands already.
+//! Whatever is found has passed the checker, so nothing rests on how it was found. For a function that the plain plan
+//! or the calm plan serves something is found always, with bounds of that plan; else where the plain attempt or one
+//! after a single step is accepted (`fx_attempts`), and often where a search finds more. The trap: both searches come
+//! last, so that they have the bounds to keep of what stands already.
 #![tactic(auto)]
 
 mod fault;

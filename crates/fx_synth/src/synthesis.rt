@@ -63,7 +63,8 @@ fn searched(
 ) -> Result<Option<Certified>, Memory>
     requires width { Contains widths wanted.width }
     requires suits { SuitsIfAny wanted function.now answer }
-    ensures { (steps : List Rewriting) → IsBestAfter wanted function.now steps answer → IfOk result (IsBestAfter wanted function.now steps) }
+    ensures { (steps : List Rewriting) → IsBestAfter wanted function.now steps answer →
+        IfOk result (IsBestAfter wanted function.now steps) }
 {
     let candidate = candidate_to(alloc, function, wanted, seed, &answer)?;
     Ok(taken(answer, candidate))
@@ -88,9 +89,10 @@ fn best_answer(
 
 /// A certified program of this width and rounding for the function.
 ///
-/// Where the plain plan serves the function, or else the calm plan, it is the first answer. The plain attempt and those after each of the first
-/// `tries` single steps follow in their order, and then what a search finds in as many tries, with the choices that the seed
-/// gives. One takes the answer's place where it is no worse at any output and better at some.
+/// Where the plain plan serves the function, or else the calm plan, it is the first answer. The plain attempt and those
+/// after each of the first `tries` single steps follow in their order, and then what a search finds in as many tries,
+/// with the choices that the seed gives. One takes the answer's place where it is no worse at any output and better at
+/// some.
 pub fn synthesise(
     alloc: Global,
     function: &Function,

@@ -21,22 +21,34 @@ use Rattle.fx_template.proofs.UnitVectors.{units_from}
 use Rattle.fx_template.proofs.Rounds.{first_written, rounds_written}
 
 -- ---- counted
-pub counted_all : (k : ℕ) (templates : List Template) → k ≤ length templates → length templates ≤ 512 → ((i : ℕ) → i < length templates → IsCountedTemplate k (length templates) (at no_template templates i)) →
-    ((i : ℕ) → i < length templates → i < k → (at no_template templates i).coefs ≡ unit_vector k i) → AreCountedTemplates k templates
+pub counted_all : (k : ℕ) (templates : List Template) → k ≤ length templates → length templates ≤ 512 →
+    ((i : ℕ) → i < length templates → IsCountedTemplate k (length templates) (at no_template templates i)) →
+    ((i : ℕ) → i < length templates → i < k → (at no_template templates i).coefs ≡ unit_vector k i) →
+    AreCountedTemplates k templates
 counted_all k templates enough few each units = record {
   enough = enough;
   few = few;
-  units = units_from k 0 templates (λ i lt less. let same : i ≡ i + 0 = omega arith in units i lt (omega (arith, less)) ∙ ap (λ n. unit_vector k n) same);
-  each = λ i d lt. subst (IsCountedTemplate k (length templates)) (get_or_default templates i no_template d lt) (each i lt);
+  units = units_from k 0 templates (λ i lt less. let same : i ≡ i + 0 = omega arith in
+      units i lt (omega (arith, less)) ∙ ap (λ n. unit_vector k n) same);
+  each =
+      λ i d lt. subst (IsCountedTemplate k (length templates)) (get_or_default templates i no_template d lt)
+      (each i lt);
 }
 
 -- ---- short
-short_template : (k count : ℕ) (r : Template) → IsCountedTemplate k count r → IsWrittenInterval r.bound → IsShortTemplate r
-short_template k count r h w = record { coefs = short_coefs r.coefs h.written; bound = short_ends r.bound w; shares = short_shares count 0 r.shares h.shares }
+short_template : (k count : ℕ) (r : Template) → IsCountedTemplate k count r → IsWrittenInterval r.bound →
+    IsShortTemplate r
+short_template k count r h w = record {
+  coefs = short_coefs r.coefs h.written;
+  bound = short_ends r.bound w;
+  shares = short_shares count 0 r.shares h.shares;
+}
 
-pub templates_short : (k : ℕ) (templates : List Template) → AreCountedTemplates k templates → AreWrittenBounds templates → AreShortTemplates templates
+pub templates_short : (k : ℕ) (templates : List Template) → AreCountedTemplates k templates →
+    AreWrittenBounds templates → AreShortTemplates templates
 templates_short k templates h w i = elim (cases_lt i (length templates)) [
-  | inl less ↦ short_template k (length templates) (at no_template templates i) (h.each i no_template less) (w i no_template less)
+  | inl less ↦ short_template k (length templates) (at no_template templates i) (h.each i no_template less)
+      (w i no_template less)
   | inr more ↦ subst IsShortTemplate (sym (get_or_past templates i no_template more)) no_short_template
 ]
 
@@ -46,20 +58,35 @@ both_none f (Some x) b h = absurd cc
 both_none f None (Some y) h = absurd cc
 both_none f None None h = (refl, refl)
 
-pub plain_both_pass : (t : Transition) (b : Bounds) (f : Found) → IsModestTransition t → f.templates ≡ unit_templates t.states b.templates → f.error_templates ≡ unit_templates t.states b.error_templates → first_fallen t b ≡ None → BothPass t f
+pub plain_both_pass : (t : Transition) (b : Bounds) (f : Found) → IsModestTransition t →
+    f.templates ≡ unit_templates t.states b.templates → f.error_templates ≡ unit_templates t.states b.error_templates →
+    first_fallen t b ≡ None → BothPass t f
 plain_both_pass t b f m templates errors none =
-    let each = both_none (λ i. t.states + i) (first_untrue t.states (stands Value t b.templates)) (first_untrue t.states (stands Error t b.error_templates)) none in
+    let each =
+    both_none (λ i. t.states + i) (first_untrue t.states (stands Value t b.templates))
+    (first_untrue t.states (stands Error t b.error_templates)) none in
     record {
       kept = subst (AreKept Value t) (sym templates) (unit_templates_kept Value t b.templates each.0);
       kept_errors = subst (AreKept Error t) (sym errors) (unit_templates_kept Error t b.error_templates each.1);
-      counted = subst (AreCountedTemplates t.states) (sym templates) (unit_templates_counted t.states b.templates m.states);
-      counted_errors = subst (AreCountedTemplates t.states) (sym errors) (unit_templates_counted t.states b.error_templates m.states);
+      counted =
+          subst (AreCountedTemplates t.states) (sym templates) (unit_templates_counted t.states b.templates m.states);
+      counted_errors =
+          subst (AreCountedTemplates t.states) (sym errors)
+          (unit_templates_counted t.states b.error_templates m.states);
     }
 
-pub plain_written : (t : Transition) (n : ℕ) (b : Bounds) (f : Found) → IsModestTransition t → b ≡ plain_rounds n t (bounds_at_first t) → f.templates ≡ unit_templates t.states b.templates → f.error_templates ≡ unit_templates t.states b.error_templates →
+pub plain_written : (t : Transition) (n : ℕ) (b : Bounds) (f : Found) → IsModestTransition t →
+    b ≡ plain_rounds n t (bounds_at_first t) → f.templates ≡ unit_templates t.states b.templates →
+    f.error_templates ≡ unit_templates t.states b.error_templates →
     HasWrittenStates t → HasWrittenBounds f
 plain_written t n b f m is templates errors h =
     let all = rounds_written n t (bounds_at_first t) m (first_written t h) in (
-      subst AreWrittenBounds (sym templates) (unit_templates_written t.states b.templates (λ i lt. subst (λ (x : Bounds). IsWrittenInterval (at (record { lo = zero_dyadic; hi = zero_dyadic }) x.templates i)) (sym is) (all i lt).0)),
-      subst AreWrittenBounds (sym errors) (unit_templates_written t.states b.error_templates (λ i lt. subst (λ (x : Bounds). IsWrittenInterval (at (record { lo = zero_dyadic; hi = zero_dyadic }) x.error_templates i)) (sym is) (all i lt).1)),
+      subst AreWrittenBounds (sym templates)
+          (unit_templates_written t.states b.templates
+          (λ i lt. subst (λ (x : Bounds). IsWrittenInterval
+          (at (record { lo = zero_dyadic; hi = zero_dyadic }) x.templates i)) (sym is) (all i lt).0)),
+      subst AreWrittenBounds (sym errors)
+          (unit_templates_written t.states b.error_templates
+          (λ i lt. subst (λ (x : Bounds). IsWrittenInterval
+          (at (record { lo = zero_dyadic; hi = zero_dyadic }) x.error_templates i)) (sym is) (all i lt).1)),
     )

@@ -26,15 +26,22 @@ use Rattle.fx_template.proofs.UnitVectors.{entry_at, entry_whole, entry_written,
 
 unit_short : (k i j : ℕ) → i < k → IsShort 96 (Num (at zero_dyadic (unit_vector k i) j))
 unit_short k i j lt = elim (cases_lt j k) [
-  | inl less ↦ (let whole = ap (λ (d : Dyadic). d.e) (entry_at k i j lt less) ∙ entry_whole i j in record { few = omega (arith, whole) })
-  | inr more ↦ (let past = ap (λ (d : Dyadic). d.e) (get_or_past (unit_vector k i) j zero_dyadic (rw (unit_length k i lt) more)) in record { few = omega (arith, past) })
+  | inl less ↦ (let whole = ap (λ (d : Dyadic). d.e) (entry_at k i j lt less) ∙ entry_whole i j in
+      record { few = omega (arith, whole) })
+  | inr more ↦ (let past = ap (λ (d : Dyadic). d.e)
+      (get_or_past (unit_vector k i) j zero_dyadic (rw (unit_length k i lt) more)) in
+      record { few = omega (arith, past) })
 ]
 
-pub unit_templates_short : (k : ℕ) (bounds : List Interval) → AreShortBounds bounds → AreShortTemplates (unit_templates k bounds)
-unit_templates_short k bounds h = tabulate_all IsShortTemplate (λ i. unit_template k (at zero_interval bounds i) i) k no_template no_short_template (λ i lt. record { coefs = λ j. unit_short k i j lt; bound = h i; shares = tt })
+pub unit_templates_short : (k : ℕ) (bounds : List Interval) → AreShortBounds bounds →
+    AreShortTemplates (unit_templates k bounds)
+unit_templates_short k bounds h =
+    tabulate_all IsShortTemplate (λ i. unit_template k (at zero_interval bounds i) i) k no_template no_short_template
+    (λ i lt. record { coefs = λ j. unit_short k i j lt; bound = h i; shares = tt })
 
 -- template i of them
-pub unit_template_at : (k : ℕ) (bounds : List Interval) (i : ℕ) (d : Template) → i < k → get_or (unit_templates k bounds) i d ≡ unit_template k (at zero_interval bounds i) i
+pub unit_template_at : (k : ℕ) (bounds : List Interval) (i : ℕ) (d : Template) → i < k →
+    get_or (unit_templates k bounds) i d ≡ unit_template k (at zero_interval bounds i) i
 unit_template_at k bounds i d lt = tabulate_at (λ i. unit_template k (at zero_interval bounds i) i) k i d lt
 
 pub unit_count : (k : ℕ) (bounds : List Interval) → length (unit_templates k bounds) ≡ k
@@ -43,28 +50,39 @@ unit_count k bounds = tabulate_length (λ i. unit_template k (at zero_interval b
 unit_counted : (k i count : ℕ) (bound : Interval) → i < k → IsCountedTemplate k count (unit_template k bound i)
 unit_counted k i count bound lt = record {
   coefs = unit_length k i lt;
-  written = λ j d less. (let inside : j < k = rw (← unit_length k i lt) less in subst IsWritten (sym (default_same j d less ∙ entry_at k i j lt inside)) (entry_written i j));
+  written = λ j d less. (let inside : j < k = rw (← unit_length k i lt) less in
+      subst IsWritten (sym (default_same j d less ∙ entry_at k i j lt inside)) (entry_written i j));
   shares = tt;
 }
   where
-    default_same : (j : ℕ) (d : Dyadic) → j < length (unit_vector k i) → get_or (unit_vector k i) j d ≡ at zero_dyadic (unit_vector k i) j
+    default_same : (j : ℕ) (d : Dyadic) → j < length (unit_vector k i) →
+        get_or (unit_vector k i) j d ≡ at zero_dyadic (unit_vector k i) j
     default_same j d less = get_or_default (unit_vector k i) j d zero_dyadic less
 
 pub unit_templates_counted : (k : ℕ) (bounds : List Interval) → k ≤ 32 → AreCountedTemplates k (unit_templates k bounds)
 unit_templates_counted k bounds few = let count = unit_count k bounds in record {
   enough = omega (arith, count);
   few = omega (arith, count, few);
-  units = units_from k 0 (unit_templates k bounds) (λ i lt less. let inside : i < k = rw (← count) lt in let same : i ≡ i + 0 = omega arith in
+  units = units_from k 0 (unit_templates k bounds) (λ i lt less. let inside : i < k = rw (← count) lt in
+      let same : i ≡ i + 0 = omega arith in
       ap (λ (r : Template). r.coefs) (unit_template_at k bounds i no_template inside) ∙ ap (λ n. unit_vector k n) same);
-  each = λ i d lt. let inside : i < k = rw (← count) lt in subst (IsCountedTemplate k (length (unit_templates k bounds))) (sym (unit_template_at k bounds i d inside)) (unit_counted k i (length (unit_templates k bounds)) (at zero_interval bounds i) inside);
+  each = λ i d lt. let inside : i < k = rw (← count) lt in
+      subst (IsCountedTemplate k (length (unit_templates k bounds))) (sym (unit_template_at k bounds i d inside))
+      (unit_counted k i (length (unit_templates k bounds)) (at zero_interval bounds i) inside);
 }
 
-pub unit_templates_written : (k : ℕ) (bounds : List Interval) → ((i : ℕ) → i < k → IsWrittenInterval (at zero_interval bounds i)) → AreWrittenBounds (unit_templates k bounds)
+pub unit_templates_written : (k : ℕ) (bounds : List Interval) →
+    ((i : ℕ) → i < k → IsWrittenInterval (at zero_interval bounds i)) → AreWrittenBounds (unit_templates k bounds)
 unit_templates_written k bounds h i d lt =
-    let inside : i < k = rw (← unit_count k bounds) lt in subst (λ (r : Template). IsWrittenInterval r.bound) (sym (unit_template_at k bounds i d inside)) (h i inside)
+    let inside : i < k = rw (← unit_count k bounds) lt in
+    subst (λ (r : Template). IsWrittenInterval r.bound) (sym (unit_template_at k bounds i d inside)) (h i inside)
 
 -- where each stands, one step keeps each
-pub unit_templates_kept : (side : Side) (t : Transition) (bounds : List Interval) → first_untrue t.states (stands side t bounds) ≡ None → AreKept side t (unit_templates t.states bounds)
+pub unit_templates_kept : (side : Side) (t : Transition) (bounds : List Interval) →
+    first_untrue t.states (stands side t bounds) ≡ None → AreKept side t (unit_templates t.states bounds)
 unit_templates_kept side t bounds h i lt =
     let inside : i < t.states = rw (← unit_count t.states bounds) lt in let b = at zero_interval bounds i in
-    both_right (is_small b.lo && is_small b.hi) (are_met (kept_template t.inputs t.states t.next t.lines (unit_templates t.states bounds) side i)) (all_true (stands side t bounds) t.states h i inside)
+    both_right (is_small b.lo &&
+    is_small b.hi) (are_met
+    (kept_template t.inputs t.states t.next t.lines (unit_templates t.states bounds) side i)) (all_true
+    (stands side t bounds) t.states h i inside)

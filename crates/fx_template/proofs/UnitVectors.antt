@@ -44,23 +44,30 @@ later i j lt = by (i == j) refl
 here : (i : ℕ) → unit_entry i i ≡ record { m = pos 1; e = 0 }
 here i = by (i == i) refl
   where
-    by : (t : Bool) → (i == i) ≡ t → (if t then record { m = pos 1; e = 0 } else zero_dyadic) ≡ record { m = pos 1; e = 0 }
+    by : (t : Bool) → (i == i) ≡ t →
+        (if t then record { m = pos 1; e = 0 } else zero_dyadic) ≡ record { m = pos 1; e = 0 }
     by true e = refl
     by false e = absurd (grind (arith, e))
 
 more : (f : ℕ → Dyadic) (n : ℕ) → tabulate (suc n) f ≡ tabulate n f ++ f n ∷ []
-more f n = let next : n + 1 ≡ suc n = omega arith in subst (λ (m : ℕ). tabulate m f ≡ tabulate n f ++ f n ∷ []) next (map-range_with_len_more f 0 n n (omega arith))
+more f n =
+    let next : n + 1 ≡ suc n = omega arith in
+    subst (λ (m : ℕ). tabulate m f ≡ tabulate n f ++ f n ∷ []) next (map-range_with_len_more f 0 n n (omega arith))
 
 before : (i n : ℕ) → n ≤ i → tabulate n (unit_entry i) ≡ zeros n
 before i zero le = refl
-before i (suc n) le = more (unit_entry i) n ∙ (λ k. before i n (omega (arith, le)) k ++ other i n (omega (arith, le)) k ∷ []) ∙ zeros_more n
+before i (suc n) le = more (unit_entry i) n
+    ∙ (λ k. before i n (omega (arith, le)) k ++ other i n (omega (arith, le)) k ∷ []) ∙ zeros_more n
 
 behind : (i d : ℕ) → tabulate (suc i + d) (unit_entry i) ≡ zeros i ++ record { m = pos 1; e = 0 } ∷ zeros d
 behind i zero = let same : suc i ≡ suc i + 0 = omega arith in
-    subst (λ (m : ℕ). tabulate m (unit_entry i) ≡ zeros i ++ record { m = pos 1; e = 0 } ∷ []) same (more (unit_entry i) i ∙ (λ k. before i i (omega arith) k ++ here i k ∷ []))
+    subst (λ (m : ℕ). tabulate m (unit_entry i) ≡ zeros i ++ record { m = pos 1; e = 0 } ∷ []) same
+    (more (unit_entry i) i ∙ (λ k. before i i (omega arith) k ++ here i k ∷ []))
 behind i (suc d) = let same : suc (suc i + d) ≡ suc i + suc d = omega arith in
     subst (λ (m : ℕ). tabulate m (unit_entry i) ≡ zeros i ++ record { m = pos 1; e = 0 } ∷ zeros (suc d)) same
-    (more (unit_entry i) (suc i + d) ∙ (λ k. behind i d k ++ later i (suc i + d) (omega arith) k ∷ []) ∙ append_assoc (zeros i) (record { m = pos 1; e = 0 } ∷ zeros d) (zero_dyadic ∷ []) ∙ ap (λ xs. zeros i ++ record { m = pos 1; e = 0 } ∷ xs) (zeros_more d))
+    (more (unit_entry i) (suc i + d) ∙ (λ k. behind i d k ++ later i (suc i + d) (omega arith) k ∷ [])
+    ∙ append_assoc (zeros i) (record { m = pos 1; e = 0 } ∷ zeros d) (zero_dyadic ∷ [])
+    ∙ ap (λ xs. zeros i ++ record { m = pos 1; e = 0 } ∷ xs) (zeros_more d))
 
 -- a unit vector has its entries
 pub unit_is : (k i : ℕ) → i < k → tabulate k (unit_entry i) ≡ unit_vector k i
@@ -68,12 +75,17 @@ unit_is k i lt = let same : suc i + (k - (i + 1)) ≡ k = omega (arith, lt) in
     subst (λ (m : ℕ). tabulate m (unit_entry i) ≡ unit_vector k i) same (behind i (k - (i + 1)))
 
 -- a list that has them is the unit vector
-pub unit_by : (xs : List Dyadic) (i : ℕ) → i < length xs → ((j : ℕ) → j < length xs → Num (at zero_dyadic xs j) ≡ unit_coef i j) → xs ≡ unit_vector (length xs) i
-unit_by xs i lt h = ext_get_or zero_dyadic xs (tabulate (length xs) (unit_entry i)) (sym (tabulate_length (unit_entry i) (length xs))) (λ j less. entry_of (at zero_dyadic xs j) i j (h j less) ∙ sym (tabulate_at (unit_entry i) (length xs) j zero_dyadic less)) ∙ unit_is (length xs) i lt
+pub unit_by : (xs : List Dyadic) (i : ℕ) → i < length xs →
+    ((j : ℕ) → j < length xs → Num (at zero_dyadic xs j) ≡ unit_coef i j) → xs ≡ unit_vector (length xs) i
+unit_by xs i lt h =
+    ext_get_or zero_dyadic xs (tabulate (length xs) (unit_entry i)) (sym (tabulate_length (unit_entry i) (length xs)))
+    (λ j less. entry_of (at zero_dyadic xs j) i j (h j less)
+    ∙ sym (tabulate_at (unit_entry i) (length xs) j zero_dyadic less)) ∙ unit_is (length xs) i lt
 
 -- ---- its entries are 0 and 1
 pub entry_at : (k i j : ℕ) → i < k → j < k → at zero_dyadic (unit_vector k i) j ≡ unit_entry i j
-entry_at k i j lt less = ap (λ xs. at zero_dyadic xs j) (sym (unit_is k i lt)) ∙ tabulate_at (unit_entry i) k j zero_dyadic less
+entry_at k i j lt less =
+    ap (λ xs. at zero_dyadic xs j) (sym (unit_is k i lt)) ∙ tabulate_at (unit_entry i) k j zero_dyadic less
 
 pub entry_whole : (i j : ℕ) → (unit_entry i j).e ≡ 0
 entry_whole i j = by (i == j)
@@ -90,9 +102,14 @@ entry_written i j = by (i == j)
     by false = record { small = omega arith; places = omega arith; one_spelling = λ lt. absurd (omega (arith, lt)) }
 
 -- ---- unit templates by their numbers
-pub units_from : (k m : ℕ) (templates : List Template) → ((i : ℕ) → i < length templates → i + m < k → (at no_template templates i).coefs ≡ unit_vector k (i + m)) → AreUnitTemplates k m templates
+pub units_from : (k m : ℕ) (templates : List Template) →
+    ((i : ℕ) → i < length templates → i + m < k → (at no_template templates i).coefs ≡ unit_vector k (i + m)) →
+    AreUnitTemplates k m templates
 units_from k m [] h = tt
 units_from k m (r ∷ templates) h = (
-  (let same : 0 + m ≡ m = omega arith in subst (λ (n : ℕ). n < k → r.coefs ≡ unit_vector k n) same (λ lt. h 0 (omega arith) lt)),
-  units_from k (m + 1) templates (λ i less lt. let same : suc i + m ≡ i + (m + 1) = omega arith in subst (λ (n : ℕ). (at no_template templates i).coefs ≡ unit_vector k n) same (h (suc i) (omega (arith, less)) (omega (arith, lt)))),
+  (let same : 0 + m ≡ m = omega arith in
+      subst (λ (n : ℕ). n < k → r.coefs ≡ unit_vector k n) same (λ lt. h 0 (omega arith) lt)),
+  units_from k (m + 1) templates (λ i less lt. let same : suc i + m ≡ i + (m + 1) = omega arith in
+      subst (λ (n : ℕ). (at no_template templates i).coefs ≡ unit_vector k n) same
+      (h (suc i) (omega (arith, less)) (omega (arith, lt)))),
 )

@@ -33,7 +33,9 @@ HasWrittenBounds f = AreWrittenBounds f.templates × AreWrittenBounds f.error_te
 
 -- so can where the states lie
 abbrev pub HasWrittenStates : Transition → Type 0
-HasWrittenStates t = (i : ℕ) → i < t.states → IsWrittenInterval (at no_line t.lines (t.inputs + i)).range × IsWrittenInterval (at no_line t.lines (t.inputs + i)).error
+HasWrittenStates t = (i : ℕ) → i < t.states →
+    IsWrittenInterval (at no_line t.lines (t.inputs + i)).range ×
+    IsWrittenInterval (at no_line t.lines (t.inputs + i)).error
 
 -- this template is the first that doesn't stand after so many rounds; want of memory may come at any time
 abbrev pub NamesFallen : TemplateFault → Transition → ℕ → Type 0

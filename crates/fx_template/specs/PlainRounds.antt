@@ -47,11 +47,14 @@ hull a b = record { lo = Least a.lo b.lo; hi = Greatest a.hi b.hi }
 
 -- what the new bound of unit template i has to hold: the old one, and where the template lies after one step
 abbrev pub raised_span : Side → Transition → List Interval → ℕ → Span
-raised_span side t bounds i = hull (span (at zero_interval bounds i)) (next_template t.inputs t.states t.next t.lines (unit_templates t.states bounds) side i)
+raised_span side t bounds i =
+    hull (span (at zero_interval bounds i))
+    (next_template t.inputs t.states t.next t.lines (unit_templates t.states bounds) side i)
 
 -- the narrowest on its grid that does, where it is there
 abbrev pub raised_bound : Side → Transition → List Interval → ℕ → Result Interval Why
-raised_bound side t bounds i = let s = raised_span side t bounds i in narrowest (template_grid side t i) (span_bounds s) (λ b. inside s (span b))
+raised_bound side t bounds i =
+    let s = raised_span side t bounds i in narrowest (template_grid side t i) (span_bounds s) (λ b. inside s (span b))
 
 -- all at once, where each is there
 abbrev pub raised_bounds : Side → Transition → List Interval → Option (List Interval)
@@ -94,9 +97,12 @@ are_met claims = list_all fits claims && list_all holds claims
 -- a template stands where one step keeps it, and its bound has mantissas of at most 62 bits
 abbrev pub stands : Side → Transition → List Interval → ℕ → Bool
 stands side t bounds i =
-    let b = at zero_interval bounds i in is_small b.lo && is_small b.hi && are_met (kept_template t.inputs t.states t.next t.lines (unit_templates t.states bounds) side i)
+    let b = at zero_interval bounds i in
+    is_small b.lo && is_small b.hi &&
+    are_met (kept_template t.inputs t.states t.next t.lines (unit_templates t.states bounds) side i)
 
 -- the first that doesn't, counted over the templates and then over the error templates
 abbrev pub first_fallen : Transition → Bounds → Option ℕ
 first_fallen t b =
-    or_else (first_untrue t.states (stands Value t b.templates)) (option_map (λ i. t.states + i) (first_untrue t.states (stands Error t b.error_templates)))
+    or_else (first_untrue t.states (stands Value t b.templates))
+    (option_map (λ i. t.states + i) (first_untrue t.states (stands Error t b.error_templates)))

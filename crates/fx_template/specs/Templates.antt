@@ -29,8 +29,10 @@ AreWrittenBounds templates = All (λ r. IsWrittenInterval r.bound) templates
 
 -- one step keeps each template
 abbrev pub AreKept : Side → Transition → List Template → Type 0
-AreKept side t templates = (i : ℕ) → i < length templates → are_met (kept_template t.inputs t.states t.next t.lines templates side i) ≡ true
+AreKept side t templates =
+    (i : ℕ) → i < length templates → are_met (kept_template t.inputs t.states t.next t.lines templates side i) ≡ true
 
 -- such templates with such bounds are a certificate's
 abbrev pub WrittenLaw : Type 0
-WrittenLaw = (k : ℕ) (templates : List Template) → AreCountedTemplates k templates → AreWrittenBounds templates → AreWrittenTemplates k templates
+WrittenLaw = (k : ℕ) (templates : List Template) → AreCountedTemplates k templates → AreWrittenBounds templates →
+    AreWrittenTemplates k templates

@@ -1,4 +1,5 @@
--- One step of the states, as templates see it: how many variables there are, where the next states stand, and the lines of all nodes.
+-- One step of the states, as templates see it: how many variables there are, where the next states stand, and the lines
+-- of all nodes.
 use Rattle.std.specs.Prelude.{ℕ, ◌+◌, ◌-◌, ◌≤◌, ℤ, pos, List, length, Option, Some, None}
 use Rattle.fx_rational.specs.Dyadic.{Dyadic, zero_dyadic}
 use Rattle.fx_rational.specs.Interval.{Interval}
@@ -22,19 +23,34 @@ pub record Transition : Type 0 where
 
 -- what contracts see of one
 abbrev pub transition_in : code.Transition → Transition
-transition_in t = record { inputs = t.inputs; states = t.states; next = t.next; points = t.points.now; lines = lines_view t.lines.items }
+transition_in t = record {
+  inputs = t.inputs;
+  states = t.states;
+  next = t.next;
+  points = t.points.now;
+  lines = lines_view t.lines.items;
+}
 
 -- ---- the lines of a plan, which name no shares
 abbrev pub planned_form : Option LinearForm → Interval → Dyadic × Dyadic → Option Form
 planned_form None rest centres = None
-planned_form (Some f) rest centres = Some record { centre_a = centres.0; centre_b = centres.1; coefs = f.coefs; rest = f.rest; error_rest = rest; range_by = None; error_by = None }
+planned_form (Some f) rest centres = Some record {
+  centre_a = centres.0;
+  centre_b = centres.1;
+  coefs = f.coefs;
+  rest = f.rest;
+  error_rest = rest;
+  range_by = None;
+  error_by = None;
+}
 
 -- the line of node n
 abbrev pub planned_line : Planned → ℕ → NodeLine
 planned_line p n = record {
   range = at zero_interval p.ranges n;
   error = at zero_interval p.errors n;
-  form = planned_form (at None p.forms n) (at zero_interval p.error_rests n) (at (zero_dyadic, zero_dyadic) p.centres n);
+  form =
+      planned_form (at None p.forms n) (at zero_interval p.error_rests n) (at (zero_dyadic, zero_dyadic) p.centres n);
 }
 
 -- those of all nodes
@@ -43,7 +59,13 @@ planned_lines p = tabulate (length p.ranges) (planned_line p)
 
 -- one step by a plan
 abbrev pub transition_of : Nodes → Planned → Transition
-transition_of nodes p = record { inputs = nodes.inputs; states = nodes.states; next = length nodes.list - nodes.states; points = p.points; lines = planned_lines p }
+transition_of nodes p = record {
+  inputs = nodes.inputs;
+  states = nodes.states;
+  next = length nodes.list - nodes.states;
+  points = p.points;
+  lines = planned_lines p;
+}
 
 -- ---- few variables and nodes, and dyadics of at most 96 binary places
 pub record IsModestTransition (t : Transition) : Type 0 where

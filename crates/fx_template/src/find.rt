@@ -132,7 +132,8 @@ pub fn find_templates(
     requires modest { IsModestTransition (transition_of nodes.now (planned plan.now)) }
     requires few { length nodes.now.list ≤ 4000 }
     ensures both { IfOk result (λ f. BothPass (transition_of nodes.now (planned plan.now)) (found_in f)) }
-    ensures written { HasWrittenStates (transition_of nodes.now (planned plan.now)) → IfOk result (λ f. HasWrittenBounds (found_in f)) }
+    ensures written { HasWrittenStates (transition_of nodes.now (planned plan.now)) →
+        IfOk result (λ f. HasWrittenBounds (found_in f)) }
     ensures fallen { IfErr result (λ e. NamesFallen e (transition_of nodes.now (planned plan.now)) rounds) }
 {
     let t = step_by_plan(alloc, nodes, plan)?;

@@ -71,7 +71,10 @@ fn form_of(
 
 /// The form of node `n`, if it has one.
 fn form_at(alloc: Global, plan: &PlannedNodes, n: usize) -> Result<Option<Form>, AllocError>
-    ensures { let p = planned plan.now in IfOk result (λ f. option_map form_view f ≡ planned_form (at None p.forms n) (at zero_interval p.error_rests n) (at (zero_dyadic, zero_dyadic) p.centres n)) }
+    ensures { let p = planned plan.now in
+        IfOk result (λ f. option_map form_view f
+        ≡ planned_form (at None p.forms n) (at zero_interval p.error_rests n)
+        (at (zero_dyadic, zero_dyadic) p.centres n)) }
 {
     let rest = interval_at(&plan.error_rests, n);
     let centres = centres_at(&plan.centres, n);

@@ -127,7 +127,8 @@ fn raised_bounds(
 ) -> Result<Option<Vec<Interval>>, Memory>
     requires modest { IsModestTransition (transition_in t.now) }
     requires short { AreShortBounds bounds.now }
-    ensures { IfOk result (λ o. option_map (λ bs. bs.items) o ≡ raised_bounds side.now (transition_in t.now) bounds.now) }
+    ensures { IfOk result (λ o. option_map (λ bs. bs.items) o
+        ≡ raised_bounds side.now (transition_in t.now) bounds.now) }
 {
     let templates = unit_templates(alloc, t.states, bounds)?;
     let mut raised = Vec::new(alloc);
@@ -174,7 +175,8 @@ fn bounds_at_first(alloc: Global, t: &Transition) -> Result<Bounds, Memory>
 /// The bounds after so many rounds, or before the first that isn't carried out.
 pub fn plain_rounds(alloc: Global, t: &Transition, rounds: u32) -> Result<Bounds, Memory>
     requires modest { IsModestTransition (transition_in t.now) }
-    ensures rounds { let s = transition_in t.now in IfOk result (λ b. bounds_in b ≡ plain_rounds rounds s (bounds_at_first s)) }
+    ensures rounds { let s = transition_in t.now in
+        IfOk result (λ b. bounds_in b ≡ plain_rounds rounds s (bounds_at_first s)) }
     ensures short { IfOk result (λ b. AreShortBounds b.templates.items) }
     ensures short_errors { IfOk result (λ b. AreShortBounds b.error_templates.items) }
 {

@@ -80,7 +80,8 @@ pub fn first_fallen(
     requires modest { IsModestTransition (transition_in t.now) }
     requires templates { templates_in templates.now ≡ unit_templates t.now.states bounds.now.templates.items }
     requires short { AreShortTemplates (templates_in templates.now) }
-    requires error_templates { templates_in error_templates.now ≡ unit_templates t.now.states bounds.now.error_templates.items }
+    requires error_templates { templates_in error_templates.now
+        ≡ unit_templates t.now.states bounds.now.error_templates.items }
     requires short_errors { AreShortTemplates (templates_in error_templates.now) }
     ensures { result ≡ first_fallen (transition_in t.now) (bounds_in bounds.now) }
 {

@@ -18,8 +18,8 @@ pub struct FoundTemplates {
 /// Why there are no templates.
 #[derive(Clone, Copy, Debug, PartialEq, Eq)]
 pub enum TemplateFault {
-    /// Nothing better was found, and this unit template is the first that doesn't stand after the plain rounds; unit error
-    /// templates are counted on behind the unit templates.
+    /// Nothing better was found, and this unit template is the first that doesn't stand after the plain rounds; unit
+    /// error templates are counted on behind the unit templates.
     NoTemplates { template: u32 },
     /// No memory was left.
     Memory,

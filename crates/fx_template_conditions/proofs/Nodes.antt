@@ -29,10 +29,12 @@ faults fn w cert n node c v f =
     (first_some (fault_at condition.Error n true (error_claims fn cert l node c f form))
     (fault_at condition.WordTooSmall n true (word_claims w f (range_at ls n) (error_at ls n))))))
 
-pub five : (fn : Function) (w : ℕ) (ps : List ℤ) (cert : Certificate) (n : ℕ) (node : Node) (c : Code) (v : ℕ) (f : ℤ) → variables fn ≡ v → at (pos 0) ps n ≡ f
+pub five : (fn : Function) (w : ℕ) (ps : List ℤ) (cert : Certificate) (n : ℕ) (node : Node) (c : Code) (v : ℕ) (f : ℤ) →
+    variables fn ≡ v → at (pos 0) ps n ≡ f
     → first_fault_of (node_conditions fn w ps cert n node c) ≡ faults fn w cert n node c v f
 five fn w ps cert n node c v f e h =
-    let g = at (pos 0) ps n in let u = variables fn in let ls = cert.lines in let l = at no_line ls n in let form = form_of u ls n in
+    let g = at (pos 0) ps n in let u = variables fn in let ls = cert.lines in let l = at no_line ls n in
+    let form = form_of u ls n in
     ap (λ (o : Option Fault). first_some (fault_at condition.Form n true (form_claims u ls l node c g form))
     (first_some (fault_at condition.Divisor n true (divisor_claims ls node))
     (first_some (fault_at condition.Range n true (range_claims fn cert l node form))

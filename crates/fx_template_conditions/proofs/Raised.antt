@@ -30,26 +30,35 @@ room_left a s room le near =
 
 -- a word times a power of two, as 64 bits hold it
 pub raised_is : (m y : ℤ) (s : ℕ) → FitsSigned w64 m → s ≤ 62 → y ≡ pos (2 ^ s) → unsigned_abs m * 2 ^ s ≤ 2 ^ 62
-    → (let z = to_z w64 (of_z w64 m) *ℤ to_z w64 (of_z w64 y) in FitsSigned w64 z × (to_z w64 (of_z w64 z) ≡ m *ℤ pos (2 ^ s)))
+    → (let z = to_z w64 (of_z w64 m) *ℤ to_z w64 (of_z w64 y) in
+    FitsSigned w64 z × (to_z w64 (of_z w64 z) ≡ m *ℤ pos (2 ^ s)))
 raised_is m y s f k ey near =
     let p : 2 ^ s ≤ 2 ^ 62 = pow_mono k in
     let small : FitsSigned w64 (pos (2 ^ s)) = fits_signed_from_abs w64 (pos (2 ^ s)) (omega arith) in
     let a : to_z w64 (of_z w64 m) ≡ m = to_z-of_z w64 m f in
-    let b : to_z w64 (of_z w64 y) ≡ pos (2 ^ s) = ap (λ v. to_z w64 (of_z w64 v)) ey ∙ to_z-of_z w64 (pos (2 ^ s)) small in
+    let b : to_z w64 (of_z w64 y) ≡ pos (2 ^ s) = ap (λ v. to_z w64 (of_z w64 v)) ey
+    ∙ to_z-of_z w64 (pos (2 ^ s)) small in
     let same : to_z w64 (of_z w64 m) *ℤ to_z w64 (of_z w64 y) ≡ m *ℤ pos (2 ^ s) = λ i. a i *ℤ b i in
     let abs = unsigned_abs-mul m (pos (2 ^ s)) in
-    let fits : FitsSigned w64 (m *ℤ pos (2 ^ s)) = fits_signed_from_abs w64 (m *ℤ pos (2 ^ s)) (omega (arith, abs, near)) in
-    (subst (λ z. FitsSigned w64 z) (sym same) fits, ap (λ z. to_z w64 (of_z w64 z)) same ∙ to_z-of_z w64 (m *ℤ pos (2 ^ s)) fits)
+    let fits : FitsSigned w64 (m *ℤ pos (2 ^ s)) =
+    fits_signed_from_abs w64 (m *ℤ pos (2 ^ s)) (omega (arith, abs, near)) in (
+      subst (λ z. FitsSigned w64 z) (sym same) fits,
+      ap (λ z. to_z w64 (of_z w64 z)) same
+          ∙ to_z-of_z w64 (m *ℤ pos (2 ^ s)) fits,
+    )
 
 -- it stays near
 pub raised_near : (m x : ℤ) (s : ℕ) → x ≡ m *ℤ pos (2 ^ s) → unsigned_abs m * 2 ^ s ≤ 2 ^ 62 → unsigned_abs x ≤ 2 ^ 62
-raised_near m x s e near = let abs = unsigned_abs-mul m (pos (2 ^ s)) in let same = ap unsigned_abs e in omega (arith, same, abs, near)
+raised_near m x s e near =
+    let abs = unsigned_abs-mul m (pos (2 ^ s)) in let same = ap unsigned_abs e in omega (arith, same, abs, near)
 
 -- what is raised first is the product raised
 pub raised_product : (x y q t : ℤ) (p : ℕ) → q ≡ x *ℤ pos p → t ≡ q *ℤ y → t ≡ (x *ℤ y) *ℤ pos p
 raised_product x y q t p h k =
     let z = pos p in
-    k ∙ ap (λ (u : ℤ). u *ℤ y) h ∙ by_quotes {ρ = x ∷ y ∷ z ∷ []} {a = (x *ℤ z) *ℤ y} {b = (x *ℤ y) *ℤ z} (search quotes depth 20) (search quotes depth 20) refl
+    k ∙ ap (λ (u : ℤ). u *ℤ y) h
+    ∙ by_quotes {ρ = x ∷ y ∷ z ∷ []} {a = (x *ℤ z) *ℤ y} {b = (x *ℤ y) *ℤ z} (search quotes depth 20)
+    (search quotes depth 20) refl
 
 pub factors_fit : (x y : ℤ) → unsigned_abs x ≤ 2 ^ 62 → unsigned_abs y ≤ 2 ^ 64 → IsTrue (fits_128 (x *ℤ y))
 factors_fit x y near small = (fits_is (x *ℤ y)).1 (fits_signed_mul w128 x y (2 ^ 62) (2 ^ 64) near small (omega arith))

@@ -19,34 +19,48 @@ use Rattle.fx_conditions.specs.Limits.{AreShortTemplates, AreShortShares}
 use Rattle.fx_conditions.proofs.Shorts.{template_coef_short}
 
 -- one share more at the end
-pub shared_more : (z : Span) (templates : Templates) (xs : List Share) (s : Share) → shared_sum z templates (xs ++ s ∷ []) ≡ span_sum (shared_sum z templates xs) (span_product (point (Num s.times)) (templates.bound s.template))
+pub shared_more : (z : Span) (templates : Templates) (xs : List Share) (s : Share) →
+    shared_sum z templates (xs ++ s ∷ [])
+    ≡ span_sum (shared_sum z templates xs) (span_product (point (Num s.times)) (templates.bound s.template))
 shared_more z templates [] s = refl
-shared_more z templates (x ∷ xs) s = shared_more (span_sum z (span_product (point (Num x.times)) (templates.bound x.template))) templates xs s
+shared_more z templates (x ∷ xs) s =
+    shared_more (span_sum z (span_product (point (Num x.times)) (templates.bound x.template))) templates xs s
 
-pub left_more : (c : Formula) (templates : Templates) (xs : List Share) (s : Share) (k : ℕ) → left_over c templates (xs ++ s ∷ []) k ≡ Difference (left_over c templates xs k) (Product (Num s.times) (templates.coef s.template k))
+pub left_more : (c : Formula) (templates : Templates) (xs : List Share) (s : Share) (k : ℕ) →
+    left_over c templates (xs ++ s ∷ []) k
+    ≡ Difference (left_over c templates xs k) (Product (Num s.times) (templates.coef s.template k))
 left_more c templates [] s k = refl
-left_more c templates (x ∷ xs) s k = left_more (Difference c (Product (Num x.times) (templates.coef x.template k))) templates xs s k
+left_more c templates (x ∷ xs) s k =
+    left_more (Difference c (Product (Num x.times) (templates.coef x.template k))) templates xs s k
 
 -- shares up to the next one
-pub next_shares : (xs : List written.Share) (n : ℕ) (d : written.Share) → n < length xs → shares_of (take (n + 1) xs) ≡ shares_of (take n xs) ++ share_of (get_or xs n d) ∷ []
+pub next_shares : (xs : List written.Share) (n : ℕ) (d : written.Share) → n < length xs →
+    shares_of (take (n + 1) xs) ≡ shares_of (take n xs) ++ share_of (get_or xs n d) ∷ []
 next_shares xs n d lt =
     let next : suc n ≡ n + 1 = omega arith in
-    ap (λ (m : ℕ). shares_of (take m xs)) (sym next) ∙ ap shares_of (take-suc xs n d lt) ∙ map-append share_of (take n xs) (get_or xs n d ∷ [])
+    ap (λ (m : ℕ). shares_of (take m xs)) (sym next) ∙ ap shares_of (take-suc xs n d lt)
+    ∙ map-append share_of (take n xs) (get_or xs n d ∷ [])
 
 -- each of short shares is short
-pub share_short : (xs : List written.Share) (n : ℕ) (d : written.Share) → AreShortShares (shares_of xs) → n < length xs → IsShort 96 (Num (get_or xs n d).times)
+pub share_short : (xs : List written.Share) (n : ℕ) (d : written.Share) → AreShortShares (shares_of xs) →
+    n < length xs → IsShort 96 (Num (get_or xs n d).times)
 share_short [] n d h lt = absurd (omega arith)
 share_short (x ∷ xs) zero d h lt = h.0
 share_short (x ∷ xs) (suc n) d h lt = share_short xs n d h.1 (omega arith)
 
 -- what shares leave of a short coefficient is short
-pub left_short : (templates : List Template) → AreShortTemplates templates → (states : ℕ) (shares : List Share) → AreShortShares shares → (k : ℕ) (c : Formula) → IsShort 192 c → IsShort 192 (left_over c (templates_of states templates) shares k)
+pub left_short : (templates : List Template) → AreShortTemplates templates → (states : ℕ) (shares : List Share) →
+    AreShortShares shares → (k : ℕ) (c : Formula) → IsShort 192 c →
+    IsShort 192 (left_over c (templates_of states templates) shares k)
 left_short templates h states [] s k c short = short
 left_short templates h states (x ∷ xs) s k c short =
-    left_short templates h states xs s.1 k (Difference c (Product (Num x.times) ((templates_of states templates).coef x.template k))) (short_difference short (short_product s.0 (template_coef_short templates h states x.template k)))
+    left_short templates h states xs s.1 k
+    (Difference c (Product (Num x.times) ((templates_of states templates).coef x.template k)))
+    (short_difference short (short_product s.0 (template_coef_short templates h states x.template k)))
 
 -- one number more
-pub one_number_more : (r : Option Dyadic) (n : ℕ) (c : ℕ → Formula) → Forms r (Sum (sum_of n c) (c n)) → Forms r (sum_of (n + 1) c)
+pub one_number_more : (r : Option Dyadic) (n : ℕ) (c : ℕ → Formula) → Forms r (Sum (sum_of n c) (c n)) →
+    Forms r (sum_of (n + 1) c)
 one_number_more r n c h = let next : suc n ≡ n + 1 = omega arith in subst (λ (m : ℕ). Forms r (sum_of m c)) next h
 
 -- a sum of short numbers is short
@@ -55,13 +69,16 @@ sum_short zero c p h = record { few = omega arith }
 sum_short (suc n) c p h = short_sum (sum_short n c p h) (h n)
 
 -- ---- an array of coefficients, one more at its end
-pub set_formed : (xs : List (Option Dyadic)) (n : ℕ) (c : ℕ → Formula) (x : Option Dyadic) → AreFormed xs n c → n < length xs → Forms x (c n) → IsShort 192 (c n) → AreFormed (set xs n x) (n + 1) c
+pub set_formed : (xs : List (Option Dyadic)) (n : ℕ) (c : ℕ → Formula) (x : Option Dyadic) → AreFormed xs n c →
+    n < length xs → Forms x (c n) → IsShort 192 (c n) → AreFormed (set xs n x) (n + 1) c
 set_formed xs n c x h lt f s = record { each = each; short = short }
   where
     each : (j : ℕ) → j < n + 1 → Forms (at None (set xs n x) j) (c j)
     each j le = elim (cases_lt j n) [
       | inl less ↦ subst (λ o. Forms o (c j)) (sym (get_or-set_other xs n j x None (omega arith))) (h.each j less)
-      | inr more ↦ (let same : n ≡ j = omega arith in subst (λ (k : ℕ). Forms (at None (set xs n x) k) (c k)) same (subst (λ o. Forms o (c n)) (sym (get_or-set_same xs n x None lt)) f))
+      | inr more ↦ (let same : n ≡ j = omega arith in
+          subst (λ (k : ℕ). Forms (at None (set xs n x) k) (c k)) same
+          (subst (λ o. Forms o (c n)) (sym (get_or-set_same xs n x None lt)) f))
     ]
 
     short : (j : ℕ) → j < n + 1 → IsShort 192 (c j)
@@ -76,52 +93,73 @@ zeros_at (suc m) zero = refl
 zeros_at (suc m) (suc k) = zeros_at m k
 
 -- 1 at its own place among so many zeros
-pub unit_among : (m i k : ℕ) (z : Dyadic) → z ≡ zero_dyadic → i < m → Num (at zero_dyadic (set (replicate m z) i (record { m = pos 1; e = 0 })) k) ≡ unit_coef i k
-unit_among m i k z none room = subst (λ (d : Dyadic). Num (at zero_dyadic (set (replicate m d) i one) k) ≡ unit_coef i k) (sym none) (by (i == k) refl)
+pub unit_among : (m i k : ℕ) (z : Dyadic) → z ≡ zero_dyadic → i < m →
+    Num (at zero_dyadic (set (replicate m z) i (record { m = pos 1; e = 0 })) k) ≡ unit_coef i k
+unit_among m i k z none room =
+    subst (λ (d : Dyadic). Num (at zero_dyadic (set (replicate m d) i one) k) ≡ unit_coef i k) (sym none)
+    (by (i == k) refl)
   where
     one : Dyadic
     one = record { m = pos 1; e = 0 }
 
-    by : (t : Bool) → (i == k) ≡ t → Num (at zero_dyadic (set (replicate m zero_dyadic) i one) k) ≡ (if t then Num one else Num zero_dyadic)
-    by true e = let same : i ≡ k = grind (arith, e) in subst (λ (j : ℕ). Num (at zero_dyadic (set (replicate m zero_dyadic) i one) j) ≡ Num one) same (ap Num (get_or-set_same (replicate m zero_dyadic) i one zero_dyadic (omega (arith, length-replicate m zero_dyadic))))
-    by false e = ap Num (get_or-set_other (replicate m zero_dyadic) i k one zero_dyadic (grind (arith, e)) ∙ zeros_at m k)
+    by : (t : Bool) → (i == k) ≡ t →
+        Num (at zero_dyadic (set (replicate m zero_dyadic) i one) k) ≡ (if t then Num one else Num zero_dyadic)
+    by true e =
+        let same : i ≡ k = grind (arith, e) in
+        subst (λ (j : ℕ). Num (at zero_dyadic (set (replicate m zero_dyadic) i one) j) ≡ Num one) same
+        (ap Num (get_or-set_same (replicate m zero_dyadic) i one zero_dyadic
+        (omega (arith, length-replicate m zero_dyadic))))
+    by false e =
+        ap Num (get_or-set_other (replicate m zero_dyadic) i k one zero_dyadic (grind (arith, e)) ∙ zeros_at m k)
 
 -- from so many places before that 1 on
 same_place : (i k : ℕ) → i < 96 → unit_coef 95 (95 - i + k) ≡ unit_coef i k
 same_place i k few = by (i == k) (95 == 95 - i + k) refl refl
   where
-    by : (s t : Bool) → (i == k) ≡ s → (95 == 95 - i + k) ≡ t → (if t then Num (record { m = pos 1; e = 0 }) else Num zero_dyadic) ≡ (if s then Num (record { m = pos 1; e = 0 }) else Num zero_dyadic)
+    by : (s t : Bool) → (i == k) ≡ s → (95 == 95 - i + k) ≡ t →
+        (if t then Num (record { m = pos 1; e = 0 }) else Num zero_dyadic)
+        ≡ (if s then Num (record { m = pos 1; e = 0 }) else Num zero_dyadic)
     by true true d e = refl
     by false false d e = refl
     by true false d e = absurd (grind (arith, d, e, few))
     by false true d e = absurd (grind (arith, d, e, few))
 
-pub unit_from : (xs : List Dyadic) (i k : ℕ) → AreUnits xs → i < 96 → Num (at zero_dyadic (take (length xs - (95 - i)) (drop (95 - i) xs)) k) ≡ unit_coef i k
+pub unit_from : (xs : List Dyadic) (i k : ℕ) → AreUnits xs → i < 96 →
+    Num (at zero_dyadic (take (length xs - (95 - i)) (drop (95 - i) xs)) k) ≡ unit_coef i k
 unit_from xs i k units few =
     let n = 95 - i in
-    ap (λ (ys : List Dyadic). Num (at zero_dyadic ys k)) (take_all (length xs - n) (drop n xs) (omega (arith, length-drop n xs)))
+    ap (λ (ys : List Dyadic). Num (at zero_dyadic ys k))
+    (take_all (length xs - n) (drop n xs) (omega (arith, length-drop n xs)))
     ∙ ap Num (get_or-drop n xs k zero_dyadic) ∙ units (n + k) ∙ same_place i k few
 
 -- what stands for a unit template, and for any other
 pub unit_template_is : (rs : List Template) (n i k : ℕ) → i < n → (templates_of n rs).coef i k ≡ unit_coef i k
 unit_template_is rs n i k lt = let e : ltb i n ≡ true = search (rules, tests) in rw e refl
 
-pub other_template_is : (rs : List Template) (n i k : ℕ) → n ≤ i → (templates_of n rs).coef i k ≡ Num (at zero_dyadic (at no_template rs i).coefs k)
+pub other_template_is : (rs : List Template) (n i k : ℕ) → n ≤ i →
+    (templates_of n rs).coef i k ≡ Num (at zero_dyadic (at no_template rs i).coefs k)
 other_template_is rs n i k le = let e : ltb i n ≡ false = search (rules, tests) in rw e refl
 
 pub all_formed : (xs : List (Option Dyadic)) (n m : ℕ) (c : ℕ → Formula) → n ≡ m → AreFormed xs n c → AreFormed xs m c
 all_formed xs n m c e h = subst (λ (k : ℕ). AreFormed xs k c) e h
 
 -- ---- what is left of the coefficients behind the first i, from which a share is taken one after the other
-pub set_left : (xs : List (Option Dyadic)) (i n k : ℕ) (c d : ℕ → Formula) (x : Option Dyadic) → i + k < length xs → AreLeft xs i k d → ((j : ℕ) → k ≤ j → j < n → Forms (at None xs (i + j)) (c j)) → Forms x (d k) →
-    AreLeft (set xs (i + k) x) i (k + 1) d × ((j : ℕ) → k + 1 ≤ j → j < n → Forms (at None (set xs (i + k) x) (i + j)) (c j))
+pub set_left : (xs : List (Option Dyadic)) (i n k : ℕ) (c d : ℕ → Formula) (x : Option Dyadic) → i + k < length xs →
+    AreLeft xs i k d → ((j : ℕ) → k ≤ j → j < n → Forms (at None xs (i + j)) (c j)) → Forms x (d k) →
+    AreLeft (set xs (i + k) x) i (k + 1) d ×
+    ((j : ℕ) → k + 1 ≤ j → j < n → Forms (at None (set xs (i + k) x) (i + j)) (c j))
 set_left xs i n k c d x room taken rest f = (now, later)
   where
     now : (j : ℕ) → j < k + 1 → Forms (at None (set xs (i + k) x) (i + j)) (d j)
     now j lt = elim (cases_lt j k) [
-      | inl less ↦ subst (λ o. Forms o (d j)) (sym (get_or-set_other xs (i + k) (i + j) x None (omega arith))) (taken j less)
-      | inr more ↦ (let same : k ≡ j = omega arith in subst (λ (m : ℕ). Forms (at None (set xs (i + k) x) (i + m)) (d m)) same (subst (λ o. Forms o (d k)) (sym (get_or-set_same xs (i + k) x None room)) f))
+      | inl less ↦ subst (λ o. Forms o (d j)) (sym (get_or-set_other xs (i + k) (i + j) x None (omega arith)))
+          (taken j less)
+      | inr more ↦ (let same : k ≡ j = omega arith in
+          subst (λ (m : ℕ). Forms (at None (set xs (i + k) x) (i + m)) (d m)) same
+          (subst (λ o. Forms o (d k)) (sym (get_or-set_same xs (i + k) x None room)) f))
     ]
 
     later : (j : ℕ) → k + 1 ≤ j → j < n → Forms (at None (set xs (i + k) x) (i + j)) (c j)
-    later j le lt = subst (λ o. Forms o (c j)) (sym (get_or-set_other xs (i + k) (i + j) x None (omega arith))) (rest j (omega arith) lt)
+    later j le lt =
+        subst (λ o. Forms o (c j)) (sym (get_or-set_other xs (i + k) (i + j) x None (omega arith)))
+        (rest j (omega arith) lt)

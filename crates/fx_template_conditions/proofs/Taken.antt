@@ -13,9 +13,14 @@ zero_raised : (n : ℕ) → pos 0 *ℤ pos n ≡ pos 0
 zero_raised n = omega (arith, ints)
 
 product_aligned : (q : ℤ) (p d e : ℕ) → e ≡ p + d → Aligned q e d (dyadic q p)
-product_aligned (pos zero) p d e h = record { greater = omega arith; same = zero_raised (2 ^ (e - 0)) ∙ sym (zero_raised (2 ^ d)) }
-product_aligned (pos (suc n)) p d e h = let k : e - p ≡ d = omega arith in record { greater = omega arith; same = ap (λ (i : ℕ). pos (suc n) *ℤ pos (2 ^ i)) k }
-product_aligned (negsuc n) p d e h = let k : e - p ≡ d = omega arith in record { greater = omega arith; same = ap (λ (i : ℕ). negsuc n *ℤ pos (2 ^ i)) k }
+product_aligned (pos zero) p d e h =
+    record { greater = omega arith; same = zero_raised (2 ^ (e - 0)) ∙ sym (zero_raised (2 ^ d)) }
+product_aligned (pos (suc n)) p d e h =
+    let k : e - p ≡ d = omega arith in
+    record { greater = omega arith; same = ap (λ (i : ℕ). pos (suc n) *ℤ pos (2 ^ i)) k }
+product_aligned (negsuc n) p d e h =
+    let k : e - p ≡ d = omega arith in
+    record { greater = omega arith; same = ap (λ (i : ℕ). negsuc n *ℤ pos (2 ^ i)) k }
 
 not_raised : (m : ℤ) (e : ℕ) → m *ℤ pos (2 ^ (e - e)) ≡ m
 not_raised m e = let k : e - e ≡ 0 = omega arith in ap (λ (i : ℕ). m *ℤ pos (2 ^ i)) k ∙ omega (arith, ints)
@@ -29,7 +34,8 @@ pub record Taken (l d : Dyadic) (t : ℤ) : Type 0 where
   left : aligned l (max l.e d.e) ≡ l.m
   taken : aligned d (max l.e d.e) ≡ t
 
-pub product_taken : (l a b : Dyadic) (q t : ℤ) → a.e + b.e ≤ l.e → q ≡ a.m *ℤ b.m → t ≡ q *ℤ pos (2 ^ (l.e - (a.e + b.e))) → Taken l (dyadic_product a b) t
+pub product_taken : (l a b : Dyadic) (q t : ℤ) → a.e + b.e ≤ l.e → q ≡ a.m *ℤ b.m →
+    t ≡ q *ℤ pos (2 ^ (l.e - (a.e + b.e))) → Taken l (dyadic_product a b) t
 unfolding dyadic_product
 product_taken l a b q t h p r =
     let d = l.e - (a.e + b.e) in
@@ -65,14 +71,17 @@ pub whole_fits : (a b : Dyadic) (q : ℤ) → q ≡ a.m *ℤ b.m → IsTrue (fit
 unfolding product_fits
 whole_fits a b q p h = subst (λ (m : ℤ). IsTrue (fits_128 m)) p h
 
-pub less_fits : (l d : Dyadic) (t : ℤ) → Taken l d t → IsTrue (fits_128 l.m) → IsTrue (fits_128 t) → IsTrue (fits_128 (l.m -ℤ t)) → IsTrue (difference_fits l d)
+pub less_fits : (l d : Dyadic) (t : ℤ) → Taken l d t → IsTrue (fits_128 l.m) → IsTrue (fits_128 t) →
+    IsTrue (fits_128 (l.m -ℤ t)) → IsTrue (difference_fits l d)
 unfolding difference_fits
 less_fits l d t is f g k =
-    ap₂ (λ (u v : ℤ). fits_128 u && fits_128 v && fits_128 (u -ℤ v)) is.left is.taken ∙ all_fit (fits_128 l.m) (fits_128 t) (fits_128 (l.m -ℤ t)) f g k
+    ap₂ (λ (u v : ℤ). fits_128 u && fits_128 v && fits_128 (u -ℤ v)) is.left is.taken
+    ∙ all_fit (fits_128 l.m) (fits_128 t) (fits_128 (l.m -ℤ t)) f g k
 
 pub less_is : (l d r : Dyadic) (t m : ℤ) → Taken l d t → m ≡ l.m -ℤ t → r ≡ dyadic m l.e → r ≡ dyadic_difference l d
 unfolding dyadic_difference
-less_is l d r t m is k e = e ∙ ap (λ (u : ℤ). dyadic u l.e) k ∙ sym (λ i. dyadic (is.left i -ℤ is.taken i) (is.greater i))
+less_is l d r t m is k e =
+    e ∙ ap (λ (u : ℤ). dyadic u l.e) k ∙ sym (λ i. dyadic (is.left i -ℤ is.taken i) (is.greater i))
 
 -- ---- an interval times a number
 same_least : (x : Dyadic) → least x x ≡ x
@@ -91,12 +100,16 @@ same_greatest x = by (is_dyadic_at_most x x)
     by true = refl
     by false = refl
 
-pub ends_fit : (a : Dyadic) (v : Interval) → IsTrue (product_fits a v.lo) → IsTrue (product_fits a v.hi) → IsTrue (interval_product_fits (record { lo = a; hi = a }) v)
+pub ends_fit : (a : Dyadic) (v : Interval) → IsTrue (product_fits a v.lo) → IsTrue (product_fits a v.hi) →
+    IsTrue (interval_product_fits (record { lo = a; hi = a }) v)
 unfolding interval_product_fits
 ends_fit a v h k = rw (h, k) refl
 
-pub ends_are : (a low high : Dyadic) (v : Interval) → low ≡ dyadic_product a v.lo → high ≡ dyadic_product a v.hi → record { lo = least low high; hi = greatest low high } ≡ interval_product (record { lo = a; hi = a }) v
+pub ends_are : (a low high : Dyadic) (v : Interval) → low ≡ dyadic_product a v.lo → high ≡ dyadic_product a v.hi →
+    record { lo = least low high; hi = greatest low high } ≡ interval_product (record { lo = a; hi = a }) v
 unfolding interval_product
 ends_are a low high v p q =
-    let l = least (dyadic_product a v.lo) (dyadic_product a v.hi) in let g = greatest (dyadic_product a v.lo) (dyadic_product a v.hi) in
-    (λ i. record { lo = least (p i) (q i); hi = greatest (p i) (q i) }) ∙ sym (λ i. record { lo = same_least l i; hi = same_greatest g i })
+    let l = least (dyadic_product a v.lo) (dyadic_product a v.hi) in
+    let g = greatest (dyadic_product a v.lo) (dyadic_product a v.hi) in
+    (λ i. record { lo = least (p i) (q i); hi = greatest (p i) (q i) })
+    ∙ sym (λ i. record { lo = same_least l i; hi = same_greatest g i })

@@ -12,8 +12,11 @@ use Rattle.fx_cert.specs.declared.side.Side.{Side}
 abbrev pub next_template : ℕ → ℕ → ℕ → List NodeLine → List Template → Side → ℕ → Span
 next_template m k next ls written side i =
     let rs = templates_of k written in let form = λ (s : ℕ). affine_at (m + k) ls (next + s) in
-    bound_by_templates m k (λ j. sum_of k (λ s. Product (rs.coef i s) ((form s).coef j))) (weighted_sum zero_span k (rs.coef i) (λ s. side_rest side (form s))) (side_at side ls) rs (at no_template written i).shares
+    bound_by_templates m k (λ j. sum_of k (λ s. Product (rs.coef i s) ((form s).coef j)))
+    (weighted_sum zero_span k (rs.coef i) (λ s. side_rest side (form s))) (side_at side ls) rs
+    (at no_template written i).shares
 
 -- it lies in its bound
 abbrev pub kept_template : ℕ → ℕ → ℕ → List NodeLine → List Template → Side → ℕ → List Claim
-kept_template m k next ls written side i = inside (next_template m k next ls written side i) ((templates_of k written).bound i)
+kept_template m k next ls written side i =
+    inside (next_template m k next ls written side i) ((templates_of k written).bound i)

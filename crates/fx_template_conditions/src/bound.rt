@@ -56,7 +56,8 @@ fn variable_product(
     j: u32,
 ) -> Option<Interval>
     requires { AreShortLines (lines_view lines.now) }
-    ensures { (n : ℕ) (c : ℕ → Formula) → j < n → AreFormed coefs.now n c → FormsSpan result (span_product (point (c j)) (side_at side.now (lines_view lines.now) j)) }
+    ensures { (n : ℕ) (c : ℕ → Formula) → j < n → AreFormed coefs.now n c →
+        FormsSpan result (span_product (point (c j)) (side_at side.now (lines_view lines.now) j)) }
 {
     times(point(coefficient(coefs, j)), side_of(side, lines, j))
 }
@@ -70,7 +71,8 @@ fn with_inputs(
     inputs: u32,
 ) -> Option<Interval>
     requires { AreShortLines (lines_view lines.now) }
-    ensures { (n : ℕ) (c : ℕ → Formula) (z : Span) → inputs ≤ n → AreFormed coefs.now n c → FormsSpan start z → FormsSpan result (weighted_sum z inputs c (side_at side.now (lines_view lines.now))) }
+    ensures { (n : ℕ) (c : ℕ → Formula) (z : Span) → inputs ≤ n → AreFormed coefs.now n c → FormsSpan start z →
+        FormsSpan result (weighted_sum z inputs c (side_at side.now (lines_view lines.now))) }
 {
     let mut total = start;
     for j in 0..inputs {
@@ -81,7 +83,8 @@ fn with_inputs(
 
 /// A number times a template's bound, where both are short.
 fn quick_bound(times: Dyadic, bound: &Option<Interval>) -> Option<Interval>
-    ensures { (s : Span) → FormsSpan bound.now s → IfSome result (λ i. FormsSpan (Some i) (span_product (point (Num times)) s)) }
+    ensures { (s : Span) → FormsSpan bound.now s →
+        IfSome result (λ i. FormsSpan (Some i) (span_product (point (Num times)) s)) }
 {
     let Some(ends) = bound else {
         return None;
@@ -93,7 +96,8 @@ fn quick_bound(times: Dyadic, bound: &Option<Interval>) -> Option<Interval>
 /// A written number times a template's bound, in 64 bits where that serves.
 fn bound_times(times: Dyadic, bound: Option<Interval>) -> Option<Interval>
     requires { IsShort 96 (Num times) }
-    ensures { (s : Span) → IsShortSpan 512 s → FormsSpan bound s → FormsSpan result (span_product (point (Num times)) s) }
+    ensures { (s : Span) → IsShortSpan 512 s → FormsSpan bound s →
+        FormsSpan result (span_product (point (Num times)) s) }
 {
     match quick_bound(times, &bound) {
         Some(quick) => Some(quick),
@@ -105,7 +109,9 @@ fn bound_times(times: Dyadic, bound: Option<Interval>) -> Option<Interval>
 fn share_bound(templates: &[Template], states: u32, share: Share) -> Option<Interval>
     requires templates { AreShortTemplates (templates_in templates.now) }
     requires times { IsShort 96 (Num share.times) }
-    ensures { FormsSpan result (span_product (point (Num share.times)) ((templates_of states (templates_in templates.now)).bound share.template)) }
+    ensures { FormsSpan result
+        (span_product (point (Num share.times))
+        ((templates_of states (templates_in templates.now)).bound share.template)) }
 {
     bound_times(share.times, bound_of(templates, states, share.template))
 }
@@ -119,7 +125,8 @@ fn with_shares(
 ) -> Option<Interval>
     requires templates { AreShortTemplates (templates_in templates.now) }
     requires shares { AreShortShares (shares_of shares.now) }
-    ensures { (z : Span) → FormsSpan start z → FormsSpan result (shared_sum z (templates_of states (templates_in templates.now)) (shares_of shares.now)) }
+    ensures { (z : Span) → FormsSpan start z →
+        FormsSpan result (shared_sum z (templates_of states (templates_in templates.now)) (shares_of shares.now)) }
 {
     let mut total = start;
     for share in shares {
@@ -137,7 +144,8 @@ fn quick_left(
     times: &Option<ShortTimes>,
 ) -> Option<Dyadic>
     requires { IfSome times.now HasRoom }
-    ensures { (a : model.Dyadic) (f : Formula) → IsTrue (fits_128 a.m) → IfSome times.now (λ t. AreTimes t a) → Forms (at None coefs.now j) f →
+    ensures { (a : model.Dyadic) (f : Formula) → IsTrue (fits_128 a.m) → IfSome times.now (λ t. AreTimes t a) →
+        Forms (at None coefs.now j) f →
         IfSome result (λ d. Forms (Some d) (Difference f (Product (Num a) (Num (at zero_dyadic template.now k))))) }
 {
     let Some(short) = times else {
@@ -160,7 +168,8 @@ fn left_of(
 ) -> Option<Dyadic>
     requires template { IsShort 96 (Num (at zero_dyadic template.now k)) }
     requires times { IsShort 96 (Num times) }
-    ensures { (f : Formula) → Forms (at None coefs.now j) f → Forms result (Difference f (Product (Num times) (Num (at zero_dyadic template.now k)))) }
+    ensures { (f : Formula) → Forms (at None coefs.now j) f →
+        Forms result (Difference f (Product (Num times) (Num (at zero_dyadic template.now k)))) }
 {
     let product = scaled_number(times, number(coef_at(template, k)));
     difference(coefficient(coefs, j), product)
@@ -177,7 +186,9 @@ fn take_template(
     requires template { (k : ℕ) → k < states → IsShort 96 (Num (at zero_dyadic template.now k)) }
     requires times { IsShort 96 (Num times) }
     requires few { inputs + states ≤ 96 }
-    ensures { (c : ℕ → Formula) → AreLeft coefs.old inputs states c → AreLeft coefs.new inputs states (λ k. Difference (c k) (Product (Num times) (Num (at zero_dyadic template.now k)))) }
+    ensures { (c : ℕ → Formula) → AreLeft coefs.old inputs states c →
+        AreLeft coefs.new inputs states
+        (λ k. Difference (c k) (Product (Num times) (Num (at zero_dyadic template.now k)))) }
 {
     times.keeps();
     let short = short_times(times);
@@ -237,7 +248,10 @@ fn take_share(
     requires templates { AreShortTemplates (templates_in templates.now) }
     requires times { IsShort 96 (Num share.times) }
     requires few { inputs + states ≤ 96 }
-    ensures { (c : ℕ → Formula) → AreLeft coefs.old inputs states c → AreLeft coefs.new inputs states (λ k. Difference (c k) (Product (Num share.times) ((templates_of states (templates_in templates.now)).coef share.template k))) }
+    ensures { (c : ℕ → Formula) → AreLeft coefs.old inputs states c →
+        AreLeft coefs.new inputs states
+        (λ k. Difference (c k) (Product (Num share.times)
+        ((templates_of states (templates_in templates.now)).coef share.template k))) }
 {
     if share.template < states {
         let unit = unit_coefs(units, share.template);
@@ -259,7 +273,9 @@ fn take_shares(
     requires templates { AreShortTemplates (templates_in templates.now) }
     requires shares { AreShortShares (shares_of shares.now) }
     requires few { inputs + states ≤ 96 }
-    ensures { (c : ℕ → Formula) → AreLeft coefs.old inputs states c → AreLeft coefs.new inputs states (λ k. left_over (c k) (templates_of states (templates_in templates.now)) (shares_of shares.now) k) }
+    ensures { (c : ℕ → Formula) → AreLeft coefs.old inputs states c →
+        AreLeft coefs.new inputs states
+        (λ k. left_over (c k) (templates_of states (templates_in templates.now)) (shares_of shares.now) k) }
 {
     let units = units();
     for share in shares {
@@ -296,7 +312,8 @@ fn with_states(
 ) -> Option<Interval>
     requires templates { AreShortTemplates (templates_in templates.now) }
     requires few { inputs + states ≤ 96 }
-    ensures { (c : ℕ → Formula) (z : Span) → AreLeft lefts.now inputs states c → ((k : ℕ) → k < states → IsShort 192 (c k)) → FormsSpan start z →
+    ensures { (c : ℕ → Formula) (z : Span) → AreLeft lefts.now inputs states c →
+        ((k : ℕ) → k < states → IsShort 192 (c k)) → FormsSpan start z →
         FormsSpan result (weighted_sum z states c (templates_of states (templates_in templates.now)).bound) }
 {
     let mut total = start;
@@ -306,8 +323,8 @@ fn with_states(
     total
 }
 
-/// Where what begins with `start` lies, and goes on with these coefficients times the variables. The shares are taken from
-/// the states' coefficients in their place.
+/// Where what begins with `start` lies, and goes on with these coefficients times the variables. The shares are taken
+/// from the states' coefficients in their place.
 pub fn bound_by_templates(
     start: Option<Interval>,
     coefs: &mut [Option<Dyadic>; VARIABLES],
@@ -323,7 +340,8 @@ pub fn bound_by_templates(
     requires shares { AreShortShares (shares_of shares.now) }
     requires few { inputs + states ≤ 96 }
     ensures { (c : ℕ → Formula) (z : Span) → AreFormed coefs.old (inputs + states) c → FormsSpan start z →
-        FormsSpan result (bound_by_templates inputs states c z (side_at side.now (lines_view lines.now)) (templates_of states (templates_in templates.now)) (shares_of shares.now)) }
+        FormsSpan result (bound_by_templates inputs states c z (side_at side.now (lines_view lines.now))
+        (templates_of states (templates_in templates.now)) (shares_of shares.now)) }
 {
     let first = with_inputs(start, &*coefs, side, lines, inputs);
     let second = with_shares(first, templates, states, shares);

@@ -34,7 +34,8 @@ use fx_judging::{
 
 /// The earlier fault.
 pub fn first(a: Option<ConditionFault>, b: Option<ConditionFault>) -> Option<ConditionFault>
-    ensures { option_map condition_fault_of result ≡ first_some (option_map condition_fault_of a) (option_map condition_fault_of b) }
+    ensures { option_map condition_fault_of result
+        ≡ first_some (option_map condition_fault_of a) (option_map condition_fault_of b) }
 {
     match a {
         Some(fault) => Some(fault),
@@ -46,7 +47,8 @@ pub fn first(a: Option<ConditionFault>, b: Option<ConditionFault>) -> Option<Con
 fn node_word(lines: &[NodeLine], width: u32, place: i32, n: u32) -> Judgement
     requires width { IsWidth width }
     requires point { IsPoint place }
-    ensures { result ≡ judged (word_claims width place (range_at (lines_view lines.now) n) (error_at (lines_view lines.now) n)) }
+    ensures { result ≡ judged
+        (word_claims width place (range_at (lines_view lines.now) n) (error_at (lines_view lines.now) n)) }
 {
     word_judgement(width, place, range_at(lines, n), error_at(lines, n))
 }
@@ -68,7 +70,10 @@ pub fn node_fault(
     requires inputs { inputs ≡ length function.now.inputs }
     requires states { states ≡ length function.now.states }
     requires variables { inputs + states ≤ 96 }
-    ensures { (ps : List ℤ) → at (pos 0) ps n ≡ place → option_map condition_fault_of result ≡ first_fault_of (node_conditions function.now width ps (certificate_of certificate.now) n (node_in m.now) (code_in m.now)) }
+    ensures { (ps : List ℤ) → at (pos 0) ps n ≡ place →
+        option_map condition_fault_of result
+        ≡ first_fault_of (node_conditions function.now width ps (certificate_of certificate.now) n (node_in m.now)
+        (code_in m.now)) }
 {
     let lines = certificate.lines.as_slice();
     let form = node_form(lines, inputs + states, m, place, n);

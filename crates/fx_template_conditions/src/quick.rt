@@ -1,8 +1,8 @@
 //! Products of short mantissas, taken away or bounded, in 64 bits.
 //!
-//! A great certificate takes a multiple of a template's coefficient away some hundred million times, and mantissas that are
-//! read from a text are short. Then one product of 64 bits gives what the operations on dyadics give. What isn't short, or
-//! has more places than what it is taken from and isn't zero, has no answer here, and goes their way.
+//! A great certificate takes a multiple of a template's coefficient away some hundred million times, and mantissas that
+//! are read from a text are short. Then one product of 64 bits gives what the operations on dyadics give. What isn't
+//! short, or has more places than what it is taken from and isn't zero, has no answer here, and goes their way.
 
 ghost use Rattle.std.specs.Prelude.{◌≡◌, ◌≤◌, ◌^◌, pos, unsigned_abs, ◌*ℤ◌, ◌-ℤ◌, IfSome, IsTrue};
 ghost use Rattle.std.specs.Option.{SomeIff};
@@ -115,13 +115,15 @@ fn less_nothing(left: Dyadic, b: Dyadic) -> Option<Dyadic>
     Some(Dyadic::new(left.m, left.e))
 }
 
-/// `left - a * b`, where `a` stays short at the exponent at which the product is taken away, so that one product is all, or
-/// where nothing is taken away.
+/// `left - a * b`, where `a` stays short at the exponent at which the product is taken away, so that one product is
+/// all, or where nothing is taken away.
 pub fn less_raised(left: Dyadic, times: ShortTimes, b: Dyadic) -> Option<Dyadic>
     requires { HasRoom times }
     ensures product { (a : Dyadic) → AreTimes times a → IfSome result (λ d. IsTrue (product_fits a b)) }
-    ensures difference { (a : Dyadic) → AreTimes times a → IfSome result (λ d. IsTrue (difference_fits left (dyadic_product a b))) }
-    ensures is { (a : Dyadic) → AreTimes times a → IfSome result (λ d. d ≡ dyadic_difference left (dyadic_product a b)) }
+    ensures difference { (a : Dyadic) → AreTimes times a →
+        IfSome result (λ d. IsTrue (difference_fits left (dyadic_product a b))) }
+    ensures is { (a : Dyadic) → AreTimes times a →
+        IfSome result (λ d. d ≡ dyadic_difference left (dyadic_product a b)) }
 {
     let places = times.exponent + b.e;
     if left.e < places {

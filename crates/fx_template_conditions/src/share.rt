@@ -29,7 +29,8 @@ use fx_judging::{ConditionFault, ConditionKind, Judgement, Part, fault, interval
 
 /// A form's own rest.
 fn own_rest(side: &Side, form: &Form) -> Option<Interval>
-    ensures { (l : certificates.NodeLine) → FormsSpan result (side_rest side.now (of_line l (Some (form_view form.now)))) }
+    ensures { (l : certificates.NodeLine) →
+        FormsSpan result (side_rest side.now (of_line l (Some (form_view form.now)))) }
 {
     match side {
         Side::Value => interval(form.rest),
@@ -52,8 +53,11 @@ fn form_bound(
     requires templates { AreShortTemplates (templates_in templates.now) }
     requires shares { AreShortShares (shares_of shares.now) }
     requires variables { inputs + states ≤ 96 }
-    ensures { (l : certificates.NodeLine) → FormsSpan result (bound_by_templates inputs states (λ j. Num (at zero_dyadic form.now.coefs j)) (side_rest side.now (of_line l (Some (form_view form.now))))
-        (side_at side.now (lines_view lines.now)) (templates_of states (templates_in templates.now)) (shares_of shares.now)) }
+    ensures { (l : certificates.NodeLine) →
+        FormsSpan result (bound_by_templates inputs states (λ j. Num (at zero_dyadic form.now.coefs j))
+        (side_rest side.now (of_line l (Some (form_view form.now))))
+        (side_at side.now (lines_view lines.now)) (templates_of states (templates_in templates.now))
+        (shares_of shares.now)) }
 {
     let mut coefs = form_coefs(form, inputs + states);
     bound_by_templates(
@@ -84,8 +88,12 @@ fn by_shares(
     requires templates { AreShortTemplates (templates_in templates.now) }
     requires shares { AreShortShares (shares_of shares.now) }
     requires variables { inputs + states ≤ 96 }
-    ensures { (l : certificates.NodeLine) → result ≡ judged (inside (bound_by_templates inputs states (λ j. Num (at zero_dyadic form.now.coefs j)) (side_rest side.now (of_line l (Some (form_view form.now))))
-        (side_at side.now (lines_view lines.now)) (templates_of states (templates_in templates.now)) (shares_of shares.now)) (span limit)) }
+    ensures { (l : certificates.NodeLine) →
+        result ≡ judged (inside
+        (bound_by_templates inputs states (λ j. Num (at zero_dyadic form.now.coefs j))
+        (side_rest side.now (of_line l (Some (form_view form.now))))
+        (side_at side.now (lines_view lines.now)) (templates_of states (templates_in templates.now))
+        (shares_of shares.now)) (span limit)) }
 {
     let bound = form_bound(side, form, lines, inputs, templates, states, shares);
     within(bound, limit)
@@ -107,7 +115,9 @@ fn formed_range(
     requires inputs { inputs ≡ length function.now.inputs }
     requires states { states ≡ length function.now.states }
     requires variables { inputs + states ≤ 96 }
-    ensures { (l : certificates.NodeLine) → span l.range ≡ span range → result ≡ judged (range_claims function.now (certificate_of certificate.now) l (node_in m.now) (Some (form_view form.now))) }
+    ensures { (l : certificates.NodeLine) → span l.range ≡ span range →
+        result ≡ judged (range_claims function.now (certificate_of certificate.now) l (node_in m.now)
+        (Some (form_view form.now))) }
 {
     match &form.range_by {
         Some(shares) => by_shares(
@@ -144,7 +154,9 @@ fn formed_error(
     requires inputs { inputs ≡ length function.now.inputs }
     requires states { states ≡ length function.now.states }
     requires variables { inputs + states ≤ 96 }
-    ensures { (l : certificates.NodeLine) → span l.range ≡ span range → span l.error ≡ span error → result ≡ judged (error_claims function.now (certificate_of certificate.now) l (node_in m.now) (code_in m.now) place (Some (form_view form.now))) }
+    ensures { (l : certificates.NodeLine) → span l.range ≡ span range → span l.error ≡ span error →
+        result ≡ judged (error_claims function.now (certificate_of certificate.now) l (node_in m.now)
+        (code_in m.now) place (Some (form_view form.now))) }
 {
     match &form.error_by {
         Some(shares) => by_shares(
@@ -174,7 +186,9 @@ pub fn node_range(
     requires inputs { inputs ≡ length function.now.inputs }
     requires states { states ≡ length function.now.states }
     requires variables { inputs + states ≤ 96 }
-    ensures { let cert = certificate_of certificate.now in result ≡ judged (range_claims function.now cert (at no_line cert.lines n) (node_in m.now) (form_of (inputs + states) cert.lines n)) }
+    ensures { let cert = certificate_of certificate.now in
+        result ≡ judged (range_claims function.now cert (at no_line cert.lines n) (node_in m.now)
+        (form_of (inputs + states) cert.lines n)) }
 {
     let lines = certificate.lines.as_slice();
     let range = range_at(lines, n);
@@ -199,7 +213,9 @@ pub fn node_error(
     requires inputs { inputs ≡ length function.now.inputs }
     requires states { states ≡ length function.now.states }
     requires variables { inputs + states ≤ 96 }
-    ensures { let cert = certificate_of certificate.now in result ≡ judged (error_claims function.now cert (at no_line cert.lines n) (node_in m.now) (code_in m.now) place (form_of (inputs + states) cert.lines n)) }
+    ensures { let cert = certificate_of certificate.now in
+        result ≡ judged (error_claims function.now cert (at no_line cert.lines n) (node_in m.now) (code_in m.now) place
+        (form_of (inputs + states) cert.lines n)) }
 {
     let lines = certificate.lines.as_slice();
     let range = range_at(lines, n);
@@ -258,13 +274,14 @@ pub fn node_form(
 ) -> Option<ConditionFault>
     requires lines { AreShortLines (lines_view lines.now) }
     requires point { IsPoint place }
-    ensures { let ls = lines_view lines.now in let form = form_of variables ls n in option_map condition_fault_of result ≡ conditions.fault_of (record {
-      kind = conditions.Form;
-      part = conditions.OfNode;
-      index = n;
-      test = true;
-      claims = form_claims variables ls (at no_line ls n) (node_in m.now) (code_in m.now) place form;
-    }) }
+    ensures { let ls = lines_view lines.now in let form = form_of variables ls n in
+        option_map condition_fault_of result ≡ conditions.fault_of (record {
+          kind = conditions.Form;
+          part = conditions.OfNode;
+          index = n;
+          test = true;
+          claims = form_claims variables ls (at no_line ls n) (node_in m.now) (code_in m.now) place form;
+        }) }
 {
     match form_at(lines, variables, n) {
         Some(form) => form_fault(lines, variables, m, form, place, n),

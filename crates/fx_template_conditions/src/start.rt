@@ -54,7 +54,9 @@ fn box_summand(
 ) -> Option<Interval>
     requires starts { AreShortBoxes (boxes_in starts.now) }
     requires templates { AreShortTemplates (templates_in templates.now) }
-    ensures { FormsSpan result (span_product (point ((templates_of states (templates_in templates.now)).coef i s)) (box_at side.now (boxes_in starts.now) s)) }
+    ensures { FormsSpan result
+        (span_product (point ((templates_of states (templates_in templates.now)).coef i s))
+        (box_at side.now (boxes_in starts.now) s)) }
 {
     times(
         point(template_coef_of(templates, states, i, s)),
@@ -72,7 +74,9 @@ fn box_sum(
 ) -> Option<Interval>
     requires starts { AreShortBoxes (boxes_in starts.now) }
     requires templates { AreShortTemplates (templates_in templates.now) }
-    ensures { FormsSpan result (weighted_sum zero_span states ((templates_of states (templates_in templates.now)).coef i) (box_at side.now (boxes_in starts.now))) }
+    ensures { FormsSpan result
+        (weighted_sum zero_span states ((templates_of states (templates_in templates.now)).coef i)
+        (box_at side.now (boxes_in starts.now))) }
 {
     let mut total = zero();
     for s in 0..states {
@@ -92,7 +96,8 @@ pub fn start_template_judgement(
     requires starts { AreShortBoxes (boxes_in starts.now) }
     requires templates { AreShortTemplates (templates_in templates.now) }
     ensures { let rs = templates_of states (templates_in templates.now) in
-        result ≡ judged (inside (weighted_sum zero_span states (rs.coef i) (box_at side.now (boxes_in starts.now))) (rs.bound i)) }
+        result ≡ judged (inside (weighted_sum zero_span states (rs.coef i) (box_at side.now (boxes_in starts.now)))
+        (rs.bound i)) }
 {
     lies_in(
         box_sum(templates, states, side, starts, i),
@@ -112,7 +117,8 @@ fn start_fraction(function: &Function, k: u32) -> Fraction
 
 /// A fraction lies in an interval.
 fn fraction_within(x: Fraction, limit: Interval) -> Judgement
-    ensures { (r : Rational) → x ≡ lowest r → result ≡ judged (BelowFraction (Num limit.lo) r ∷ AboveFraction r (Num limit.hi) ∷ []) }
+    ensures { (r : Rational) → x ≡ lowest r →
+        result ≡ judged (BelowFraction (Num limit.lo) r ∷ AboveFraction r (Num limit.hi) ∷ []) }
 {
     reaches(number(limit.lo), x, x, number(limit.hi))
 }
@@ -120,7 +126,9 @@ fn fraction_within(x: Fraction, limit: Interval) -> Judgement
 /// The difference of a word's value and a fraction lies in an interval.
 fn word_near(x: Fraction, word: i64, place: i32, limit: Interval) -> Judgement
     requires { IsPoint place }
-    ensures { (r : Rational) → x ≡ lowest r → result ≡ judged (BelowFraction (Difference (word_at word place) (Num limit.hi)) r ∷ AboveFraction r (Difference (word_at word place) (Num limit.lo)) ∷ []) }
+    ensures { (r : Rational) → x ≡ lowest r →
+        result ≡ judged (BelowFraction (Difference (word_at word place) (Num limit.hi)) r
+        ∷ AboveFraction r (Difference (word_at word place) (Num limit.lo)) ∷ []) }
 {
     reaches(
         difference(word_value(word, place), number(limit.hi)),
@@ -139,8 +147,11 @@ pub fn start_judgement(
     place: i32,
 ) -> Judgement
     requires { IsPoint place }
-    ensures { let a = box_at sides.Value (boxes_in starts.now) k in let b = box_at sides.Error (boxes_in starts.now) k in let x = start_of function.now k in
-        result ≡ judged (BelowFraction a.lo x ∷ AboveFraction x a.hi ∷ BelowFraction (Difference (word_at word place) b.hi) x ∷ AboveFraction x (Difference (word_at word place) b.lo) ∷ []) }
+    ensures { let a = box_at sides.Value (boxes_in starts.now) k in
+        let b = box_at sides.Error (boxes_in starts.now) k in let x = start_of function.now k in
+        result ≡ judged (BelowFraction a.lo x ∷ AboveFraction x a.hi
+        ∷ BelowFraction (Difference (word_at word place) b.hi) x
+        ∷ AboveFraction x (Difference (word_at word place) b.lo) ∷ []) }
 {
     let x = start_fraction(function, k);
     let value = fraction_within(x, box_interval(starts, &Side::Value, k));

@@ -43,7 +43,8 @@ fn summand(
 ) -> Option<Dyadic>
     requires lines { AreShortLines (lines_view lines.now) }
     requires templates { AreShortTemplates (templates_in templates.now) }
-    ensures { Forms result (Product ((templates_of states (templates_in templates.now)).coef i s) ((affine_at variables (lines_view lines.now) n).coef j)) }
+    ensures { Forms result (Product ((templates_of states (templates_in templates.now)).coef i s)
+        ((affine_at variables (lines_view lines.now) n).coef j)) }
 {
     product(
         template_coef_of(templates, states, i, s),
@@ -64,7 +65,9 @@ fn template_coefficient(
     requires lines { AreShortLines (lines_view lines.now) }
     requires templates { AreShortTemplates (templates_in templates.now) }
     requires few { next + states < 2 ^ 32 }
-    ensures { Forms result (sum_of states (λ s. Product ((templates_of states (templates_in templates.now)).coef i s) ((affine_at variables (lines_view lines.now) (next + s)).coef j))) }
+    ensures { Forms result (sum_of states
+        (λ s. Product ((templates_of states (templates_in templates.now)).coef i s)
+        ((affine_at variables (lines_view lines.now) (next + s)).coef j))) }
 {
     let mut total = number(Dyadic::zero());
     for s in 0..states {
@@ -89,7 +92,9 @@ fn template_coefs(
     requires templates { AreShortTemplates (templates_in templates.now) }
     requires few { next + states < 2 ^ 32 }
     requires variables { variables ≤ 96 }
-    ensures { AreFormed result variables (λ j. sum_of states (λ s. Product ((templates_of states (templates_in templates.now)).coef i s) ((affine_at variables (lines_view lines.now) (next + s)).coef j))) }
+    ensures { AreFormed result variables
+        (λ j. sum_of states (λ s. Product ((templates_of states (templates_in templates.now)).coef i s)
+        ((affine_at variables (lines_view lines.now) (next + s)).coef j))) }
 {
     let mut coefs: [Option<Dyadic>; VARIABLES] = [None; VARIABLES];
     for j in 0..variables {
@@ -111,7 +116,9 @@ fn rest_summand(
 ) -> Option<Interval>
     requires lines { AreShortLines (lines_view lines.now) }
     requires templates { AreShortTemplates (templates_in templates.now) }
-    ensures { FormsSpan result (span_product (point ((templates_of states (templates_in templates.now)).coef i s)) (side_rest side.now (affine_at variables (lines_view lines.now) n))) }
+    ensures { FormsSpan result
+        (span_product (point ((templates_of states (templates_in templates.now)).coef i s))
+        (side_rest side.now (affine_at variables (lines_view lines.now) n))) }
 {
     times(
         point(template_coef_of(templates, states, i, s)),
@@ -132,7 +139,9 @@ fn template_rest(
     requires lines { AreShortLines (lines_view lines.now) }
     requires templates { AreShortTemplates (templates_in templates.now) }
     requires few { next + states < 2 ^ 32 }
-    ensures { FormsSpan result (weighted_sum zero_span states ((templates_of states (templates_in templates.now)).coef i) (λ s. side_rest side.now (affine_at variables (lines_view lines.now) (next + s)))) }
+    ensures { FormsSpan result
+        (weighted_sum zero_span states ((templates_of states (templates_in templates.now)).coef i)
+        (λ s. side_rest side.now (affine_at variables (lines_view lines.now) (next + s)))) }
 {
     let mut total = zero();
     for s in 0..states {
@@ -158,7 +167,8 @@ pub fn template_bound_of(
     requires templates { AreShortTemplates (templates_in templates.now) }
     requires few { next + states < 2 ^ 32 }
     requires variables { inputs + states ≤ 96 }
-    ensures { FormsSpan result (next_template inputs states next (lines_view lines.now) (templates_in templates.now) side.now i) }
+    ensures { FormsSpan result
+        (next_template inputs states next (lines_view lines.now) (templates_in templates.now) side.now i) }
 {
     let variables = inputs + states;
     let mut coefs = template_coefs(templates, states, lines, variables, next, i);
@@ -189,7 +199,8 @@ pub fn template_judgement(
     requires templates { AreShortTemplates (templates_in templates.now) }
     requires few { next + states < 2 ^ 32 }
     requires variables { inputs + states ≤ 96 }
-    ensures { result ≡ judged (kept_template inputs states next (lines_view lines.now) (templates_in templates.now) side.now i) }
+    ensures { result ≡ judged
+        (kept_template inputs states next (lines_view lines.now) (templates_in templates.now) side.now i) }
 {
     let bound = template_bound_of(templates, side, lines, inputs, states, next, i);
     lies_in(bound, bound_of(templates, states, i))

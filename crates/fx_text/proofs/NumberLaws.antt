@@ -44,7 +44,11 @@ pub whole_again : (n : ℕ) → n < 2 ^ 64 → whole_of (decimal n) ≡ Some n
 unfolding whole_of
 whole_again n lt =
     let front : (length (decimal n) ≡ 1) ⊎ (48 < get_or (decimal n) 0 0) = front_of n lt in
-    rw (front_is_good (decimal n) (decimal_nonempty n lt) front, digits_decimal digits_model n lt, digits_value-decimal digits_model n lt) refl
+    rw (
+      front_is_good (decimal n) (decimal_nonempty n lt) front,
+      digits_decimal digits_model n lt,
+      digits_value-decimal digits_model n lt,
+    ) refl
   where
     front_of : (n : ℕ) → n < 2 ^ 64 → (length (decimal n) ≡ 1) ⊎ (48 < get_or (decimal n) 0 0)
     front_of zero lt = inl (ap length (decimal_digit 0 (omega arith)))
@@ -78,11 +82,13 @@ narrow_neg n h = omega (arith, ints, h.0, h.1)
 pub integer_takes : (f : List ℕ) (z : ℤ) → IsNarrow z → integer_of f ≡ Some z → f ≡ signed_decimal z
 unfolding integer_of
 integer_takes f z narrow e =
-    elim (chosen (eqb (get_or f 0 0) 45) (negative_number (whole_of (drop 1 f))) (option_map pos (whole_of f)) (Some z) e) [
+    elim (chosen (eqb (get_or f 0 0) 45) (negative_number (whole_of (drop 1 f))) (option_map pos (whole_of f))
+    (Some z) e) [
       | inl h ↦
           let n = negative_is (whole_of (drop 1 f)) z h.1 in
           let small = narrow_neg n.0 (subst IsNarrow n.2 narrow) in
-          cons_drop 44 f h.0 ∙ ap (λ ds. 45 ∷ ds) (whole_takes (drop 1 f) (suc n.0) (omega arith) n.1) ∙ ap signed_decimal (sym n.2)
+          cons_drop 44 f h.0 ∙ ap (λ ds. 45 ∷ ds) (whole_takes (drop 1 f) (suc n.0) (omega arith) n.1)
+          ∙ ap signed_decimal (sym n.2)
       | inr h ↦
           let n = positive_is (whole_of f) z h.1 in
           let small = narrow_pos n.0 (subst IsNarrow n.2 narrow) in
@@ -92,10 +98,13 @@ integer_takes f z narrow e =
 -- a number without sign begins with a digit
 no_sign : (n : ℕ) → n < 2 ^ 64 → eqb (get_or (decimal n) 0 0) 45 ≡ false
 no_sign n lt =
-    let r = digit_at (decimal n) 0 (digits_model.to (decimal n) (digits_decimal digits_model n lt)) (decimal_nonempty n lt) in
+    let r =
+    digit_at (decimal n) 0 (digits_model.to (decimal n) (digits_decimal digits_model n lt))
+    (decimal_nonempty n lt) in
     search (rules, tests)
 
 pub integer_again : (z : ℤ) → IsNarrow z → integer_of (signed_decimal z) ≡ Some z
 unfolding integer_of
-integer_again (pos n) narrow = let lt = narrow_pos n narrow in rw (no_sign n (omega arith), whole_again n (omega arith)) refl
+integer_again (pos n) narrow =
+    let lt = narrow_pos n narrow in rw (no_sign n (omega arith), whole_again n (omega arith)) refl
 integer_again (negsuc n) narrow = let lt = narrow_neg n narrow in rw (whole_again (suc n) (omega arith)) refl

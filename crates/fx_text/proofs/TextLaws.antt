@@ -13,7 +13,9 @@ abbrev pub all_by : {A : Type 0} → (List ℕ → Result (A × List ℕ) TextFa
 all_by read end text = read text >>= λ x. text_ended_at (end x.0) x.1 >>= λ _. Ok x.0
 
 -- what is read of a whole text is spelled so
-pub all_takes : {A : Type 0} {read : List ℕ → Result (A × List ℕ) TextFault} {write : A → List ℕ} {Is : A → Type 0} (end : A → ℕ) → IsOneSpelling read write Is → (text : List ℕ) (a : A) → all_by read end text ≡ Ok a → (text ≡ write a) × Is a
+pub all_takes : {A : Type 0} {read : List ℕ → Result (A × List ℕ) TextFault} {write : A → List ℕ} {Is : A →
+    Type 0} (end : A → ℕ) → IsOneSpelling read write Is → (text : List ℕ) (a : A) → all_by read end text ≡ Ok a →
+    (text ≡ write a) × Is a
 all_takes {A} {read} {write} {Is} end law text a e =
     on_ok {A = A × List ℕ} _ _ a e (λ x hx e.
     on_ok {A = List ℕ} _ _ a e (λ d hd e.
@@ -23,7 +25,8 @@ all_takes {A} {read} {write} {Is} end law text a e =
     (t.0 ∙ ap (λ r. write x.0 ++ r) (text_ended-is (end x.0) x.1 d hd) ∙ append-nil (write x.0), t.1)))
 
 -- what may be spelled is read from its text
-pub all_again : {A : Type 0} {read : List ℕ → Result (A × List ℕ) TextFault} {write : A → List ℕ} {Is : A → Type 0} (end : A → ℕ) → IsOneSpelling read write Is → (a : A) → Is a → all_by read end (write a) ≡ Ok a
+pub all_again : {A : Type 0} {read : List ℕ → Result (A × List ℕ) TextFault} {write : A → List ℕ} {Is : A →
+    Type 0} (end : A → ℕ) → IsOneSpelling read write Is → (a : A) → Is a → all_by read end (write a) ≡ Ok a
 unfolding text_ended_at
 all_again {A} {read} {write} {Is} end law a h =
     let e : read (write a) ≡ Ok (a, []) = ap read (sym (append-nil (write a))) ∙ law.again a [] h in rw e refl

@@ -5,7 +5,8 @@ use Rattle.std.specs.List.{before_first, after_first, position_or_len, slice_spl
 
 -- what stands before the first such byte and what stands behind it, or none where there is no such byte
 abbrev pub cut_at : ℕ → List ℕ → Option (List ℕ × List ℕ)
-cut_at byte text = if nat_lt (position_or_len (λ b. b == byte) text) (length text) then Some (before_first (λ b. b == byte) text, after_first (λ b. b == byte) text) else None
+cut_at byte text = if nat_lt (position_or_len (λ b. b == byte) text) (length text)
+    then Some (before_first (λ b. b == byte) text, after_first (λ b. b == byte) text) else None
 
 -- the first line, and the text behind its line feed
 abbrev pub line_at : List ℕ → Option (List ℕ × List ℕ)

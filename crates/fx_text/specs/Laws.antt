@@ -45,20 +45,23 @@ WordAgain = (word : List ℕ) (rest : Line) → keyword_at word (word ∷ rest) 
 
 -- a number of a range, a place below an end, a count between its limits
 abbrev pub NumberLaw : Type 0
-NumberLaw = (low high : ℤ) → AreNarrow low high → IsOneSpelling (number_at low high) (λ z. signed_decimal z ∷ []) (IsWithin low high)
+NumberLaw = (low high : ℤ) → AreNarrow low high →
+    IsOneSpelling (number_at low high) (λ z. signed_decimal z ∷ []) (IsWithin low high)
 
 abbrev pub PlaceLaw : Type 0
 PlaceLaw = (end : ℕ) → end < 2 ^ 32 → IsOneSpelling (place_at end) (λ n. decimal n ∷ []) (λ n. n < end)
 
 abbrev pub CountTextLaw : Type 0
-CountTextLaw = (low limit : ℕ) → limit < 2 ^ 32 → IsOneSpelling (count_at low limit) (λ n. decimal n ∷ []) (λ n. (low ≤ n) × (n ≤ limit))
+CountTextLaw = (low limit : ℕ) → limit < 2 ^ 32 →
+    IsOneSpelling (count_at low limit) (λ n. decimal n ∷ []) (λ n. (low ≤ n) × (n ≤ limit))
 
 -- a written dyadic, so many of them, and an interval
 abbrev pub DyadicLaw : Type 0
 DyadicLaw = IsOneSpelling dyadic_at (λ d. dyadic_text d ∷ []) IsWritten
 
 abbrev pub DyadicsLaw : Type 0
-DyadicsLaw = (count : ℕ) → IsOneSpelling (dyadics_at count) (map dyadic_text) (λ ds. (length ds ≡ count) × All IsWritten ds)
+DyadicsLaw =
+    (count : ℕ) → IsOneSpelling (dyadics_at count) (map dyadic_text) (λ ds. (length ds ≡ count) × All IsWritten ds)
 
 abbrev pub IntervalLaw : Type 0
 IntervalLaw = IsOneSpelling interval_at interval_fields IsWrittenInterval
@@ -69,4 +72,5 @@ LineLaw = (n : ℕ) → IsOneSpelling (fields_at n) line_text AreFields
 
 -- a line written field by field: the first, each other behind a space, and a line feed
 abbrev pub LineTextLaw : Type 0
-LineTextLaw = (field : List ℕ) (line : Line) → line_text (field ∷ line) ≡ field ++ flat_map (λ f. 32 ∷ f) line ++ 10 ∷ []
+LineTextLaw =
+    (field : List ℕ) (line : Line) → line_text (field ∷ line) ≡ field ++ flat_map (λ f. 32 ∷ f) line ++ 10 ∷ []

@@ -8,8 +8,10 @@ use Rattle.fx_text.specs.Lines.{line_by}
 use Rattle.fx_model.specs.Steps.{◌>>=◌}
 use Rattle.fx_text.specs.Reading.{dyadic_at}
 
--- `read` is told what is known before a value, as its number or the values before it; `next` says what is known behind it
-unfoldable pub many : {I A X E : Type 0} → (I → List X → Result (A × List X) E) → (I → A → I) → ℕ → I → List X → Result (List A × List X) E
+-- `read` is told what is known before a value, as its number or the values before it; `next` says what is known behind
+-- it
+unfoldable pub many : {I A X E : Type 0} → (I → List X → Result (A × List X) E) → (I → A → I) → ℕ → I → List X →
+    Result (List A × List X) E
 many read next zero i xs = Ok ([], xs)
 many read next (suc count) i xs = do
   first ← read i xs
@@ -30,9 +32,11 @@ abbrev pub dyadics_at : ℕ → Line → Result (List Dyadic × Line) TextKind
 dyadics_at count line = many {I = Unit {0}} (λ _ fields. dyadic_at fields) (λ _ _. tt) count tt line
 
 -- what such a reader makes of the text's first line, which is line `first + i`
-unfoldable pub numbered_line : {A : Type 0} → (ℕ → Line → Result A TextKind) → ℕ → ℕ → List ℕ → Result (A × List ℕ) TextFault
+unfoldable pub numbered_line : {A : Type 0} → (ℕ → Line → Result A TextKind) → ℕ → ℕ → List ℕ →
+    Result (A × List ℕ) TextFault
 numbered_line read first i text = line_by (read i) (first + i) text
 
 -- so many lines from line `first` on, of which the reader is told the number, counted from 0, and the text behind them
-unfoldable pub lines_by : {A : Type 0} → (ℕ → Line → Result A TextKind) → ℕ → ℕ → List ℕ → Result (List A × List ℕ) TextFault
+unfoldable pub lines_by : {A : Type 0} → (ℕ → Line → Result A TextKind) → ℕ → ℕ → List ℕ →
+    Result (List A × List ℕ) TextFault
 lines_by read first count text = many (numbered_line read first) (λ i _. i + 1) count 0 text

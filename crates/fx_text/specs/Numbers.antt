@@ -22,7 +22,8 @@ negative_number (Some (suc n)) = Some (negsuc n)
 
 -- the whole number that a field spells
 unfoldable pub integer_of : List ℕ → Option ℤ
-integer_of field = if slice_index field 0 == 45 then negative_number (whole_of (drop 1 field)) else option_map pos (whole_of field)
+integer_of field =
+    if slice_index field 0 == 45 then negative_number (whole_of (drop 1 field)) else option_map pos (whole_of field)
 
 -- m / 2^e in its one spelling: e is 0 or m is odd
 abbrev pub lowest_spelled : Option ℤ → Option ℕ → Option Dyadic

@@ -52,7 +52,8 @@ unfoldable pub count_at : ℕ → ℕ → Line → Result (ℕ × Line) TextKind
 count_at low limit line = do
   field ← field_at line
   z ← known (integer_of field.0)
-  if int_le z (pos limit) then (if int_le (pos low) z then Ok (unsigned_abs z, field.1) else Err OutOfRange) else Err TooMany
+  if int_le z (pos limit) then (if int_le (pos low) z then Ok (unsigned_abs z, field.1) else Err OutOfRange)
+      else Err TooMany
 
 -- a dyadic within the limits of written ones
 unfoldable pub dyadic_at : Line → Result (Dyadic × Line) TextKind

@@ -17,7 +17,9 @@ abbrev pub AreFields : Line → Type 0
 AreFields [] = ⊥
 AreFields (field ∷ line) = IsField field × AllByRecursion IsField line
 
--- What is read is what is written of its value, and the value is as it has to be. Such a value is read from what is written of it.
-pub record IsOneSpelling {A X E : Type 0} (read : List X → Result (A × List X) E) (write : A → List X) (Is : A → Type 0) : Type 0 where
+-- What is read is what is written of its value, and the value is as it has to be. Such a value is read from what is
+-- written of it.
+pub record IsOneSpelling {A X E : Type 0} (read : List X → Result (A × List X) E) (write : A → List X) (Is : A →
+    Type 0) : Type 0 where
   pub takes : (xs : List X) (value : A × List X) → read xs ≡ Ok value → (xs ≡ write value.0 ++ value.1) × Is value.0
   pub again : (value : A) (rest : List X) → Is value → read (write value ++ rest) ≡ Ok (value, rest)

@@ -1,7 +1,7 @@
 //! Cutting a text into lines, and a line into fields.
 //!
-//! Nothing is copied: a line and a field are parts of the text. Two spaces have an empty field between them, which is no
-//! number and no word, and so has a space at either end of a line.
+//! Nothing is copied: a line and a field are parts of the text. Two spaces have an empty field between them, which is
+//! no number and no word, and so has a space at either end of a line.
 
 ghost use Rattle.std.specs.Prelude.{◌≡◌, ◌==◌, ◌∷◌, [], List, ℕ, length, slice_get, MatchOption};
 ghost use Rattle.fx_text.specs.Cutting.{AreParts, cut_at, fields_of, line_at, left_of};
@@ -27,7 +27,8 @@ pub fn line_at(text: &[u8]) -> Option<(&[u8], &[u8])>
     cut_at(text, b'\n')
 }
 
-/// The fields of a line that are still to be read, which contracts see as a list. After a fault what is left isn't told.
+/// The fields of a line that are still to be read, which contracts see as a list. After a fault what is left isn't
+/// told.
 #[derive(Drop)]
 pub struct Fields<'a> {
     rest: Option<&'a [u8]>,

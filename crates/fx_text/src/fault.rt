@@ -1,7 +1,7 @@
 //! What is wrong with a text, and on which line.
 //!
-//! A reader of fields answers a kind, and the reader of their line makes a fault of it, so that the line's number is said
-//! once. The trap: want of memory may come on any line and is no fault of the text, so it has the line 0.
+//! A reader of fields answers a kind, and the reader of their line makes a fault of it, so that the line's number is
+//! said once. The trap: want of memory may come on any line and is no fault of the text, so it has the line 0.
 
 ghost use Rattle.std.specs.Prelude.{◌≡◌};
 ghost use Rattle.fx_text.specs.Faults.{fault_at, text_memory};

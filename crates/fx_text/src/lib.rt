@@ -1,9 +1,10 @@
 //! Lines, fields, whole numbers and dyadics of the project's texts: how each is read, and how it is printed.
 //!
-//! A program, a certificate and a bundle are lines of fields. What all of them share stands here once, so that a reader of
-//! one more line is a chain of `?` and its proof a few lines. Each reader is tied to a definition of `specs/`, which is over
-//! numbers without bound: what the code cuts off at 64 bits is still told apart as a number that is out of range.
-//! The trap: the first fault decides, so a field's spelling is tested before its range, and a line feed before any field.
+//! A program, a certificate and a bundle are lines of fields. What all of them share stands here once, so that a reader
+//! of one more line is a chain of `?` and its proof a few lines. Each reader is tied to a definition of `specs/`, which
+//! is over numbers without bound: what the code cuts off at 64 bits is still told apart as a number that is out of
+//! range. The trap: the first fault decides, so a field's spelling is tested before its range, and a line feed before
+//! any field.
 #![tactic(auto)]
 
 mod cut;

@@ -1,8 +1,8 @@
 //! Reading a text line by line.
 //!
-//! A caller knows the number of each line that it reads and hands it in, so that no fault is without its line. A reader of
-//! a line's fields knows no number: its fault gets one by `map_err(|kind| TextFault::at(line, kind))`.
-//! The trap: a line without a line feed is refused before its fields are read, whatever they are.
+//! A caller knows the number of each line that it reads and hands it in, so that no fault is without its line. A reader
+//! of a line's fields knows no number: its fault gets one by `map_err(|kind| TextFault::at(line, kind))`. The trap: a
+//! line without a line feed is refused before its fields are read, whatever they are.
 
 ghost use Rattle.std.specs.Prelude.{◌≡◌, []};
 ghost use Rattle.fx_text.specs.Reading.{ReadsAll};

@@ -1,8 +1,8 @@
 //! So many lines of one kind, whatever a line of it is.
 //!
-//! A reader of such lines reads one from its fields, and is told its number among them. The loop over lines is written here
-//! alone, and with it the proof that it reads what the definitions' `lines_by` reads. The list grows as its lines come: a
-//! count costs nothing that no line stands behind.
+//! A reader of such lines reads one from its fields, and is told its number among them. The loop over lines is written
+//! here alone, and with it the proof that it reads what the definitions' `lines_by` reads. The list grows as its lines
+//! come: a count costs nothing that no line stands behind.
 
 ghost use Rattle.std.specs.Prelude.{◌≡◌, ◌<◌, ◌≤◌, ◌+◌, ◌^◌, ℕ, Result, map, length, IfOk};
 ghost use Rattle.fx_text.specs.declared.fault.TextKind as kinds;
@@ -78,7 +78,8 @@ pub fn read_more_lines<'a, R: LineReader>(
     requires few { count ≤ 2 ^ 30 }
     requires lawful { R.lawful reader.now }
     requires count { count ≡ R.count reader.now }
-    ensures value { Gives (λ x. (map R.told x.0.items, x.1.now)) result (with_front (map R.told before.items) (lines_by (R.line_at reader.now) first count text.now)) }
+    ensures value { Gives (λ x. (map R.told x.0.items, x.1.now)) result
+        (with_front (map R.told before.items) (lines_by (R.line_at reader.now) first count text.now)) }
     ensures count { IfOk result (λ x. length x.0.items ≡ length before.items + count) }
 {
     let mut found = before;
@@ -103,7 +104,8 @@ pub fn read_lines<'a, R: LineReader>(
     requires few { count ≤ 2 ^ 30 }
     requires lawful { R.lawful reader.now }
     requires count { count ≡ R.count reader.now }
-    ensures value { Gives (λ x. (map R.told x.0.items, x.1.now)) result (lines_by (R.line_at reader.now) first count text.now) }
+    ensures value { Gives (λ x. (map R.told x.0.items, x.1.now)) result
+        (lines_by (R.line_at reader.now) first count text.now) }
     ensures count { IfOk result (λ x. length x.0.items ≡ count) }
 {
     read_more_lines(reader, alloc, first, count, Vec::new(alloc), text)

@@ -103,7 +103,8 @@ pub fn put_three<A: Integer, B: Integer, C: Integer>(
     b: B,
     c: C,
 ) -> Result<(), AllocError>
-    ensures { OnOk result (out.new.items ≡ out.old.items ++ line_text (word.now ∷ A.text a ∷ B.text b ∷ C.text c ∷ [])) }
+    ensures { OnOk result (out.new.items ≡ out.old.items
+        ++ line_text (word.now ∷ A.text a ∷ B.text b ∷ C.text c ∷ [])) }
 {
     begin_line(out, word)?;
     put_number(out, a)?;
@@ -121,7 +122,8 @@ pub fn put_four<A: Integer, B: Integer, C: Integer, D: Integer>(
     c: C,
     d: D,
 ) -> Result<(), AllocError>
-    ensures { OnOk result (out.new.items ≡ out.old.items ++ line_text (word.now ∷ A.text a ∷ B.text b ∷ C.text c ∷ D.text d ∷ [])) }
+    ensures { OnOk result (out.new.items ≡ out.old.items
+        ++ line_text (word.now ∷ A.text a ∷ B.text b ∷ C.text c ∷ D.text d ∷ [])) }
 {
     begin_line(out, word)?;
     put_number(out, a)?;

@@ -17,7 +17,8 @@ record Shown : Type 0 where
 
 -- what cells show behind a step from the state words z; none where the step is stuck
 abbrev shown : Program → List Decimal → List ℤ → Option Shown
-shown p row z = option_map (λ ws. record { size = least_size p.width; words = ws }) (words_of p (map decimal_value row) z)
+shown p row z =
+    option_map (λ ws. record { size = least_size p.width; words = ws }) (words_of p (map decimal_value row) z)
 
 -- a / 10^b
 abbrev number : ℤ → ℕ → Decimal
@@ -28,24 +29,43 @@ sizes : map least_size (8 ∷ 16 ∷ 24 ∷ 32 ∷ 40 ∷ 48 ∷ 56 ∷ 64 ∷ [
 sizes = refl
 
 -- ---- x + 0.5 on 0.3, in 16 bits
-half_cells : shown half_program (number (pos 3) 1 ∷ []) [] ≡ Some record { size = 16; words = pos 1228 ∷ pos 2048 ∷ pos 3276 ∷ pos 3276 ∷ [] }
+half_cells : shown half_program (number (pos 3) 1 ∷ []) [] ≡ Some record {
+  size = 16;
+  words = pos 1228 ∷ pos 2048 ∷ pos 3276 ∷ pos 3276 ∷ [];
+}
 unfolding over scaled floor decimal_value
 half_cells = refl
 
 -- ---- the averager on a second 1: its first one left the state word 2048
 averager_cells : shown averager_program (number (pos 1) 0 ∷ []) (pos 2048 ∷ [])
-    ≡ Some record { size = 16; words = pos 4096 ∷ pos 2048 ∷ pos 2048 ∷ pos 1024 ∷ pos 2048 ∷ pos 2048 ∷ pos 3072 ∷ pos 3072 ∷ pos 3072 ∷ [] }
+    ≡ Some record {
+      size = 16;
+      words = pos 4096 ∷ pos 2048 ∷ pos 2048 ∷ pos 1024 ∷ pos 2048 ∷ pos 2048 ∷ pos 3072 ∷ pos 3072 ∷ pos 3072 ∷ [];
+    }
 unfolding over scaled floor decimal_value
 averager_cells = refl
 
-averager_next : (step_taken averager_program (pos 4096 ∷ pos 2048 ∷ pos 2048 ∷ pos 1024 ∷ pos 2048 ∷ pos 2048 ∷ pos 3072 ∷ pos 3072 ∷ pos 3072 ∷ [])).next ≡ pos 3072 ∷ []
+averager_next : (step_taken averager_program
+    (pos 4096 ∷ pos 2048 ∷ pos 2048 ∷ pos 1024 ∷ pos 2048 ∷ pos 2048 ∷ pos 3072 ∷ pos 3072 ∷ pos 3072 ∷ [])).next
+    ≡ pos 3072 ∷ []
 averager_next = refl
 
 -- ---- x itself at point 0, in 24 bits: its ends, and one more on either side
 abbrev itself : Program
-itself = record { version = 1; width = 24; name = codes "n"; inputs = 1; states = 0; outputs = 1; codes = Input 0 (pos 0) ∷ Copy Floor 0 (pos 0) ∷ [] }
+itself = record {
+  version = 1;
+  width = 24;
+  name = codes "n";
+  inputs = 1;
+  states = 0;
+  outputs = 1;
+  codes = Input 0 (pos 0) ∷ Copy Floor 0 (pos 0) ∷ [];
+}
 
-least_cells : shown itself (number (negsuc 8388607) 0 ∷ []) [] ≡ Some record { size = 32; words = negsuc 8388607 ∷ negsuc 8388607 ∷ [] }
+least_cells : shown itself (number (negsuc 8388607) 0 ∷ []) [] ≡ Some record {
+  size = 32;
+  words = negsuc 8388607 ∷ negsuc 8388607 ∷ [];
+}
 unfolding over scaled floor decimal_value
 least_cells = refl
 
@@ -53,7 +73,10 @@ below_the_least : shown itself (number (negsuc 8388608) 0 ∷ []) [] ≡ None
 unfolding over scaled floor decimal_value
 below_the_least = refl
 
-greatest_cells : shown itself (number (pos 8388607) 0 ∷ []) [] ≡ Some record { size = 32; words = pos 8388607 ∷ pos 8388607 ∷ [] }
+greatest_cells : shown itself (number (pos 8388607) 0 ∷ []) [] ≡ Some record {
+  size = 32;
+  words = pos 8388607 ∷ pos 8388607 ∷ [];
+}
 unfolding over scaled floor decimal_value
 greatest_cells = refl
 

@@ -39,11 +39,13 @@ compared_6 : compared (dy (pos 1) 1) (lowest (over (pos 2) 3)) ≡ Some (true, f
 unfolding fits_128 over is_at_most dyadic_value gcd lowest
 compared_6 = refl
 
-compared_7 : compared (dy (pos 170141183460469231731687303715884105727) 0) (lowest (over (pos 1) 1)) ≡ Some (false, true)
+compared_7 : compared (dy (pos 170141183460469231731687303715884105727) 0) (lowest (over (pos 1) 1))
+    ≡ Some (false, true)
 unfolding fits_128 over is_at_most dyadic_value gcd lowest
 compared_7 = refl
 
-compared_8 : compared (dy (negsuc 170141183460469231731687303715884105727) 0) (lowest (over (pos 1) 1)) ≡ Some (true, false)
+compared_8 : compared (dy (negsuc 170141183460469231731687303715884105727) 0) (lowest (over (pos 1) 1))
+    ≡ Some (true, false)
 unfolding fits_128 over is_at_most dyadic_value gcd lowest
 compared_8 = refl
 
@@ -55,7 +57,8 @@ compared_10 : compared (dy (negsuc 170141183460469231731687303715884105727) 0) (
 unfolding fits_128 over is_at_most dyadic_value gcd lowest
 compared_10 = refl
 
-compared_11 : compared (dy (pos 85070591730234615865843651857942052863) 0) (lowest (over (pos 1) 2)) ≡ Some (false, true)
+compared_11 : compared (dy (pos 85070591730234615865843651857942052863) 0) (lowest (over (pos 1) 2))
+    ≡ Some (false, true)
 unfolding fits_128 over is_at_most dyadic_value gcd lowest
 compared_11 = refl
 
@@ -63,7 +66,8 @@ compared_12 : compared (dy (pos 85070591730234615865843651857942052864) 0) (lowe
 unfolding fits_128 over is_at_most dyadic_value gcd lowest
 compared_12 = refl
 
-compared_13 : compared (dy (negsuc 85070591730234615865843651857942052863) 0) (lowest (over (pos 1) 2)) ≡ Some (true, false)
+compared_13 : compared (dy (negsuc 85070591730234615865843651857942052863) 0) (lowest (over (pos 1) 2))
+    ≡ Some (true, false)
 unfolding fits_128 over is_at_most dyadic_value gcd lowest
 compared_13 = refl
 
@@ -87,23 +91,28 @@ compared_18 : compared (dy (negsuc 0) 1000) (lowest (over (negsuc 0) 46116860184
 unfolding fits_128 over is_at_most dyadic_value gcd lowest
 compared_18 = refl
 
-compared_19 : compared (dy (pos 170141183460469231731687303715884105727) 126) (lowest (over (pos 2) 1)) ≡ Some (true, false)
+compared_19 : compared (dy (pos 170141183460469231731687303715884105727) 126) (lowest (over (pos 2) 1))
+    ≡ Some (true, false)
 unfolding fits_128 over is_at_most dyadic_value gcd lowest
 compared_19 = refl
 
-compared_20 : compared (dy (pos 170141183460469231731687303715884105727) 126) (lowest (over (pos 1) 1)) ≡ Some (false, true)
+compared_20 : compared (dy (pos 170141183460469231731687303715884105727) 126) (lowest (over (pos 1) 1))
+    ≡ Some (false, true)
 unfolding fits_128 over is_at_most dyadic_value gcd lowest
 compared_20 = refl
 
-compared_21 : compared (dy (pos 170141183460469231731687303715884105727) 127) (lowest (over (pos 1) 1)) ≡ Some (true, false)
+compared_21 : compared (dy (pos 170141183460469231731687303715884105727) 127) (lowest (over (pos 1) 1))
+    ≡ Some (true, false)
 unfolding fits_128 over is_at_most dyadic_value gcd lowest
 compared_21 = refl
 
-compared_22 : compared (dy (negsuc 170141183460469231731687303715884105727) 127) (lowest (over (negsuc 0) 1)) ≡ Some (true, true)
+compared_22 : compared (dy (negsuc 170141183460469231731687303715884105727) 127) (lowest (over (negsuc 0) 1))
+    ≡ Some (true, true)
 unfolding fits_128 over is_at_most dyadic_value gcd lowest
 compared_22 = refl
 
-compared_23 : compared (dy (negsuc 170141183460469231731687303715884105727) 127) (lowest (over (pos 4611686018427387903) 1)) ≡ Some (true, false)
+compared_23 : compared (dy (negsuc 170141183460469231731687303715884105727) 127)
+    (lowest (over (pos 4611686018427387903) 1)) ≡ Some (true, false)
 unfolding fits_128 over is_at_most dyadic_value gcd lowest
 compared_23 = refl
 
@@ -123,27 +132,33 @@ compared_27 : compared (dy (pos 0) 0) (lowest (over (pos 4611686018427387903) 46
 unfolding fits_128 over is_at_most dyadic_value gcd lowest
 compared_27 = refl
 
-compared_28 : compared (dy (pos 0) 0) (lowest (over (negsuc 4611686018427387902) 4611686018427387902)) ≡ Some (false, true)
+compared_28 : compared (dy (pos 0) 0) (lowest (over (negsuc 4611686018427387902) 4611686018427387902))
+    ≡ Some (false, true)
 unfolding fits_128 over is_at_most dyadic_value gcd lowest
 compared_28 = refl
 
-compared_29 : compared (dy (pos 18446744073709551616) 0) (lowest (over (pos 4611686018427387903) 1)) ≡ Some (false, true)
+compared_29 : compared (dy (pos 18446744073709551616) 0) (lowest (over (pos 4611686018427387903) 1))
+    ≡ Some (false, true)
 unfolding fits_128 over is_at_most dyadic_value gcd lowest
 compared_29 = refl
 
-compared_30 : compared (dy (pos 36893488147419103232) 1) (lowest (over (pos 4611686018427387903) 4611686018427387901)) ≡ Some (false, true)
+compared_30 : compared (dy (pos 36893488147419103232) 1) (lowest (over (pos 4611686018427387903) 4611686018427387901))
+    ≡ Some (false, true)
 unfolding fits_128 over is_at_most dyadic_value gcd lowest
 compared_30 = refl
 
-compared_31 : compared (dy (pos 36893488147419103231) 70) (lowest (over (pos 1) 4611686018427387903)) ≡ Some (false, true)
+compared_31 : compared (dy (pos 36893488147419103231) 70) (lowest (over (pos 1) 4611686018427387903))
+    ≡ Some (false, true)
 unfolding fits_128 over is_at_most dyadic_value gcd lowest
 compared_31 = refl
 
-compared_32 : compared (dy (pos 36893488147419103232) 3) (lowest (over (pos 1) 4611686018427387903)) ≡ Some (false, true)
+compared_32 : compared (dy (pos 36893488147419103232) 3) (lowest (over (pos 1) 4611686018427387903))
+    ≡ Some (false, true)
 unfolding fits_128 over is_at_most dyadic_value gcd lowest
 compared_32 = refl
 
-compared_33 : compared (dy (negsuc 36893488147419103231) 3) (lowest (over (pos 1) 4611686018427387903)) ≡ Some (true, false)
+compared_33 : compared (dy (negsuc 36893488147419103231) 3) (lowest (over (pos 1) 4611686018427387903))
+    ≡ Some (true, false)
 unfolding fits_128 over is_at_most dyadic_value gcd lowest
 compared_33 = refl
 
@@ -163,7 +178,8 @@ compared_37 : compared (dy (negsuc 3249909888707388594) 62) (lowest (over (negsu
 unfolding fits_128 over is_at_most dyadic_value gcd lowest
 compared_37 = refl
 
-compared_38 : compared (dy (negsuc 358727100890644501947899820912) 1) (lowest (over (negsuc 123319746) 169253241)) ≡ Some (true, false)
+compared_38 : compared (dy (negsuc 358727100890644501947899820912) 1) (lowest (over (negsuc 123319746) 169253241))
+    ≡ Some (true, false)
 unfolding fits_128 over is_at_most dyadic_value gcd lowest
 compared_38 = refl
 
@@ -195,7 +211,8 @@ compared_45 : compared (dy (pos 866534) 62) (lowest (over (negsuc 250) 177)) ≡
 unfolding fits_128 over is_at_most dyadic_value gcd lowest
 compared_45 = refl
 
-compared_46 : compared (dy (pos 538451310112429233438322124015) 62) (lowest (over (pos 369183705965952605) 4454003899071058812)) ≡ None
+compared_46 : compared (dy (pos 538451310112429233438322124015) 62)
+    (lowest (over (pos 369183705965952605) 4454003899071058812)) ≡ None
 unfolding fits_128 over is_at_most dyadic_value gcd lowest
 compared_46 = refl
 
@@ -203,11 +220,13 @@ compared_47 : compared (dy (pos 598067) 96) (lowest (over (pos 296822477) 143912
 unfolding fits_128 over is_at_most dyadic_value gcd lowest
 compared_47 = refl
 
-compared_48 : compared (dy (negsuc 709803661365228059982931152762) 62) (lowest (over (negsuc 156) 78)) ≡ Some (true, false)
+compared_48 : compared (dy (negsuc 709803661365228059982931152762) 62) (lowest (over (negsuc 156) 78))
+    ≡ Some (true, false)
 unfolding fits_128 over is_at_most dyadic_value gcd lowest
 compared_48 = refl
 
-compared_49 : compared (dy (negsuc 1098770649856747572150596147752) 0) (lowest (over (pos 11297) 164)) ≡ Some (true, false)
+compared_49 : compared (dy (negsuc 1098770649856747572150596147752) 0) (lowest (over (pos 11297) 164))
+    ≡ Some (true, false)
 unfolding fits_128 over is_at_most dyadic_value gcd lowest
 compared_49 = refl
 
@@ -215,7 +234,8 @@ compared_50 : compared (dy (pos 3187573760124775058) 1) (lowest (over (negsuc 36
 unfolding fits_128 over is_at_most dyadic_value gcd lowest
 compared_50 = refl
 
-compared_51 : compared (dy (pos 2834991189166456337) 0) (lowest (over (negsuc 544437907570553142) 28833412752375477)) ≡ Some (false, true)
+compared_51 : compared (dy (pos 2834991189166456337) 0) (lowest (over (negsuc 544437907570553142) 28833412752375477))
+    ≡ Some (false, true)
 unfolding fits_128 over is_at_most dyadic_value gcd lowest
 compared_51 = refl
 
@@ -223,7 +243,8 @@ compared_52 : compared (dy (pos 4193530225086824825) 62) (lowest (over (pos 5046
 unfolding fits_128 over is_at_most dyadic_value gcd lowest
 compared_52 = refl
 
-compared_53 : compared (dy (negsuc 6) 1) (lowest (over (pos 1252062841187265861) 3912680796206709598)) ≡ Some (true, false)
+compared_53 : compared (dy (negsuc 6) 1) (lowest (over (pos 1252062841187265861) 3912680796206709598))
+    ≡ Some (true, false)
 unfolding fits_128 over is_at_most dyadic_value gcd lowest
 compared_53 = refl
 
@@ -251,7 +272,8 @@ compared_59 : compared (dy (pos 8) 0) (lowest (over (pos 11) 9)) ≡ Some (false
 unfolding fits_128 over is_at_most dyadic_value gcd lowest
 compared_59 = refl
 
-compared_60 : compared (dy (negsuc 943535389942602565886750681272) 96) (lowest (over (negsuc 130) 11)) ≡ Some (false, true)
+compared_60 : compared (dy (negsuc 943535389942602565886750681272) 96) (lowest (over (negsuc 130) 11))
+    ≡ Some (false, true)
 unfolding fits_128 over is_at_most dyadic_value gcd lowest
 compared_60 = refl
 
@@ -271,7 +293,8 @@ compared_64 : compared (dy (pos 1153801932711) 40) (lowest (over (pos 738102758)
 unfolding fits_128 over is_at_most dyadic_value gcd lowest
 compared_64 = refl
 
-compared_65 : compared (dy (negsuc 35837671442442227544621941161) 96) (lowest (over (negsuc 462695372) 1022904188)) ≡ Some (false, true)
+compared_65 : compared (dy (negsuc 35837671442442227544621941161) 96) (lowest (over (negsuc 462695372) 1022904188))
+    ≡ Some (false, true)
 unfolding fits_128 over is_at_most dyadic_value gcd lowest
 compared_65 = refl
 
@@ -279,7 +302,8 @@ compared_66 : compared (dy (pos 930156) 1) (lowest (over (negsuc 2) 7)) ≡ Some
 unfolding fits_128 over is_at_most dyadic_value gcd lowest
 compared_66 = refl
 
-compared_67 : compared (dy (pos 514399) 12) (lowest (over (negsuc 107025242035368924) 281905550080052653)) ≡ Some (false, true)
+compared_67 : compared (dy (pos 514399) 12) (lowest (over (negsuc 107025242035368924) 281905550080052653))
+    ≡ Some (false, true)
 unfolding fits_128 over is_at_most dyadic_value gcd lowest
 compared_67 = refl
 
@@ -311,7 +335,8 @@ compared_74 : compared (dy (negsuc 3) 0) (lowest (over (pos 202) 13)) ≡ Some (
 unfolding fits_128 over is_at_most dyadic_value gcd lowest
 compared_74 = refl
 
-compared_75 : compared (dy (pos 48766949204538895250764482315) 62) (lowest (over (negsuc 4607349181404038130) 1126558609912658081)) ≡ None
+compared_75 : compared (dy (pos 48766949204538895250764482315) 62)
+    (lowest (over (negsuc 4607349181404038130) 1126558609912658081)) ≡ None
 unfolding fits_128 over is_at_most dyadic_value gcd lowest
 compared_75 = refl
 
@@ -323,7 +348,8 @@ compared_77 : compared (dy (pos 2) 12) (lowest (over (negsuc 69986871447609301) 
 unfolding fits_128 over is_at_most dyadic_value gcd lowest
 compared_77 = refl
 
-compared_78 : compared (dy (negsuc 1097259866766942077) 12) (lowest (over (pos 1890281352210308506) 2003219867399228663)) ≡ Some (true, false)
+compared_78 : compared (dy (negsuc 1097259866766942077) 12)
+    (lowest (over (pos 1890281352210308506) 2003219867399228663)) ≡ Some (true, false)
 unfolding fits_128 over is_at_most dyadic_value gcd lowest
 compared_78 = refl
 
@@ -343,7 +369,8 @@ compared_82 : compared (dy (pos 127) 1) (lowest (over (pos 64) 1)) ≡ Some (tru
 unfolding fits_128 over is_at_most dyadic_value gcd lowest
 compared_82 = refl
 
-compared_83 : compared (dy (pos 511335235412590605333307831746) 96) (lowest (over (negsuc 652342378109239638) 1499469260708977672)) ≡ None
+compared_83 : compared (dy (pos 511335235412590605333307831746) 96)
+    (lowest (over (negsuc 652342378109239638) 1499469260708977672)) ≡ None
 unfolding fits_128 over is_at_most dyadic_value gcd lowest
 compared_83 = refl
 
@@ -351,7 +378,8 @@ compared_84 : compared (dy (pos 3556769335844008553) 40) (lowest (over (pos 14) 
 unfolding fits_128 over is_at_most dyadic_value gcd lowest
 compared_84 = refl
 
-compared_85 : compared (dy (pos 3863911383317280791) 1) (lowest (over (negsuc 828925425341831114) 1503896415605695232)) ≡ Some (false, true)
+compared_85 : compared (dy (pos 3863911383317280791) 1) (lowest (over (negsuc 828925425341831114) 1503896415605695232))
+    ≡ Some (false, true)
 unfolding fits_128 over is_at_most dyadic_value gcd lowest
 compared_85 = refl
 
@@ -359,11 +387,13 @@ compared_86 : compared (dy (pos 3826388796448746591) 62) (lowest (over (pos 200)
 unfolding fits_128 over is_at_most dyadic_value gcd lowest
 compared_86 = refl
 
-compared_87 : compared (dy (negsuc 4254043114812548754) 40) (lowest (over (negsuc 1891791289977296198) 3037319650334006329)) ≡ Some (true, false)
+compared_87 : compared (dy (negsuc 4254043114812548754) 40)
+    (lowest (over (negsuc 1891791289977296198) 3037319650334006329)) ≡ Some (true, false)
 unfolding fits_128 over is_at_most dyadic_value gcd lowest
 compared_87 = refl
 
-compared_88 : compared (dy (negsuc 856171) 12) (lowest (over (pos 1096493974548647589) 4608135736783518635)) ≡ Some (true, false)
+compared_88 : compared (dy (negsuc 856171) 12) (lowest (over (pos 1096493974548647589) 4608135736783518635))
+    ≡ Some (true, false)
 unfolding fits_128 over is_at_most dyadic_value gcd lowest
 compared_88 = refl
 
@@ -383,7 +413,8 @@ compared_92 : compared (dy (negsuc 5764607523034234878) 62) (lowest (over (negsu
 unfolding fits_128 over is_at_most dyadic_value gcd lowest
 compared_92 = refl
 
-compared_93 : compared (dy (pos 610285083406284026) 12) (lowest (over (negsuc 961290935) 1159917583)) ≡ Some (false, true)
+compared_93 : compared (dy (pos 610285083406284026) 12) (lowest (over (negsuc 961290935) 1159917583))
+    ≡ Some (false, true)
 unfolding fits_128 over is_at_most dyadic_value gcd lowest
 compared_93 = refl
 
@@ -407,7 +438,8 @@ compared_98 : compared (dy (negsuc 1) 0) (lowest (over (negsuc 82) 63)) ≡ Some
 unfolding fits_128 over is_at_most dyadic_value gcd lowest
 compared_98 = refl
 
-compared_99 : compared (dy (negsuc 300061486814144374560073747982) 5) (lowest (over (pos 6742) 5763)) ≡ Some (true, false)
+compared_99 : compared (dy (negsuc 300061486814144374560073747982) 5) (lowest (over (pos 6742) 5763))
+    ≡ Some (true, false)
 unfolding fits_128 over is_at_most dyadic_value gcd lowest
 compared_99 = refl
 

@@ -28,12 +28,15 @@ plain next = filter (whole (pos 0)) (whole (pos 0)) [] next
 
 -- ---- sizes
 -- 0.1 and 0.4 come to just a half, though neither has a last binary digit
-tenths : is_calm 32 (plain (tree.Sum (tree.Sum (times_state (over (pos 1) 10)) (times_state (over (pos 4) 10))) (tree.Input 0))) ≡ true
+tenths : is_calm 32 (plain
+    (tree.Sum (tree.Sum (times_state (over (pos 1) 10)) (times_state (over (pos 4) 10))) (tree.Input 0))) ≡ true
 unfolding first_from power_value dyadic_value over plus times is_at_most
 tenths = refl
 
 -- and so much more isn't a half
-more_than_half : is_calm 64 (plain (tree.Sum (times_state (over (pos 1) 10)) (times_state (over (pos 400000000000000001) 1000000000000000000)))) ≡ false
+more_than_half : is_calm 64
+    (plain (tree.Sum (times_state (over (pos 1) 10)) (times_state (over (pos 400000000000000001) 1000000000000000000))))
+    ≡ false
 unfolding first_from power_value dyadic_value over plus times is_at_most
 more_than_half = refl
 
@@ -44,7 +47,9 @@ added_terms = refl
 
 -- ---- forms
 -- a product in the other order, a negation of a sum, a literal that stands alone
-other_forms : is_calm 32 (plain (tree.Negation (tree.Difference (tree.Product (tree.State 0) (tree.Literal (over (pos 1) 2))) (tree.Sum (tree.Input 0) (tree.Literal (over (pos 3) 2)))))) ≡ true
+other_forms : is_calm 32
+    (plain (tree.Negation (tree.Difference (tree.Product (tree.State 0) (tree.Literal (over (pos 1) 2)))
+    (tree.Sum (tree.Input 0) (tree.Literal (over (pos 3) 2)))))) ≡ true
 unfolding first_from power_value dyadic_value over plus times is_at_most
 other_forms = refl
 
@@ -54,7 +59,8 @@ unfolding first_from power_value dyadic_value over plus times is_at_most
 no_product = refl
 
 -- nor is anything with a temp
-no_temp : is_calm 64 (filter (whole (pos 0)) (whole (pos 0)) (record { name = codes "t"; tree = tree.Input 0 } ∷ []) (times_state (over (pos 1) 2))) ≡ false
+no_temp : is_calm 64 (filter (whole (pos 0)) (whole (pos 0)) (record { name = codes "t"; tree = tree.Input 0 } ∷ [])
+    (times_state (over (pos 1) 2))) ≡ false
 unfolding first_from power_value dyadic_value over plus times is_at_most
 no_temp = refl
 
@@ -75,15 +81,19 @@ power_start : (numbers_of 32 (filter (whole (pos 0)) (whole (negsuc 3)) [] (time
 unfolding first_from power_value dyadic_value over plus times is_at_most
 power_start = refl
 
-above_power : (numbers_of 32 (filter (whole (pos 0)) (over (pos 4000000000000000001) 1000000000000000000) [] (times_state (over (pos 1) 2)))).q ≡ 3
+above_power : (numbers_of 32
+    (filter (whole (pos 0)) (over (pos 4000000000000000001) 1000000000000000000) [] (times_state (over (pos 1) 2)))).q
+    ≡ 3
 unfolding first_from power_value dyadic_value over plus times is_at_most
 above_power = refl
 
 -- an input's error that leaves no more than room for it, and twice that
-least_room : is_calm 32 (filter (over (pos 1) 8192) (whole (pos 0)) [] (tree.Sum (times_state (over (pos 1) 2)) (tree.Input 0))) ≡ true
+least_room : is_calm 32
+    (filter (over (pos 1) 8192) (whole (pos 0)) [] (tree.Sum (times_state (over (pos 1) 2)) (tree.Input 0))) ≡ true
 unfolding first_from power_value dyadic_value over plus times is_at_most
 least_room = refl
 
-no_room : is_calm 32 (filter (over (pos 1) 4096) (whole (pos 0)) [] (tree.Sum (times_state (over (pos 1) 2)) (tree.Input 0))) ≡ false
+no_room : is_calm 32 (filter (over (pos 1) 4096) (whole (pos 0)) []
+    (tree.Sum (times_state (over (pos 1) 2)) (tree.Input 0))) ≡ false
 unfolding first_from power_value dyadic_value over plus times is_at_most
 no_room = refl

@@ -56,7 +56,8 @@ range_12 : is_within (d (negsuc 0) 2) (d (pos 0) 0) (d (pos 1) 0) (d (pos 1) 2) 
 unfolding is_within decimal_value over plus minus negative is_at_most
 range_12 = refl
 
-range_13 : is_within (d (pos 4611686018427387903) 0) (d (pos 4611686018427387903) 0) (d (pos 4611686018427387903) 0) (d (pos 0) 0) ≡ true
+range_13 : is_within (d (pos 4611686018427387903) 0) (d (pos 4611686018427387903) 0) (d (pos 4611686018427387903) 0)
+    (d (pos 0) 0) ≡ true
 unfolding is_within decimal_value over plus minus negative is_at_most
 range_13 = refl
 
@@ -64,35 +65,43 @@ range_14 : is_within (d (pos 4611686018427387903) 0) (d (pos 0) 0) (d (pos 0) 0)
 unfolding is_within decimal_value over plus minus negative is_at_most
 range_14 = refl
 
-range_15 : is_within (d (negsuc 4611686018427387902) 0) (d (pos 0) 0) (d (pos 0) 0) (d (pos 4611686018427387903) 0) ≡ true
+range_15 : is_within (d (negsuc 4611686018427387902) 0) (d (pos 0) 0) (d (pos 0) 0) (d (pos 4611686018427387903) 0)
+    ≡ true
 unfolding is_within decimal_value over plus minus negative is_at_most
 range_15 = refl
 
-range_16 : is_within (d (pos 4611686018427387903) 0) (d (negsuc 4611686018427387902) 0) (d (negsuc 4611686018427387902) 0) (d (pos 4611686018427387903) 0) ≡ false
+range_16 : is_within (d (pos 4611686018427387903) 0) (d (negsuc 4611686018427387902) 0)
+    (d (negsuc 4611686018427387902) 0) (d (pos 4611686018427387903) 0) ≡ false
 unfolding is_within decimal_value over plus minus negative is_at_most
 range_16 = refl
 
-range_17 : is_within (d (pos 0) 0) (d (negsuc 4611686018427387902) 0) (d (negsuc 4611686018427387902) 0) (d (pos 4611686018427387903) 0) ≡ true
+range_17 : is_within (d (pos 0) 0) (d (negsuc 4611686018427387902) 0) (d (negsuc 4611686018427387902) 0)
+    (d (pos 4611686018427387903) 0) ≡ true
 unfolding is_within decimal_value over plus minus negative is_at_most
 range_17 = refl
 
-range_18 : is_within (d (pos 0) 0) (d (pos 4611686018427387903) 0) (d (pos 4611686018427387903) 0) (d (pos 4611686018427387903) 0) ≡ true
+range_18 : is_within (d (pos 0) 0) (d (pos 4611686018427387903) 0) (d (pos 4611686018427387903) 0)
+    (d (pos 4611686018427387903) 0) ≡ true
 unfolding is_within decimal_value over plus minus negative is_at_most
 range_18 = refl
 
-range_19 : is_within (d (negsuc 4611686018427387902) 18) (d (pos 4611686018427387903) 0) (d (pos 4611686018427387903) 0) (d (pos 4611686018427387903) 0) ≡ false
+range_19 : is_within (d (negsuc 4611686018427387902) 18) (d (pos 4611686018427387903) 0) (d (pos 4611686018427387903) 0)
+    (d (pos 4611686018427387903) 0) ≡ false
 unfolding is_within decimal_value over plus minus negative is_at_most
 range_19 = refl
 
-range_20 : is_within (d (pos 4611686018427387903) 18) (d (negsuc 4611686018427387902) 0) (d (negsuc 4611686018427387902) 0) (d (pos 4611686018427387903) 0) ≡ false
+range_20 : is_within (d (pos 4611686018427387903) 18) (d (negsuc 4611686018427387902) 0)
+    (d (negsuc 4611686018427387902) 0) (d (pos 4611686018427387903) 0) ≡ false
 unfolding is_within decimal_value over plus minus negative is_at_most
 range_20 = refl
 
-range_21 : is_within (d (pos 4611686018427387903) 18) (d (pos 0) 0) (d (pos 4611686018427387903) 18) (d (pos 0) 0) ≡ true
+range_21 : is_within (d (pos 4611686018427387903) 18) (d (pos 0) 0) (d (pos 4611686018427387903) 18) (d (pos 0) 0)
+    ≡ true
 unfolding is_within decimal_value over plus minus negative is_at_most
 range_21 = refl
 
-range_22 : is_within (d (pos 4611686018427387903) 18) (d (pos 0) 0) (d (pos 0) 0) (d (pos 4611686018427387903) 18) ≡ true
+range_22 : is_within (d (pos 4611686018427387903) 18) (d (pos 0) 0) (d (pos 0) 0) (d (pos 4611686018427387903) 18)
+    ≡ true
 unfolding is_within decimal_value over plus minus negative is_at_most
 range_22 = refl
 

@@ -1,4 +1,5 @@
--- Worked refusals of rewriting steps, each told apart from the others: `apply` answers this fault, or that memory is wanting.
+-- Worked refusals of rewriting steps, each told apart from the others: `apply` answers this fault, or that memory is
+-- wanting.
 use Rattle.std.proofs.Common.{◌≡◌, ◌⊎◌, inl, inr, ℕ, zero, suc, ◌^◌, pos, List, [], ◌∷◌, map, length, replicate, slice_get, codes, Some, None, option_and_then, refl, sym, ap, subst, ◌∙◌}
 use Rattle.fx_algebra.specs.Gcd.{gcd}
 use Rattle.fx_rational.specs.Rational.{over, whole, plus, minus, negative, times, divided, quotient, lowest}
@@ -18,7 +19,8 @@ use Rattle.fx_rewrite.specs.declared.fault.StepFault.TheVariants.{NoPlace, NoMat
 
 -- no step, and of the faults that may be answered there each is this one or want of memory
 abbrev IsRefusedBy : StepFault → Function → Rewriting → Type 0
-IsRefusedBy fault f s = (rewrite f s ≡ None) × ((other : StepFault) → IsRefused other f s → (other ≡ fault) ⊎ (other ≡ Memory))
+IsRefusedBy fault f s =
+    (rewrite f s ≡ None) × ((other : StepFault) → IsRefused other f s → (other ≡ fault) ⊎ (other ≡ Memory))
 
 -- ---- what tells one from the others
 
@@ -36,7 +38,8 @@ same_of_some : (a b : Tree) → Some a ≡ Some b → a ≡ b
 same_of_some a b e = cc
 
 -- a tree is there that the rule's left side isn't
-unlike : (f : Function) (s : Rewriting) (old : Tree) → found f s.place s.path ≡ Some old → turned s.rule old ≡ rules.NoMatch → IsRefusedBy NoMatch f s
+unlike : (f : Function) (s : Rewriting) (old : Tree) → found f s.place s.path ≡ Some old →
+    turned s.rule old ≡ rules.NoMatch → IsRefusedBy NoMatch f s
 unlike f s old there is = (ap (option_and_then (λ e. after f s (turned s.rule e))) there ∙ ap (after f s) is, told)
   where
     told : (other : StepFault) → IsRefused other f s → (other ≡ NoMatch) ⊎ (other ≡ Memory)
@@ -48,7 +51,8 @@ unlike f s old there is = (ap (option_and_then (λ e. after f s (turned s.rule e
     told Memory r = inr refl
 
 -- the rule's left side is there, and a limit isn't kept
-unkept : (f : Function) (s : Rewriting) (old new : Tree) → found f s.place s.path ≡ Some old → RewritesTree s.rule old new → rewrite f s ≡ None → IsRefusedBy TooLong f s
+unkept : (f : Function) (s : Rewriting) (old new : Tree) → found f s.place s.path ≡ Some old →
+    RewritesTree s.rule old new → rewrite f s ≡ None → IsRefusedBy TooLong f s
 unkept f s old new there rewrites out = (out, told)
   where
     told : (other : StepFault) → IsRefused other f s → (other ≡ TooLong) ⊎ (other ≡ Memory)
@@ -60,14 +64,17 @@ unkept f s old new there rewrites out = (out, told)
     told Memory r = inr refl
 
 -- that of literals
-overlong : (f : Function) (s : Rewriting) (old : Tree) → found f s.place s.path ≡ Some old → turned s.rule old ≡ rules.TooLong → IsRefusedBy TooLong f s
+overlong : (f : Function) (s : Rewriting) (old : Tree) → found f s.place s.path ≡ Some old →
+    turned s.rule old ≡ rules.TooLong → IsRefusedBy TooLong f s
 overlong f s old there is =
     let j = turned_judges s.rule old rules.TooLong is in
     unkept f s old j.0 there j.1 (ap (option_and_then (λ e. after f s (turned s.rule e))) there ∙ ap (after f s) is)
 
 -- that of nodes or of heights
-overfull : (f : Function) (s : Rewriting) (old new : Tree) → found f s.place s.path ≡ Some old → turned s.rule old ≡ rules.Becomes new → rewrite f s ≡ None → IsRefusedBy TooLong f s
-overfull f s old new there is out = let j = turned_judges s.rule old (rules.Becomes new) is in unkept f s old new there j.0 out
+overfull : (f : Function) (s : Rewriting) (old new : Tree) → found f s.place s.path ≡ Some old →
+    turned s.rule old ≡ rules.Becomes new → rewrite f s ≡ None → IsRefusedBy TooLong f s
+overfull f s old new there is out =
+    let j = turned_judges s.rule old (rules.Becomes new) is in unkept f s old new there j.0 out
 
 -- ---- how the examples are written
 abbrev x : Tree
@@ -85,7 +92,9 @@ great = Literal (whole (pos (2 ^ 61)))
 -- a function of three inputs with this result
 abbrev of_three : Tree → Function
 of_three result = record half {
-  inputs = exact_input (codes "x") (whole (pos 0)) (whole (pos 1)) ∷ exact_input (codes "y") (whole (pos 0)) (whole (pos 1)) ∷ exact_input (codes "z") (whole (pos 0)) (whole (pos 1)) ∷ [];
+  inputs = exact_input (codes "x") (whole (pos 0)) (whole (pos 1))
+      ∷ exact_input (codes "y") (whole (pos 0)) (whole (pos 1))
+      ∷ exact_input (codes "z") (whole (pos 0)) (whole (pos 1)) ∷ [];
   results = result ∷ [];
 }
 
@@ -112,14 +121,17 @@ a_product_for_a_difference : IsRefusedBy NoMatch worked (step 0 (0 ∷ 0 ∷ [])
 a_product_for_a_difference = unlike worked (step 0 (0 ∷ 0 ∷ []) 13) (Product x y) refl refl
 
 a_rule_past_the_table : IsRefusedBy NoMatch worked (step 0 [] 31)
-a_rule_past_the_table = unlike worked (step 0 [] 31) (Sum (Difference (Product x y) (Product x y)) (Product x z)) refl refl
+a_rule_past_the_table =
+    unlike worked (step 0 [] 31) (Sum (Difference (Product x y) (Product x y)) (Product x z)) refl refl
 
 -- ---- x / x, of which no rule makes anything, so that none makes 1
 -- where none of these turns makes anything of a tree
-none_turns : (e : Tree) (ts : List (Tree → rules.Turned)) (n : ℕ) → map (λ t. t e) ts ≡ replicate (length ts) rules.NoMatch → rules.turned_by (slice_get ts n) e ≡ rules.NoMatch
+none_turns : (e : Tree) (ts : List (Tree → rules.Turned)) (n : ℕ) →
+    map (λ t. t e) ts ≡ replicate (length ts) rules.NoMatch → rules.turned_by (slice_get ts n) e ≡ rules.NoMatch
 none_turns e [] n all = refl
 none_turns e (t ∷ ts) zero all = cc
-none_turns e (t ∷ ts) (suc n) all = let rest : map (λ t. t e) ts ≡ replicate (length ts) rules.NoMatch = cc in none_turns e ts n rest
+none_turns e (t ∷ ts) (suc n) all =
+    let rest : map (λ t. t e) ts ≡ replicate (length ts) rules.NoMatch = cc in none_turns e ts n rest
 
 unturned : (rule : ℕ) → turned rule (Quotient x x) ≡ rules.NoMatch
 unturned zero = refl
@@ -131,11 +143,13 @@ a_tree_by_itself rule = unlike (of_three (Quotient x x)) (step 0 [] rule) (Quoti
 -- ---- limits
 a_literal_over_its_limit : IsRefusedBy TooLong (of_three (Sum x (Sum great great))) (step 0 (1 ∷ []) 26)
 unfolding quotient divided over plus minus negative times lowest gcd
-a_literal_over_its_limit = overlong (of_three (Sum x (Sum great great))) (step 0 (1 ∷ []) 26) (Sum great great) refl refl
+a_literal_over_its_limit =
+    overlong (of_three (Sum x (Sum great great))) (step 0 (1 ∷ []) 26) (Sum great great) refl refl
 
 -- a sum is not what the rule of products folds, however great its literals are
 a_literal_over_its_limit_by_another_rule : IsRefusedBy NoMatch (of_three (Sum x (Sum great great))) (step 0 (1 ∷ []) 28)
-a_literal_over_its_limit_by_another_rule = unlike (of_three (Sum x (Sum great great))) (step 0 (1 ∷ []) 28) (Sum great great) refl refl
+a_literal_over_its_limit_by_another_rule =
+    unlike (of_three (Sum x (Sum great great))) (step 0 (1 ∷ []) 28) (Sum great great) refl refl
 
 -- x below so many signs
 abbrev signs : ℕ → Tree
@@ -144,4 +158,6 @@ signs (suc n) = Negation (signs n)
 
 -- from 200 to 201
 one_too_high : IsRefusedBy TooLong (of_three (Difference x (signs 198))) (step 0 [] 15)
-one_too_high = overfull (of_three (Difference x (signs 198))) (step 0 [] 15) (Difference x (signs 198)) (Sum x (Negation (signs 198))) refl refl refl
+one_too_high =
+    overfull (of_three (Difference x (signs 198))) (step 0 [] 15) (Difference x (signs 198))
+    (Sum x (Negation (signs 198))) refl refl refl

@@ -184,7 +184,8 @@ text_1 : decimal_text (negsuc 9223372036854775807) (negsuc 63) ≡ codes "-17014
 unfolding digits size_text digits_after decimal_text
 text_1 = refl
 
-text_2 : decimal_text (pos 9223372036854775807) (pos 62) ≡ codes "1.99999999999999999978315956550289911319850943982601165771484375"
+text_2 : decimal_text (pos 9223372036854775807) (pos 62)
+    ≡ codes "1.99999999999999999978315956550289911319850943982601165771484375"
 unfolding digits size_text digits_after decimal_text
 text_2 = refl
 
@@ -224,11 +225,13 @@ text_11 : decimal_text (negsuc 9223372036854775807) (pos 62) ≡ codes "-2"
 unfolding digits size_text digits_after decimal_text
 text_11 = refl
 
-text_12 : decimal_text (pos 4611686018427387903) (pos 62) ≡ codes "0.99999999999999999978315956550289911319850943982601165771484375"
+text_12 : decimal_text (pos 4611686018427387903) (pos 62)
+    ≡ codes "0.99999999999999999978315956550289911319850943982601165771484375"
 unfolding digits size_text digits_after decimal_text
 text_12 = refl
 
-text_13 : decimal_text (pos 4611686018427387905) (pos 62) ≡ codes "1.00000000000000000021684043449710088680149056017398834228515625"
+text_13 : decimal_text (pos 4611686018427387905) (pos 62)
+    ≡ codes "1.00000000000000000021684043449710088680149056017398834228515625"
 unfolding digits size_text digits_after decimal_text
 text_13 = refl
 
@@ -244,11 +247,13 @@ text_16 : decimal_text (pos 3) (pos 61) ≡ codes "0.000000000000000001301042606
 unfolding digits size_text digits_after decimal_text
 text_16 = refl
 
-text_17 : decimal_text (pos 2305843009213693951) (pos 61) ≡ codes "0.9999999999999999995663191310057982263970188796520233154296875"
+text_17 : decimal_text (pos 2305843009213693951) (pos 61)
+    ≡ codes "0.9999999999999999995663191310057982263970188796520233154296875"
 unfolding digits size_text digits_after decimal_text
 text_17 = refl
 
-text_18 : decimal_text (pos 9223372036854775807) (pos 61) ≡ codes "3.9999999999999999995663191310057982263970188796520233154296875"
+text_18 : decimal_text (pos 9223372036854775807) (pos 61)
+    ≡ codes "3.9999999999999999995663191310057982263970188796520233154296875"
 unfolding digits size_text digits_after decimal_text
 text_18 = refl
 
@@ -288,7 +293,8 @@ text_27 : decimal_text (pos 724776818) (pos 61) ≡ codes "0.0000000003143218402
 unfolding digits size_text digits_after decimal_text
 text_27 = refl
 
-text_28 : decimal_text (negsuc 4130085082909055610) (pos 45) ≡ codes "-117384.078149287222771590677439235150814056396484375"
+text_28 : decimal_text (negsuc 4130085082909055610) (pos 45)
+    ≡ codes "-117384.078149287222771590677439235150814056396484375"
 unfolding digits size_text digits_after decimal_text
 text_28 = refl
 

@@ -1,4 +1,5 @@
--- Worked codes and the edges of words and double words, by whole numbers without bound in another language: a wrong definition here is refused.
+-- Worked codes and the edges of words and double words, by whole numbers without bound in another language: a wrong
+-- definition here is refused.
 use Rattle.std.specs.Prelude.{◌≡◌, ℕ, ℤ, pos, negsuc, ◌&&◌, ◌||◌, [], ◌∷◌, Option, Some, None, true, false, refl}
 use Rattle.std.specs.Option.{option_and_then}
 use Rattle.fx_model.specs.Machine.{Floor, Nearest, Code, Add, Sub, Mul, Div, Neg, Copy, is_word, made, kept}
@@ -9,76 +10,103 @@ word_of n c v w = option_and_then (kept n) (made c [] [] (v ∷ w ∷ []))
 
 -- ---- sums and differences of shifted words
 
-sum_1 : (word_of 8 (Add 0 1 (pos 1) (pos 0)) (negsuc 2) (pos 0) ≡ Some (negsuc 1)) × (word_of 8 (Sub 0 1 (pos 1) (pos 0)) (negsuc 2) (pos 0) ≡ Some (negsuc 1))
+sum_1 : (word_of 8 (Add 0 1 (pos 1) (pos 0)) (negsuc 2) (pos 0) ≡ Some (negsuc 1)) ×
+    (word_of 8 (Sub 0 1 (pos 1) (pos 0)) (negsuc 2) (pos 0) ≡ Some (negsuc 1))
 sum_1 = (refl, refl)
 
-sum_2 : (word_of 8 (Add 0 1 (pos 0) (pos 0)) (pos 127) (pos 1) ≡ None) × (word_of 8 (Sub 0 1 (pos 0) (pos 0)) (pos 127) (pos 1) ≡ Some (pos 126))
+sum_2 : (word_of 8 (Add 0 1 (pos 0) (pos 0)) (pos 127) (pos 1) ≡ None) ×
+    (word_of 8 (Sub 0 1 (pos 0) (pos 0)) (pos 127) (pos 1) ≡ Some (pos 126))
 sum_2 = (refl, refl)
 
-sum_3 : (word_of 8 (Add 0 1 (pos 0) (pos 1)) (pos 127) (pos 1) ≡ Some (pos 127)) × (word_of 8 (Sub 0 1 (pos 0) (pos 1)) (pos 127) (pos 1) ≡ Some (pos 127))
+sum_3 : (word_of 8 (Add 0 1 (pos 0) (pos 1)) (pos 127) (pos 1) ≡ Some (pos 127)) ×
+    (word_of 8 (Sub 0 1 (pos 0) (pos 1)) (pos 127) (pos 1) ≡ Some (pos 127))
 sum_3 = (refl, refl)
 
-sum_4 : (word_of 8 (Add 0 1 (pos 0) (pos 0)) (negsuc 127) (negsuc 0) ≡ None) × (word_of 8 (Sub 0 1 (pos 0) (pos 0)) (negsuc 127) (negsuc 0) ≡ Some (negsuc 126))
+sum_4 : (word_of 8 (Add 0 1 (pos 0) (pos 0)) (negsuc 127) (negsuc 0) ≡ None) ×
+    (word_of 8 (Sub 0 1 (pos 0) (pos 0)) (negsuc 127) (negsuc 0) ≡ Some (negsuc 126))
 sum_4 = (refl, refl)
 
-sum_5 : (word_of 8 (Add 0 1 (pos 0) (pos 0)) (negsuc 127) (pos 1) ≡ Some (negsuc 126)) × (word_of 8 (Sub 0 1 (pos 0) (pos 0)) (negsuc 127) (pos 1) ≡ None)
+sum_5 : (word_of 8 (Add 0 1 (pos 0) (pos 0)) (negsuc 127) (pos 1) ≡ Some (negsuc 126)) ×
+    (word_of 8 (Sub 0 1 (pos 0) (pos 0)) (negsuc 127) (pos 1) ≡ None)
 sum_5 = (refl, refl)
 
-sum_6 : (word_of 8 (Add 0 1 (pos 0) (pos 8)) (negsuc 127) (negsuc 0) ≡ None) × (word_of 8 (Sub 0 1 (pos 0) (pos 8)) (negsuc 127) (negsuc 0) ≡ Some (negsuc 126))
+sum_6 : (word_of 8 (Add 0 1 (pos 0) (pos 8)) (negsuc 127) (negsuc 0) ≡ None) ×
+    (word_of 8 (Sub 0 1 (pos 0) (pos 8)) (negsuc 127) (negsuc 0) ≡ Some (negsuc 126))
 sum_6 = (refl, refl)
 
-sum_7 : (word_of 8 (Add 0 1 (pos 64) (pos 64)) (negsuc 0) (pos 1) ≡ Some (negsuc 0)) × (word_of 8 (Sub 0 1 (pos 64) (pos 64)) (negsuc 0) (pos 1) ≡ Some (negsuc 0))
+sum_7 : (word_of 8 (Add 0 1 (pos 64) (pos 64)) (negsuc 0) (pos 1) ≡ Some (negsuc 0)) ×
+    (word_of 8 (Sub 0 1 (pos 64) (pos 64)) (negsuc 0) (pos 1) ≡ Some (negsuc 0))
 sum_7 = (refl, refl)
 
-sum_8 : (word_of 8 (Add 0 1 (negsuc 7) (negsuc 7)) (pos 127) (pos 127) ≡ None) × (word_of 8 (Sub 0 1 (negsuc 7) (negsuc 7)) (pos 127) (pos 127) ≡ Some (pos 0))
+sum_8 : (word_of 8 (Add 0 1 (negsuc 7) (negsuc 7)) (pos 127) (pos 127) ≡ None) ×
+    (word_of 8 (Sub 0 1 (negsuc 7) (negsuc 7)) (pos 127) (pos 127) ≡ Some (pos 0))
 sum_8 = (refl, refl)
 
-sum_9 : (word_of 8 (Add 0 1 (negsuc 5) (negsuc 5)) (pos 1) (pos 1) ≡ None) × (word_of 8 (Sub 0 1 (negsuc 5) (negsuc 5)) (pos 1) (pos 1) ≡ Some (pos 0))
+sum_9 : (word_of 8 (Add 0 1 (negsuc 5) (negsuc 5)) (pos 1) (pos 1) ≡ None) ×
+    (word_of 8 (Sub 0 1 (negsuc 5) (negsuc 5)) (pos 1) (pos 1) ≡ Some (pos 0))
 sum_9 = (refl, refl)
 
-sum_10 : (word_of 8 (Add 0 1 (negsuc 6) (pos 0)) (pos 1) (pos 0) ≡ None) × (word_of 8 (Sub 0 1 (negsuc 6) (pos 0)) (pos 1) (pos 0) ≡ None)
+sum_10 : (word_of 8 (Add 0 1 (negsuc 6) (pos 0)) (pos 1) (pos 0) ≡ None) ×
+    (word_of 8 (Sub 0 1 (negsuc 6) (pos 0)) (pos 1) (pos 0) ≡ None)
 sum_10 = (refl, refl)
 
-sum_11 : (word_of 8 (Add 0 1 (negsuc 6) (pos 0)) (negsuc 0) (pos 0) ≡ Some (negsuc 127)) × (word_of 8 (Sub 0 1 (negsuc 6) (pos 0)) (negsuc 0) (pos 0) ≡ Some (negsuc 127))
+sum_11 : (word_of 8 (Add 0 1 (negsuc 6) (pos 0)) (negsuc 0) (pos 0) ≡ Some (negsuc 127)) ×
+    (word_of 8 (Sub 0 1 (negsuc 6) (pos 0)) (negsuc 0) (pos 0) ≡ Some (negsuc 127))
 sum_11 = (refl, refl)
 
-sum_12 : (word_of 8 (Add 0 1 (negsuc 7) (negsuc 6)) (pos 0) (negsuc 0) ≡ Some (negsuc 127)) × (word_of 8 (Sub 0 1 (negsuc 7) (negsuc 6)) (pos 0) (negsuc 0) ≡ None)
+sum_12 : (word_of 8 (Add 0 1 (negsuc 7) (negsuc 6)) (pos 0) (negsuc 0) ≡ Some (negsuc 127)) ×
+    (word_of 8 (Sub 0 1 (negsuc 7) (negsuc 6)) (pos 0) (negsuc 0) ≡ None)
 sum_12 = (refl, refl)
 
-sum_13 : (word_of 32 (Add 0 1 (negsuc 31) (negsuc 31)) (pos 2147483647) (pos 2147483647) ≡ None) × (word_of 32 (Sub 0 1 (negsuc 31) (negsuc 31)) (pos 2147483647) (pos 2147483647) ≡ Some (pos 0))
+sum_13 : (word_of 32 (Add 0 1 (negsuc 31) (negsuc 31)) (pos 2147483647) (pos 2147483647) ≡ None) ×
+    (word_of 32 (Sub 0 1 (negsuc 31) (negsuc 31)) (pos 2147483647) (pos 2147483647) ≡ Some (pos 0))
 sum_13 = (refl, refl)
 
-sum_14 : (word_of 32 (Add 0 1 (negsuc 31) (negsuc 31)) (negsuc 2147483647) (negsuc 2147483647) ≡ None) × (word_of 32 (Sub 0 1 (negsuc 31) (negsuc 31)) (negsuc 2147483647) (negsuc 2147483647) ≡ Some (pos 0))
+sum_14 : (word_of 32 (Add 0 1 (negsuc 31) (negsuc 31)) (negsuc 2147483647) (negsuc 2147483647) ≡ None) ×
+    (word_of 32 (Sub 0 1 (negsuc 31) (negsuc 31)) (negsuc 2147483647) (negsuc 2147483647) ≡ Some (pos 0))
 sum_14 = (refl, refl)
 
-sum_15 : (word_of 32 (Add 0 1 (pos 64) (pos 31)) (negsuc 2147483647) (negsuc 2147483647) ≡ Some (negsuc 1)) × (word_of 32 (Sub 0 1 (pos 64) (pos 31)) (negsuc 2147483647) (negsuc 2147483647) ≡ Some (pos 0))
+sum_15 : (word_of 32 (Add 0 1 (pos 64) (pos 31)) (negsuc 2147483647) (negsuc 2147483647) ≡ Some (negsuc 1)) ×
+    (word_of 32 (Sub 0 1 (pos 64) (pos 31)) (negsuc 2147483647) (negsuc 2147483647) ≡ Some (pos 0))
 sum_15 = (refl, refl)
 
-sum_16 : (word_of 32 (Add 0 1 (negsuc 31) (negsuc 31)) (negsuc 2147483647) (pos 2147483647) ≡ None) × (word_of 32 (Sub 0 1 (negsuc 31) (negsuc 31)) (negsuc 2147483647) (pos 2147483647) ≡ None)
+sum_16 : (word_of 32 (Add 0 1 (negsuc 31) (negsuc 31)) (negsuc 2147483647) (pos 2147483647) ≡ None) ×
+    (word_of 32 (Sub 0 1 (negsuc 31) (negsuc 31)) (negsuc 2147483647) (pos 2147483647) ≡ None)
 sum_16 = (refl, refl)
 
-sum_17 : (word_of 40 (Add 0 1 (negsuc 39) (negsuc 39)) (negsuc 549755813887) (pos 549755813887) ≡ None) × (word_of 40 (Sub 0 1 (negsuc 39) (negsuc 39)) (negsuc 549755813887) (pos 549755813887) ≡ None)
+sum_17 : (word_of 40 (Add 0 1 (negsuc 39) (negsuc 39)) (negsuc 549755813887) (pos 549755813887) ≡ None) ×
+    (word_of 40 (Sub 0 1 (negsuc 39) (negsuc 39)) (negsuc 549755813887) (pos 549755813887) ≡ None)
 sum_17 = (refl, refl)
 
-sum_18 : (word_of 40 (Add 0 1 (negsuc 37) (negsuc 37)) (pos 1) (pos 1) ≡ None) × (word_of 40 (Sub 0 1 (negsuc 37) (negsuc 37)) (pos 1) (pos 1) ≡ Some (pos 0))
+sum_18 : (word_of 40 (Add 0 1 (negsuc 37) (negsuc 37)) (pos 1) (pos 1) ≡ None) ×
+    (word_of 40 (Sub 0 1 (negsuc 37) (negsuc 37)) (pos 1) (pos 1) ≡ Some (pos 0))
 sum_18 = (refl, refl)
 
-sum_19 : (word_of 64 (Add 0 1 (pos 0) (pos 0)) (pos 9223372036854775807) (pos 1) ≡ None) × (word_of 64 (Sub 0 1 (pos 0) (pos 0)) (pos 9223372036854775807) (pos 1) ≡ Some (pos 9223372036854775806))
+sum_19 : (word_of 64 (Add 0 1 (pos 0) (pos 0)) (pos 9223372036854775807) (pos 1) ≡ None) ×
+    (word_of 64 (Sub 0 1 (pos 0) (pos 0)) (pos 9223372036854775807) (pos 1) ≡ Some (pos 9223372036854775806))
 sum_19 = (refl, refl)
 
-sum_20 : (word_of 64 (Add 0 1 (pos 0) (pos 0)) (negsuc 9223372036854775807) (negsuc 0) ≡ None) × (word_of 64 (Sub 0 1 (pos 0) (pos 0)) (negsuc 9223372036854775807) (negsuc 0) ≡ Some (negsuc 9223372036854775806))
+sum_20 : (word_of 64 (Add 0 1 (pos 0) (pos 0)) (negsuc 9223372036854775807) (negsuc 0) ≡ None) ×
+    (word_of 64 (Sub 0 1 (pos 0) (pos 0)) (negsuc 9223372036854775807) (negsuc 0) ≡ Some (negsuc 9223372036854775806))
 sum_20 = (refl, refl)
 
-sum_21 : (word_of 64 (Add 0 1 (pos 64) (pos 63)) (negsuc 9223372036854775807) (pos 9223372036854775807) ≡ Some (negsuc 0)) × (word_of 64 (Sub 0 1 (pos 64) (pos 63)) (negsuc 9223372036854775807) (pos 9223372036854775807) ≡ Some (negsuc 0))
+sum_21 : (word_of 64 (Add 0 1 (pos 64) (pos 63)) (negsuc 9223372036854775807) (pos 9223372036854775807)
+    ≡ Some (negsuc 0)) × (word_of 64 (Sub 0 1 (pos 64) (pos 63)) (negsuc 9223372036854775807) (pos 9223372036854775807)
+    ≡ Some (negsuc 0))
 sum_21 = (refl, refl)
 
-sum_22 : (word_of 64 (Add 0 1 (negsuc 63) (negsuc 63)) (negsuc 9223372036854775807) (negsuc 9223372036854775807) ≡ None) × (word_of 64 (Sub 0 1 (negsuc 63) (negsuc 63)) (negsuc 9223372036854775807) (negsuc 9223372036854775807) ≡ Some (pos 0))
+sum_22 : (word_of 64 (Add 0 1 (negsuc 63) (negsuc 63)) (negsuc 9223372036854775807) (negsuc 9223372036854775807)
+    ≡ None) × (word_of 64 (Sub 0 1 (negsuc 63) (negsuc 63)) (negsuc 9223372036854775807) (negsuc 9223372036854775807)
+    ≡ Some (pos 0))
 sum_22 = (refl, refl)
 
-sum_23 : (word_of 64 (Add 0 1 (pos 1) (pos 1)) (negsuc 9223372036854775807) (negsuc 9223372036854775807) ≡ Some (negsuc 9223372036854775807)) × (word_of 64 (Sub 0 1 (pos 1) (pos 1)) (negsuc 9223372036854775807) (negsuc 9223372036854775807) ≡ Some (pos 0))
+sum_23 : (word_of 64 (Add 0 1 (pos 1) (pos 1)) (negsuc 9223372036854775807) (negsuc 9223372036854775807)
+    ≡ Some (negsuc 9223372036854775807)) ×
+    (word_of 64 (Sub 0 1 (pos 1) (pos 1)) (negsuc 9223372036854775807) (negsuc 9223372036854775807) ≡ Some (pos 0))
 sum_23 = (refl, refl)
 
-sum_24 : (word_of 64 (Add 0 1 (negsuc 63) (negsuc 63)) (pos 9223372036854775807) (pos 9223372036854775807) ≡ None) × (word_of 64 (Sub 0 1 (negsuc 63) (negsuc 63)) (pos 9223372036854775807) (pos 9223372036854775807) ≡ Some (pos 0))
+sum_24 : (word_of 64 (Add 0 1 (negsuc 63) (negsuc 63)) (pos 9223372036854775807) (pos 9223372036854775807) ≡ None) ×
+    (word_of 64 (Sub 0 1 (negsuc 63) (negsuc 63)) (pos 9223372036854775807) (pos 9223372036854775807) ≡ Some (pos 0))
 sum_24 = (refl, refl)
 
 -- ---- products, rounded down
@@ -134,10 +162,12 @@ product_16 = refl
 product_17 : word_of 64 (Mul Floor 0 1 62) (negsuc 9223372036854775807) (negsuc 9223372036854775807) ≡ None
 product_17 = refl
 
-product_18 : word_of 64 (Mul Floor 0 1 64) (negsuc 9223372036854775807) (negsuc 9223372036854775807) ≡ Some (pos 4611686018427387904)
+product_18 : word_of 64 (Mul Floor 0 1 64) (negsuc 9223372036854775807) (negsuc 9223372036854775807)
+    ≡ Some (pos 4611686018427387904)
 product_18 = refl
 
-product_19 : word_of 64 (Mul Floor 0 1 63) (negsuc 9223372036854775807) (pos 9223372036854775807) ≡ Some (negsuc 9223372036854775806)
+product_19 : word_of 64 (Mul Floor 0 1 63) (negsuc 9223372036854775807) (pos 9223372036854775807)
+    ≡ Some (negsuc 9223372036854775806)
 product_19 = refl
 
 product_20 : word_of 64 (Mul Floor 0 1 1) (pos 3) (negsuc 0) ≡ Some (negsuc 1)
@@ -208,7 +238,8 @@ quotient_20 = refl
 quotient_21 : word_of 64 (Div 0 1 64) (pos 1) (negsuc 2) ≡ Some (negsuc 6148914691236517204)
 quotient_21 = refl
 
-quotient_22 : word_of 64 (Div 0 1 62) (negsuc 9223372036854775807) (negsuc 9223372036854775807) ≡ Some (pos 4611686018427387904)
+quotient_22 : word_of 64 (Div 0 1 62) (negsuc 9223372036854775807) (negsuc 9223372036854775807)
+    ≡ Some (pos 4611686018427387904)
 quotient_22 = refl
 
 quotient_23 : word_of 64 (Div 0 1 63) (negsuc 9223372036854775807) (negsuc 9223372036854775807) ≡ None
@@ -216,67 +247,88 @@ quotient_23 = refl
 
 -- ---- copies, rounded down, and opposites
 
-copy_1 : (word_of 8 (Copy Floor 0 (pos 1)) (negsuc 2) (pos 0) ≡ Some (negsuc 1)) × (word_of 8 (Neg 0) (negsuc 2) (pos 0) ≡ Some (pos 3))
+copy_1 : (word_of 8 (Copy Floor 0 (pos 1)) (negsuc 2) (pos 0) ≡ Some (negsuc 1)) ×
+    (word_of 8 (Neg 0) (negsuc 2) (pos 0) ≡ Some (pos 3))
 copy_1 = (refl, refl)
 
-copy_2 : (word_of 8 (Copy Floor 0 (pos 0)) (negsuc 127) (pos 0) ≡ Some (negsuc 127)) × (word_of 8 (Neg 0) (negsuc 127) (pos 0) ≡ None)
+copy_2 : (word_of 8 (Copy Floor 0 (pos 0)) (negsuc 127) (pos 0) ≡ Some (negsuc 127)) ×
+    (word_of 8 (Neg 0) (negsuc 127) (pos 0) ≡ None)
 copy_2 = (refl, refl)
 
-copy_3 : (word_of 8 (Copy Floor 0 (pos 0)) (pos 127) (pos 0) ≡ Some (pos 127)) × (word_of 8 (Neg 0) (pos 127) (pos 0) ≡ Some (negsuc 126))
+copy_3 : (word_of 8 (Copy Floor 0 (pos 0)) (pos 127) (pos 0) ≡ Some (pos 127)) ×
+    (word_of 8 (Neg 0) (pos 127) (pos 0) ≡ Some (negsuc 126))
 copy_3 = (refl, refl)
 
-copy_4 : (word_of 8 (Copy Floor 0 (pos 64)) (negsuc 0) (pos 0) ≡ Some (negsuc 0)) × (word_of 8 (Neg 0) (negsuc 0) (pos 0) ≡ Some (pos 1))
+copy_4 : (word_of 8 (Copy Floor 0 (pos 64)) (negsuc 0) (pos 0) ≡ Some (negsuc 0)) ×
+    (word_of 8 (Neg 0) (negsuc 0) (pos 0) ≡ Some (pos 1))
 copy_4 = (refl, refl)
 
-copy_5 : (word_of 8 (Copy Floor 0 (pos 64)) (pos 127) (pos 0) ≡ Some (pos 0)) × (word_of 8 (Neg 0) (pos 127) (pos 0) ≡ Some (negsuc 126))
+copy_5 : (word_of 8 (Copy Floor 0 (pos 64)) (pos 127) (pos 0) ≡ Some (pos 0)) ×
+    (word_of 8 (Neg 0) (pos 127) (pos 0) ≡ Some (negsuc 126))
 copy_5 = (refl, refl)
 
-copy_6 : (word_of 8 (Copy Floor 0 (negsuc 5)) (pos 1) (pos 0) ≡ Some (pos 64)) × (word_of 8 (Neg 0) (pos 1) (pos 0) ≡ Some (negsuc 0))
+copy_6 : (word_of 8 (Copy Floor 0 (negsuc 5)) (pos 1) (pos 0) ≡ Some (pos 64)) ×
+    (word_of 8 (Neg 0) (pos 1) (pos 0) ≡ Some (negsuc 0))
 copy_6 = (refl, refl)
 
-copy_7 : (word_of 8 (Copy Floor 0 (negsuc 6)) (pos 1) (pos 0) ≡ None) × (word_of 8 (Neg 0) (pos 1) (pos 0) ≡ Some (negsuc 0))
+copy_7 : (word_of 8 (Copy Floor 0 (negsuc 6)) (pos 1) (pos 0) ≡ None) ×
+    (word_of 8 (Neg 0) (pos 1) (pos 0) ≡ Some (negsuc 0))
 copy_7 = (refl, refl)
 
-copy_8 : (word_of 8 (Copy Floor 0 (negsuc 6)) (negsuc 0) (pos 0) ≡ Some (negsuc 127)) × (word_of 8 (Neg 0) (negsuc 0) (pos 0) ≡ Some (pos 1))
+copy_8 : (word_of 8 (Copy Floor 0 (negsuc 6)) (negsuc 0) (pos 0) ≡ Some (negsuc 127)) ×
+    (word_of 8 (Neg 0) (negsuc 0) (pos 0) ≡ Some (pos 1))
 copy_8 = (refl, refl)
 
-copy_9 : (word_of 8 (Copy Floor 0 (negsuc 7)) (negsuc 0) (pos 0) ≡ None) × (word_of 8 (Neg 0) (negsuc 0) (pos 0) ≡ Some (pos 1))
+copy_9 : (word_of 8 (Copy Floor 0 (negsuc 7)) (negsuc 0) (pos 0) ≡ None) ×
+    (word_of 8 (Neg 0) (negsuc 0) (pos 0) ≡ Some (pos 1))
 copy_9 = (refl, refl)
 
-copy_10 : (word_of 32 (Copy Floor 0 (pos 63)) (negsuc 2147483647) (pos 0) ≡ Some (negsuc 0)) × (word_of 32 (Neg 0) (negsuc 2147483647) (pos 0) ≡ None)
+copy_10 : (word_of 32 (Copy Floor 0 (pos 63)) (negsuc 2147483647) (pos 0) ≡ Some (negsuc 0)) ×
+    (word_of 32 (Neg 0) (negsuc 2147483647) (pos 0) ≡ None)
 copy_10 = (refl, refl)
 
-copy_11 : (word_of 32 (Copy Floor 0 (negsuc 31)) (negsuc 2147483647) (pos 0) ≡ None) × (word_of 32 (Neg 0) (negsuc 2147483647) (pos 0) ≡ None)
+copy_11 : (word_of 32 (Copy Floor 0 (negsuc 31)) (negsuc 2147483647) (pos 0) ≡ None) ×
+    (word_of 32 (Neg 0) (negsuc 2147483647) (pos 0) ≡ None)
 copy_11 = (refl, refl)
 
-copy_12 : (word_of 32 (Copy Floor 0 (negsuc 30)) (negsuc 0) (pos 0) ≡ Some (negsuc 2147483647)) × (word_of 32 (Neg 0) (negsuc 0) (pos 0) ≡ Some (pos 1))
+copy_12 : (word_of 32 (Copy Floor 0 (negsuc 30)) (negsuc 0) (pos 0) ≡ Some (negsuc 2147483647)) ×
+    (word_of 32 (Neg 0) (negsuc 0) (pos 0) ≡ Some (pos 1))
 copy_12 = (refl, refl)
 
-copy_13 : (word_of 48 (Copy Floor 0 (negsuc 47)) (negsuc 140737488355327) (pos 0) ≡ None) × (word_of 48 (Neg 0) (negsuc 140737488355327) (pos 0) ≡ None)
+copy_13 : (word_of 48 (Copy Floor 0 (negsuc 47)) (negsuc 140737488355327) (pos 0) ≡ None) ×
+    (word_of 48 (Neg 0) (negsuc 140737488355327) (pos 0) ≡ None)
 copy_13 = (refl, refl)
 
-copy_14 : (word_of 48 (Copy Floor 0 (negsuc 0)) (pos 140737488355327) (pos 0) ≡ None) × (word_of 48 (Neg 0) (pos 140737488355327) (pos 0) ≡ Some (negsuc 140737488355326))
+copy_14 : (word_of 48 (Copy Floor 0 (negsuc 0)) (pos 140737488355327) (pos 0) ≡ None) ×
+    (word_of 48 (Neg 0) (pos 140737488355327) (pos 0) ≡ Some (negsuc 140737488355326))
 copy_14 = (refl, refl)
 
-copy_15 : (word_of 64 (Copy Floor 0 (pos 63)) (negsuc 9223372036854775807) (pos 0) ≡ Some (negsuc 0)) × (word_of 64 (Neg 0) (negsuc 9223372036854775807) (pos 0) ≡ None)
+copy_15 : (word_of 64 (Copy Floor 0 (pos 63)) (negsuc 9223372036854775807) (pos 0) ≡ Some (negsuc 0)) ×
+    (word_of 64 (Neg 0) (negsuc 9223372036854775807) (pos 0) ≡ None)
 copy_15 = (refl, refl)
 
-copy_16 : (word_of 64 (Copy Floor 0 (pos 64)) (negsuc 9223372036854775807) (pos 0) ≡ Some (negsuc 0)) × (word_of 64 (Neg 0) (negsuc 9223372036854775807) (pos 0) ≡ None)
+copy_16 : (word_of 64 (Copy Floor 0 (pos 64)) (negsuc 9223372036854775807) (pos 0) ≡ Some (negsuc 0)) ×
+    (word_of 64 (Neg 0) (negsuc 9223372036854775807) (pos 0) ≡ None)
 copy_16 = (refl, refl)
 
-copy_17 : (word_of 64 (Copy Floor 0 (negsuc 62)) (negsuc 0) (pos 0) ≡ Some (negsuc 9223372036854775807)) × (word_of 64 (Neg 0) (negsuc 0) (pos 0) ≡ Some (pos 1))
+copy_17 : (word_of 64 (Copy Floor 0 (negsuc 62)) (negsuc 0) (pos 0) ≡ Some (negsuc 9223372036854775807)) ×
+    (word_of 64 (Neg 0) (negsuc 0) (pos 0) ≡ Some (pos 1))
 copy_17 = (refl, refl)
 
-copy_18 : (word_of 64 (Copy Floor 0 (negsuc 63)) (negsuc 0) (pos 0) ≡ None) × (word_of 64 (Neg 0) (negsuc 0) (pos 0) ≡ Some (pos 1))
+copy_18 : (word_of 64 (Copy Floor 0 (negsuc 63)) (negsuc 0) (pos 0) ≡ None) ×
+    (word_of 64 (Neg 0) (negsuc 0) (pos 0) ≡ Some (pos 1))
 copy_18 = (refl, refl)
 
-copy_19 : (word_of 64 (Copy Floor 0 (negsuc 62)) (pos 1) (pos 0) ≡ None) × (word_of 64 (Neg 0) (pos 1) (pos 0) ≡ Some (negsuc 0))
+copy_19 : (word_of 64 (Copy Floor 0 (negsuc 62)) (pos 1) (pos 0) ≡ None) ×
+    (word_of 64 (Neg 0) (pos 1) (pos 0) ≡ Some (negsuc 0))
 copy_19 = (refl, refl)
 
-copy_20 : (word_of 64 (Copy Floor 0 (pos 64)) (pos 9223372036854775807) (pos 0) ≡ Some (pos 0)) × (word_of 64 (Neg 0) (pos 9223372036854775807) (pos 0) ≡ Some (negsuc 9223372036854775806))
+copy_20 : (word_of 64 (Copy Floor 0 (pos 64)) (pos 9223372036854775807) (pos 0) ≡ Some (pos 0)) ×
+    (word_of 64 (Neg 0) (pos 9223372036854775807) (pos 0) ≡ Some (negsuc 9223372036854775806))
 copy_20 = (refl, refl)
 
-copy_21 : (word_of 64 (Copy Floor 0 (pos 0)) (negsuc 9223372036854775807) (pos 0) ≡ Some (negsuc 9223372036854775807)) × (word_of 64 (Neg 0) (negsuc 9223372036854775807) (pos 0) ≡ None)
+copy_21 : (word_of 64 (Copy Floor 0 (pos 0)) (negsuc 9223372036854775807) (pos 0) ≡ Some (negsuc 9223372036854775807)) ×
+    (word_of 64 (Neg 0) (negsuc 9223372036854775807) (pos 0) ≡ None)
 copy_21 = (refl, refl)
 
 -- ---- products, to the nearest
@@ -338,13 +390,16 @@ near_product_18 = refl
 near_product_19 : word_of 56 (Mul Nearest 0 1 2) (negsuc 36028797018963967) (pos 3) ≡ Some (negsuc 27021597764222975)
 near_product_19 = refl
 
-near_product_20 : word_of 64 (Mul Nearest 0 1 126) (negsuc 9223372036854775807) (negsuc 9223372036854775807) ≡ Some (pos 1)
+near_product_20 : word_of 64 (Mul Nearest 0 1 126) (negsuc 9223372036854775807) (negsuc 9223372036854775807)
+    ≡ Some (pos 1)
 near_product_20 = refl
 
-near_product_21 : word_of 64 (Mul Nearest 0 1 63) (negsuc 9223372036854775807) (pos 9223372036854775807) ≡ Some (negsuc 9223372036854775806)
+near_product_21 : word_of 64 (Mul Nearest 0 1 63) (negsuc 9223372036854775807) (pos 9223372036854775807)
+    ≡ Some (negsuc 9223372036854775806)
 near_product_21 = refl
 
-near_product_22 : word_of 64 (Mul Nearest 0 1 64) (pos 9223372036854775807) (pos 9223372036854775807) ≡ Some (pos 4611686018427387903)
+near_product_22 : word_of 64 (Mul Nearest 0 1 64) (pos 9223372036854775807) (pos 9223372036854775807)
+    ≡ Some (pos 4611686018427387903)
 near_product_22 = refl
 
 near_product_23 : word_of 64 (Mul Nearest 0 1 1) (pos 3) (negsuc 0) ≡ Some (negsuc 0)
@@ -406,7 +461,8 @@ near_copy_16 = refl
 near_copy_17 : word_of 64 (Copy Nearest 0 (pos 1)) (pos 9223372036854775807) (pos 0) ≡ Some (pos 4611686018427387904)
 near_copy_17 = refl
 
-near_copy_18 : word_of 64 (Copy Nearest 0 (pos 1)) (negsuc 9223372036854775807) (pos 0) ≡ Some (negsuc 4611686018427387903)
+near_copy_18 : word_of 64 (Copy Nearest 0 (pos 1)) (negsuc 9223372036854775807) (pos 0)
+    ≡ Some (negsuc 4611686018427387903)
 near_copy_18 = refl
 
 near_copy_19 : word_of 64 (Copy Nearest 0 (pos 64)) (pos 9223372036854775807) (pos 0) ≡ Some (pos 0)
@@ -423,26 +479,34 @@ near_copy_22 = refl
 
 -- ---- the ends of words
 
-ends_1 : (is_word 8 (negsuc 127) && is_word 8 (pos 127) ≡ true) × (is_word 8 (negsuc 128) || is_word 8 (pos 128) ≡ false)
+ends_1 : (is_word 8 (negsuc 127) && is_word 8 (pos 127) ≡ true) ×
+    (is_word 8 (negsuc 128) || is_word 8 (pos 128) ≡ false)
 ends_1 = (refl, refl)
 
-ends_2 : (is_word 16 (negsuc 32767) && is_word 16 (pos 32767) ≡ true) × (is_word 16 (negsuc 32768) || is_word 16 (pos 32768) ≡ false)
+ends_2 : (is_word 16 (negsuc 32767) && is_word 16 (pos 32767) ≡ true) ×
+    (is_word 16 (negsuc 32768) || is_word 16 (pos 32768) ≡ false)
 ends_2 = (refl, refl)
 
-ends_3 : (is_word 24 (negsuc 8388607) && is_word 24 (pos 8388607) ≡ true) × (is_word 24 (negsuc 8388608) || is_word 24 (pos 8388608) ≡ false)
+ends_3 : (is_word 24 (negsuc 8388607) && is_word 24 (pos 8388607) ≡ true) ×
+    (is_word 24 (negsuc 8388608) || is_word 24 (pos 8388608) ≡ false)
 ends_3 = (refl, refl)
 
-ends_4 : (is_word 32 (negsuc 2147483647) && is_word 32 (pos 2147483647) ≡ true) × (is_word 32 (negsuc 2147483648) || is_word 32 (pos 2147483648) ≡ false)
+ends_4 : (is_word 32 (negsuc 2147483647) && is_word 32 (pos 2147483647) ≡ true) ×
+    (is_word 32 (negsuc 2147483648) || is_word 32 (pos 2147483648) ≡ false)
 ends_4 = (refl, refl)
 
-ends_5 : (is_word 40 (negsuc 549755813887) && is_word 40 (pos 549755813887) ≡ true) × (is_word 40 (negsuc 549755813888) || is_word 40 (pos 549755813888) ≡ false)
+ends_5 : (is_word 40 (negsuc 549755813887) && is_word 40 (pos 549755813887) ≡ true) ×
+    (is_word 40 (negsuc 549755813888) || is_word 40 (pos 549755813888) ≡ false)
 ends_5 = (refl, refl)
 
-ends_6 : (is_word 48 (negsuc 140737488355327) && is_word 48 (pos 140737488355327) ≡ true) × (is_word 48 (negsuc 140737488355328) || is_word 48 (pos 140737488355328) ≡ false)
+ends_6 : (is_word 48 (negsuc 140737488355327) && is_word 48 (pos 140737488355327) ≡ true) ×
+    (is_word 48 (negsuc 140737488355328) || is_word 48 (pos 140737488355328) ≡ false)
 ends_6 = (refl, refl)
 
-ends_7 : (is_word 56 (negsuc 36028797018963967) && is_word 56 (pos 36028797018963967) ≡ true) × (is_word 56 (negsuc 36028797018963968) || is_word 56 (pos 36028797018963968) ≡ false)
+ends_7 : (is_word 56 (negsuc 36028797018963967) && is_word 56 (pos 36028797018963967) ≡ true) ×
+    (is_word 56 (negsuc 36028797018963968) || is_word 56 (pos 36028797018963968) ≡ false)
 ends_7 = (refl, refl)
 
-ends_8 : (is_word 64 (negsuc 9223372036854775807) && is_word 64 (pos 9223372036854775807) ≡ true) × (is_word 64 (negsuc 9223372036854775808) || is_word 64 (pos 9223372036854775808) ≡ false)
+ends_8 : (is_word 64 (negsuc 9223372036854775807) && is_word 64 (pos 9223372036854775807) ≡ true) ×
+    (is_word 64 (negsuc 9223372036854775808) || is_word 64 (pos 9223372036854775808) ≡ false)
 ends_8 = (refl, refl)

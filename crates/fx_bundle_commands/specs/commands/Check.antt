@@ -36,7 +36,8 @@ report p c = codes "accepted\n" ++ bound_lines p c 0 p.outputs
 -- how the printing ends
 pub data ReportEnds (old new : Streams) (b : Parts) (fn : Function) : End → Type 0 where
   reported : Appends old.taken new.taken (report b.program b.certificate) → ReportEnds old new b fn Done
-  unwritten : Rose old.write_faults new.write_faults → AppendsFront old.taken new.taken (report b.program b.certificate) → ReportEnds old new b fn WriteFault
+  unwritten : Rose old.write_faults new.write_faults →
+      AppendsFront old.taken new.taken (report b.program b.certificate) → ReportEnds old new b fn WriteFault
 
 -- all of it
 abbrev pub CheckEnds : Option Files → ℕ → ℕ → Streams → Streams → List ℕ → End → Type 0

@@ -16,13 +16,14 @@ use Rattle.fx_bundle_commands.specs.commands.Texts.{PrintsText}
 abbrev pub migrated : Parts → Parts
 migrated b = record b { program = second_version b.program }
 
--- it is a bundle that is accepted for the same function, runs as before, and has the bounds that it had; of the second version
--- it is the bundle itself
+-- it is a bundle that is accepted for the same function, runs as before, and has the bounds that it had; of the second
+-- version it is the bundle itself
 pub record IsMigrated (b : Parts) (fn : Function) : Type 0 where
   pub lawful : IsLawfulBundle (migrated b)
   pub accepted : IsAcceptedAs (migrated b) fn
   pub run : (rows : List (List Rational)) → machine_run (migrated b).program rows ≡ machine_run b.program rows
-  pub bound : (j : ℕ) → certified_bound (migrated b).program (migrated b).certificate j ≡ certified_bound b.program b.certificate j
+  pub bound : (j : ℕ) → certified_bound (migrated b).program (migrated b).certificate j
+      ≡ certified_bound b.program b.certificate j
   pub itself : b.program.version ≡ 2 → migrated b ≡ b
 
 -- how the writing ends

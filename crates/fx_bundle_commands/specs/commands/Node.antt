@@ -1,4 +1,5 @@
--- What `node --units M FILE` does: it runs the rows of each unit by themselves, and prints their lines in the order of the input.
+-- What `node --units M FILE` does: it runs the rows of each unit by themselves, and prints their lines in the order of
+-- the input.
 use Rattle.std.specs.Prelude.{ℕ, List, Option}
 use Rattle.fx_base.specs.Shelf.{Files}
 use Rattle.fx_base.specs.Text.{lines_in}
@@ -17,8 +18,8 @@ abbrev pub bad_end : List Input → ℕ → LineFlaw → End
 bad_end inputs line (InRow fault) = BadRow inputs line fault
 bad_end inputs line (InUnit kind) = BadUnit line kind
 
--- what it does with an accepted bundle, whose source means fn: the rows end so, and of the rows that any input has for each unit the
--- program is worth what is certified
+-- what it does with an accepted bundle, whose source means fn: the rows end so, and of the rows that any input has for
+-- each unit the program is worth what is certified
 abbrev pub RunsUnits : ℕ → Streams → Streams → Parts → Function → End → Type 0
 RunsUnits units old new b fn end =
     RunsLines (node_outcome fn b.program units) (bad_end fn.inputs) (UnitsLaw fn b.program b.certificate) old new end

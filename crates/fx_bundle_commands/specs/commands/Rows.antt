@@ -16,13 +16,18 @@ use Rattle.fx_bundle_commands.specs.Outside.{Streams}
 use Rattle.fx_ends.specs.Ends.{End, Done, ReadFault, WriteFault, NoMemory, OverLimit}
 use Rattle.fx_bundle_commands.specs.Opening.{IsAcceptedAs, IsBundle}
 
--- how the lines of the input end, and what stands written then: o is what comes of lines, and `bad` the end at a line of this number
--- that is wrong in this way
-pub data RowsEnd {T : Type 0} (o : List (List ℕ) → Outcome T) (bad : ℕ → T → End) (old new : Streams) : End → Type 0 where
-  all_run : (count : ℕ) → IfSome old.left (λ all. IsDone (o (lines_in all)) count old.taken new.taken) → IsAtEnd new.left → RowsEnd o bad old new Done
-  bad_line : (line : ℕ) (flaw : T) → IsDue (λ flaw. flaw) o old.left new.left old.taken new.taken (run.Row line flaw) → RowsEnd o bad old new (bad line flaw)
-  unread : Rose old.read_faults new.read_faults → IsDue (λ flaw. flaw) o old.left new.left old.taken new.taken run.ReadFault → RowsEnd o bad old new ReadFault
-  unwritten : Rose old.write_faults new.write_faults → IsDue (λ flaw. flaw) o old.left new.left old.taken new.taken run.WriteFault → RowsEnd o bad old new WriteFault
+-- how the lines of the input end, and what stands written then: o is what comes of lines, and `bad` the end at a line
+-- of this number that is wrong in this way
+pub data RowsEnd {T : Type 0} (o : List (List ℕ) → Outcome T) (bad : ℕ → T → End) (old new : Streams) : End →
+    Type 0 where
+  all_run : (count : ℕ) → IfSome old.left (λ all. IsDone (o (lines_in all)) count old.taken new.taken) →
+      IsAtEnd new.left → RowsEnd o bad old new Done
+  bad_line : (line : ℕ) (flaw : T) → IsDue (λ flaw. flaw) o old.left new.left old.taken new.taken (run.Row line flaw) →
+      RowsEnd o bad old new (bad line flaw)
+  unread : Rose old.read_faults new.read_faults →
+      IsDue (λ flaw. flaw) o old.left new.left old.taken new.taken run.ReadFault → RowsEnd o bad old new ReadFault
+  unwritten : Rose old.write_faults new.write_faults →
+      IsDue (λ flaw. flaw) o old.left new.left old.taken new.taken run.WriteFault → RowsEnd o bad old new WriteFault
   long : IsDue (λ flaw. flaw) o old.left new.left old.taken new.taken run.TooLong → RowsEnd o bad old new OverLimit
   no_memory : IsDue (λ flaw. flaw) o old.left new.left old.taken new.taken run.Memory → RowsEnd o bad old new NoMemory
 
@@ -33,14 +38,16 @@ pub record Takes (old new : Streams) (end : End) : Type 0 where
   pub over : (end ≡ OverLimit) ↔ (rows_limit < length bytes)
 
 -- what it does with an accepted bundle: the lines end so, and this law holds of any lines
-pub record RunsLines {T : Type 0} (o : List (List ℕ) → Outcome T) (bad : ℕ → T → End) (Law : Type 0) (old new : Streams) (end : End) : Type 0 where
+pub record RunsLines {T : Type 0} (o : List (List ℕ) → Outcome T) (bad : ℕ → T →
+    End) (Law : Type 0) (old new : Streams) (end : End) : Type 0 where
   pub law : Law
   pub taken : Takes old new end
   pub rows : RowsEnd o bad old new end
 
 -- ---- promptness
 -- when the input was asked for more, exactly what FILE's accepted bundle makes of the lines taken so far was printed
-pub record HasAnswered {T : Type 0} (o : Function → Program → List (List ℕ) → Outcome T) (papers : Option Files) (name : List ℕ) (left before : Option (List ℕ)) (m : Moment) : Type 0 where
+pub record HasAnswered {T : Type 0} (o : Function → Program → List (List ℕ) →
+    Outcome T) (papers : Option Files) (name : List ℕ) (left before : Option (List ℕ)) (m : Moment) : Type 0 where
   pub bundle : Parts
   pub function : Function
   pub is_bundle : IsBundle papers name bundle

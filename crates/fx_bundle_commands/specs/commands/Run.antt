@@ -11,10 +11,11 @@ use Rattle.fx_bundle_commands.specs.Opening.{OpensThen}
 use Rattle.fx_bundle_commands.specs.Exact.{IsReady, OrNoMemory}
 use Rattle.fx_bundle_commands.specs.commands.Rows.{RunsLines, IsReadable, rows_end}
 
--- what it does with an accepted bundle, whose source means fn: its rows end so, and of the rows of any input its program is worth what
--- is certified
+-- what it does with an accepted bundle, whose source means fn: its rows end so, and of the rows of any input its
+-- program is worth what is certified
 abbrev pub Runs : Streams → Streams → Parts → Function → End → Type 0
-Runs old new b fn end = RunsLines (run_outcome fn b.program) (BadRow fn.inputs) (RowsLaw fn b.program b.certificate) old new end
+Runs old new b fn end =
+    RunsLines (run_outcome fn b.program) (BadRow fn.inputs) (RowsLaw fn b.program b.certificate) old new end
 
 -- all of it; the shelf's faults are counted before and after
 abbrev pub RunEnds : Option Files → ℕ → ℕ → Streams → Streams → List ℕ → End → Type 0

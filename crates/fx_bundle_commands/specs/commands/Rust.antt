@@ -19,8 +19,8 @@ use Rattle.fx_bundle_commands.specs.commands.Texts.{PrintsText}
 abbrev pub rust_of : Program → Certificate → List ℕ
 rust_of p c = rust_text (routine_of p (least_widths p c))
 
--- it does the machine's step wherever that isn't stuck and each word lies in its width; so over all rows in range it gives the machine's
--- run, which isn't stuck. Nothing in it panics, and no `as` and no `<<` changes a value
+-- it does the machine's step wherever that isn't stuck and each word lies in its width; so over all rows in range it
+-- gives the machine's run, which isn't stuck. Nothing in it panics, and no `as` and no `<<` changes a value
 pub record IsRustFor (b : Parts) (fn : Function) : Type 0 where
   pub steps : DoesSteps b.program (least_widths b.program b.certificate) (rust_of b.program b.certificate)
   pub runs : TextRunsLaw fn.inputs b.program b.certificate

@@ -1,4 +1,5 @@
--- What `show FILE` does: it prints the codes of an accepted bundle with what its certificate says of them, and its bounds.
+-- What `show FILE` does: it prints the codes of an accepted bundle with what its certificate says of them, and its
+-- bounds.
 use Rattle.std.specs.Prelude.{ℕ, ℤ, pos, List, Option, [], ◌∷◌, ◌++◌, length, map}
 use Rattle.std.specs.Fmt.{decimal, signed_decimal}
 use Rattle.std.specs.List.{concat}
@@ -24,11 +25,14 @@ value_text d = concat (bound_pieces d)
 -- a code's number, instruction and point, and the ends of its range and of its error
 abbrev pub shown_fields : ℕ → List ℕ → ℤ → NodeLine → List (List ℕ)
 shown_fields n name f line =
-    decimal n ∷ name ∷ signed_decimal f ∷ value_text line.range.lo ∷ value_text line.range.hi ∷ value_text line.error.lo ∷ value_text line.error.hi ∷ []
+    decimal n ∷ name ∷ signed_decimal f ∷ value_text line.range.lo ∷ value_text line.range.hi ∷ value_text line.error.lo
+    ∷ value_text line.error.hi ∷ []
 
 -- the line of code n
 abbrev pub shown_line : Program → Certificate → ℕ → List ℕ
-shown_line p c n = line_text (shown_fields n (at [] (map instruction_name p.codes) n) (at (pos 0) (points_of p.codes) n) (at no_line c.lines n))
+shown_line p c n =
+    line_text (shown_fields n (at [] (map instruction_name p.codes) n) (at (pos 0) (points_of p.codes) n)
+    (at no_line c.lines n))
 
 -- what is printed of an accepted bundle
 abbrev pub table : Program → Certificate → List ℕ

@@ -19,7 +19,8 @@ pub fn check_file<H: Shelf, K: Sink>(
     name: &str,
     output: &mut K,
 ) -> End<'static>
-    ensures ended { (left : Option (List ℕ)) (reads : ℕ) → CheckEnds (H.papers shelf.old) (H.faults shelf.old) (H.faults shelf.new)
+    ensures ended { (left : Option (List ℕ)) (reads : ℕ) →
+        CheckEnds (H.papers shelf.old) (H.faults shelf.old) (H.faults shelf.new)
         (streams left reads (K.taken output.old) (K.faults output.old))
         (streams left reads (K.taken output.new) (K.faults output.new))
         name.now (end_of result) }

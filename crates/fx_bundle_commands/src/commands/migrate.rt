@@ -1,7 +1,7 @@
 //! `migrate FILE`: an accepted bundle as one of the second version.
 //!
-//! What is written is the text of the bundle with another version and all else as it was, so that it is accepted too. The trap:
-//! the text is made whole before anything is written, so where memory lacks nothing is written.
+//! What is written is the text of the bundle with another version and all else as it was, so that it is accepted too.
+//! The trap: the text is made whole before anything is written, so where memory lacks nothing is written.
 ghost use Rattle.std.specs.Prelude.{◌≡◌, ◌≤◌, ℕ, List, Option, IfOk, length};
 ghost use Rattle.fx_stream.specs.Promise.{Grows};
 ghost use Rattle.fx_model.specs.Limits.{source_limit};
@@ -23,7 +23,8 @@ use std::alloc::Global;
 // The text of the bundle in the second version.
 fn migrated_text(alloc: Global, opened: &Opened) -> Result<Vec<u8>, Memory>
     requires short { length opened.now.source ≤ source_limit }
-    ensures text { IfOk result (λ text. text.items ≡ text_of (migrated (with_source opened.now.certified opened.now.source))) }
+    ensures text { IfOk result
+        (λ text. text.items ≡ text_of (migrated (with_source opened.now.certified opened.now.source))) }
 {
     opened.certified.certified();
     let program = opened.certified.program().second_version(alloc)?;
@@ -34,7 +35,8 @@ fn migrated_text(alloc: Global, opened: &Opened) -> Result<Vec<u8>, Memory>
 // Writes that text.
 fn print_migrated<K: Sink>(alloc: Global, opened: &Opened, output: &mut K) -> End<'static>
     requires lawful { IsLawfulBundle (with_source opened.now.certified opened.now.source) }
-    requires accepted { IsAcceptedAs (with_source opened.now.certified opened.now.source) opened.now.certified.function }
+    requires accepted { IsAcceptedAs
+        (with_source opened.now.certified opened.now.source) opened.now.certified.function }
     ensures ended { (left : Option (List ℕ)) (reads : ℕ) → WritesMigrated
         (streams left reads (K.taken output.old) (K.faults output.old))
         (streams left reads (K.taken output.new) (K.faults output.new))
@@ -52,7 +54,8 @@ pub fn migrate_file<H: Shelf, K: Sink>(
     name: &str,
     output: &mut K,
 ) -> End<'static>
-    ensures ended { (left : Option (List ℕ)) (reads : ℕ) → MigratedEnds (H.papers shelf.old) (H.faults shelf.old) (H.faults shelf.new)
+    ensures ended { (left : Option (List ℕ)) (reads : ℕ) →
+        MigratedEnds (H.papers shelf.old) (H.faults shelf.old) (H.faults shelf.new)
         (streams left reads (K.taken output.old) (K.faults output.old))
         (streams left reads (K.taken output.new) (K.faults output.new))
         name.now (end_of result) }

@@ -55,7 +55,9 @@ fn run_units<'a, S: Source<K>, K: Sink>(
         (streams (S.left input.new) (S.faults input.new) (K.taken output.new) (K.faults output.new))
         (with_source certified.now source) certified.now.function (end_of result) }
     ensures loud { IsQuiet (end_of result) → ⊥ }
-    ensures prompt { HoldsEachTime (IsAnswered (node_outcome certified.now.function certified.now.program units) (S.left input.old) (K.taken output.old)) (S.asked input.old) (S.asked input.new) }
+    ensures prompt { HoldsEachTime
+        (IsAnswered (node_outcome certified.now.function certified.now.program units) (S.left input.old)
+        (K.taken output.old)) (S.asked input.old) (S.asked input.new) }
     ensures consumed { (taken : List ℕ) × Consumes (S.left input.old) (S.left input.new) taken }
     ensures appended { Grows (K.taken output.old) (K.taken output.new) }
 {
@@ -87,7 +89,9 @@ pub fn node_file<H: Shelf, S: Source<K>, K: Sink, N: Sink>(
         (streams (S.left input.old) (S.faults input.old) (K.taken output.old) (K.faults output.old))
         (streams (S.left input.new) (S.faults input.new) (K.taken output.new) (K.faults output.new))
         units name.now end × (IsQuiet end → (input.new ≡ input.old) × (output.new ≡ output.old)) }
-    ensures prompt { HoldsEachTime (HasAnswered (λ fn p. node_outcome fn p units) (H.papers shelf.old) name.now (S.left input.old) (K.taken output.old)) (S.asked input.old) (S.asked input.new) }
+    ensures prompt { HoldsEachTime
+        (HasAnswered (λ fn p. node_outcome fn p units) (H.papers shelf.old) name.now (S.left input.old)
+        (K.taken output.old)) (S.asked input.old) (S.asked input.new) }
     ensures untouched { IsOpen (H.papers shelf.old) name.now ⊎ ((input.new ≡ input.old) × (output.new ≡ output.old)) }
     ensures consumed { (taken : List ℕ) × Consumes (S.left input.old) (S.left input.new) taken }
     ensures appended { Grows (K.taken output.old) (K.taken output.new) }

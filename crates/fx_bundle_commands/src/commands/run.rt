@@ -60,12 +60,17 @@ fn run_kept<S: Source<K>, K: Sink>(
 ) -> Result<u64, RunFault>
     requires limit { limit < 2 ^ 64 - 1 }
     ensures done { let o = run_outcome certified.now.function certified.now.program in
-        IfOk result (λ n. IfSome (S.left source.old) (λ all. IsDone (o (lines_in all)) n (K.taken sink.old) (K.taken sink.new))) }
+        IfOk result (λ n. IfSome (S.left source.old)
+        (λ all. IsDone (o (lines_in all)) n (K.taken sink.old) (K.taken sink.new))) }
     ensures end { OnOk result (IsAtEnd (S.left source.new)) }
     ensures due { let o = run_outcome certified.now.function certified.now.program in
-        IfErr result (IsDue row_fault_of o (S.left source.old) (S.left source.new) (K.taken sink.old) (K.taken sink.new)) }
-    ensures prompt { HoldsEachTime (IsAnswered (run_outcome certified.now.function certified.now.program) (S.left source.old) (K.taken sink.old)) (S.asked source.old) (S.asked source.new) }
-    ensures taken { (taken : List ℕ) × Consumes (S.left source.old) (S.left source.new) taken × (IsErrOf result TooLong ↔ (limit < length taken)) }
+        IfErr result (IsDue row_fault_of o (S.left source.old) (S.left source.new) (K.taken sink.old)
+        (K.taken sink.new)) }
+    ensures prompt { HoldsEachTime
+        (IsAnswered (run_outcome certified.now.function certified.now.program) (S.left source.old) (K.taken sink.old))
+        (S.asked source.old) (S.asked source.new) }
+    ensures taken { (taken : List ℕ) × Consumes (S.left source.old) (S.left source.new) taken ×
+        (IsErrOf result TooLong ↔ (limit < length taken)) }
     ensures honest { RowsLaw certified.now.function certified.now.program certified.now.certificate }
     ensures grown { Grows (K.taken sink.old) (K.taken sink.new) }
     ensures read_fault { IsErrOf result ReadFault → Rose (S.faults source.old) (S.faults source.new) }
@@ -90,7 +95,9 @@ fn run_input<'a, S: Source<K>, K: Sink>(
         (streams (S.left input.new) (S.faults input.new) (K.taken output.new) (K.faults output.new))
         (with_source certified.now source) certified.now.function (end_of result) }
     ensures loud { IsQuiet (end_of result) → ⊥ }
-    ensures prompt { HoldsEachTime (IsAnswered (run_outcome certified.now.function certified.now.program) (S.left input.old) (K.taken output.old)) (S.asked input.old) (S.asked input.new) }
+    ensures prompt { HoldsEachTime
+        (IsAnswered (run_outcome certified.now.function certified.now.program) (S.left input.old) (K.taken output.old))
+        (S.asked input.old) (S.asked input.new) }
     ensures consumed { (taken : List ℕ) × Consumes (S.left input.old) (S.left input.new) taken }
     ensures appended { Grows (K.taken output.old) (K.taken output.new) }
 {
@@ -124,7 +131,9 @@ pub fn run_file<H: Shelf, S: Source<K>, K: Sink, N: Sink>(
         (streams (S.left input.old) (S.faults input.old) (K.taken output.old) (K.faults output.old))
         (streams (S.left input.new) (S.faults input.new) (K.taken output.new) (K.faults output.new))
         name.now end × (IsQuiet end → (input.new ≡ input.old) × (output.new ≡ output.old)) }
-    ensures prompt { HoldsEachTime (HasAnswered run_outcome (H.papers shelf.old) name.now (S.left input.old) (K.taken output.old)) (S.asked input.old) (S.asked input.new) }
+    ensures prompt { HoldsEachTime
+        (HasAnswered run_outcome (H.papers shelf.old) name.now (S.left input.old) (K.taken output.old))
+        (S.asked input.old) (S.asked input.new) }
     ensures untouched { IsOpen (H.papers shelf.old) name.now ⊎ ((input.new ≡ input.old) × (output.new ≡ output.old)) }
     ensures consumed { (taken : List ℕ) × Consumes (S.left input.old) (S.left input.new) taken }
     ensures appended { Grows (K.taken output.old) (K.taken output.new) }

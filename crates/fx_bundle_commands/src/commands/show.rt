@@ -21,9 +21,13 @@ use std::alloc::Global;
 
 // Writes the lines of the codes, which are this text, and those of the outputs.
 fn put_table<K: Sink>(text: &[u8], certified: &Certified, output: &mut K) -> Result<(), Failed>
-    requires { text.now ≡ numbered_lines (shown_line certified.now.program certified.now.certificate) 0 (length certified.now.program.codes) }
-    ensures all { OnOk result (Appends (K.taken output.old) (K.taken output.new) (table certified.now.program certified.now.certificate)) }
-    ensures front { OnErr result (AppendsFront (K.taken output.old) (K.taken output.new) (table certified.now.program certified.now.certificate)) }
+    requires { text.now ≡ numbered_lines (shown_line certified.now.program certified.now.certificate) 0
+        (length certified.now.program.codes) }
+    ensures all { OnOk result
+        (Appends (K.taken output.old) (K.taken output.new) (table certified.now.program certified.now.certificate)) }
+    ensures front { OnErr result
+        (AppendsFront (K.taken output.old) (K.taken output.new)
+        (table certified.now.program certified.now.certificate)) }
     ensures cause { HasCause (K.faults output.old) (K.faults output.new) result }
 {
     put_all(output, text)?;
@@ -55,7 +59,8 @@ pub fn show_file<H: Shelf, K: Sink>(
     name: &str,
     output: &mut K,
 ) -> End<'static>
-    ensures ended { (left : Option (List ℕ)) (reads : ℕ) → ShownEnds (H.papers shelf.old) (H.faults shelf.old) (H.faults shelf.new)
+    ensures ended { (left : Option (List ℕ)) (reads : ℕ) →
+        ShownEnds (H.papers shelf.old) (H.faults shelf.old) (H.faults shelf.new)
         (streams left reads (K.taken output.old) (K.faults output.old))
         (streams left reads (K.taken output.new) (K.faults output.new))
         name.now (end_of result) }

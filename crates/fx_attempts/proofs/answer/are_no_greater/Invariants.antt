@@ -5,4 +5,5 @@ use Rattle.fx_attempts.proofs.answer.are_no_greater.Given as goal
 
 -- the bounds so far are no greater
 abbrev pub invariant-loop-j : goal.invariant-loop-j
-invariant-loop-j l = (k : ℕ) → k < l.j → AtMost (certified_bound l.a.program l.a.certificate k) (certified_bound l.b.program l.b.certificate k)
+invariant-loop-j l = (k : ℕ) → k < l.j →
+    AtMost (certified_bound l.a.program l.a.certificate k) (certified_bound l.b.program l.b.certificate k)

@@ -6,4 +6,5 @@ use Rattle.fx_attempts.proofs.answer.outputs_of.Goals as goal
 pub returns-clause-count : goal.returns-clause-count
 returns-clause-count c =
     let a = c.args.certified.now in
-    ap (λ (p : Program). p.outputs) (c.behind-certified.view_is ∙ c.program.ensures) ∙ outputs_are a.function a.program a.certificate c.certified.ensures.certified
+    ap (λ (p : Program). p.outputs) (c.behind-certified.view_is ∙ c.program.ensures)
+    ∙ outputs_are a.function a.program a.certificate c.certified.ensures.certified

@@ -9,4 +9,5 @@ pub returns : goal.returns
 returns c =
     let w = c.args.wanted in let fn = c.args.function.now in let s = step_view c.args.step in
     let a = option_map attempt_in c.in_ok-attempt.attempt in let is = sym c.in_ok-attempt.ensures.attempt in
-    judged_outcome w fn (s ∷ []) a c.in_ok-answer.answer c.rounded_law.ensures c.requires.stateless is (after_own w fn (s ∷ []) a (step_named c.rewrite_law.ensures fn s c.requires.there) is) c.in_ok-answer.ensures
+    judged_outcome w fn (s ∷ []) a c.in_ok-answer.answer c.rounded_law.ensures c.requires.stateless is
+    (after_own w fn (s ∷ []) a (step_named c.rewrite_law.ensures fn s c.requires.there) is) c.in_ok-answer.ensures

@@ -6,10 +6,14 @@ use Rattle.fx_attempts.proofs.plans.first_answer.Goals as goal
 pub returns-then-is_some : goal.returns-then-is_some
 returns-then-is_some c =
     let a = c.in_ok-answer.ensures in
-    let reason = view_of_some outside_view c.args.outside _ c.requires.outside (sym c.is_some.ensures ∙ c.if-is_some.true) in
-    calm_suits_first c.args.wanted c.args.function.now c.in_ok-answer.answer reason.0 reason.1 a.answer a.bounded a.calm a.none
+    let reason = view_of_some outside_view c.args.outside _ c.requires.outside (sym c.is_some.ensures
+    ∙ c.if-is_some.true) in
+    calm_suits_first c.args.wanted c.args.function.now c.in_ok-answer.answer reason.0 reason.1 a.answer a.bounded a.calm
+    a.none
 
 pub returns : goal.returns
 returns c =
     let a = c.in_ok-certified.ensures in
-    plain_suits_first c.args.wanted c.args.function.now c.in_ok-certified.certified (view_of_none outside_view c.args.outside _ c.requires.outside (sym c.is_some.ensures ∙ c.if-is_some.false)) a.answer a.bounded
+    plain_suits_first c.args.wanted c.args.function.now c.in_ok-certified.certified
+    (view_of_none outside_view c.args.outside _ c.requires.outside (sym c.is_some.ensures
+    ∙ c.if-is_some.false)) a.answer a.bounded

@@ -14,8 +14,10 @@ pub next_turn-requires-clause-there : goal.next_turn-requires-clause-there
 next_turn-requires-clause-there c =
     let kept = c.loop-turn.invariant in let s = step_view c.in-Some.step in
     let next : left c.loop-turn.steps ≡ s ∷ left c.next.new.self =
-    subst (λ o. MatchOption o (left c.loop-turn.steps ≡ []) (λ x. left c.loop-turn.steps ≡ step_view x ∷ left c.next.new.self)) c.in-Some.is c.in_ok-step.ensures.next in
-    step_there c.args.function.now kept.0 s (left c.next.new.self) (kept.1 ∙ ap (λ (l : List Rewriting). kept.0 ++ l) next)
+    subst (λ o. MatchOption o (left c.loop-turn.steps ≡ [])
+    (λ x. left c.loop-turn.steps ≡ step_view x ∷ left c.next.new.self)) c.in-Some.is c.in_ok-step.ensures.next in
+    step_there c.args.function.now kept.0 s (left c.next.new.self) (kept.1
+    ∙ ap (λ (l : List Rewriting). kept.0 ++ l) next)
 
 pub next_turn-requires-clause-suits : goal.next_turn-requires-clause-suits
 next_turn-requires-clause-suits c = c.loop-turn.invariant.3.suits
@@ -24,8 +26,10 @@ pub loop-turn-preserved : goal.loop-turn-preserved
 loop-turn-preserved c =
     let kept = c.loop-turn.invariant in let s = step_view c.in-Some.step in
     let next : left c.loop-turn.steps ≡ s ∷ left c.next.new.self =
-    subst (λ o. MatchOption o (left c.loop-turn.steps ≡ []) (λ x. left c.loop-turn.steps ≡ step_view x ∷ left c.next.new.self)) c.in-Some.is c.in_ok-step.ensures.next in
-    let more : length (kept.0 ++ s ∷ []) ≡ c.loop-turn._turn + 1 = let e = length-append kept.0 (s ∷ []) in let l = kept.2 in omega (arith, e, l) in (
+    subst (λ o. MatchOption o (left c.loop-turn.steps ≡ [])
+    (λ x. left c.loop-turn.steps ≡ step_view x ∷ left c.next.new.self)) c.in-Some.is c.in_ok-step.ensures.next in
+    let more : length (kept.0 ++ s ∷ []) ≡ c.loop-turn._turn + 1 = let e = length-append kept.0 (s ∷ []) in
+    let l = kept.2 in omega (arith, e, l) in (
       kept.0 ++ s ∷ [],
       kept.1 ∙ ap (λ (l : List Rewriting). kept.0 ++ l) next ∙ one_done kept.0 s (left c.next.new.self),
       more,

@@ -9,15 +9,21 @@ returns-in-Some c =
     let bytes = c.args.bytes.now in
     let seen = c.args.seen in
     let end = c.in-Some.end in
-    let part : take (length bytes - seen) (drop seen bytes) ≡ drop seen bytes = take_all (length bytes - seen) (drop seen bytes) (omega (arith, length-drop seen bytes)) in
-    let found : position is_feed (drop seen bytes) ≡ Some end = ap (position is_feed) (sym part) ∙ sym c.line_end.ensures ∙ c.in-Some.is in
+    let part : take (length bytes - seen) (drop seen bytes) ≡ drop seen bytes =
+    take_all (length bytes - seen) (drop seen bytes) (omega (arith, length-drop seen bytes)) in
+    let found : position is_feed (drop seen bytes) ≡ Some end = ap (position is_feed) (sym part)
+    ∙ sym c.line_end.ensures ∙ c.in-Some.is in
     ap Some (ap (λ n. n + end) (sym (length-take-le seen bytes c.requires.within)))
-    ∙ sym (position-behind (take seen bytes) (drop seen bytes) end c.requires.before found) ∙ ap (position is_feed) (take-append-drop seen bytes)
+    ∙ sym (position-behind (take seen bytes) (drop seen bytes) end c.requires.before found)
+    ∙ ap (position is_feed) (take-append-drop seen bytes)
 
 pub returns-in-None : goal.returns-in-None
 returns-in-None c =
     let bytes = c.args.bytes.now in
     let seen = c.args.seen in
-    let part : take (length bytes - seen) (drop seen bytes) ≡ drop seen bytes = take_all (length bytes - seen) (drop seen bytes) (omega (arith, length-drop seen bytes)) in
-    let none : position is_feed (drop seen bytes) ≡ None = ap (position is_feed) (sym part) ∙ sym c.line_end.ensures ∙ c.in-None.is in
-    sym (nowhere-behind (take seen bytes) (drop seen bytes) c.requires.before none) ∙ ap (position is_feed) (take-append-drop seen bytes)
+    let part : take (length bytes - seen) (drop seen bytes) ≡ drop seen bytes =
+    take_all (length bytes - seen) (drop seen bytes) (omega (arith, length-drop seen bytes)) in
+    let none : position is_feed (drop seen bytes) ≡ None = ap (position is_feed) (sym part) ∙ sym c.line_end.ensures
+    ∙ c.in-None.is in
+    sym (nowhere-behind (take seen bytes) (drop seen bytes) c.requires.before none)
+    ∙ ap (position is_feed) (take-append-drop seen bytes)

@@ -11,7 +11,8 @@ invariant-reads g l = record {
   no_line : position (λ b. b == 10) l.held ≡ None;
   within : l.taken ≤ l.limit;
   room : length l.held ≤ 131072;
-  sought : HoldsEachTime (IsSought l.initial.held (g.S.Source.left l.initial.source) (g.K.Sink.taken l.shown)) (g.S.Source.asked l.initial.source) (g.S.Source.asked l.source);
+  sought : HoldsEachTime (IsSought l.initial.held (g.S.Source.left l.initial.source) (g.K.Sink.taken l.shown))
+      (g.S.Source.asked l.initial.source) (g.S.Source.asked l.source);
   later : g.S.Source.faults l.initial.source ≤ g.S.Source.faults l.source;
 }
 

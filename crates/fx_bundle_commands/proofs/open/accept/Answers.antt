@@ -6,15 +6,22 @@ use Rattle.fx_bundle_commands.proofs.Accepting.{text_ends, source_ends, check_en
 use Rattle.fx_bundle_commands.proofs.open.accept.Goals as goal
 
 pub returns-in-Err-clause-failed : goal.returns-in-Err-clause-failed
-returns-in-Err-clause-failed c = text_ends c.args.bytes.now c.in-Err.fault _ c.end_of_text.ensures c.in-Err.ensures.value
+returns-in-Err-clause-failed c =
+    text_ends c.args.bytes.now c.in-Err.fault _ c.end_of_text.ensures c.in-Err.ensures.value
 
 pub returns-in-Err-parse-clause-failed : goal.returns-in-Err-parse-clause-failed
 returns-in-Err-parse-clause-failed c =
     let b = bundle_of c.in-Ok.bundle in
     let name = c.as_str.ensures.text ∙ ap (λ p. p.name) c.program.view_is in
     let is = meant b _ _ c.as_slice.ensures name in
-    source_ends c.args.bytes.now b c.in-Err-parse.fault _ (record { lawful = c.in-Ok.ensures.lawful; text_is = (c.bundle_text_law.ensures.takes c.args.bytes.now b c.in-Ok.ensures.value).0 }) c.end_of_source.ensures
-    (subst (λ r. (r ≡ Err c.in-Err-parse.fault) ⊎ (c.in-Err-parse.fault ≡ source.source_memory)) is c.in-Err-parse.ensures)
+    source_ends c.args.bytes.now b c.in-Err-parse.fault _
+    (record {
+      lawful = c.in-Ok.ensures.lawful;
+      text_is =
+          (c.bundle_text_law.ensures.takes c.args.bytes.now b c.in-Ok.ensures.value).0;
+    }) c.end_of_source.ensures
+    (subst (λ r. (r ≡ Err c.in-Err-parse.fault) ⊎
+    (c.in-Err-parse.fault ≡ source.source_memory)) is c.in-Err-parse.ensures)
 
 pub returns-in-Ok-check-clause-accepted : goal.returns-in-Ok-check-clause-accepted
 returns-in-Ok-check-clause-accepted c =
@@ -22,7 +29,10 @@ returns-in-Ok-check-clause-accepted c =
     let name = c.as_str.ensures.text ∙ ap (λ p. p.name) c.program.view_is in
     let is = meant b _ _ c.as_slice.ensures name in
     subst (IsReadAs c.args.bytes.now b.source) (sym c.in-Ok-check.ensures.kept) (record {
-      spelled = record { lawful = c.in-Ok.ensures.lawful; text_is = (c.bundle_text_law.ensures.takes c.args.bytes.now b c.in-Ok.ensures.value).0 };
+      spelled = record {
+        lawful = c.in-Ok.ensures.lawful;
+        text_is = (c.bundle_text_law.ensures.takes c.args.bytes.now b c.in-Ok.ensures.value).0;
+      };
       accepted = record { meant = sym is ∙ c.in-Ok-parse.ensures; accepted = c.in-Ok-check.ensures.accepted };
     })
 
@@ -32,5 +42,8 @@ returns-clause-failed c =
     let name = c.as_str.ensures.text ∙ ap (λ p. p.name) c.program.view_is in
     let is = meant b _ _ c.as_slice.ensures name in
     check_ends c.args.bytes.now b c.in-Ok-parse.function c.in-Err-check.fault _
-    (record { lawful = c.in-Ok.ensures.lawful; text_is = (c.bundle_text_law.ensures.takes c.args.bytes.now b c.in-Ok.ensures.value).0 })
+    (record {
+      lawful = c.in-Ok.ensures.lawful;
+      text_is = (c.bundle_text_law.ensures.takes c.args.bytes.now b c.in-Ok.ensures.value).0;
+    })
     (sym is ∙ c.in-Ok-parse.ensures) c.end_of_check.ensures c.in-Err-check.ensures.refused

@@ -8,5 +8,6 @@ abbrev pub invariant-loop-j : goal.invariant-loop-j
 invariant-loop-j g l =
     let a = l.fn.certified in
     (sent : List ℕ) × Appends (g.K.Sink.taken l.initial.sink) (g.K.Sink.taken l.sink) sent ×
-    (bound_lines a.program a.certificate 0 a.program.outputs ≡ sent ++ bound_lines a.program a.certificate l.j (a.program.outputs - l.j)) ×
+    (bound_lines a.program a.certificate 0 a.program.outputs ≡ sent
+    ++ bound_lines a.program a.certificate l.j (a.program.outputs - l.j)) ×
     (g.K.Sink.faults l.initial.sink ≤ g.K.Sink.faults l.sink)

@@ -9,10 +9,17 @@ use Rattle.fx_calm.proofs.code.codes.Goals as goal
 
 pub code-requires-clause-word : goal.code-requires-clause-word
 code-requires-clause-word c =
-    let s = seen_at node_of c.args.nodes.now (nodes_in c.args.nodes.now) c.loop-i.i c.index-nodes-i.result refl c.loop-i-test.true c.index-nodes-i.is in
+    let s =
+    seen_at node_of c.args.nodes.now
+    (nodes_in c.args.nodes.now) c.loop-i.i c.index-nodes-i.result refl c.loop-i-test.true c.index-nodes-i.is in
     subst (HasWord c.args.function.now c.args.f) s.1 (c.requires.words c.loop-i.i (node_of c.index-nodes-i.result) s.0)
 
 pub loop-i-preserved : goal.loop-i-preserved
 loop-i-preserved c =
-    let s = seen_at node_of c.args.nodes.now (nodes_in c.args.nodes.now) c.loop-i.i c.index-nodes-i.result refl c.loop-i-test.true c.index-nodes-i.is in
-    pushed code_of (calm_code (round_of c.args.round) c.args.function.now c.args.f) (nodes_in c.args.nodes.now) c.loop-i.i (node_of c.index-nodes-i.result) c.loop-i.codes.items c.push.new.self.items c.code.result s.0 s.1 c.loop-i.invariant c.code.ensures c.in_ok-push.ensures.items
+    let s =
+    seen_at node_of c.args.nodes.now
+    (nodes_in c.args.nodes.now) c.loop-i.i c.index-nodes-i.result refl c.loop-i-test.true c.index-nodes-i.is in
+    pushed code_of (calm_code (round_of c.args.round) c.args.function.now c.args.f)
+    (nodes_in c.args.nodes.now) c.loop-i.i
+    (node_of c.index-nodes-i.result) c.loop-i.codes.items c.push.new.self.items c.code.result s.0 s.1
+    c.loop-i.invariant c.code.ensures c.in_ok-push.ensures.items

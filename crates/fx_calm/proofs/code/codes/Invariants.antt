@@ -5,4 +5,6 @@ use Rattle.fx_calm_plan.specs.CalmPlan.{calm_code}
 use Rattle.fx_calm.proofs.code.codes.Given as goal
 
 abbrev pub invariant-loop-i : goal.invariant-loop-i
-invariant-loop-i l = map code_of l.codes.items ≡ map (calm_code (round_of l.fn.round) l.fn.function l.fn.f) (take l.i (nodes_in l.fn.nodes))
+invariant-loop-i l =
+    map code_of l.codes.items ≡ map (calm_code (round_of l.fn.round) l.fn.function l.fn.f)
+    (take l.i (nodes_in l.fn.nodes))

@@ -5,4 +5,6 @@ use Rattle.fx_calm_plan.proofs.Roundings.{product_so}
 use Rattle.fx_calm.proofs.code.product.Goals as goal
 
 pub returns : goal.returns
-returns c = c.product_code.ensures ∙ ap (λ (r : machine.Round). machine.Mul r c.args.a c.args.b c.args.f) (product_so (round_of c.args.round) c.args.f c.requires)
+returns c = c.product_code.ensures
+    ∙ ap (λ (r : machine.Round). machine.Mul r c.args.a c.args.b c.args.f)
+    (product_so (round_of c.args.round) c.args.f c.requires)

@@ -10,5 +10,7 @@ use Rattle.fx_calm.proofs.line.lines.Goals as goal
 pub loop-i-preserved : goal.loop-i-preserved
 loop-i-preserved c =
     let bs = c.args.bs.now in let d : Bound = record { r = 0; e = 0 } in let x = bound_of (get_or bs c.loop-i.i d) in
-    pushed line_view (calm_line c.args.f) (bounds_in bs) c.loop-i.i x c.loop-i.lines.items c.push.new.self.items c.line.result (rw (length-map bs bound_of) c.loop-i-test.true) (get_or-map bound_of bs c.loop-i.i d x c.loop-i-test.true)
+    pushed line_view (calm_line c.args.f)
+    (bounds_in bs) c.loop-i.i x c.loop-i.lines.items c.push.new.self.items c.line.result
+    (rw (length-map bs bound_of) c.loop-i-test.true) (get_or-map bound_of bs c.loop-i.i d x c.loop-i-test.true)
     c.loop-i.invariant c.line.ensures c.in_ok-push.ensures.items

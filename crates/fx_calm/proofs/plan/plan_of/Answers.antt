@@ -11,29 +11,44 @@ use Rattle.fx_calm.proofs.Placed.{place, short, short_starts, words}
 use Rattle.fx_calm.proofs.plan.plan_of.Goals as goal
 
 pub bounds-requires-clause-place : goal.bounds-requires-clause-place
-bounds-requires-clause-place c = subst HasPlace (sym c.requires.numbers) (place c.args.width c.args.function.now c.requires.width c.narrow_function.ensures c.requires.calm)
+bounds-requires-clause-place c =
+    subst HasPlace (sym c.requires.numbers)
+    (place c.args.width c.args.function.now c.requires.width c.narrow_function.ensures c.requires.calm)
 
 pub bounds-requires-clause-short : goal.bounds-requires-clause-short
 bounds-requires-clause-short c =
-    subst (λ (n : Numbers). All IsShort (bounds_of n c.args.function.now)) (sym c.requires.numbers) (short c.args.width c.args.function.now c.requires.width c.narrow_function.ensures c.requires.calm)
+    subst (λ (n : Numbers). All IsShort (bounds_of n c.args.function.now)) (sym c.requires.numbers)
+    (short c.args.width c.args.function.now c.requires.width c.narrow_function.ensures c.requires.calm)
 
 pub codes-requires-clause-some : goal.codes-requires-clause-some
-codes-requires-clause-some c = (subst HasPlace (sym c.requires.numbers) (place c.args.width c.args.function.now c.requires.width c.narrow_function.ensures c.requires.calm)).some
+codes-requires-clause-some c =
+    (subst HasPlace (sym c.requires.numbers)
+    (place c.args.width c.args.function.now c.requires.width c.narrow_function.ensures c.requires.calm)).some
 
 pub codes-requires-clause-point : goal.codes-requires-clause-point
-codes-requires-clause-point c = (subst HasPlace (sym c.requires.numbers) (place c.args.width c.args.function.now c.requires.width c.narrow_function.ensures c.requires.calm)).point
+codes-requires-clause-point c =
+    (subst HasPlace (sym c.requires.numbers)
+    (place c.args.width c.args.function.now c.requires.width c.narrow_function.ensures c.requires.calm)).point
 
 pub codes-requires-clause-words : goal.codes-requires-clause-words
 codes-requires-clause-words c =
-    subst (λ (xs : List Node). All (HasWord c.args.function.now c.args.c.f) xs) (sym (ap nodes_in c.as_slice-3.ensures ∙ c.in_ok-nodes.ensures.list))
-    (subst (λ (n : Numbers). All (HasWord c.args.function.now n.f) (nodes_of c.args.function.now)) (sym c.requires.numbers) (words c.args.width c.args.function.now c.requires.width c.narrow_function.ensures c.requires.calm))
+    subst (λ (xs : List Node). All (HasWord c.args.function.now c.args.c.f) xs)
+    (sym (ap nodes_in c.as_slice-3.ensures ∙ c.in_ok-nodes.ensures.list))
+    (subst (λ (n : Numbers). All (HasWord c.args.function.now n.f) (nodes_of c.args.function.now))
+    (sym c.requires.numbers)
+    (words c.args.width c.args.function.now c.requires.width c.narrow_function.ensures c.requires.calm))
 
 pub program-requires-clause-lawful : goal.program-requires-clause-lawful
-program-requires-clause-lawful c = (plan_is c.args.width (round_of c.args.round) c.args.function.now c.requires.width c.narrow_function.ensures c.requires.calm).program
+program-requires-clause-lawful c =
+    (plan_is c.args.width (round_of c.args.round) c.args.function.now c.requires.width c.narrow_function.ensures
+    c.requires.calm).program
 
 pub certificate-requires-clause-place : goal.certificate-requires-clause-place
-certificate-requires-clause-place c = subst HasPlace (sym c.requires.numbers) (place c.args.width c.args.function.now c.requires.width c.narrow_function.ensures c.requires.calm)
+certificate-requires-clause-place c =
+    subst HasPlace (sym c.requires.numbers)
+    (place c.args.width c.args.function.now c.requires.width c.narrow_function.ensures c.requires.calm)
 
 pub certificate-requires-clause-starts : goal.certificate-requires-clause-starts
 certificate-requires-clause-starts c =
-    subst (λ (n : Numbers). HaveShortStarts c.args.function.now n.f) (sym c.requires.numbers) (short_starts c.args.width c.args.function.now c.requires.width c.narrow_function.ensures c.requires.calm)
+    subst (λ (n : Numbers). HaveShortStarts c.args.function.now n.f) (sym c.requires.numbers)
+    (short_starts c.args.width c.args.function.now c.requires.width c.narrow_function.ensures c.requires.calm)

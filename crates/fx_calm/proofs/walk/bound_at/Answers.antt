@@ -6,4 +6,5 @@ use Rattle.fx_calm.proofs.walk.bound_at.Goals as goal
 
 pub returns-clause-short : goal.returns-clause-short
 returns-clause-short c =
-    subst IsShort (get_or-map bound_of c.args.bs.now c.args.a _ no_bound c.requires.within) (c.requires.short c.args.a no_bound (rw (length-map c.args.bs.now bound_of) c.requires.within))
+    subst IsShort (get_or-map bound_of c.args.bs.now c.args.a _ no_bound c.requires.within)
+    (c.requires.short c.args.a no_bound (rw (length-map c.args.bs.now bound_of) c.requires.within))

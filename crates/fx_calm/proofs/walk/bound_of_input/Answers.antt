@@ -7,4 +7,5 @@ use Rattle.fx_calm.proofs.walk.bound_of_input.Goals as goal
 
 pub input_of-requires-clause-error : goal.input_of-requires-clause-error
 input_of-requires-clause-error c =
-    subst (λ (e : Rational). AtMost (whole (pos 0)) e) (sym (ap (λ (i : function.Input). i.err) c.input_at.ensures)) (error_nonnegative c.args.function.now.inputs c.args.k no_input c.keeps.ensures.inputs c.requires.within)
+    subst (λ (e : Rational). AtMost (whole (pos 0)) e) (sym (ap (λ (i : function.Input). i.err) c.input_at.ensures))
+    (error_nonnegative c.args.function.now.inputs c.args.k no_input c.keeps.ensures.inputs c.requires.within)

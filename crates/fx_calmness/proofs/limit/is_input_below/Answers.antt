@@ -9,7 +9,13 @@ use Rattle.fx_calmness.proofs.limit.is_input_below.Goals as goal
 
 pub returns : goal.returns
 returns c =
-    input_test c.clear.new.self.items c.push-2.new.self.items c.part.result c.part-2.result (reach_of (input_of c.args.input.now)) (decimal_value c.args.input.now.err) c.adds_up_to.result c.args.w c.power.result
-    c.clear.ensures.items (c.in_ok-push-2.ensures.items ∙ ap (λ xs. xs ++ c.part-2.result ∷ []) c.in_ok-push.ensures.items)
-    ((λ i. over (pos (c.part.ensures.top i)) (c.part.ensures.bottom i)) ∙ c.reach.ensures.value) ((λ i. over (pos (c.part-2.ensures.top i)) (c.part-2.ensures.bottom i)) ∙ c.size_of_decimal.ensures.value)
-    c.requires.error c.power.ensures (c.adds_up_to.ensures ∙ ap (λ xs. is_at_most (sum_of xs) (whole (pos c.power.result))) c.deref_mut.ensures.value)
+    input_test c.clear.new.self.items c.push-2.new.self.items c.part.result c.part-2.result
+    (reach_of (input_of c.args.input.now))
+    (decimal_value c.args.input.now.err) c.adds_up_to.result c.args.w c.power.result
+    c.clear.ensures.items (c.in_ok-push-2.ensures.items
+    ∙ ap (λ xs. xs ++ c.part-2.result ∷ []) c.in_ok-push.ensures.items)
+    ((λ i. over (pos (c.part.ensures.top i)) (c.part.ensures.bottom i))
+    ∙ c.reach.ensures.value) ((λ i. over (pos (c.part-2.ensures.top i)) (c.part-2.ensures.bottom i))
+    ∙ c.size_of_decimal.ensures.value)
+    c.requires.error c.power.ensures (c.adds_up_to.ensures
+    ∙ ap (λ xs. is_at_most (sum_of xs) (whole (pos c.power.result))) c.deref_mut.ensures.value)

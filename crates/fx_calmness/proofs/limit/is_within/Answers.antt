@@ -9,9 +9,12 @@ use Rattle.fx_calmness.proofs.limit.is_within.Goals as goal
 pub is_input_below-requires-clause-error : goal.is_input_below-requires-clause-error
 is_input_below-requires-clause-error c =
     subst (λ (e : Rational). AtMost (whole (pos 0)) e) (sym (ap (λ (i : function.Input). i.err) c.input_at.ensures))
-    (error_nonnegative c.args.function.now.inputs c.args.i no_input c.keeps.ensures.inputs (subst (λ l. c.args.i < count_of c.args.function.now l) c.in-Inputs.is c.requires.within))
+    (error_nonnegative c.args.function.now.inputs c.args.i no_input c.keeps.ensures.inputs
+    (subst (λ l. c.args.i < count_of c.args.function.now l) c.in-Inputs.is c.requires.within))
 
 pub is_error_below-requires-clause-error : goal.is_error_below-requires-clause-error
 is_error_below-requires-clause-error c =
-    subst (λ (e : Rational). AtMost (whole (pos 0)) e) (sym (ap (λ (i : function.Input). i.err) c.input_at-in-Errors.ensures))
-    (error_nonnegative c.args.function.now.inputs c.args.i no_input c.keeps.ensures.inputs (subst (λ l. c.args.i < count_of c.args.function.now l) c.in-Errors.is c.requires.within))
+    subst (λ (e : Rational). AtMost (whole (pos 0)) e)
+    (sym (ap (λ (i : function.Input). i.err) c.input_at-in-Errors.ensures))
+    (error_nonnegative c.args.function.now.inputs c.args.i no_input c.keeps.ensures.inputs
+    (subst (λ l. c.args.i < count_of c.args.function.now l) c.in-Errors.is c.requires.within))

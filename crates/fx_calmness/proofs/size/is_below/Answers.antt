@@ -3,4 +3,5 @@ use Rattle.fx_weight.proofs.PowerTests.{below_whole}
 use Rattle.fx_calmness.proofs.size.is_below.Goals as goal
 
 pub returns : goal.returns
-returns c = (λ i. leb (c.from.ensures i) (c.raised.ensures.value i)) ∙ below_whole c.args.x.top c.args.x.bottom c.args.w c.requires.size.some
+returns c = (λ i. leb (c.from.ensures i) (c.raised.ensures.value i))
+    ∙ below_whole c.args.x.top c.args.x.bottom c.args.w c.requires.size.some

@@ -4,4 +4,5 @@ use Rattle.fx_calmness.proofs.Sizes.{fraction_size}
 use Rattle.fx_calmness.proofs.size.size_of.Goals as goal
 
 pub returns-clause-value : goal.returns-clause-value
-returns-clause-value c = (λ i. over (pos (c.top.ensures.value i)) (c.denominator.ensures.value i)) ∙ fraction_size c.args.c
+returns-clause-value c =
+    (λ i. over (pos (c.top.ensures.value i)) (c.denominator.ensures.value i)) ∙ fraction_size c.args.c

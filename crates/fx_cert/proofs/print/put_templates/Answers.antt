@@ -11,7 +11,17 @@ use Rattle.fx_cert.proofs.print.put_templates.Goals as goal
 pub returns : goal.returns
 returns c =
     let templates = c.args.templates.now in let old = c.args.out.now.items in let n = c.min-k.result in
-    let whole : take (length templates - n) (drop n templates) ≡ drop n templates = take_all (length templates - n) (drop n templates) (omega (arith, length-drop n templates)) in
-    let others : c.put_others.new.out.items ≡ c.put_boxes.new.out.items ++ flat_map (λ r. line_text (template_fields (template_view r))) (drop n templates) = c.in_ok-put_others.ensures ∙ ap (λ rs. c.put_boxes.new.out.items ++ flat_map (λ r. line_text (template_fields (template_view r))) rs) whole in
-    two old c.put_boxes.new.out.items c.put_others.new.out.items (flat_map (λ r. line_text (box_fields (template_view r))) (take n templates)) (flat_map (λ r. line_text (template_fields (template_view r))) (drop n templates)) c.in_ok-put_boxes.ensures others
-    ∙ ap (λ t. old ++ t) (ap (λ n. flat_map (λ r. line_text (box_fields (template_view r))) (take n templates) ++ flat_map (λ r. line_text (template_fields (template_view r))) (drop n templates)) c.min-k.ensures ∙ templates_text-is c.args.states templates)
+    let whole : take (length templates - n) (drop n templates) ≡ drop n templates =
+    take_all (length templates - n) (drop n templates) (omega (arith, length-drop n templates)) in
+    let others : c.put_others.new.out.items ≡ c.put_boxes.new.out.items
+    ++ flat_map (λ r. line_text (template_fields (template_view r))) (drop n templates) = c.in_ok-put_others.ensures
+    ∙ ap (λ rs. c.put_boxes.new.out.items
+    ++ flat_map (λ r. line_text (template_fields (template_view r))) rs) whole in
+    two old c.put_boxes.new.out.items c.put_others.new.out.items
+    (flat_map (λ r. line_text (box_fields (template_view r))) (take n templates))
+    (flat_map (λ r. line_text (template_fields (template_view r)))
+    (drop n templates)) c.in_ok-put_boxes.ensures others
+    ∙ ap (λ t. old ++ t) (ap
+    (λ n. flat_map (λ r. line_text (box_fields (template_view r))) (take n templates)
+    ++ flat_map (λ r. line_text (template_fields (template_view r))) (drop n templates)) c.min-k.ensures
+    ∙ templates_text-is c.args.states templates)

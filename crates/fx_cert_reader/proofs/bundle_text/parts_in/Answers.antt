@@ -21,12 +21,30 @@ pub returns-in_err-text_ended : goal.returns-in_err-text_ended
 returns-in_err-text_ended c =
     let p = err_from_is_err_and c.from_residual-in_err-text_ended.result c.from_residual-in_err-text_ended.ensures.1 in
     let k = c.in_ok-program in
-    let all = by_parts c.args.bytes.now c.in_ok-version.version c.in_ok-version.rest.now c.in_ok-source.source.now c.in_ok-source.rest.now k.program (certificate_of k.certificate) k.rest.now k.line c.source_lines.result c.in_ok-version.ensures c.in_ok-source.ensures.value c.source_lines.ensures.lines k.ensures.value k.ensures.line in
-    rw (p.1, p.2) (inl (all ∙ not_ended (text_ended_at k.line k.rest.now) (record { source = c.in_ok-source.source.now; program = k.program; certificate = certificate_of k.certificate }) c.in_err-text_ended.field-0.0 c.in_err-text_ended.ensures))
+    let all =
+    by_parts c.args.bytes.now c.in_ok-version.version c.in_ok-version.rest.now c.in_ok-source.source.now
+    c.in_ok-source.rest.now k.program
+    (certificate_of k.certificate) k.rest.now k.line c.source_lines.result c.in_ok-version.ensures
+    c.in_ok-source.ensures.value c.source_lines.ensures.lines k.ensures.value k.ensures.line in
+    rw (p.1, p.2) (inl (all
+    ∙ not_ended (text_ended_at k.line k.rest.now) (record {
+      source = c.in_ok-source.source.now;
+      program = k.program;
+      certificate = certificate_of k.certificate;
+    }) c.in_err-text_ended.field-0.0 c.in_err-text_ended.ensures))
 
 pub returns : goal.returns
 returns c =
     let k = c.in_ok-program in
-    let all = by_parts c.args.bytes.now c.in_ok-version.version c.in_ok-version.rest.now c.in_ok-source.source.now c.in_ok-source.rest.now k.program (certificate_of k.certificate) k.rest.now k.line c.source_lines.result c.in_ok-version.ensures c.in_ok-source.ensures.value c.source_lines.ensures.lines k.ensures.value k.ensures.line in
-    all ∙ ended (text_ended_at k.line k.rest.now) (record { source = c.in_ok-source.source.now; program = k.program; certificate = certificate_of k.certificate }) _ c.in_ok-text_ended.ensures
-    ∙ ap (λ s. Ok (record { source = s; program = k.program; certificate = certificate_of k.certificate })) (sym c.in_ok-copied.ensures)
+    let all =
+    by_parts c.args.bytes.now c.in_ok-version.version c.in_ok-version.rest.now c.in_ok-source.source.now
+    c.in_ok-source.rest.now k.program
+    (certificate_of k.certificate) k.rest.now k.line c.source_lines.result c.in_ok-version.ensures
+    c.in_ok-source.ensures.value c.source_lines.ensures.lines k.ensures.value k.ensures.line in
+    all ∙ ended (text_ended_at k.line k.rest.now) (record {
+      source = c.in_ok-source.source.now;
+      program = k.program;
+      certificate = certificate_of k.certificate;
+    }) _ c.in_ok-text_ended.ensures
+    ∙ ap (λ s. Ok (record { source = s; program = k.program; certificate = certificate_of k.certificate }))
+    (sym c.in_ok-copied.ensures)

@@ -3,4 +3,8 @@ use Rattle.fx_cert_reader.proofs.CertificateLaws.{certificate_law}
 use Rattle.fx_cert_reader.proofs.read.certificate_at.Goals as goal
 
 pub returns-clause-lawful : goal.returns-clause-lawful
-returns-clause-lawful c = ((certificate_law c.args.line).takes c.args.text.now (certificate_of c.in_ok-certificate.certificate, c.in_ok-certificate.rest.now) c.in_ok-certificate.ensures).1
+returns-clause-lawful c =
+    ((certificate_law c.args.line).takes c.args.text.now (
+      certificate_of c.in_ok-certificate.certificate,
+      c.in_ok-certificate.rest.now,
+    ) c.in_ok-certificate.ensures).1

@@ -6,6 +6,7 @@ use Rattle.fx_cert_reader.proofs.share.shares_of_count.Given as goal
 
 abbrev pub invariant-loop : goal.invariant-loop
 invariant-loop l = record {
-  so_far : with_front (shares_of l.found.items) (many (share_at l.end) above (l.count - l.counter) l.least l.fields) ≡ many (share_at l.end) above l.count 0 l.fn.fields;
+  so_far : with_front (shares_of l.found.items) (many (share_at l.end) above (l.count - l.counter) l.least l.fields)
+      ≡ many (share_at l.end) above l.count 0 l.fn.fields;
   least : l.least ≤ l.end;
 }

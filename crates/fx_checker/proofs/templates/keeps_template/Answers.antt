@@ -7,5 +7,8 @@ use Rattle.fx_checker.proofs.templates.keeps_template.Goals as goal
 
 pub returns : goal.returns
 returns c =
-    let inputs = ap (λ (q : Program). q.inputs) c.program.view_is in let states = ap (λ (q : Program). q.states) c.program.view_is in
-    c.template_judgement.ensures ∙ (λ t. judged (kept_template (inputs t) (states t) (c.next_node.ensures.next t) (lines_view (c.as_slice.ensures t)) (c.templates_by.ensures t) c.args.side.now c.args.i))
+    let inputs = ap (λ (q : Program). q.inputs) c.program.view_is in
+    let states = ap (λ (q : Program). q.states) c.program.view_is in
+    c.template_judgement.ensures
+    ∙ (λ t. judged (kept_template (inputs t) (states t) (c.next_node.ensures.next t)
+    (lines_view (c.as_slice.ensures t)) (c.templates_by.ensures t) c.args.side.now c.args.i))

@@ -13,4 +13,6 @@ returns-in-Some c =
     found_at count c.loop-i.i f (condition_fault_of c.in-Some.fault) c.loop-i.invariant c.in-Some.ensures below
 
 pub loop-i-preserved : goal.loop-i-preserved
-loop-i-preserved c = none_at c.loop-i.i (start_template_condition c.args.side.now c.args.function.now (certificate_of c.args.certificate.now)) c.loop-i.invariant c.in_default.ensures
+loop-i-preserved c =
+    none_at c.loop-i.i (start_template_condition c.args.side.now c.args.function.now
+    (certificate_of c.args.certificate.now)) c.loop-i.invariant c.in_default.ensures

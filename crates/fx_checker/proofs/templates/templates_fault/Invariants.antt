@@ -5,4 +5,6 @@ use Rattle.fx_checker.specs.TemplateFaults.{template_condition}
 use Rattle.fx_checker.proofs.templates.templates_fault.Given as goal
 
 abbrev pub invariant-loop-i : goal.invariant-loop-i
-invariant-loop-i l = None ≡ first_fault_of (each_index l.i (template_condition l.fn.side l.fn.function l.fn.program (certificate_of l.fn.certificate)))
+invariant-loop-i l =
+    None ≡ first_fault_of (each_index l.i
+    (template_condition l.fn.side l.fn.function l.fn.program (certificate_of l.fn.certificate)))

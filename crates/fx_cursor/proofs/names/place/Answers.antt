@@ -5,4 +5,5 @@ use Rattle.fx_cursor.proofs.names.place.Goals as goal
 
 pub returns-clause-value : goal.returns-clause-value
 returns-clause-value c =
-    c.get_index_of.ensures.index ∙ place_is c.names.inside.set.keys c.args.text.now ∙ ap (λ names. name_place names c.args.text.now) c.names.view_is
+    c.get_index_of.ensures.index ∙ place_is c.names.inside.set.keys c.args.text.now
+    ∙ ap (λ names. name_place names c.args.text.now) c.names.view_is

@@ -14,4 +14,6 @@ find_outside-requires c = (3, omega arith, refl)
 
 pub returns-clause-served : goal.returns-clause-served
 returns-clause-served c =
-    sym c.in_ok-outside.ensures.outside ∙ ap (option_map outside_view) (none_of c.in_ok-outside.outside (let i = c.is_some.ensures in let f = c.if-is_some.false in cc))
+    sym c.in_ok-outside.ensures.outside
+    ∙ ap (option_map outside_view) (none_of c.in_ok-outside.outside (let i = c.is_some.ensures in
+    let f = c.if-is_some.false in cc))

@@ -11,10 +11,13 @@ use Rattle.fx_expr.proofs.trees.exchange_in.Goals as goal
 pub exchange_in_results-requires : goal.exchange_in_results-requires
 exchange_in_results-requires c =
     let e : c.args.place ≡ length c.args.temps.now + (c.args.place - c.len-count.result) = omega arith in
-    (result_there c.args.path.now c.args.temps.now c.args.results.now c.args.place (c.args.place - c.len-count.result) e c.requires).0
+    (result_there c.args.path.now c.args.temps.now c.args.results.now c.args.place
+    (c.args.place - c.len-count.result) e c.requires).0
 
 pub returns-then-place-count-clause-results : goal.returns-then-place-count-clause-results
-returns-then-place-count-clause-results c = sym (results_kept c.args.temps.now (map tree c.args.results.now) c.args.place (put c.args.path.now (tree c.args.new)) (omega arith))
+returns-then-place-count-clause-results c =
+    sym (results_kept c.args.temps.now (map tree c.args.results.now) c.args.place
+    (put c.args.path.now (tree c.args.new)) (omega arith))
 
 pub returns-then-place-count-clause-old : goal.returns-then-place-count-clause-old
 returns-then-place-count-clause-old c =
@@ -25,16 +28,22 @@ returns-then-place-count-clause-old c =
 pub returns-else-place-count-clause-temps : goal.returns-else-place-count-clause-temps
 returns-else-place-count-clause-temps c =
     let e : c.args.place ≡ length c.args.temps.now + (c.args.place - c.len-count.result) = omega arith in
-    sym (temps_kept c.args.temps.now c.args.place (c.args.place - c.len-count.result) (put c.args.path.now (tree c.args.new)) e)
+    sym (temps_kept c.args.temps.now c.args.place (c.args.place - c.len-count.result)
+    (put c.args.path.now (tree c.args.new)) e)
 
 pub returns-else-place-count-clause-results : goal.returns-else-place-count-clause-results
 returns-else-place-count-clause-results c =
     let e : c.args.place ≡ length c.args.temps.now + (c.args.place - c.len-count.result) = omega arith in
-    c.exchange_in_results.ensures.changed ∙ sym (results_past c.args.temps.now (map tree c.args.results.now) c.args.place (c.args.place - c.len-count.result) (put c.args.path.now (tree c.args.new)) e)
+    c.exchange_in_results.ensures.changed
+    ∙ sym (results_past c.args.temps.now (map tree c.args.results.now) c.args.place
+    (c.args.place - c.len-count.result) (put c.args.path.now (tree c.args.new)) e)
 
 pub returns-else-place-count-clause-old : goal.returns-else-place-count-clause-old
 returns-else-place-count-clause-old c =
     let e : c.args.place ≡ length c.args.temps.now + (c.args.place - c.len-count.result) = omega arith in
-    let r = result_there c.args.path.now c.args.temps.now c.args.results.now c.args.place (c.args.place - c.len-count.result) e c.requires in
-    old_is c.args.path.now (paths.tree_in (map temp_of c.args.temps.now) (map tree c.args.results.now) c.args.place) (tree c.exchange_in_results.result) c.requires
+    let r =
+    result_there c.args.path.now c.args.temps.now c.args.results.now c.args.place
+    (c.args.place - c.len-count.result) e c.requires in
+    old_is c.args.path.now (paths.tree_in (map temp_of c.args.temps.now) (map tree c.args.results.now) c.args.place)
+    (tree c.exchange_in_results.result) c.requires
     (λ t at some. c.exchange_in_results.ensures.old t (r.1 ∙ at) some)

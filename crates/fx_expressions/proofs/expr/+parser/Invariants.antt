@@ -27,7 +27,8 @@ abbrev pub invariant-term-loop-op : goal.invariant-term-loop-op
 invariant-term-loop-op l = let known = known_in l.context in let inner = inner_at known l.room in
     record {
       shorter : length l.rest < length l.tokens;
-      on : IsOn goes_on_product (one_more (factor_of known inner)) (operand_of l.left) (lexemes l.rest) (term_of known inner (lexemes l.tokens));
+      on : IsOn goes_on_product (one_more (factor_of known inner)) (operand_of l.left) (lexemes l.rest)
+          (term_of known inner (lexemes l.tokens));
     }
 
 abbrev pub decreases-term-loop-op : goal.decreases-term-loop-op
@@ -37,7 +38,8 @@ abbrev pub invariant-sum-loop-op : goal.invariant-sum-loop-op
 invariant-sum-loop-op l = let known = known_in l.context in let inner = inner_at known l.room in
     record {
       shorter : length l.rest < length l.tokens;
-      on : IsOn (goes_on_sum l.outside) (one_more (term_of known inner)) (operand_of l.left) (lexemes l.rest) (sum_from known l.outside inner (lexemes l.tokens));
+      on : IsOn (goes_on_sum l.outside) (one_more (term_of known inner)) (operand_of l.left) (lexemes l.rest)
+          (sum_from known l.outside inner (lexemes l.tokens));
     }
 
 abbrev pub decreases-sum-loop-op : goal.decreases-sum-loop-op

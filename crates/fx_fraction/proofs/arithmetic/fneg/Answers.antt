@@ -10,10 +10,13 @@ pub invariant_of-result : goal.invariant_of-result
 invariant_of-result c =
     let fp : FitsSigned w128 c.a.inside.p = search rules in
     let fq : FitsSigned w128 c.a.inside.q = search rules in
-    fraction_neg c.a.inside.p c.a.inside.q _ _ c.a.invariant (neg_fits c.a.inside.p fp (omega (arith, c.a.invariant.top_small))) (to_z-of_z w128 c.a.inside.q fq)
+    fraction_neg c.a.inside.p c.a.inside.q _ _ c.a.invariant
+    (neg_fits c.a.inside.p fp (omega (arith, c.a.invariant.top_small))) (to_z-of_z w128 c.a.inside.q fq)
 
 pub returns : goal.returns
 returns c =
     let fp : FitsSigned w128 c.a.inside.p = search rules in
     let fq : FitsSigned w128 c.a.inside.q = search rules in
-    negative_is c.args.a _ _ (neg_fits c.a.inside.p fp (omega (arith, c.a.invariant.top_small)) ∙ ap (λ (r : Rational). neg_ℤ r.top) c.a.view_is) (ap (λ q. pred (unsigned_abs q)) (to_z-of_z w128 c.a.inside.q fq) ∙ ap (λ (r : Rational). r.less) c.a.view_is)
+    negative_is c.args.a _ _ (neg_fits c.a.inside.p fp (omega (arith, c.a.invariant.top_small))
+    ∙ ap (λ (r : Rational). neg_ℤ r.top) c.a.view_is) (ap (λ q. pred (unsigned_abs q))
+    (to_z-of_z w128 c.a.inside.q fq) ∙ ap (λ (r : Rational). r.less) c.a.view_is)

@@ -10,15 +10,20 @@ pub unreachable-requires : goal.unreachable-requires
 unreachable-requires c =
     let fi : SFits w64 c.d.inside.a = search rules in
     let ff : FitsSigned w128 c.from.result = search rules in
-    let p : to_z w128 (of_z w128 c.from.result) ≡ c.d.inside.a = to_z-of_z w128 c.from.result ff ∙ c.from.ensures ∙ to_z-of_z w64 c.d.inside.a fi in
+    let p : to_z w128 (of_z w128 c.from.result) ≡ c.d.inside.a = to_z-of_z w128 c.from.result ff ∙ c.from.ensures
+    ∙ to_z-of_z w64 c.d.inside.a fi in
     let q : c.from-2.result ≡ 10 ^ c.d.inside.b = c.from-2.ensures ∙ c.ten_to.ensures.value in
-    c.in-None.ensures (rw (p, q) (decimal_fits (record { a = c.d.inside.a; b = c.d.inside.b }) c.d.invariant.small c.d.invariant.places))
+    c.in-None.ensures (rw (
+      p,
+      q,
+    ) (decimal_fits (record { a = c.d.inside.a; b = c.d.inside.b }) c.d.invariant.small c.d.invariant.places))
 
 pub returns : goal.returns
 unfolding decimal_value
 returns c =
     let fi : SFits w64 c.d.inside.a = search rules in
     let ff : FitsSigned w128 c.from.result = search rules in
-    let p : to_z w128 (of_z w128 c.from.result) ≡ c.d.inside.a = to_z-of_z w128 c.from.result ff ∙ c.from.ensures ∙ to_z-of_z w64 c.d.inside.a fi in
+    let p : to_z w128 (of_z w128 c.from.result) ≡ c.d.inside.a = to_z-of_z w128 c.from.result ff ∙ c.from.ensures
+    ∙ to_z-of_z w64 c.d.inside.a fi in
     let q : c.from-2.result ≡ 10 ^ c.d.inside.b = c.from-2.ensures ∙ c.ten_to.ensures.value in
     c.in-Some.ensures.1 ∙ (λ i. lowest (over (p i) (q i))) ∙ ap (λ (d : Decimal). lowest (decimal_value d)) c.d.view_is

@@ -12,9 +12,12 @@ returns c =
     let fp : FitsSigned w128 c.in_ok-product.product = search rules in
     let fs : FitsSigned w128 c.ceil_shift.result = search rules in
     let ft : FitsSigned w128 c.numerator.result = search rules in
-    let p : to_z w128 (of_z w128 c.in_ok-product.product) ≡ c.args.d.m *ℤ pos (bottom c.args.c) = to_z-of_z w128 c.in_ok-product.product fp ∙ c.in_ok-product.ensures.1 in
+    let p : to_z w128 (of_z w128 c.in_ok-product.product) ≡ c.args.d.m *ℤ pos (bottom c.args.c) =
+    to_z-of_z w128 c.in_ok-product.product fp ∙ c.in_ok-product.ensures.1 in
     let e = ap (λ (d : Dyadic). d.e) c.d.view_is in
-    let s : to_z w128 (of_z w128 c.ceil_shift.result) ≡ ceil_div (c.args.d.m *ℤ pos (bottom c.args.c)) (2 ^ c.args.d.e) =
+    let s : to_z w128 (of_z w128 c.ceil_shift.result)
+    ≡ ceil_div (c.args.d.m *ℤ pos (bottom c.args.c)) (2 ^ c.args.d.e) =
     to_z-of_z w128 c.ceil_shift.result fs ∙ c.ceil_shift.ensures ∙ (λ i. ceil_div (p i) (2 ^ (e i))) in
-    let t : to_z w128 (of_z w128 c.numerator.result) ≡ c.args.c.top = to_z-of_z w128 c.numerator.result ft ∙ c.numerator.ensures.value in
+    let t : to_z w128 (of_z w128 c.numerator.result) ≡ c.args.c.top = to_z-of_z w128 c.numerator.result ft
+    ∙ c.numerator.ensures.value in
     (c.in_ok-product.ensures.0, (λ i. int_le (s i) (t i)) ∙ le_is c.args.d c.args.c)

@@ -10,4 +10,7 @@ pub returns-then-y-eq0 : goal.returns-then-y-eq0
 returns-then-y-eq0 c = c.loop-y.invariant c.loop-y.x (IsGcd-from_zero c.loop-y.x c.loop-y.y (omega arith))
 
 pub returns : goal.returns
-returns c = c.loop-y.invariant c.from.result (subst (IsGcd c.loop-y.x c.loop-y.y) (sym c.from.ensures) (IsGcd-from_mod c.loop-y.x c.loop-y.y c.short_gcd.result c.short_gcd.ensures))
+returns c =
+    c.loop-y.invariant c.from.result
+    (subst (IsGcd c.loop-y.x c.loop-y.y) (sym c.from.ensures)
+    (IsGcd-from_mod c.loop-y.x c.loop-y.y c.short_gcd.result c.short_gcd.ensures))

@@ -9,6 +9,7 @@ invariant_of-result c =
     let fs : SFits w64 c.signed.result = search rules in
     let fp : FitsSigned w128 c.from.result = search rules in
     let fq : FitsSigned w128 c.from-2.result = search rules in
-    fraction_is c.args.is_negative c.args.top c.args.bottom _ _ c.requires.above c.requires.top c.requires.bottom c.requires.coprime
+    fraction_is c.args.is_negative c.args.top c.args.bottom _ _ c.requires.above c.requires.top c.requires.bottom
+    c.requires.coprime
     (to_z-of_z w128 c.from.result fp ∙ c.from.ensures ∙ to_z-of_z w64 c.signed.result fs ∙ c.signed.ensures)
     (to_z-of_z w128 c.from-2.result fq ∙ c.from-2.ensures)

@@ -17,14 +17,18 @@ pub made-requires-clause-above : goal.made-requires-clause-above
 made-requires-clause-above c = part_some c.args.q c.gcd-divisor.result c.requires c.gcd-divisor.ensures.1
 
 pub made-requires-clause-coprime : goal.made-requires-clause-coprime
-made-requires-clause-coprime c = parts_apart _ c.args.q c.gcd-divisor.result (gcd_above _ c.args.q c.gcd-divisor.result c.requires c.gcd-divisor.ensures) c.gcd-divisor.ensures
+made-requires-clause-coprime c =
+    parts_apart _ c.args.q c.gcd-divisor.result
+    (gcd_above _ c.args.q c.gcd-divisor.result c.requires c.gcd-divisor.ensures) c.gcd-divisor.ensures
 
 pub returns-then-top : goal.returns-then-top
 returns-then-top c = λ fits.
     let fp = c.ranges.p in
     let k : c.unsigned_abs-size.result ≡ unsigned_abs c.args.p = simp to_z-of_z at c.unsigned_abs-size.ensures.value in
     let e : unsigned_abs (lowest (over c.args.p c.args.q)).top ≡ c.unsigned_abs-size.result / c.gcd-divisor.result =
-    top_over c.args.p c.args.q c.gcd-divisor.result c.requires (subst (λ (n : ℕ). IsGcd n c.args.q c.gcd-divisor.result) k c.gcd-divisor.ensures) ∙ ap (λ (n : ℕ). n / c.gcd-divisor.result) (sym k) in
+    top_over c.args.p c.args.q c.gcd-divisor.result c.requires
+    (subst (λ (n : ℕ). IsGcd n c.args.q c.gcd-divisor.result) k c.gcd-divisor.ensures)
+    ∙ ap (λ (n : ℕ). n / c.gcd-divisor.result) (sym k) in
     let t : unsigned_abs (lowest (over c.args.p c.args.q)).top < 2 ^ 62 = fits.top in
     omega (arith, e, t)
 
@@ -33,7 +37,8 @@ returns-then-bottom c = λ fits.
     let fp = c.ranges.p in
     let k : c.unsigned_abs-size.result ≡ unsigned_abs c.args.p = simp to_z-of_z at c.unsigned_abs-size.ensures.value in
     let e : bottom (lowest (over c.args.p c.args.q)) ≡ c.args.q / c.gcd-divisor.result =
-    bottom_over c.args.p c.args.q c.gcd-divisor.result c.requires (subst (λ (n : ℕ). IsGcd n c.args.q c.gcd-divisor.result) k c.gcd-divisor.ensures) in
+    bottom_over c.args.p c.args.q c.gcd-divisor.result c.requires
+    (subst (λ (n : ℕ). IsGcd n c.args.q c.gcd-divisor.result) k c.gcd-divisor.ensures) in
     let t : bottom (lowest (over c.args.p c.args.q)) < 2 ^ 62 = fits.bottom in
     omega (arith, e, t)
 
@@ -41,6 +46,8 @@ pub returns : goal.returns
 returns c =
     let fp = c.ranges.p in
     let k : c.unsigned_abs-size.result ≡ unsigned_abs c.args.p = simp to_z-of_z at c.unsigned_abs-size.ensures.value in
-    made_is c.args.p c.args.q c.gcd-divisor.result (c.unsigned_abs-size.result / c.gcd-divisor.result) (c.args.q / c.gcd-divisor.result) _ c.made.result c.requires
+    made_is c.args.p c.args.q c.gcd-divisor.result (c.unsigned_abs-size.result / c.gcd-divisor.result)
+    (c.args.q / c.gcd-divisor.result) _ c.made.result c.requires
     (subst (λ (n : ℕ). IsGcd n c.args.q c.gcd-divisor.result) k c.gcd-divisor.ensures)
-    (ap (λ z. int_lt z (pos 0)) (to_z-of_z w128 c.args.p fp)) (ap (λ (n : ℕ). n / c.gcd-divisor.result) k) refl (omega arith) (omega arith) c.made.ensures
+    (ap (λ z. int_lt z (pos 0)) (to_z-of_z w128 c.args.p fp)) (ap (λ (n : ℕ). n / c.gcd-divisor.result) k) refl
+    (omega arith) (omega arith) c.made.ensures

@@ -11,7 +11,12 @@ returns c = λ g few.
     let x = c.smallest_units.result in let y = c.smallest_units-2.result in
     let fx : FitsSigned w128 c.smallest_units.result = unit_fits x c.smallest_units.ensures.small in
     let fy : FitsSigned w128 c.smallest_units-2.result = unit_fits y c.smallest_units-2.ensures.small in
-    let e : to_z w128 (of_z w128 x) +ℤ to_z w128 (of_z w128 y) ≡ x +ℤ y = rw (to_z-of_z w128 x fx, to_z-of_z w128 y fy) refl in
-    let s : to_z w128 (of_z w128 (to_z w128 (of_z w128 x) +ℤ to_z w128 (of_z w128 y))) ≡ x +ℤ y = ap (λ v. to_z w128 (of_z w128 v)) e ∙ to_z-of_z w128 (x +ℤ y) (sum_fits x y c.smallest_units.ensures.small c.smallest_units-2.ensures.small) in
+    let e : to_z w128 (of_z w128 x) +ℤ to_z w128 (of_z w128 y) ≡ x +ℤ y =
+    rw (to_z-of_z w128 x fx, to_z-of_z w128 y fy) refl in
+    let s : to_z w128 (of_z w128 (to_z w128 (of_z w128 x) +ℤ to_z w128 (of_z w128 y))) ≡ x +ℤ y =
+    ap (λ v. to_z w128 (of_z w128 v)) e
+    ∙ to_z-of_z w128 (x +ℤ y) (sum_fits x y c.smallest_units.ensures.small c.smallest_units-2.ensures.small) in
     ap (λ v. int_le (smallest_units g) v) s
-    ∙ below_is g c.args.hi c.args.err x y (smallest_units g) c.smallest_units.ensures.value c.smallest_units-2.ensures.value refl few c.smallest_units.ensures.places c.smallest_units-2.ensures.places
+    ∙ below_is g c.args.hi c.args.err x y
+    (smallest_units g) c.smallest_units.ensures.value c.smallest_units-2.ensures.value refl few
+    c.smallest_units.ensures.places c.smallest_units-2.ensures.places

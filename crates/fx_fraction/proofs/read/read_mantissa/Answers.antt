@@ -8,9 +8,12 @@ returns-clause-some c =
     let w = c.read_digits-whole.ensures in
     let p = c.read_part-part.ensures in
     let short : length c.args.body.now < 2 ^ 63 = search rules in
-    let e = length-take (length c.args.body.now - c.read_digits-whole.result.1) (drop c.read_digits-whole.result.1 c.args.body.now) in
+    let e =
+    length-take (length c.args.body.now - c.read_digits-whole.result.1)
+    (drop c.read_digits-whole.result.1 c.args.body.now) in
     let d = length-drop c.read_digits-whole.result.1 c.args.body.now in
-    mantissa_is c.args.body.now _ c.read_digits-whole.result.1 c.read_part-part.result.digits c.read_part-part.result.places c.read_part-part.result.end
+    mantissa_is c.args.body.now _ c.read_digits-whole.result.1 c.read_part-part.result.digits
+    c.read_part-part.result.places c.read_part-part.result.end
     (record {
       count_is = w.count;
       within = w.within;

@@ -4,4 +4,5 @@ use Rattle.fx_fraction.specs.Digits.{saturated}
 use Rattle.fx_fraction.proofs.read.read_natural.Given as goal
 
 abbrev pub invariant-loop-byte : goal.invariant-loop-byte
-invariant-loop-byte l = AllDigits 10 (take l.byte-index l.text) × (l.value ≡ saturated (digits_value 10 (take l.byte-index l.text)))
+invariant-loop-byte l =
+    AllDigits 10 (take l.byte-index l.text) × (l.value ≡ saturated (digits_value 10 (take l.byte-index l.text)))

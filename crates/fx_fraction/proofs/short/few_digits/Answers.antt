@@ -17,11 +17,14 @@ overflow_add-now c =
 
 pub returns-then-not-is_ascii_digit-clause-count : goal.returns-then-not-is_ascii_digit-clause-count
 returns-then-not-is_ascii_digit-clause-count c =
-    sym (digit_count_is c.args.text.now c.loop-i.i (omega arith) c.loop-i.invariant.digits (λ _. sym c.if-not-is_ascii_digit.ensures.value))
+    sym (digit_count_is c.args.text.now c.loop-i.i (omega arith) c.loop-i.invariant.digits
+    (λ _. sym c.if-not-is_ascii_digit.ensures.value))
 
 pub returns-then-not-is_ascii_digit-clause-value : goal.returns-then-not-is_ascii_digit-clause-value
 returns-then-not-is_ascii_digit-clause-value c =
-    let e : digit_count c.args.text.now ≡ c.loop-i.i = digit_count_is c.args.text.now c.loop-i.i (omega arith) c.loop-i.invariant.digits (λ _. sym c.if-not-is_ascii_digit.ensures.value) in
+    let e : digit_count c.args.text.now ≡ c.loop-i.i =
+    digit_count_is c.args.text.now c.loop-i.i (omega arith) c.loop-i.invariant.digits
+    (λ _. sym c.if-not-is_ascii_digit.ensures.value) in
     c.loop-i.invariant.value ∙ ap (λ (i : ℕ). digits_value_after 10 c.args.start (take i c.args.text.now)) (sym e)
 
 pub loop-i-preserved : goal.loop-i-preserved
@@ -32,16 +35,26 @@ loop-i-preserved c =
     let left : length c.args.text.now - c.loop-i.i ≡ suc (length c.args.text.now - (c.loop-i.i + 1)) = omega arith in
     record {
       digits = below_more _ _ c.loop-i.invariant.digits one;
-      value = rw (after_more c.args.start c.args.text.now c.loop-i.i c.loop-i-test.true, d.0) (rw c.from.ensures (ap (λ (n : ℕ). n * 10 + (get_or c.args.text.now c.loop-i.i 0 - 48)) c.loop-i.invariant.value));
-      few = below_tens_more _ _ _ (omega (arith, d.1, digit)) (subst (IsBelowTens c.loop-i.now) left c.loop-i.invariant.few);
+      value =
+          rw (
+            after_more c.args.start c.args.text.now c.loop-i.i c.loop-i-test.true,
+            d.0,
+          ) (rw c.from.ensures
+          (ap (λ (n : ℕ). n * 10 + (get_or c.args.text.now c.loop-i.i 0 - 48)) c.loop-i.invariant.value));
+      few =
+          below_tens_more _ _ _ (omega (arith, d.1, digit))
+          (subst (IsBelowTens c.loop-i.now) left c.loop-i.invariant.few);
     }
 
 pub returns-clause-count : goal.returns-clause-count
 returns-clause-count c =
     let at_end : c.loop-i.i ≡ length c.args.text.now = omega arith in
-    sym at_end ∙ sym (digit_count_is c.args.text.now c.loop-i.i (omega arith) c.loop-i.invariant.digits (λ lt. absurd (omega arith)))
+    sym at_end ∙ sym (digit_count_is c.args.text.now c.loop-i.i (omega arith) c.loop-i.invariant.digits
+    (λ lt. absurd (omega arith)))
 
 pub returns-clause-value : goal.returns-clause-value
 returns-clause-value c =
-    let e : digit_count c.args.text.now ≡ c.loop-i.i = digit_count_is c.args.text.now c.loop-i.i (omega arith) c.loop-i.invariant.digits (λ lt. absurd (omega arith)) in
+    let e : digit_count c.args.text.now ≡ c.loop-i.i =
+    digit_count_is c.args.text.now c.loop-i.i (omega arith) c.loop-i.invariant.digits
+    (λ lt. absurd (omega arith)) in
     c.loop-i.invariant.value ∙ ap (λ (i : ℕ). digits_value_after 10 c.args.start (take i c.args.text.now)) (sym e)

@@ -11,7 +11,8 @@ pub loop-left-preserved : goal.loop-left-preserved
 loop-left-preserved c =
     let few = c.loop-left.invariant.few in let small = c.loop-left.invariant.small in
     record {
-      value = trimmed_step c.loop-left.front c.loop-left.left (omega arith) c.if-front-eq0.true ∙ c.loop-left.invariant.value;
+      value = trimmed_step c.loop-left.front c.loop-left.left (omega arith) c.if-front-eq0.true
+          ∙ c.loop-left.invariant.value;
       few = omega arith;
       small = omega arith;
     }

@@ -6,6 +6,7 @@ use Rattle.fx_fraction.proofs.short.read_plain.Goals as goal
 pub returns : goal.returns
 returns c =
     let n = c.in_ok-number.number in
-    sym (plain_is c.args.text.now c.behind_sign-body.result.now n.size n.places n.end c.behind_sign-body.ensures c.in_ok-number.ensures (omega arith))
+    sym (plain_is c.args.text.now c.behind_sign-body.result.now n.size n.places n.end c.behind_sign-body.ensures
+    c.in_ok-number.ensures (omega arith))
     ∙ ap (λ b. within_limits b (trimmed n.size n.places)) (sym c.is_negative.ensures)
     ∙ c.lowered.ensures

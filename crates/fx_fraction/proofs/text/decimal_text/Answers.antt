@@ -14,10 +14,13 @@ returns c =
     let k : c.unsigned_abs.result ≡ unsigned_abs c.args.w = simp to_z-of_z at c.unsigned_abs.ensures.value in
     let d = simp to_z-of_z at c.put_size.ensures.written in
     let front : take c.put_size.result c.put_size.new.out ≡ decimal_text c.args.w c.args.f =
-    text_in_two c.args.w c.args.f _ _ _ c.unsigned_abs.result (ap (λ z. int_lt z (pos 0)) (to_z-of_z w128 c.args.w fw)) k c.put_sign-at.ensures.written d in
+    text_in_two c.args.w c.args.f _ _ _ c.unsigned_abs.result
+    (ap (λ z. int_lt z (pos 0)) (to_z-of_z w128 c.args.w fw)) k c.put_sign-at.ensures.written d in
     let within : c.put_size.result ≤ length c.put_size.new.out = search rules in
     record {
       front = front;
       length = sym (length-take-le c.put_size.result c.put_size.new.out within) ∙ ap length front;
-      rest = c.put_size.ensures.rest ∙ drop_later c.put_sign-at.result c.put_size.result c.put_sign-at.new.out c.args.out.now (omega (arith, c.put_size.ensures.end)) c.put_sign-at.ensures.rest;
+      rest = c.put_size.ensures.rest
+          ∙ drop_later c.put_sign-at.result c.put_size.result c.put_sign-at.new.out c.args.out.now
+          (omega (arith, c.put_size.ensures.end)) c.put_sign-at.ensures.rest;
     }

@@ -10,4 +10,5 @@ pub returns-then-left-lt61-clause-rest : goal.returns-then-left-lt61-clause-rest
 returns-then-left-lt61-clause-rest c = mask_is (5 * c.args.rest) c.args.left (omega arith)
 
 pub returns-else-left-lt61-clause-rest : goal.returns-else-left-lt61-clause-rest
-returns-else-left-lt61-clause-rest c = rest_is (5 * c.from-next.result) c.args.left (omega arith) ∙ rw c.from-next.ensures refl
+returns-else-left-lt61-clause-rest c =
+    rest_is (5 * c.from-next.result) c.args.left (omega arith) ∙ rw c.from-next.ensures refl

@@ -11,7 +11,8 @@ invariant-loop-now l = record {
   behind : drop l.end l.out ≡ drop l.end l.initial.out;
   above : l.fn.at ≤ l.end;
   length_is : length l.out ≡ length l.initial.out;
-  written : take l.end l.out ++ glyphs (digits_after l.left l.now) ≡ take l.fn.at l.initial.out ++ glyphs (digits_after l.fn.point l.fn.rest);
+  written : take l.end l.out ++ glyphs (digits_after l.left l.now) ≡ take l.fn.at l.initial.out
+      ++ glyphs (digits_after l.fn.point l.fn.rest);
 }
 
 abbrev pub decreases-loop-now : goal.decreases-loop-now

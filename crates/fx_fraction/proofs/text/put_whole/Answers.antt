@@ -4,4 +4,5 @@ use Rattle.fx_fraction.proofs.text.put_whole.Goals as goal
 
 pub returns-then-whole-lt10-clause-written : goal.returns-then-whole-lt10-clause-written
 returns-then-whole-lt10-clause-written c =
-    c.put_byte.ensures.written ∙ ap (λ ds. take c.args.at c.args.out.now ++ ds) (sym (decimal_digit c.args.whole c.if-whole-lt10.true))
+    c.put_byte.ensures.written
+    ∙ ap (λ ds. take c.args.at c.args.out.now ++ ds) (sym (decimal_digit c.args.whole c.if-whole-lt10.true))

@@ -14,15 +14,21 @@ use Rattle.fx_grid.proofs.divide.quotient_error.Goals as goal
 
 pub returns-in-None : goal.returns-in-None
 returns-in-None c =
-    let g = span c.args.g in let gb = span c.args.gb in let ha = span c.args.ha in let hb = span c.args.hb in let t = machine_range gb hb in
+    let g = span c.args.g in let gb = span c.args.gb in let ha = span c.args.ha in let hb = span c.args.hb in
+    let t = machine_range gb hb in
     let h = subst (λ o. FormsSpan o t) c.in-None.is (c.plus.ensures gb hb c.interval.ensures c.interval-2.ensures) in
     cleared_beyond c.args.point gb (quotient_error g ha hb) t (beyond_fits (Clear gb t ∷ []) (clear_none gb t (inr h)))
 
 pub returns-in-Some : goal.returns-in-Some
 returns-in-Some c =
     let f = c.args.point in let f32 : to_z w32 (of_z w32 f) ≡ f = to_z-of_z w32 f c.ranges.point in
-    let g = span c.args.g in let gb = span c.args.gb in let ha = span c.args.ha in let hb = span c.args.hb in let t = machine_range gb hb in let s = quotient_error g ha hb in
+    let g = span c.args.g in let gb = span c.args.gb in let ha = span c.args.ha in let hb = span c.args.hb in
+    let t = machine_range gb hb in let s = quotient_error g ha hb in
     let h = subst (λ o. FormsSpan o t) c.in-Some.is (c.plus.ensures gb hb c.interval.ensures c.interval-2.ensures) in
     let b = few_short c.args.hb c.requires.hb in
-    let a = c.minus-a.ensures ha (span_product g hb) c.interval-in-Some.ensures (c.times.ensures g hb (few_short c.args.g c.requires.g) b c.interval-in-Some-2.ensures c.interval-in-Some-3.ensures) in
-    c.cleared.ensures s t a h (short_span_sum (few_short c.args.gb c.requires.gb) b) ∙ (λ i. cleared_quotient (f32 i) gb s t)
+    let a =
+    c.minus-a.ensures ha (span_product g hb) c.interval-in-Some.ensures
+    (c.times.ensures g hb (few_short c.args.g c.requires.g) b c.interval-in-Some-2.ensures
+    c.interval-in-Some-3.ensures) in
+    c.cleared.ensures s t a h (short_span_sum (few_short c.args.gb c.requires.gb) b)
+    ∙ (λ i. cleared_quotient (f32 i) gb s t)

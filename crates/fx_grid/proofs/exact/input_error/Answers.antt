@@ -29,6 +29,10 @@ returns c = λ r er.
     let z = back fn ∙ c.minus_both-n.ensures ∙ ap₂ (λ (x : ℤ) (k : ℕ). neg_ℤ x -ℤ pos k) t b in
     let p = back fp ∙ c.numerator-p.ensures.value in
     let k = c.from.ensures ∙ c.denominator-q.ensures.value in
-    let lo = subst (IsEnd c.wide_down-lo.result) ((λ i. lowest_dyadic (floor_div (z i *ℤ pos (2 ^ (g i))) (d i)) (g i)) ∙ input_down q r f e is) c.wide_down-lo.ensures in
-    let hi = subst (IsEnd c.wide_up-hi.result) ((λ i. lowest_dyadic (ceil_div (p i *ℤ pos (2 ^ (g i))) (k i)) (g i)) ∙ input_up q r f e is) c.wide_up-hi.ensures in
-    c.input_answer.ensures e (record { lo = minus (negative r) (unit_value f); hi = r }) (unit_at f) r (c.ends-kept.ensures (narrow e (record { lo = minus (negative r) (unit_value f); hi = r })) lo hi) (subst (λ z. Forms c.unit.result (unit_at z)) f32 c.unit.ensures) turned is
+    let lo = subst (IsEnd c.wide_down-lo.result) ((λ i. lowest_dyadic (floor_div (z i *ℤ pos (2 ^ (g i))) (d i)) (g i))
+    ∙ input_down q r f e is) c.wide_down-lo.ensures in
+    let hi = subst (IsEnd c.wide_up-hi.result) ((λ i. lowest_dyadic (ceil_div (p i *ℤ pos (2 ^ (g i))) (k i)) (g i))
+    ∙ input_up q r f e is) c.wide_up-hi.ensures in
+    c.input_answer.ensures e (record { lo = minus (negative r) (unit_value f); hi = r }) (unit_at f) r
+    (c.ends-kept.ensures (narrow e (record { lo = minus (negative r) (unit_value f); hi = r })) lo hi)
+    (subst (λ z. Forms c.unit.result (unit_at z)) f32 c.unit.ensures) turned is

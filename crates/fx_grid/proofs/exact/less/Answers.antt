@@ -5,7 +5,8 @@ use Rattle.fx_judging.proofs.Judged.{difference_none}
 use Rattle.fx_grid.proofs.exact.less.Goals as goal
 
 pub returns-in-Some : goal.returns-in-Some
-returns-in-Some c = λ f h. c.difference.ensures f (Num c.args.d) (subst (λ v. Forms v f) c.in-Some.is h) c.number.ensures
+returns-in-Some c =
+    λ f h. c.difference.ensures f (Num c.args.d) (subst (λ v. Forms v f) c.in-Some.is h) c.number.ensures
 
 pub returns-in-None : goal.returns-in-None
 returns-in-None c = λ f h. difference_none f (Num c.args.d) (inl (subst (λ v. Forms v f) c.in-None.is h))

@@ -28,7 +28,10 @@ returns c =
     let z = back fn ∙ c.negate-n.ensures ∙ ap neg_ℤ (back fs ∙ c.signed.ensures) in
     let left = c.rest_below-r.ensures.value ∙ ap₂ (λ (x : ℤ) (k : ℕ). x -ℤ floor_div x k *ℤ pos k) t b in
     let word = back fw ∙ c.whole-w.ensures ∙ ap₂ floor_div t b ∙ sym (literal_word q f) in
-    let lo = subst (IsEnd c.wide_down.result) ((λ i. lowest_dyadic (floor_div (z i *ℤ pos (2 ^ (g i))) (d i)) (g i)) ∙ literal_down q f e r left) c.wide_down.ensures in
-    let hi = subst (IsEnd c.wide_up.result) ((λ i. lowest_dyadic (ceil_div (z i *ℤ pos (2 ^ (g i))) (d i)) (g i)) ∙ literal_up q f e r left) c.wide_up.ensures in
+    let lo = subst (IsEnd c.wide_down.result) ((λ i. lowest_dyadic (floor_div (z i *ℤ pos (2 ^ (g i))) (d i)) (g i))
+    ∙ literal_down q f e r left) c.wide_down.ensures in
+    let hi = subst (IsEnd c.wide_up.result) ((λ i. lowest_dyadic (ceil_div (z i *ℤ pos (2 ^ (g i))) (d i)) (g i))
+    ∙ literal_up q f e r left) c.wide_up.ensures in
     let bounds = single (minus (formula_value (word_at (floor (scaled q f)) f)) q) in
-    c.literal_answer.ensures e bounds (word_at (floor (scaled q f)) f) (c.ends-kept.ensures (narrow e bounds) lo hi) (subst (Forms c.word_of.result) (ap₂ word_at word f32) c.word_of.ensures)
+    c.literal_answer.ensures e bounds (word_at (floor (scaled q f)) f) (c.ends-kept.ensures (narrow e bounds) lo hi)
+    (subst (Forms c.word_of.result) (ap₂ word_at word f32) c.word_of.ensures)

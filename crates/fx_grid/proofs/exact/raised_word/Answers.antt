@@ -9,7 +9,8 @@ pub returns-in-Some : goal.returns-in-Some
 returns-in-Some c =
     let z = ap (λ (y : ℤ). y *ℤ pos (2 ^ c.args.s)) (back c.ranges.w) in
     let f : FitsSigned w128 c.in-Some.m = search rules in
-    raised_some c.new.result _ (c.args.w *ℤ pos (2 ^ c.args.s)) (ap fits_128 (sym z) ∙ c.in-Some.ensures.0) (back f ∙ c.in-Some.ensures.1 ∙ z) c.new.ensures
+    raised_some c.new.result _ (c.args.w *ℤ pos (2 ^ c.args.s)) (ap fits_128 (sym z) ∙ c.in-Some.ensures.0) (back f
+    ∙ c.in-Some.ensures.1 ∙ z) c.new.ensures
 
 pub returns-in-None : goal.returns-in-None
 returns-in-None c =

@@ -9,4 +9,5 @@ use Rattle.fx_grid.proofs.grid.down.Goals as goal
 pub returns : goal.returns
 returns c =
     let f : FitsSigned w128 c.mantissa.result = search rules in
-    c.trim.ensures ∙ ap₂ lowest_dyadic (back f ∙ c.mantissa.ensures) c.exponent.ensures.value ∙ ap (λ (d : Dyadic). lowest_dyadic d.m d.e) c.round_down-r.ensures ∙ rounded_down_only c.args.d c.args.e
+    c.trim.ensures ∙ ap₂ lowest_dyadic (back f ∙ c.mantissa.ensures) c.exponent.ensures.value
+    ∙ ap (λ (d : Dyadic). lowest_dyadic d.m d.e) c.round_down-r.ensures ∙ rounded_down_only c.args.d c.args.e

@@ -16,5 +16,7 @@ pub returns : goal.returns
 returns c =
     let f : FitsSigned w128 c.floor_shift.result = search rules in
     let s = c.min-s.result in let m = back c.ranges.m in
-    c.new.ensures ∙ ap (λ (z : ℤ). dyadic z (c.args.e - s)) (back f ∙ c.floor_shift.ensures ∙ ap (λ (z : ℤ). floor_div z (2 ^ s)) m)
-    ∙ trimmed c.args.m s c.args.e (few c.args.m c.ranges.m) (c.min-s.ensures ∙ ap (λ (k : ℕ). min k c.args.e) (c.halvings.ensures ∙ ap (λ (z : ℤ). trailing_zeros w128 (unsigned_abs z)) m))
+    c.new.ensures ∙ ap (λ (z : ℤ). dyadic z (c.args.e - s)) (back f ∙ c.floor_shift.ensures
+    ∙ ap (λ (z : ℤ). floor_div z (2 ^ s)) m)
+    ∙ trimmed c.args.m s c.args.e (few c.args.m c.ranges.m) (c.min-s.ensures
+    ∙ ap (λ (k : ℕ). min k c.args.e) (c.halvings.ensures ∙ ap (λ (z : ℤ). trailing_zeros w128 (unsigned_abs z)) m))

@@ -11,4 +11,6 @@ returns c =
     let f : FitsSigned w128 c.left-n.result = search rules in
     let g : FitsSigned w128 c.numerator-p.result = search rules in
     c.up_quotient.ensures ∙ ap₂ (λ (z : ℤ) (q : ℕ). lowest_dyadic (ceil_div z q) c.args.e)
-    (back f ∙ c.left-n.ensures.value ∙ ap (λ (z : ℤ). z *ℤ pos (2 ^ c.args.e)) (back g ∙ c.numerator-p.ensures.value)) (c.from.ensures ∙ c.denominator-q.ensures.value)
+    (back f ∙ c.left-n.ensures.value
+    ∙ ap (λ (z : ℤ). z *ℤ pos (2 ^ c.args.e)) (back g ∙ c.numerator-p.ensures.value)) (c.from.ensures
+    ∙ c.denominator-q.ensures.value)

@@ -20,5 +20,6 @@ returns c =
     let w = back fw ∙ c.less_power.ensures ∙ ap (λ (z : ℤ). z -ℤ pos 1) (back c.ranges.w) in
     let p = c.two_to-more.ensures.value in
     subst (IsEnd c.assembled-2.result)
-    (ap₂ (λ (z : ℤ) (n : ℕ). lowest_dyadic (z *ℤ pos (2 ^ e) +ℤ pos (c.args.f + (n - 256))) e) w p ∙ ap (λ (z : ℤ). lowest_dyadic z e) (less_one c.args.w c.args.f (2 ^ e) (enough c.args.k)))
+    (ap₂ (λ (z : ℤ) (n : ℕ). lowest_dyadic (z *ℤ pos (2 ^ e) +ℤ pos (c.args.f + (n - 256))) e) w p
+    ∙ ap (λ (z : ℤ). lowest_dyadic z e) (less_one c.args.w c.args.f (2 ^ e) (enough c.args.k)))
     c.assembled-2.ensures

@@ -16,5 +16,6 @@ returns c = λ s t fa fb.
     let u2 = c.ratio_up-u2.ensures ∙ ap₂ up c.high-ah.ensures c.high-bh.ensures in
     let lo = c.least.ensures ∙ ap₂ least d1 d2 in
     let hi = c.greatest.ensures ∙ ap₂ greatest u1 u2 in
-    c.answer.ensures ∙ quotient_answer c.keep-kept.result c.args.a c.args.b s t c.requires.lo c.requires.hi c.requires.b.lo.small c.requires.b.hi.small fa fb
+    c.answer.ensures ∙ quotient_answer c.keep-kept.result c.args.a c.args.b s t c.requires.lo c.requires.hi
+    c.requires.b.lo.small c.requires.b.hi.small fa fb
     (subst (IsIfSmall c.keep-kept.result) (λ i. record { lo = lo i; hi = hi i }) c.keep-kept.ensures)

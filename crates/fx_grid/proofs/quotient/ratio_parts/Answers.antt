@@ -9,5 +9,8 @@ pub returns-clause-some : goal.returns-clause-some
 returns-clause-some c =
     let f : FitsSigned w128 c.left-bottom.result = search rules in
     let g : FitsSigned w128 c.small_mantissa-bm.result = search rules in
-    let e = c.unsigned_abs.ensures.value ∙ ap unsigned_abs (back f ∙ c.left-bottom.ensures.value ∙ ap₂ (λ (z : ℤ) (k : ℕ). z *ℤ pos (2 ^ k)) (back g ∙ c.small_mantissa-bm.ensures.value) c.exponent-ae.ensures.value) in
+    let e = c.unsigned_abs.ensures.value
+    ∙ ap unsigned_abs (back f ∙ c.left-bottom.ensures.value
+    ∙ ap₂ (λ (z : ℤ) (k : ℕ). z *ℤ pos (2 ^ k)) (back g
+    ∙ c.small_mantissa-bm.ensures.value) c.exponent-ae.ensures.value) in
     subst (λ (k : ℕ). 0 < k) (sym e) (bottom_some c.args.b c.args.a.e c.requires.above).1

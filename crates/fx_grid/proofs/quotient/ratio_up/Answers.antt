@@ -9,5 +9,6 @@ use Rattle.fx_grid.proofs.quotient.ratio_up.Goals as goal
 pub returns : goal.returns
 returns c =
     let f : FitsSigned w128 c.ratio_parts-top.result.0 = search rules in
-    c.up_quotient.ensures ∙ ap₂ (λ (z : ℤ) (q : ℕ). lowest_dyadic (ceil_div z q) 24) (back f ∙ c.ratio_parts-top.ensures.top) c.ratio_parts-top.ensures.bottom
+    c.up_quotient.ensures ∙ ap₂ (λ (z : ℤ) (q : ℕ). lowest_dyadic (ceil_div z q) 24) (back f
+    ∙ c.ratio_parts-top.ensures.top) c.ratio_parts-top.ensures.bottom
     ∙ ratio_up_is c.args.a c.args.b (bottom_some c.args.b c.args.a.e c.requires.above).0

@@ -11,4 +11,5 @@ pub returns-then-is_small : goal.returns-then-is_small
 returns-then-is_small c = λ d h. c.negated.ensures ∙ ap turned (subst (λ o. IsEnd o d) c.in-Some.is h)
 
 pub returns-else-is_small : goal.returns-else-is_small
-returns-else-is_small c = λ d h. turned_short d ∙ ap is_small (sym (subst (λ o. IsEnd o d) c.in-Some.is h)) ∙ sym c.if-is_small.ensures
+returns-else-is_small c =
+    λ d h. turned_short d ∙ ap is_small (sym (subst (λ o. IsEnd o d) c.in-Some.is h)) ∙ sym c.if-is_small.ensures

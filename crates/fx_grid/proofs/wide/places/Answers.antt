@@ -17,25 +17,39 @@ returns-then-r-s-clause-small c =
     div_below (n % 2 ^ 128) c.args.d (2 ^ c.args.s) (omega (arith, less)) (omega (arith, d, l))
 
 pub overflow_add-f : goal.overflow_add-f
-overflow_add-f c = let p = below c.loop-i.i c.args.s c.loop-i-test.true c.requires.places in let q = c.loop-i.invariant.small in record { fits = omega (arith, p, q) }
+overflow_add-f c =
+    let p = below c.loop-i.i c.args.s c.loop-i-test.true c.requires.places in
+    let q = c.loop-i.invariant.small in
+    record { fits = omega (arith, p, q) }
 
 pub overflow_add-f-then-t-d : goal.overflow_add-f-then-t-d
-overflow_add-f-then-t-d c = let p = below c.loop-i.i c.args.s c.loop-i-test.true c.requires.places in let q = c.loop-i.invariant.small in record { fits = omega (arith, p, q) }
+overflow_add-f-then-t-d c =
+    let p = below c.loop-i.i c.args.s c.loop-i-test.true c.requires.places in
+    let q = c.loop-i.invariant.small in
+    record { fits = omega (arith, p, q) }
 
 pub overflow_add-f-else-t-d : goal.overflow_add-f-else-t-d
-overflow_add-f-else-t-d c = let p = below c.loop-i.i c.args.s c.loop-i-test.true c.requires.places in let q = c.loop-i.invariant.small in record { fits = omega (arith, p, q) }
+overflow_add-f-else-t-d c =
+    let p = below c.loop-i.i c.args.s c.loop-i-test.true c.requires.places in
+    let q = c.loop-i.invariant.small in
+    record { fits = omega (arith, p, q) }
 
 pub loop-i-preserved : goal.loop-i-preserved
 loop-i-preserved c =
-    let p = double_power c.loop-i.i in let h = c.loop-i.invariant.sum in let l = c.loop-i.invariant.less in let q = c.loop-i.invariant.small in
+    let p = double_power c.loop-i.i in let h = c.loop-i.invariant.sum in let l = c.loop-i.invariant.less in
+    let q = c.loop-i.invariant.small in
     elim c.if-t-d.branch [
       | then-t-d w ↦ (let ge = w.if-t-d.true in let lw = w.left-is in let fw = w.f-is in record {
-        sum = rw (fw, lw) (place_one c.args.r (2 ^ c.loop-i.i) (2 ^ (c.loop-i.i + 1)) c.loop-i.f c.args.d c.loop-i.left p h ge);
+        sum =
+            rw (fw, lw) (place_one c.args.r (2 ^ c.loop-i.i)
+            (2 ^ (c.loop-i.i + 1)) c.loop-i.f c.args.d c.loop-i.left p h ge);
         less = rw lw (omega (arith, ge, l));
         small = rw fw (omega (arith, p, q));
       })
       | else-t-d w ↦ (let lt = w.if-t-d.false in let lw = w.left-is in let fw = w.f-is in record {
-        sum = rw (fw, lw) (place_zero c.args.r (2 ^ c.loop-i.i) (2 ^ (c.loop-i.i + 1)) c.loop-i.f c.args.d c.loop-i.left p h);
+        sum =
+            rw (fw, lw) (place_zero c.args.r (2 ^ c.loop-i.i)
+            (2 ^ (c.loop-i.i + 1)) c.loop-i.f c.args.d c.loop-i.left p h);
         less = rw lw (omega (arith, lt));
         small = rw fw (omega (arith, p, q));
       })

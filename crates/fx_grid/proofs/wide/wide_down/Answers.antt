@@ -12,7 +12,9 @@ returns c =
     let n = c.args.n in let d = c.args.d in let e = c.args.e in let r = c.rest-r.result in
     let fw : FitsSigned w128 c.whole-w.result = search rules in
     let w = back fw ∙ c.whole-w.ensures ∙ ap (λ (z : ℤ). floor_div z d) (back c.ranges.n) in
-    let left : pos r ≡ n -ℤ floor_div n d *ℤ pos d = subst (λ (z : ℤ). pos r ≡ z -ℤ floor_div z d *ℤ pos d) (back c.ranges.n) c.rest-r.ensures in
+    let left : pos r ≡ n -ℤ floor_div n d *ℤ pos d =
+    subst (λ (z : ℤ). pos r ≡ z -ℤ floor_div z d *ℤ pos d) (back c.ranges.n) c.rest-r.ensures in
     subst (IsEnd c.assembled.result)
-    (ap (λ (z : ℤ). lowest_dyadic z e) (ap₂ (λ (x : ℤ) (k : ℕ). x *ℤ pos (2 ^ e) +ℤ pos k) w c.places-f.ensures.value ∙ sym (whole_places n (floor_div n d) d r (2 ^ e) (rest_sum n d r left) c.requires.some)))
+    (ap (λ (z : ℤ). lowest_dyadic z e) (ap₂ (λ (x : ℤ) (k : ℕ). x *ℤ pos (2 ^ e) +ℤ pos k) w c.places-f.ensures.value
+    ∙ sym (whole_places n (floor_div n d) d r (2 ^ e) (rest_sum n d r left) c.requires.some)))
     c.assembled.ensures

@@ -13,4 +13,5 @@ returns c =
     let m = back fm ∙ c.negate-m.ensures ∙ ap neg_ℤ (back c.ranges.n) in
     let floor = λ (z : ℤ). lowest_dyadic (floor_div (z *ℤ pos (2 ^ c.args.e)) c.args.d) c.args.e in
     subst (IsEnd c.opposite.result) (ceiling_turned c.args.n (2 ^ c.args.e) c.args.d c.args.e)
-    (c.opposite.ensures (floor (neg_ℤ c.args.n)) (subst (λ (z : ℤ). IsEnd c.wide_down.result (floor z)) m c.wide_down.ensures))
+    (c.opposite.ensures (floor (neg_ℤ c.args.n))
+    (subst (λ (z : ℤ). IsEnd c.wide_down.result (floor z)) m c.wide_down.ensures))

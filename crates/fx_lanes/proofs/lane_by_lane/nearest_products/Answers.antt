@@ -9,7 +9,8 @@ use Rattle.fx_lanes.proofs.lane_by_lane.nearest_products.Goals as goal
 
 pub nearest_product-requires : goal.nearest_product-requires
 nearest_product-requires g c =
-    let b = g.row.B in let r = c.requires in let v = c.args.v.now in let w = c.args.w.now in let k = c.loop-k.k in let lt = c.loop-k-test.true in
+    let b = g.row.B in let r = c.requires in let v = c.args.v.now in let w = c.args.w.now in let k = c.loop-k.k in
+    let lt = c.loop-k-test.true in
     let ev = passed b v k r.width.most r.left lt in
     let ew = passed b w k r.width.most r.right lt in
     record {
@@ -23,18 +24,22 @@ nearest_product-requires g c =
 
 pub loop-k-preserved : goal.loop-k-preserved
 loop-k-preserved g c =
-    let b = g.row.B in let r = c.requires in let v = c.args.v.now in let w = c.args.w.now in let k = c.loop-k.k in let lt = c.loop-k-test.true in
+    let b = g.row.B in let r = c.requires in let v = c.args.v.now in let w = c.args.w.now in let k = c.loop-k.k in
+    let lt = c.loop-k-test.true in
     let ev = passed b v k r.width.most r.left lt in
     let ew = passed b w k r.width.most r.right lt in
     let s = c.args.s in let i = c.loop-k.invariant in let made = c.nearest_product.result in
     let fits : SFits w64 made = search rules in
     record {
       many = length-set _ _ _ ∙ i.many;
-      filled = filled_next c.loop-k.words k (to_z w64 (of_z w64 made)) (λ j z. z ≡ rounded Nearest (at (pos 0) v j *ℤ at (pos 0) w j) (pos s)) (omega (arith, i.many, lt)) i.filled
+      filled =
+          filled_next c.loop-k.words k (to_z w64 (of_z w64 made))
+          (λ j z. z ≡ rounded Nearest (at (pos 0) v j *ℤ at (pos 0) w j) (pos s)) (omega (arith, i.many, lt)) i.filled
           (to_z-of_z w64 made fits ∙ c.nearest_product.ensures ∙ ap₂ (λ x y. rounded Nearest (x *ℤ y) (pos s)) ev ew);
     }
 
 pub returns : goal.returns
 returns g c =
     let r = c.requires in let i = c.loop-k.invariant in
-    products_made Nearest c.args.s c.args.v.now c.args.w.now c.loop-k.words r.left.many r.right.many i.many (λ j lt. i.filled j (omega (arith, c.loop-k-test.false)))
+    products_made Nearest c.args.s c.args.v.now c.args.w.now c.loop-k.words r.left.many r.right.many i.many
+    (λ j lt. i.filled j (omega (arith, c.loop-k-test.false)))

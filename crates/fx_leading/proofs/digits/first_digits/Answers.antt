@@ -9,5 +9,6 @@ loop-at-preserved c =
     let at = c.loop-at.at in
     let byte = (c.type_inv.text at).fits in
     let d = is_digit (get_or bs at 0) (omega arith) (omega arith) in
-    HasRead_more bs _ _ at _ 1 _ c.loop-at.invariant (omega arith) (prefix_len-drop_yes _ bs at 0 c.loop-at-test.true d.0)
+    HasRead_more bs _ _ at _ 1 _ c.loop-at.invariant (omega arith)
+    (prefix_len-drop_yes _ bs at 0 c.loop-at-test.true d.0)
     (rw (drop_more bs at 0 c.loop-at-test.true) (omega arith))

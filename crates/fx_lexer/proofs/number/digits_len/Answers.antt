@@ -4,7 +4,11 @@ use Rattle.std.specs.Char.{is_ascii_digit}
 use Rattle.fx_lexer.proofs.number.digits_len.Goals as goal
 
 pub returns-then-not-is_ascii_digit : goal.returns-then-not-is_ascii_digit
-returns-then-not-is_ascii_digit c = sym (prefix_len_is is_ascii_digit c.args.bytes.now c.loop-i.i 0 (omega arith) c.loop-i.invariant (λ _. sym c.if-not-is_ascii_digit.ensures.value))
+returns-then-not-is_ascii_digit c =
+    sym (prefix_len_is is_ascii_digit c.args.bytes.now c.loop-i.i 0 (omega arith) c.loop-i.invariant
+    (λ _. sym c.if-not-is_ascii_digit.ensures.value))
 
 pub returns : goal.returns
-returns c = sym (prefix_len_is is_ascii_digit c.args.bytes.now (length c.args.bytes.now) 0 (omega arith) (λ k lt. c.loop-i.invariant k (omega arith)) (λ lt. absurd (omega arith)))
+returns c =
+    sym (prefix_len_is is_ascii_digit c.args.bytes.now (length c.args.bytes.now) 0 (omega arith)
+    (λ k lt. c.loop-i.invariant k (omega arith)) (λ lt. absurd (omega arith)))

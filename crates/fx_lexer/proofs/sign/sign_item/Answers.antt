@@ -8,11 +8,19 @@ use Rattle.fx_lexer.proofs.Items.{found_of}
 use Rattle.fx_lexer.proofs.sign.sign_item.Goals.{In-Some, In-None}
 use Rattle.fx_lexer.proofs.sign.sign_item.Goals as goal
 
-found_some : (c : In-Some) → find (λ s. starts_with eqb c.args.bytes.now s) signs ≡ option_map (λ s. s.now.now) c.find.result
-found_some c = found_of c.args.bytes.now _ (iter_rest c.iter.result) c.iter.ensures.rest c.find.result (find_from_yields_List (λ sign. starts_with eqb c.args.bytes.now sign.now) _ _ c.find.result c.find.ensures.ran (YieldsList-from_slice _ c.iter.ensures.rest) (λ x b q k. search (rules, tests)))
+found_some : (c : In-Some) →
+    find (λ s. starts_with eqb c.args.bytes.now s) signs ≡ option_map (λ s. s.now.now) c.find.result
+found_some c =
+    found_of c.args.bytes.now _ (iter_rest c.iter.result) c.iter.ensures.rest c.find.result
+    (find_from_yields_List (λ sign. starts_with eqb c.args.bytes.now sign.now) _ _ c.find.result c.find.ensures.ran
+    (YieldsList-from_slice _ c.iter.ensures.rest) (λ x b q k. search (rules, tests)))
 
-found_none : (c : In-None) → find (λ s. starts_with eqb c.args.bytes.now s) signs ≡ option_map (λ s. s.now.now) c.find.result
-found_none c = found_of c.args.bytes.now _ (iter_rest c.iter.result) c.iter.ensures.rest c.find.result (find_from_yields_List (λ sign. starts_with eqb c.args.bytes.now sign.now) _ _ c.find.result c.find.ensures.ran (YieldsList-from_slice _ c.iter.ensures.rest) (λ x b q k. search (rules, tests)))
+found_none : (c : In-None) →
+    find (λ s. starts_with eqb c.args.bytes.now s) signs ≡ option_map (λ s. s.now.now) c.find.result
+found_none c =
+    found_of c.args.bytes.now _ (iter_rest c.iter.result) c.iter.ensures.rest c.find.result
+    (find_from_yields_List (λ sign. starts_with eqb c.args.bytes.now sign.now) _ _ c.find.result c.find.ensures.ran
+    (YieldsList-from_slice _ c.iter.ensures.rest) (λ x b q k. search (rules, tests)))
 
 pub returns-in-None : goal.returns-in-None
 returns-in-None c = sym (ap found_sign (found_none c ∙ ap (option_map (λ s. s.now.now)) c.in-None.is))

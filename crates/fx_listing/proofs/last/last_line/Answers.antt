@@ -3,4 +3,6 @@ use Rattle.fx_listing.proofs.Feeds.{last-line-of}
 use Rattle.fx_listing.proofs.last.last_line.Goals as goal
 
 pub returns : goal.returns
-returns c = last-line-of c.args.page.now c.in_ok-end.end c.in_ok-before.before c.in_ok-end.ensures (omega (arith, c.if-end-page.false)) c.in_ok-before.ensures
+returns c =
+    last-line-of c.args.page.now c.in_ok-end.end c.in_ok-before.before c.in_ok-end.ensures
+    (omega (arith, c.if-end-page.false)) c.in_ok-before.ensures

@@ -6,4 +6,5 @@ use Rattle.fx_listing.proofs.rows.put_input.Goals as goal
 pub returns : goal.returns
 returns c =
     let t = numbered_lines row_line 1 1000 in
-    c.in_ok-put_rows.ensures ∙ ap (λ o1. o1 ++ t) c.in_ok-extend_from_slice.ensures.items ∙ append_assoc c.args.out.now.items (codes "x,y\n") t
+    c.in_ok-put_rows.ensures ∙ ap (λ o1. o1 ++ t) c.in_ok-extend_from_slice.ensures.items
+    ∙ append_assoc c.args.out.now.items (codes "x,y\n") t

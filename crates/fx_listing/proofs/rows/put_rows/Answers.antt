@@ -7,5 +7,6 @@ use Rattle.fx_listing.proofs.rows.put_rows.Goals as goal
 pub loop-r-preserved : goal.loop-r-preserved
 loop-r-preserved c =
     let r = c.loop-r.r in
-    ap (λ o. o ++ numbered_lines row_line (r + 1) (1001 - (r + 1))) c.in_ok-put_row.ensures ∙ append_assoc c.loop-r.out.items (row_line r) (numbered_lines row_line (r + 1) (1001 - (r + 1)))
+    ap (λ o. o ++ numbered_lines row_line (r + 1) (1001 - (r + 1))) c.in_ok-put_row.ensures
+    ∙ append_assoc c.loop-r.out.items (row_line r) (numbered_lines row_line (r + 1) (1001 - (r + 1)))
     ∙ ap (λ t. c.loop-r.out.items ++ t) (sym (next_line row_line 1001 r c.loop-r-test.true)) ∙ c.loop-r.invariant

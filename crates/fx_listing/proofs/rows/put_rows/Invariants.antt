@@ -5,4 +5,5 @@ use Rattle.fx_listing.proofs.rows.put_rows.Given as goal
 
 -- what was appended, and the lines that are left, are all of them
 abbrev pub invariant-loop-r : goal.invariant-loop-r
-invariant-loop-r l = l.out.items ++ numbered_lines row_line l.r (1001 - l.r) ≡ l.fn.out.items ++ numbered_lines row_line 1 1000
+invariant-loop-r l =
+    l.out.items ++ numbered_lines row_line l.r (1001 - l.r) ≡ l.fn.out.items ++ numbered_lines row_line 1 1000

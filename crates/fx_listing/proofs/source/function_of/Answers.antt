@@ -3,4 +3,6 @@ use Rattle.fx_listing.proofs.Lengths.{source_short}
 use Rattle.fx_listing.proofs.source.function_of.Goals as goal
 
 pub parse-requires : goal.parse-requires
-parse-requires c = subst (λ t. length t < 2 ^ 32) (sym (c.deref.ensures.value ∙ c.in_ok-source.ensures)) (source_short c.args.n c.requires)
+parse-requires c =
+    subst (λ t. length t < 2 ^ 32) (sym (c.deref.ensures.value ∙ c.in_ok-source.ensures))
+    (source_short c.args.n c.requires)

@@ -7,5 +7,6 @@ use Rattle.fx_listing.proofs.source.put_temps.Goals as goal
 pub loop-i-preserved : goal.loop-i-preserved
 loop-i-preserved c =
     let i = c.loop-i.i in let m = c.args.n + 1 in
-    ap (λ o. o ++ numbered_lines temp_line (i + 1) (m - (i + 1))) c.in_ok-put_temp.ensures ∙ append_assoc c.loop-i.out.items (temp_line i) (numbered_lines temp_line (i + 1) (m - (i + 1)))
+    ap (λ o. o ++ numbered_lines temp_line (i + 1) (m - (i + 1))) c.in_ok-put_temp.ensures
+    ∙ append_assoc c.loop-i.out.items (temp_line i) (numbered_lines temp_line (i + 1) (m - (i + 1)))
     ∙ ap (λ t. c.loop-i.out.items ++ t) (sym (next_line temp_line m i c.loop-i-test.true)) ∙ c.loop-i.invariant

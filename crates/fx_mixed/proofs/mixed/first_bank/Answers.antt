@@ -20,10 +20,15 @@ put_starts-requires-clause-fits c =
     let a = c.args.certified.now in let p = a.program in let certified = c.certified.ensures.certified in
     let start = c.start_law.ensures rewrite a.function p a.certificate certified in
     let inputs = rw c.function.ensures at c.keeps.ensures.inputs in
-    let fit = first_fit p a.certificate certified.program (c.states_fit_law.ensures rewrite a.function p a.certificate (start_words p.codes) (start_state a.function) certified inputs start) in
+    let fit =
+    first_fit p a.certificate certified.program
+    (c.states_fit_law.ensures rewrite a.function p a.certificate (start_words p.codes)
+    (start_state a.function) certified inputs start) in
     let codes : p.codes ≡ map code_of c.as_slice.result.now =
-    sym (ap (map code_of) c.as_slice.ensures.value ∙ ap (λ (q : Program). q.codes) (c.behind-certified.view_is ∙ c.program-2.ensures)) in
-    let widths : least_widths p a.certificate ≡ c.in_ok-bank.bank.widths = sym (c.in_ok-bank.ensures.widths ∙ c.in_ok-widths.ensures.value) in
+    sym (ap (map code_of) c.as_slice.ensures.value
+    ∙ ap (λ (q : Program). q.codes) (c.behind-certified.view_is ∙ c.program-2.ensures)) in
+    let widths : least_widths p a.certificate ≡ c.in_ok-bank.bank.widths =
+    sym (c.in_ok-bank.ensures.widths ∙ c.in_ok-widths.ensures.value) in
     subst (λ ns. FitWidths ns (map first_word (map code_of c.as_slice.result.now))) widths
     (subst (λ cs. FitWidths (least_widths p a.certificate) (map first_word cs)) codes fit)
 
@@ -32,14 +37,21 @@ returns-clause-stored c =
     let a = c.args.certified.now in let p = a.program in let certified = c.certified.ensures.certified in
     let start = c.start_law.ensures rewrite a.function p a.certificate certified in
     let inputs = rw c.function.ensures at c.keeps.ensures.inputs in
-    let fit = first_fit p a.certificate certified.program (c.states_fit_law.ensures rewrite a.function p a.certificate (start_words p.codes) (start_state a.function) certified inputs start) in
+    let fit =
+    first_fit p a.certificate certified.program
+    (c.states_fit_law.ensures rewrite a.function p a.certificate (start_words p.codes)
+    (start_state a.function) certified inputs start) in
     let words : c.put_starts.new.bank.words ≡ first_words p =
-    c.put_starts.ensures.words ∙ ap (map first_word) (ap (map code_of) c.as_slice.ensures.value ∙ ap (λ (q : Program). q.codes) (c.behind-certified.view_is ∙ c.program-2.ensures)) in
+    c.put_starts.ensures.words
+    ∙ ap (map first_word) (ap (map code_of) c.as_slice.ensures.value
+    ∙ ap (λ (q : Program). q.codes) (c.behind-certified.view_is ∙ c.program-2.ensures)) in
     let mixed : IsMixed a (first_words p) = record {
       counted = length-map p.codes first_word;
       fit = fit;
       state = start_state a.function;
-      near = subst (λ z. IsNear a.function p a.certificate z (start_state a.function)) (sym (first_states p certified.program)) start;
+      near =
+          subst (λ z. IsNear a.function p a.certificate z (start_state a.function))
+          (sym (first_states p certified.program)) start;
     } in
     record {
       widths = c.put_starts.ensures.widths ∙ c.in_ok-bank.ensures.widths ∙ c.in_ok-widths.ensures.value;

@@ -4,4 +4,6 @@ use Rattle.std.proofs.lemmas.Iterator.Search.{any_from_yields_List}
 use Rattle.fx_name.proofs.word.is_reserved.Goals as goal
 
 pub returns : goal.returns
-returns c = any_from_yields_List (λ word. bytes_eq word.now c.args.word.now) _ _ c.any.result c.any.ensures.ran (YieldsList-from_slice _ c.iter.ensures.rest) (λ x b q k. search (rules, tests))
+returns c =
+    any_from_yields_List (λ word. bytes_eq word.now c.args.word.now) _ _ c.any.result c.any.ensures.ran
+    (YieldsList-from_slice _ c.iter.ensures.rest) (λ x b q k. search (rules, tests))

@@ -8,5 +8,6 @@ use Rattle.fx_node.proofs.node.put_unit.Goals as goal
 pub returns : goal.returns
 returns g c =
     let p = c.args.program.now in let ws = c.args.registers.now.words in
-    line_put c.args.page.now c.put_number.new.page c.put_words.new.page (decimal c.args.unit) (word_texts (step_taken p ws).outputs (output_points p))
+    line_put c.args.page.now c.put_number.new.page c.put_words.new.page (decimal c.args.unit)
+    (word_texts (step_taken p ws).outputs (output_points p))
     (texts_some p ws c.keeps.ensures.lawful c.requires.words) c.put_number.ensures.written c.put_words.ensures.line

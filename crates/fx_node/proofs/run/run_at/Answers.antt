@@ -9,20 +9,26 @@ use Rattle.fx_node.proofs.run.run_at.Goals as goal
 pub returns-clause-done : goal.returns-clause-done
 returns-clause-done g c =
     let a = c.args.certified.now in let s = c.in-Ok.printer in
-    done-told flaw_of (units_outcome s.node (option_map node_columns s.reader)) (node_outcome a.function a.program c.args.units)
+    done-told flaw_of (units_outcome s.node (option_map node_columns s.reader))
+    (node_outcome a.function a.program c.args.units)
     (outcome_is a c.args.units s.node s.reader c.in-Ok.ensures.node c.in-Ok.ensures.before c.units_law.ensures)
-    (g.S.Source.left c.args.source.now) (g.S.Source.left c.run_lines.new.source) (g.K.Sink.taken c.args.sink.now) (g.K.Sink.taken c.run_lines.new.sink) c.run_lines.result c.run_lines.ensures.done
+    (g.S.Source.left c.args.source.now) (g.S.Source.left c.run_lines.new.source) (g.K.Sink.taken c.args.sink.now)
+    (g.K.Sink.taken c.run_lines.new.sink) c.run_lines.result c.run_lines.ensures.done
 
 pub returns-clause-due : goal.returns-clause-due
 returns-clause-due g c =
     let a = c.args.certified.now in let s = c.in-Ok.printer in
-    due-told flaw_of (units_outcome s.node (option_map node_columns s.reader)) (node_outcome a.function a.program c.args.units)
+    due-told flaw_of (units_outcome s.node (option_map node_columns s.reader))
+    (node_outcome a.function a.program c.args.units)
     (outcome_is a c.args.units s.node s.reader c.in-Ok.ensures.node c.in-Ok.ensures.before c.units_law.ensures)
-    (g.S.Source.left c.args.source.now) (g.S.Source.left c.run_lines.new.source) (g.K.Sink.taken c.args.sink.now) (g.K.Sink.taken c.run_lines.new.sink) c.run_lines.result c.run_lines.ensures.due
+    (g.S.Source.left c.args.source.now) (g.S.Source.left c.run_lines.new.source) (g.K.Sink.taken c.args.sink.now)
+    (g.K.Sink.taken c.run_lines.new.sink) c.run_lines.result c.run_lines.ensures.due
 
 pub returns-clause-prompt : goal.returns-clause-prompt
 returns-clause-prompt g c =
     let a = c.args.certified.now in let s = c.in-Ok.printer in
-    prompt-told (units_outcome s.node (option_map node_columns s.reader)) (node_outcome a.function a.program c.args.units)
+    prompt-told (units_outcome s.node (option_map node_columns s.reader))
+    (node_outcome a.function a.program c.args.units)
     (outcome_is a c.args.units s.node s.reader c.in-Ok.ensures.node c.in-Ok.ensures.before c.units_law.ensures)
-    (g.S.Source.left c.args.source.now) (g.K.Sink.taken c.args.sink.now) (g.S.Source.asked c.args.source.now) (g.S.Source.asked c.run_lines.new.source) c.run_lines.ensures.prompt
+    (g.S.Source.left c.args.source.now) (g.K.Sink.taken c.args.sink.now) (g.S.Source.asked c.args.source.now)
+    (g.S.Source.asked c.run_lines.new.source) c.run_lines.ensures.prompt

@@ -10,7 +10,11 @@ pub returns-else-v-gt0 : goal.returns-else-v-gt0
 returns-else-v-gt0 c = ceiling_far _ _ c.ranges.v c.if-s-ge128.true (omega (arith, ints))
 
 pub overflow_cast-result-else-v-gt0-2-2 : goal.overflow_cast-result-else-v-gt0-2-2
-overflow_cast-result-else-v-gt0-2-2 c = let h = half_fits c.unsigned_abs.result c.args.s c.unsigned_abs.ensures.bound c.if-s-eq0.false in omega (arith, ints, h)
+overflow_cast-result-else-v-gt0-2-2 c =
+    let h = half_fits c.unsigned_abs.result c.args.s c.unsigned_abs.ensures.bound c.if-s-eq0.false in
+    omega (arith, ints, h)
 
 pub overflow_sub-result-else-v-gt0-2 : goal.overflow_sub-result-else-v-gt0-2
-overflow_sub-result-else-v-gt0-2 c = let h = half_fits c.unsigned_abs.result c.args.s c.unsigned_abs.ensures.bound c.if-s-eq0.false in omega (arith, ints, h)
+overflow_sub-result-else-v-gt0-2 c =
+    let h = half_fits c.unsigned_abs.result c.args.s c.unsigned_abs.ensures.bound c.if-s-eq0.false in
+    omega (arith, ints, h)

@@ -24,4 +24,5 @@ returns-then-v-eq0 c =
     (fits_in _ (rw e (record { low = omega (arith, ints); high = omega (arith, ints) })), sym e)
 
 pub returns-else-v-eq0 : goal.returns-else-v-eq0
-returns-else-v-eq0 c = λ h. far_left c.args.v c.args.s (λ e. c.if-v-eq0.false (ap (of_z w128) e)) c.if-s-lt128.false (in_128 _ h)
+returns-else-v-eq0 c =
+    λ h. far_left c.args.v c.args.s (λ e. c.if-v-eq0.false (ap (of_z w128) e)) c.if-s-lt128.false (in_128 _ h)

@@ -12,7 +12,8 @@ overflow_add-size c =
 pub loop-k-preserved : goal.loop-k-preserved
 loop-k-preserved c =
     let ns = c.args.lengths.now in
-    ap (λ (p : ℕ). p + get_or ns c.loop-k.k 0 / 8) c.loop-k.invariant ∙ sym (place_next ns c.loop-k.k c.loop-k-test.true)
+    ap (λ (p : ℕ). p + get_or ns c.loop-k.k 0 / 8) c.loop-k.invariant
+    ∙ sym (place_next ns c.loop-k.k c.loop-k-test.true)
 
 pub returns-clause-size : goal.returns-clause-size
 returns-clause-size c =

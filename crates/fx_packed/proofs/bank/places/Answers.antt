@@ -17,10 +17,12 @@ loop-k-preserved c =
     let ns = c.args.lengths.now in let k = c.loop-k.k in let ps = c.loop-k.places.items in let place = c.loop-k.place in
     let pushed = c.in_ok-push.ensures.items in let many = c.loop-k.invariant.counted in
     let here : at 0 c.push.new.self.items k ≡ place_of ns k =
-    ap (λ (xs : List ℕ). at 0 xs k) pushed ∙ ap (at 0 (ps ++ place ∷ [])) (sym many) ∙ get_or-append_seam ps place [] 0 ∙ c.loop-k.invariant.next in
+    ap (λ (xs : List ℕ). at 0 xs k) pushed ∙ ap (at 0 (ps ++ place ∷ [])) (sym many) ∙ get_or-append_seam ps place [] 0
+    ∙ c.loop-k.invariant.next in
     record {
       counted = ap length pushed ∙ (let l = length-append ps (place ∷ []) in omega arith);
       places = below_more (λ (j : ℕ). at 0 c.push.new.self.items j ≡ place_of ns j) k
-          (λ j lt. ap (λ (xs : List ℕ). at 0 xs j) pushed ∙ get_or_append_left ps (place ∷ []) 0 j (omega arith) ∙ c.loop-k.invariant.places j lt) here;
+          (λ j lt. ap (λ (xs : List ℕ). at 0 xs j) pushed ∙ get_or_append_left ps (place ∷ []) 0 j (omega arith)
+          ∙ c.loop-k.invariant.places j lt) here;
       next = ap (λ (p : ℕ). p + get_or ns k 0 / 8) c.loop-k.invariant.next ∙ sym (place_next ns k c.loop-k-test.true);
     }

@@ -9,10 +9,13 @@ use Rattle.fx_parser.proofs.owned.owned.Goals as goal
 pub owned_inputs-requires : goal.owned_inputs-requires
 owned_inputs-requires c =
     rw c.deref.ensures.value (unmapped subject_of (λ s. IsName s.name) c.args.source_function.inputs.items
-    (unmapped declared_input (λ i. IsName i.name) (map subject_of c.args.source_function.inputs.items) c.requires.1.inputs))
+    (unmapped declared_input (λ i. IsName i.name)
+    (map subject_of c.args.source_function.inputs.items) c.requires.1.inputs))
 
 pub owned_states-requires : goal.owned_states-requires
-owned_states-requires c = rw c.deref-2.ensures.value (unmapped state_value (λ s. IsName s.name) c.args.source_function.states.items c.requires.1.states)
+owned_states-requires c =
+    rw c.deref-2.ensures.value
+    (unmapped state_value (λ s. IsName s.name) c.args.source_function.states.items c.requires.1.states)
 
 pub owned_temps-requires : goal.owned_temps-requires
 owned_temps-requires c = unmapped temp_value (λ t. IsName t.name) c.args.source_function.temps.items c.requires.1.temps

@@ -19,16 +19,24 @@ shift xs ys whole x e = append_assoc xs (x ∷ []) ys ∙ e
 
 pub loop-temp-preserved : goal.loop-temp-preserved
 loop-temp-preserved c =
-    let steps : into_iter_items c.loop-temp.temp-iterator ≡ c.in-Some.temp ∷ into_iter_items c.next.new.self = c.in-Some.ensures.steps.0 in
+    let steps : into_iter_items c.loop-temp.temp-iterator ≡ c.in-Some.temp ∷ into_iter_items c.next.new.self =
+    c.in-Some.ensures.steps.0 in
     let named = subst (All HasName) steps c.loop-temp.invariant.2 in
     let same : c.in_ok-name.name ≡ c.in-Some.temp.name.now = cc (c.in_ok-name.ensures) in
-    let pushed : map parts.temp_of c.push.new.self.items ≡ map parts.temp_of c.loop-temp.owned.items ++ temp_value c.in-Some.temp ∷ [] =
+    let pushed : map parts.temp_of c.push.new.self.items ≡ map parts.temp_of c.loop-temp.owned.items
+    ++ temp_value c.in-Some.temp ∷ [] =
     ap (map parts.temp_of) c.in_ok-push.ensures.items ∙ map-append parts.temp_of c.loop-temp.owned.items _
-    ∙ ap (λ (n : List ℕ). map parts.temp_of c.loop-temp.owned.items ++ record { name = n; tree = tree c.in-Some.temp.expr } ∷ []) same in
-    let before : map parts.temp_of c.loop-temp.owned.items ++ temp_value c.in-Some.temp ∷ map temp_value (into_iter_items c.next.new.self) ≡ map temp_value c.args.temps.items =
-    ap (λ (ts : List Temp). map parts.temp_of c.loop-temp.owned.items ++ map temp_value ts) (sym steps) ∙ c.loop-temp.invariant.3 in (
+    ∙ ap (λ (n : List ℕ). map parts.temp_of c.loop-temp.owned.items ++ record {
+      name = n;
+      tree = tree c.in-Some.temp.expr;
+    } ∷ []) same in
+    let before : map parts.temp_of c.loop-temp.owned.items ++ temp_value c.in-Some.temp
+    ∷ map temp_value (into_iter_items c.next.new.self) ≡ map temp_value c.args.temps.items =
+    ap (λ (ts : List Temp). map parts.temp_of c.loop-temp.owned.items ++ map temp_value ts) (sym steps)
+    ∙ c.loop-temp.invariant.3 in (
       tt {0},
       tt {0},
       All-tail HasName c.in-Some.temp (into_iter_items c.next.new.self) named,
-      ap (λ (ts : List model.Temp). ts ++ map temp_value (into_iter_items c.next.new.self)) pushed ∙ shift _ _ _ _ before,
+      ap (λ (ts : List model.Temp). ts ++ map temp_value (into_iter_items c.next.new.self)) pushed
+          ∙ shift _ _ _ _ before,
     )

@@ -11,4 +11,5 @@ invariant-loop-temp l =
     (goal.iterator-loop-temp).can_next l.temp-iterator ×
     (goal.iterator-loop-temp).is_finite l.temp-iterator ×
     All (λ t. IsName t.name.now) (into_iter_items l.temp-iterator) ×
-    (map parts.temp_of l.owned.items ++ map temp_value (into_iter_items l.temp-iterator) ≡ map temp_value l.fn.temps.items)
+    (map parts.temp_of l.owned.items ++ map temp_value (into_iter_items l.temp-iterator)
+    ≡ map temp_value l.fn.temps.items)

@@ -12,7 +12,8 @@ invariant-items l = record {
   shorter : length l.rest ≤ length l.tokens;
   total : length l.tokens < 2 ^ 32;
   same : AreNamed l.source_functions;
-  on : IsOn (stands_next heads.Def) (one_def l.end) (source_functions_of l.source_functions) (lexemes l.rest) (defs_at l.end (lexemes l.tokens));
+  on : IsOn (stands_next heads.Def) (one_def l.end) (source_functions_of l.source_functions) (lexemes l.rest)
+      (defs_at l.end (lexemes l.tokens));
 }
 
 abbrev pub decreases-items : goal.decreases-items

@@ -9,7 +9,8 @@ abbrev pub invariant-conditions : goal.invariant-conditions
 invariant-conditions l = record {
   room : l.now.depth + length l.rest < 2 ^ 63;
   shorter : length l.rest < length l.tokens;
-  on : IsOn are_open (conditions_step l.end) (conditions_in l.now) (lexemes l.rest) (conditions_at l.end (conditions_in l.fn.conditions) (lexemes l.tokens));
+  on : IsOn are_open (conditions_step l.end) (conditions_in l.now) (lexemes l.rest)
+      (conditions_at l.end (conditions_in l.fn.conditions) (lexemes l.tokens));
 }
 
 abbrev pub decreases-conditions : goal.decreases-conditions

@@ -4,4 +4,5 @@ use Rattle.fx_requirements.specs.Views.{subject_of, demand_value}
 use Rattle.fx_requirements.proofs.ensuring.all_demanded.Given as goal
 
 abbrev pub invariant-loop-subject : goal.invariant-loop-subject
-invariant-loop-subject l = map demand_value l.demands.items ≡ map declared_demand (map subject_of (take l.subject-index l.subjects))
+invariant-loop-subject l =
+    map demand_value l.demands.items ≡ map declared_demand (map subject_of (take l.subject-index l.subjects))

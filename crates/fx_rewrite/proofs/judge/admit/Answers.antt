@@ -17,5 +17,6 @@ returns-in-TooLong c place path there depth =
 pub returns-else-fits : goal.returns-else-fits
 returns-else-fits c place path there depth =
     let s : Rewriting = record { place = place; path = path; rule = c.args.rule } in
-    overfull c.args.function.now s (tree c.args.old.now) c.measure.result c.in-Gives.sizes there c.in-Gives.is c.measure.ensures
+    overfull c.args.function.now s
+    (tree c.args.old.now) c.measure.result c.in-Gives.sizes there c.in-Gives.is c.measure.ensures
     (λ new less more. sym c.if-fits.false ∙ c.fits.ensures place path new there depth less more)

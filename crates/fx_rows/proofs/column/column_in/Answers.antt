@@ -11,7 +11,9 @@ unreachable-requires c = field-missing (fields_of c.args.row.now) c.loop-i.i (om
 pub loop-i-preserved : goal.loop-i-preserved
 loop-i-preserved c =
     let fields = fields_of c.args.row.now in let f = c.trimmed.result.now in
-    found-next c.args.name.now f (map without_blanks (take c.loop-i.i fields)) (map without_blanks (take (c.loop-i.i + 1) fields)) c.loop-i.found c.found_after-found.result c.eq.result c.loop-i.i
+    found-next c.args.name.now f (map without_blanks (take c.loop-i.i fields))
+    (map without_blanks (take (c.loop-i.i + 1) fields)) c.loop-i.found c.found_after-found.result c.eq.result
+    c.loop-i.i
     c.loop-i.invariant c.eq.ensures (trimmed-place fields c.loop-i.i (omega arith))
     (trimmed-take fields c.loop-i.i c.in-Some.field.now f (omega arith) c.in-Some.ensures.value c.trimmed.ensures)
     c.found_after-found.ensures

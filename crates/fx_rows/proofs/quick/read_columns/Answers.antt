@@ -24,12 +24,17 @@ loop-k-preserved c =
     let behind = c.behind_piece-rest.ensures in
     record {
       long = length-set c.loop-k.row i _ ∙ c.loop-k.invariant.long;
-      rest = one_further left (pieces c.in_ok-text.text.now) _ _ (place - column) behind.pieces c.in_ok-text.ensures.pieces
-          ∙ ap (λ n. drop n left) one ∙ ap (λ l. drop (place + 1 - column) l) c.loop-k.invariant.rest ∙ drop-further whole column (place + 1) (omega (arith, le));
+      rest =
+          one_further left (pieces c.in_ok-text.text.now) _ _ (place - column) behind.pieces c.in_ok-text.ensures.pieces
+          ∙ ap (λ n. drop n left) one ∙ ap (λ l. drop (place + 1 - column) l) c.loop-k.invariant.rest
+          ∙ drop-further whole column (place + 1) (omega (arith, le));
       special = behind.special ∙ c.in_ok-text.ensures.special ∙ c.loop-k.invariant.special;
       values = λ is h.
           let x = range-at is c.args.ranges.now h i no_range lt in
-          one_placed is c.args.places.now whole c.args.order.now c.loop-k.row c.loop-k.k _ x.0 (omega (arith, lt, c.loop-k.invariant.long)) x.1
-          (column_value x.0 whole left _ c.in_ok-text.text.now _ _ _ column (place - column) place x.2 c.in_ok-value.ensures c.loop-k.invariant.rest there c.in_ok-text.ensures.pieces behind.pieces)
+          one_placed is c.args.places.now whole c.args.order.now c.loop-k.row c.loop-k.k _ x.0
+          (omega (arith, lt, c.loop-k.invariant.long)) x.1
+          (column_value x.0 whole left _ c.in_ok-text.text.now _ _ _ column
+          (place - column) place x.2 c.in_ok-value.ensures c.loop-k.invariant.rest there c.in_ok-text.ensures.pieces
+          behind.pieces)
           (c.loop-k.invariant.values is h);
     }

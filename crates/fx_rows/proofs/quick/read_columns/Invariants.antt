@@ -11,5 +11,6 @@ invariant-loop-k l = record {
   long : length l.row ≡ length l.ranges;
   rest : pieces_left l.rest ≡ drop l.column (pieces l.line);
   special : special_left l.rest ≡ list_any is_special l.line;
-  values : (is : List Input) → AreRangesOf is l.ranges → (j : ℕ) → j < l.k → HasValue is l.places (pieces l.line) l.row (get_or l.order j 0);
+  values : (is : List Input) → AreRangesOf is l.ranges → (j : ℕ) → j < l.k →
+      HasValue is l.places (pieces l.line) l.row (get_or l.order j 0);
 }

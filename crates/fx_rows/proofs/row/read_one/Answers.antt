@@ -25,9 +25,13 @@ returns-clause-read c = λ yes is h.
     let first : get_or ps 0 0 ≡ 0 = omega (arith, c.if-places-ne0.false) in
     let many = as-many-ranges is c.args.ranges.now h in
     let inputs : is ≡ x.0 ∷ [] = x.1 ∙ ap (λ l. x.0 ∷ l) (drop_all 1 is (omega arith)) in
-    let places : ps ≡ 0 ∷ [] = place-at ps 0 (omega arith) ∙ ap (λ l. get_or ps 0 0 ∷ l) (drop_all 1 ps (omega arith)) ∙ ap (λ n. n ∷ []) first in
+    let places : ps ≡ 0 ∷ [] = place-at ps 0 (omega arith) ∙ ap (λ l. get_or ps 0 0 ∷ l) (drop_all 1 ps (omega arith))
+    ∙ ap (λ n. n ∷ []) first in
     let items : c.push.new.self.items ≡ c.in-Ok.given ∷ [] = search rules in
-    let row : row_of_fields is ps (line_fields c.args.line.now) ≡ Some (record { values = c.in-Ok.given ∷ []; fault = None }) =
-    ap (λ l. row_of_fields l ps (line_fields c.args.line.now)) inputs ∙ ap (λ l. row_of_fields (x.0 ∷ []) l (line_fields c.args.line.now)) places
-    ∙ one_value c.args.line.now c.in-Ok.given c.in-Ok.ensures x.0 (sym (x.2 c.in-Ok.given c.contains.ensures.places) ∙ sym c.contains.ensures.value ∙ c.if-not-contains.false) c.unmarked_line_law.ensures in
+    let row : row_of_fields is ps (line_fields c.args.line.now)
+    ≡ Some (record { values = c.in-Ok.given ∷ []; fault = None }) =
+    ap (λ l. row_of_fields l ps (line_fields c.args.line.now)) inputs
+    ∙ ap (λ l. row_of_fields (x.0 ∷ []) l (line_fields c.args.line.now)) places
+    ∙ one_value c.args.line.now c.in-Ok.given c.in-Ok.ensures x.0 (sym (x.2 c.in-Ok.given c.contains.ensures.places)
+    ∙ sym c.contains.ensures.value ∙ c.if-not-contains.false) c.unmarked_line_law.ensures in
     subst (λ (o : Option Values). IsRowRead (Ok true) c.push.new.self.items o) (sym row) (refl, items)

@@ -9,5 +9,7 @@ loop-k-preserved c =
     let lt : k < 16 = grind (arith, nat_tests, c.loop-k-test.true) in
     record {
       same = c.put_at.ensures.same ∙ c.loop-k.invariant.same;
-      put = one_more n k c.loop-k.rows c.put_at.new.rows c.args.row.now lt c.loop-k.invariant.put c.put_at.ensures.put c.put_at.ensures.others;
+      put =
+          one_more n k c.loop-k.rows c.put_at.new.rows c.args.row.now lt c.loop-k.invariant.put c.put_at.ensures.put
+          c.put_at.ensures.others;
     }

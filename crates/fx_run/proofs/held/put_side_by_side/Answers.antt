@@ -14,8 +14,13 @@ loop-k-preserved g c =
     let made = c.certified_lanes.new.registers in let words = lane k made in
     let lt : k < 16 = grind (arith, nat_tests, c.loop-k-test.true, c.requires.few) in
     let left = none_left p words c.requires.states (length-map made _ ∙ c.certified_lanes.ensures.sizes) in
-    let line = subst (λ (q : Program). c.put_words.new.page ≡ c.loop-k.page ++ step_line q (step_taken q words)) c.program.ensures c.put_words.ensures.line in
+    let line =
+    subst (λ (q : Program). c.put_words.new.page ≡ c.loop-k.page
+    ++ step_line q (step_taken q words)) c.program.ensures c.put_words.ensures.line in
     record {
-      put = next_put p p.inputs k rows (step_taken p words) c.args.page.now c.loop-k.page c.put_words.new.page c.loop-k.invariant.put (c.certified_lanes.ensures.step k lt) left line;
+      put =
+          next_put p p.inputs k rows
+          (step_taken p words) c.args.page.now c.loop-k.page c.put_words.new.page c.loop-k.invariant.put
+          (c.certified_lanes.ensures.step k lt) left line;
       short = omega (arith, c.loop-k.invariant.short, c.put_words.ensures.short);
     }

@@ -5,8 +5,10 @@ use Rattle.fx_run.proofs.run.width_law.Goals as goal
 
 pub returns-clause-least : goal.returns-clause-least
 returns-clause-least c =
-    let lawful = subst IsLawfulProgram c.program.ensures c.keeps.ensures.lawful in (width_of c.args.certified.now.program.width lawful.width).least
+    let lawful = subst IsLawfulProgram c.program.ensures c.keeps.ensures.lawful in
+    (width_of c.args.certified.now.program.width lawful.width).least
 
 pub returns-clause-most : goal.returns-clause-most
 returns-clause-most c =
-    let lawful = subst IsLawfulProgram c.program.ensures c.keeps.ensures.lawful in (width_of c.args.certified.now.program.width lawful.width).most
+    let lawful = subst IsLawfulProgram c.program.ensures c.keeps.ensures.lawful in
+    (width_of c.args.certified.now.program.width lawful.width).most

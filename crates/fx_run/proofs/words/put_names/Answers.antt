@@ -12,7 +12,8 @@ loop-j-preserved c =
     let number : 1 + j ≡ j + 1 = omega arith in
     record {
       line = ap (λ t. t ++ rest_of_line (drop (j + 1) all)) c.put_name.ensures.written
-          ∙ field_put all c.args.count j (codes "out" ++ decimal (j + 1)) c.loop-j.page c.args.page.now (names_length 1 c.args.count) lt
+          ∙ field_put all c.args.count j (codes "out" ++ decimal (j + 1)) c.loop-j.page c.args.page.now
+          (names_length 1 c.args.count) lt
           (name_at 1 c.args.count j lt ∙ ap (λ k. codes "out" ++ decimal k) number) c.loop-j.invariant.line;
       short = omega (arith, c.loop-j.invariant.short, c.put_name.ensures.short);
     }

@@ -16,15 +16,19 @@ loop-j-init g c =
     let lawful = c.output_count-count.ensures.lawful in let some = lawful.counts.some_output in
     let many = fields_length p ws lawful c.requires.words in
     record {
-      line = ap (λ t. c.args.page.now ++ t) (no_field (word_texts (step_taken p ws).outputs (output_points p)) (omega arith));
+      line =
+          ap (λ t. c.args.page.now ++ t)
+          (no_field (word_texts (step_taken p ws).outputs (output_points p)) (omega arith));
       short = omega arith;
     }
 
 pub put_word-requires-clause-point : goal.put_word-requires-clause-point
 put_word-requires-clause-point g c =
     let p = c.args.program.now in
-    let lt : c.loop-j.j < p.outputs = grind (arith, nat_tests, c.loop-j-test.true, c.output_count-count.ensures.value) in
-    let f : to_z w32 (of_z w32 c.output_at-word.result.1) ≡ at (pos 0) (output_points p) c.loop-j.j = search (rules, c.output_at-word.ensures.point) in
+    let lt : c.loop-j.j < p.outputs =
+    grind (arith, nat_tests, c.loop-j-test.true, c.output_count-count.ensures.value) in
+    let f : to_z w32 (of_z w32 c.output_at-word.result.1) ≡ at (pos 0) (output_points p) c.loop-j.j =
+    search (rules, c.output_at-word.ensures.point) in
     subst IsPoint (sym f) (point_at p c.loop-j.j c.output_count-count.ensures.lawful lt)
 
 pub loop-j-preserved : goal.loop-j-preserved
@@ -35,12 +39,17 @@ loop-j-preserved g c =
     let count : c.output_count-count.result ≡ p.outputs = c.output_count-count.ensures.value in
     let lt : j < p.outputs = grind (arith, nat_tests, c.loop-j-test.true, count) in
     let below : j < c.output_count-count.result = omega (arith, lt, count) in
-    let f : to_z w32 (of_z w32 c.output_at-word.result.1) ≡ at (pos 0) (output_points p) j = search (rules, c.output_at-word.ensures.point) in
-    let w : to_z w64 (of_z w64 c.output_at-word.result.0) ≡ at (pos 0) (step_taken p ws).outputs j = search (rules, c.output_at-word.ensures.word) in
-    let text = field_at p ws j lawful c.requires.words lt ∙ ap (λ (x : ℤ). decimal_text x (at (pos 0) (output_points p) j)) (sym w) ∙ ap (decimal_text (to_z w64 (of_z w64 c.output_at-word.result.0))) (sym f) in
+    let f : to_z w32 (of_z w32 c.output_at-word.result.1) ≡ at (pos 0) (output_points p) j =
+    search (rules, c.output_at-word.ensures.point) in
+    let w : to_z w64 (of_z w64 c.output_at-word.result.0) ≡ at (pos 0) (step_taken p ws).outputs j =
+    search (rules, c.output_at-word.ensures.word) in
+    let text = field_at p ws j lawful c.requires.words lt
+    ∙ ap (λ (x : ℤ). decimal_text x (at (pos 0) (output_points p) j)) (sym w)
+    ∙ ap (decimal_text (to_z w64 (of_z w64 c.output_at-word.result.0))) (sym f) in
     record {
       line = ap (λ t. t ++ rest_of_line (drop (j + 1) all)) c.put_word.ensures.written
-          ∙ field_put all c.output_count-count.result j _ c.loop-j.page c.args.page.now (fields_length p ws lawful c.requires.words ∙ sym count) below
+          ∙ field_put all c.output_count-count.result j _ c.loop-j.page c.args.page.now
+          (fields_length p ws lawful c.requires.words ∙ sym count) below
           text c.loop-j.invariant.line;
       short = omega (arith, c.loop-j.invariant.short, c.put_word.ensures.short);
     }
@@ -51,5 +60,6 @@ returns-clause-line g c =
     let all = word_texts (step_taken p ws).outputs (output_points p) in
     let count : c.output_count-count.result ≡ p.outputs = c.output_count-count.ensures.value in
     let end : c.loop-j.j ≡ p.outputs = grind (arith, nat_tests, c.loop-j-test.false, c.loop-j.auto.j-end, count) in
-    all_fields all p.outputs (c.loop-j.page) (c.args.page.now ++ line_of all) (fields_length p ws c.output_count-count.ensures.lawful c.requires.words)
+    all_fields all p.outputs (c.loop-j.page) (c.args.page.now ++ line_of all)
+    (fields_length p ws c.output_count-count.ensures.lawful c.requires.words)
     (ap (λ k. c.loop-j.page ++ rest_of_line (drop k all)) (sym end) ∙ c.loop-j.invariant.line)

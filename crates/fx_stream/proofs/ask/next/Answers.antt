@@ -7,10 +7,14 @@ returns-clause-settled g c = λ none. c.settle_before.ensures.settled (inl none)
 
 pub returns-clause-asked : goal.returns-clause-asked
 returns-clause-asked g c = λ o left before count ran.
-    c.ask.ensures.asked o _ left before count (λ out. (g.met.P.Printer.none c.settle_before.new.printer (c.settle_before.ensures.settled out)).0)
-    (put-out o _ _ c.args.lines.now left _ before _ c.args.page.now c.settle_before.new.page count _ ran c.settle_before.ensures.put)
+    c.ask.ensures.asked o _ left before count
+    (λ out. (g.met.P.Printer.none c.settle_before.new.printer (c.settle_before.ensures.settled out)).0)
+    (put-out o _ _ c.args.lines.now left _ before _ c.args.page.now c.settle_before.new.page count _ ran
+    c.settle_before.ensures.put)
 
 pub returns-clause-prompt : goal.returns-clause-prompt
 returns-clause-prompt g c = λ o left before count ran.
-    c.ask.ensures.prompt o _ left before count (λ out. (g.met.P.Printer.none c.settle_before.new.printer (c.settle_before.ensures.settled out)).0)
-    (put-out o _ _ c.args.lines.now left _ before _ c.args.page.now c.settle_before.new.page count _ ran c.settle_before.ensures.put)
+    c.ask.ensures.prompt o _ left before count
+    (λ out. (g.met.P.Printer.none c.settle_before.new.printer (c.settle_before.ensures.settled out)).0)
+    (put-out o _ _ c.args.lines.now left _ before _ c.args.page.now c.settle_before.new.page count _ ran
+    c.settle_before.ensures.put)

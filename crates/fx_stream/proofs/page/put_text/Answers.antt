@@ -7,13 +7,20 @@ long : (out old : List ℕ) → 128 ≤ length old → length (out ++ drop 128 o
 long out old room same = omega (arith, length-append out (drop 128 old), length-drop 128 old, room, same)
 
 fits : (c : goal.After-slice_known-in-Some-1) → c.decimal_text.result ≤ length c.decimal_text.new.out
-fits c = omega (arith, length-take c.decimal_text.result c.decimal_text.new.out, ap length c.decimal_text.ensures.front, c.decimal_text.ensures.length)
+fits c =
+    omega (
+      arith,
+      length-take c.decimal_text.result c.decimal_text.new.out,
+      ap length c.decimal_text.ensures.front,
+      c.decimal_text.ensures.length,
+    )
 
 pub returns-in-Some-clause-text : goal.returns-in-Some-clause-text
 returns-in-Some-clause-text c =
     let fw = c.ranges.word in
     let fp = c.ranges.point in
-    let front : take c.decimal_text.result c.decimal_text.new.out ≡ decimal_text c.args.word c.args.point = search rules in
+    let front : take c.decimal_text.result c.decimal_text.new.out ≡ decimal_text c.args.word c.args.point =
+    search rules in
     take-append-le c.decimal_text.result c.decimal_text.new.out _ (fits c) ∙ front
 
 pub returns-in-Some-clause-few : goal.returns-in-Some-clause-few

@@ -3,4 +3,5 @@ use Rattle.fx_synth.proofs.synthesis.searched.Goals as goal
 
 pub returns : goal.returns
 returns c = λ steps stands.
-    stands_still c.args.wanted c.args.function.now steps c.args.answer c.in_ok-candidate.candidate c.taken.result stands c.in_ok-candidate.ensures c.taken.ensures
+    stands_still c.args.wanted c.args.function.now steps c.args.answer c.in_ok-candidate.candidate c.taken.result stands
+    c.in_ok-candidate.ensures c.taken.ensures

@@ -9,11 +9,15 @@ use Rattle.fx_synth.proofs.synthesis.synthesise.Goals as goal
 
 pub returns-in-Some-clause-found : goal.returns-in-Some-clause-found
 returns-in-Some-clause-found c =
-    let w : Wanted = record { width = c.args.width; tries = c.args.tries; round = c.args.round } in let fn = c.args.function.now in
-    found w fn c.in-Some.certified (subst (IsBestAfter w fn (take c.args.tries (single_steps fn))) c.in-Some.is c.in_ok-certified.ensures)
+    let w : Wanted = record { width = c.args.width; tries = c.args.tries; round = c.args.round } in
+    let fn = c.args.function.now in
+    found w fn c.in-Some.certified
+    (subst (IsBestAfter w fn (take c.args.tries (single_steps fn))) c.in-Some.is c.in_ok-certified.ensures)
 
 pub returns-in-Some-outside-clause-not_found : goal.returns-in-Some-outside-clause-not_found
 returns-in-Some-outside-clause-not_found c =
-    let w : Wanted = record { width = c.args.width; tries = c.args.tries; round = c.args.round } in let fn = c.args.function.now in
-    not_found w fn (outside_view c.in-Some-outside.outside) (subst (IsBestAfter w fn (take c.args.tries (single_steps fn))) c.in-None.is c.in_ok-certified.ensures)
+    let w : Wanted = record { width = c.args.width; tries = c.args.tries; round = c.args.round } in
+    let fn = c.args.function.now in
+    not_found w fn (outside_view c.in-Some-outside.outside)
+    (subst (IsBestAfter w fn (take c.args.tries (single_steps fn))) c.in-None.is c.in_ok-certified.ensures)
     (sym c.in_ok-outside.ensures.outside ∙ ap (option_map outside_view) c.in-Some-outside.is)

@@ -9,4 +9,5 @@ use Rattle.fx_template.proofs.format.is_unit.Goals as goal
 pub returns : goal.returns
 returns c = λ lt met.
     let all : c.loop-j.j ≡ length c.args.coefs.now = omega arith in
-    unit_by c.args.coefs.now c.args.i lt (subst (λ (n : ℕ). (k : ℕ) → k < n → Num (at zero_dyadic c.args.coefs.now k) ≡ unit_coef c.args.i k) all c.loop-j.invariant)
+    unit_by c.args.coefs.now c.args.i lt (subst (λ (n : ℕ). (k : ℕ) → k < n →
+    Num (at zero_dyadic c.args.coefs.now k) ≡ unit_coef c.args.i k) all c.loop-j.invariant)

@@ -5,7 +5,8 @@ use Rattle.fx_template.proofs.round.hull.Goals as goal
 
 pub returns-in-Some-b : goal.returns-in-Some-b
 returns-in-Some-b c = λ s t h k.
-    hull_forms c.joined.result c.in-Some.x c.in-Some-b.y s t c.joined.ensures (subst (λ o. FormsSpan o s) c.in-Some.is h) (subst (λ o. FormsSpan o t) c.in-Some-b.is k)
+    hull_forms c.joined.result c.in-Some.x c.in-Some-b.y s t c.joined.ensures
+    (subst (λ o. FormsSpan o s) c.in-Some.is h) (subst (λ o. FormsSpan o t) c.in-Some-b.is k)
 
 pub returns-in-None-b : goal.returns-in-None-b
 returns-in-None-b c = λ s t h k. hull_none s t (inr (subst (λ o. FormsSpan o t) c.in-None-b.is k))

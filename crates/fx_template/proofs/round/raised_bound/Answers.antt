@@ -15,10 +15,18 @@ use Rattle.fx_template.proofs.round.raised_bound.Goals as goal
 
 pub returns : goal.returns
 returns c =
-    let t = transition_in c.args.t.now in let side = c.args.side.now in let bounds = c.args.bounds.now in let i = c.args.i in let left = c.template_bound_of-left.result in
-    let lined = subst (λ ls. FormsSpan left (next_template t.inputs t.states t.next (lines_view ls) (templates_in c.args.templates.now) side i)) c.deref.ensures.value c.template_bound_of-left.ensures in
-    let rowed = subst (λ rs. FormsSpan left (next_template t.inputs t.states t.next t.lines rs side i)) c.requires.templates lined in
+    let t = transition_in c.args.t.now in let side = c.args.side.now in let bounds = c.args.bounds.now in
+    let i = c.args.i in let left = c.template_bound_of-left.result in
+    let lined =
+    subst (λ ls. FormsSpan left
+    (next_template t.inputs t.states t.next (lines_view ls)
+    (templates_in c.args.templates.now) side i)) c.deref.ensures.value c.template_bound_of-left.ensures in
+    let rowed =
+    subst (λ rs. FormsSpan left
+    (next_template t.inputs t.states t.next t.lines rs side i)) c.requires.templates lined in
     let own = subst (λ (x : Interval). FormsSpan c.interval.result (span x)) c.bound_at.ensures c.interval.ensures in
     let s = raised_span side t bounds i in
-    c.settle.ensures s (c.hull-held.ensures (span (at zero_interval bounds i)) (next_template t.inputs t.states t.next t.lines (unit_templates t.states bounds) side i) own rowed)
-    ∙ ap (λ (e : ℕ). let r : Result Interval Why = narrowest e (span_bounds s) (λ b. inside s (span b)) in r) c.template_grid.ensures
+    c.settle.ensures s (c.hull-held.ensures (span (at zero_interval bounds i))
+    (next_template t.inputs t.states t.next t.lines (unit_templates t.states bounds) side i) own rowed)
+    ∙ ap (λ (e : ℕ). let r : Result Interval Why = narrowest e (span_bounds s) (λ b. inside s (span b)) in
+    r) c.template_grid.ensures

@@ -8,6 +8,8 @@ use Rattle.fx_template.proofs.stand.first_fallen.Goals as goal
 pub overflow_add-result : goal.overflow_add-result
 overflow_add-result c =
     let t = transition_in c.args.t.now in
-    let less = first_within (stands sides.Error t c.deref-in-None.result.now) t.states c.in-Some-first_of_side.i (sym c.in-Some-first_of_side.ensures) in
+    let less =
+    first_within (stands sides.Error t c.deref-in-None.result.now) t.states c.in-Some-first_of_side.i
+    (sym c.in-Some-first_of_side.ensures) in
     let few = c.requires.modest.states in
     record { fits = omega (arith, less, few) }

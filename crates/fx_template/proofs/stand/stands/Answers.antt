@@ -10,7 +10,13 @@ use Rattle.fx_template.proofs.stand.stands.Goals as goal
 
 pub returns-then-is_small_interval : goal.returns-then-is_small_interval
 returns-then-is_small_interval c =
-    let t = transition_in c.args.t.now in let claims = kept_template t.inputs t.states t.next t.lines (unit_templates t.states c.args.bounds.now) c.args.side.now c.args.i in
-    let judged_is = c.template_judgement.ensures ∙ (λ k. judged (kept_template t.inputs t.states t.next (lines_view (c.deref.ensures.value k)) (c.requires.templates k) c.args.side.now c.args.i)) in
-    let small = ap (λ (x : Interval). is_small x.lo && is_small x.hi) (sym c.bound_at.ensures) ∙ sym c.is_small_interval.ensures ∙ c.if-is_small_interval.true in
+    let t = transition_in c.args.t.now in
+    let claims =
+    kept_template t.inputs t.states t.next t.lines
+    (unit_templates t.states c.args.bounds.now) c.args.side.now c.args.i in
+    let judged_is = c.template_judgement.ensures
+    ∙ (λ k. judged (kept_template t.inputs t.states t.next (lines_view (c.deref.ensures.value k))
+    (c.requires.templates k) c.args.side.now c.args.i)) in
+    let small = ap (λ (x : Interval). is_small x.lo && is_small x.hi) (sym c.bound_at.ensures)
+    ∙ sym c.is_small_interval.ensures ∙ c.if-is_small_interval.true in
     c.is_met-met.ensures claims judged_is ∙ sym (ap (λ (b : Bool). b && are_met claims) small)

@@ -7,4 +7,6 @@ use Rattle.fx_template.specs.PlainRounds.{unit_template}
 use Rattle.fx_template.proofs.unit.unit_templates.Given as goal
 
 abbrev pub invariant-loop-i : goal.invariant-loop-i
-invariant-loop-i l = templates_in l.templates.items ≡ tabulate l.i (λ (i : ℕ). unit_template l.fn.states (at zero_interval l.fn.bounds i) i)
+invariant-loop-i l =
+    templates_in l.templates.items
+    ≡ tabulate l.i (λ (i : ℕ). unit_template l.fn.states (at zero_interval l.fn.bounds i) i)

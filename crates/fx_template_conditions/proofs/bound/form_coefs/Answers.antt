@@ -13,4 +13,5 @@ loop-j-preserved c =
     let room : j < length c.loop-j.coefs = search rules in
     let value : c.coef_at.result ≡ at zero_dyadic xs j = grind (arith, c.coef_at.ensures) in
     let short = shorter 192 (omega arith) (c.requires.form.coefs j) in
-    set_formed c.loop-j.coefs j f c.number.result c.loop-j.invariant room (subst (λ (d : Dyadic). Forms c.number.result (Num d)) value c.number.ensures) short
+    set_formed c.loop-j.coefs j f c.number.result c.loop-j.invariant room
+    (subst (λ (d : Dyadic). Forms c.number.result (Num d)) value c.number.ensures) short

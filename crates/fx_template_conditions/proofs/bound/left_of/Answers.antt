@@ -10,5 +10,6 @@ pub returns : goal.returns
 returns c = λ f h.
     let g = Num (at zero_dyadic c.args.template.now c.args.k) in
     let coef = subst (λ (d : Dyadic). Forms c.number.result (Num d)) c.coef_at.ensures c.number.ensures in
-    c.difference.ensures f (Product (Num c.args.times) g) (subst (λ (o : Option Dyadic). Forms o f) (sym c.coefficient.ensures) h)
+    c.difference.ensures f (Product (Num c.args.times) g)
+    (subst (λ (o : Option Dyadic). Forms o f) (sym c.coefficient.ensures) h)
     (c.scaled_number-product.ensures g (shorter 512 (omega arith) c.requires.template) coef)

@@ -9,6 +9,8 @@ use Rattle.fx_template_conditions.proofs.bound.state_product.Goals as goal
 
 pub returns : goal.returns
 returns c = λ f lt left short.
-    let k = c.args.k in let written = templates_in c.args.templates.now in let rs = templates_of c.args.states written in
+    let k = c.args.k in let written = templates_in c.args.templates.now in
+    let rs = templates_of c.args.states written in
     let number = subst (λ o. Forms o (f k)) (sym c.coefficient.ensures) (left k lt) in
-    c.times.ensures (point (f k)) (rs.bound k) (short_point (shorter 512 (omega arith) short)) (bound_short written c.requires.templates c.args.states k) (c.point.ensures (f k) number) c.bound_of.ensures
+    c.times.ensures (point (f k)) (rs.bound k) (short_point (shorter 512 (omega arith) short))
+    (bound_short written c.requires.templates c.args.states k) (c.point.ensures (f k) number) c.bound_of.ensures

@@ -13,19 +13,27 @@ use Rattle.fx_template_conditions.proofs.bound.take_shares.Goals as goal
 pub take_share-requires-clause-times : goal.take_share-requires-clause-times
 take_share-requires-clause-times c =
     let n = c.loop-share.share-index in let s = c.share-item.result in
-    subst (λ (x : written.Share). IsShort 96 (Num x.times)) (sym c.share-item.is) (share_short c.args.shares.now n s c.requires.shares (omega arith))
+    subst (λ (x : written.Share). IsShort 96 (Num x.times)) (sym c.share-item.is)
+    (share_short c.args.shares.now n s c.requires.shares (omega arith))
 
 pub loop-share-preserved : goal.loop-share-preserved
 loop-share-preserved c = λ f left j lt.
-    let n = c.loop-share.share-index in let xs = c.args.shares.now in let s = c.share-item.result in let rs = templates_of c.args.states (templates_in c.args.templates.now) in
+    let n = c.loop-share.share-index in let xs = c.args.shares.now in let s = c.share-item.result in
+    let rs = templates_of c.args.states (templates_in c.args.templates.now) in
     let next = next_shares xs n s (omega arith) in
-    let same = subst (λ (x : written.Share). shares_of (take (n + 1) xs) ≡ shares_of (take n xs) ++ share_of x ∷ []) (sym c.share-item.is) next in
-    let more = c.take_share.ensures (λ (k : ℕ). left_over (f k) rs (shares_of (take n xs)) k) (c.loop-share.invariant f left) j lt in
+    let same =
+    subst (λ (x : written.Share). shares_of (take (n + 1) xs) ≡ shares_of (take n xs) ++ share_of x ∷ [])
+    (sym c.share-item.is) next in
+    let more =
+    c.take_share.ensures (λ (k : ℕ). left_over (f k) rs (shares_of (take n xs)) k)
+    (c.loop-share.invariant f left) j lt in
     rw (same, left_more (f j) rs (shares_of (take n xs)) (share_of s) j) more
 
 pub returns : goal.returns
 returns c = λ f left j lt.
-    let n = c.loop-share.share-index in let xs = c.args.shares.now in let rs = templates_of c.args.states (templates_in c.args.templates.now) in
+    let n = c.loop-share.share-index in let xs = c.args.shares.now in
+    let rs = templates_of c.args.states (templates_in c.args.templates.now) in
     let end : n ≡ length xs = omega (arith, c.loop-share.auto.share-index-end, c.loop-share-test.false) in
     let all : take n xs ≡ xs = ap (λ (m : ℕ). take m xs) end ∙ take-length xs in
-    subst (λ (ys : List written.Share). Forms (at None c.loop-share.coefs (c.args.inputs + j)) (left_over (f j) rs (shares_of ys) j)) all (c.loop-share.invariant f left j lt)
+    subst (λ (ys : List written.Share). Forms (at None c.loop-share.coefs (c.args.inputs + j))
+    (left_over (f j) rs (shares_of ys) j)) all (c.loop-share.invariant f left j lt)

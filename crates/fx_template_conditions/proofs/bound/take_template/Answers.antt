@@ -17,9 +17,17 @@ loop-k-preserved c = λ f left.
     let number = before.1 k (omega arith) c.loop-k-test.true in
     elim c.match-quick_left.branch [
       | in-Some w ↦ (
-          let quick = subst (λ (o : Option Dyadic). IfSome o (λ x. Forms (Some x) (d k))) w.in-Some.is (c.quick_left.ensures c.args.times (f k) c.keeps.ensures c.short_times-short.ensures.is number) in
-          subst (λ (ys : List (Option Dyadic)). AreLeft ys i (k + 1) d × ((j : ℕ) → k + 1 ≤ j → j < n → Forms (at None ys (i + j)) (f j))) (sym w.coefs-is) (set_left xs i n k f d (Some w.in-Some.quick) room before.0 before.1 quick))
+          let quick =
+          subst (λ (o : Option Dyadic). IfSome o (λ x. Forms (Some x) (d k))) w.in-Some.is
+          (c.quick_left.ensures c.args.times (f k) c.keeps.ensures c.short_times-short.ensures.is number) in
+          subst (λ (ys : List (Option Dyadic)). AreLeft ys i (k + 1) d ×
+          ((j : ℕ) → k + 1 ≤ j → j < n →
+          Forms (at None ys (i + j)) (f j))) (sym w.coefs-is) (set_left xs i n k f d
+          (Some w.in-Some.quick) room before.0 before.1 quick))
       | in-None w ↦ (
           let any = w.left_of.ensures (f k) number in
-          subst (λ (ys : List (Option Dyadic)). AreLeft ys i (k + 1) d × ((j : ℕ) → k + 1 ≤ j → j < n → Forms (at None ys (i + j)) (f j))) (sym w.coefs-is) (set_left xs i n k f d w.left_of.result room before.0 before.1 any))
+          subst (λ (ys : List (Option Dyadic)). AreLeft ys i (k + 1) d ×
+          ((j : ℕ) → k + 1 ≤ j → j < n →
+          Forms (at None ys (i + j)) (f j))) (sym w.coefs-is)
+          (set_left xs i n k f d w.left_of.result room before.0 before.1 any))
     ]

@@ -8,4 +8,6 @@ use Rattle.fx_template_conditions.proofs.bound.take_template.Given as goal
 
 abbrev pub invariant-loop-k : goal.invariant-loop-k
 invariant-loop-k l = (c : ℕ → Formula) → AreLeft l.fn.coefs l.fn.inputs l.fn.states c →
-    (AreLeft l.coefs l.fn.inputs l.k (λ i. Difference (c i) (Product (Num l.fn.times) (Num (at zero_dyadic l.fn.template i))))) × ((i : ℕ) → l.k ≤ i → i < l.fn.states → Forms (at None l.coefs (l.fn.inputs + i)) (c i))
+    (AreLeft l.coefs l.fn.inputs l.k
+    (λ i. Difference (c i) (Product (Num l.fn.times) (Num (at zero_dyadic l.fn.template i))))) × ((i : ℕ) →
+    l.k ≤ i → i < l.fn.states → Forms (at None l.coefs (l.fn.inputs + i)) (c i))

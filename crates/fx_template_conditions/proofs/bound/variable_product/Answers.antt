@@ -11,4 +11,5 @@ pub returns : goal.returns
 returns c = λ n f lt formed.
     let j = c.args.j in let ls = lines_view c.args.lines.now in let side = c.args.side.now in
     let number = subst (λ o. Forms o (f j)) (sym c.coefficient.ensures) (formed.each j lt) in
-    c.times.ensures (point (f j)) (side_at side ls j) (short_point (shorter 512 (omega arith) (formed.short j lt))) (side_short side ls c.requires j) (c.point.ensures (f j) number) c.side_of.ensures
+    c.times.ensures (point (f j)) (side_at side ls j) (short_point (shorter 512 (omega arith) (formed.short j lt)))
+    (side_short side ls c.requires j) (c.point.ensures (f j) number) c.side_of.ensures

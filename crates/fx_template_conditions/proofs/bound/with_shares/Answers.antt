@@ -10,12 +10,19 @@ use Rattle.fx_template_conditions.proofs.bound.with_shares.Goals as goal
 pub share_bound-requires-clause-times : goal.share_bound-requires-clause-times
 share_bound-requires-clause-times c =
     let n = c.loop-share.share-index in let s = c.share-item.result in
-    subst (λ (x : written.Share). IsShort 96 (Num x.times)) (sym c.share-item.is) (share_short c.args.shares.now n s c.requires.shares (omega arith))
+    subst (λ (x : written.Share). IsShort 96 (Num x.times)) (sym c.share-item.is)
+    (share_short c.args.shares.now n s c.requires.shares (omega arith))
 
 pub loop-share-preserved : goal.loop-share-preserved
 loop-share-preserved c = λ z start.
-    let n = c.loop-share.share-index in let xs = c.args.shares.now in let s = c.share-item.result in let rs = templates_of c.args.states (templates_in c.args.templates.now) in
+    let n = c.loop-share.share-index in let xs = c.args.shares.now in let s = c.share-item.result in
+    let rs = templates_of c.args.states (templates_in c.args.templates.now) in
     let next = next_shares xs n s (omega arith) in
-    let same = subst (λ (x : written.Share). shares_of (take (n + 1) xs) ≡ shares_of (take n xs) ++ share_of x ∷ []) (sym c.share-item.is) next in
-    let more = c.plus-total.ensures (shared_sum z rs (shares_of (take n xs))) (span_product (point (Num s.times)) (rs.bound s.template)) (c.loop-share.invariant z start) c.share_bound.ensures in
+    let same =
+    subst (λ (x : written.Share). shares_of (take (n + 1) xs) ≡ shares_of (take n xs) ++ share_of x ∷ [])
+    (sym c.share-item.is) next in
+    let more =
+    c.plus-total.ensures (shared_sum z rs (shares_of (take n xs)))
+    (span_product (point (Num s.times)) (rs.bound s.template))
+    (c.loop-share.invariant z start) c.share_bound.ensures in
     rw (same, shared_more z rs (shares_of (take n xs)) (share_of s)) more

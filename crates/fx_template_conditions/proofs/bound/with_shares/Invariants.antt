@@ -6,4 +6,6 @@ use Rattle.fx_cert.specs.CertificateView.{templates_in, shares_of}
 use Rattle.fx_template_conditions.proofs.bound.with_shares.Given as goal
 
 abbrev pub invariant-loop-share : goal.invariant-loop-share
-invariant-loop-share l = (z : Span) → FormsSpan l.fn.start z → FormsSpan l.total (shared_sum z (templates_of l.fn.states (templates_in l.fn.templates)) (shares_of (take l.share-index l.fn.shares)))
+invariant-loop-share l = (z : Span) → FormsSpan l.fn.start z →
+    FormsSpan l.total (shared_sum z (templates_of l.fn.states (templates_in l.fn.templates))
+    (shares_of (take l.share-index l.fn.shares)))

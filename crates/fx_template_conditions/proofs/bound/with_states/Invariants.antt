@@ -8,5 +8,6 @@ use Rattle.fx_template_conditions.specs.Coefficients.{AreLeft}
 use Rattle.fx_template_conditions.proofs.bound.with_states.Given as goal
 
 abbrev pub invariant-loop-k : goal.invariant-loop-k
-invariant-loop-k l = (c : ℕ → Formula) (z : Span) → AreLeft l.fn.lefts l.fn.inputs l.fn.states c → ((k : ℕ) → k < l.fn.states → IsShort 192 (c k)) → FormsSpan l.fn.start z →
+invariant-loop-k l = (c : ℕ → Formula) (z : Span) → AreLeft l.fn.lefts l.fn.inputs l.fn.states c →
+    ((k : ℕ) → k < l.fn.states → IsShort 192 (c k)) → FormsSpan l.fn.start z →
     FormsSpan l.total (weighted_sum z l.k c (templates_of l.fn.states (templates_in l.fn.templates)).bound)

@@ -17,18 +17,29 @@ use Rattle.fx_template_conditions.proofs.node.node_fault.Goals as goal
 
 pub returns : goal.returns
 returns c = λ ps h.
-    let a = c.args in let fn = a.function.now in let cert = certificate_of a.certificate.now in let n = a.n in let v = a.inputs + a.states in
-    let node = node_in a.m.now in let code = code_in a.m.now in let l = at no_line cert.lines n in let form = form_of v cert.lines n in let p = to_z-of_z w32 a.place c.ranges.place in
+    let a = c.args in let fn = a.function.now in let cert = certificate_of a.certificate.now in let n = a.n in
+    let v = a.inputs + a.states in
+    let node = node_in a.m.now in let code = code_in a.m.now in let l = at no_line cert.lines n in
+    let form = form_of v cert.lines n in let p = to_z-of_z w32 a.place c.ranges.place in
     let vs : variables fn ≡ v = sym (λ i. c.requires.inputs i + c.requires.states i) in
-    let form_is : option_map condition_fault_of c.node_form-form.result ≡ fault_at conditions.Form n true (form_claims v cert.lines l node code a.place form) =
-    subst (λ (f : ℤ). option_map condition_fault_of c.node_form-form.result ≡ fault_at conditions.Form n true (form_claims v cert.lines l node code f form)) p (rw c.as_slice-lines.ensures at c.node_form-form.ensures) in
+    let form_is : option_map condition_fault_of c.node_form-form.result
+    ≡ fault_at conditions.Form n true (form_claims v cert.lines l node code a.place form) =
+    subst (λ (f : ℤ). option_map condition_fault_of c.node_form-form.result
+    ≡ fault_at conditions.Form n true (form_claims v cert.lines l node code f form)) p
+    (rw c.as_slice-lines.ensures at c.node_form-form.ensures) in
     let divisor = c.fault-divisor.ensures (divisor_claims cert.lines node) c.divisor_judgement.ensures in
     let range = c.fault-range.ensures (range_claims fn cert l node form) c.node_range.ensures in
-    let error_is = subst (λ (f : ℤ). c.node_error.result ≡ judged (error_claims fn cert l node code f form)) p c.node_error.ensures in
+    let error_is =
+    subst (λ (f : ℤ). c.node_error.result
+    ≡ judged (error_claims fn cert l node code f form)) p c.node_error.ensures in
     let error = c.fault-error.ensures (error_claims fn cert l node code a.place form) error_is in
-    let word_is : c.node_word.result ≡ judged (word_claims a.width a.place (range_at cert.lines n) (error_at cert.lines n)) =
-    subst (λ (f : ℤ). c.node_word.result ≡ judged (word_claims a.width f (range_at cert.lines n) (error_at cert.lines n))) p (rw c.as_slice-lines.ensures at c.node_word.ensures) in
-    let word = c.fault-word.ensures (word_claims a.width a.place (range_at cert.lines n) (error_at cert.lines n)) word_is in
+    let word_is : c.node_word.result
+    ≡ judged (word_claims a.width a.place (range_at cert.lines n) (error_at cert.lines n)) =
+    subst (λ (f : ℤ). c.node_word.result
+    ≡ judged (word_claims a.width f (range_at cert.lines n) (error_at cert.lines n))) p
+    (rw c.as_slice-lines.ensures at c.node_word.ensures) in
+    let word =
+    c.fault-word.ensures (word_claims a.width a.place (range_at cert.lines n) (error_at cert.lines n)) word_is in
     let four = c.first.ensures ∙ (λ i. first_some (error i) (word i)) in
     let three = c.first-2.ensures ∙ (λ i. first_some (range i) (four i)) in
     let two = c.first-3.ensures ∙ (λ i. first_some (divisor i) (three i)) in

@@ -11,6 +11,8 @@ returns-clause-room c =
     let most = leading_le 64 n in
     record {
       few = omega (arith, most);
-      near = subst (λ (k : ℕ). k * 2 ^ (z - 2) ≤ 2 ^ 62) same (room_is n (z - 2) z c.unsigned_abs-zeros.type_inv refl c.if-zeros-lt2.false (omega arith));
+      near =
+          subst (λ (k : ℕ). k * 2 ^ (z - 2) ≤ 2 ^ 62) same
+          (room_is n (z - 2) z c.unsigned_abs-zeros.type_inv refl c.if-zeros-lt2.false (omega arith));
       places = search rules;
     }

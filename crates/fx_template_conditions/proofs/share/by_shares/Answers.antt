@@ -10,5 +10,7 @@ use Rattle.fx_template_conditions.proofs.share.by_shares.Goals as goal
 pub returns : goal.returns
 returns c = λ l.
     let a = c.args in let form = form_view a.form.now in let f = λ (j : ℕ). Num (at zero_dyadic form.coefs j) in
-    c.within.ensures (bound_by_templates a.inputs a.states f (side_rest a.side.now (of_line l (Some form))) (side_at a.side.now (lines_view a.lines.now)) (templates_of a.states (templates_in a.templates.now)) (shares_of a.shares.now))
+    c.within.ensures (bound_by_templates a.inputs a.states f (side_rest a.side.now (of_line l (Some form)))
+    (side_at a.side.now (lines_view a.lines.now)) (templates_of a.states (templates_in a.templates.now))
+    (shares_of a.shares.now))
     (c.form_bound-bound.ensures l)

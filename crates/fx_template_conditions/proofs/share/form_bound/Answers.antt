@@ -10,4 +10,5 @@ use Rattle.fx_template_conditions.proofs.share.form_bound.Goals as goal
 pub returns : goal.returns
 returns c = λ l.
     let form = form_view c.args.form.now in let f = λ (j : ℕ). Num (at zero_dyadic form.coefs j) in
-    c.bound_by_templates.ensures f (side_rest c.args.side.now (of_line l (Some form))) c.form_coefs-coefs.ensures (c.own_rest.ensures l)
+    c.bound_by_templates.ensures f (side_rest c.args.side.now (of_line l (Some form))) c.form_coefs-coefs.ensures
+    (c.own_rest.ensures l)

@@ -10,6 +10,10 @@ use Rattle.fx_template_conditions.proofs.share.form_fault.Goals as goal
 pub returns : goal.returns
 returns c = λ l.
     let a = c.args in
-    let claims = λ (f : ℤ). form_claims a.variables (lines_view a.lines.now) l (node_in a.m.now) (code_in a.m.now) f (Some (form_view a.form.now)) in
-    let judgement = subst (λ (f : ℤ). c.form_judgement.result ≡ judged (claims f)) (to_z-of_z w32 a.place c.ranges.place) (c.form_judgement.ensures l) in
+    let claims =
+    λ (f : ℤ). form_claims a.variables (lines_view a.lines.now) l (node_in a.m.now) (code_in a.m.now) f
+    (Some (form_view a.form.now)) in
+    let judgement =
+    subst (λ (f : ℤ). c.form_judgement.result ≡ judged (claims f)) (to_z-of_z w32 a.place c.ranges.place)
+    (c.form_judgement.ensures l) in
     c.fault.ensures (claims a.place) judgement

@@ -7,5 +7,8 @@ use Rattle.fx_template_conditions.proofs.start.box_sum.Goals as goal
 
 pub loop-s-preserved : goal.loop-s-preserved
 loop-s-preserved c =
-    let a = c.args in let s = c.loop-s.s in let rs = templates_of a.states (templates_in a.templates.now) in let v = box_at a.side.now (boxes_in a.starts.now) in
-    one_more c.plus-total.result zero_span s (rs.coef a.i) v (c.plus-total.ensures (weighted_sum zero_span s (rs.coef a.i) v) (span_product (point (rs.coef a.i s)) (v s)) c.loop-s.invariant c.box_summand.ensures)
+    let a = c.args in let s = c.loop-s.s in let rs = templates_of a.states (templates_in a.templates.now) in
+    let v = box_at a.side.now (boxes_in a.starts.now) in
+    one_more c.plus-total.result zero_span s (rs.coef a.i) v
+    (c.plus-total.ensures (weighted_sum zero_span s (rs.coef a.i) v)
+    (span_product (point (rs.coef a.i s)) (v s)) c.loop-s.invariant c.box_summand.ensures)

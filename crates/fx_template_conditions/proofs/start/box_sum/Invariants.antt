@@ -6,4 +6,6 @@ use Rattle.fx_template_conditions.specs.Boxes.{box_at}
 use Rattle.fx_template_conditions.proofs.start.box_sum.Given as goal
 
 abbrev pub invariant-loop-s : goal.invariant-loop-s
-invariant-loop-s l = FormsSpan l.total (weighted_sum zero_span l.s ((templates_of l.fn.states (templates_in l.fn.templates)).coef l.fn.i) (box_at l.fn.side (boxes_in l.fn.starts)))
+invariant-loop-s l =
+    FormsSpan l.total (weighted_sum zero_span l.s ((templates_of l.fn.states (templates_in l.fn.templates)).coef l.fn.i)
+    (box_at l.fn.side (boxes_in l.fn.starts)))

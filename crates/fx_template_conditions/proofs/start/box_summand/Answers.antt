@@ -12,5 +12,7 @@ pub returns : goal.returns
 returns c =
     let bs = boxes_in c.args.starts.now in let written = templates_in c.args.templates.now in let a = c.args in
     let coef = (templates_of a.states written).coef a.i a.s in let box = box_at a.side.now bs a.s in
-    c.times.ensures (point coef) box (short_point (shorter 512 (omega arith) (template_coef_short written c.requires.templates a.states a.i a.s))) (box_short a.side.now bs c.requires.starts a.s)
+    c.times.ensures (point coef) box
+    (short_point (shorter 512 (omega arith) (template_coef_short written c.requires.templates a.states a.i a.s)))
+    (box_short a.side.now bs c.requires.starts a.s)
     (c.point.ensures coef c.template_coef_of.ensures) c.box_of.ensures

@@ -14,7 +14,12 @@ pub returns : goal.returns
 returns c =
     let a = c.args in let x = start_of a.function.now a.k in
     let inside = λ (s : Span). BelowFraction s.lo x ∷ AboveFraction x s.hi ∷ [] in
-    let near = λ (w f : ℤ) (s : Span). BelowFraction (Difference (word_at w f) s.hi) x ∷ AboveFraction x (Difference (word_at w f) s.lo) ∷ [] in
-    let value = c.fraction_within-value.ensures x c.start_fraction-x.ensures ∙ ap (λ (s : Span). judged (inside s)) c.box_interval.ensures in
-    let error = c.word_near-error.ensures x c.start_fraction-x.ensures ∙ (λ i. judged (near (to_z-of_z w64 a.word c.ranges.word i) (to_z-of_z w32 a.place c.ranges.place i) (c.box_interval-2.ensures i))) in
-    c.and.ensures (inside (box_at sides.Value (boxes_in a.starts.now) a.k)) (near a.word a.place (box_at sides.Error (boxes_in a.starts.now) a.k)) value error
+    let near = λ (w f : ℤ) (s : Span). BelowFraction (Difference (word_at w f) s.hi) x
+    ∷ AboveFraction x (Difference (word_at w f) s.lo) ∷ [] in
+    let value = c.fraction_within-value.ensures x c.start_fraction-x.ensures
+    ∙ ap (λ (s : Span). judged (inside s)) c.box_interval.ensures in
+    let error = c.word_near-error.ensures x c.start_fraction-x.ensures
+    ∙ (λ i. judged (near (to_z-of_z w64 a.word c.ranges.word i) (to_z-of_z w32 a.place c.ranges.place i)
+    (c.box_interval-2.ensures i))) in
+    c.and.ensures (inside (box_at sides.Value (boxes_in a.starts.now) a.k))
+    (near a.word a.place (box_at sides.Error (boxes_in a.starts.now) a.k)) value error

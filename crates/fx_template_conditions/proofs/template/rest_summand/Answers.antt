@@ -10,6 +10,9 @@ use Rattle.fx_template_conditions.proofs.template.rest_summand.Goals as goal
 pub returns : goal.returns
 returns c =
     let ls = lines_view c.args.lines.now in let written = templates_in c.args.templates.now in let a = c.args in
-    let coef = (templates_of a.states written).coef a.i a.s in let rest = side_rest a.side.now (affine_at a.variables ls a.n) in
-    c.times.ensures (point coef) rest (short_point (shorter 512 (omega arith) (template_coef_short written c.requires.templates a.states a.i a.s))) (side_rest_short a.side.now ls c.requires.lines a.variables a.n)
+    let coef = (templates_of a.states written).coef a.i a.s in
+    let rest = side_rest a.side.now (affine_at a.variables ls a.n) in
+    c.times.ensures (point coef) rest
+    (short_point (shorter 512 (omega arith) (template_coef_short written c.requires.templates a.states a.i a.s)))
+    (side_rest_short a.side.now ls c.requires.lines a.variables a.n)
     (c.point.ensures coef c.template_coef_of.ensures) c.side_rest_of.ensures

@@ -7,6 +7,7 @@ use Rattle.fx_template_conditions.proofs.template.template_coefficient.Goals as 
 
 pub loop-s-preserved : goal.loop-s-preserved
 loop-s-preserved c =
-    let ls = lines_view c.args.lines.now in let a = c.args in let s = c.loop-s.s in let rs = templates_of a.states (templates_in a.templates.now) in
+    let ls = lines_view c.args.lines.now in let a = c.args in let s = c.loop-s.s in
+    let rs = templates_of a.states (templates_in a.templates.now) in
     let f = λ (k : ℕ). Product (rs.coef a.i k) ((affine_at a.variables ls (a.next + k)).coef a.j) in
     one_number_more c.sum-total.result s f (c.sum-total.ensures (sum_of s f) (f s) c.loop-s.invariant c.summand.ensures)

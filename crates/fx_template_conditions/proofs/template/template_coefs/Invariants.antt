@@ -6,4 +6,7 @@ use Rattle.fx_template_conditions.specs.Coefficients.{AreFormed}
 use Rattle.fx_template_conditions.proofs.template.template_coefs.Given as goal
 
 abbrev pub invariant-loop-j : goal.invariant-loop-j
-invariant-loop-j l = AreFormed l.coefs l.j (λ j. sum_of l.fn.states (λ s. Product ((templates_of l.fn.states (templates_in l.fn.templates)).coef l.fn.i s) ((affine_at l.fn.variables (lines_view l.fn.lines) (l.fn.next + s)).coef j)))
+invariant-loop-j l =
+    AreFormed l.coefs l.j (λ j. sum_of l.fn.states
+    (λ s. Product ((templates_of l.fn.states (templates_in l.fn.templates)).coef l.fn.i s)
+    ((affine_at l.fn.variables (lines_view l.fn.lines) (l.fn.next + s)).coef j)))

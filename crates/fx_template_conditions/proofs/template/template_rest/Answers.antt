@@ -8,6 +8,9 @@ use Rattle.fx_template_conditions.proofs.template.template_rest.Goals as goal
 
 pub loop-s-preserved : goal.loop-s-preserved
 loop-s-preserved c =
-    let ls = lines_view c.args.lines.now in let a = c.args in let s = c.loop-s.s in let rs = templates_of a.states (templates_in a.templates.now) in
+    let ls = lines_view c.args.lines.now in let a = c.args in let s = c.loop-s.s in
+    let rs = templates_of a.states (templates_in a.templates.now) in
     let v = λ (k : ℕ). side_rest a.side.now (affine_at a.variables ls (a.next + k)) in
-    one_more c.plus-total.result zero_span s (rs.coef a.i) v (c.plus-total.ensures (weighted_sum zero_span s (rs.coef a.i) v) (span_product (point (rs.coef a.i s)) (v s)) c.loop-s.invariant c.rest_summand.ensures)
+    one_more c.plus-total.result zero_span s (rs.coef a.i) v
+    (c.plus-total.ensures (weighted_sum zero_span s (rs.coef a.i) v)
+    (span_product (point (rs.coef a.i s)) (v s)) c.loop-s.invariant c.rest_summand.ensures)

@@ -8,8 +8,10 @@ use Rattle.fx_bundle_commands.proofs.commands.migrate.migrated_text.Goals as goa
 pub returns : goal.returns
 returns c =
     let same = c.certificate-certificate.ensures in let source = c.as_slice.ensures in
-    let second : c.in_ok-program.program ≡ second_version c.args.opened.now.certified.program = c.in_ok-program.ensures ∙ ap second_version c.program.ensures in
+    let second : c.in_ok-program.program ≡ second_version c.args.opened.now.certified.program = c.in_ok-program.ensures
+    ∙ ap second_version c.program.ensures in
     record {
       text = IfOk-weaker c.print_bundle.result _ _ (λ text e. e ∙ (λ i. bundle_text (source i) (second i) (same i)))
-          (c.print_bundle.ensures.text (subst IsLawfulCertificate (sym same) c.certified.ensures.certified.certificate));
+          (c.print_bundle.ensures.text
+          (subst IsLawfulCertificate (sym same) c.certified.ensures.certified.certificate));
     }

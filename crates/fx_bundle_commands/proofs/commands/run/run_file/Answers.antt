@@ -9,9 +9,41 @@ use Rattle.fx_bundle_commands.specs.commands.Rows.{HasAnswered}
 use Rattle.fx_bundle_commands.proofs.commands.run.run_file.Goals as goal
 
 pub returns-in-Err : goal.returns-in-Err
-returns-in-Err g c = record { ended = (end_of c.in-Err.end, c.finish.ensures.status, c.finish.ensures.line, unopened _ c.in-Err.ensures.failed (record { left = refl; taken = refl }), λ quiet. (refl, refl)); prompt = none_noted (HasAnswered _ _ _ _ _) _; untouched = inr (refl, refl); consumed = none_taken _; appended = none_grown _ }
+returns-in-Err g c =
+    record {
+      ended = (
+        end_of c.in-Err.end,
+        c.finish.ensures.status,
+        c.finish.ensures.line,
+        unopened _ c.in-Err.ensures.failed (record { left = refl; taken = refl }),
+        λ quiet. (refl, refl),
+      );
+      prompt = none_noted (HasAnswered _ _ _ _ _) _;
+      untouched = inr (refl, refl);
+      consumed = none_taken _;
+      appended = none_grown _;
+    }
 
 pub returns-in-Ok : goal.returns-in-Ok
 returns-in-Ok g c =
     let o = c.in-Ok.ensures.opened in let x = c.in-Ok.opened in let r = c.run_input-end.ensures in
-    record { ended = (end_of c.run_input-end.result, c.finish-in-Ok.ensures.status, c.finish-in-Ok.ensures.line, opened _ (with_source x.certified x.source) x.certified.function o.is_bundle o.accepted (r.ended x.source), λ quiet. absurd (r.loud quiet)); prompt = noted_as _ (HasAnswered _ _ _ _ _) _ _ (λ m is. record { bundle = with_source x.certified x.source; function = x.certified.function; is_bundle = o.is_bundle; accepted = o.accepted; answered = is }) r.prompt; untouched = inl (with_source x.certified x.source, x.certified.function, o.is_bundle, o.accepted); consumed = r.consumed; appended = r.appended }
+    record {
+      ended = (
+        end_of c.run_input-end.result,
+        c.finish-in-Ok.ensures.status,
+        c.finish-in-Ok.ensures.line,
+        opened _ (with_source x.certified x.source) x.certified.function o.is_bundle o.accepted (r.ended x.source),
+        λ quiet. absurd (r.loud quiet),
+      );
+      prompt =
+          noted_as _ (HasAnswered _ _ _ _ _) _ _ (λ m is. record {
+            bundle = with_source x.certified x.source;
+            function = x.certified.function;
+            is_bundle = o.is_bundle;
+            accepted = o.accepted;
+            answered = is;
+          }) r.prompt;
+      untouched = inl (with_source x.certified x.source, x.certified.function, o.is_bundle, o.accepted);
+      consumed = r.consumed;
+      appended = r.appended;
+    }

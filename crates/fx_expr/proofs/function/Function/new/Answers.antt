@@ -15,10 +15,14 @@ invariant_of-result c =
     let i = length-map c.args.inputs input_of in let s = length-map c.args.states state_of in
     record {
       lawful = c.requires;
-      nodes = all_counted (made_function c.args.name c.args.inputs c.args.states c.args.temps c.args.results c.args.demands) (c.len.result + c.len-2.result) c.count_temps.result c.count_results.result c.saturating_add-nodes.result
+      nodes =
+          all_counted (made_function c.args.name c.args.inputs c.args.states c.args.temps c.args.results c.args.demands)
+          (c.len.result + c.len-2.result) c.count_temps.result c.count_results.result c.saturating_add-nodes.result
           (omega arith)
-          (c.count_temps.ensures ∙ ap (λ (ts : List Temp). size_counted (temp_nodes (map temp_of ts))) c.as_slice.ensures)
-          (c.count_results.ensures ∙ ap (λ (es : List Expr). size_counted (result_nodes (map tree es))) c.as_slice-2.ensures)
+          (c.count_temps.ensures ∙ ap
+          (λ (ts : List Temp). size_counted (temp_nodes (map temp_of ts))) c.as_slice.ensures)
+          (c.count_results.ensures
+          ∙ ap (λ (es : List Expr). size_counted (result_nodes (map tree es))) c.as_slice-2.ensures)
           (omega arith)
           c.requires.sizes.nodes;
     }

@@ -4,4 +4,5 @@ use Rattle.fx_fraction.proofs.Lowest.{reduced_is}
 use Rattle.fx_fraction.proofs.fraction.Fraction.keeps.Goals as goal
 
 pub returns : goal.returns
-returns c = subst (λ (r : Rational). r ≡ lowest r) c.self.view_is (reduced_is c.self.inside.p c.self.inside.q c.self.invariant)
+returns c =
+    subst (λ (r : Rational). r ≡ lowest r) c.self.view_is (reduced_is c.self.inside.p c.self.inside.q c.self.invariant)

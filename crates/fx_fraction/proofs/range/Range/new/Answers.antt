@@ -12,6 +12,7 @@ returns c = λ d few.
     let fl : FitsSigned w128 c.least_of.result = search rules in
     let fm : FitsSigned w128 c.most_of.result = search rules in
     let s = smallest_units d in
-    ap (λ (l : ℤ). int_le l s && int_le s (to_z w128 (of_z w128 c.most_of.result))) (to_z-of_z w128 c.least_of.result fl)
+    ap (λ (l : ℤ). int_le l s && int_le s (to_z w128 (of_z w128 c.most_of.result)))
+    (to_z-of_z w128 c.least_of.result fl)
     ∙ ap (λ (m : ℤ). int_le c.least_of.result s && int_le s m) (to_z-of_z w128 c.most_of.result fm)
     ∙ (λ i. c.least_of.ensures d few i && c.most_of.ensures d few i)

@@ -11,4 +11,6 @@ pub invariant_of-result : goal.invariant_of-result
 invariant_of-result g c =
     let v = c.args.value in let r = c.requires in let most = r.room.most in
     let kept = shown_64 g.row.B v v (omega (arith, most)) refl r.word in
-    (lanewise.same_word g.row.B _ v (c.all.ensures ∙ ap (replicate 16) (ap (λ x. to_z w32 (of_z w32 x)) kept ∙ to_z-of_z w32 v (fits_32 g.row.B v most r.word))) r.word).are
+    (lanewise.same_word g.row.B _ v (c.all.ensures
+    ∙ ap (replicate 16) (ap (λ x. to_z w32 (of_z w32 x)) kept
+    ∙ to_z-of_z w32 v (fits_32 g.row.B v most r.word))) r.word).are

@@ -11,7 +11,9 @@ pub returns : goal.returns
 returns g c =
     let f : SFits w64 c.get.result = search rules in
     let words = g.L.SideBySide.words in let kept = c.self.inside.words.items in let n = c.args.n in let k = c.args.k in
-    let within : n < length kept = subst (λ (m : _). n < m) (sym (ap length c.self.view_is) ∙ length-map kept words) c.requires.within in
+    let within : n < length kept =
+    subst (λ (m : _). n < m) (sym (ap length c.self.view_is) ∙ length-map kept words) c.requires.within in
     let found : at (pos 0) (words c.index.result.now) k ≡ at (pos 0) (lane k c.args.self.now) n =
-    word_found words kept n c.index.result.now k within c.index.ensures ∙ ap (λ (vs : List (List ℤ)). at (pos 0) (lane k vs) n) c.self.view_is in
+    word_found words kept n c.index.result.now k within c.index.ensures
+    ∙ ap (λ (vs : List (List ℤ)). at (pos 0) (lane k vs) n) c.self.view_is in
     to_z-of_z w64 c.get.result f ∙ c.get.ensures.value ∙ c.word.ensures ∙ found

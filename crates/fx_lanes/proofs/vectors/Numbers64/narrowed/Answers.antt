@@ -5,7 +5,8 @@ pub overflow_cast-result : goal.overflow_cast-result
 overflow_cast-result c = operators.narrow_fits c.self.inside.lanes c.args.self c.self.view_is c.requires
 
 pub invariant_of-result : goal.invariant_of-result
-invariant_of-result c = (operators.narrowed c.self.inside.lanes c.args.self c.self.view_is c.self.invariant.many c.requires).are
+invariant_of-result c =
+    (operators.narrowed c.self.inside.lanes c.args.self c.self.view_is c.self.invariant.many c.requires).are
 
 pub returns : goal.returns
 returns c = (operators.narrowed c.self.inside.lanes c.args.self c.self.view_is c.self.invariant.many c.requires).is

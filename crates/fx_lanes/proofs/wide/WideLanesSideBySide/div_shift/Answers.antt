@@ -12,7 +12,10 @@ quotients-requires g c =
       left = subst (AreLanes g.row.B) (sym c.array-v.ensures) c.self.invariant;
       right = subst (AreLanes g.row.B) (sym c.array-w.ensures) c.other.invariant;
       shift = r.shift;
-      fits = subst (All (IsSomeWord g.row.B)) (sym (ap₂ (divided c.args.s) (c.array-v.ensures ∙ c.self.view_is) (c.array-w.ensures ∙ c.other.view_is))) r.fits;
+      fits =
+          subst (All (IsSomeWord g.row.B))
+          (sym (ap₂ (divided c.args.s) (c.array-v.ensures ∙ c.self.view_is) (c.array-w.ensures
+          ∙ c.other.view_is))) r.fits;
     }
 
 pub of-requires : goal.of-requires
@@ -23,4 +26,5 @@ invariant_of-result g c = subst (AreLanes g.row.B) (sym c.of.ensures) c.quotient
 
 pub returns : goal.returns
 returns g c =
-    ap (map (λ q. Some q)) c.of.ensures ∙ c.quotients.ensures.some ∙ ap₂ (divided c.args.s) (c.array-v.ensures ∙ c.self.view_is) (c.array-w.ensures ∙ c.other.view_is)
+    ap (map (λ q. Some q)) c.of.ensures ∙ c.quotients.ensures.some
+    ∙ ap₂ (divided c.args.s) (c.array-v.ensures ∙ c.self.view_is) (c.array-w.ensures ∙ c.other.view_is)

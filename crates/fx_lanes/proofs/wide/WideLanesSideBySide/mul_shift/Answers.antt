@@ -13,23 +13,35 @@ lowered_products-requires g c =
       left = subst (AreLanes g.row.B) (sym c.array-v.ensures) c.self.invariant;
       right = subst (AreLanes g.row.B) (sym c.array-w.ensures) c.other.invariant;
       shift = r.shift;
-      fits = subst (All (IsWord g.row.B)) (sym (ap₂ (multiplied Floor c.args.s) (c.array-v.ensures ∙ c.self.view_is) (c.array-w.ensures ∙ c.other.view_is))) r.fits;
+      fits =
+          subst (All (IsWord g.row.B))
+          (sym (ap₂ (multiplied Floor c.args.s) (c.array-v.ensures ∙ c.self.view_is) (c.array-w.ensures
+          ∙ c.other.view_is))) r.fits;
     }
 
 pub of-requires : goal.of-requires
 of-requires g c =
     let n = g.row.B in let r = c.requires in let s = c.args.s in
-    let e : c.lowered_products.result ≡ multiplied Floor s c.args.self c.args.other = c.lowered_products.ensures ∙ ap₂ (multiplied Floor s) (c.array-v.ensures ∙ c.self.view_is) (c.array-w.ensures ∙ c.other.view_is) in
-    let many = both_many (λ x y. rounded Floor (x *ℤ y) (pos s)) c.self.inside.lanes c.args.self c.other.inside.lanes c.args.other c.self.view_is c.other.view_is c.self.invariant.many c.other.invariant.many in
+    let e : c.lowered_products.result ≡ multiplied Floor s c.args.self c.args.other = c.lowered_products.ensures
+    ∙ ap₂ (multiplied Floor s) (c.array-v.ensures ∙ c.self.view_is) (c.array-w.ensures ∙ c.other.view_is) in
+    let many =
+    both_many (λ x y. rounded Floor (x *ℤ y)
+    (pos s)) c.self.inside.lanes c.args.self c.other.inside.lanes c.args.other c.self.view_is c.other.view_is
+    c.self.invariant.many c.other.invariant.many in
     are_numbers n _ r.room.most (gives n _ _ e many r.fits).are
 
 pub invariant_of-result : goal.invariant_of-result
 invariant_of-result g c =
     let n = g.row.B in let r = c.requires in let s = c.args.s in
-    let e : c.lowered_products.result ≡ multiplied Floor s c.args.self c.args.other = c.lowered_products.ensures ∙ ap₂ (multiplied Floor s) (c.array-v.ensures ∙ c.self.view_is) (c.array-w.ensures ∙ c.other.view_is) in
-    let many = both_many (λ x y. rounded Floor (x *ℤ y) (pos s)) c.self.inside.lanes c.args.self c.other.inside.lanes c.args.other c.self.view_is c.other.view_is c.self.invariant.many c.other.invariant.many in
+    let e : c.lowered_products.result ≡ multiplied Floor s c.args.self c.args.other = c.lowered_products.ensures
+    ∙ ap₂ (multiplied Floor s) (c.array-v.ensures ∙ c.self.view_is) (c.array-w.ensures ∙ c.other.view_is) in
+    let many =
+    both_many (λ x y. rounded Floor (x *ℤ y)
+    (pos s)) c.self.inside.lanes c.args.self c.other.inside.lanes c.args.other c.self.view_is c.other.view_is
+    c.self.invariant.many c.other.invariant.many in
     (gives n _ _ (c.of.ensures ∙ e) many r.fits).are
 
 pub returns : goal.returns
 returns g c =
-    c.of.ensures ∙ c.lowered_products.ensures ∙ ap₂ (multiplied Floor c.args.s) (c.array-v.ensures ∙ c.self.view_is) (c.array-w.ensures ∙ c.other.view_is)
+    c.of.ensures ∙ c.lowered_products.ensures
+    ∙ ap₂ (multiplied Floor c.args.s) (c.array-v.ensures ∙ c.self.view_is) (c.array-w.ensures ∙ c.other.view_is)

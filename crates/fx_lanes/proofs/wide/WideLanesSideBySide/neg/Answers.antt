@@ -5,8 +5,12 @@ use Rattle.fx_lanes.proofs.wide.WideLanesSideBySide.neg.Goals as goal
 
 pub invariant_of-result : goal.invariant_of-result
 invariant_of-result g c =
-    (lanewise.negated_is g.row.B w64 (λ v. fits_64 g.row.B v c.requires.room.most) c.self.inside.lanes c.args.self _ _ c.self.view_is c.self.invariant.many c.all.ensures c.minus.ensures c.requires.fits).are
+    (lanewise.negated_is g.row.B w64
+    (λ v. fits_64 g.row.B v c.requires.room.most) c.self.inside.lanes c.args.self _ _ c.self.view_is
+    c.self.invariant.many c.all.ensures c.minus.ensures c.requires.fits).are
 
 pub returns : goal.returns
 returns g c =
-    (lanewise.negated_is g.row.B w64 (λ v. fits_64 g.row.B v c.requires.room.most) c.self.inside.lanes c.args.self _ _ c.self.view_is c.self.invariant.many c.all.ensures c.minus.ensures c.requires.fits).is
+    (lanewise.negated_is g.row.B w64
+    (λ v. fits_64 g.row.B v c.requires.room.most) c.self.inside.lanes c.args.self _ _ c.self.view_is
+    c.self.invariant.many c.all.ensures c.minus.ensures c.requires.fits).is

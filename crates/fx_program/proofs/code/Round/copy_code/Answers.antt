@@ -12,13 +12,20 @@ pub copy-requires : goal.copy-requires
 copy-requires c =
     let n = c.args.width in let s = c.args.s in let r = round_of c.args.self in
     let s32 : to_z w32 (of_z w32 s) ≡ s = to_z-of_z w32 s c.ranges.s in
-    let s64 : to_z w64 (of_z w64 c.from.result) ≡ s = to_z-of_z w64 c.from.result (record { sfits = c.from.type_inv }) ∙ c.from.ensures ∙ s32 in
-    let chosen : round_of c.of_copy_shift.result ≡ copy_round r n s = c.of_copy_shift.ensures ∙ ap (copy_round r n) s64 in
-    (n, subst (λ (q : ℤ). IsCopyShift (round_of c.of_copy_shift.result) n q) (sym s32) (subst (λ q. IsCopyShift q n s) (sym chosen) (copy_is_lawful r n s c.requires.shift)))
+    let s64 : to_z w64 (of_z w64 c.from.result) ≡ s = to_z-of_z w64 c.from.result (record { sfits = c.from.type_inv })
+    ∙ c.from.ensures ∙ s32 in
+    let chosen : round_of c.of_copy_shift.result ≡ copy_round r n s = c.of_copy_shift.ensures
+    ∙ ap (copy_round r n) s64 in (
+      n,
+      subst (λ (q : ℤ). IsCopyShift (round_of c.of_copy_shift.result) n q) (sym s32)
+          (subst (λ q. IsCopyShift q n s) (sym chosen) (copy_is_lawful r n s c.requires.shift)),
+    )
 
 pub returns : goal.returns
 returns c =
     let s = c.args.s in let r = round_of c.args.self in
     let s32 : to_z w32 (of_z w32 s) ≡ s = to_z-of_z w32 s c.ranges.s in
-    let s64 : to_z w64 (of_z w64 c.from.result) ≡ s = to_z-of_z w64 c.from.result (record { sfits = c.from.type_inv }) ∙ c.from.ensures ∙ s32 in
-    c.copy.ensures ∙ ap₂ (λ q t. machine.Copy q c.args.a t) (c.of_copy_shift.ensures ∙ ap (copy_round r c.args.width) s64) s32
+    let s64 : to_z w64 (of_z w64 c.from.result) ≡ s = to_z-of_z w64 c.from.result (record { sfits = c.from.type_inv })
+    ∙ c.from.ensures ∙ s32 in
+    c.copy.ensures ∙ ap₂ (λ q t. machine.Copy q c.args.a t) (c.of_copy_shift.ensures
+    ∙ ap (copy_round r c.args.width) s64) s32

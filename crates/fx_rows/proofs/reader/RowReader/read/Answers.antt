@@ -5,7 +5,8 @@ use Rattle.fx_rows.proofs.reader.RowReader.read.Goals as goal
 
 pub read_by-requires-clause-many : goal.read_by-requires-clause-many
 read_by-requires-clause-many c =
-    ap length c.as_slice.ensures ∙ c.requires.0 ∙ as-many-ranges _ _ c.requires.1 ∙ sym (ap (λ (rs : List Range). length rs) c.as_slice-2.ensures)
+    ap length c.as_slice.ensures ∙ c.requires.0 ∙ as-many-ranges _ _ c.requires.1
+    ∙ sym (ap (λ (rs : List Range). length rs) c.as_slice-2.ensures)
 
 pub read_by-requires-clause-few : goal.read_by-requires-clause-few
 read_by-requires-clause-few c =

@@ -9,15 +9,19 @@ use Rattle.fx_run.proofs.held.HeldStep.new.Goals as goal
 pub returns-clause-can : goal.returns-clause-can
 returns-clause-can g c =
     let a = c.args.certified.now in let p = a.program in
-    let states : c.in-Ok-new.registers.states ≡ start_words p.codes = c.in-Ok-new.ensures.states ∙ ap (λ (q : Program). start_words q.codes) c.program.ensures in
+    let states : c.in-Ok-new.registers.states ≡ start_words p.codes = c.in-Ok-new.ensures.states
+    ∙ ap (λ (q : Program). start_words q.codes) c.program.ensures in
     record {
       room = c.requires.lane_room;
       can = record {
         width = c.requires.width;
         ready = record {
-          words = ap length c.in-Ok-new.ensures.words ∙ length-replicate _ _ ∙ ap (λ (q : Program). length q.codes) c.program.ensures;
+          words = ap length c.in-Ok-new.ensures.words ∙ length-replicate _ _
+              ∙ ap (λ (q : Program). length q.codes) c.program.ensures;
           state = start_state a.function;
-          near = subst (λ z. IsNear a.function p a.certificate z (start_state a.function)) (sym states) c.certified.ensures.start;
+          near =
+              subst (λ z. IsNear a.function p a.certificate z (start_state a.function))
+              (sym states) c.certified.ensures.start;
         };
       };
       none = states ∙ none_at_start a c.certified.ensures.certified c.certified.ensures.start c.requires.states;
@@ -32,4 +36,5 @@ returns-clause-can g c =
     }
 
 pub returns-clause-start : goal.returns-clause-start
-returns-clause-start g c = none_at_start c.args.certified.now c.certified.ensures.certified c.certified.ensures.start c.requires.states
+returns-clause-start g c =
+    none_at_start c.args.certified.now c.certified.ensures.certified c.certified.ensures.start c.requires.states

@@ -4,7 +4,9 @@ use Rattle.fx_text.proofs.Cuts.{fields_of-more, fields_of-last}
 use Rattle.fx_text.proofs.cut.Fields.next.Goals as goal
 
 pub returns-in-Some : goal.returns-in-Some
-returns-in-Some c = sym c.self.view_is ∙ ap left_of c.in_ok-rest.was ∙ fields_of-more c.in_ok-rest.rest.now c.in-Some.field.now c.in-Some.others.now c.in-Some.ensures
+returns-in-Some c = sym c.self.view_is ∙ ap left_of c.in_ok-rest.was
+    ∙ fields_of-more c.in_ok-rest.rest.now c.in-Some.field.now c.in-Some.others.now c.in-Some.ensures
 
 pub returns-in-None : goal.returns-in-None
-returns-in-None c = sym c.self.view_is ∙ ap left_of c.in_ok-rest.was ∙ fields_of-last c.in_ok-rest.rest.now c.in-None.ensures
+returns-in-None c =
+    sym c.self.view_is ∙ ap left_of c.in_ok-rest.was ∙ fields_of-last c.in_ok-rest.rest.now c.in-None.ensures
