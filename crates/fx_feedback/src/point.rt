@@ -39,7 +39,10 @@ pub fn decider(nodes: &Nodes, n: usize) -> usize {
 /// The greatest point from a cap down at which a node has a code.
 fn greatest(task: Task<'_>, n: usize, points: &[i32], cap: i32) -> Option<i32> {
     let node = task.nodes.list.as_slice().get(n)?;
-    let steps = cap.saturating_sub(LEAST).saturating_add(1).clamp(0, 127);
+    let steps = cap
+        .saturating_sub(LEAST_POINT)
+        .saturating_add(1)
+        .clamp(0, 127);
     for down in 0..steps {
         let f = cap.saturating_sub(down);
         if has_code(task.function, node, f, points, task.wanted.width) {

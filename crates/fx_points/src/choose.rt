@@ -164,5 +164,5 @@ pub fn choose_points(
     } else {
         first
     };
-    widened(alloc, &chosen.points)
+    Ok(widened(alloc, &chosen.points)?)
 }

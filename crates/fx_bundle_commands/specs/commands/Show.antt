@@ -7,7 +7,7 @@ use Rattle.fx_base.specs.Shelf.{Files}
 use Rattle.fx_rational.specs.Dyadic.{Dyadic}
 use Rattle.fx_model.specs.Function.{Function}
 use Rattle.fx_model.specs.LineText.{line_text, numbered_lines}
-use Rattle.fx_model.specs.Machine.{Code, Program, points_of}
+use Rattle.fx_model.specs.Machine.{Program, points_of}
 use Rattle.fx_model.specs.ProgramText.{instruction_name}
 use Rattle.fx_model.specs.Tree.{at}
 use Rattle.fx_inequalities.specs.Certificate.{Certificate, NodeLine, no_line}
