@@ -3,8 +3,7 @@
 //! To the nearest a product rounds whose shift is from 1 on, and a copy whose shift is from 1 to the width: what drops
 //! nothing, or more than a word, has no such code and rounds down.
 
-ghost use Rattle.std.specs.Prelude.{◌≡◌, ◌↔◌, All, IsTrue};
-ghost use Rattle.fx_model.specs.LawfulProgram.{IsShift};
+ghost use Rattle.std.specs.Prelude.{◌≡◌, ◌↔◌, ◌&&◌, int_le, pos, All, IsTrue};
 ghost use Rattle.fx_model.specs.Machine as machine;
 ghost use Rattle.fx_program.specs.CodeView.{round_of, code_of};
 ghost use Rattle.fx_program.specs.Rounding.{product_round, copy_round, RoundsBy, IsRoundedBy};
@@ -46,13 +45,32 @@ impl Round {
         self.of_product_shift(s).product(a, b, s)
     }
 
-    /// The copy `a / 2^s` of words of `width` bits, likewise.
+    /// The copy `a / 2^s` of words of `width` bits, likewise, also where no program has such a shift or such words.
     pub fn copy_code(self, width: u32, a: u32, s: i32) -> Code
-        requires width { IsWidth width }
-        requires shift { IsShift width s }
         ensures { code_of result ≡ machine.Copy (copy_round (round_of self) width s) a s }
     {
-        self.of_copy_shift(width, i64::from(s)).copy(a, s)
+        match self {
+            Round::Floor => Code::Copy { a, s },
+            Round::Nearest => near_copy_code(width, a, s),
+        }
+    }
+}
+
+/// Whether a copy by this shift may round to the nearest.
+fn is_near_shift(width: u32, s: i32) -> bool
+    ensures { result ≡ (int_le (pos 1) s && int_le s (pos width)) }
+{
+    1 <= s && i64::from(s) <= i64::from(width)
+}
+
+/// The copy to the nearest where its shift may be rounded so, and else down.
+fn near_copy_code(width: u32, a: u32, s: i32) -> Code
+    ensures { code_of result ≡ machine.Copy (copy_round machine.Nearest width s) a s }
+{
+    if is_near_shift(width, s) {
+        Code::CopyNear { a, s: s as u32 }
+    } else {
+        Code::Copy { a, s }
     }
 }
 

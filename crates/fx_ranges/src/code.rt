@@ -45,17 +45,6 @@ pub fn start_word(function: &Function, k: usize, f: i32, width: u32) -> Option<i
     word_at(nearest(to_fraction(state.start), f)?, width)
 }
 
-/// The copy that rounds so where its shift may, and else down.
-fn copy_of(round: Round, a: u32, s: i32, width: u32) -> Code {
-    match (round, u32::try_from(s)) {
-        (Round::Nearest, Ok(places)) if 1 <= places && places <= width => Code::CopyNear {
-            a,
-            s: places,
-        },
-        _ => Code::Copy { a, s },
-    }
-}
-
 /// The code of a node at its point, with the nearest word where it is a literal.
 fn code_of(
     function: &Function,
@@ -102,7 +91,7 @@ fn code_of(
             b: *b,
             s: quotient_shift(points, *a, *b, f, width)?,
         },
-        Node::Copy { a } => copy_of(round, *a, shift(points, *a, f, width)?, width),
+        Node::Copy { a } => round.copy_code(width, *a, shift(points, *a, f, width)?),
     })
 }
 
