@@ -5,9 +5,9 @@ PROGRAM := build/fixd
 SOURCES := $(shell git ls-files crates crates.txt)
 PREFIX ?= /usr/local
 
-# the first example by the same sources, compiled without a proof of anything: a look, in half a minute
+# the first example by the same sources, compiled without a proof of anything: a look, in two minutes
 try:
-	@echo "compiling without proofs: half a minute" >&2
+	@echo "compiling without proofs: two minutes, more beside other work" >&2
 	@cd crates/fx_cli && rt try -- run data/half.bundle < ../../examples/half/half.csv
 	@echo "this was a try: nothing of it is proved; 'make run' proves first" >&2
 

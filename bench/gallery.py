@@ -34,7 +34,7 @@ Made by `bench/gallery.py` with {rows:,} rows a function, random ones and corner
 how many nodes it has, the certified bound of the program as it is written (`--tries 0`) and of the one that `synth` finds
 (`--tries 200`), the greatest error seen of the latter, as a part of its bound, how long `synth` took, and Gappa's bound of the former
 program, which knows nothing of errors that inputs are given with{gappa}. Errors are those of the outputs against exact values; nothing rounds in the
-comparison. Below the table each example stands with its picture; [examples](../examples/README.md) says where the published ones come from.
+comparison. Below the table each example for which there is a program stands with its picture; [examples](../examples/README.md) says where the published ones come from.
 
 | function | bits | nodes | bound as written | bound found | error seen | of the bound | seconds | Gappa |
 |---|---|---|---|---|---|---|---|---|
