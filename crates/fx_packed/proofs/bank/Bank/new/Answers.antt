@@ -12,7 +12,6 @@ byte_count-requires-clause-known c = subst AreKnown (sym c.as_slice-2.ensures.va
 pub returns-clause-words : goal.returns-clause-words
 returns-clause-words c =
     let ns = c.args.lengths.items in
-    let same : c.in-Ok-vec.bytes.items ≡ replicate c.byte_count.result 0 =
-    c.in-Ok-vec.ensures.items_if_clones_equal (λ byte e. e) in
+    let same = c.in_ok-bytes.ensures.items_if_clones_equal (λ byte e. e) in
     ap (unpacked ns) (same ∙ ap (λ (n : ℕ). replicate n 0) (c.byte_count.ensures.size
     ∙ ap size_of c.as_slice-2.ensures.value)) ∙ zeros_unpacked c.packed_law.ensures ns c.requires.known
