@@ -5,3 +5,4 @@ pub mod Exits
 pub mod Asking
 pub mod Grown
 pub mod Prompt
+pub mod Loop

@@ -19,16 +19,13 @@ pub nothing-left : (is_first : Bool) → lines (text_at is_first []) ≡ []
 nothing-left true = refl
 nothing-left false = refl
 
-pub start : {T : Type 0} (o : List (List ℕ) → Outcome T) (left before : Option (List ℕ)) (bound : ℕ) → (o []).text ≡ []
-    → Ran o o (record {
-      line = [];
-      held = [];
-      number = 0;
-      taken = 0;
-      limit = bound;
-      is_ready = true;
-      is_ended = false;
-    }) left left before before [] 0 bound
+-- no line is taken yet
+abbrev pub fresh_lines : ℕ → LinesState
+fresh_lines bound =
+    record { line = []; held = []; number = 0; taken = 0; limit = bound; is_ready = true; is_ended = false }
+
+pub start : {T : Type 0} (o : List (List ℕ) → Outcome T) (left before : Option (List ℕ)) (bound : ℕ) →
+    (o []).text ≡ [] → Ran o o (fresh_lines bound) left left before before [] 0 bound
 start o left before bound none = record {
   front = [];
   done = [];
