@@ -208,8 +208,7 @@ module _ (n : ℕ) (r : Round) (fn : Function) (some_width : Contains widths n) 
         part = OfProgram;
         index = 0;
         test = counts_agree fn q ct;
-        claims =
-            [];
+        claims = [];
       }) (faultless condition.Counts OfProgram 0 (counts_agree fn q ct) []
       (counts_met n fn some_width narrow calm r) none_met))
       (none_append (conditions_of fn q ct) (demand_conditions fn q ct)

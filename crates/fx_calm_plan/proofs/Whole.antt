@@ -287,8 +287,7 @@ module _ (n : ℕ) (fn : Function) (some_width : Contains widths n) (narrow : Is
           part = OfNode;
           index = min (length (nodes_of fn)) (length codes);
           test = length (nodes_of fn) == length codes;
-          claims =
-              [];
+          claims = [];
         }) (faultless condition.Shape OfNode (min (length (nodes_of fn)) (length codes)) (length
         (nodes_of fn) == length codes) [] same none_met))
 

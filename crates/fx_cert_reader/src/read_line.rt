@@ -19,7 +19,7 @@ use fx_cert::{Form, NodeLine, StartBox, Template, unit_vector};
 use fx_expr::Items;
 use fx_interval::Interval;
 use fx_num::{
-    INPUT_LIMIT, NODE_LIMIT, PLACE_END, RULE_COUNT, STATE_LIMIT, STEP_LIMIT, ROW_LIMIT,
+    INPUT_LIMIT, NODE_LIMIT, PLACE_END, RULE_COUNT, STATE_LIMIT, STEP_LIMIT, TEMPLATE_LIMIT,
 };
 use fx_step::Step;
 use fx_text::{
@@ -129,8 +129,8 @@ pub fn read_template_counts(
     ensures range { IfOk result (λ s. AreTemplateCounts states (template_counts_of s)) }
 {
     word(fields, b"rows")?;
-    let templates = count(fields, states, ROW_LIMIT)?;
-    let error_templates = count(fields, states, ROW_LIMIT)?;
+    let templates = count(fields, states, TEMPLATE_LIMIT)?;
+    let error_templates = count(fields, states, TEMPLATE_LIMIT)?;
     ended(fields)?;
     Ok(TemplateCounts {
         templates,

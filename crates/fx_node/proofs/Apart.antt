@@ -65,8 +65,7 @@ by_own_rows p u before (e ∷ es) = by (by_own_rows p u (before ++ e ∷ []) es)
         → map (λ (l : UnitLine). l.text)
         (cond b (record {
           unit = e.unit;
-          text =
-              event_line p before e;
+          text = event_line p before e;
         } ∷ filter (λ (l : UnitLine). l.unit == u) (lines_behind p (before ++ e ∷ []) es))
         (filter (λ (l : UnitLine). l.unit == u) (lines_behind p (before ++ e ∷ []) es)))
         ≡ own_lines p u (rows_of before u)

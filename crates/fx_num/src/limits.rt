@@ -36,8 +36,8 @@ pub const PLACE_END: u32 = 2000;
 /// The rewriting rules count from 1 to this.
 pub const RULE_COUNT: i32 = 30;
 
-/// The most rows, and the most error rows.
-pub const ROW_LIMIT: u32 = 512;
+/// The most templates, and the most error templates.
+pub const TEMPLATE_LIMIT: u32 = 512;
 
 /// The most bytes of a source.
 pub const SOURCE_LIMIT: u32 = 1_048_576;

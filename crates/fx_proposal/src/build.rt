@@ -2,12 +2,12 @@
 
 use fx_cert::Share;
 use fx_exchange::{Budget, ScaledTemplates, exchange};
-use fx_num::{Dyadic, Memory, ROW_LIMIT};
+use fx_num::{Dyadic, Memory, TEMPLATE_LIMIT};
 use fx_reach::{Ahead, Chain, Costs, Linear, Pool, find_closing, room, times_of, wanted_length};
 use std::alloc::Global;
 
 /// How many templates a certificate has at most, as lists count.
-const TEMPLATES: usize = ROW_LIMIT as usize;
+const TEMPLATES: usize = TEMPLATE_LIMIT as usize;
 
 /// A template whose image isn't kept: it is taken apart by an exchange.
 #[derive(Clone, Copy, Debug)]

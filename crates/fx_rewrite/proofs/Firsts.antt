@@ -27,8 +27,7 @@ rule_is_there f place path r h l e = (
       ∙ ap (λ (b : Bool). cond b (record {
         place = place;
         path = path;
-        rule =
-            r;
+        rule = r;
       } ∷ there f (steps_by place path (rules_from (r + 1)))) (there f (steps_by place path (rules_from (r + 1)))))
       (ap is_some e),
 )
@@ -42,8 +41,7 @@ rule_is_not f place path r o l e b =
     ∙ ap (λ (b : Bool). cond b (record {
       place = place;
       path = path;
-      rule =
-          r;
+      rule = r;
     } ∷ there f (steps_by place path (rules_from (r + 1)))) (there f (steps_by place path (rules_from (r + 1)))))
     (ap is_some e) in
     moved o b same

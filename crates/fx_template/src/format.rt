@@ -11,10 +11,10 @@ ghost use Rattle.fx_template.specs.Templates.{AreCountedTemplates, AreWrittenBou
 use fx_cert::{Share, Template, unit_coef};
 use fx_grid::is_small;
 use fx_interval::Interval;
-use fx_num::{Dyadic, ROW_LIMIT};
+use fx_num::{Dyadic, TEMPLATE_LIMIT};
 
 /// How many templates a certificate has at most, as lists count.
-const TEMPLATES: usize = ROW_LIMIT as usize;
+const TEMPLATES: usize = TEMPLATE_LIMIT as usize;
 
 /// Whether a text can spell it.
 fn is_written(d: Dyadic) -> bool

@@ -17,8 +17,7 @@ returns-in-Err-parse-clause-failed c =
     source_ends c.args.bytes.now b c.in-Err-parse.fault _
     (record {
       lawful = c.in-Ok.ensures.lawful;
-      text_is =
-          (c.bundle_text_law.ensures.takes c.args.bytes.now b c.in-Ok.ensures.value).0;
+      text_is = (c.bundle_text_law.ensures.takes c.args.bytes.now b c.in-Ok.ensures.value).0;
     }) c.end_of_source.ensures
     (subst (λ r. (r ≡ Err c.in-Err-parse.fault) ⊎
     (c.in-Err-parse.fault ≡ source.source_memory)) is c.in-Err-parse.ensures)

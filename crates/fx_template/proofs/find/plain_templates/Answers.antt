@@ -15,8 +15,7 @@ returns-clause-both c =
     ∙ ap (unit_templates t.states) c.deref-2.ensures.value in
     plain_both_pass t b (record {
       templates = templates_in c.from_vec.result;
-      error_templates =
-          templates_in c.from_vec-in-None.result;
+      error_templates = templates_in c.from_vec-in-None.result;
     }) c.requires.modest templates errors (sym c.in-None.ensures)
 
 pub returns-clause-written : goal.returns-clause-written
@@ -28,6 +27,5 @@ returns-clause-written c = λ h.
     ∙ ap (unit_templates t.states) c.deref-2.ensures.value in
     plain_written t c.args.rounds b (record {
       templates = templates_in c.from_vec.result;
-      error_templates =
-          templates_in c.from_vec-in-None.result;
+      error_templates = templates_in c.from_vec-in-None.result;
     }) c.requires.modest c.in_ok-bounds.ensures.rounds templates errors h

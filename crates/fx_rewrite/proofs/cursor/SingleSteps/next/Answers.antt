@@ -20,8 +20,7 @@ returns-in-Some-first_at-clause-next c =
     ∙ ap (λ (p : List ℕ). record {
       place = c.loop-whole.self.place;
       path = p;
-      rule =
-          c.in-Some-first_at.rule;
+      rule = c.in-Some-first_at.rule;
     } ∷ there c.loop-whole.self.function.now
     (ahead c.loop-whole.self.function.now c.loop-whole.self.place c.loop-whole.self.path.items
     (c.in-Some-first_at.rule + 1))) (sym held)
