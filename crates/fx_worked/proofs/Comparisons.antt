@@ -1,11 +1,9 @@
 -- Worked comparisons of dyadics with fractions, by fractions in another language: a wrong definition here is refused.
-use Rattle.std.specs.Prelude.{◌≡◌, ℕ, ℤ, pos, negsuc, ◌*ℤ◌, Bool, true, false, if◌then◌else◌, Option, Some, None, refl}
+use Rattle.std.specs.Prelude.{◌≡◌, pos, negsuc, ◌*ℤ◌, Bool, true, false, if◌then◌else◌, Option, Some, None, refl}
 use Rattle.fx_algebra.specs.Gcd.{gcd}
 use Rattle.fx_rational.specs.Rational.{Rational, over, bottom, is_at_most, lowest}
 use Rattle.fx_rational.specs.Dyadic.{Dyadic, dyadic_value, fits_128}
-
-abbrev dy : ℤ → ℕ → Dyadic
-dy m e = record { m = m; e = e }
+use Rattle.fx_worked.proofs.Shifts.{dy}
 
 -- whether d is at most and at least c, where the products of the comparison fit
 abbrev compared : Dyadic → Rational → Option (Bool × Bool)

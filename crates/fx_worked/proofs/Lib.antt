@@ -1,5 +1,6 @@
 mod Cells
 mod Comparisons
+mod Dyadics
 mod Filters
 mod Fractions
 mod Intervals
