@@ -58,9 +58,10 @@ impl Model for Lines {
       is_ended = s.is_ended;
     } };
 
-    ghost invariant = { λ s. (s.from ≤ s.to) × (s.to ≤ length s.held) × (s.next ≤ length s.held) × (length s.held ≤ 131072) ×
-        (s.limit < 2 ^ 64 - 1)
-        × (IsTrue s.is_ready → (s.taken ≤ s.limit) × (s.number + (length s.held - s.next) ≤ s.taken) × (s.ahead ≡ position (λ b. b == 10) (drop s.next s.held)))
+    ghost invariant = { λ s. (s.from ≤ s.to) × (s.to ≤ length s.held) × (s.next ≤ length s.held)
+        × (length s.held ≤ 131072) × (s.limit < 2 ^ 64 - 1)
+        × (IsTrue s.is_ready → (s.taken ≤ s.limit) × (s.number + (length s.held - s.next) ≤ s.taken)
+        × (s.ahead ≡ position (λ b. b == 10) (drop s.next s.held)))
         × (IsTrue s.is_ended → drop s.next s.held ≡ []) };
 }
 
@@ -137,7 +138,8 @@ impl Lines {
     ) -> Result<LineStep, LineFault>
         requires { IsTrue self.old.is_ready }
         ensures taken { (more : List ℕ) × Consumes (S.left source.old) (S.left source.new) more
-            × (self.new.taken ≡ min (self.old.taken + length more) (2 ^ 64 - 1)) × (length self.old.held + length more ≤ 131072)
+            × (self.new.taken ≡ min (self.old.taken + length more) (2 ^ 64 - 1))
+            × (length self.old.held + length more ≤ 131072)
             × (result ≡ Ok LineStep.Line → TakesLine self.old self.new more)
             × (result ≡ Ok LineStep.End → text_at (self.old.number == 0) (self.old.held ++ more) ≡ [])
             × (OnErr result (self.new.held ≡ self.old.held ++ more)) }

@@ -77,7 +77,12 @@ impl Model for Papers {
 
     ghost Value = { ShelfState };
 
-    ghost view = { λ s. record { files = entries s.files.items; fails = s.fails.items; calls = s.calls; faults = s.faults } };
+    ghost view = { λ s. record {
+      files = entries s.files.items;
+      fails = s.fails.items;
+      calls = s.calls;
+      faults = s.faults;
+    } };
 }
 
 impl Papers {

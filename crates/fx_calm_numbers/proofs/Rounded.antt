@@ -50,8 +50,8 @@ module _ (f : ℕ) (x : Rational) (n : Nonneg x) where
   not_below =
       record {
         at_most =
-            go (scaled x (pos f)).top (pos (units_up f x)) (bottom x) (bottom (scaled x (pos f))) scaled_bottom units_are
-            (ceiling_is (scaled x (pos f)).top (bottom x) (omega arith)).not_below;
+            go (scaled x (pos f)).top (pos (units_up f x)) (bottom x) (bottom (scaled x (pos f)))
+            scaled_bottom units_are (ceiling_is (scaled x (pos f)).top (bottom x) (omega arith)).not_below;
       }
     where
       go : (t z : ℤ) (d b : ℕ) → b ≡ d → z ≡ ceil_div t d → t ≤ℤ (ceil_div t d *ℤ pos d) → (t *ℤ pos 1) ≤ℤ (z *ℤ pos b)
@@ -63,8 +63,8 @@ module _ (f : ℕ) (x : Rational) (n : Nonneg x) where
   less_than_one =
       record {
         at_most =
-            go (scaled x (pos f)).top (pos (units_up f x)) (bottom x) (bottom (scaled x (pos f))) scaled_bottom units_are
-            (ceiling_is (scaled x (pos f)).top (bottom x) (omega arith)).least;
+            go (scaled x (pos f)).top (pos (units_up f x)) (bottom x) (bottom (scaled x (pos f)))
+            scaled_bottom units_are (ceiling_is (scaled x (pos f)).top (bottom x) (omega arith)).least;
       }
     where
       go : (t z : ℤ) (d b : ℕ) → b ≡ d → z ≡ ceil_div t d → (ceil_div t d *ℤ pos d -ℤ pos d) <ℤ t →

@@ -147,14 +147,16 @@ module _ (a l h : Dyadic) (al : above_zero l.m â‰¡ true) (ah : above_zero h.m â‰
   low_is true e true p r q = record {
     first = le_refl _;
     second =
-        rises (dyadic_value a) (dyadic_value l) (dyadic_value h) (above_value l al) (above_value h ah) (turned_value a e)
+        rises (dyadic_value a) (dyadic_value l) (dyadic_value h)
+        (above_value l al) (above_value h ah) (turned_value a e)
         (at_most_true _ _ p);
     one = inl (equal_refl _);
   }
   low_is true e false p r q =
       record {
         first =
-            rises (dyadic_value a) (dyadic_value h) (dyadic_value l) (above_value h ah) (above_value l al) (turned_value a e)
+            rises (dyadic_value a) (dyadic_value h) (dyadic_value l)
+            (above_value h ah) (above_value l al) (turned_value a e)
             (at_most_false _ _ p);
         second = le_refl _;
         one = inr (equal_refl _);
@@ -162,14 +164,16 @@ module _ (a l h : Dyadic) (al : above_zero l.m â‰¡ true) (ah : above_zero h.m â‰
   low_is false e s p true q = record {
     first = le_refl _;
     second =
-        falls (dyadic_value a) (dyadic_value h) (dyadic_value l) (above_value h ah) (above_value l al) (nonneg_value a e)
+        falls (dyadic_value a) (dyadic_value h) (dyadic_value l)
+        (above_value h ah) (above_value l al) (nonneg_value a e)
         (at_most_true _ _ q);
     one = inl (equal_refl _);
   }
   low_is false e s p false q =
       record {
         first =
-            falls (dyadic_value a) (dyadic_value l) (dyadic_value h) (above_value l al) (above_value h ah) (nonneg_value a e)
+            falls (dyadic_value a) (dyadic_value l) (dyadic_value h)
+            (above_value l al) (above_value h ah) (nonneg_value a e)
             (at_most_false _ _ q);
         second = le_refl _;
         one = inr (equal_refl _);
@@ -182,14 +186,16 @@ module _ (a l h : Dyadic) (al : above_zero l.m â‰¡ true) (ah : above_zero h.m â‰
   high_is true e s p true q = record {
     first = le_refl _;
     second =
-        rises (dyadic_value a) (dyadic_value h) (dyadic_value l) (above_value h ah) (above_value l al) (turned_value a e)
+        rises (dyadic_value a) (dyadic_value h) (dyadic_value l)
+        (above_value h ah) (above_value l al) (turned_value a e)
         (at_most_true _ _ q);
     one = inl (equal_refl _);
   }
   high_is true e s p false q =
       record {
         first =
-            rises (dyadic_value a) (dyadic_value l) (dyadic_value h) (above_value l al) (above_value h ah) (turned_value a e)
+            rises (dyadic_value a) (dyadic_value l) (dyadic_value h)
+            (above_value l al) (above_value h ah) (turned_value a e)
             (at_most_false _ _ q);
         second = le_refl _;
         one = inr (equal_refl _);
@@ -197,14 +203,16 @@ module _ (a l h : Dyadic) (al : above_zero l.m â‰¡ true) (ah : above_zero h.m â‰
   high_is false e true p r q = record {
     first = le_refl _;
     second =
-        falls (dyadic_value a) (dyadic_value l) (dyadic_value h) (above_value l al) (above_value h ah) (nonneg_value a e)
+        falls (dyadic_value a) (dyadic_value l) (dyadic_value h)
+        (above_value l al) (above_value h ah) (nonneg_value a e)
         (at_most_true _ _ p);
     one = inl (equal_refl _);
   }
   high_is false e false p r q =
       record {
         first =
-            falls (dyadic_value a) (dyadic_value h) (dyadic_value l) (above_value h ah) (above_value l al) (nonneg_value a e)
+            falls (dyadic_value a) (dyadic_value h) (dyadic_value l)
+            (above_value h ah) (above_value l al) (nonneg_value a e)
             (at_most_false _ _ p);
         second = le_refl _;
         one = inr (equal_refl _);

@@ -24,17 +24,13 @@ impl Round {
         }
     }
 
-    /// How a copy by this shift of words of `width` bits rounds.
+    /// How a copy by this shift of words of `width` bits rounds, also where no program has such a shift or such words.
     fn of_copy_shift(self, width: u32, s: i64) -> Round
-        requires { IsWidth width }
         ensures { round_of result ≡ copy_round (round_of self) width s }
     {
-        if i64::from(self.least_copy_shift(width)) <= s
-            && s <= i64::from(self.greatest_copy_shift(width))
-        {
-            self
-        } else {
-            Round::Floor
+        match self {
+            Round::Floor => Round::Floor,
+            Round::Nearest => near_copy_round(width, s),
         }
     }
 
@@ -49,28 +45,18 @@ impl Round {
     pub fn copy_code(self, width: u32, a: u32, s: i32) -> Code
         ensures { code_of result ≡ machine.Copy (copy_round (round_of self) width s) a s }
     {
-        match self {
-            Round::Floor => Code::Copy { a, s },
-            Round::Nearest => near_copy_code(width, a, s),
-        }
+        self.of_copy_shift(width, i64::from(s)).copy(a, s)
     }
 }
 
-/// Whether a copy by this shift may round to the nearest.
-fn is_near_shift(width: u32, s: i32) -> bool
-    ensures { result ≡ (int_le (pos 1) s && int_le s (pos width)) }
+/// To the nearest where a copy may be rounded so, and else down.
+fn near_copy_round(width: u32, s: i64) -> Round
+    ensures { round_of result ≡ copy_round machine.Nearest width s }
 {
-    1 <= s && i64::from(s) <= i64::from(width)
-}
-
-/// The copy to the nearest where its shift may be rounded so, and else down.
-fn near_copy_code(width: u32, a: u32, s: i32) -> Code
-    ensures { code_of result ≡ machine.Copy (copy_round machine.Nearest width s) a s }
-{
-    if is_near_shift(width, s) {
-        Code::CopyNear { a, s: s as u32 }
+    if 1 <= s && s <= i64::from(width) {
+        Round::Nearest
     } else {
-        Code::Copy { a, s }
+        Round::Floor
     }
 }
 

@@ -31,8 +31,8 @@ pub le_trans : {x y z : Rational} → AtMost x y → AtMost y z → AtMost x z
 le_trans {x} {y} {z} h k =
     record {
       at_most =
-          crossed x.top (pos (bottom x)) y.top (pos (bottom y)) z.top (pos (bottom z)) (suc_above x.less) (suc_above y.less)
-          (suc_above z.less) h.at_most k.at_most;
+          crossed x.top (pos (bottom x)) y.top (pos (bottom y)) z.top (pos (bottom z))
+          (suc_above x.less) (suc_above y.less) (suc_above z.less) h.at_most k.at_most;
     }
 
 pub le_antisym : {x y : Rational} → AtMost x y → AtMost y x → Equal x y

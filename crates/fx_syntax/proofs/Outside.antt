@@ -1,5 +1,5 @@
 -- Values from outside: what an independent reader of the same texts, in another language, gives for them.
-use Rattle.std.specs.Prelude.{◌≡◌, ℕ, ℤ, pos, negsuc, List, [], ◌∷◌, map, Some, None, Result, Ok, Err, codes, refl}
+use Rattle.std.specs.Prelude.{◌≡◌, ℕ, ℤ, pos, negsuc, List, [], ◌∷◌, ◌++◌, map, Some, None, Result, Ok, Err, codes, refl}
 use Rattle.fx_rational.specs.Rational.{Rational, over}
 use Rattle.fx_rational.specs.Decimal.{decimal_value}
 use Rattle.fx_model.specs.Tree.{Tree, Literal, Input, State, Temp, Negation, Sum, Difference, Product, Quotient}
@@ -207,8 +207,24 @@ unfolding over
 sources_1 =
     lawful (codes "def f(x: Real): Real = {\n  require(0 <= x && x <= 1)\n  x + 0.5\n}\n")
     (of_x [] ((Sum (Input 0) (Literal (over (pos 1) 2))) ∷ []) ∷ []) ∷
-    lawful (codes "def g(u: Real)(x: Real = 0.0): (Real, Real) = {\n  require(-1 <= u && u <= 1)\n  val y = 0.5 * x + 0.5 * u\n  (y, y)\n}\n") (function (codes "g") (input (codes "u") (dec (negsuc 0) 0) (dec (pos 1) 0) (dec (pos 0) 0) ∷ []) (state (codes "x") (dec (pos 0) 0) ∷ []) (temp (codes "y") (Sum (Product (Literal (over (pos 1) 2)) (State 0)) (Product (Literal (over (pos 1) 2)) (Input 0))) ∷ []) ((Temp 0) ∷ (Temp 0) ∷ []) (free ∷ []) ∷ []) ∷
-    lawful (codes "import daisy.lang._\nimport Real._\n\nobject Doppler {\n  /* frequency shift */\n  def doppler(u: Real, v: Real, T: Real): Real = {\n    require(-100.0 <= u && u <= 100 && 20 <= v && v <= 20000 && -30 <= T && T <= 50)\n    val t1 = 331.4 + 0.6 * T // speed of sound\n    (- (t1) * v) / ((t1 + u) * (t1 + u))\n  } ensuring (res => res +/- 0.001)\n}\n") (function (codes "doppler") (input (codes "u") (dec (negsuc 99) 0) (dec (pos 100) 0) (dec (pos 0) 0) ∷ input (codes "v") (dec (pos 20) 0) (dec (pos 20000) 0) (dec (pos 0) 0) ∷ input (codes "T") (dec (negsuc 29) 0) (dec (pos 50) 0) (dec (pos 0) 0) ∷ []) [] (temp (codes "t1") (Sum (Literal (over (pos 1657) 5)) (Product (Literal (over (pos 3) 5)) (Input 2))) ∷ []) ((Quotient (Product (Negation (Temp 0)) (Input 1)) (Product (Sum (Temp 0) (Input 0)) (Sum (Temp 0) (Input 0)))) ∷ []) (within (dec (pos 1) 3) ∷ []) ∷ []) ∷
+    lawful (codes "def g(u: Real)(x: Real = 0.0): (Real, Real) = {\n  require(-1 <= u && u <= 1)\n" ++
+    codes "  val y = 0.5 * x + 0.5 * u\n  (y, y)\n}\n")
+    (function (codes "g") (input (codes "u") (dec (negsuc 0) 0) (dec (pos 1) 0) (dec (pos 0) 0) ∷ [])
+    (state (codes "x") (dec (pos 0) 0) ∷ [])
+    (temp (codes "y")
+    (Sum (Product (Literal (over (pos 1) 2)) (State 0)) (Product (Literal (over (pos 1) 2)) (Input 0))) ∷ [])
+    ((Temp 0) ∷ (Temp 0) ∷ []) (free ∷ []) ∷ []) ∷
+    lawful (codes "import daisy.lang._\nimport Real._\n\nobject Doppler {\n  /* frequency shift */\n" ++
+    codes "  def doppler(u: Real, v: Real, T: Real): Real = {\n" ++
+    codes "    require(-100.0 <= u && u <= 100 && 20 <= v && v <= 20000 && -30 <= T && T <= 50)\n" ++
+    codes "    val t1 = 331.4 + 0.6 * T // speed of sound\n    (- (t1) * v) / ((t1 + u) * (t1 + u))\n" ++
+    codes "  } ensuring (res => res +/- 0.001)\n}\n")
+    (function (codes "doppler") (input (codes "u") (dec (negsuc 99) 0) (dec (pos 100) 0) (dec (pos 0) 0) ∷
+    input (codes "v") (dec (pos 20) 0) (dec (pos 20000) 0) (dec (pos 0) 0) ∷
+    input (codes "T") (dec (negsuc 29) 0) (dec (pos 50) 0) (dec (pos 0) 0) ∷ []) []
+    (temp (codes "t1") (Sum (Literal (over (pos 1657) 5)) (Product (Literal (over (pos 3) 5)) (Input 2))) ∷ [])
+    ((Quotient (Product (Negation (Temp 0)) (Input 1)) (Product (Sum (Temp 0) (Input 0)) (Sum (Temp 0) (Input 0)))) ∷
+    []) (within (dec (pos 1) 3) ∷ []) ∷ []) ∷
     lawful (codes "def m(x: Real): Real = { require(-1.984375 <= x && x <= 1) -x }")
     (function (codes "m") (input (codes "x") (dec (negsuc 1984374) 6) (dec (pos 1) 0) (dec (pos 0) 0) ∷ []) [] []
     ((Negation (Input 0)) ∷ []) (free ∷ []) ∷ []) ∷
@@ -218,7 +234,8 @@ sources_1 =
     ∷ []) ∷
     lawful (codes "def f(x:Real):Real={require(0<=x&&x<=1) x /* a /* b */ c */ + 1}")
     (of_x [] ((Sum (Input 0) (Literal (over (pos 1) 1))) ∷ []) ∷ []) ∷
-    lawful (codes "def f(x:Real):Real={require(0<=x&&x<=1) x // c\n + 1}") (of_x [] ((Sum (Input 0) (Literal (over (pos 1) 1))) ∷ []) ∷ []) ∷
+    lawful (codes "def f(x:Real):Real={require(0<=x&&x<=1) x // c\n + 1}")
+    (of_x [] ((Sum (Input 0) (Literal (over (pos 1) 1))) ∷ []) ∷ []) ∷
     lawful (codes "def f(x:Real):Real={require(0<=x&&x<=1) 1.5e3}") (of_x [] ((Literal (over (pos 1500) 1)) ∷ []) ∷ [])
     ∷
     lawful (codes "def f(x:Real):Real={require(0<=x&&x<=1) x /**/ - 1}")
@@ -314,7 +331,14 @@ sources_3 =
     lawful (codes "def f(x:Real):Real={require(0<=x&&x<=1) val t = (x\n-1)\n-t}")
     (of_x (temp (codes "t") (Difference (Input 0) (Literal (over (pos 1) 1))) ∷ []) ((Negation (Temp 0)) ∷ []) ∷ [])
     ∷
-    lawful (codes "def f(a:Real,b:Real)(s:Real=-2,t:Real=0.50):(Real,Real,Real)={require(a>=0&&a<1&&(b+/-0.1&&0<b&&b<=2)) val u=s*a; (u+t,u,-t*b)}ensuring(o=>o+/-1e-3)") (function (codes "f") (input (codes "a") (dec (pos 0) 0) (dec (pos 1) 0) (dec (pos 0) 0) ∷ input (codes "b") (dec (pos 0) 0) (dec (pos 2) 0) (dec (pos 1) 1) ∷ []) (state (codes "s") (dec (negsuc 1) 0) ∷ state (codes "t") (dec (pos 5) 1) ∷ []) (temp (codes "u") (Product (State 0) (Input 0)) ∷ []) ((Sum (Temp 0) (State 1)) ∷ (Temp 0) ∷ (Product (Negation (State 1)) (Input 1)) ∷ []) (within (dec (pos 1) 3) ∷ []) ∷ []) ∷
+    lawful (codes "def f(a:Real,b:Real)(s:Real=-2,t:Real=0.50):(Real,Real,Real)={" ++
+    codes "require(a>=0&&a<1&&(b+/-0.1&&0<b&&b<=2)) val u=s*a; (u+t,u,-t*b)}ensuring(o=>o+/-1e-3)")
+    (function (codes "f") (input (codes "a") (dec (pos 0) 0) (dec (pos 1) 0) (dec (pos 0) 0) ∷
+    input (codes "b") (dec (pos 0) 0) (dec (pos 2) 0) (dec (pos 1) 1) ∷ [])
+    (state (codes "s") (dec (negsuc 1) 0) ∷ state (codes "t") (dec (pos 5) 1) ∷ [])
+    (temp (codes "u") (Product (State 0) (Input 0)) ∷ [])
+    ((Sum (Temp 0) (State 1)) ∷ (Temp 0) ∷ (Product (Negation (State 1)) (Input 1)) ∷ [])
+    (within (dec (pos 1) 3) ∷ []) ∷ []) ∷
     []
 
 sources_3_are : lawful_readings sources_3 ≡ meanings sources_3

@@ -167,7 +167,8 @@ by_hand =
 
 averager_text : Text
 averager_text =
-    codes "def g(u: Real)(x: Real = 0.0): (Real, Real) = {\n  require((-1 <= u) && ((u < 1) && u +/- 0.5))\n  val y = 0.5 * x + 0.5 * u\n  (y, y)\n} ensuring (out => out +/- 1e-2)"
+    codes "def g(u: Real)(x: Real = 0.0): (Real, Real) = {\n  require((-1 <= u) && ((u < 1) && u +/- 0.5))\n" ++
+    codes "  val y = 0.5 * x + 0.5 * u\n  (y, y)\n} ensuring (out => out +/- 1e-2)"
 
 abbrev a_half : Rational
 a_half = over (pos 1) 2
@@ -192,7 +193,8 @@ averager_is = (text_law averager_text (averager ∷ [])).0 refl
 -- an output that has both ends and an error
 clamped_text : Text
 clamped_text =
-    codes "def f(x: Real): Real = {require(0 <= x && x <= 1) x + 0.5} ensuring(res => 0.5 <= res && res <= 1.5 && res +/- 0.1)"
+    codes "def f(x: Real): Real = {require(0 <= x && x <= 1) x + 0.5} " ++
+    codes "ensuring(res => 0.5 <= res && res <= 1.5 && res +/- 0.1)"
 
 clamped : Function
 clamped = record {

@@ -19,7 +19,7 @@ pub record IsSaid (side : Side) (d : Decimal) (name : Lexeme) (before after : Su
   pub fresh : side_of side (subject_or before place) ≡ None
   pub value : after ≡ slice_set before place (with_side side d (subject_or before place))
 
--- rel = "<" | "<=" | ">" | ">=": which end of the name on its left the number on its right gives, and the other way round
+-- rel = "<" | "<=" | ">" | ">=": which end of the name on its left the number on its right gives, and conversely
 pub data IsRelation : Head → Side → Side → Type 0 where
   below : IsRelation heads.Below High Low
   at_most : IsRelation heads.AtMost High Low
@@ -67,7 +67,7 @@ pub record IsErrorOf (before : Subjects) (ts : Tokens) (after : Subjects) (rest 
   pub number_is : IsNumber numbers number rest
   pub said : IsSaid Error number name before after
 
--- simple = signed rel name | name rel signed | name "+/-" number: a condition without parentheses around it, or a demand
+-- simple = signed rel name | name rel signed | name "+/-" number: a condition without parentheses, or a demand
 pub data IsSimple (before : Subjects) (ts : Tokens) (after : Subjects) (rest : Tokens) : Type 0 where
   number_first : IsNumberFirst before ts after rest → IsSimple before ts after rest
   name_first : IsNameFirst before ts after rest → IsSimple before ts after rest

@@ -93,7 +93,7 @@ pub fn ended(fields: &Fields<'_>) -> Result<(), TextKind>
     }
 }
 
-/// A dyadic `m:e`. BadNumber where it isn't in its one spelling, else OutOfRange where |m| is 2^62 or more or e above 96.
+/// A dyadic `m:e`. BadNumber where it isn't spelled as one, else OutOfRange: |m| is 2^62 or more, or e is above 96.
 #[tactic(auto, unfolding(crate::specs::Reading::dyadic_at))]
 pub fn dyadic(fields: &mut Fields<'_>) -> Result<Dyadic, TextKind>
     ensures value { Reads (λ d. d) result fields.new (dyadic_at fields.old) }
