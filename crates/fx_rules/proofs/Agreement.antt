@@ -1,5 +1,5 @@
 -- What it is that a row of the table and a way to turn a tree agree.
-use Rattle.std.proofs.Common.{◌≡◌, Bool, true, false}
+use Rattle.std.proofs.Common.{◌≡◌, true, false}
 use Rattle.fx_model.specs.Tree.{Tree}
 use Rattle.fx_rules.specs.Rules.{Letters, Rule, filled, Folding, IsFolded, folding_fits}
 use Rattle.fx_rules.specs.Turned.{Turned, NoMatch, TooLong, Becomes, where_fits}

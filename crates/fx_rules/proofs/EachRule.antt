@@ -1,5 +1,5 @@
 -- Each rule keeps the value of what it rewrites.
-use Rattle.std.proofs.Common.{◌≡◌, ◌⊎◌, ⊎_elim, zero, suc, pos, negsuc, ℤ, ◌*ℤ◌, [], ◌∷◌, Option, Some, None, refl, arith}
+use Rattle.std.proofs.Common.{◌≡◌, ⊎_elim, zero, suc, pos, negsuc, ℤ, ◌*ℤ◌, [], ◌∷◌, Option, Some, None, refl, arith}
 use Rattle.std.proofs.lemmas.Int.{ints}
 use Rattle.fx_rational.specs.Rational.{Rational, whole, over, plus, minus, negative, times, quotient, lowest, Equal}
 use Rattle.fx_model.specs.Tree.{on_one, on_two, always}

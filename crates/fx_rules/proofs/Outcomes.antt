@@ -5,10 +5,9 @@ use Rattle.fx_rational.specs.Rational.{Rational, whole, plus, minus, times, nega
 use Rattle.fx_model.specs.Tree.{Tree, Literal, Negation, Sum, Difference, Product, Quotient, always}
 use Rattle.fx_rules.specs.Rules as table
 use Rattle.fx_rules.specs.Rules.{Pattern, Letters, Rule, plain, folds, filled, IsFolded, fits_literal, folding_fits}
-use Rattle.fx_rules.specs.Turned as turns
-use Rattle.fx_rules.specs.Turned.{Turned, NoMatch, TooLong, Becomes, same_tree, where_same, where_fits, folded, folded_option, in_product, turned_1, turned_2, turned_3, turned_4, turned_5, turned_6, turned_7, turned_8, turned_9, turned_10, turned_11, turned_12, turned_13, turned_14, turned_15, turned_16, turned_17, turned_18, turned_19, turned_20, turned_21, turned_22, turned_23, turned_24, turned_25, turned_26, turned_27, turned_28, turned_29, turned_30}
+use Rattle.fx_rules.specs.Turned.{same_tree, where_same, where_fits, folded_option, in_product, turned_1, turned_2, turned_3, turned_4, turned_5, turned_6, turned_7, turned_8, turned_9, turned_10, turned_11, turned_12, turned_13, turned_14, turned_15, turned_16, turned_17, turned_18, turned_19, turned_20, turned_21, turned_22, turned_23, turned_24, turned_25, turned_26, turned_27, turned_28, turned_29, turned_30}
 use Rattle.fx_rules.proofs.SameTree.{same_tree_refl, same_tree_true}
-use Rattle.fx_rules.proofs.Agreement.{Matches, Says, checked, Agrees}
+use Rattle.fx_rules.proofs.Agreement.{Says, Agrees}
 
 abbrev letters : Tree → Tree → Tree → Letters
 letters a b c = record { a = a; b = b; c = c; l = whole (pos 0); k = whole (pos 0); made = whole (pos 0) }

@@ -1,7 +1,6 @@
 -- A tree that is put in place of another keeps a function valid.
-use Rattle.std.proofs.Common.{◌≡◌, ℕ, zero, suc, ◌+◌, List, [], ◌∷◌, Option, Some, None, refl, length, ◌∙◌, ap}
+use Rattle.std.proofs.Common.{◌≡◌, ℕ, zero, suc, ◌+◌, List, [], ◌∷◌, Some, refl, length, ◌∙◌, ap}
 use Rattle.std.specs.Prelude.{slice_get}
-use Rattle.std.specs.Option.{option_and_then}
 use Rattle.fx_model.specs.Tree.{Tree, Negation, Sum, Difference, Product, Quotient}
 use Rattle.fx_model.specs.Function as function
 use Rattle.fx_model.specs.Function.{Function}

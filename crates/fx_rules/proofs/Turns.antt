@@ -2,11 +2,12 @@
 use Rattle.std.proofs.Common.{◌≡◌, ℕ, zero, suc, Bool, true, false, List, [], ◌∷◌, Option, Some, None, refl, sym, ap, subst, ◌∙◌}
 use Rattle.std.specs.Prelude.{slice_get}
 use Rattle.fx_model.specs.Tree.{Tree}
-use Rattle.fx_rules.specs.Rules.{Letters, Rule, rules, filled, IsFolded, folding_fits, RewritesTree}
+use Rattle.fx_rules.specs.Rules.{Rule, rules, filled, folding_fits, RewritesTree}
 use Rattle.fx_rules.specs.Turned.{Turned, NoMatch, TooLong, Becomes, where_fits, turns, turned_by, turned}
 use Rattle.fx_rules.specs.Steps.{IsUnmatched}
-use Rattle.fx_rules.proofs.Agreement.{Matches, Says, checked, Agrees}
+use Rattle.fx_rules.proofs.Agreement.{Says, Agrees}
 use Rattle.fx_rules.proofs.Outcomes as each
+use Rattle.fx_rules.proofs.Sound.{◌⊗◌}
 
 -- row by row
 abbrev AllAgree : List Rule → List (Tree → Turned) → Type 0
@@ -15,85 +16,13 @@ AllAgree (r ∷ rs) (t ∷ ts) = Agrees r t × AllAgree rs ts
 AllAgree _ _ = ⊥
 
 all_agree : AllAgree rules turns
-all_agree = (
-  each.agrees_1,
-  (
-    each.agrees_2,
-    (
-      each.agrees_3,
-      (
-        each.agrees_4,
-        (
-          each.agrees_5,
-          (
-            each.agrees_6,
-            (
-              each.agrees_7,
-              (
-                each.agrees_8,
-                (
-                  each.agrees_9,
-                  (
-                    each.agrees_10,
-                    (
-                      each.agrees_11,
-                      (
-                        each.agrees_12,
-                        (
-                          each.agrees_13,
-                          (
-                            each.agrees_14,
-                            (
-                              each.agrees_15,
-                              (
-                                each.agrees_16,
-                                (
-                                  each.agrees_17,
-                                  (
-                                    each.agrees_18,
-                                    (
-                                      each.agrees_19,
-                                      (
-                                        each.agrees_20,
-                                        (
-                                          each.agrees_21,
-                                          (
-                                            each.agrees_22,
-                                            (
-                                              each.agrees_23,
-                                              (
-                                                each.agrees_24,
-                                                (
-                                                  each.agrees_25,
-                                                  (
-                                                    each.agrees_26,
-                                                    (each.agrees_27, (each.agrees_28, (each.agrees_29, (each.agrees_30, tt {0})))),
-                                                  ),
-                                                ),
-                                              ),
-                                            ),
-                                          ),
-                                        ),
-                                      ),
-                                    ),
-                                  ),
-                                ),
-                              ),
-                            ),
-                          ),
-                        ),
-                      ),
-                    ),
-                  ),
-                ),
-              ),
-            ),
-          ),
-        ),
-      ),
-    ),
-  ),
-)
+all_agree =
+    each.agrees_1 ⊗ each.agrees_2 ⊗ each.agrees_3 ⊗ each.agrees_4 ⊗ each.agrees_5
+    ⊗ each.agrees_6 ⊗ each.agrees_7 ⊗ each.agrees_8 ⊗ each.agrees_9 ⊗ each.agrees_10
+    ⊗ each.agrees_11 ⊗ each.agrees_12 ⊗ each.agrees_13 ⊗ each.agrees_14 ⊗ each.agrees_15
+    ⊗ each.agrees_16 ⊗ each.agrees_17 ⊗ each.agrees_18 ⊗ each.agrees_19 ⊗ each.agrees_20
+    ⊗ each.agrees_21 ⊗ each.agrees_22 ⊗ each.agrees_23 ⊗ each.agrees_24 ⊗ each.agrees_25
+    ⊗ each.agrees_26 ⊗ each.agrees_27 ⊗ each.agrees_28 ⊗ each.agrees_29 ⊗ each.agrees_30 ⊗ tt {0}
 
 record Turn (ts : List (Tree → Turned)) (n : ℕ) (r : Rule) : Type 0 where
   turn : Tree → Turned

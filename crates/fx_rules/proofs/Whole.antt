@@ -1,6 +1,6 @@
 -- Rewriting is what the rules say, and keeps the meaning.
 use Rattle.std.proofs.Common.{◌≡◌, ◌≤◌, ℕ, Bool, true, false, Option, Some, None, refl, sym, ap, subst, ◌∙◌, rules, tests}
-use Rattle.std.specs.Prelude.{◌↔◌, ◌&&◌, nat_le, length, IfSome, if◌then◌else◌, cond}
+use Rattle.std.specs.Prelude.{◌&&◌, nat_le, length, IfSome, cond}
 use Rattle.std.specs.Option.{option_and_then}
 use Rattle.std.proofs.lemmas.Bool.{and_parts}
 use Rattle.fx_model.specs.Limits.{node_limit, height_limit}
@@ -12,7 +12,6 @@ use Rattle.fx_model.specs.Sameness.{HasMeaningOf}
 use Rattle.fx_model.specs.Paths.{height, found, tree_at, subtree, put, with_tree}
 use Rattle.fx_model.proofs.Options.{some_then}
 use Rattle.fx_inequalities.specs.Rewriting.{Rewriting}
-use Rattle.fx_rules.specs.Rules.{RewritesTree, folding_fits}
 use Rattle.fx_rules.specs.Turned.{Turned, NoMatch, TooLong, Becomes, where_fits, turned}
 use Rattle.fx_rules.specs.Steps.{IsRewritten, is_low, kept_within, after, rewrite, RewriteLaw}
 use Rattle.fx_rules.proofs.Turns.{turned_there, turned_judges}

@@ -1,13 +1,13 @@
 -- Worked rewritings, by evaluation: each rule on a tree that it turns, and on one that it doesn't.
-use Rattle.std.specs.Prelude.{◌≡◌, ℕ, zero, suc, ◌^◌, pos, negsuc, List, [], ◌∷◌, Option, Some, None, refl, codes}
+use Rattle.std.specs.Prelude.{◌≡◌, ℕ, zero, suc, ◌^◌, pos, negsuc, List, [], ◌∷◌, Some, None, refl, codes}
 use Rattle.fx_algebra.specs.Gcd.{gcd}
-use Rattle.fx_rational.specs.Rational.{Rational, over, whole, plus, minus, times, negative, divided, quotient, lowest}
-use Rattle.fx_model.specs.Tree.{Tree, Literal, Input, State, Temp, Negation, Sum, Difference, Product, Quotient}
+use Rattle.fx_rational.specs.Rational.{over, whole, plus, minus, times, negative, divided, quotient, lowest}
+use Rattle.fx_model.specs.Tree.{Tree, Literal, Input, Negation, Sum, Difference, Product, Quotient}
 use Rattle.fx_model.specs.Function as function
 use Rattle.fx_model.specs.Function.{Function, free}
 use Rattle.fx_model.specs.Paths.{found}
 use Rattle.fx_inequalities.specs.Rewriting.{Rewriting}
-use Rattle.fx_rules.specs.Turned.{Turned, NoMatch, TooLong, Becomes, turned}
+use Rattle.fx_rules.specs.Turned.{NoMatch, TooLong, Becomes, turned}
 use Rattle.fx_rules.specs.Steps.{rewrite}
 use Rattle.fx_rules.specs.SingleSteps.{single_steps}
 
