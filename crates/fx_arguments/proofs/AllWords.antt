@@ -304,7 +304,8 @@ module _ (name : Bytes) (names : List Bytes) (R : List Rule) (L : IsLeaf names R
             ∙ ap (λ w. plain_word R w word (held_rows seen now)) no_wait)
             (fault name names R L seen now known 1 word e
             ∙ ap (λ l. flag_word_fault R false l word (held_rows seen now)) (plain-met word f).0
-            ∙ ap (λ o. option_map_or (λ flags. bundle_fault R false flags (held_rows seen now)) o []) (plain-met word f).1)
+            ∙ ap (λ o. option_map_or (λ flags. bundle_fault R false flags (held_rows seen now)) o [])
+            (plain-met word f).1)
             ∙ sym (passes-settle R seen now (with_entry (file_entry word) (entries_in names rest None)) calm)
 
   -- a word, where an option waits

@@ -203,7 +203,8 @@ module _ (name : Bytes) (names : List Bytes) (R : List Rule) (L : IsLeaf names R
             ∙ ap (λ w. plain_word R w word (held_rows seen now)) no_wait)
             (fault name names R L seen now known 1 word k
             ∙ ap (λ l. flag_word_fault R false l word (held_rows seen now)) (plain-met word g).0
-            ∙ ap (λ o. option_map_or (λ flags. bundle_fault R false flags (held_rows seen now)) o []) (plain-met word g).1)
+            ∙ ap (λ o. option_map_or (λ flags. bundle_fault R false flags (held_rows seen now)) o [])
+            (plain-met word g).1)
             ps inner.0 inner.1 inner.2 f
 
   waiting-rows : (word : Bytes) (rest : List Bytes) → Claim rest → (seen : List Entry) (id : Bytes) (b : Bool) →

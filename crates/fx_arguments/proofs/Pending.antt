@@ -127,7 +127,8 @@ pub use-once : (id v : Bytes) (long : Option Bytes) (index : Option ℕ) (requir
     → is_nil (use_fault false (text_rule id long index required) (v ∷ []) (map row_for seen)) ≡ not (has_entry id seen)
 use-once id v long index required seen =
     cases (has_row id (map row_for seen)) (has_entry id seen) (rows-has id seen) where
-      cases : (b d : Bool) → b ≡ d → is_nil (or_else (if b && not false then kind.ArgumentConflict ∷ [] else []) []) ≡ not d
+      cases : (b d : Bool) → b ≡ d →
+          is_nil (or_else (if b && not false then kind.ArgumentConflict ∷ [] else []) []) ≡ not d
       cases true true e = refl
       cases false false e = refl
       cases true false e = absurd (cc)

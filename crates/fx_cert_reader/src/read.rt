@@ -4,7 +4,7 @@
 //! the text behind the certificate. Lists grow as their lines come, whatever their count claims.
 
 ghost use Rattle.std.specs.Prelude.{◌≡◌, ◌≤◌, ◌<◌, ◌^◌, ◌+◌, ◌-◌, map, length, IfOk};
-ghost use Rattle.fx_model.specs.Limits.{input_limit, state_limit, node_limit, step_limit, template_limit};
+ghost use Rattle.fx_model.specs.Limits.{state_limit, step_limit, template_limit};
 ghost use Rattle.fx_step.specs.StepView.{step_view};
 ghost use Rattle.fx_inequalities.specs.LawfulCertificate.{IsLawfulCertificate};
 ghost use Rattle.fx_text.specs.Reading.{ReadsAll};

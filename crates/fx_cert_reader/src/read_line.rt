@@ -3,7 +3,7 @@
 //! A reader of a line reads its word, its fields from left to right, and that no field is left. The trap: what a line
 //! may be depends on where it stands, so that a reader of templates and of nodes is told how many there are.
 
-ghost use Rattle.std.specs.Prelude.{◌≡◌, ◌<◌, ◌≤◌, ◌+◌, IfOk};
+ghost use Rattle.std.specs.Prelude.{◌<◌, ◌≤◌, ◌+◌, IfOk};
 ghost use Rattle.fx_model.specs.Limits.{state_limit, template_limit, step_limit};
 ghost use Rattle.fx_step.specs.StepView.{step_view};
 ghost use Rattle.fx_inequalities.specs.LawfulCertificate.{unit_vector};

@@ -25,8 +25,8 @@ template_condition Value fn p cert i = record {
   index = i;
   test = true;
   claims =
-      template_claims fn p cert (templates_of (length fn.states) cert.templates) cert.templates (side_at Value cert.lines)
-      (side_rest Value) i;
+      template_claims fn p cert (templates_of (length fn.states) cert.templates) cert.templates
+      (side_at Value cert.lines) (side_rest Value) i;
 }
 template_condition Error fn p cert i = record {
   kind = condition.ErrorRow;

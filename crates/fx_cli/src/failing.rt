@@ -170,6 +170,27 @@ type Run = (
     &'static str,
 );
 
+/// What `show` says of the bundle.
+const SHOWN: &str = "\
+0 in 12 0 1 -1/2^12 0
+1 const 12 1/2^1 1/2^1 0 0
+2 add 12 1/2^1 3/2^1 -1/2^12 0
+3 copy 12 1/2^1 3/2^1 -1/2^12 0
+out1 1/2^12
+";
+
+/// Its program as Rust.
+const RUST_TEXT: &str = "\
+// f, width 16
+pub fn step(s: &mut [i64; 0], x: &[i64; 1]) -> [i64; 1] {
+    let w0: i16 = x[0] as i16;
+    let w1: i16 = 2048;
+    let w2: i16 = (((w0 as i128) >> 0) + ((w1 as i128) >> 0)) as i16;
+    let w3: i16 = ((w2 as i128) >> 0) as i16;
+    [w3 as i64]
+}
+";
+
 #[rattlefmt::skip]
 static RUNS: [Run; 14] = [
     (&["run", "a"], b"x\n0.3\n1\n", 0, "out1\n0.7998046875\n1.5\n", ""),
@@ -182,11 +203,9 @@ static RUNS: [Run; 14] = [
     (&["node", "--units", "2", "a"], b"x,unit\n0.3,1\n1,2\n0,0\n", 5, "unit,out1\n1,0.7998046875\n",
         "fixd: row: BadUnit at line 3\n"),
     (&["check", "a"], b"x\n0.3\n", 0, "accepted\nout1 1/2^12\n", ""),
-    (&["show", "a"], b"x\n0.3\n", 0,
-        "0 in 12 0 1 -1/2^12 0\n1 const 12 1/2^1 1/2^1 0 0\n2 add 12 1/2^1 3/2^1 -1/2^12 0\n3 copy 12 1/2^1 3/2^1 -1/2^12 0\nout1 1/2^12\n", ""),
+    (&["show", "a"], b"x\n0.3\n", 0, SHOWN, ""),
     (&["widths", "a"], b"x\n0.3\n", 0, "0 in 16\n1 const 16\n2 add 16\n3 copy 16\nbytes 8\n", ""),
-    (&["rust", "a"], b"x\n0.3\n", 0,
-        "// f, width 16\npub fn step(s: &mut [i64; 0], x: &[i64; 1]) -> [i64; 1] {\n    let w0: i16 = x[0] as i16;\n    let w1: i16 = 2048;\n    let w2: i16 = (((w0 as i128) >> 0) + ((w1 as i128) >> 0)) as i16;\n    let w3: i16 = ((w2 as i128) >> 0) as i16;\n    [w3 as i64]\n}\n", ""),
+    (&["rust", "a"], b"x\n0.3\n", 0, RUST_TEXT, ""),
     (&["synth", "--width", "16", "a"], b"x\n0.3\n", 3, "", "fixd: source: Unexpected at byte 0\n"),
     (&["check"], b"x\n0.3\n", 2, "", "fixd: usage: synth, check, run, show or demo\n"),
 ];

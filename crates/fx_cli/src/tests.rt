@@ -9,7 +9,33 @@ use std::test::Fail;
 
 /// `x + 0.5` for x from 0 to 1, in 16 bits.
 #[rattlefmt::skip]
-pub(crate) const HALF: &str = "fixd bundle 1\nsource 64\ndef f(x: Real): Real = {\n  require(0 <= x && x <= 1)\n  x + 0.5\n}\nprogram\nfixd program 1\nwidth 16\nname f\nsizes 1 0 1 4\nin 0 12\nconst 2048 12\nadd 0 1 0 0\ncopy 2 0\ncertificate\nfixd certificate 1\nsizes 1 0 4\nsteps 0\nrows 0 0\nplain 0:0 1:0 -1:12 0:0\nplain 1:1 1:1 0:0 0:0\nplain 1:1 3:1 -1:12 0:0\nplain 1:1 3:1 -1:12 0:0\nend\n";
+pub(crate) const HALF: &str = "\
+fixd bundle 1
+source 64
+def f(x: Real): Real = {
+  require(0 <= x && x <= 1)
+  x + 0.5
+}
+program
+fixd program 1
+width 16
+name f
+sizes 1 0 1 4
+in 0 12
+const 2048 12
+add 0 1 0 0
+copy 2 0
+certificate
+fixd certificate 1
+sizes 1 0 4
+steps 0
+rows 0 0
+plain 0:0 1:0 -1:12 0:0
+plain 1:1 1:1 0:0 0:0
+plain 1:1 3:1 -1:12 0:0
+plain 1:1 3:1 -1:12 0:0
+end
+";
 
 /// Its source.
 const SOURCE: &str = "def f(x: Real): Real = {\n  require(0 <= x && x <= 1)\n  x + 0.5\n}";

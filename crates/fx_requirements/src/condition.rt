@@ -3,7 +3,7 @@
 //!
 //! Parentheses are counted, not followed, so that a million of them need no stack. The trap: a relation with a number
 //! or a name on both sides is found at its second side, and told at its first token.
-ghost use Rattle.std.specs.Prelude.{◌≡◌, ◌≤◌, ◌<◌, ◌+◌, ◌^◌, length, IfOk, Bool, true, false};
+ghost use Rattle.std.specs.Prelude.{◌≡◌, ◌≤◌, ◌<◌, ◌+◌, ◌^◌, length, IfOk, true, false};
 ghost use Rattle.fx_lexer.specs.Faults.{GivesParsed};
 ghost use Rattle.fx_lexer.specs.Tokens.{lexeme_of};
 ghost use Rattle.fx_cursor.specs.Texts.{numeral_decimal};

@@ -1,7 +1,7 @@
 //! `require`, and the ranges of the inputs that it gives.
 //!
 //! Only where each input has both ends are they compared, as the table of faults says.
-ghost use Rattle.std.specs.Prelude.{◌≡◌, ◌<◌, ◌^◌, length, IfOk};
+ghost use Rattle.std.specs.Prelude.{◌<◌, ◌^◌, length, IfOk};
 ghost use Rattle.fx_lexer.specs.Faults.{GivesParsed};
 ghost use Rattle.fx_cursor.specs.Views.{lexemes};
 ghost use Rattle.fx_requirements.specs.Views.{subjects_of, inputs_value};

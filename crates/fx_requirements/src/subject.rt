@@ -4,7 +4,7 @@
 ghost use Rattle.std.specs.Prelude.{◌≡◌, ◌<◌, ◌+◌, length, map, IfSome, IfOk, None, Ok, ◌++◌, ◌∷◌, []};
 ghost use Rattle.fx_lexer.specs.Faults.{GivesParsed};
 ghost use Rattle.fx_lexer.specs.Tokens.{lexeme_of};
-ghost use Rattle.fx_cursor.specs.Texts.{numeral_decimal, all_texts};
+ghost use Rattle.fx_cursor.specs.Texts.{numeral_decimal};
 ghost use Rattle.fx_requirements.specs.Views.{subject_of, subjects_of, IsNamed};
 ghost use Rattle.fx_grammar.specs.Steps.{name_place};
 ghost use Rattle.fx_grammar.specs.Ranges.{names_of, new_subject, side_of, with_side, is_said, said, subject_at};

@@ -1,10 +1,7 @@
 //! The first rule that can be applied at a tree.
-ghost use Rattle.std.specs.Prelude.{◌≡◌, ◌+◌, ◌≤◌, ◌∷◌, [], ℕ, List, Some, MatchOption, length};
+ghost use Rattle.std.specs.Prelude.{◌≡◌, ◌+◌, ℕ, List, Some, length};
 ghost use Rattle.fx_model.specs.Paths.{found, tree_at};
-ghost use Rattle.fx_inequalities.specs.Rewriting.{Rewriting};
 ghost use Rattle.fx_expr.specs.TreeOf.{tree};
-ghost use Rattle.fx_rules.specs.SingleSteps.{steps_by};
-ghost use Rattle.fx_rewrite.specs.Ahead.{rules_from, there};
 ghost use Rattle.fx_rewrite.specs.FirstOf.{Begins};
 
 use crate::judge::admit;

@@ -10,7 +10,6 @@ ghost use Rattle.fx_expr.specs.SizeOf.{size_of};
 ghost use Rattle.fx_expr.specs.TreeOf.{tree};
 ghost use Rattle.fx_rules.specs.Steps.{is_within_limits};
 ghost use Rattle.fx_rewrite.specs.Refusals.{IsAdmitted, IsRefusedThere};
-ghost use Rattle.fx_step.specs.StepView.{step_view};
 
 use crate::fault::StepFault;
 use crate::rule::measure;

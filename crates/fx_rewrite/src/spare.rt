@@ -1,10 +1,9 @@
 //! The memory that a step needs, taken before anything is changed.
-ghost use Rattle.std.specs.Prelude.{◌≡◌, Some, IfOk, MatchOption, None};
+ghost use Rattle.std.specs.Prelude.{◌≡◌, Some, IfOk};
 ghost use Rattle.fx_model.specs.Tree.{Tree};
-ghost use Rattle.fx_model.specs.Paths.{child};
 ghost use Rattle.fx_expr.specs.TreeOf.{tree};
 ghost use Rattle.fx_rules.specs.Turned.{Becomes, turned};
-ghost use Rattle.fx_rewrite.specs.Ready.{doubled, IsBoxed, IsDoubling};
+ghost use Rattle.fx_rewrite.specs.Ready.{doubled, IsDoubling};
 ghost use Rattle.fx_rewrite.specs.SpareOf.{IsSpareReady};
 ghost use Rattle.fx_fold.specs.Turns.{Turns};
 

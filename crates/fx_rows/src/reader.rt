@@ -1,7 +1,7 @@
 //! What reads the rows of a function: the columns of its inputs, and which values each may be given.
 //!
 //! The ends of each range are widened by the input's error and scaled once, so that a row needs nothing of the source.
-ghost use Rattle.std.specs.Prelude.{◌≡◌, List, map, IfOk};
+ghost use Rattle.std.specs.Prelude.{◌≡◌, map, IfOk};
 ghost use Rattle.fx_expr.specs.Parts.{input_of};
 ghost use Rattle.fx_rows.specs.Header.{columns_of, HasPlaces};
 ghost use Rattle.fx_rows.specs.Ranges.{reader_columns, AreRangesOf, Serves};

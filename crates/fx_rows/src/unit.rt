@@ -1,10 +1,10 @@
 //! The unit of a row, and what is wrong with a unit.
 //!
 //! A unit is looked for only in a line that is a row already, so no other test of the line is due.
-ghost use Rattle.std.specs.Prelude.{◌≡◌, false, map, length, option_map, IfOk, IsOk};
+ghost use Rattle.std.specs.Prelude.{◌≡◌, false, option_map, IfOk, IsOk};
 ghost use Rattle.std.specs.List.{list_any};
-ghost use Rattle.fx_fields.specs.Line.{is_return, is_special, line_fields};
-ghost use Rattle.fx_rows.specs.UnitColumn.{is_unit_text, unit_in, unit_in_field, unit_named, unit_of};
+ghost use Rattle.fx_fields.specs.Line.{is_return, is_special};
+ghost use Rattle.fx_rows.specs.UnitColumn.{unit_in_field, unit_named, unit_of};
 
 use crate::blanks::trimmed;
 use fx_fields::{piece_from, plain_text, record_of};

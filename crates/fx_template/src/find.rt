@@ -1,12 +1,10 @@
 //! Templates for a plan: what the search proposes, where it passes the test, and else the plain rounds.
 
-ghost use Rattle.std.specs.Prelude.{◌≡◌, ◌+◌, ◌≤◌, ◌<◌, true, pos, length, IfOk, IfErr, IfSome};
-ghost use Rattle.fx_model.specs.Tree.{at};
-ghost use Rattle.fx_model.specs.LawfulProgram.{IsPoint};
+ghost use Rattle.std.specs.Prelude.{◌≡◌, ◌≤◌, ◌<◌, true, length, IfOk, IfErr};
 ghost use Rattle.fx_affine.specs.AffineView.{planned};
 ghost use Rattle.fx_cert.specs.CertificateView.{templates_in};
-ghost use Rattle.fx_conditions.specs.Limits.{AreShortLines, AreShortTemplates};
-ghost use Rattle.fx_template.specs.Transitions.{IsModestTransition, planned_lines, transition_in, transition_of};
+ghost use Rattle.fx_conditions.specs.Limits.{AreShortTemplates};
+ghost use Rattle.fx_template.specs.Transitions.{IsModestTransition, transition_in, transition_of};
 ghost use Rattle.fx_template.specs.Templates.{AreCountedTemplates, AreKept, AreWrittenBounds};
 ghost use Rattle.fx_template.specs.Answers.{HasWrittenBounds, HasWrittenStates, BothPass, NamesFallen, found_in};
 

@@ -1,6 +1,6 @@
 //! Unit templates, one for each state.
 
-ghost use Rattle.std.specs.Prelude.{◌≡◌, ◌∷◌, ◌++◌, ◌+◌, ◌<◌, pos, length, map, IfOk};
+ghost use Rattle.std.specs.Prelude.{◌≡◌, ◌<◌, IfOk};
 ghost use Rattle.fx_model.specs.Tree.{at};
 ghost use Rattle.fx_inequalities.specs.Certificate.{zero_interval};
 ghost use Rattle.fx_inequalities.specs.LawfulCertificate.{unit_vector};

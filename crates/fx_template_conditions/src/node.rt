@@ -1,13 +1,9 @@
 //! The first fault of a node's conditions.
 
-ghost use Rattle.std.specs.Prelude.{◌≡◌, ◌+◌, ◌≤◌, ◌<◌, ◌^◌, ℤ, pos, length, List, [], ◌∷◌, true};
+ghost use Rattle.std.specs.Prelude.{◌≡◌, ◌+◌, ◌≤◌, ◌<◌, ℤ, pos, length, List};
 ghost use Rattle.std.specs.Option.{option_map};
 ghost use Rattle.fx_model.specs.Tree.{at};
 ghost use Rattle.fx_model.specs.LawfulProgram.{IsPoint};
-ghost use Rattle.fx_rational.specs.Rational.{Rational, lowest};
-ghost use Rattle.fx_inequalities.specs.Accepted.{start_of};
-ghost use Rattle.fx_inequalities.specs.Claim.{AboveFraction, BelowFraction};
-ghost use Rattle.fx_inequalities.specs.Formula.{Difference, Num, word_at};
 ghost use Rattle.fx_inequalities.specs.Affine.{error_at, range_at};
 ghost use Rattle.fx_inequalities.specs.Condition as conditions;
 ghost use Rattle.fx_inequalities.specs.Condition.{first_fault_of, first_some};
@@ -15,10 +11,9 @@ ghost use Rattle.fx_inequalities.specs.NodeConditions.{node_conditions, word_cla
 ghost use Rattle.fx_judging.specs.Judging.{judged};
 ghost use Rattle.fx_judging.specs.FaultView.{condition_fault_of};
 ghost use Rattle.fx_word.specs.Words.{IsWidth};
-ghost use Rattle.fx_cert.specs.CertificateView.{boxes_in, certificate_of, lines_view};
+ghost use Rattle.fx_cert.specs.CertificateView.{certificate_of, lines_view};
 ghost use Rattle.fx_conditions.specs.MatchView.{code_in, node_in};
 ghost use Rattle.fx_conditions.specs.Limits.{IsShortCertificate};
-ghost use Rattle.fx_template_conditions.specs.Boxes.{box_at};
 ghost use Rattle.fx_cert.specs.declared.side.Side.TheVariants as sides;
 
 use crate::share::{node_error, node_form, node_range};

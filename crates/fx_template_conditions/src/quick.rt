@@ -5,7 +5,6 @@
 //! short, or has more places than what it is taken from and isn't zero, has no answer here, and goes their way.
 
 ghost use Rattle.std.specs.Prelude.{◌≡◌, ◌≤◌, ◌^◌, pos, unsigned_abs, ◌*ℤ◌, ◌-ℤ◌, IfSome, IsTrue};
-ghost use Rattle.std.specs.Option.{SomeIff};
 ghost use Rattle.fx_rational.specs.Dyadic.{Dyadic, difference_fits, dyadic_difference, dyadic_product, fits_128, product_fits};
 ghost use Rattle.fx_template_conditions.specs.ShortTimes.{AreTimes, HasRoom};
 ghost use Rattle.fx_rational.specs.Interval.{interval_product, interval_product_fits};

@@ -1,6 +1,6 @@
 //! Range and Error of a node whose form may name shares of templates, and its condition Form.
 
-ghost use Rattle.std.specs.Prelude.{true, ◌≡◌, ◌+◌, ◌≤◌, ℤ, pos, length, Some};
+ghost use Rattle.std.specs.Prelude.{true, ◌≡◌, ◌+◌, ◌≤◌, length, Some};
 ghost use Rattle.std.specs.Option.{option_map};
 ghost use Rattle.fx_model.specs.Tree.{at};
 ghost use Rattle.fx_model.specs.LawfulProgram.{IsPoint};
@@ -253,7 +253,9 @@ fn form_fault(
       part = conditions.OfNode;
       index = n;
       test = true;
-      claims = form_claims variables (lines_view lines.now) l (node_in m.now) (code_in m.now) place (Some (form_view form.now));
+      claims =
+          form_claims variables (lines_view lines.now) l (node_in m.now) (code_in m.now) place
+          (Some (form_view form.now));
     }) }
 {
     fault(

@@ -1,7 +1,6 @@
 //! The condition Start: of each state, and of each template over the boxes of all.
 
-ghost use Rattle.std.specs.Prelude.{◌≡◌, [], ◌∷◌, pos};
-ghost use Rattle.fx_model.specs.Tree.{at};
+ghost use Rattle.std.specs.Prelude.{◌≡◌, [], ◌∷◌};
 ghost use Rattle.fx_model.specs.LawfulProgram.{IsPoint};
 ghost use Rattle.fx_rational.specs.Rational.{Rational, lowest};
 ghost use Rattle.fx_inequalities.specs.Accepted.{start_of};

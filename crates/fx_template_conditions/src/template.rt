@@ -2,7 +2,6 @@
 
 ghost use Rattle.std.specs.Prelude.{◌≡◌, ◌+◌, ◌<◌, ◌≤◌, ◌^◌};
 ghost use Rattle.fx_model.specs.Tree.{at};
-ghost use Rattle.fx_rational.specs.Dyadic.{zero_dyadic};
 ghost use Rattle.fx_inequalities.specs.Certificate.{no_template};
 ghost use Rattle.fx_inequalities.specs.Formula.{Product, point, span_product, zero_span};
 ghost use Rattle.fx_inequalities.specs.Affine.{affine_at, bound_by_templates, sum_of, templates_of, weighted_sum};

@@ -1,5 +1,5 @@
--- Worked sums, differences, products and the order of dyadics, by whole numbers without bound in another language: a wrong
--- definition here is refused.
+-- Worked sums, differences, products and the order of dyadics, by whole numbers without bound in another language: a
+-- wrong definition here is refused.
 use Rattle.std.specs.Prelude.{◌≡◌, pos, negsuc, Bool, true, false, if◌then◌else◌, Option, Some, None, refl}
 use Rattle.fx_rational.specs.Rational.{over, is_at_most}
 use Rattle.fx_rational.specs.Dyadic.{Dyadic, dyadic_value, dyadic_sum, dyadic_difference, dyadic_product, sum_fits, difference_fits, product_fits, fits_128, is_dyadic_at_most}

@@ -1,5 +1,5 @@
--- Worked shifts and roundings of dyadics, by whole numbers without bound in another language: a wrong definition here is
--- refused.
+-- Worked shifts and roundings of dyadics, by whole numbers without bound in another language: a wrong definition here
+-- is refused.
 use Rattle.std.specs.Prelude.{◌≡◌, ◌^◌, ℕ, ℤ, pos, negsuc, ◌*ℤ◌, true, false, refl}
 use Rattle.fx_rational.specs.Rational.{floor_div, ceil_div}
 use Rattle.fx_rational.specs.Dyadic.{Dyadic, fits_128, rounded_down, rounded_up}

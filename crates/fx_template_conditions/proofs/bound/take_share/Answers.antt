@@ -14,7 +14,8 @@ take_template-requires-clause-template c = λ k lt.
     subst (IsShort 96) (unit_template_is rs n i k c.if-share-states.true
     ∙ sym (c.unit_coefs-unit.ensures k)) (template_coef_short rs c.requires.templates n i k)
 
-pub take_template-requires-else-share-states-clause-template : goal.take_template-requires-else-share-states-clause-template
+pub take_template-requires-else-share-states-clause-template :
+    goal.take_template-requires-else-share-states-clause-template
 take_template-requires-else-share-states-clause-template c = λ k lt.
     let rs = templates_in c.args.templates.now in let n = c.args.states in let i = c.args.share.template in
     subst (IsShort 96) (other_template_is rs n i k c.if-share-states.false
