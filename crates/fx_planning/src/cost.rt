@@ -16,27 +16,15 @@ pub struct Goal<'a> {
     pub references: &'a [Real],
 }
 
-/// What is paid for a plan, or for none.
-#[derive(Clone, Copy, Debug, PartialEq, Eq)]
+/// What is paid for a plan, or for none. Their order is that of the costs: any plan's is below that of none, then the
+/// excess decides, and of equal ones the mean.
+#[derive(Clone, Copy, Debug, PartialEq, Eq, PartialOrd, Ord)]
 pub enum Cost {
     /// The greatest quotient of a bound by what it has to keep, but at least 1, and more where an output leaves a
     /// demanded end; and the mean of those by the references.
     Planned { excess: Real, mean: Real },
     /// There is no plan: from the node that fails on so many are left.
     Failed { left: u32 },
-}
-
-impl Cost {
-    /// Whether it is below another.
-    pub fn is_below(self, other: Cost) -> bool {
-        match (self, other) {
-            (Cost::Planned { .. }, Cost::Failed { .. }) => true,
-            (Cost::Failed { .. }, Cost::Planned { .. }) => false,
-            (Cost::Failed { left: a }, Cost::Failed { left: b }) => a < b,
-            (Cost::Planned { excess: a, mean: x }, Cost::Planned { excess: b, mean: y }) => a < b
-                || (a == b && x < y),
-        }
-    }
 }
 
 /// About a decimal.

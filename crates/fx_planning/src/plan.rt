@@ -48,7 +48,7 @@ impl Plan {
     fn is_better(&self, other: &Plan) -> bool {
         let own = self.errors.small.len();
         let others = other.errors.small.len();
-        own < others || (own == others && self.cost.is_below(other.cost))
+        own < others || (own == others && self.cost < other.cost)
     }
 }
 

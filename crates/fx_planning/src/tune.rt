@@ -137,7 +137,7 @@ pub fn try_word(
         return Ok(false);
     };
     let cost = cost_of(setting, outputs_of(setting, &errors));
-    if !errors.small.is_empty() || !cost.is_below(plan.cost) {
+    if !errors.small.is_empty() || cost >= plan.cost {
         return Ok(false);
     }
     plan.codes = codes;

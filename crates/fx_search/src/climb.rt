@@ -122,13 +122,13 @@ impl Climb {
         let old = self.current.cost;
         let limit = heated(rng, old);
         let steps = trial.draft.steps.len();
-        if trial.cost.is_below(old) {
+        if trial.cost < old {
             return true;
         }
         if trial.cost == old {
             return steps <= self.current.draft.steps.len();
         }
-        !is_start && steps <= WARM_STEPS && trial.cost.is_below(limit)
+        !is_start && steps <= WARM_STEPS && trial.cost < limit
     }
 
     /// Keeps a copy of a trial that is among the best.

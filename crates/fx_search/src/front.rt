@@ -82,7 +82,7 @@ impl Front {
             if other.cost == cost {
                 return None;
             }
-            if other.cost.is_below(cost) {
+            if other.cost < cost {
                 place = place.saturating_add(1);
             }
         }

@@ -93,7 +93,7 @@ impl<'a> Polish<'a> {
         match found {
             Ok(plan) => {
                 let old = attempt.placed.plan.cost();
-                if !plan.small().is_empty() || !plan.cost().is_below(old) {
+                if !plan.small().is_empty() || plan.cost() >= old {
                     return Ok(false);
                 }
                 attempt.placed = Placed { points, plan };

@@ -15,7 +15,7 @@ use Rattle.fx_template.specs.Listed.{first_untrue, or_else}
 use Rattle.fx_template.specs.Transitions.{IsModestTransition, Transition}
 use Rattle.fx_template.specs.PlainRounds.{Bounds, bounds_at_first, first_fallen, plain_rounds, stands, unit_templates}
 use Rattle.fx_template.specs.Templates.{AreCountedTemplates, AreKept, AreWrittenBounds, IsCountedTemplate}
-use Rattle.fx_template.specs.Answers.{Found, HasWrittenBounds, HasWrittenStates, BothPass}
+use Rattle.fx_template.specs.Answers.{Found, HasWrittenBounds, HasWrittenStates, IsInvariant}
 use Rattle.fx_template.proofs.UnitTemplates.{unit_templates_counted, unit_templates_kept, unit_templates_written}
 use Rattle.fx_template.proofs.UnitVectors.{units_from}
 use Rattle.fx_template.proofs.Rounds.{first_written, rounds_written}
@@ -60,7 +60,7 @@ both_none f None None h = (refl, refl)
 
 pub plain_both_pass : (t : Transition) (b : Bounds) (f : Found) → IsModestTransition t →
     f.templates ≡ unit_templates t.states b.templates → f.error_templates ≡ unit_templates t.states b.error_templates →
-    first_fallen t b ≡ None → BothPass t f
+    first_fallen t b ≡ None → IsInvariant t f
 plain_both_pass t b f m templates errors none =
     let each =
     both_none (λ i. t.states + i) (first_untrue t.states (stands Value t b.templates))

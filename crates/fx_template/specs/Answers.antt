@@ -21,7 +21,7 @@ abbrev pub found_in : FoundTemplates → Found
 found_in t = record { templates = templates_in t.templates; error_templates = templates_in t.error_templates }
 
 -- one step keeps each template and each error template, and a certificate may have them
-pub record BothPass (t : Transition) (f : Found) : Type 0 where
+pub record IsInvariant (t : Transition) (f : Found) : Type 0 where
   pub kept : AreKept Value t f.templates
   pub kept_errors : AreKept Error t f.error_templates
   pub counted : AreCountedTemplates t.states f.templates

@@ -6,7 +6,7 @@ ghost use Rattle.fx_cert.specs.CertificateView.{templates_in};
 ghost use Rattle.fx_conditions.specs.Limits.{AreShortTemplates};
 ghost use Rattle.fx_template.specs.Transitions.{IsModestTransition, transition_in, transition_of};
 ghost use Rattle.fx_template.specs.Templates.{AreCountedTemplates, AreKept, AreWrittenBounds};
-ghost use Rattle.fx_template.specs.Answers.{HasWrittenBounds, HasWrittenStates, BothPass, NamesFallen, found_in};
+ghost use Rattle.fx_template.specs.Answers.{HasWrittenBounds, HasWrittenStates, IsInvariant, NamesFallen, found_in};
 
 use crate::format::are_templates;
 use crate::planned::step_by_plan;
@@ -55,7 +55,7 @@ fn passes(t: &Transition, side: &Side, templates: &[Template]) -> bool
 /// Whether a proposal is an answer.
 fn both_pass(t: &Transition, proposal: &FoundTemplates) -> bool
     requires modest { IsModestTransition (transition_in t.now) }
-    ensures both { result ≡ true → BothPass (transition_in t.now) (found_in proposal.now) }
+    ensures both { result ≡ true → IsInvariant (transition_in t.now) (found_in proposal.now) }
     ensures written { result ≡ true → HasWrittenBounds (found_in proposal.now) }
 {
     passes(t, &Side::Value, proposal.templates.as_slice())
@@ -69,7 +69,7 @@ fn plain_templates(
     rounds: u32,
 ) -> Result<FoundTemplates, TemplateFault>
     requires modest { IsModestTransition (transition_in t.now) }
-    ensures both { IfOk result (λ f. BothPass (transition_in t.now) (found_in f)) }
+    ensures both { IfOk result (λ f. IsInvariant (transition_in t.now) (found_in f)) }
     ensures written { HasWrittenStates (transition_in t.now) → IfOk result (λ f. HasWrittenBounds (found_in f)) }
     ensures fallen { IfErr result (λ e. NamesFallen e (transition_in t.now) rounds) }
 {
@@ -106,7 +106,7 @@ pub fn templates_over(
     rounds: u32,
 ) -> Result<FoundTemplates, TemplateFault>
     requires modest { IsModestTransition (transition_in t.now) }
-    ensures both { IfOk result (λ f. BothPass (transition_in t.now) (found_in f)) }
+    ensures both { IfOk result (λ f. IsInvariant (transition_in t.now) (found_in f)) }
     ensures written { HasWrittenStates (transition_in t.now) → IfOk result (λ f. HasWrittenBounds (found_in f)) }
     ensures fallen { IfErr result (λ e. NamesFallen e (transition_in t.now) rounds) }
 {
@@ -129,7 +129,7 @@ pub fn find_templates(
 ) -> Result<FoundTemplates, TemplateFault>
     requires modest { IsModestTransition (transition_of nodes.now (planned plan.now)) }
     requires few { length nodes.now.list ≤ 4000 }
-    ensures both { IfOk result (λ f. BothPass (transition_of nodes.now (planned plan.now)) (found_in f)) }
+    ensures both { IfOk result (λ f. IsInvariant (transition_of nodes.now (planned plan.now)) (found_in f)) }
     ensures written { HasWrittenStates (transition_of nodes.now (planned plan.now)) →
         IfOk result (λ f. HasWrittenBounds (found_in f)) }
     ensures fallen { IfErr result (λ e. NamesFallen e (transition_of nodes.now (planned plan.now)) rounds) }
