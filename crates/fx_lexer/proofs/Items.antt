@@ -217,6 +217,10 @@ not_empty n e = search (rules, tests)
 pub is_empty : (n : ℕ) → true ≡ eqb n 0 → n ≡ 0
 is_empty n e = search (rules, tests)
 
+-- less is left behind an item
+pub shorter : {text : List ℕ} {n : ℕ} → IsItem text n → length (drop n text) < length text
+shorter {text} {n} i = omega (arith, i.some, i.within, length-drop n text)
+
 -- a cut between characters is a boundary of the text
 pub border_of : (text : List ℕ) (n : ℕ) → IsUtf8 text → IsItem text n → IsCharBoundary text n
 border_of text n u i = by i.border

@@ -4,7 +4,7 @@
 //! token keeps the text's own slice. The trap: `fresh` is carried over gaps up to the next token, and only a line feed
 //! sets it, also one in a comment.
 
-ghost use Rattle.std.specs.Prelude.{◌≡◌, ◌<◌, ◌≤◌, ◌^◌, length, map, IfOk};
+ghost use Rattle.std.specs.Prelude.{◌≡◌, ◌<◌, ◌≤◌, ◌^◌, ◌||◌, length, map, IfOk};
 ghost use Rattle.fx_lexer.specs.Faults.{GivesParsed};
 ghost use Rattle.fx_lexer.specs.Characters.{has_line_feed};
 ghost use Rattle.fx_lexer.specs.Tokens.{lexeme_of, place_of, tokens_of};
@@ -50,6 +50,13 @@ fn has_line_feed(bytes: &[u8]) -> bool
     false
 }
 
+// Whether a token behind this gap is the first on its line.
+fn is_fresh_behind(fresh: bool, gap: &[u8]) -> bool
+    ensures { result ≡ (fresh || has_line_feed gap.now) }
+{
+    fresh || has_line_feed(gap)
+}
+
 /// The place of a fault that is found in the item at a place, where the text ends at `end`.
 fn place_of(kind: SourceKind, at: u32, end: u32) -> u32
     ensures { result ≡ place_of kind at end }
@@ -89,7 +96,7 @@ pub fn tokens<'a>(alloc: Global, text: &'a str) -> Result<Vec<Token<'a>>, Source
                 })?;
                 fresh = false;
             }
-            None => fresh = fresh || has_line_feed(front.as_bytes()),
+            None => fresh = is_fresh_behind(fresh, front.as_bytes()),
         }
         at += item.len as u32;
         rest = after;

@@ -1,9 +1,9 @@
 -- Lemmas on how a run over lines ends.
 use Rattle.std.proofs.Common.{◌≡◌, ℕ, ◌+◌, ◌≤◌, true, false, List, [], ◌∷◌, ◌++◌, Option, length, take, drop, arith, refl, sym, ap, subst, ◌∙◌, append_assoc, append-nil, inl, inr}
-use Rattle.std.specs.Prelude.{◌==◌, ◌<◌, ◌↔◌, None, Some, position, Result, Ok, Err, IfOk, IfErr, OnOk, IsErrOf, IfSome}
+use Rattle.std.specs.Prelude.{◌==◌, ◌<◌, ◌↔◌, None, Some, position, Result, Ok, Err, IsErrOf, IfSome}
 use Rattle.std.specs.Io.KnownBytes.{Consumes, Appends, IsAtEnd}
 use Rattle.std.specs.Str.Lines.{lines}
-use Rattle.std.proofs.KnownBytes.{Consumes-trans, Appends-nil, Appends-trans}
+use Rattle.std.proofs.KnownBytes.{Consumes-nil, Consumes-trans, Appends-nil, Appends-trans}
 use Rattle.std.proofs.lemmas.List.{length-append, take-append-drop, nil_from_length}
 use Rattle.fx_base.specs.Calls.{AppendsFront}
 use Rattle.fx_base.specs.Text.{text_at, lines_in}
@@ -12,7 +12,7 @@ use Rattle.fx_stream.specs.Outcome.{Outcome, behind_lines, stopped_lines}
 use Rattle.fx_rows.specs.ReadRows.{moved_down}
 use Rattle.fx_stream.specs.Promise.{IsDone, IsBadAt, IsPrompt, PrintsFront, PrintsWholeLines, IsDue, IsFailed, RunTakesUpTo}
 use Rattle.fx_stream.specs.Outcome.{IfBad}
-use Rattle.fx_stream.specs.Running.{Ran, Asked, EndsAs, HasNoLine, HasLine, IsBadLine, StopsAs}
+use Rattle.fx_stream.specs.Running.{Ran, Asked, EndsAs, HasNoLine, HasLine, IsAnswer, IsBadLine, StopsAs}
 use Rattle.fx_stream.specs.declared.printer.Stop.{Stop}
 use Rattle.fx_stream.specs.declared.printer.Stop.TheVariants.{Bad}
 use Rattle.fx_stream.specs.declared.printer.Stop.TheVariants as stop
@@ -100,6 +100,19 @@ write-failed told o now r left left1 left2 before after after' page more count b
   cut-short o now r left left1 before after after' page count bound put.0 ran put.2,
   prompt-so-far o now r left left1 left2 before after after' page page more count bound ran took few put,
 )
+
+-- a write failed before the source was asked
+pub not-written : {T F : Type 0} (told : F → T) {o now : List (List ℕ) → Outcome T} {r : LinesState}
+    {left left1 before after after' : Option (List ℕ)} {page : List ℕ} {count bound : ℕ}
+    → Ran o now r left left1 before after page count bound → AppendsFront after after' page →
+    IsFailed told o left left1 before after' bound WriteFault
+not-written told {o} {now} {r} {left} {left1} {before} {after} {after'} {page} {count} {bound} ran put =
+    let within = ran.within in (
+      write-failed told o now r left left1 left1 before after after' page [] count bound ran (Consumes-nil left1)
+          (omega (arith, ran.prompt)) put,
+      up-to o now r left left1 left1 before after page [] count bound WriteFault ran (Consumes-nil left1) (omega arith)
+          (λ e. absurd cc),
+    )
 
 -- all is printed of the lines that were taken
 pub lines-printed : {T : Type 0} (o now : List (List ℕ) →
@@ -309,19 +322,19 @@ pub line-stopped : {T F : Type 0} (told : F → T) (o now : List (List ℕ) →
 line-stopped told o now r r' left left1 left2 before mid last page page' more count bound
     (Bad g) f asked line few within (inl whole) bad = (
       subst (IsDue told o left left2 before last) (sym whole.0)
-          (line-failed told o now r r' left left1 left2 before mid last page bad.0 more count bound g asked.ran line.unended
-          asked.took line.takes line.ended few bad.2 (subst (Appends mid last) bad.1 whole.1)),
+          (line-failed told o now r r' left left1 left2 before mid last page bad.0 more count bound g asked.ran
+          line.unended asked.took line.takes line.ended few bad.2 (subst (Appends mid last) bad.1 whole.1)),
       up-to o now r left left1 left2 before mid page more count bound f asked.ran asked.took within
           (λ e. let z = sym whole.0 ∙ e in absurd cc),
     )
 line-stopped told o now r r' left left1 left2 before mid last page page' more count bound
     (Bad g) f asked line few within (inr cut) bad = (
       subst (IsDue told o left left2 before last) (sym cut.0)
-          (line-cut told o now r r' left left1 left2 before mid last page bad.0 more count bound g asked.ran line.unended
-          asked.took line.takes line.ended few bad.2 (asked.near line.unended)
+          (line-cut told o now r r' left left1 left2 before mid last page bad.0 more count bound g asked.ran
+          line.unended asked.took line.takes line.ended few bad.2 (asked.near line.unended)
           (subst (AppendsFront mid last) bad.1 cut.1)),
-      up-to o now r left left1 left2 before mid page more count bound f asked.ran asked.took within (λ e. let z = sym cut.0
-          ∙ e in absurd cc),
+      up-to o now r left left1 left2 before mid page more count bound f asked.ran asked.took within
+          (λ e. let z = sym cut.0 ∙ e in absurd cc),
     )
 line-stopped told o now r r' left left1 left2 before mid last page page' more count bound stop.Memory f asked line few
     within stops bad = (
@@ -339,14 +352,6 @@ pub of-result : {F : Type 0} (left left' : Option (List ℕ)) (limit : ℕ) (f :
 of-result left left' limit f t =
     (t.0, t.1, ((λ e. t.2.0 (let same : f ≡ fault.TooLong = cc in same)), (λ h. ap Err (t.2.1 h))))
 
--- what the clauses of a run say of its answer
-pub record IsOver {T F : Type 0} (told : F → T) (o : List (List ℕ) →
-    Outcome T) (left left' before after : Option (List ℕ)) (limit : ℕ) (result : Result ℕ (RunFault F)) : Type 0 where
-  pub done : IfOk result (λ n. IfSome left (λ all. IsDone (o (lines_in all)) n before after))
-  pub end : OnOk result (IsAtEnd left')
-  pub due : IfErr result (IsDue told o left left' before after)
-  pub taken : (taken : List ℕ) × Consumes left left' taken × (IsErrOf result fault.TooLong ↔ (limit < length taken))
-
 -- no line is left
 pub lines-ended : {T F : Type 0} (told : F → T) (o now : List (List ℕ) →
     Outcome T) (r r' : LinesState) (left left1 left2 before mid : Option (List ℕ)) (page more : List ℕ)
@@ -354,12 +359,12 @@ pub lines-ended : {T F : Type 0} (told : F → T) (o now : List (List ℕ) →
     → ((now []).text ≡ []) × ((now []).rows ≡ 0) →
     (asked : Asked o now r left left1 left2 before mid page more count bound) → HasNoLine r r' left2 page more →
     r.taken + length more ≤ bound
-    → EndsAs told (now []) r'.number count result → IsOver told o left left2 before mid bound result
+    → EndsAs told (now []) r'.number count result → IsAnswer told o left left2 before mid bound result
 lines-ended told o now r r' left left1 left2 before mid page more count bound (Ok n) nothing asked over within ends =
     record {
       done = subst (λ k. IfSome left (λ all. IsDone (o (lines_in all)) k before mid)) (sym ends.1)
-          (all-done o now r left left1 left2 before mid page more count bound nothing ends.0 asked.ran over.empty asked.took
-          over.none asked.quiet over.end);
+          (all-done o now r left left1 left2 before mid page more count bound nothing ends.0 asked.ran over.empty
+          asked.took over.none asked.quiet over.end);
       end = over.end;
       due = tt;
       taken =

@@ -1,20 +1,23 @@
 -- What a turn of the loop over lines comes to, once the next line was asked for.
-use Rattle.std.proofs.Common.{◌≡◌, ℕ, ◌+◌, ◌-◌, ◌^◌, ◌<◌, ◌≤◌, Bool, List, [], ◌∷◌, ◌++◌, Option, length, arith, sym, subst, true}
-use Rattle.std.specs.Prelude.{None, Result, position, ◌==◌}
+use Rattle.std.proofs.Common.{◌≡◌, ℕ, ◌+◌, ◌-◌, ◌^◌, ◌<◌, ◌≤◌, Bool, List, [], ◌∷◌, ◌++◌, Option, Result, Err, length, arith, sym, ap, subst, ◌∙◌, true}
+use Rattle.std.specs.Prelude.{None, position, ◌==◌}
 use Rattle.fx_base.specs.LineSteps.{LinesState}
+use Rattle.fx_base.specs.Moments.{Moment, HoldsEachTime}
 use Rattle.fx_base.specs.declared.lines.LineStep.{LineStep}
 use Rattle.fx_base.specs.declared.lines.LineStep.TheVariants.{Line, End}
+use Rattle.fx_base.proofs.Noting.{none_noted, noted_on}
 use Rattle.fx_stream.specs.Outcome.{Outcome, behind_lines, one, IfBad}
-use Rattle.fx_stream.specs.Promise.{IsFailed, RunTakesUpTo}
-use Rattle.fx_stream.specs.Running.{EndsAs, HasLine, HasNoLine, IsAsked, IsBadLine, Ran, StopsAs}
+use Rattle.fx_stream.specs.Promise.{Grows, IsAnswered, IsFailed}
+use Rattle.fx_stream.specs.Running.{EndsAs, HasLine, HasNoLine, IsAnswer, IsAsked, IsBadLine, IsOver, Ran, StopsAs, fresh_lines}
 use Rattle.fx_stream.specs.declared.fault.RunFault.{RunFault}
 use Rattle.fx_stream.specs.declared.printer.Stop.{Stop}
-use Rattle.fx_stream.proofs.Exits.{IsOver, line-stopped, lines-ended}
-use Rattle.fx_stream.proofs.Steps.{stepped}
+use Rattle.fx_stream.proofs.Exits.{line-stopped, lines-ended, of-result}
+use Rattle.fx_stream.proofs.Grown.{none_grown, grown_on, stopped_grows}
+use Rattle.fx_stream.proofs.Steps.{start, stepped}
 use Rattle.fx_stream.proofs.Turns.{one-few}
 
 -- the step that was asked for is this one
-pub asked-as : {T : Type 0} {o now : List (List ℕ) → Outcome T} {r r' : LinesState}
+asked-as : {T : Type 0} {o now : List (List ℕ) → Outcome T} {r r' : LinesState}
     {left left1 left2 before mid : Option (List ℕ)} {page : List ℕ} {count bound : ℕ} {step is : LineStep} → step ≡ is →
     IsAsked o now r r' left left1 left2 before mid page count bound step →
     IsAsked o now r r' left left1 left2 before mid page count bound is
@@ -24,7 +27,7 @@ asked-as {o = o} {now} {r} {r'} {left} {left1} {left2} {before} {mid} {page} {co
 module _ {T : Type 0} {o now : List (List ℕ) → Outcome T} {r r' : LinesState}
     {left left1 left2 before mid : Option (List ℕ)} {page : List ℕ} {count : ℕ} where
   -- a line came: so many fewer may come
-  pub line_smaller : {limit : ℕ} → IsAsked o now r r' left left1 left2 before mid page count r.limit Line →
+  line_smaller : {limit : ℕ} → IsAsked o now r r' left left1 left2 before mid page count r.limit Line →
       r'.is_ready ≡ true → r.limit ≡ limit → limit - r'.number < limit - r.number
   line_smaller a ready bound =
       let line : HasLine r r' left2 a.more = a.stepped in
@@ -33,7 +36,7 @@ module _ {T : Type 0} {o now : List (List ℕ) → Outcome T} {r r' : LinesState
       omega (arith, a.within, bound)
 
   -- a line came, and was taken: the run stands behind it
-  pub goes-on : (now' : List (List ℕ) → Outcome T) (page' : List ℕ) (is_row : Bool) (k : ℕ) →
+  goes-on : (now' : List (List ℕ) → Outcome T) (page' : List ℕ) (is_row : Bool) (k : ℕ) →
       (a : IsAsked o now r r' left left1 left2 before mid page count r.limit Line) → r'.is_ready ≡ true →
       (text : List ℕ) × (page' ≡ page ++ text) ×
       ((rest : List (List ℕ)) → now (r'.line ∷ rest) ≡ behind_lines 1 text (one is_row) (now' rest)) →
@@ -48,8 +51,9 @@ module _ {T : Type 0} {o now : List (List ℕ) → Outcome T} {r r' : LinesState
       (a.asked.near line.unended) took.2 (one-few is_row))))
 
   -- a line came that stops the run
-  pub stops-at : {F : Type 0} (told : F → T) (limit number : ℕ) (last : Option (List ℕ)) (page' : List ℕ) (stop : Stop F)
-      (f : RunFault F) → IsAsked o now r r' left left1 left2 before mid page count r.limit Line → number ≡ r'.number →
+  stops-at : {F : Type 0} (told : F → T) (limit number : ℕ) (last : Option (List ℕ)) (page' : List ℕ)
+      (stop : Stop F) (f : RunFault F) → IsAsked o now r r' left left1 left2 before mid page count r.limit Line →
+      number ≡ r'.number →
       StopsAs stop number mid last page' f →
       IfBad (λ g. (text : List ℕ) × (page' ≡ page ++ text) × IsBadLine told now r' text g) stop → r.limit ≡ limit →
       IsFailed told o left left2 before last limit f
@@ -61,7 +65,7 @@ module _ {T : Type 0} {o now : List (List ℕ) → Outcome T} {r r' : LinesState
       a.few within (subst (λ n. StopsAs stop n mid last page' f) same stops) bad)
 
   -- no line is left: the number of the last one has a successor
-  pub end_below : {limit number : ℕ} → IsAsked o now r r' left left1 left2 before mid page count r.limit End →
+  end_below : {limit number : ℕ} → IsAsked o now r r' left left1 left2 before mid page count r.limit End →
       number ≡ r'.number → r.limit ≡ limit → limit < 2 ^ 64 - 1 → number < 2 ^ 64 - 1
   end_below a number bound few =
       let over : HasNoLine r r' left2 page a.more = a.stepped in
@@ -69,18 +73,113 @@ module _ {T : Type 0} {o now : List (List ℕ) → Outcome T} {r r' : LinesState
       omega (arith, number, over.number, ran.counts, ran.within, bound, few)
 
   -- no line is left, and the run is over
-  pub ends-at : {F : Type 0} (told : F → T) {limit number : ℕ} {result : Result ℕ (RunFault F)} →
+  ends-at : {F : Type 0} (told : F → T) {limit number : ℕ} {result : Result ℕ (RunFault F)} →
       IsAsked o now r r' left left1 left2 before mid page count r.limit End →
       (position (λ b. b == 10) r.held ≡ None → ((now []).text ≡ []) × ((now []).rows ≡ 0)) → number ≡ r'.number →
-      EndsAs told (now []) number count result → r.limit ≡ limit → IsOver told o left left2 before mid limit result
+      EndsAs told (now []) number count result → r.limit ≡ limit → IsAnswer told o left left2 before mid limit result
   ends-at told {result = result} a none number ends bound =
       let over : HasNoLine r r' left2 page a.more = a.stepped in
       let within : r.taken + length a.more ≤ r.limit = omega (arith, a.sum, a.within) in
-      subst (λ l. IsOver told o left left2 before mid l result) bound
-      (lines-ended told o now r r' left left1 left2 before mid page a.more count r.limit result (none over.unheld) a.asked
-      over within (subst (λ n. EndsAs told (now []) n count result) number ends))
+      subst (λ l. IsAnswer told o left left2 before mid l result) bound
+      (lines-ended told o now r r' left left1 left2 before mid page a.more count r.limit result (none over.unheld)
+      a.asked over within (subst (λ n. EndsAs told (now []) n count result) number ends))
 
--- the limit by another name
-pub up-to-bound : {F : Type 0} (left left' : Option (List ℕ)) (limit bound : ℕ) (f : RunFault F) → limit ≡ bound →
-    RunTakesUpTo left left' limit f → RunTakesUpTo left left' bound f
-up-to-bound left left' limit bound f same taken = subst (λ l. RunTakesUpTo left left' l f) same taken
+-- the run ends with this fault
+fault-over : {T F : Type 0} (told : F → T) (o : List (List ℕ) → Outcome T) (left left' before after : Option (List ℕ))
+    (limit : ℕ) (was is : List Moment) (f : RunFault F) → IsFailed told o left left' before after limit f →
+    Grows before after → HoldsEachTime (IsAnswered o left before) was is →
+    IsOver told o left left' before after limit was is (Err f)
+fault-over told o left left' before after limit was is f failed grown prompt = record {
+  answer = record { done = tt; end = tt; due = failed.0; taken = of-result left left' limit f failed.1 };
+  grown = grown;
+  prompt = prompt;
+}
+
+-- what holds between two turns
+pub record SoFar {T : Type 0} (o now : List (List ℕ) → Outcome T) (r : LinesState)
+    (left left' before after : Option (List ℕ)) (page : List ℕ) (count limit : ℕ)
+    (was is : List Moment) : Type 0 where
+  pub ran : Ran o now r left left' before after page count r.limit
+  pub bound : r.limit ≡ limit
+  pub grown : Grows before after
+  pub prompt : HoldsEachTime (IsAnswered o left before) was is
+
+-- before the first turn
+pub starts : {T : Type 0} (o : List (List ℕ) → Outcome T) (left before : Option (List ℕ)) (was : List Moment)
+    {r : LinesState} {page : List ℕ} {limit : ℕ} → (o []).text ≡ [] → r ≡ fresh_lines limit → page ≡ [] →
+    SoFar o o r left left before before page 0 limit was was
+starts o left before was {r} {page} {limit} none fresh empty = record {
+  ran = subst (λ r. Ran o o r left left before before page 0 r.limit) (sym fresh)
+      (subst (λ p. Ran o o (fresh_lines limit) left left before before p 0 limit) (sym empty)
+      (start o left before limit none));
+  bound = ap (λ r. r.limit) fresh;
+  grown = none_grown before;
+  prompt = none_noted (IsAnswered o left before) was;
+}
+
+module _ {T : Type 0} {o earlier now : List (List ℕ) → Outcome T} {r r' : LinesState}
+    {left left1 left2 before after mid : Option (List ℕ)} {old page : List ℕ} {count limit : ℕ}
+    {was is : List Moment} {step : LineStep}
+    (so_far : SoFar o earlier r left left1 before after old count limit was is)
+    (asked : IsAsked o now r r' left left1 left2 before mid page count r.limit step) where
+  -- a line came: so many fewer may come
+  pub smaller : step ≡ Line → r'.is_ready ≡ true → limit - r'.number < limit - r.number
+  smaller line ready = line_smaller (asked-as line asked) ready so_far.bound
+
+  -- no line is left: the number of the last one has a successor
+  pub below : {number : ℕ} → step ≡ End → number ≡ r'.number → limit < 2 ^ 64 - 1 → number < 2 ^ 64 - 1
+  below end number few = end_below (asked-as end asked) number so_far.bound few
+
+  module _ {is' : List Moment} (grown : Grows after mid)
+      (prompt : HoldsEachTime (IsAnswered o left before) is is') where
+    all-grown : Grows before mid
+    all-grown = grown_on before after mid so_far.grown grown
+
+    all-prompt : HoldsEachTime (IsAnswered o left before) was is'
+    all-prompt = noted_on (IsAnswered o left before) was is is' so_far.prompt prompt
+
+    -- a line came, and was taken: the run stands behind it
+    pub turned : (now' : List (List ℕ) → Outcome T) (page' : List ℕ) (is_row : Bool) (k : ℕ) → step ≡ Line →
+        r'.is_ready ≡ true →
+        (text : List ℕ) × (page' ≡ page ++ text) ×
+        ((rest : List (List ℕ)) → now (r'.line ∷ rest) ≡ behind_lines 1 text (one is_row) (now' rest)) →
+        k ≡ one is_row → SoFar o now' r' left left2 before mid page' (count + k) limit was is'
+    turned now' page' is_row k line ready took row = record {
+      ran = goes-on now' page' is_row k (asked-as line asked) ready took row;
+      bound = asked.limit ∙ so_far.bound;
+      grown = all-grown;
+      prompt = all-prompt;
+    }
+
+    -- a line came that stops the run
+    pub stopped : {F : Type 0} (told : F → T) (number : ℕ) (last : Option (List ℕ)) (page' : List ℕ) (stop : Stop F)
+        (f : RunFault F) → step ≡ Line → number ≡ r'.number → StopsAs stop number mid last page' f →
+        IfBad (λ g. (text : List ℕ) × (page' ≡ page ++ text) × IsBadLine told now r' text g) stop →
+        IsOver told o left left2 before last limit was is' (Err f)
+    stopped told number last page' stop f line same stops bad =
+        fault-over told o left left2 before last limit was is' f
+        (stops-at told limit number last page' stop f (asked-as line asked) same stops bad so_far.bound)
+        (grown_on before mid last all-grown (stopped_grows stop number mid last page' f stops)) all-prompt
+
+    -- no line is left, and the run is over
+    pub ended : {F : Type 0} (told : F → T) {number : ℕ} {result : Result ℕ (RunFault F)} → step ≡ End →
+        (position (λ b. b == 10) r.held ≡ None → ((now []).text ≡ []) × ((now []).rows ≡ 0)) → number ≡ r'.number →
+        EndsAs told (now []) number count result → IsOver told o left left2 before mid limit was is' result
+    ended told end none number ends = record {
+      answer = ends-at told (asked-as end asked) none number ends so_far.bound;
+      grown = all-grown;
+      prompt = all-prompt;
+    }
+
+-- asking for a line ended the run
+pub asking-failed : {T F : Type 0} (told : F → T) {o now : List (List ℕ) → Outcome T} {r : LinesState}
+    {left left1 left2 before after mid : Option (List ℕ)} {page : List ℕ} {count limit : ℕ} {was is is' : List Moment}
+    (f : RunFault F) → SoFar o now r left left1 before after page count limit was is → Grows after mid →
+    HoldsEachTime (IsAnswered o left before) is is' → IsFailed told o left left2 before mid r.limit f →
+    IsOver told o left left2 before mid limit was is' (Err f)
+asking-failed told {o} {now} {r} {left} {left1} {left2} {before} {after} {mid} {page} {count} {limit} {was} {is} {is'} f
+    so_far grown prompt failed =
+    fault-over told o left left2 before mid limit was is' f
+    (subst (λ l. IsFailed told o left left2 before mid l f) so_far.bound failed)
+    (grown_on before after mid so_far.grown grown)
+    (noted_on (IsAnswered o left before) was is is' so_far.prompt prompt)

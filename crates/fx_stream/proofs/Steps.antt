@@ -11,18 +11,13 @@ use Rattle.fx_base.specs.Text.{text_at, lines_in}
 use Rattle.fx_base.specs.LineSteps.{LinesState, IsFirstLine, EndsLine, TakesLine}
 use Rattle.fx_stream.specs.Outcome.{Outcome, behind_lines, behind_text}
 use Rattle.fx_stream.specs.Promise.{AreWholeLines}
-use Rattle.fx_stream.specs.Running.{Ran, IsFlushed, IsUrgent}
+use Rattle.fx_stream.specs.Running.{Ran, IsFlushed, IsUrgent, fresh_lines}
 use Rattle.fx_stream.proofs.Outcomes.{behind-held, behind-twice, behind-same, behind-nothing}
 
 -- no line is left in nothing
 pub nothing-left : (is_first : Bool) → lines (text_at is_first []) ≡ []
 nothing-left true = refl
 nothing-left false = refl
-
--- no line is taken yet
-abbrev pub fresh_lines : ℕ → LinesState
-fresh_lines bound =
-    record { line = []; held = []; number = 0; taken = 0; limit = bound; is_ready = true; is_ended = false }
 
 pub start : {T : Type 0} (o : List (List ℕ) → Outcome T) (left before : Option (List ℕ)) (bound : ℕ) →
     (o []).text ≡ [] → Ran o o (fresh_lines bound) left left before before [] 0 bound

@@ -37,10 +37,10 @@ unheld held (Some n) say e =
 
 -- text goes out where that is due
 pub urgent : {P : Type 0} (held : Bool) (r : LinesState) (page : List ℕ) →
-    held ≡ true ↔ (position (λ b. b == 10) r.held ≢ None) → (GoesOut r page → P) → IsUrgent (not held) page → P
-urgent true r page say due (inl must) = let z : false ≡ true = must in absurd cc
-urgent false r page say due (inl must) = due (inl (unheld false _ say refl))
-urgent held r page say due (inr full) = due (inr full)
+    (held ≡ false → position (λ b. b == 10) r.held ≡ None) → (GoesOut r page → P) → IsUrgent (not held) page → P
+urgent true r page unheld due (inl must) = let z : false ≡ true = must in absurd cc
+urgent false r page unheld due (inl must) = due (inl (unheld refl))
+urgent held r page unheld due (inr full) = due (inr full)
 
 -- a line that is told whole
 pub whole-line : (line whole : List ℕ) → line ≡ take 65537 whole → true ≡ nat_lt (length whole) 65537 → whole ≡ line

@@ -1,19 +1,27 @@
 -- What a run over lines has done so far. No clause of a public call rests on this.
-use Rattle.std.specs.Prelude.{ℕ, ◌≡◌, ◌+◌, ◌≤◌, ◌==◌, ◌⊎◌, take, nat_lt, List, [], ◌∷◌, ◌++◌, length, position, Bool, true, false, Option, Some, None, Result, Ok, Err}
+use Rattle.std.specs.Prelude.{ℕ, ◌≡◌, ◌+◌, ◌≤◌, ◌==◌, ◌⊎◌, take, nat_lt, List, [], ◌∷◌, ◌++◌, length, position, Bool, true, false, Option, Some, None, Result, Ok, Err, IfOk, IfErr, OnOk, IsErrOf, IfSome, ◌<◌, ◌↔◌}
 use Rattle.std.specs.Io.KnownBytes.{Consumes, Appends, IsAtEnd}
 use Rattle.std.specs.Str.Lines.{lines}
 use Rattle.fx_base.specs.Text.{text_at, lines_in}
 use Rattle.fx_base.specs.LineSteps.{LinesState, TakesLine}
 use Rattle.fx_base.specs.Calls.{AppendsFront}
+use Rattle.fx_base.specs.declared.answers.LineFault.{LineFault}
+use Rattle.fx_base.specs.declared.answers.LineFault.TheVariants as line
 use Rattle.fx_base.specs.declared.lines.LineStep.{LineStep}
 use Rattle.fx_base.specs.declared.lines.LineStep.TheVariants.{Line, End}
 use Rattle.fx_stream.specs.Outcome.{Outcome, behind_lines, behind_text, stopped_lines}
-use Rattle.fx_stream.specs.Promise.{AreWholeLines}
+use Rattle.fx_base.specs.Moments.{Moment, HoldsEachTime}
+use Rattle.fx_stream.specs.Promise.{AreWholeLines, Grows, IsAnswered, IsDone, IsDue}
 use Rattle.fx_stream.specs.Rooms.{HasRoom}
 use Rattle.fx_stream.specs.declared.fault.RunFault.{RunFault}
 use Rattle.fx_stream.specs.declared.fault.RunFault.TheVariants as fault
 use Rattle.fx_stream.specs.declared.printer.Stop.{Stop}
 use Rattle.fx_stream.specs.declared.printer.Stop.TheVariants.{Bad, Memory}
+
+-- no line is taken yet
+abbrev pub fresh_lines : ℕ → LinesState
+fresh_lines bound =
+    record { line = []; held = []; number = 0; taken = 0; limit = bound; is_ready = true; is_ended = false }
 
 -- the bytes of the lines that were answered, and those lines
 pub record Ran {T : Type 0} (first now : List (List ℕ) →
@@ -87,6 +95,12 @@ abbrev pub HasStepped : LineStep → LinesState → LinesState → Option (List 
 HasStepped Line r r' left page more = HasLine r r' left more
 HasStepped End r r' left page more = HasNoLine r r' left page more
 
+-- what a call for a line gave, as a run tells it
+abbrev pub as_run : {F : Type 0} → Result LineStep LineFault → Result LineStep (RunFault F)
+as_run (Ok step) = Ok step
+as_run (Err line.ReadFault) = Err fault.ReadFault
+as_run (Err line.TooLong) = Err fault.TooLong
+
 -- what asking for a line gives
 pub record IsAsked {T : Type 0} (o now : List (List ℕ) →
     Outcome T) (r r' : LinesState) (left left1 left2 before mid : Option (List ℕ)) (page : List ℕ) (count bound : ℕ)
@@ -118,3 +132,19 @@ StopsAs Memory number before after page g = (g ≡ fault.Memory) × (after ≡ b
 abbrev pub EndsAs : {T F : Type 0} → (F → T) → Outcome T → ℕ → ℕ → Result ℕ (RunFault F) → Type 0
 EndsAs told o number count (Ok n) = (o.bad ≡ None) × (n ≡ count)
 EndsAs {F = F} told o number count (Err g) = (f : F) × (g ≡ fault.Row (number + 1) f) × (o.bad ≡ Some (0, told f))
+
+-- what a run's answer says of what was printed and taken
+pub record IsAnswer {T F : Type 0} (told : F → T) (o : List (List ℕ) →
+    Outcome T) (left left' before after : Option (List ℕ)) (limit : ℕ) (result : Result ℕ (RunFault F)) : Type 0 where
+  pub done : IfOk result (λ n. IfSome left (λ all. IsDone (o (lines_in all)) n before after))
+  pub end : OnOk result (IsAtEnd left')
+  pub due : IfErr result (IsDue told o left left' before after)
+  pub taken : (taken : List ℕ) × Consumes left left' taken × (IsErrOf result fault.TooLong ↔ (limit < length taken))
+
+-- a run is over, and the source was asked at the moments `was` before and at `is` since the start
+pub record IsOver {T F : Type 0} (told : F → T) (o : List (List ℕ) →
+    Outcome T) (left left' before after : Option (List ℕ)) (limit : ℕ) (was is : List Moment)
+    (result : Result ℕ (RunFault F)) : Type 0 where
+  pub answer : IsAnswer told o left left' before after limit result
+  pub grown : Grows before after
+  pub prompt : HoldsEachTime (IsAnswered o left before) was is

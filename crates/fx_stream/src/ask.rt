@@ -6,10 +6,11 @@ ghost use Rattle.std.specs.Prelude.{◌≡◌, ◌≢◌, ◌⊎◌, ◌+◌, �
 ghost use Rattle.fx_base.specs.Causes.{Rose, HasCause};
 ghost use Rattle.fx_base.specs.Calls.{AppendsFront};
 ghost use Rattle.fx_base.specs.Moments.{HoldsEachTime};
+ghost use Rattle.fx_base.specs.declared.answers.LineFault.TheVariants as LineFault;
 ghost use Rattle.fx_stream.specs.Rooms.{HasRoom};
 ghost use Rattle.fx_stream.specs.Outcome.{Outcome, behind_lines, behind_text, one, IfBad};
 ghost use Rattle.fx_stream.specs.Promise.{Grows, IsAnswered, IsFailed};
-ghost use Rattle.fx_stream.specs.Running.{Ran, IsFlushed, IsAsked, EndsAs, GoesOut, IsBadLine, StopsAs};
+ghost use Rattle.fx_stream.specs.Running.{Ran, IsFlushed, IsAsked, EndsAs, GoesOut, IsBadLine, StopsAs, as_run};
 ghost use Rattle.fx_stream.specs.declared.fault.RunFault.TheVariants.{ReadFault, WriteFault};
 
 use crate::fault::RunFault;
@@ -22,12 +23,26 @@ fn flush<K: Sink>(page: &mut Page, must: bool, sink: &mut K) -> Result<(), Faile
     ensures all { OnOk result (IsFlushed must (K.taken sink.old) (K.taken sink.new) page.old page.new) }
     ensures room { OnOk result (HasRoom page.new) }
     ensures front { OnErr result (AppendsFront (K.taken sink.old) (K.taken sink.new) page.old) }
+    ensures grown { Grows (K.taken sink.old) (K.taken sink.new) }
     ensures cause { HasCause (K.faults sink.old) (K.faults sink.new) result }
 {
     if must || !page.has_room() {
         page.write_out(sink)?;
     }
     Ok(())
+}
+
+// What a call for a line gave, as a run tells it.
+fn as_run<F>(step: Result<LineStep, LineFault>) -> Result<LineStep, RunFault<F>>
+    ensures is { result ≡ as_run step }
+    ensures read { IsErrOf result ReadFault → IsErrOf step LineFault.ReadFault }
+    ensures no_write { result ≢ Err WriteFault }
+{
+    match step {
+        Ok(step) => Ok(step),
+        Err(LineFault::ReadFault) => Err(RunFault::ReadFault),
+        Err(LineFault::TooLong) => Err(RunFault::TooLong),
+    }
 }
 
 // Reads on to the next line. What is printed so far is written before, where the bytes that were taken don't hold it
@@ -63,11 +78,7 @@ fn ask<P: Printer, S: Source<K>, K: Sink>(
     if flush(page, !lines.holds_line(), sink).is_err() {
         return Err(RunFault::WriteFault);
     }
-    match lines.next_line(source, sink) {
-        Ok(step) => Ok(step),
-        Err(LineFault::ReadFault) => Err(RunFault::ReadFault),
-        Err(LineFault::TooLong) => Err(RunFault::TooLong),
-    }
+    as_run(lines.next_line(source, sink))
 }
 
 // Has a printer append what it holds back where a read may follow.
@@ -100,13 +111,15 @@ pub(crate) fn next<P: Printer, S: Source<K>, K: Sink>(
     ensures can { P.can_take printer.new }
     ensures settled { position (λ b. b == 10) lines.old.held ≡ None → P.is_settled printer.new }
     ensures asked { (o : List (List ℕ) → Outcome P.Told) (left before : Option (List ℕ)) (count : ℕ)
-        → Ran o (P.outcome printer.old) lines.old left (S.left source.old) before (K.taken sink.old) page.old count lines.old.limit
+        → Ran o (P.outcome printer.old) lines.old left (S.left source.old) before (K.taken sink.old) page.old count
+        lines.old.limit
         → MatchResult result
         (λ step. IsAsked o (P.outcome printer.new) lines.old lines.new left (S.left source.old)
         (S.left source.new) before (K.taken sink.new) page.new count lines.old.limit step)
         (λ fault. IsFailed P.told o left (S.left source.new) before (K.taken sink.new) lines.old.limit fault) }
     ensures prompt { (o : List (List ℕ) → Outcome P.Told) (left before : Option (List ℕ)) (count : ℕ)
-        → Ran o (P.outcome printer.old) lines.old left (S.left source.old) before (K.taken sink.old) page.old count lines.old.limit
+        → Ran o (P.outcome printer.old) lines.old left (S.left source.old) before (K.taken sink.old) page.old count
+        lines.old.limit
         → HoldsEachTime (IsAnswered o left before) (S.asked source.old) (S.asked source.new) }
     ensures room { OnOk result (HasRoom page.new) }
     ensures grown { Grows (K.taken sink.old) (K.taken sink.new) }

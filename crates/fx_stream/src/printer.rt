@@ -50,7 +50,8 @@ pub trait Printer {
             × ((rest : List (List ℕ)) →
             outcome self.old (line.now ∷ rest) ≡ behind_lines 1 text (one is_row) (outcome self.new rest))) }
         ensures bad { IfErr result (IfBad (λ fault. (text : List ℕ) × (page.new ≡ page.old ++ text)
-            × ((rest : List (List ℕ)) → outcome self.old (line.now ∷ rest) ≡ behind_text text (stopped_lines (told fault))))) };
+            × ((rest : List (List ℕ)) →
+            outcome self.old (line.now ∷ rest) ≡ behind_text text (stopped_lines (told fault))))) };
 
     /// Appends what is held back.
     fn settle(&mut self, page: &mut Page)

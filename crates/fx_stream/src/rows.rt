@@ -121,7 +121,8 @@ fn take_header<M: RowStep>(
     requires room { HasRoom page.old }
     ensures serves { IfOk result (λ o. IfSome o (λ r. Serves r (M.meaning step.now))) }
     ensures taken { IfOk result (λ o. (text : List ℕ) × (page.new ≡ page.old ++ text)
-        × ((rest : List (List ℕ)) → lines_outcome (M.meaning step.now) (M.head step.now) (M.printed step.now) None (line.now ∷ rest)
+        × ((rest : List (List ℕ)) →
+        lines_outcome (M.meaning step.now) (M.head step.now) (M.printed step.now) None (line.now ∷ rest)
         ≡ behind_lines 1 text 0
         (lines_outcome (M.meaning step.now) (M.head step.now) (M.printed step.now)
         (option_map reader_columns o) rest))) }
@@ -161,8 +162,9 @@ fn take_row<M: RowStep>(
     ensures function { OnOk result (M.meaning step.new ≡ M.meaning step.old) }
     ensures row_room { vec_capacity row.old ≤ vec_capacity row.new }
     ensures taken { IfOk result (λ is_row. (text : List ℕ) × (page.new ≡ page.old ++ text)
-        × ((rest : List (List ℕ)) → lines_outcome (M.meaning step.old) (M.head step.old) (M.printed step.old) (Some (reader_columns reader.now)) (line.now ∷ rest)
-        ≡ behind_lines 1 text (one is_row)
+        × ((rest : List (List ℕ)) →
+        lines_outcome (M.meaning step.old) (M.head step.old) (M.printed step.old) (Some (reader_columns reader.now))
+        (line.now ∷ rest) ≡ behind_lines 1 text (one is_row)
         (lines_outcome (M.meaning step.new) (M.head step.new) (M.printed step.new)
         (Some (reader_columns reader.now)) rest))) }
     ensures bad { IfErr result (IfBad (λ fault. (text : List ℕ) × (page.new ≡ page.old ++ text)
@@ -198,7 +200,8 @@ impl<M: RowStep + Drop> Printer for RowPrinter<M> {
 
     ghost told = { row_fault_of };
 
-    ghost can_take = { λ s. M.can_run s.step × MatchOption s.reader (M.is_settled s.step) (λ r. Serves r (M.meaning s.step))
+    ghost can_take = { λ s. M.can_run s.step
+        × MatchOption s.reader (M.is_settled s.step) (λ r. Serves r (M.meaning s.step))
         × (length (M.meaning s.step).inputs ≤ vec_capacity s.row) };
 
     ghost is_settled = { λ s. M.is_settled s.step };
@@ -242,8 +245,8 @@ impl<M: RowStep + Drop> Printer for RowPrinter<M> {
         }
     }
 
-    ghost none = { λ s settled. nothing_printed (M.meaning s.step) (M.head s.step) (M.printed s.step) (M.none s.step settled)
-        (option_map reader_columns s.reader) };
+    ghost none = { λ s settled. nothing_printed (M.meaning s.step) (M.head s.step) (M.printed s.step)
+        (M.none s.step settled) (option_map reader_columns s.reader) };
 }
 
 /// Runs the rows of a source, and writes their page before each read that might wait. Gives the number of rows.

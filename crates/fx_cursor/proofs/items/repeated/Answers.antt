@@ -26,7 +26,8 @@ items-preserved g c =
       ready = c.in_ok-more.ensures.on;
       on =
           goes_further (stands_next c.args.sign) (behind item) kept ts
-          (repeated (stands_next c.args.sign) (behind item) (g.R.Rule.value_of c.args.kept) (lexemes c.args.tokens.now)) (
+          (repeated (stands_next c.args.sign) (behind item) (g.R.Rule.value_of c.args.kept)
+          (lexemes c.args.tokens.now)) (
             g.R.Rule.value_of c.in_ok-more.more,
             lexemes c.in_ok-more.after.now,
           ) on (rw c.behind.ensures.value at c.in_ok-more.ensures.value) (lengths _ _
