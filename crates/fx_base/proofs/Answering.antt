@@ -1,6 +1,7 @@
 -- Lemmas on what a step answers.
-use Rattle.std.proofs.Common.{◌≡◌, ℕ, ◌+◌, ◌-◌, ◌<◌, ◌≤◌, Bool, true, false, nat_lt, min, List, [], ◌∷◌, ◌++◌, Option, length, take, drop, arith, refl, sym, ap, subst, ◌∙◌, append_assoc, append-nil}
+use Rattle.std.proofs.Common.{◌≡◌, ℕ, ◌+◌, ◌-◌, ◌<◌, ◌≤◌, Bool, true, false, nat_lt, min, List, [], ◌∷◌, ◌++◌, Option, Result, Ok, length, take, drop, arith, refl, sym, ap, subst, ◌∙◌, append_assoc, append-nil}
 use Rattle.std.specs.Prelude.{◌==◌, None, Some, position}
+use Rattle.std.specs.Io.KnownBytes.{Consumes}
 use Rattle.std.specs.Str.Lines.{lines, strip_carriage_return}
 use Rattle.std.proofs.lemmas.List.{drop-take, length-take-le, length-drop, length-append, take-append-le, take_all}
 use Rattle.std.proofs.lemmas.List.Elements.{All-drop, All-append}
@@ -9,6 +10,9 @@ use lib.Seq.{take-take}
 use borrow.Author.Tests.{ltb-true, ltb-false}
 use Rattle.fx_base.specs.Text.{text_at}
 use Rattle.fx_base.specs.LineSteps.{LinesState, IsFirstLine, TakesLine}
+use Rattle.fx_base.specs.declared.answers.LineFault.{LineFault}
+use Rattle.fx_base.specs.declared.lines.LineStep.{LineStep}
+use Rattle.fx_base.specs.declared.lines.LineStep.TheVariants.{Line, End}
 use Rattle.fx_base.proofs.Cutting.{is_feed, Plain, IsFeedAt, feed-at, feed-nowhere, lines-cut, lines-last, text_at-cut, text_at-more, stripped}
 
 -- a front of a front
@@ -25,27 +29,28 @@ take-min n k xs h =
         ∙ sym (take_all n (take k xs) (omega (arith, length-take-le k xs h)))
 
 -- a line whose end is held
-pub takes-whole : (old new : LinesState) (more bytes : List ℕ) (end from len : ℕ)
+takes-whole : (old new : LinesState) (more bytes : List ℕ) (end from len : ℕ)
     → bytes ≡ old.held ++ more → position is_feed bytes ≡ Some end
-    → text_at (old.number == 0) (take end bytes) ≡ drop from (take end bytes) → from ≤ end
-    → strip_carriage_return (take (end - from) (drop from bytes)) ≡ take len (take (end - from) (drop from bytes)) →
-    len ≤ end - from
+    → text_at (old.number == 0) (take end bytes) ≡ drop from (take end bytes)
+    → strip_carriage_return (drop from (take end bytes)) ≡ take len (drop from (take end bytes)) →
+    from + len ≤ length (take end bytes)
     → new.held ≡ drop (end + 1) bytes → new.number ≡ old.number + 1 → new.is_ready ≡ nat_lt len 65537 →
     new.is_ended ≡ false
     → new.line ≡ take (min len 65537) (drop from bytes) → TakesLine old new more
-takes-whole old new more bytes end from len whole found text from_in strip len_in held number ready ended line =
+takes-whole old new more bytes end from len whole found text strip inside held number ready ended line =
     let p : IsFeedAt bytes end = feed-at bytes end found in
     let body = take end bytes in
     let behind = drop from bytes in
     let size : length body ≡ end = let within : end < length bytes = p.within in
     length-take-le end bytes (omega arith) in
+    let len_in : from + len ≤ end = omega arith in
     let piece : drop from body ≡ take (end - from) behind =
     ap (λ n. drop from (take n bytes)) (let e : end ≡ from + (end - from) = omega arith in e)
     ∙ drop-take from (end - from) bytes in
     let long : end - from ≤ length behind = let within : end < length bytes = p.within in
     omega (arith, length-drop from bytes) in
     let short : strip_carriage_return (drop from body) ≡ take len behind =
-    ap strip_carriage_return piece ∙ strip ∙ take-take len (end - from) behind len_in in
+    strip ∙ ap (take len) piece ∙ take-take len (end - from) behind (omega arith) in
     let wide : length (take len behind) ≡ len = length-take-le len behind (omega arith) in
     record {
       raw = body ++ 10 ∷ [];
@@ -69,7 +74,7 @@ takes-whole old new more bytes end from len whole found text from_in strip len_i
     }
 
 -- the last line, which no line feed ends
-pub takes-last : (old new : LinesState) (more bytes : List ℕ) (from : ℕ)
+takes-last : (old new : LinesState) (more bytes : List ℕ) (from : ℕ)
     → bytes ≡ old.held ++ more → position is_feed bytes ≡ None → text_at (old.number == 0) bytes ≡ drop from bytes →
     0 < length bytes - from
     → new.held ≡ [] → new.number ≡ old.number + 1 → new.is_ready ≡ nat_lt (length bytes - from) 65537 →
@@ -141,7 +146,7 @@ long-line new front rest (Some end) found plain long line ready =
     }
 
 -- a line that is too long and whose end isn't held
-pub takes-long : (old new : LinesState) (more bytes : List ℕ) (from : ℕ)
+takes-long : (old new : LinesState) (more bytes : List ℕ) (from : ℕ)
     → bytes ≡ old.held ++ more → position is_feed bytes ≡ None → text_at (old.number == 0) bytes ≡ drop from bytes →
     65540 < length bytes → from ≤ 3
     → new.held ≡ [] → new.number ≡ old.number + 1 → new.is_ready ≡ false → new.is_ended ≡ false
@@ -163,3 +168,79 @@ takes-long old new more bytes from whole none text long few held number ready en
       fed = λ e _. absurd (cc);
       ended = λ e. absurd (cc);
     }
+
+-- so many bytes are held behind those that were answered
+pub left-count : (held more bytes : List ℕ) (next : ℕ) → bytes ≡ drop next held ++ more →
+    length bytes ≡ length held - next + length more
+left-count held more bytes next whole =
+    ap length whole ∙ length-append (drop next held) more ∙ ap (λ n. n + length more) (length-drop next held)
+
+-- the next line's end, sought behind this one's
+pub ahead-of : {bytes read : List ℕ} {place : Option ℕ} (n : ℕ) → read ≡ bytes →
+    place ≡ position is_feed (take (length read - n) (drop n read)) → place ≡ position is_feed (drop n bytes)
+ahead-of {bytes} {read} n same found =
+    found ∙ ap (position is_feed) (take_all (length read - n) (drop n read) (omega (arith, length-drop n read))
+    ∙ ap (drop n) same)
+
+-- what was fetched behind what was held, where so many lines were answered
+pub record HasMore (old : LinesState) (left left' : Option (List ℕ)) (number taken : ℕ) (bytes more : List ℕ) :
+    Type 0 where
+  pub took : Consumes left left' more
+  pub whole : bytes ≡ old.held ++ more
+  pub sum : taken ≡ min (old.taken + length more) 18446744073709551615
+  pub few : length bytes ≤ 131072
+  pub count : number ≡ old.number
+
+-- what a step that gives a line says of what it took
+abbrev pub TakesMore : LinesState → LinesState → Option (List ℕ) → Option (List ℕ) → Type 0
+TakesMore old new left left' =
+    (more : List ℕ) × Consumes left left' more × (new.taken ≡ min (old.taken + length more) 18446744073709551615)
+    × (length old.held + length more ≤ 131072)
+    × (◌≡◌ {A = Result LineStep LineFault} (Ok Line) (Ok Line) → TakesLine old new more)
+    × (◌≡◌ {A = Result LineStep LineFault} (Ok Line) (Ok End) → text_at (old.number == 0) (old.held ++ more) ≡ [])
+    × Unit {0}
+
+module _ {old : LinesState} (new : LinesState) {left left' : Option (List ℕ)} {number taken : ℕ} {bytes more : List ℕ}
+    (f : HasMore old left left' number taken bytes more) (same : new.taken ≡ taken)
+    (next : new.number ≡ number + 1) where
+  taken-line : TakesLine old new more → TakesMore old new left left'
+  taken-line line = (
+    more,
+    f.took,
+    same ∙ f.sum,
+    omega (arith, ap length f.whole, length-append old.held more, f.few),
+    (λ _. line),
+    (λ e. absurd cc),
+    tt,
+  )
+
+  following : new.number ≡ old.number + 1
+  following = next ∙ ap (λ n. n + 1) f.count
+
+  -- a line whose end is held
+  pub whole-taken : (end from len : ℕ) → position is_feed bytes ≡ Some end →
+      text_at (number == 0) (take end bytes) ≡ drop from (take end bytes) →
+      strip_carriage_return (drop from (take end bytes)) ≡ take len (drop from (take end bytes)) →
+      from + len ≤ length (take end bytes) → new.held ≡ drop (end + 1) bytes → new.is_ready ≡ nat_lt len 65537 →
+      new.is_ended ≡ false → new.line ≡ take (min len 65537) (drop from bytes) → TakesMore old new left left'
+  whole-taken end from len found text strip inside held ready ended line =
+      taken-line (takes-whole old new more bytes end from len f.whole found
+      (subst (λ n. text_at (n == 0) (take end bytes) ≡ drop from (take end bytes)) f.count text) strip inside held
+      following ready ended line)
+
+  -- a line that is too long and whose end isn't held
+  pub long-taken : (from : ℕ) → (65540 < length bytes) × (position is_feed bytes ≡ None) →
+      text_at (number == 0) bytes ≡ drop from bytes → from ≤ 3 → new.held ≡ [] → new.is_ready ≡ false →
+      new.is_ended ≡ false → new.line ≡ take 65537 (drop from bytes) → TakesMore old new left left'
+  long-taken from long text few held ready ended line =
+      taken-line (takes-long old new more bytes from f.whole long.1
+      (subst (λ n. text_at (n == 0) bytes ≡ drop from bytes) f.count text) long.0 few held following ready ended line)
+
+  -- the last line, which no line feed ends
+  pub last-taken : (from : ℕ) → position is_feed bytes ≡ None → text_at (number == 0) bytes ≡ drop from bytes →
+      0 < length bytes - from → new.held ≡ [] → new.is_ready ≡ nat_lt (length bytes - from) 65537 →
+      new.is_ended ≡ true → new.line ≡ take (min (length bytes - from) 65537) (drop from bytes) →
+      TakesMore old new left left'
+  last-taken from none text some held ready ended line =
+      taken-line (takes-last old new more bytes from f.whole none
+      (subst (λ n. text_at (n == 0) bytes ≡ drop from bytes) f.count text) some held following ready ended line)

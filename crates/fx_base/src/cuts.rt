@@ -18,7 +18,7 @@ pub(crate) fn mark_len(bytes: &[u8], is_first: bool) -> usize
 }
 
 // The length of a line without the carriage return at its end.
-pub(crate) fn trimmed_len(raw: &[u8]) -> usize
+fn trimmed_len(raw: &[u8]) -> usize
     ensures strips { strip_carriage_return raw.now ≡ take result raw.now }
     ensures within { result ≤ length raw.now }
 {
@@ -26,6 +26,16 @@ pub(crate) fn trimmed_len(raw: &[u8]) -> usize
         [.., b'\r'] => raw.len() - 1,
         _ => raw.len(),
     }
+}
+
+// Where a line begins behind the mark, and how long it is without its carriage return.
+pub(crate) fn line_in(raw: &[u8], is_first: bool) -> (usize, usize)
+    ensures skips { text_at is_first raw.now ≡ drop result.0 raw.now }
+    ensures strips { strip_carriage_return (drop result.0 raw.now) ≡ take result.1 (drop result.0 raw.now) }
+    ensures within { result.0 + result.1 ≤ length raw.now }
+{
+    let from = mark_len(raw, is_first);
+    (from, trimmed_len(&raw[from..]))
 }
 
 // Where the first line feed stands.

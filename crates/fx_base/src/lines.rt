@@ -8,7 +8,7 @@ ghost use Rattle.std.specs.Prelude.{◌≡◌, ◌≢◌, ℕ, List, [], ◌+◌
 ghost use Rattle.std.specs.Io.KnownBytes.{Consumes, IsAtEnd};
 ghost use Rattle.fx_base.specs.Causes.{Rose};
 
-use crate::cuts::{line_end, mark_len, trimmed_len};
+use crate::cuts::{line_end, line_in, mark_len};
 use crate::fetch::{Fetched, fetch};
 use crate::held::Held;
 use crate::{LineFault, Memory, Sink, Source};
@@ -182,8 +182,7 @@ impl Lines {
         let bytes = self.held.bytes();
         match fetched {
             Fetched::Whole(end) => {
-                let from = mark_len(&bytes[..end], is_first);
-                let length = trimmed_len(&bytes[from..end]);
+                let (from, length) = line_in(&bytes[..end], is_first);
                 self.from = from;
                 self.to = from + length.min(LINE);
                 self.next = end + 1;

@@ -1,10 +1,10 @@
 -- What stands in a parenthesis, by how many may still be opened.
-use Rattle.std.proofs.Common.{◌≡◌, ℕ, zero, suc, ◌-◌, ◌<◌, Bool, false, Err, refl, ap, arith}
+use Rattle.std.proofs.Common.{◌≡◌, ℕ, zero, suc, ◌-◌, ◌<◌, false, Err, refl, ap, arith}
 use Rattle.fx_lexer.specs.declared.fault.SourceKind.TheVariants.{TooDeep}
 use Rattle.fx_lexer.specs.Tokens.{Lexeme}
 use Rattle.fx_model.specs.Steps.{◌>>=◌}
 use Rattle.fx_grammar.specs.Steps.{Tokens, fault}
-use Rattle.fx_grammar.specs.Expressions.{Known, Reader, closed, opened, sum_from, inner_at, expr_at}
+use Rattle.fx_grammar.specs.Expressions.{Known, Reader, closed, opened, sum_from, inner_at}
 use Rattle.fx_grammar.proofs.Expressions.{expr_is}
 
 pub opened_zero : (known : Known) (room : ℕ) (t : Lexeme) (ts : Tokens) → room ≡ 0 →

@@ -1,4 +1,4 @@
-use Rattle.std.proofs.Common.{◌≡◌, ◌++◌, ap, ◌∙◌, append_assoc, arith, rules}
+use Rattle.std.proofs.Common.{◌++◌, ap, ◌∙◌, append_assoc, arith, rules}
 use Rattle.std.proofs.KnownBytes.{Consumes-trans}
 use Rattle.std.proofs.lemmas.List.{length-append}
 use Rattle.fx_base.proofs.Noting.{sought_once}

@@ -1,21 +1,15 @@
-use Rattle.std.proofs.Common.{◌≡◌, ℕ, suc, ◌+◌, slice_index_or, slice_set, refl, sym, ap, subst, ◌∙◌, arith}
-use Rattle.fx_sums.specs.declared.part.Part.{Part}
-use Rattle.fx_sums.specs.Parts.{IsReady, digit, rest}
-use Rattle.fx_sums.proofs.Turned.{Turned, same_next, turned_next, turned_all}
+use Rattle.std.proofs.Common.{refl, arith}
+use Rattle.fx_sums.proofs.Turned.{ready_next, turned_more, turned_all}
 use Rattle.fx_sums.proofs.settle.turn.Goals as goal
 
 pub loop-i-init : goal.loop-i-init
 loop-i-init c = ((refl, refl), omega arith)
 
 pub digit_of-s-requires : goal.digit_of-s-requires
-digit_of-s-requires c =
-    let d : Part = record { top = 0; bottom = 0 } in
-    record {
-      ready =
-          subst (IsReady c.args.c)
-          (sym (same_next c.args.c c.loop-i.i c.args.parts.now c.loop-i.parts c.loop-i.s d c.loop-i.invariant.0))
-          (c.requires.ready c.loop-i.i d c.loop-i-test.true);
-    }
+digit_of-s-requires c = record {
+  ready = ready_next c.args.c c.loop-i.i c.args.parts.now c.loop-i.parts c.loop-i.s c.requires.ready c.loop-i-test.true
+      c.loop-i.invariant.0;
+}
 
 pub overflow_add-s : goal.overflow_add-s
 overflow_add-s c =
@@ -24,32 +18,16 @@ overflow_add-s c =
     record { fits = omega (arith, b, m, t, f) }
 
 pub rest_of-requires : goal.rest_of-requires
-rest_of-requires c =
-    let d : Part = record { top = 0; bottom = 0 } in
-    record {
-      ready =
-          subst (IsReady c.args.c)
-          (sym (same_next c.args.c c.loop-i.i c.args.parts.now c.loop-i.parts c.loop-i.s d c.loop-i.invariant.0))
-          (c.requires.ready c.loop-i.i d c.loop-i-test.true);
-    }
+rest_of-requires c = record {
+  ready = ready_next c.args.c c.loop-i.i c.args.parts.now c.loop-i.parts c.loop-i.s c.requires.ready c.loop-i-test.true
+      c.loop-i.invariant.0;
+}
 
 pub loop-i-preserved : goal.loop-i-preserved
 loop-i-preserved c =
-    let d : Part = record { top = 0; bottom = 0 } in let k = c.args.c in let i = c.loop-i.i in
-    let old = c.args.parts.now in
-    let same = same_next k i old c.loop-i.parts c.loop-i.s d c.loop-i.invariant.0 in
-    let next = turned_next k i old c.loop-i.parts c.loop-i.s d c.loop-i-test.true c.loop-i.invariant.0 in
-    let one : suc i ≡ i + 1 = omega arith in
-    let r : rest k (slice_index_or old i d) ≡ c.rest_of.result = sym (c.rest_of.ensures ∙ ap (rest k) same) in
-    let n : digit k (slice_index_or old i d) ≡ c.digit_of-s.result =
-    sym (c.digit_of-s.ensures.value ∙ ap (digit k) same) in
     let b = c.loop-i.invariant.1 in let m = c.digit_of-s.ensures.small in (
-      subst (λ (m : ℕ). Turned k m old (slice_set c.loop-i.parts i c.rest_of.result)
-          (c.loop-i.s + c.digit_of-s.result)) one
-          (subst (λ (x : Part). Turned k (suc i) old (slice_set c.loop-i.parts i x)
-          (c.loop-i.s + c.digit_of-s.result)) r
-          (subst (λ (m : ℕ). Turned k (suc i) old (slice_set c.loop-i.parts i (rest k (slice_index_or old i d)))
-          (c.loop-i.s + m)) n next)),
+      turned_more c.args.c c.loop-i.i c.args.parts.now c.loop-i.parts c.loop-i.s c.digit_of-s.result c.rest_of.result
+          c.loop-i-test.true c.loop-i.invariant.0 c.digit_of-s.ensures.value c.rest_of.ensures,
       omega (arith, b, m),
     )
 
