@@ -195,7 +195,8 @@ quotients_fit_lanes (x ∷ xs) [] f g h = tt
 quotients_fit_lanes (x ∷ xs) (y ∷ ys) f g h =
     let fx = All-head (FitsSigned w64) x xs f in let gy = All-head (FitsSigned w32) y ys g in
     let ey = to_z-of_z w32 y gy in
-    let e = ap₂ int_div (to_z-of_z w64 x fx) (ap (λ v. to_z w64 (of_z w64 v)) ey ∙ to_z-of_z w64 y (fits_wide y gy)) in (
+    let wide = ap (λ v. to_z w64 (of_z w64 v)) ey ∙ to_z-of_z w64 y (fits_wide y gy) in
+    let e = ap₂ int_div (to_z-of_z w64 x fx) wide in (
       (subst (λ v. 0 < of_z w64 v) (sym ey) (some_bits y h.0.0 (fits_wide y gy)), subst (FitsSigned w64) (sym e) h.0.1),
       quotients_fit_lanes xs ys (All-tail (FitsSigned w64) x xs f) (All-tail (FitsSigned w32) y ys g) h.1,
     )

@@ -8,8 +8,8 @@ ghost use Rattle.fx_model.specs.Machine.{IsWord};
 ghost use Rattle.fx_model.specs.Tree.{at};
 ghost use Rattle.fx_word.specs.Words.{IsWidth};
 ghost use Rattle.fx_program.specs.CodeView.{code_of};
-ghost use Rattle.fx_machine.specs.Codes.{IsCodeAt, word_of};
-ghost use Rattle.fx_lanes.specs.RowsSideBySide.{AreWordsAt, row_at, lane};
+ghost use Rattle.fx_machine.specs.Codes.{Computes, HasOneShift, IsCodeAt, word_of};
+ghost use Rattle.fx_lanes.specs.RowsSideBySide.{AreWordsAt, AreWordsOf, GoesInLanes, row_at, lane};
 
 use crate::side_by_side::SideBySide;
 use fx_fraction::{Decimal, quantise};
@@ -58,6 +58,56 @@ fn input_lanes<const B: u32, L: SideBySide<B>>(rows: &[Decimal], inputs: usize, 
     L::of(words)
 }
 
+/// The words of a product, a quotient or a copy, which have one shift.
+#[inline(always)]
+fn scaled_lanes<const B: u32, L: SideBySide<B>>(code: &Code, words: &[L]) -> L
+    requires width { IsWidth B }
+    requires room { L.HasRoom }
+    requires one_shift { HasOneShift (code_of code.now) }
+    requires lawful { IsCodeAt B 0 0 (length words.now) (code_of code.now) }
+    requires goes { GoesInLanes B (code_of code.now) (map L.words words.now) }
+    ensures { AreWordsOf B (code_of code.now) (map L.words words.now) (L.words result) }
+{
+    match *code {
+        Code::Mul { a, b, s } => lanes_at::<B, L>(words, a).mul_shift(
+            lanes_at::<B, L>(words, b),
+            s,
+        ),
+        Code::MulNear { a, b, s } => {
+            lanes_at::<B, L>(words, a).mul_near(lanes_at::<B, L>(words, b), s)
+        }
+        Code::Div { a, b, s } => lanes_at::<B, L>(words, a).div_shift(
+            lanes_at::<B, L>(words, b),
+            s,
+        ),
+        Code::Copy { a, s } => lanes_at::<B, L>(words, a).copy_shift(s),
+        Code::CopyNear { a, s } => lanes_at::<B, L>(words, a).copy_near(s),
+        _ => unreachable!(),
+    }
+}
+
+/// The words of a code that computes with words alone.
+#[inline(always)]
+fn computed_lanes<const B: u32, L: SideBySide<B>>(code: &Code, words: &[L]) -> L
+    requires width { IsWidth B }
+    requires room { L.HasRoom }
+    requires computes { Computes (code_of code.now) }
+    requires lawful { IsCodeAt B 0 0 (length words.now) (code_of code.now) }
+    requires goes { GoesInLanes B (code_of code.now) (map L.words words.now) }
+    ensures { AreWordsOf B (code_of code.now) (map L.words words.now) (L.words result) }
+{
+    match *code {
+        Code::Neg { a } => lanes_at::<B, L>(words, a).neg(),
+        Code::Add { a, b, sa, sb } => {
+            lanes_at::<B, L>(words, a).add_shifted(sa, lanes_at::<B, L>(words, b), sb)
+        }
+        Code::Sub { a, b, sa, sb } => {
+            lanes_at::<B, L>(words, a).sub_shifted(sa, lanes_at::<B, L>(words, b), sb)
+        }
+        _ => scaled_lanes::<B, L>(code, words),
+    }
+}
+
 /// The words of a code in sixteen rows, from those of the codes before it.
 #[inline(always)]
 pub(crate) fn code_lanes<const B: u32, L: SideBySide<B>>(
@@ -82,25 +132,6 @@ pub(crate) fn code_lanes<const B: u32, L: SideBySide<B>>(
         Code::Input { k, f } => input_lanes::<B, L>(rows, inputs, k, f),
         Code::State { .. } => unreachable!(),
         Code::Const { w, .. } => L::splat(w),
-        Code::Neg { a } => lanes_at::<B, L>(words, a).neg(),
-        Code::Add { a, b, sa, sb } => {
-            lanes_at::<B, L>(words, a).add_shifted(sa, lanes_at::<B, L>(words, b), sb)
-        }
-        Code::Sub { a, b, sa, sb } => {
-            lanes_at::<B, L>(words, a).sub_shifted(sa, lanes_at::<B, L>(words, b), sb)
-        }
-        Code::Mul { a, b, s } => lanes_at::<B, L>(words, a).mul_shift(
-            lanes_at::<B, L>(words, b),
-            s,
-        ),
-        Code::MulNear { a, b, s } => {
-            lanes_at::<B, L>(words, a).mul_near(lanes_at::<B, L>(words, b), s)
-        }
-        Code::Div { a, b, s } => lanes_at::<B, L>(words, a).div_shift(
-            lanes_at::<B, L>(words, b),
-            s,
-        ),
-        Code::Copy { a, s } => lanes_at::<B, L>(words, a).copy_shift(s),
-        Code::CopyNear { a, s } => lanes_at::<B, L>(words, a).copy_near(s),
+        _ => computed_lanes::<B, L>(code, words),
     }
 }

@@ -1,5 +1,5 @@
 -- What is read of bytes are words in their widths.
-use Rattle.std.proofs.Common.{◌≡◌, ℕ, zero, suc, ◌/◌, ◌<◌, pos, List, [], ◌∷◌, length, take, drop, refl, ap, arith}
+use Rattle.std.proofs.Common.{◌≡◌, ℕ, zero, suc, ◌/◌, pos, List, [], ◌∷◌, length, take, drop, refl, ap, arith}
 use Rattle.fx_model.proofs.Widths.{width_of}
 use Rattle.fx_statements.specs.Laws.{WrappedLaw}
 use Rattle.fx_statements.specs.Widths.{FitWidths}

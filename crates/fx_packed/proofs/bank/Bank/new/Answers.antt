@@ -1,4 +1,4 @@
-use Rattle.std.proofs.Common.{◌≡◌, ℕ, replicate, ap, sym, subst, ◌∙◌}
+use Rattle.std.proofs.Common.{ℕ, replicate, ap, sym, subst, ◌∙◌}
 use Rattle.fx_packed.specs.Packed.{AreKnown, size_of, unpacked}
 use Rattle.fx_packed.proofs.Zeros.{zeros_unpacked}
 use Rattle.fx_packed.proofs.bank.Bank.new.Goals as goal
