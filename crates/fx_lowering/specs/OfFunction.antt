@@ -1,0 +1,17 @@
+-- The program of a function.
+use Rattle.std.specs.Prelude.{ℕ, List, length}
+use Rattle.fx_model.specs.Function.{Function, outputs}
+use Rattle.fx_model.specs.LawfulProgram.{first_version}
+use Rattle.fx_model.specs.Machine.{Round, Code, Program}
+
+-- with these codes, in words of n bits, of the version that the rounding came with
+abbrev pub program_for : ℕ → Round → Function → List Code → Program
+program_for n r fn cs = record {
+  version = first_version r;
+  width = n;
+  name = fn.name;
+  inputs = length fn.inputs;
+  states = length fn.states;
+  outputs = outputs fn;
+  codes = cs;
+}

@@ -1,0 +1,290 @@
+//! The program of a function with given codes, where they are lawful.
+//!
+//! One pass over the codes, in which the points of those before each are kept, as the reader of texts does. The trap: a
+//! point follows from those of the operands, so it is computed only behind the test that these stand before.
+
+ghost use Rattle.std.specs.Prelude.{◌≡◌, ◌↔◌, ◌<◌, ◌≤◌, ◌+◌, ◌-◌, ◌*◌, [], length, map, pos, All, Contains, IfOk, IsTrue};
+ghost use Rattle.std.specs.Option.{SomeIff};
+ghost use Rattle.fx_model.specs.Limits.{node_limit};
+ghost use Rattle.fx_model.specs.LawfulProgram.{widths, least_shift, IsPoint, IsShift, IsCopyShift, IsLawfulCode, IsPlaced, IsCopy, IsOfVersion, IsLawfulProgram};
+ghost use Rattle.fx_model.specs.Machine as machine;
+ghost use Rattle.fx_model.specs.Machine.{IsWord, point_of};
+ghost use Rattle.fx_model.specs.Tree.{at};
+ghost use Rattle.fx_word.specs.Words.{IsWidth};
+ghost use Rattle.fx_text.specs.Many.{AreEach};
+ghost use Rattle.fx_program.specs.CodeView.{round_of, kind_of, code_of};
+ghost use Rattle.fx_program.specs.Points.{HasNearOperands};
+ghost use Rattle.fx_program.specs.ProgramReading.{with_point};
+ghost use Rattle.fx_lowering.specs.InOrder.{MayStand, MayFollow};
+ghost use Rattle.fx_lowering.specs.OfFunction.{program_for};
+
+use crate::program::{input_count, output_count, program_for, state_count};
+use fx_expr::Function;
+use fx_num::{GREATEST_POINT, LEAST_POINT, Memory, NODE_LIMIT};
+use fx_program::{Code, Kind, Program, Round};
+use fx_word::is_word_at;
+use std::alloc::Global;
+
+/// What all codes of a program are tested by.
+#[derive(Clone, Copy)]
+struct Frame {
+    width: u32,
+    version: u32,
+    inputs: u32,
+    states: u32,
+    first_copy: u32,
+}
+
+/// Whether words may have so many bits.
+fn is_width(n: u32) -> bool
+    ensures { IsTrue result ↔ Contains widths n }
+{
+    matches!(n, 8 | 16 | 24 | 32 | 40 | 48 | 56 | 64)
+}
+
+/// Whether this is a binary point.
+fn is_point(f: i32) -> bool
+    ensures { IsTrue result ↔ IsPoint f }
+{
+    LEAST_POINT <= f && f <= GREATEST_POINT
+}
+
+/// Whether this is a word of so many bits.
+fn is_word(width: u32, w: i64) -> bool
+    requires { Contains widths width }
+    ensures { IsTrue result ↔ IsWord width w }
+{
+    is_word_at(width, i128::from(w))
+}
+
+/// Whether an operand of a sum may be shifted so.
+fn is_shift(width: u32, s: i32) -> bool
+    requires { IsWidth width }
+    ensures { IsTrue result ↔ IsShift width s }
+{
+    -(width as i32) <= s && s <= 64
+}
+
+/// Whether a product that rounds so may be shifted so.
+fn is_product_shift(width: u32, round: Round, s: u32) -> bool
+    requires { IsWidth width }
+    ensures { IsTrue result ↔ (s ≤ 2 * width - 2) × (least_shift (round_of round) ≤ s) }
+{
+    match round {
+        Round::Floor => s <= 2 * width - 2,
+        Round::Nearest => 1 <= s && s <= 2 * width - 2,
+    }
+}
+
+/// Whether a copy that rounds so may be shifted so.
+fn is_copy_shift(width: u32, round: Round, s: i64) -> bool
+    requires { IsWidth width }
+    ensures { IsTrue result ↔ IsCopyShift (round_of round) width s }
+{
+    match round {
+        Round::Floor => -i64::from(width) <= s && s <= 64,
+        Round::Nearest => 1 <= s && s <= i64::from(width),
+    }
+}
+
+/// Whether both operands of code `k` come before it.
+fn has_operands(k: u32, a: u32, b: u32) -> bool
+    ensures { IsTrue result ↔ (a < k) × (b < k) }
+{
+    a < k && b < k
+}
+
+/// Whether a sum or a difference may be code `k`.
+fn is_lawful_sum(width: u32, k: u32, a: u32, b: u32, sa: i32, sb: i32) -> bool
+    requires { IsWidth width }
+    ensures { IsTrue result ↔ IsLawfulCode width k (machine.Add a b sa sb) }
+{
+    has_operands(k, a, b) && is_shift(width, sa) && is_shift(width, sb)
+}
+
+/// Whether operands stand before code `k`, and words and shifts are in their ranges.
+fn is_lawful_code(width: u32, k: u32, kind: Kind) -> bool
+    requires known { Contains widths width }
+    requires width { IsWidth width }
+    ensures { IsTrue result ↔ IsLawfulCode width k (kind_of kind) }
+{
+    match kind {
+        Kind::Input { .. } => true,
+        Kind::State { w, .. } => is_word(width, w),
+        Kind::Const { w, .. } => is_word(width, w),
+        Kind::Neg { a } => a < k,
+        Kind::Add { a, b, sa, sb } => is_lawful_sum(width, k, a, b, sa, sb),
+        Kind::Sub { a, b, sa, sb } => is_lawful_sum(width, k, a, b, sa, sb),
+        Kind::Mul { r, a, b, s } => has_operands(k, a, b) && is_product_shift(width, r, s),
+        Kind::Div { a, b, s } => has_operands(k, a, b) && s <= width,
+        Kind::Copy { r, a, s } => a < k && is_copy_shift(width, r, s),
+    }
+}
+
+/// Whether inputs, states and others stand in their places.
+fn is_placed(inputs: u32, states: u32, n: u32, kind: Kind) -> bool
+    requires inputs { inputs ≤ node_limit }
+    requires states { states ≤ node_limit }
+    ensures { IsTrue result ↔ IsPlaced inputs states n (kind_of kind) }
+{
+    match kind {
+        Kind::Input { k, .. } => n == k && k < inputs,
+        Kind::State { k, .. } => k < states && n == inputs + k,
+        _ => inputs + states <= n,
+    }
+}
+
+/// Whether the version has the way in which it rounds.
+fn is_of_version(version: u32, kind: Kind) -> bool
+    ensures { IsTrue result ↔ IsOfVersion version (kind_of kind) }
+{
+    match kind {
+        Kind::Mul { r, .. } => r.first_version() <= version,
+        Kind::Copy { r, .. } => r.first_version() <= version,
+        _ => true,
+    }
+}
+
+/// Whether it is a copy.
+fn is_copy(kind: Kind) -> bool
+    ensures { IsTrue result ↔ IsCopy (kind_of kind) }
+{
+    matches!(kind, Kind::Copy { .. })
+}
+
+/// Whether it may be code `k`, its point aside.
+fn may_stand(frame: Frame, k: u32, kind: Kind) -> bool
+    requires known { Contains widths frame.width }
+    requires width { IsWidth frame.width }
+    requires inputs { frame.inputs ≤ node_limit }
+    requires states { frame.states ≤ node_limit }
+    ensures { IsTrue result ↔ MayStand frame k (kind_of kind) }
+{
+    is_lawful_code(frame.width, k, kind)
+        && is_placed(frame.inputs, frame.states, k, kind)
+        && is_of_version(frame.version, kind)
+        && (k < frame.first_copy || is_copy(kind))
+}
+
+/// The point of code `a`.
+fn point_at(points: &[i32], a: u32) -> i32
+    requires points { All IsPoint points.now }
+    requires within { a < length points.now }
+    ensures value { result ≡ at (pos 0) points.now a }
+    ensures point { IsPoint result }
+{
+    points[a as usize]
+}
+
+/// The point of what does this behind codes with these points.
+fn point_behind(points: &[i32], kind: Kind) -> i32
+    requires points { All IsPoint points.now }
+    requires near { HasNearOperands (length points.now) (kind_of kind) }
+    ensures { result ≡ point_of (kind_of kind) points.now }
+{
+    match kind {
+        Kind::Input { f, .. } => f,
+        Kind::State { f, .. } => f,
+        Kind::Const { f, .. } => f,
+        Kind::Neg { a } => point_at(points, a),
+        Kind::Add { a, sa, .. } => point_at(points, a) - sa,
+        Kind::Sub { a, sa, .. } => point_at(points, a) - sa,
+        Kind::Mul { a, b, s, .. } => point_at(points, a) + point_at(points, b) - s as i32,
+        Kind::Div { a, b, s } => point_at(points, a) + s as i32 - point_at(points, b),
+        Kind::Copy { a, s, .. } => point_at(points, a) - s as i32,
+    }
+}
+
+/// The point of a code that may follow codes with these points. None where it may not.
+fn next_point(frame: Frame, points: &[i32], code: Code) -> Option<i32>
+    requires known { Contains widths frame.width }
+    requires width { IsWidth frame.width }
+    requires inputs { frame.inputs ≤ node_limit }
+    requires states { frame.states ≤ node_limit }
+    requires points { All IsPoint points.now }
+    requires few { length points.now ≤ node_limit }
+    ensures { SomeIff result (MayFollow frame points.now (code_of code)) (point_of (code_of code) points.now) }
+{
+    let kind = code.kind();
+    if !may_stand(frame, points.len() as u32, kind) {
+        return None;
+    }
+    let f = point_behind(points, kind);
+    if is_point(f) { Some(f) } else { None }
+}
+
+/// Whether each code may follow those before it.
+fn are_in_order(alloc: Global, frame: Frame, codes: &[Code]) -> Result<bool, Memory>
+    requires known { Contains widths frame.width }
+    requires width { IsWidth frame.width }
+    requires inputs { frame.inputs ≤ node_limit }
+    requires states { frame.states ≤ node_limit }
+    requires few { length codes.now ≤ node_limit }
+    ensures { IfOk result (λ t. IsTrue t ↔ AreEach (MayFollow frame) with_point [] (map code_of codes.now)) }
+{
+    let mut points = Vec::new(alloc);
+    for i in 0..codes.len() {
+        match next_point(frame, &points, codes[i]) {
+            Some(f) => points.push(f)?,
+            None => return Ok(false),
+        }
+    }
+    Ok(true)
+}
+
+/// Whether so many codes are within the limit, and enough for so many inputs, states and outputs.
+fn is_count(inputs: u32, states: u32, outputs: u32, count: usize) -> bool
+    requires inputs { inputs ≤ node_limit }
+    requires states { states ≤ node_limit }
+    requires outputs { outputs ≤ node_limit }
+    ensures { IsTrue result ↔ (inputs + states + (outputs + states) ≤ count) × (count ≤ node_limit) }
+{
+    (inputs + states + (outputs + states)) as usize <= count && count <= NODE_LIMIT as usize
+}
+
+/// Whether the program of these codes is lawful.
+fn is_lawful(
+    alloc: Global,
+    function: &Function,
+    width: u32,
+    round: Round,
+    codes: &[Code],
+) -> Result<bool, Memory>
+    ensures { IfOk result (λ t. IsTrue t
+        ↔ IsLawfulProgram (program_for width (round_of round) function.now (map code_of codes.now))) }
+{
+    function.keeps();
+    let inputs = input_count(function);
+    let states = state_count(function);
+    let outputs = output_count(function);
+    if !is_width(width) || !is_count(inputs, states, outputs, codes.len()) {
+        return Ok(false);
+    }
+    let frame = Frame {
+        width,
+        version: round.first_version(),
+        inputs,
+        states,
+        first_copy: codes.len() as u32 - (outputs + states),
+    };
+    are_in_order(alloc, frame, codes)
+}
+
+/// The program of a function with these codes, in words of `width` bits and of the version that the rounding came with.
+/// None where it isn't lawful.
+pub fn lawful_program(
+    alloc: Global,
+    function: &Function,
+    width: u32,
+    round: Round,
+    codes: Vec<Code>,
+) -> Result<Option<Program>, Memory>
+    ensures { IfOk result (λ found. SomeIff found
+        (IsLawfulProgram (program_for width (round_of round) function.now (map code_of codes.items)))
+        (program_for width (round_of round) function.now (map code_of codes.items))) }
+{
+    if !is_lawful(alloc, function, width, round, &codes)? {
+        return Ok(None);
+    }
+    Ok(Some(program_for(alloc, function, width, round, codes)?))
+}
