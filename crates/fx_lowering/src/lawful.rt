@@ -3,17 +3,15 @@
 //! One pass over the codes, in which the points of those before each are kept, as the reader of texts does. The trap: a
 //! point follows from those of the operands, so it is computed only behind the test that these stand before.
 
-ghost use Rattle.std.specs.Prelude.{◌≡◌, ◌↔◌, ◌<◌, ◌≤◌, ◌+◌, ◌-◌, ◌*◌, [], length, map, pos, All, Contains, IfOk, IsTrue};
+ghost use Rattle.std.specs.Prelude.{◌↔◌, ◌<◌, ◌≤◌, ◌+◌, ◌-◌, ◌*◌, [], length, map, All, Contains, IfOk, IsTrue};
 ghost use Rattle.std.specs.Option.{SomeIff};
 ghost use Rattle.fx_model.specs.Limits.{node_limit};
 ghost use Rattle.fx_model.specs.LawfulProgram.{widths, least_shift, IsPoint, IsShift, IsCopyShift, IsLawfulCode, IsPlaced, IsCopy, IsOfVersion, IsLawfulProgram};
 ghost use Rattle.fx_model.specs.Machine as machine;
 ghost use Rattle.fx_model.specs.Machine.{IsWord, point_of};
-ghost use Rattle.fx_model.specs.Tree.{at};
 ghost use Rattle.fx_word.specs.Words.{IsWidth};
 ghost use Rattle.fx_text.specs.Many.{AreEach};
 ghost use Rattle.fx_program.specs.CodeView.{round_of, kind_of, code_of};
-ghost use Rattle.fx_program.specs.Points.{HasNearOperands};
 ghost use Rattle.fx_program.specs.ProgramReading.{with_point};
 ghost use Rattle.fx_lowering.specs.InOrder.{MayStand, MayFollow};
 ghost use Rattle.fx_lowering.specs.OfFunction.{program_for};
@@ -21,7 +19,7 @@ ghost use Rattle.fx_lowering.specs.OfFunction.{program_for};
 use crate::program::{input_count, output_count, program_for, state_count};
 use fx_expr::Function;
 use fx_num::{GREATEST_POINT, LEAST_POINT, Memory, NODE_LIMIT};
-use fx_program::{Code, Kind, Program, Round};
+use fx_program::{Code, Kind, Program, Round, kind_point};
 use fx_word::is_word_at;
 use std::alloc::Global;
 
@@ -166,35 +164,6 @@ fn may_stand(frame: Frame, k: u32, kind: Kind) -> bool
         && (k < frame.first_copy || is_copy(kind))
 }
 
-/// The point of code `a`.
-fn point_at(points: &[i32], a: u32) -> i32
-    requires points { All IsPoint points.now }
-    requires within { a < length points.now }
-    ensures value { result ≡ at (pos 0) points.now a }
-    ensures point { IsPoint result }
-{
-    points[a as usize]
-}
-
-/// The point of what does this behind codes with these points.
-fn point_behind(points: &[i32], kind: Kind) -> i32
-    requires points { All IsPoint points.now }
-    requires near { HasNearOperands (length points.now) (kind_of kind) }
-    ensures { result ≡ point_of (kind_of kind) points.now }
-{
-    match kind {
-        Kind::Input { f, .. } => f,
-        Kind::State { f, .. } => f,
-        Kind::Const { f, .. } => f,
-        Kind::Neg { a } => point_at(points, a),
-        Kind::Add { a, sa, .. } => point_at(points, a) - sa,
-        Kind::Sub { a, sa, .. } => point_at(points, a) - sa,
-        Kind::Mul { a, b, s, .. } => point_at(points, a) + point_at(points, b) - s as i32,
-        Kind::Div { a, b, s } => point_at(points, a) + s as i32 - point_at(points, b),
-        Kind::Copy { a, s, .. } => point_at(points, a) - s as i32,
-    }
-}
-
 /// The point of a code that may follow codes with these points. None where it may not.
 fn next_point(frame: Frame, points: &[i32], code: Code) -> Option<i32>
     requires known { Contains widths frame.width }
@@ -209,7 +178,7 @@ fn next_point(frame: Frame, points: &[i32], code: Code) -> Option<i32>
     if !may_stand(frame, points.len() as u32, kind) {
         return None;
     }
-    let f = point_behind(points, kind);
+    let f = kind_point(points, kind);
     if is_point(f) { Some(f) } else { None }
 }
 

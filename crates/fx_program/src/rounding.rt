@@ -3,7 +3,7 @@
 //! To the nearest a product rounds whose shift is from 1 on, and a copy whose shift is from 1 to the width: what drops
 //! nothing, or more than a word, has no such code and rounds down.
 
-ghost use Rattle.std.specs.Prelude.{◌≡◌, ◌↔◌, ◌&&◌, int_le, pos, All, IsTrue};
+ghost use Rattle.std.specs.Prelude.{◌≡◌, ◌↔◌, ◌&&◌, All, IsTrue};
 ghost use Rattle.fx_model.specs.Machine as machine;
 ghost use Rattle.fx_program.specs.CodeView.{round_of, code_of};
 ghost use Rattle.fx_program.specs.Rounding.{product_round, copy_round, RoundsBy, IsRoundedBy};
