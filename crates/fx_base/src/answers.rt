@@ -64,18 +64,6 @@ impl fmt::Display for Failed {
 
 impl Error for Failed {}
 
-/// No memory was left: the error of a call that can refuse for nothing else.
-#[derive(Clone, Copy, Debug, PartialEq, Eq)]
-pub struct Memory;
-
-impl fmt::Display for Memory {
-    fn fmt<W: fmt::Write>(&self, f: &mut fmt::Formatter<W>) -> fmt::Result {
-        f.write_str("out of memory")
-    }
-}
-
-impl Error for Memory {}
-
 /// Why a whole input or file wasn't read.
 #[derive(Clone, Copy, Debug, PartialEq, Eq)]
 pub enum InFault {

@@ -18,7 +18,7 @@ mod sinks;
 mod sources;
 mod whole;
 
-pub use answers::{Failed, InFault, LineFault, Memory, Status};
+pub use answers::{Failed, InFault, LineFault, Status};
 pub use lines::{LineStep, Lines};
 pub use shelves::{FileName, Papers, Shelf};
 pub use sinks::{BytesOut, Silent, Sink};

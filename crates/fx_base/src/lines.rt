@@ -11,7 +11,8 @@ ghost use Rattle.fx_base.specs.Causes.{Rose};
 use crate::cuts::{line_end, line_in, mark_len};
 use crate::fetch::{Fetched, fetch};
 use crate::held::Held;
-use crate::{LineFault, Memory, Sink, Source};
+use crate::{LineFault, Sink, Source};
+use fx_num::Memory;
 use std::alloc::Global;
 use std::marker::Model;
 
@@ -83,9 +84,7 @@ impl Lines {
           is_ended = false;
         }) }
     {
-        let Ok(held) = Held::new(alloc) else {
-            return Err(Memory);
-        };
+        let held = Held::new(alloc)?;
         Ok(Lines {
             held,
             from: 0,

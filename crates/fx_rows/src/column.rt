@@ -1,5 +1,5 @@
 //! A column that is found by its name alone, as that of the units.
-ghost use Rattle.std.specs.Prelude.{◌≡◌, ◌≤◌, ◌+◌, map, length, IfOk};
+ghost use Rattle.std.specs.Prelude.{◌≡◌, ◌≤◌, ◌+◌, map, length, IfOk, if◌then◌else◌};
 ghost use Rattle.csv.specs.Records.{fields_of};
 ghost use Rattle.fx_model.specs.Limits.{line_limit};
 ghost use Rattle.fx_rows.specs.Blanks.{without_blanks};

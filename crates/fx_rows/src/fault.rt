@@ -2,7 +2,7 @@
 //!
 //! A fault of the line as a whole comes before those of its inputs, and these in declared order. The trap: want of
 //! memory may come at any point of a call and is no fault of the line, so it has the input 0.
-ghost use Rattle.std.specs.Prelude.{◌≡◌, ◌≤◌, false, IfNone, nat_lt, length, Some, None};
+ghost use Rattle.std.specs.Prelude.{◌≡◌, ◌≤◌, false, IfNone, nat_lt, length, Some, None, if◌then◌else◌};
 ghost use Rattle.std.specs.List.{list_any};
 ghost use Rattle.fx_model.specs.Limits.{line_limit};
 ghost use Rattle.fx_fields.specs.Line.{is_return};

@@ -15,10 +15,11 @@ ghost use Rattle.fx_run.specs.Steps.{CanStep};
 use crate::held::HeldStep;
 use crate::law::rows_law;
 use crate::step::CertifiedStep;
-use fx_base::{Memory, Sink, Source};
+use fx_base::{Sink, Source};
 use fx_checker::Certified;
 use fx_lanes::{NarrowLanes, SideBySide, WideLanes};
 use fx_machine::Registers;
+use fx_num::Memory;
 use fx_rows::RowFault;
 use fx_stream::run_steps;
 use fx_word::widths;
@@ -38,13 +39,11 @@ fn first_step<'a, const B: u32>(
     ensures start { IfOk result (λ s. s.registers.states ≡ start_words certified.now.program.codes) }
 {
     certified.certified();
-    match Registers::<B>::new(alloc, certified.program()) {
-        Ok(registers) => Ok(CertifiedStep {
-            certified,
-            registers,
-        }),
-        Err(_) => Err(Memory),
-    }
+    let registers = Registers::<B>::new(alloc, certified.program())?;
+    Ok(CertifiedStep {
+        certified,
+        registers,
+    })
 }
 
 // `run_rows` of a program that may have states, at its width: row by row.

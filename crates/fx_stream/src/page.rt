@@ -10,8 +10,9 @@ ghost use Rattle.fx_base.specs.Causes.{HasCause};
 ghost use Rattle.fx_base.specs.Calls.{AppendsFront};
 ghost use Rattle.fx_stream.specs.Rooms.{HasRoom, page_room};
 
-use fx_base::{Failed, Memory, Sink, put_all};
+use fx_base::{Failed, Sink, put_all};
 use fx_fraction::decimal_text;
+use fx_num::Memory;
 use std::alloc::Global;
 use std::marker::Model;
 
@@ -70,9 +71,7 @@ impl Page {
     pub fn new(alloc: Global) -> Result<Page, Memory>
         ensures { IfOk result (λ page. page ≡ []) }
     {
-        let Ok(block) = vec![in alloc; 0; BLOCK] else {
-            return Err(Memory);
-        };
+        let block = vec![in alloc; 0; BLOCK]?;
         Ok(Page { block, used: 0 })
     }
 
