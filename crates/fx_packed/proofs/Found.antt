@@ -22,7 +22,7 @@ found {b} {s} {k} {p} {n} law bank view lt ep en =
     let placed = law ns bs k bank.known (le_of_eq bank.size) inside in
     let place : p ≡ place_of ns k = ep ∙ ap (λ (t : Stored). place_of t.widths k) (sym view) in
     let width : n ≡ at 0 ns k = en ∙ ap (λ (t : Stored). at 0 t.widths k) (sym view) in
-    let within : place_of ns k + at 0 ns k / 8 ≤ length bs = (let w = placed.within in let e = bank.size in omega arith) in
+    let within : place_of ns k + at 0 ns k / 8 ≤ length bs = omega (arith, placed.within, bank.size) in
     let narrow : place_of ns k + n / 8 ≤ length bs =
     subst (λ (m : ℕ). place_of ns k + m / 8 ≤ length bs) (sym width) within in
     record {
