@@ -247,7 +247,8 @@ unfolding single_at
 single_ok end word b ts x p s e = on_ok _ _ x e (λ y ye e. on_if (is_high y.0) _ _ x e (λ on e. absurd cc) (λ off e.
     let r = read_ok end b true ts y p s ye in
     let g = good_tree _ _ _ y.0.tree y.0.height y.0.nodes r.0 off in
-    subst (λ (z : Results × Tokens). ((length z.0.trees ≡ 1) × AreResults b z.0) × AreSound z.1) (same_ok (_, y.1) x e) (
+    subst (λ (z : Results × Tokens). ((length z.0.trees ≡ 1) × AreResults b z.0) × AreSound z.1)
+    (same_ok (_, y.1) x e) (
       (
         refl,
         record {

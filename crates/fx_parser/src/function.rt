@@ -3,8 +3,8 @@ ghost use Rattle.std.specs.Prelude.{◌≡◌, ◌≤◌, ◌<◌, ◌+◌, ◌-
 ghost use Rattle.fx_lexer.specs.Faults.{GivesParsed};
 ghost use Rattle.fx_cursor.specs.Texts.{all_texts};
 ghost use Rattle.fx_cursor.specs.Views.{lexemes};
-ghost use Rattle.fx_requirements.specs.Views.{subject_of, subjects_of};
-ghost use Rattle.fx_parser.specs.Views.{source_function_of, front_value, body_value, results_value, HasBodyRoom, bounded};
+ghost use Rattle.fx_requirements.specs.Views.{demand_value, subject_of, subjects_of};
+ghost use Rattle.fx_parser.specs.Views.{source_function_of, front_value, body_value, results_value, HasBodyRoom, bounded, ending_at};
 ghost use Rattle.fx_grammar.specs.Steps.{has_name, name_place};
 ghost use Rattle.fx_grammar.specs.Functions.{front_at, body_of, require_word_at, body_at};
 ghost use Rattle.fx_grammar.specs.Bodies.{count_of};
@@ -118,6 +118,22 @@ fn first_body<'a>(alloc: Global, names: Names<'a>, inputs: usize, states: usize)
     }
 }
 
+// The brace that closes a body, and the demands behind it, where the function has so many outputs.
+#[tactic(auto, unfolding(crate::specs::Views::ending_at))]
+fn ending<'t, 'a>(
+    alloc: Global,
+    end: u32,
+    outputs: usize,
+    tokens: &'t [Token<'a>],
+) -> Parsed<'t, 'a, Vec<Demanded<'a>>>
+    ensures value { GivesParsed (λ x. (map demand_value x.0.items, lexemes x.1.now)) result
+        (ending_at end outputs (lexemes tokens.now)) }
+    ensures shorter { IfOk result (λ x. length x.1.now ≤ length tokens.now) }
+{
+    let (_, rest) = want(end, Head::CloseBrace, past_semicolon(tokens))?;
+    maybe_ensuring(alloc, end, outputs, rest)
+}
+
 /// From the `require` on.
 #[tactic(auto, unfolding(fx_grammar::specs::Functions::body_at))]
 pub fn read_body<'t, 'a>(
@@ -145,13 +161,13 @@ pub fn read_body<'t, 'a>(
     let rest = require_word(end, &subjects, tokens)?;
     let count = subjects.len();
     let (inputs, rest) = require(end, subjects, rest)?;
-    let start = first_body(alloc, names, count, states.len());
+    let kept = states.len();
+    let start = first_body(alloc, names, count, kept);
     let (known, rest) = vals(alloc, end, start, rest)?;
     let (results, rest) = outcome(alloc, end, word, reals, &known, rest)?;
-    let (_, rest) = want(end, Head::CloseBrace, past_semicolon(rest))?;
-    let (demands, rest) = maybe_ensuring(alloc, end, reals - states.len(), rest)?;
+    let (demands, rest) = ending(alloc, end, reals - kept, rest)?;
     let Results { trees, nodes } = results;
-    let total = count + states.len() + trees.len() + nodes as usize;
+    let total = count + kept + trees.len() + nodes as usize;
     let Body { temps, .. } = known;
     let source_function = SourceFunction {
         name,
