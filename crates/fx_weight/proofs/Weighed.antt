@@ -26,7 +26,8 @@ module _ (n : ℕ) (fn : Function) (nodes : List Node) (ws vs : List Weight) (i 
   pub in_place : IsInPlace (length fn.inputs) (length fn.states) (length vs) (node_of x)
   in_place =
       let own = subst (IsInPlace (length fn.inputs) (length fn.states) i) here.1
-      (ordered_at (length fn.inputs) (length fn.states) i (nodes_of fn) (node_of x) (node_list fn valid).ordered here.0) in
+      (ordered_at (length fn.inputs) (length fn.states) i (nodes_of fn) (node_of x) (node_list fn valid).ordered
+      here.0) in
       let long : length vs ≡ i = ap length handed ∙ sym (length-map ws weight_of) ∙ walked.count in
       subst (λ (k : ℕ). IsInPlace (length fn.inputs) (length fn.states) k (node_of x)) (sym long) own
 
