@@ -133,8 +133,8 @@ fn shifts(points: &[i32], a: u32, b: u32, f: i32, width: u32) -> Option<(i32, i3
     Some((sa, sb))
 }
 
-/// The code of a node at the point `f`, in words of `width` bits, where `points` are all points and `w` is the word of a
-/// literal or a state. None where an operand has no point, where a negation's isn't `f`, and where no code has such a
+/// The code of a node at the point `f`, in words of `width` bits, where `points` are all points and `w` is the word of
+/// a literal or a state. None where an operand has no point, where a negation's isn't `f`, and where no code has such a
 /// shift.
 pub fn code_at(
     node: &Node,
