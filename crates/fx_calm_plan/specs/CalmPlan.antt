@@ -4,15 +4,15 @@ use Rattle.fx_rational.specs.Rational.{scaled, floor}
 use Rattle.fx_rational.specs.Interval.{Interval}
 use Rattle.fx_model.specs.Tree.{at}
 use Rattle.fx_model.specs.Function as function
-use Rattle.fx_model.specs.Function.{Function, outputs}
+use Rattle.fx_model.specs.Function.{Function}
 use Rattle.fx_model.specs.Machine as machine
-use Rattle.fx_model.specs.LawfulProgram.{first_version}
 use Rattle.fx_model.specs.Machine.{Round, Code, Program}
 use Rattle.fx_model.specs.Nodes.{Node, Input, State, Const, Neg, Add, Sub, Mul, Div, Copy, nodes_of}
 use Rattle.fx_inequalities.specs.NodeConditions.{no_input}
 use Rattle.fx_inequalities.specs.Accepted.{start_of}
 use Rattle.fx_inequalities.specs.Certificate.{Certificate, NodeLine, Template, StartBox}
 use Rattle.fx_inequalities.specs.LawfulCertificate.{unit_vector}
+use Rattle.fx_lowering.specs.OfFunction.{program_for}
 use Rattle.fx_grid.specs.Grid.{lowest_dyadic}
 use Rattle.fx_sizes.specs.Powers.{magnitude}
 use Rattle.fx_calm_numbers.specs.Calm.{Numbers, numbers_of}
@@ -54,16 +54,7 @@ calm_code r fn f (Div a b) = machine.Div a b 0
 calm_code r fn f (Copy a) = machine.Copy machine.Floor a (pos 0)
 
 abbrev pub calm_program : ℕ → Round → Function → Program
-calm_program n r fn = let c = numbers_of n fn in
-    record {
-      version = first_version r;
-      width = n;
-      name = fn.name;
-      inputs = length fn.inputs;
-      states = length fn.states;
-      outputs = outputs fn;
-      codes = map (calm_code r fn c.f) (nodes_of fn);
-    }
+calm_program n r fn = let c = numbers_of n fn in program_for n r fn (map (calm_code r fn c.f) (nodes_of fn))
 
 -- ---- the certificate
 -- from -r to r units, each end in its one spelling

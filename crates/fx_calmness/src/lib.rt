@@ -13,6 +13,6 @@ mod size;
 mod sum;
 mod terms;
 
-pub use limit::{start_at, state_count};
+pub use limit::start_at;
 pub use numbers::{Numbers, find_numbers};
 pub use size::{Size, reach, size_of, size_of_decimal, units};

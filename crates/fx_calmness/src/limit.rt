@@ -19,9 +19,10 @@ use crate::size::{Size, is_below, reach, size_of_decimal, units};
 use crate::sum::Sum;
 use crate::terms::{literals_below, put_terms};
 use fx_expr::{Expr, Function, Input};
+use fx_lowering::{input_count, output_count, state_count};
 use fx_num::{Memory, two_to};
 use fx_sums::{Part, adds_up_to};
-use fx_weight::{input_at, input_count, output_count};
+use fx_weight::input_at;
 
 /// What is limited.
 #[derive(Clone, Copy, Debug, PartialEq, Eq)]
@@ -68,14 +69,6 @@ fn result_count(function: &Function, sum: Sum) -> u32
         Sum::Adds => result_total(function).saturating_sub(output_count(function)),
         Sum::Values { .. } => output_count(function),
     }
-}
-
-/// How many states there are.
-pub fn state_count(function: &Function) -> u32
-    ensures { result ≡ length function.now.states }
-{
-    function.keeps();
-    function.states.len() as u32
 }
 
 /// How many things are limited.

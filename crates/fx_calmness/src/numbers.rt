@@ -10,17 +10,18 @@ ghost use Rattle.fx_model.specs.LawfulProgram.{widths};
 ghost use Rattle.fx_sizes.specs.Demands.{allows};
 ghost use Rattle.fx_calm_numbers.specs.Calm.{is_short};
 ghost use Rattle.fx_calmness.specs.declared.limit.Limit.TheVariants.{Inputs, Literals};
-ghost use Rattle.fx_calmness.specs.LimitOf.{IsLeastOfBoth};
+ghost use Rattle.fx_calmness.specs.LimitOf.{IsLeastOfBoth, IsTame};
 ghost use Rattle.fx_calmness.specs.NumbersOf.{numbers_view, calm_numbers, has_form, HasExponents};
 
 use crate::least::{least, least_of_both};
-use crate::limit::{Limit, result_at, result_total, state_count};
+use crate::limit::{Limit, result_at, result_total};
 use crate::sum::Sum;
 use crate::terms::is_short;
 use fx_expr::Function;
+use fx_lowering::{output_count, state_count};
 use fx_num::Memory;
 use fx_sums::Part;
-use fx_weight::{allows, demand_at, output_count};
+use fx_weight::{allows, demand_at};
 use std::alloc::Global;
 
 /// The numbers of a calm function: exponents of powers of two, but for the point.
@@ -176,6 +177,7 @@ fn of_tame(
     requires form { has_form function.now ≡ true }
     requires low { IsLeastOfBoth function.now Inputs Literals 2 25 low }
     requires few { low ≤ 25 }
+    requires tame { IsTame function.now }
     ensures { IfOk result (λ o. option_map numbers_view o ≡ calm_numbers width function.now) }
 {
     function.keeps();

@@ -2,15 +2,8 @@ use Rattle.std.proofs.Common.{ℕ, ◌+◌, subst, arith}
 use Rattle.fx_calmness.specs.declared.sum.Sum.TheVariants.{Values}
 use Rattle.fx_calmness.specs.declared.limit.Limit.TheVariants.{Sums}
 use Rattle.fx_calmness.specs.LimitOf.{IsLeast, count_of}
-use Rattle.fx_calmness.proofs.Found.{none_is, tame, not_contracting, not_started, starts_are, not_sized, not_valued, exponents}
+use Rattle.fx_calmness.proofs.Found.{none_is, not_contracting, not_started, starts_are, not_sized, not_valued, exponents}
 use Rattle.fx_calmness.proofs.numbers.of_tame.Goals as goal
-
-pub least-requires-clause-ready : goal.least-requires-clause-ready
-least-requires-clause-ready c = (
-  tame c.args.width c.args.function.now c.requires.width c.keeps.ensures c.args.low c.requires.form c.requires.low
-      c.requires.few,
-  tt,
-)
 
 pub returns-then-branch-gt0 : goal.returns-then-branch-gt0
 returns-then-branch-gt0 c =
@@ -19,26 +12,12 @@ returns-then-branch-gt0 c =
     (not_contracting c.args.width c.args.function.now c.requires.width c.keeps.ensures c.in_ok-least.field-0
     c.in_ok-least.ensures (omega (arith, t)))
 
-pub least_of_both-requires-clause-other : goal.least_of_both-requires-clause-other
-least_of_both-requires-clause-other c = (
-  tame c.args.width c.args.function.now c.requires.width c.keeps.ensures c.args.low c.requires.form c.requires.low
-      c.requires.few,
-  tt,
-)
-
 pub returns-then-q-gt23 : goal.returns-then-q-gt23
 returns-then-q-gt23 c =
     let t = c.if-q-gt23.true in
     none_is c.args.width c.args.function.now
     (not_started c.args.width c.args.function.now c.requires.width c.keeps.ensures c.in_ok-q.q c.in_ok-q.ensures
     (omega (arith, t)))
-
-pub least-requires-2-clause-ready : goal.least-requires-2-clause-ready
-least-requires-2-clause-ready c = (
-  tame c.args.width c.args.function.now c.requires.width c.keeps.ensures c.args.low c.requires.form c.requires.low
-      c.requires.few,
-  tt,
-)
 
 pub returns-then-a-gt56 : goal.returns-then-a-gt56
 returns-then-a-gt56 c =
@@ -48,12 +27,7 @@ returns-then-a-gt56 c =
     (omega (arith, t)))
 
 pub least-requires-3-clause-ready : goal.least-requires-3-clause-ready
-least-requires-3-clause-ready c =
-    let q = c.if-q-gt23.false in (
-      tame c.args.width c.args.function.now c.requires.width c.keeps.ensures c.args.low c.requires.form c.requires.low
-          c.requires.few,
-      omega (arith, q),
-    )
+least-requires-3-clause-ready c = let q = c.if-q-gt23.false in (c.requires.tame, omega (arith, q))
 
 pub returns-then-w-gt25 : goal.returns-then-w-gt25
 returns-then-w-gt25 c =
@@ -63,10 +37,8 @@ returns-then-w-gt25 c =
     (starts_are c.args.width fn c.requires.width c.keeps.ensures c.in_ok-q.q c.in_ok-q.ensures
     (omega (arith, few))) c.requires.low
     (subst (λ (k : ℕ). IsLeast fn (Sums (Values (c.in_ok-q.q + 2))) k 25
-    (count_of fn (Sums (Values (c.in_ok-q.q + 2)))) c.in_ok-w.w) c.max.ensures c.in_ok-w.ensures) (omega (
-      arith,
-      t,
-    )))
+    (count_of fn (Sums (Values (c.in_ok-q.q + 2)))) c.in_ok-w.w) c.max.ensures c.in_ok-w.ensures)
+    (omega (arith, t)))
 
 pub with_errors-requires-clause-exponents : goal.with_errors-requires-clause-exponents
 with_errors-requires-clause-exponents c =
