@@ -6,6 +6,7 @@ pub mod Halves
 pub mod Ends
 pub mod LongDivision
 pub mod Trimmed
+pub mod Shortened
 pub mod Quotients
 pub mod Narrowest
 pub mod Settled

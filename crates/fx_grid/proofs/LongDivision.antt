@@ -1,5 +1,5 @@
 -- Floors of quotients by powers of two, as whole parts and binary places, and when they aren't short.
-use Rattle.std.proofs.Common.{◌≡◌, ℕ, zero, suc, ◌+◌, ◌-◌, ◌*◌, ◌/◌, ◌^◌, ◌<◌, ◌≤◌, ltb, Bool, true, false, if◌then◌else◌, ℤ, pos, negsuc, ◌+ℤ◌, ◌-ℤ◌, ◌*ℤ◌, [], ◌∷◌, refl, sym, ap, subst, ◌∙◌, arith, pow-add}
+use Rattle.std.proofs.Common.{◌≡◌, ℕ, zero, suc, ◌+◌, ◌-◌, ◌*◌, ◌/◌, ◌^◌, ◌<◌, ◌≤◌, ltb, Bool, true, false, if◌then◌else◌, ℤ, pos, negsuc, ◌+ℤ◌, ◌-ℤ◌, ◌*ℤ◌, [], ◌∷◌, refl, sym, ap, ap₂, Option, subst, ◌∙◌, arith, pow-add}
 use Rattle.std.specs.Prelude.{unsigned_abs}
 use Rattle.std.proofs.Math.Pow.{pow_mono}
 use Rattle.std.proofs.lemmas.Int.{ints, unsigned_abs-mul}
@@ -7,12 +7,13 @@ use Rattle.std.proofs.lemmas.Nat.{mul-le, pow_pos, div_below}
 use Rattle.std.proofs.Math.Nat.{mul-lt-mul_of_pos_right}
 use Rattle.fx_algebra.proofs.Integers.{*ℤ_assoc}
 use Rattle.fx_algebra.proofs.Quote.{by_quotes, quotes}
+use Rattle.fx_rational.specs.Dyadic.{Dyadic}
 use Rattle.fx_rational.specs.Rational.{floor_div}
 use Rattle.fx_rational.proofs.Floors.{floor_is, one_more_times}
 use Rattle.fx_model.specs.LawfulProgram.{IsPoint}
 use Rattle.fx_fraction.proofs.Halvings.{split_power}
 use Rattle.fx_grid.specs.Grid.{is_even, is_small, lowest_dyadic, error_grid}
-use Rattle.fx_grid.specs.Wide.{units_below}
+use Rattle.fx_grid.specs.Wide.{IsEnd, units_below}
 use Rattle.fx_grid.proofs.Grids.{half_of}
 use Rattle.fx_grid.proofs.Ends.{floor_only, whole_places}
 
@@ -218,3 +219,14 @@ pub twice_more : (v w : ℤ) (d r : ℕ) → v ≡ w *ℤ pos d +ℤ pos r → d
     v *ℤ pos 2 ≡ ((w +ℤ w) +ℤ pos 1) *ℤ pos d +ℤ pos ((r + r) - d)
 twice_more v w d r h le =
     let e = twice_less v w d r h in let m = one_more_times (w +ℤ w) (pos d) in omega (arith, ints, e, m, le)
+
+-- the end of twice the dividend, by a power less, is that of the power
+pub end_of_next : (x : Option Dyadic) (v f z : ℤ) (d t : ℕ) → 0 < t → z ≡ f →
+    IsEnd x (lowest_dyadic (floor_div (((v *ℤ pos 2) *ℤ pos (2 ^ (t - 1))) *ℤ pos (2 ^ error_grid z)) d
+    -ℤ pos (units_below z)) (error_grid z)) →
+    IsEnd x (lowest_dyadic (floor_div ((v *ℤ pos (2 ^ t)) *ℤ pos (2 ^ error_grid f)) d -ℤ pos (units_below f))
+    (error_grid f))
+end_of_next x v f z d t some same =
+    let end = λ (g y : ℤ). lowest_dyadic (floor_div (y *ℤ pos (2 ^ error_grid g)) d -ℤ pos (units_below g))
+    (error_grid g) in
+    subst (IsEnd x) (ap₂ end same (power_step v t some))

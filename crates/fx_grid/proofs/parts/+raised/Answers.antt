@@ -6,7 +6,7 @@ use Rattle.fx_rational.specs.Rational.{floor_div}
 use Rattle.fx_grid.specs.Grid.{lowest_dyadic, error_grid}
 use Rattle.fx_grid.specs.Wide.{IsEnd, units_below}
 use Rattle.fx_grid.proofs.Casts.{back}
-use Rattle.fx_grid.proofs.LongDivision.{far_raised, raised_zero, power_step, twice_less, twice_more}
+use Rattle.fx_grid.proofs.LongDivision.{far_raised, raised_zero, twice_less, twice_more, end_of_next}
 use Rattle.fx_grid.proofs.parts.+raised.Goals as goal
 
 pub returns-then-not-is_near : goal.returns-then-not-is_near
@@ -33,30 +33,18 @@ returns-then-t-eq0 t c = λ v h.
 
 pub returns-then-left-d : goal.returns-then-left-d
 returns-then-left-d t c = λ v h.
-    let f = c.args.point in let f32 : to_z w32 (of_z w32 f) ≡ f = to_z-of_z w32 f c.ranges.point in
-    let n = c.if-t-eq0.false in
-    subst (λ (y : ℤ). IsEnd c.raised.result
-    (lowest_dyadic (floor_div (y *ℤ pos (2 ^ error_grid f)) c.args.d -ℤ pos (units_below f)) (error_grid f)))
-    (power_step v c.args.t (omega (arith, n)))
-    (subst (λ (z : ℤ). IsEnd c.raised.result
-    (lowest_dyadic (floor_div (((v *ℤ pos 2) *ℤ pos (2 ^ (c.args.t - 1))) *ℤ pos (2 ^ error_grid z)) c.args.d -ℤ pos
-    (units_below z)) (error_grid z))) f32
-    (let fw : FitsSigned w128 c.twice_more.result = search rules in
-    let w = back fw ∙ c.twice_more.ensures ∙ ap (λ (z : ℤ). (z +ℤ z) +ℤ pos 1) (back c.ranges.w) in
-    c.raised.ensures (v *ℤ pos 2) (twice_more v c.args.w c.args.d c.args.r h c.if-left-d.true
-    ∙ ap (λ (z : ℤ). z *ℤ pos c.args.d +ℤ pos ((c.args.r + c.args.r) - c.args.d)) (sym w))))
+    let n = c.if-t-eq0.false in let twice : FitsSigned w128 c.twice_more.result = search rules in
+    let w = back twice ∙ c.twice_more.ensures ∙ ap (λ (z : ℤ). (z +ℤ z) +ℤ pos 1) (back c.ranges.w) in
+    end_of_next c.raised.result v c.args.point _ c.args.d c.args.t (omega (arith, n))
+    (to_z-of_z w32 c.args.point c.ranges.point)
+    (c.raised.ensures (v *ℤ pos 2) (twice_more v c.args.w c.args.d c.args.r h c.if-left-d.true
+    ∙ ap (λ (z : ℤ). z *ℤ pos c.args.d +ℤ pos ((c.args.r + c.args.r) - c.args.d)) (sym w)))
 
 pub returns : goal.returns
 returns t c = λ v h.
-    let f = c.args.point in let f32 : to_z w32 (of_z w32 f) ≡ f = to_z-of_z w32 f c.ranges.point in
-    let n = c.if-t-eq0.false in
-    subst (λ (y : ℤ). IsEnd c.raised-2.result
-    (lowest_dyadic (floor_div (y *ℤ pos (2 ^ error_grid f)) c.args.d -ℤ pos (units_below f)) (error_grid f)))
-    (power_step v c.args.t (omega (arith, n)))
-    (subst (λ (z : ℤ). IsEnd c.raised-2.result
-    (lowest_dyadic (floor_div (((v *ℤ pos 2) *ℤ pos (2 ^ (c.args.t - 1))) *ℤ pos (2 ^ error_grid z)) c.args.d -ℤ pos
-    (units_below z)) (error_grid z))) f32
-    (let fw : FitsSigned w128 c.twice.result = search rules in
-    let w = back fw ∙ c.twice.ensures.value ∙ ap (λ (z : ℤ). z +ℤ z) (back c.ranges.w) in
-    c.raised-2.ensures (v *ℤ pos 2) (twice_less v c.args.w c.args.d c.args.r h
-    ∙ ap (λ (z : ℤ). z *ℤ pos c.args.d +ℤ pos (c.args.r + c.args.r)) (sym w))))
+    let n = c.if-t-eq0.false in let twice : FitsSigned w128 c.twice.result = search rules in
+    let w = back twice ∙ c.twice.ensures.value ∙ ap (λ (z : ℤ). z +ℤ z) (back c.ranges.w) in
+    end_of_next c.raised-2.result v c.args.point _ c.args.d c.args.t (omega (arith, n))
+    (to_z-of_z w32 c.args.point c.ranges.point)
+    (c.raised-2.ensures (v *ℤ pos 2) (twice_less v c.args.w c.args.d c.args.r h
+    ∙ ap (λ (z : ℤ). z *ℤ pos c.args.d +ℤ pos (c.args.r + c.args.r)) (sym w)))
