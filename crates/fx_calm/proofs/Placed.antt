@@ -1,5 +1,5 @@
 -- The plan's numbers in code: bounds have 61 bits, and words 64.
-use Rattle.std.proofs.Common.{◌≡◌, ℕ, ◌+◌, ◌^◌, ◌≤◌, List, [], ◌∷◌, length, ℤ, pos, negsuc, neg_ℤ, ◌≤ℤ◌, ◌-ℤ◌, FitsSigned, subst, ◌∙◌, arith}
+use Rattle.std.proofs.Common.{◌≡◌, ℕ, ◌+◌, ◌^◌, ◌≤◌, List, [], ◌∷◌, length, map, ℤ, pos, negsuc, neg_ℤ, ◌≤ℤ◌, ◌-ℤ◌, FitsSigned, ap, subst, ◌∙◌, arith}
 use Rattle.std.specs.Prelude.{All, Contains}
 use Rattle.std.specs.Int.{w64}
 use Rattle.std.proofs.lemmas.Int.{ints}
@@ -7,9 +7,11 @@ use Rattle.std.proofs.lemmas.List.Elements.{All-nil, All-cons, All-from_get_or}
 use Rattle.fx_rational.specs.Rational.{Rational, floor, scaled}
 use Rattle.fx_model.specs.Function.{Function}
 use Rattle.fx_model.specs.LawfulProgram.{widths}
+use Rattle.fx_model.specs.Machine.{Round, Code}
 use Rattle.fx_model.specs.Nodes.{Node, Input, State, Const, Neg, Add, Sub, Mul, Div, Copy, nodes_of}
 use Rattle.fx_model.proofs.Widths.{width_of}
 use Rattle.fx_inequalities.specs.Accepted.{start_of}
+use Rattle.fx_lowering.specs.OfFunction.{program_for}
 use Rattle.fx_sizes.specs.Powers.{magnitude}
 use Rattle.fx_sizes.proofs.Powers.{power_more}
 use Rattle.fx_sizes.proofs.Values.{magnitude_nonneg}
@@ -18,7 +20,7 @@ use Rattle.fx_calm_numbers.specs.Calm.{Numbers, numbers_of, IsCalm}
 use Rattle.fx_calm_numbers.specs.Bounds.{Bound, no_bound, units_up, const_bound}
 use Rattle.fx_calm_numbers.proofs.Calmness.{room}
 use Rattle.fx_calm_numbers.proofs.Rounded.{units_above}
-use Rattle.fx_calm_plan.specs.CalmPlan.{bounds_of}
+use Rattle.fx_calm_plan.specs.CalmPlan.{bounds_of, calm_code, calm_program}
 use Rattle.fx_calm_plan.specs.Laws.{IsNarrowFunction}
 use Rattle.fx_calm_plan.proofs.Folded.{IsNodeBound}
 use Rattle.fx_calm_plan.proofs.Limited.{limited}
@@ -98,3 +100,10 @@ module _ (n : ℕ) (fn : Function) (some : Contains widths n) (narrow : IsNarrow
 
   pub words : All (HasWord fn c.f) (nodes_of fn)
   words = all_words 0 (nodes_of fn) bs (pairs n fn some narrow calm)
+
+-- the program of codes that are the plan's is the plan's
+pub program_is : (n : ℕ) (r : Round) (fn : Function) (f : ℕ) (cs : List Code) (nodes : List Node) →
+    f ≡ (numbers_of n fn).f → nodes ≡ nodes_of fn → cs ≡ map (calm_code r fn f) nodes →
+    program_for n r fn cs ≡ calm_program n r fn
+program_is n r fn f cs nodes point same is =
+    ap (program_for n r fn) (is ∙ (λ j. map (calm_code r fn (point j)) (same j)))

@@ -12,11 +12,12 @@ ghost use Rattle.fx_calm_plan.specs.CalmPlan.{units, calm_line, calm_start, unit
 ghost use Rattle.fx_calm.specs.BoundOf.{bound_of, bounds_in, HaveShortStarts};
 
 use crate::bound::Bound;
-use fx_calmness::{start_at, state_count, units};
+use fx_calmness::{start_at, units};
 use fx_cert::{NodeLine, StartBox, Template, unit_vector};
 use fx_expr::{Function, Items};
 use fx_grid::up_quotient;
 use fx_interval::Interval;
+use fx_lowering::state_count;
 use fx_num::{Dyadic, Memory};
 use std::alloc::Global;
 

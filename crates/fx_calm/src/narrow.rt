@@ -8,11 +8,12 @@ ghost use Rattle.fx_flat.specs.NodeOf.{node_of, nodes_in};
 ghost use Rattle.fx_sizes.specs.Narrow.{IsNarrowNumber, IsNarrowState, IsNarrowNode, IsNarrowDemand};
 ghost use Rattle.fx_calm_plan.specs.Laws.{IsNarrowFunction};
 
-use fx_calmness::{size_of, size_of_decimal, start_at, state_count};
+use fx_calmness::{size_of, size_of_decimal, start_at};
 use fx_expr::{Demand, Function};
 use fx_flat::Node;
 use fx_fraction::Decimal;
-use fx_weight::{demand_at, narrow_inputs, output_count};
+use fx_lowering::{output_count, state_count};
+use fx_weight::{demand_at, narrow_inputs};
 
 /// The starts of all states.
 fn narrow_states(function: &Function)

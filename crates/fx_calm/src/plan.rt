@@ -1,12 +1,11 @@
 //! The calm plan of a calm function.
 
-ghost use Rattle.std.specs.Prelude.{◌≡◌, map, All, Contains, IfOk, OnOk, IfErr};
-ghost use Rattle.fx_model.specs.LawfulProgram.{widths, IsLawfulProgram};
-ghost use Rattle.fx_model.specs.Nodes.{nodes_of};
-ghost use Rattle.fx_program.specs.CodeView.{round_of, code_of};
+ghost use Rattle.std.specs.Prelude.{◌≡◌, Contains, IfOk, OnOk, IfErr};
+ghost use Rattle.fx_model.specs.LawfulProgram.{widths};
+ghost use Rattle.fx_program.specs.CodeView.{round_of};
 ghost use Rattle.fx_cert.specs.CertificateView.{certificate_of};
 ghost use Rattle.fx_calm_numbers.specs.Calm.{numbers_of, IsCalm};
-ghost use Rattle.fx_calm_plan.specs.CalmPlan.{calm_code, calm_program, calm_certificate, bounds_of};
+ghost use Rattle.fx_calm_plan.specs.CalmPlan.{calm_program, calm_certificate, bounds_of};
 ghost use Rattle.fx_calm_plan.specs.Laws.{IsNarrowFunction};
 ghost use Rattle.fx_calm.specs.declared.fault.CalmFault.TheVariants as fault;
 ghost use Rattle.fx_calmness.specs.NumbersOf.{numbers_view};
@@ -18,36 +17,14 @@ use crate::fault::CalmFault;
 use crate::line::{lines, span, starts, templates};
 use crate::narrow::narrow_function;
 use crate::walk::bounds;
-use fx_calmness::{Numbers, find_numbers, state_count};
+use fx_calmness::{Numbers, find_numbers};
 use fx_cert::Certificate;
 use fx_expr::{Function, Items};
 use fx_flat::flatten;
+use fx_lowering::{input_count, program_for, state_count};
 use fx_num::Memory;
-use fx_program::{Code, Program, Round};
-use fx_weight::{input_count, output_count};
+use fx_program::{Program, Round};
 use std::alloc::Global;
-
-/// The program of these codes.
-fn program(
-    alloc: Global,
-    function: &Function,
-    width: u32,
-    round: Round,
-    codes: Vec<Code>,
-) -> Result<Program, Memory>
-    requires lawful { IsLawfulProgram (calm_program width (round_of round) function.now) }
-    requires codes { map code_of codes.items
-        ≡ map (calm_code (round_of round) function.now (numbers_of width function.now).f) (nodes_of function.now) }
-    ensures { IfOk result (λ p. p ≡ calm_program width (round_of round) function.now) }
-{
-    function.keeps();
-    let name = function.name.copy(alloc)?;
-    let inputs = input_count(function);
-    let states = state_count(function);
-    let outputs = output_count(function);
-    let version = round.first_version();
-    Program::new(alloc, version, width, name, inputs, states, outputs, codes)
-}
 
 /// The certificate of these bounds.
 fn certificate(
@@ -98,7 +75,7 @@ fn plan_of(
     narrow_function(function, nodes.list.as_slice());
     let bs = bounds(alloc, nodes.list.as_slice(), function, c)?;
     let codes = codes(alloc, nodes.list.as_slice(), function, c.f, round)?;
-    let program = program(alloc, function, width, round, codes)?;
+    let program = program_for(alloc, function, width, round, codes)?;
     let certificate = certificate(alloc, function, c, &bs)?;
     Ok((program, certificate))
 }

@@ -1,13 +1,14 @@
-use Rattle.std.proofs.Common.{◌∙◌, List, ap, sym, subst}
+use Rattle.std.proofs.Common.{◌∙◌, List, map, ap, sym, subst}
 use Rattle.std.specs.Prelude.{All}
+use Rattle.fx_model.specs.LawfulProgram.{IsLawfulProgram}
 use Rattle.fx_model.specs.Nodes.{Node, nodes_of}
 use Rattle.fx_flat.specs.NodeOf.{nodes_in}
-use Rattle.fx_program.specs.CodeView.{round_of}
+use Rattle.fx_program.specs.CodeView.{round_of, code_of}
 use Rattle.fx_calm_numbers.specs.Calm.{Numbers}
 use Rattle.fx_calm_plan.specs.CalmPlan.{bounds_of}
 use Rattle.fx_calm_plan.proofs.Planned.{plan_is}
 use Rattle.fx_calm.specs.BoundOf.{IsShort, HasPlace, HasWord, HaveShortStarts}
-use Rattle.fx_calm.proofs.Placed.{place, short, short_starts, words}
+use Rattle.fx_calm.proofs.Placed.{place, short, short_starts, words, program_is}
 use Rattle.fx_calm.proofs.plan.plan_of.Goals as goal
 
 pub bounds-requires-clause-place : goal.bounds-requires-clause-place
@@ -38,8 +39,13 @@ codes-requires-clause-words c =
     (sym c.requires.numbers)
     (words c.args.width c.args.function.now c.requires.width c.narrow_function.ensures c.requires.calm))
 
-pub program-requires-clause-lawful : goal.program-requires-clause-lawful
-program-requires-clause-lawful c =
+pub program_for-requires : goal.program_for-requires
+program_for-requires c =
+    subst IsLawfulProgram
+    (sym (program_is c.args.width (round_of c.args.round) c.args.function.now c.args.c.f
+    (map code_of c.in_ok-codes.codes.items) (nodes_in c.as_slice-3.result.now)
+    (ap (λ (n : Numbers). n.f) c.requires.numbers) (ap nodes_in c.as_slice-3.ensures ∙ c.in_ok-nodes.ensures.list)
+    c.in_ok-codes.ensures))
     (plan_is c.args.width (round_of c.args.round) c.args.function.now c.requires.width c.narrow_function.ensures
     c.requires.calm).program
 
@@ -52,3 +58,10 @@ pub certificate-requires-clause-starts : goal.certificate-requires-clause-starts
 certificate-requires-clause-starts c =
     subst (λ (n : Numbers). HaveShortStarts c.args.function.now n.f) (sym c.requires.numbers)
     (short_starts c.args.width c.args.function.now c.requires.width c.narrow_function.ensures c.requires.calm)
+
+pub returns-clause-program : goal.returns-clause-program
+returns-clause-program c = c.in_ok-program.ensures
+    ∙ program_is c.args.width (round_of c.args.round) c.args.function.now c.args.c.f
+    (map code_of c.in_ok-codes.codes.items) (nodes_in c.as_slice-3.result.now)
+    (ap (λ (n : Numbers). n.f) c.requires.numbers) (ap nodes_in c.as_slice-3.ensures ∙ c.in_ok-nodes.ensures.list)
+    c.in_ok-codes.ensures
