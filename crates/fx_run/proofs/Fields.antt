@@ -113,12 +113,18 @@ fields_length p ws lawful many =
     texts_length p.outputs (step_taken p ws).outputs (output_points p) (outputs_length p ws lawful many)
     (points_many p lawful)
 
-pub field_at : (p : Program) (ws : List ℤ) (j : ℕ) → IsLawfulProgram p → length ws ≡ length p.codes → j < p.outputs →
+field_at : (p : Program) (ws : List ℤ) (j : ℕ) → IsLawfulProgram p → length ws ≡ length p.codes → j < p.outputs →
     get_or (word_texts (step_taken p ws).outputs (output_points p)) j []
     ≡ decimal_text (at (pos 0) (step_taken p ws).outputs j) (at (pos 0) (output_points p) j)
 field_at p ws j lawful many lt =
     text_at p.outputs j (step_taken p ws).outputs (output_points p) (outputs_length p ws lawful many)
     (points_many p lawful) lt
+
+-- the text of output j, by its word and its point
+pub text_told : (p : Program) (ws : List ℤ) (j : ℕ) → IsLawfulProgram p → length ws ≡ length p.codes → j < p.outputs →
+    {w f : ℤ} → w ≡ at (pos 0) (step_taken p ws).outputs j → f ≡ at (pos 0) (output_points p) j
+    → get_or (word_texts (step_taken p ws).outputs (output_points p)) j [] ≡ decimal_text w f
+text_told p ws j lawful many lt word point = rw (word, point) (field_at p ws j lawful many lt)
 
 -- an output's point is one
 pub point_at : (p : Program) (j : ℕ) → IsLawfulProgram p → j < p.outputs → IsPoint (at (pos 0) (output_points p) j)

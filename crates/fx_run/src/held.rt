@@ -221,5 +221,6 @@ impl<'a, const B: u32, L: SideBySide<B>> RowStep for HeldStep<'a, B, L> {
         self.held = 0;
     }
 
-    ghost none = { λ s settled. nothing_held s.certified.now.program s.certified.now.program.inputs s.held s.rows.items settled };
+    ghost none = { λ s settled.
+        nothing_held s.certified.now.program s.certified.now.program.inputs s.held s.rows.items settled };
 }

@@ -1,13 +1,12 @@
-use Rattle.std.proofs.Common.{◌≡◌, ◌+◌, ◌<◌, ◌++◌, ℤ, pos, ap, sym, subst, ◌∙◌, drop, to_z, of_z, rules, arith}
+use Rattle.std.proofs.Common.{◌≡◌, ◌+◌, ◌<◌, ◌++◌, ap, sym, subst, ◌∙◌, drop, rules, arith}
 use Rattle.std.specs.Int.{w32, w64}
 use Rattle.std.proofs.lemmas.Bool.Decides.{nat_tests}
-use Rattle.fx_model.specs.Tree.{at}
+use Rattle.std.proofs.lemmas.Int.{to_z-of_z}
 use Rattle.fx_model.specs.Machine.{output_points}
 use Rattle.fx_model.specs.LawfulProgram.{IsPoint}
-use Rattle.fx_model.specs.WordText.{decimal_text}
 use Rattle.fx_model.specs.Page.{line_of, word_texts}
 use Rattle.fx_machine.specs.Steps.{step_taken}
-use Rattle.fx_run.proofs.Fields.{rest_of_line, field_put, no_field, all_fields, fields_length, field_at, point_at}
+use Rattle.fx_run.proofs.Fields.{rest_of_line, field_put, no_field, all_fields, fields_length, text_told, point_at}
 use Rattle.fx_run.proofs.words.put_words.Goals as goal
 
 pub loop-j-init : goal.loop-j-init
@@ -27,9 +26,8 @@ put_word-requires-clause-point g c =
     let p = c.args.program.now in
     let lt : c.loop-j.j < p.outputs =
     grind (arith, nat_tests, c.loop-j-test.true, c.output_count-count.ensures.value) in
-    let f : to_z w32 (of_z w32 c.output_at-word.result.1) ≡ at (pos 0) (output_points p) c.loop-j.j =
-    search (rules, c.output_at-word.ensures.point) in
-    subst IsPoint (sym f) (point_at p c.loop-j.j c.output_count-count.ensures.lawful lt)
+    let point = to_z-of_z w32 c.output_at-word.result.1 (search rules) ∙ c.output_at-word.ensures.point in
+    subst IsPoint (sym point) (point_at p c.loop-j.j c.output_count-count.ensures.lawful lt)
 
 pub loop-j-preserved : goal.loop-j-preserved
 loop-j-preserved g c =
@@ -39,13 +37,9 @@ loop-j-preserved g c =
     let count : c.output_count-count.result ≡ p.outputs = c.output_count-count.ensures.value in
     let lt : j < p.outputs = grind (arith, nat_tests, c.loop-j-test.true, count) in
     let below : j < c.output_count-count.result = omega (arith, lt, count) in
-    let f : to_z w32 (of_z w32 c.output_at-word.result.1) ≡ at (pos 0) (output_points p) j =
-    search (rules, c.output_at-word.ensures.point) in
-    let w : to_z w64 (of_z w64 c.output_at-word.result.0) ≡ at (pos 0) (step_taken p ws).outputs j =
-    search (rules, c.output_at-word.ensures.word) in
-    let text = field_at p ws j lawful c.requires.words lt
-    ∙ ap (λ (x : ℤ). decimal_text x (at (pos 0) (output_points p) j)) (sym w)
-    ∙ ap (decimal_text (to_z w64 (of_z w64 c.output_at-word.result.0))) (sym f) in
+    let word = to_z-of_z w64 c.output_at-word.result.0 (search rules) ∙ c.output_at-word.ensures.word in
+    let point = to_z-of_z w32 c.output_at-word.result.1 (search rules) ∙ c.output_at-word.ensures.point in
+    let text = text_told p ws j lawful c.requires.words lt word point in
     record {
       line = ap (λ t. t ++ rest_of_line (drop (j + 1) all)) c.put_word.ensures.written
           ∙ field_put all c.output_count-count.result j _ c.loop-j.page c.args.page.now
