@@ -1,12 +1,12 @@
 -- The plan's numbers in code: bounds have 61 bits, and words 64.
-use Rattle.std.proofs.Common.{◌≡◌, ℕ, ◌+◌, ◌^◌, ◌≤◌, List, [], ◌∷◌, length, map, ℤ, pos, negsuc, neg_ℤ, ◌≤ℤ◌, ◌-ℤ◌, FitsSigned, ap, subst, ◌∙◌, arith}
+use Rattle.std.proofs.Common.{◌≡◌, ℕ, ◌+◌, ◌^◌, ◌≤◌, List, [], ◌∷◌, length, map, ℤ, pos, negsuc, neg_ℤ, ◌≤ℤ◌, ◌-ℤ◌, FitsSigned, ap, sym, subst, ◌∙◌, arith}
 use Rattle.std.specs.Prelude.{All, Contains}
 use Rattle.std.specs.Int.{w64}
 use Rattle.std.proofs.lemmas.Int.{ints}
 use Rattle.std.proofs.lemmas.List.Elements.{All-nil, All-cons, All-from_get_or}
 use Rattle.fx_rational.specs.Rational.{Rational, floor, scaled}
 use Rattle.fx_model.specs.Function.{Function}
-use Rattle.fx_model.specs.LawfulProgram.{widths}
+use Rattle.fx_model.specs.LawfulProgram.{IsLawfulProgram, widths}
 use Rattle.fx_model.specs.Machine.{Round, Code}
 use Rattle.fx_model.specs.Nodes.{Node, Input, State, Const, Neg, Add, Sub, Mul, Div, Copy, nodes_of}
 use Rattle.fx_model.proofs.Widths.{width_of}
@@ -24,6 +24,7 @@ use Rattle.fx_calm_plan.specs.CalmPlan.{bounds_of, calm_code, calm_program}
 use Rattle.fx_calm_plan.specs.Laws.{IsNarrowFunction}
 use Rattle.fx_calm_plan.proofs.Folded.{IsNodeBound}
 use Rattle.fx_calm_plan.proofs.Limited.{limited}
+use Rattle.fx_calm_plan.proofs.Planned.{plan_is}
 use Rattle.fx_calm_plan.proofs.Values.{word_up_to}
 use Rattle.fx_calm_plan.proofs.Whole.{pairs, start_limited}
 use Rattle.fx_calm.specs.BoundOf.{IsShort, HasPlace, HasWord, HaveShortStarts}
@@ -51,7 +52,7 @@ module _ (n : ℕ) (fn : Function) (some : Contains widths n) (narrow : IsNarrow
       let m = power_more {a = c.m + c.f} {b = 61} w in
       omega (arith, l, m)
 
-  pub place : HasPlace c
+  place : HasPlace c
   place =
       let r = room n fn (width_of n some) calm in
       by c.q c.a c.m c.f c.p _ c.v r.v r.roundings r.point r.states r.errors r.width
@@ -67,12 +68,12 @@ module _ (n : ℕ) (fn : Function) (some : Contains widths n) (narrow : IsNarrow
         error_high = omega (arith, ints, e, x, w);
       }
 
-  pub short : All IsShort bs
+  short : All IsShort bs
   short =
       All-from_get_or IsShort bs no_bound (λ a lt. (let h = limited n fn some narrow calm a lt in
       record { r = units_few h.r; e = units_few h.e }))
 
-  pub short_starts : HaveShortStarts fn c.f
+  short_starts : HaveShortStarts fn c.f
   short_starts k lt = units_few (start_limited n fn some narrow calm k lt)
 
   -- ---- words
@@ -98,12 +99,33 @@ module _ (n : ℕ) (fn : Function) (some : Contains widths n) (narrow : IsNarrow
   all_words k [] (x ∷ xs) h = absurd h
   all_words k (node ∷ nodes) [] h = absurd h
 
-  pub words : All (HasWord fn c.f) (nodes_of fn)
+  words : All (HasWord fn c.f) (nodes_of fn)
   words = all_words 0 (nodes_of fn) bs (pairs n fn some narrow calm)
 
--- the program of codes that are the plan's is the plan's
-pub program_is : (n : ℕ) (r : Round) (fn : Function) (f : ℕ) (cs : List Code) (nodes : List Node) →
-    f ≡ (numbers_of n fn).f → nodes ≡ nodes_of fn → cs ≡ map (calm_code r fn f) nodes →
-    program_for n r fn cs ≡ calm_program n r fn
-program_is n r fn f cs nodes point same is =
-    ap (program_for n r fn) (is ∙ (λ j. map (calm_code r fn (point j)) (same j)))
+-- ---- the same of the numbers and nodes as they are handed on
+module _ {n : ℕ} {fn : Function} (some : Contains widths n) (narrow : IsNarrowFunction fn) (calm : IsCalm n fn)
+    {m : Numbers} (numbers : m ≡ numbers_of n fn) where
+  pub placed : HasPlace m
+  placed = subst HasPlace (sym numbers) (place n fn some narrow calm)
+
+  pub all_short : All IsShort (bounds_of m fn)
+  all_short = subst (λ (m : Numbers). All IsShort (bounds_of m fn)) (sym numbers) (short n fn some narrow calm)
+
+  pub starts_short : HaveShortStarts fn m.f
+  starts_short = subst (λ (m : Numbers). HaveShortStarts fn m.f) (sym numbers) (short_starts n fn some narrow calm)
+
+  pub words_handed : {nodes : List Node} → nodes ≡ nodes_of fn → All (HasWord fn m.f) nodes
+  words_handed same =
+      subst (λ (nodes : List Node). All (HasWord fn m.f) nodes) (sym same)
+      (subst (λ (m : Numbers). All (HasWord fn m.f) (nodes_of fn)) (sym numbers) (words n fn some narrow calm))
+
+  -- the program of codes that are the plan's is the plan's
+  pub program_is : (r : Round) (cs : List Code) {nodes : List Node} → nodes ≡ nodes_of fn →
+      cs ≡ map (calm_code r fn m.f) nodes → program_for n r fn cs ≡ calm_program n r fn
+  program_is r cs same is =
+      ap (program_for n r fn) (is ∙ (λ j. map (calm_code r fn (numbers j).f) (same j)))
+
+  pub program_lawful : (r : Round) (cs : List Code) {nodes : List Node} → nodes ≡ nodes_of fn →
+      cs ≡ map (calm_code r fn m.f) nodes → IsLawfulProgram (program_for n r fn cs)
+  program_lawful r cs same is =
+      subst IsLawfulProgram (sym (program_is r cs same is)) (plan_is n r fn some narrow calm).program
