@@ -9,6 +9,8 @@ use Rattle.std.proofs.lemmas.Bool.{false_from_ne_true}
 use lib.Seq.{take-take}
 use borrow.Author.Tests.{ltb-true, ltb-false}
 use Rattle.fx_base.specs.Text.{text_at}
+use Rattle.fx_base.specs.LineCuts.{IsCut, IsLeftBy}
+use Rattle.fx_base.specs.declared.cut.Cut.{Cut}
 use Rattle.fx_base.specs.LineSteps.{LinesState, IsFirstLine, TakesLine}
 use Rattle.fx_base.specs.declared.answers.LineFault.{LineFault}
 use Rattle.fx_base.specs.declared.lines.LineStep.{LineStep}
@@ -29,7 +31,7 @@ take-min n k xs h =
         ∙ sym (take_all n (take k xs) (omega (arith, length-take-le k xs h)))
 
 -- a line whose end is held
-takes-whole : (old new : LinesState) (more bytes : List ℕ) (end from len : ℕ)
+pub takes-whole : (old new : LinesState) (more bytes : List ℕ) (end from len : ℕ)
     → bytes ≡ old.held ++ more → position is_feed bytes ≡ Some end
     → text_at (old.number == 0) (take end bytes) ≡ drop from (take end bytes)
     → strip_carriage_return (drop from (take end bytes)) ≡ take len (drop from (take end bytes)) →
@@ -74,7 +76,7 @@ takes-whole old new more bytes end from len whole found text strip inside held n
     }
 
 -- the last line, which no line feed ends
-takes-last : (old new : LinesState) (more bytes : List ℕ) (from : ℕ)
+pub takes-last : (old new : LinesState) (more bytes : List ℕ) (from : ℕ)
     → bytes ≡ old.held ++ more → position is_feed bytes ≡ None → text_at (old.number == 0) bytes ≡ drop from bytes →
     0 < length bytes - from
     → new.held ≡ [] → new.number ≡ old.number + 1 → new.is_ready ≡ nat_lt (length bytes - from) 65537 →
@@ -146,7 +148,7 @@ long-line new front rest (Some end) found plain long line ready =
     }
 
 -- a line that is too long and whose end isn't held
-takes-long : (old new : LinesState) (more bytes : List ℕ) (from : ℕ)
+pub takes-long : (old new : LinesState) (more bytes : List ℕ) (from : ℕ)
     → bytes ≡ old.held ++ more → position is_feed bytes ≡ None → text_at (old.number == 0) bytes ≡ drop from bytes →
     65540 < length bytes → from ≤ 3
     → new.held ≡ [] → new.number ≡ old.number + 1 → new.is_ready ≡ false → new.is_ended ≡ false
@@ -176,11 +178,10 @@ left-count held more bytes next whole =
     ap length whole ∙ length-append (drop next held) more ∙ ap (λ n. n + length more) (length-drop next held)
 
 -- the next line's end, sought behind this one's
-pub ahead-of : {bytes read : List ℕ} {place : Option ℕ} (n : ℕ) → read ≡ bytes →
-    place ≡ position is_feed (take (length read - n) (drop n read)) → place ≡ position is_feed (drop n bytes)
-ahead-of {bytes} {read} n same found =
-    found ∙ ap (position is_feed) (take_all (length read - n) (drop n read) (omega (arith, length-drop n read))
-    ∙ ap (drop n) same)
+pub ahead-of : (bytes : List ℕ) (n : ℕ) (place : Option ℕ) →
+    place ≡ position is_feed (take (length bytes - n) (drop n bytes)) → place ≡ position is_feed (drop n bytes)
+ahead-of bytes n place found =
+    found ∙ ap (position is_feed) (take_all (length bytes - n) (drop n bytes) (omega (arith, length-drop n bytes)))
 
 -- what was fetched behind what was held, where so many lines were answered
 pub record HasMore (old : LinesState) (left left' : Option (List ℕ)) (number taken : ℕ) (bytes more : List ℕ) :
@@ -200,47 +201,16 @@ TakesMore old new left left' =
     × (◌≡◌ {A = Result LineStep LineFault} (Ok Line) (Ok End) → text_at (old.number == 0) (old.held ++ more) ≡ [])
     × Unit {0}
 
-module _ {old : LinesState} (new : LinesState) {left left' : Option (List ℕ)} {number taken : ℕ} {bytes more : List ℕ}
-    (f : HasMore old left left' number taken bytes more) (same : new.taken ≡ taken)
-    (next : new.number ≡ number + 1) where
-  taken-line : TakesLine old new more → TakesMore old new left left'
-  taken-line line = (
-    more,
-    f.took,
-    same ∙ f.sum,
-    omega (arith, ap length f.whole, length-append old.held more, f.few),
-    (λ _. line),
-    (λ e. absurd cc),
-    tt,
-  )
-
-  following : new.number ≡ old.number + 1
-  following = next ∙ ap (λ n. n + 1) f.count
-
-  -- a line whose end is held
-  pub whole-taken : (end from len : ℕ) → position is_feed bytes ≡ Some end →
-      text_at (number == 0) (take end bytes) ≡ drop from (take end bytes) →
-      strip_carriage_return (drop from (take end bytes)) ≡ take len (drop from (take end bytes)) →
-      from + len ≤ length (take end bytes) → new.held ≡ drop (end + 1) bytes → new.is_ready ≡ nat_lt len 65537 →
-      new.is_ended ≡ false → new.line ≡ take (min len 65537) (drop from bytes) → TakesMore old new left left'
-  whole-taken end from len found text strip inside held ready ended line =
-      taken-line (takes-whole old new more bytes end from len f.whole found
-      (subst (λ n. text_at (n == 0) (take end bytes) ≡ drop from (take end bytes)) f.count text) strip inside held
-      following ready ended line)
-
-  -- a line that is too long and whose end isn't held
-  pub long-taken : (from : ℕ) → (65540 < length bytes) × (position is_feed bytes ≡ None) →
-      text_at (number == 0) bytes ≡ drop from bytes → from ≤ 3 → new.held ≡ [] → new.is_ready ≡ false →
-      new.is_ended ≡ false → new.line ≡ take 65537 (drop from bytes) → TakesMore old new left left'
-  long-taken from long text few held ready ended line =
-      taken-line (takes-long old new more bytes from f.whole long.1
-      (subst (λ n. text_at (n == 0) bytes ≡ drop from bytes) f.count text) long.0 few held following ready ended line)
-
-  -- the last line, which no line feed ends
-  pub last-taken : (from : ℕ) → position is_feed bytes ≡ None → text_at (number == 0) bytes ≡ drop from bytes →
-      0 < length bytes - from → new.held ≡ [] → new.is_ready ≡ nat_lt (length bytes - from) 65537 →
-      new.is_ended ≡ true → new.line ≡ take (min (length bytes - from) 65537) (drop from bytes) →
-      TakesMore old new left left'
-  last-taken from none text some held ready ended line =
-      taken-line (takes-last old new more bytes from f.whole none
-      (subst (λ n. text_at (n == 0) bytes ≡ drop from bytes) f.count text) some held following ready ended line)
+-- a state that a cut of what was fetched leaves has taken a line
+pub taken-cut : {old : LinesState} (new : LinesState) {left left' : Option (List ℕ)} {number taken : ℕ}
+    {bytes more : List ℕ} {cut : Cut} → HasMore old left left' number taken bytes more → new.taken ≡ taken →
+    new.number ≡ number + 1 → IsCut (number == 0) bytes cut → IsLeftBy bytes cut new → TakesMore old new left left'
+taken-cut {old} new {more = more} f same next cut left = (
+  more,
+  f.took,
+  same ∙ f.sum,
+  omega (arith, ap length f.whole, length-append old.held more, f.few),
+  (λ _. cut.takes old new more f.whole (ap (λ n. n == 0) (sym f.count)) (next ∙ ap (λ n. n + 1) f.count) left),
+  (λ e. absurd cc),
+  tt,
+)

@@ -7,3 +7,4 @@ pub mod Moments
 pub mod Text
 pub mod Fetches
 pub mod LineSteps
+pub mod LineCuts

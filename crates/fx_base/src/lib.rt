@@ -9,6 +9,7 @@
 
 mod answers;
 mod copies;
+mod cut;
 mod cuts;
 mod fetch;
 mod held;

@@ -8,8 +8,8 @@ ghost use Rattle.std.specs.Prelude.{◌≡◌, ◌≢◌, ℕ, List, [], ◌+◌
 ghost use Rattle.std.specs.Io.KnownBytes.{Consumes, IsAtEnd};
 ghost use Rattle.fx_base.specs.Causes.{Rose};
 
-use crate::cuts::{line_end, line_in, mark_len};
-use crate::fetch::{Fetched, fetch};
+use crate::cut::first_cut;
+use crate::fetch::fetch;
 use crate::held::Held;
 use crate::{LineFault, Sink, Source};
 use fx_num::Memory;
@@ -24,9 +24,6 @@ pub enum LineStep {
     /// The input has ended, and no line is left.
     End,
 }
-
-// One byte more than a line may have.
-const LINE: usize = 65_537;
 
 /// The lines of a source, one at a time. All room is made once.
 #[derive(Drop)]
@@ -179,39 +176,18 @@ impl Lines {
             shown,
         )?;
         let bytes = self.held.bytes();
-        match fetched {
-            Fetched::Whole(end) => {
-                let (from, length) = line_in(&bytes[..end], is_first);
-                self.from = from;
-                self.to = from + length.min(LINE);
-                self.next = end + 1;
-                self.ahead = line_end(&bytes[end + 1..]);
-                self.is_ready = length < LINE;
-                self.number += 1;
-                Ok(LineStep::Line)
-            }
-            Fetched::Long => {
-                self.from = mark_len(bytes, is_first);
-                self.to = self.from + LINE;
-                self.next = bytes.len();
-                self.number += 1;
-                Ok(LineStep::Line)
-            }
-            Fetched::Ended => {
-                let from = mark_len(bytes, is_first);
-                let length = bytes.len() - from;
-                self.is_ended = true;
-                self.next = bytes.len();
-                self.ahead = None;
-                if length == 0 {
-                    return Ok(LineStep::End);
-                }
-                self.from = from;
-                self.to = from + length.min(LINE);
-                self.is_ready = length < LINE;
-                self.number += 1;
-                Ok(LineStep::Line)
-            }
-        }
+        let Some(cut) = first_cut(bytes, fetched, is_first) else {
+            self.next = bytes.len();
+            self.is_ended = true;
+            return Ok(LineStep::End);
+        };
+        self.from = cut.from;
+        self.to = cut.to;
+        self.next = cut.next;
+        self.ahead = cut.ahead;
+        self.is_ready = cut.is_ready;
+        self.is_ended = cut.is_ended;
+        self.number += 1;
+        Ok(LineStep::Line)
     }
 }
