@@ -1,22 +1,20 @@
 -- The run over given rows: it isn't stuck, keeps its bounds, and is printed line by line.
-use Rattle.std.proofs.Common.{◌≡◌, ℕ, ℤ, List, [], ◌∷◌, ◌++◌, map, length, Option, Some, None, refl, ap, sym, subst, ◌∙◌}
-use Rattle.std.specs.Prelude.{All, if◌then◌else◌}
+use Rattle.std.proofs.Common.{◌≡◌, ℕ, ℤ, List, [], ◌∷◌, ◌++◌, map, length, Option, Some, None, refl, ap, sym, ◌∙◌}
+use Rattle.std.specs.Prelude.{if◌then◌else◌}
 use Rattle.std.specs.Option.{option_map, option_and_then}
-use Rattle.std.proofs.lemmas.List.Elements.{All-head, All-tail}
-use Rattle.fx_rational.specs.Rational.{Rational}
 use Rattle.fx_rational.specs.Decimal.{Decimal, decimal_value}
-use Rattle.fx_model.specs.Function.{Function, Input, Step, Run, run_of}
+use Rattle.fx_model.specs.Function.{Function, Step, Run, run_of}
 use Rattle.fx_model.specs.Machine.{Program, machine_run, machine_step, output_points, start_words}
 use Rattle.fx_model.specs.Page.{line_of, names_from, page_lines}
-use Rattle.fx_model.specs.Rows.{AreInputs, AreTrueOf, InRangeLaw, IsInRange}
+use Rattle.fx_model.specs.Rows.{AreInputs, InRangeLaw}
 use Rattle.fx_inequalities.specs.Certificate.{Certificate}
 use Rattle.fx_inequalities.specs.Rewriting.{Rewrites}
-use Rattle.fx_sound.specs.Soundness.{AllAlike, BoundLaw, IsCertified, RunLaw, RunsAgree}
+use Rattle.fx_sound.specs.Soundness.{BoundLaw, IsCertified, RunLaw}
 use Rattle.fx_widths.specs.Laws.{OwnWidthsLaw}
 use Rattle.fx_rows.specs.ReadRows.{Read, RowsInRangeLaw, lines_read}
 use Rattle.fx_stream.specs.Printed.{lines_outcome, page_of}
 use Rattle.fx_checker.specs.CertifiedView.{Accepted}
-use Rattle.fx_run.specs.Printed.{IsWithinBounds, RowsLaw, given_values, printed, run_outcome, run_page}
+use Rattle.fx_run.specs.Printed.{RowsLaw, given_values, printed, run_outcome, run_page}
 use Rattle.fx_run.specs.Steps.{lines_from, line_then, step_line}
 use Rattle.fx_run.proofs.HonestRun.{honest_run}
 
