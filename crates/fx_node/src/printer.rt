@@ -231,7 +231,8 @@ impl<'a, const B: u32> Printer for NodePrinter<'a, B> {
 
     ghost told = { flaw_of };
 
-    ghost can_take = { λ s. IfSome s.reader (λ r. Serves r.rows s.node.accepted.function) × (length s.node.registers ≡ s.units)
+    ghost can_take = { λ s. IfSome s.reader (λ r. Serves r.rows s.node.accepted.function)
+        × (length s.node.registers ≡ s.units)
         × (length s.node.accepted.function.inputs ≤ vec_capacity s.row) };
 
     ghost is_settled = { λ _. ⊤ };
