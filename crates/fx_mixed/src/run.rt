@@ -39,7 +39,9 @@ fn turn_row(mixed: &mut Mixed, row: &[Decimal], page: &mut Page)
     requires room { HasLineRoom page.old }
     ensures accepted { mixed.new.accepted ≡ mixed.old.accepted }
     ensures put { (text : List ℕ) × (page.new ≡ page.old ++ text)
-        × ((rest : List (List rational.Decimal)) → lines_from mixed.old.accepted.program (row.now ∷ rest) (states_among mixed.old.accepted.program mixed.old.words)
+        × ((rest : List (List rational.Decimal)) →
+        lines_from mixed.old.accepted.program (row.now ∷ rest)
+        (states_among mixed.old.accepted.program mixed.old.words)
         ≡ text ++ lines_from mixed.new.accepted.program rest
         (states_among mixed.new.accepted.program mixed.new.words)) }
 {
