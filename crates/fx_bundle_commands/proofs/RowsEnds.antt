@@ -31,15 +31,14 @@ module _ {T F : Type 0} (told : F → T) {o : List (List ℕ) → Outcome T} {ba
     (taken : (bytes : List ℕ) × Consumes old.left new.left bytes
     × (◌≡◌ {A = Result ℕ (RunFault F)} (Err fault) (Err run.TooLong) ↔ (rows_limit < length bytes)))
     (due : IsDue told o old.left new.left old.taken new.taken fault) where
-  named : {known : RunFault F} → fault ≡ known → IsDue told o old.left new.left old.taken new.taken known
-  named is = subst (IsDue told o old.left new.left old.taken new.taken) is due
-
   pub lines_bad : {line : ℕ} {flaw : F} {end : End} → fault ≡ run.Row line flaw → bad line (told flaw) ≡ end →
       end ≢ ends.OverLimit → RunsLines o bad Law old new end
   lines_bad {line} {flaw} {end} is e other = record {
     law = law;
     taken = taken_short old new end _ other (λ long. absurd cc) taken;
-    rows = subst (RowsEnd o bad old new) e (bad_line line (told flaw) (named is));
+    rows =
+        subst (RowsEnd o bad old new) e
+        (bad_line line (told flaw) (subst (IsDue told o old.left new.left old.taken new.taken) is due));
   }
 
   pub lines_unread : fault ≡ run.ReadFault →
@@ -48,7 +47,7 @@ module _ {T F : Type 0} (told : F → T) {o : List (List ℕ) → Outcome T} {ba
   lines_unread is rose = record {
     law = law;
     taken = taken_short old new ends.ReadFault _ (λ e. absurd cc) (λ long. absurd cc) taken;
-    rows = unread (rose (ap Err is)) (named is);
+    rows = unread (rose (ap Err is)) (subst (IsDue told o old.left new.left old.taken new.taken) is due);
   }
 
   pub lines_unwritten : fault ≡ run.WriteFault →
@@ -57,19 +56,19 @@ module _ {T F : Type 0} (told : F → T) {o : List (List ℕ) → Outcome T} {ba
   lines_unwritten is rose = record {
     law = law;
     taken = taken_short old new ends.WriteFault _ (λ e. absurd cc) (λ long. absurd cc) taken;
-    rows = unwritten (rose (ap Err is)) (named is);
+    rows = unwritten (rose (ap Err is)) (subst (IsDue told o old.left new.left old.taken new.taken) is due);
   }
 
   pub lines_long : fault ≡ run.TooLong → RunsLines o bad Law old new ends.OverLimit
   lines_long is = record {
     law = law;
     taken = taken_at old new ends.OverLimit _ (λ e. ap Err is) (λ e. refl) taken;
-    rows = long (named is);
+    rows = long (subst (IsDue told o old.left new.left old.taken new.taken) is due);
   }
 
   pub lines_without_memory : fault ≡ run.Memory → RunsLines o bad Law old new ends.NoMemory
   lines_without_memory is = record {
     law = law;
     taken = taken_short old new ends.NoMemory _ (λ e. absurd cc) (λ long. absurd cc) taken;
-    rows = no_memory (named is);
+    rows = no_memory (subst (IsDue told o old.left new.left old.taken new.taken) is due);
   }
