@@ -1,8 +1,7 @@
 -- The programs of attempts round as was asked for.
-use Rattle.std.proofs.Common.{◌≡◌, ℕ, List, [], ◌∷◌, Option, Some, None, Result, Ok, Err, ℤ, refl, subst}
+use Rattle.std.proofs.Common.{◌≡◌, ℕ, List, [], Option, Some, None, Result, Ok, Err, ℤ, refl, subst}
 use Rattle.std.specs.Option.{option_map}
 use Rattle.std.specs.Prelude.{All}
-use Rattle.std.proofs.lemmas.List.Elements.{All-nil, All-cons}
 use Rattle.fx_rational.specs.Interval.{Interval}
 use Rattle.fx_model.specs.Function.{Function}
 use Rattle.fx_model.specs.Machine.{Round}
@@ -10,6 +9,7 @@ use Rattle.fx_model.specs.Nodes.{Node, Input, State, Const, Neg, Add, Sub, Mul, 
 use Rattle.fx_inequalities.specs.Rewriting.{rewritten_by}
 use Rattle.fx_rules.specs.Steps.{rewrite}
 use Rattle.fx_program.specs.Rounding.{RoundsBy, IsRoundedBy}
+use Rattle.fx_lowering.proofs.CodesBy.{all_by}
 use Rattle.fx_analysis.specs.Fold.{Absent}
 use Rattle.fx_analysis.specs.PlainRanges.{plain_ranges}
 use Rattle.fx_analysis.specs.GreedyPoints.{greedy_points}
@@ -32,11 +32,7 @@ code_rounded n r fn ps (Copy a) f = refl
 
 pub codes_rounded : (n : ℕ) (r : Round) (fn : Function) (ps : List ℤ) (nodes : List Node) (fs : List ℤ) →
     All (RoundsBy r n) (placed_codes n r fn ps nodes fs)
-codes_rounded n r fn ps [] fs = All-nil (RoundsBy r n)
-codes_rounded n r fn ps (node ∷ nodes) [] = All-nil (RoundsBy r n)
-codes_rounded n r fn ps (node ∷ nodes) (f ∷ fs) =
-    All-cons (RoundsBy r n) (placed_code n r fn ps node f) (placed_codes n r fn ps nodes fs)
-    (code_rounded n r fn ps node f) (codes_rounded n r fn ps nodes fs)
+codes_rounded n r fn ps = all_by (RoundsBy r n) (placed_code n r fn ps) (code_rounded n r fn ps)
 
 -- ---- of the plain attempt
 attempt_rounded : (n : ℕ) (r : Round) (fn : Function) (gs : List Interval) (ps : List ℤ) (hs : List Interval) →

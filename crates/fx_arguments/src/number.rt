@@ -1,11 +1,13 @@
 //! The values of options, as texts and numbers.
-ghost use Rattle.std.specs.Prelude.{◌≡◌, ◌≤◌, ◌==◌, Contains, IfSome, Some, None, if◌then◌else◌, nat_le};
+ghost use Rattle.std.specs.Prelude.{◌≡◌, ◌≤◌, Contains, IfSome, Some, None, if◌then◌else◌, nat_le};
 ghost use Rattle.std.specs.Char.{is_ascii_digit};
-ghost use Rattle.std.specs.List.{list_all, list_any};
+ghost use Rattle.std.specs.List.{list_all};
 ghost use Rattle.std.specs.Option.{option_copied};
 ghost use Rattle.fx_model.specs.LawfulProgram.{widths};
 ghost use Rattle.fx_arguments.specs.Grammar.{is_value};
 ghost use Rattle.fx_arguments.specs.Numbers.{demo_number, is_numeral, number_up_to, number_or, units_given, width_given};
+
+use fx_word::is_width;
 
 /// Whether an option may have this value.
 pub fn is_value(text: &str) -> bool
@@ -92,22 +94,11 @@ pub fn units_given(text: Option<&str>) -> Option<u32>
     Some(number as u32)
 }
 
-// Whether words have that width.
-fn is_width(number: u64) -> bool
-    ensures { result ≡ list_any (λ w. number == w) widths }
-{
-    matches!(number, 8 | 16 | 24 | 32 | 40 | 48 | 56 | 64)
-}
-
 /// The width of words of an option.
 pub fn width_given(text: Option<&str>) -> Option<u32>
     ensures width { result ≡ width_given (option_copied text.entry) }
     ensures known { IfSome result (λ n. Contains widths n) }
 {
-    let number = number_up_to(text?, 64)?;
-    if is_width(number) {
-        Some(number as u32)
-    } else {
-        None
-    }
+    let bits = number_up_to(text?, 64)? as u32;
+    if is_width(bits) { Some(bits) } else { None }
 }

@@ -10,8 +10,8 @@ pub record IsLeftBy (bytes : List ℕ) (cut : Cut) (new : LinesState) : Type 0 w
   pub ready : new.is_ready ≡ cut.is_ready
   pub ended : new.is_ended ≡ cut.is_ended
 
--- a cut of bytes, at the start of the input or later: its places are in order, and whoever shows its line and holds what
--- stands behind it has taken one line of the bytes
+-- a cut of bytes, at the start of the input or later: its places are in order, and whoever shows its line and holds
+-- what stands behind it has taken one line of the bytes
 pub record IsCut (is_first : Bool) (bytes : List ℕ) (cut : Cut) : Type 0 where
   pub order : cut.from ≤ cut.to
   pub within : cut.to ≤ length bytes

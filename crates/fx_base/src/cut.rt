@@ -26,7 +26,7 @@ pub(crate) struct Cut {
 }
 
 /// The first line of what was fetched, and None where the input has ended and nothing is left.
-#[inline]
+#[inline(always)]
 pub(crate) fn first_cut(bytes: &[u8], fetched: Fetched, is_first: bool) -> Option<Cut>
     requires { HasFound bytes.now fetched }
     ensures cut { IfSome result (IsCut is_first bytes.now) }
@@ -41,7 +41,7 @@ pub(crate) fn first_cut(bytes: &[u8], fetched: Fetched, is_first: bool) -> Optio
 }
 
 // A line whose end is held.
-#[inline]
+#[inline(always)]
 fn whole_cut(bytes: &[u8], end: usize, is_first: bool) -> Cut
     requires { position (λ b. b == 10) bytes.now ≡ Some end }
     ensures cut { IsCut is_first bytes.now result }

@@ -29,6 +29,7 @@ fn trimmed_len(raw: &[u8]) -> usize
 }
 
 // Where a line begins behind the mark, and how long it is without its carriage return.
+#[inline]
 pub(crate) fn line_in(raw: &[u8], is_first: bool) -> (usize, usize)
     ensures skips { text_at is_first raw.now ≡ drop result.0 raw.now }
     ensures strips { strip_carriage_return (drop result.0 raw.now) ≡ take result.1 (drop result.0 raw.now) }

@@ -15,7 +15,7 @@ use Rattle.fx_lowering.specs.OfFunction.{program_for}
 use Rattle.fx_sizes.specs.Powers.{magnitude}
 use Rattle.fx_sizes.proofs.Powers.{power_more}
 use Rattle.fx_sizes.proofs.Values.{magnitude_nonneg}
-use Rattle.fx_sizes.proofs.Pairs.{ArePairs}
+use Rattle.fx_flat.proofs.Pairs.{ArePairs}
 use Rattle.fx_calm_numbers.specs.Calm.{Numbers, numbers_of, IsCalm}
 use Rattle.fx_calm_numbers.specs.Bounds.{Bound, no_bound, units_up, const_bound}
 use Rattle.fx_calm_numbers.proofs.Calmness.{room}

@@ -4,7 +4,7 @@ use Rattle.std.proofs.lemmas.List.{get_or_append_left}
 use Rattle.fx_model.specs.Function as function
 use Rattle.fx_model.specs.Nodes.{Node, Input, State, Const, Neg, Add, Sub, Mul, Div, Copy}
 use Rattle.fx_flat.specs.InPlace.{IsInPlace, AreInPlace}
-use Rattle.fx_sizes.proofs.Pairs.{IsFolded, AreFolded, folded}
+use Rattle.fx_flat.proofs.Pairs.{IsFolded, AreFolded, folded}
 use Rattle.fx_calm_numbers.specs.Calm.{Numbers}
 use Rattle.fx_calm_numbers.specs.Bounds.{Bound, no_bound, sum_bound, product_bound}
 use Rattle.fx_calm_plan.specs.CalmPlan.{node_bound, bounds_after}

@@ -1,24 +1,24 @@
 -- A text can spell the calm program and the calm certificate.
-use Rattle.std.proofs.Common.{◌≡◌, ℕ, zero, suc, ◌+◌, ◌-◌, ◌^◌, ◌<◌, ◌≤◌, List, [], ◌∷◌, ◌++◌, length, map, drop, ℤ, pos, refl, sym, subst, ◌∙◌, arith, pow_pos, pow-add}
+use Rattle.std.proofs.Common.{ℕ, zero, suc, ◌+◌, ◌-◌, ◌^◌, ◌<◌, ◌≤◌, List, [], ◌∷◌, length, map, ℤ, pos, refl, sym, subst, ◌∙◌, arith, pow_pos, pow-add}
 use Rattle.std.specs.Prelude.{All, Contains}
 use Rattle.std.proofs.lemmas.Int.{ints}
 use Rattle.std.proofs.lemmas.List.{length-map}
-use Rattle.std.proofs.lemmas.List.Elements.{All-nil, All-cons, All-head, All-tail, All-map, All-append, All-from_get_or}
+use Rattle.std.proofs.lemmas.List.Elements.{All-nil, All-cons, All-map, All-append, All-from_get_or}
 use Rattle.fx_rational.specs.Dyadic.{IsWritten, zero_dyadic}
 use Rattle.fx_rational.specs.Interval.{Interval, IsWrittenInterval}
-use Rattle.fx_model.specs.Function.{Function, outputs}
+use Rattle.fx_model.specs.Function.{Function}
 use Rattle.fx_model.specs.Machine.{Round, Floor, IsWord, points_of}
-use Rattle.fx_model.specs.LawfulProgram.{IsPoint, IsShift, IsCopyShift, IsLawfulCode, IsPlaced, AreLawful, IsCopy, widths, HasLawfulCounts, IsLawfulProgram}
+use Rattle.fx_model.specs.LawfulProgram.{IsPoint, IsShift, IsCopyShift, IsLawfulCode, IsPlaced, widths, IsLawfulProgram}
 use Rattle.fx_model.specs.Nodes.{Node, Input, State, Const, Neg, Add, Sub, Mul, Div, Copy, nodes_of}
-use Rattle.fx_model.proofs.Roots.{IsCopyNode}
 use Rattle.fx_model.proofs.Wide.{is_word_from}
 use Rattle.fx_inequalities.specs.Accepted.{start_of, no_state}
 use Rattle.fx_inequalities.specs.LawfulCertificate.{zeros, unit_vector, AreUnitTemplates, AreWrittenTemplates, IsWrittenTemplate, AreWrittenLines, IsWrittenStep, IsWrittenBox, IsLawfulCertificate}
 use Rattle.fx_flat.specs.InPlace.{IsInPlace}
-use Rattle.fx_program.proofs.Rounded.{has_version, rounded_are_of_version}
+use Rattle.fx_lowering.proofs.CodesBy.{pairs_map}
+use Rattle.fx_lowering.proofs.Lowered.{IsLowered, copy_by, lowered_program}
 use Rattle.fx_cert.proofs.Units.{unit_length}
 use Rattle.fx_sizes.specs.Powers.{magnitude}
-use Rattle.fx_sizes.proofs.Pairs.{ArePairs}
+use Rattle.fx_flat.proofs.Pairs.{ArePairs, pairs_with}
 use Rattle.fx_sizes.proofs.Powers.{power_more}
 use Rattle.fx_sizes.proofs.Sizes.{IsUpTo}
 use Rattle.fx_sizes.proofs.Values.{magnitude_nonneg}
@@ -108,34 +108,6 @@ lines_written f v r e j (x ∷ xs) few h =
       lines_written f v r e (j + 1) xs few (λ s d lt. h (suc s) d (omega (arith, lt))),
     )
 
--- ---- copies
-copy_code : (r : Round) (fn : Function) (f : ℕ) (node : Node) → IsCopyNode node → IsCopy (calm_code r fn f node)
-copy_code r fn f (Input j) h = absurd h
-copy_code r fn f (State j) h = absurd h
-copy_code r fn f (Const x) h = absurd h
-copy_code r fn f (Neg a) h = absurd h
-copy_code r fn f (Add a b) h = absurd h
-copy_code r fn f (Sub a b) h = absurd h
-copy_code r fn f (Mul a b) h = absurd h
-copy_code r fn f (Div a b) h = absurd h
-copy_code r fn f (Copy a) h = tt
-
-copy_codes : (r : Round) (fn : Function) (f : ℕ) (nodes : List Node) → All IsCopyNode nodes →
-    All IsCopy (map (calm_code r fn f) nodes)
-copy_codes r fn f [] h = All-nil IsCopy
-copy_codes r fn f (node ∷ nodes) h =
-    All-cons IsCopy (calm_code r fn f node) (map (calm_code r fn f) nodes)
-    (copy_code r fn f node (h 0 node (omega arith)))
-    (copy_codes r fn f nodes (λ j d lt. h (suc j) d (omega (arith, lt))))
-
--- behind the first codes
-drop_codes : (r : Round) (fn : Function) (f d : ℕ) (before rest : List Node) → d ≡ length before → All IsCopyNode rest →
-    All IsCopy (drop d (map (calm_code r fn f) (before ++ rest)))
-drop_codes r fn f zero [] rest e h = copy_codes r fn f rest h
-drop_codes r fn f zero (node ∷ before) rest e h = absurd (omega (arith, e))
-drop_codes r fn f (suc d) [] rest e h = absurd (omega (arith, e))
-drop_codes r fn f (suc d) (node ∷ before) rest e h = drop_codes r fn f d before rest (omega (arith, e)) h
-
 -- ---- a calm function at a width
 module _ (n : ℕ) (fn : Function) (some_width : Contains widths n) (narrow : IsNarrowFunction fn)
     (calm : IsCalm n fn) where
@@ -180,34 +152,19 @@ module _ (n : ℕ) (fn : Function) (some_width : Contains widths n) (narrow : Is
         by (Div a b) o w l = absurd w
         by (Copy a) o w l = ((o.1, no_copy_shift n), o.0)
 
-    codes_lawful : (j : ℕ) (nodes : List Node) (xs : List Bound) →
-        ArePairs (IsNodeBound (length fn.states) (numbers_of n fn) fn.inputs
-        (bounds n fn some_width narrow calm)) j nodes xs → All IsUndivided nodes →
-        AreLawful n (length fn.inputs) (length fn.states) j (map (calm_code r fn (numbers_of n fn).f) nodes)
-    codes_lawful j [] [] h w = tt
-    codes_lawful j (node ∷ nodes) (x ∷ xs) h w = (
-      code_lawful j node x h.0 (All-head IsUndivided node nodes w),
-      codes_lawful (j + 1) nodes xs h.1 (All-tail IsUndivided node nodes w),
-    )
-    codes_lawful j [] (x ∷ xs) h w = absurd h
-    codes_lawful j (node ∷ nodes) [] h w = absurd h
-
-    codes_long : length (codes n fn some_width narrow calm r) ≡ length (nodes_of fn)
-    codes_long = length-map (nodes_of fn) (calm_code r fn (numbers_of n fn).f)
-
-    counts : HasLawfulCounts (calm_program n r fn)
-    counts =
-        let l = codes_long in let t = counted n fn some_width narrow calm in
-        let e = (list n fn some_width narrow calm).enough in let sizes = narrow.lawful.sizes in
-        let nodes = sizes.nodes in record {
-          some_input = sizes.some_input;
-          inputs = sizes.inputs;
-          states = sizes.states;
-          some_output = sizes.some_output;
-          outputs = sizes.outputs;
-          enough = omega (arith, l, t, e);
-          codes = omega (arith, l, nodes);
-        }
+    lowered : ArePairs (IsLowered n (length fn.inputs) (length fn.states)) 0 (nodes_of fn)
+        (codes n fn some_width narrow calm r)
+    lowered = pairs_map (λ j node x. IsNodeBound (length fn.states) (numbers_of n fn) fn.inputs
+        (bounds n fn some_width narrow calm) j node x × IsUndivided node)
+        (IsLowered n (length fn.inputs) (length fn.states)) (calm_code r fn (numbers_of n fn).f)
+        (λ j node x h. let l = code_lawful j node x h.0 h.1 in record {
+          lawful = l.0;
+          placed = l.1;
+          copy = copy_by (calm_code r fn (numbers_of n fn).f) (λ a. tt) node;
+        }) 0 (nodes_of fn) (bounds n fn some_width narrow calm)
+        (pairs_with (IsNodeBound (length fn.states) (numbers_of n fn) fn.inputs (bounds n fn some_width narrow calm))
+        IsUndivided 0 (nodes_of fn) (bounds n fn some_width narrow calm) (pairs n fn some_width narrow calm)
+        (whole_nodes n fn some_width narrow calm))
 
     points : All IsPoint (points_of (codes n fn some_width narrow calm r))
     points =
@@ -216,30 +173,10 @@ module _ (n : ℕ) (fn : Function) (some_width : Contains widths n) (narrow : Is
         (λ a lt. subst IsPoint (sym (h.points a lt)) (let s = spacious.point in
         record { low = omega (arith, ints); high = omega (arith, ints, s) }))
 
-    copies : All IsCopy (drop (length (codes n fn some_width narrow calm r) - (outputs fn + length fn.states))
-        (codes n fn some_width narrow calm r))
-    copies =
-        let l = list n fn some_width narrow calm in let a = codes_long in let t = counted n fn some_width narrow calm in
-        subst (λ (nodes : List Node). All IsCopy
-        (drop (length (codes n fn some_width narrow calm r) - (outputs fn + length fn.states))
-        (map (calm_code r fn (numbers_of n fn).f) nodes))) (sym l.is)
-        (drop_codes r fn (numbers_of n fn).f
-        (length (codes n fn some_width narrow calm r) - (outputs fn + length fn.states)) l.before l.copies
-        (omega (arith, a, t)) l.are_copies)
-
     pub program_lawful : IsLawfulProgram (calm_program n r fn)
-    program_lawful = record {
-      version = has_version r;
-      width = some_width;
-      counts = counts;
-      codes =
-          codes_lawful 0 (nodes_of fn) (bounds n fn some_width narrow calm) (pairs n fn some_width narrow calm)
-          (whole_nodes n fn some_width narrow calm);
-      points = points;
-      copies = copies;
-      of_version =
-          rounded_are_of_version r n (codes n fn some_width narrow calm r) (program_rounds n r fn spacious.some).codes;
-    }
+    program_lawful =
+        lowered_program n r fn (codes n fn some_width narrow calm r) some_width narrow.lawful lowered points
+        (program_rounds n r fn spacious.some).codes
 
   -- ---- the certificate
   small_written : (r : ℕ) → r ≤ 2 ^ ((numbers_of n fn).m + (numbers_of n fn).f) →

@@ -1,5 +1,5 @@
 -- No condition of the calm plan has a fault.
-use Rattle.std.proofs.Common.{◌≡◌, ℕ, ◌+◌, ◌-◌, ◌^◌, ◌<◌, ◌≤◌, ◌==◌, ltb, Bool, true, false, ◌&&◌, if◌then◌else◌, List, [], ◌∷◌, ◌++◌, length, map, min, get_or, None, ⊎_elim, ℤ, pos, refl, sym, ap, subst, ◌∙◌, arith, length-append}
+use Rattle.std.proofs.Common.{◌≡◌, ℕ, ◌+◌, ◌-◌, ◌^◌, ◌<◌, ◌≤◌, ◌==◌, ltb, Bool, true, false, ◌&&◌, if◌then◌else◌, List, [], ◌∷◌, ◌++◌, length, map, min, get_or, None, ⊎_elim, ℤ, pos, refl, sym, ap, subst, ◌∙◌, arith}
 use Rattle.std.specs.Prelude.{All, Contains}
 use Rattle.std.specs.List.{list_all}
 use Rattle.std.proofs.lemmas.Bool.{cases_lt}
@@ -24,12 +24,12 @@ use Rattle.fx_inequalities.specs.Condition as condition
 use Rattle.fx_inequalities.specs.Condition.{Condition, Kind, Part, OfProgram, OfNode, OfStart, OfTemplate, OfErrorTemplate, OfOutput, fault_of, first_fault_of, each_index}
 use Rattle.fx_inequalities.specs.NodeConditions.{shape_conditions, node_conditions, variables}
 use Rattle.fx_inequalities.specs.Accepted.{next_code, counts_agree, each_node, all_shape_conditions, no_state, start_of, start_claims, start_template_claims, template_claims, each_claims}
-use Rattle.fx_flat.proofs.Ordered.{IsNodeList, node_list}
+use Rattle.fx_flat.proofs.Ordered.{IsNodeList, node_list, before_length}
 use Rattle.fx_sizes.specs.Narrow.{IsNarrowNumber, IsNarrowNode}
 use Rattle.fx_sizes.specs.Powers.{magnitude}
 use Rattle.fx_sizes.proofs.Claims.{AreMet, none_met, below_above_met, over_fits}
 use Rattle.fx_sizes.proofs.Conditions.{faultless, same_count, same_name, none_append, one_none, indexes_none}
-use Rattle.fx_sizes.proofs.Pairs.{ArePairs, pairs_length}
+use Rattle.fx_flat.proofs.Pairs.{ArePairs, pairs_length}
 use Rattle.fx_sizes.proofs.Powers.{power_more}
 use Rattle.fx_sizes.proofs.Sizes.{IsSmall, IsSmallSpan, small_difference, small_zero}
 use Rattle.fx_sizes.proofs.Values.{magnitude_nonneg}
@@ -133,8 +133,7 @@ module _ (n : ℕ) (fn : Function) (some_width : Contains widths n) (narrow : Is
   long = pairs_length (IsNodeBound k c fn.inputs bounds) 0 (nodes_of fn) bounds pairs
 
   pub counted : length (nodes_of fn) ≡ length list.before + (outputs fn + k)
-  counted =
-      ap length list.is ∙ length-append list.before list.copies ∙ ap (λ (m : ℕ). length list.before + m) list.count
+  counted = before_length list
 
   few : {r : ℕ} → r ≤ 2 ^ (c.m + c.f) → r < 2 ^ 126
   few l = let m = limit_few n c (space n fn some_width narrow calm) in omega (arith, l, m)

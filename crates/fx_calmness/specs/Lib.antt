@@ -1,4 +1,4 @@
-pub mod SizeOf
+pub mod MagnitudeOf
 pub mod SumOf
 pub mod TermOf
 pub mod LimitOf

@@ -7,8 +7,8 @@ use Rattle.fx_sizes.specs.Powers.{power_value}
 use Rattle.fx_calm_numbers.specs.Linear.{Term, Alone, OfInput, OfState}
 use Rattle.fx_calm_numbers.specs.Calm.{reach_at, input_sizes, state_sizes, literal_sizes, input_reaches}
 use Rattle.fx_sums.specs.declared.part.Part.{Part}
-use Rattle.fx_calmness.specs.declared.size.Size.{Size}
-use Rattle.fx_calmness.specs.SizeOf.{IsSize}
+use Rattle.fx_calmness.specs.declared.magnitude.Magnitude.{Magnitude}
+use Rattle.fx_calmness.specs.MagnitudeOf.{IsMagnitude}
 use Rattle.fx_calmness.specs.declared.sum.Sum.{Sum}
 use Rattle.fx_calmness.specs.declared.sum.Sum.TheVariants.{States, Sizes, Adds, Values}
 
@@ -64,8 +64,8 @@ IsSum (Values s) = s ≤ 25
 IsSum sum = Unit {0}
 
 -- a weight is a size that a decimal or a whole number may have
-pub record IsWeight (x : Size) : Type 0 where
-  pub size : IsSize x
+pub record IsWeight (x : Magnitude) : Type 0 where
+  pub size : IsMagnitude x
   pub decimal : x.bottom ≤ 10 ^ 18
 
 -- a part without what is asked of its value

@@ -8,11 +8,11 @@
 
 mod least;
 mod limit;
+mod magnitude;
 mod numbers;
-mod size;
 mod sum;
 mod terms;
 
 pub use limit::start_at;
+pub use magnitude::{Magnitude, reach, size_of, size_of_decimal, units};
 pub use numbers::{Numbers, find_numbers};
-pub use size::{Size, reach, size_of, size_of_decimal, units};

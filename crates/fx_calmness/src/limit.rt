@@ -11,11 +11,11 @@ ghost use Rattle.fx_expr.specs.Parts.{input_of};
 ghost use Rattle.fx_sizes.specs.Powers.{magnitude, is_below_power};
 ghost use Rattle.fx_calm_numbers.specs.Calm.{reach_of};
 ghost use Rattle.fx_sums.specs.Parts.{IsPart};
-ghost use Rattle.fx_calmness.specs.SizeOf.{IsSize, size_value};
+ghost use Rattle.fx_calmness.specs.MagnitudeOf.{IsMagnitude, magnitude_value};
 ghost use Rattle.fx_calmness.specs.SumOf.{sum_value, IsSum, IsWeight};
 ghost use Rattle.fx_calmness.specs.LimitOf.{no_tree, first_result, result_count, count_of, is_within, IsTame, IsReady};
 
-use crate::size::{Size, is_below, reach, size_of_decimal, units};
+use crate::magnitude::{Magnitude, is_below, reach, size_of_decimal, units};
 use crate::sum::Sum;
 use crate::terms::{literals_below, put_terms};
 use fx_expr::{Expr, Function, Input};
@@ -85,10 +85,10 @@ pub fn count(function: &Function, limit: Limit) -> u32
 }
 
 /// The start of state `k`, without its sign.
-pub fn start_at(function: &Function, k: u32) -> Size
+pub fn start_at(function: &Function, k: u32) -> Magnitude
     requires { k < length function.now.states }
     ensures weight { IsWeight result }
-    ensures value { size_value result ≡ magnitude (start_of function.now k) }
+    ensures value { magnitude_value result ≡ magnitude (start_of function.now k) }
 {
     size_of_decimal(function.states.as_slice()[k as usize].start)
 }
@@ -110,8 +110,8 @@ fn power(w: u32) -> u64
 }
 
 /// A size as a part of a sum.
-fn part(x: Size) -> Part
-    requires { IsSize x }
+fn part(x: Magnitude) -> Part
+    requires { IsMagnitude x }
     ensures part { IsPart result }
     ensures top { result.top ≡ x.top }
     ensures bottom { result.bottom ≡ x.bottom }

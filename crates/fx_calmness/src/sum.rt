@@ -2,10 +2,10 @@
 
 ghost use Rattle.std.specs.Prelude.{◌≡◌, ◌≤◌, ◌^◌, pos};
 ghost use Rattle.fx_rational.specs.Rational.{whole};
-ghost use Rattle.fx_calmness.specs.SizeOf.{size_value};
+ghost use Rattle.fx_calmness.specs.MagnitudeOf.{magnitude_value};
 ghost use Rattle.fx_calmness.specs.SumOf.{state_weight, literal_weight, input_weight, IsSum, IsWeight};
 
-use crate::size::{Size, reach_at, whole};
+use crate::magnitude::{Magnitude, reach_at, whole};
 use fx_expr::Function;
 
 /// A sum over the terms of a tree.
@@ -23,19 +23,19 @@ pub enum Sum {
 }
 
 /// `2^s`.
-fn power(s: u32) -> Size
+fn power(s: u32) -> Magnitude
     requires { s ≤ 25 }
     ensures weight { IsWeight result }
-    ensures value { size_value result ≡ whole (pos (2 ^ s)) }
+    ensures value { magnitude_value result ≡ whole (pos (2 ^ s)) }
 {
     whole(1 << s)
 }
 
 /// Of a term of a state.
-pub fn state_weight(sum: Sum) -> Size
+pub fn state_weight(sum: Sum) -> Magnitude
     requires { IsSum sum }
     ensures weight { IsWeight result }
-    ensures value { size_value result ≡ state_weight sum }
+    ensures value { magnitude_value result ≡ state_weight sum }
 {
     match sum {
         Sum::States => whole(2),
@@ -46,9 +46,9 @@ pub fn state_weight(sum: Sum) -> Size
 }
 
 /// Of a literal that stands alone.
-pub fn literal_weight(sum: Sum) -> Size
+pub fn literal_weight(sum: Sum) -> Magnitude
     ensures weight { IsWeight result }
-    ensures value { size_value result ≡ literal_weight sum }
+    ensures value { magnitude_value result ≡ literal_weight sum }
 {
     match sum {
         Sum::States => whole(0),
@@ -59,9 +59,9 @@ pub fn literal_weight(sum: Sum) -> Size
 }
 
 /// Of a term of input `k`.
-pub fn input_weight(function: &Function, sum: Sum, k: u32) -> Size
+pub fn input_weight(function: &Function, sum: Sum, k: u32) -> Magnitude
     ensures weight { IsWeight result }
-    ensures value { size_value result ≡ input_weight function.now sum k }
+    ensures value { magnitude_value result ≡ input_weight function.now sum k }
 {
     match sum {
         Sum::States => whole(0),

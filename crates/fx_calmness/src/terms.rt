@@ -6,11 +6,11 @@ ghost use Rattle.fx_expr.specs.TreeOf.{tree};
 ghost use Rattle.fx_sizes.specs.Powers.{power_value};
 ghost use Rattle.fx_calm_numbers.specs.Linear.{is_scaled, scaled_term, terms_of, are_literals_below};
 ghost use Rattle.fx_calm_numbers.specs.Calm.{is_short};
-ghost use Rattle.fx_calmness.specs.SizeOf.{IsSize, size_value};
+ghost use Rattle.fx_calmness.specs.MagnitudeOf.{IsMagnitude, magnitude_value};
 ghost use Rattle.fx_calmness.specs.SumOf.{weight_of, size_of, part_of, IsSum, IsWeight, IsNarrowPart};
 ghost use Rattle.fx_calmness.specs.TermOf.{term_view, IsSized, IsRoomAfter};
 
-use crate::size::{Size, is_below, size_of, whole};
+use crate::magnitude::{Magnitude, is_below, size_of, whole};
 use crate::sum::{Sum, input_weight, literal_weight, state_weight};
 use fx_expr::{Expr, Function};
 use fx_num::Memory;
@@ -20,11 +20,11 @@ use fx_sums::Part;
 #[derive(Clone, Copy, Debug)]
 pub enum Term {
     /// A literal that stands alone.
-    Alone { size: Size },
+    Alone { size: Magnitude },
     /// So many times input `k`.
-    OfInput { k: u32, size: Size },
+    OfInput { k: u32, size: Magnitude },
     /// So many times state `k`.
-    OfState { k: u32, size: Size },
+    OfState { k: u32, size: Magnitude },
 }
 
 /// The room that is left by the terms of a tree; none where it isn't linear, or has more terms.
@@ -121,10 +121,10 @@ fn product_term(a: &Expr, b: &Expr) -> Term
 }
 
 /// How often its size counts.
-fn weight_of(function: &Function, sum: Sum, term: Term) -> Size
+fn weight_of(function: &Function, sum: Sum, term: Term) -> Magnitude
     requires { IsSum sum }
     ensures weight { IsWeight result }
-    ensures value { size_value result ≡ weight_of function.now sum (term_view term) }
+    ensures value { magnitude_value result ≡ weight_of function.now sum (term_view term) }
 {
     match term {
         Term::Alone { .. } => literal_weight(sum),
@@ -134,10 +134,10 @@ fn weight_of(function: &Function, sum: Sum, term: Term) -> Size
 }
 
 /// Its size.
-fn term_size(term: Term) -> Size
+fn term_size(term: Term) -> Magnitude
     requires { IsSized term }
-    ensures size { IsSize result }
-    ensures value { size_value result ≡ size_of (term_view term) }
+    ensures size { IsMagnitude result }
+    ensures value { magnitude_value result ≡ size_of (term_view term) }
 {
     match term {
         Term::Alone { size } => size,
@@ -147,8 +147,8 @@ fn term_size(term: Term) -> Size
 }
 
 /// A size that counts so often.
-fn product(size: Size, weight: Size) -> Part
-    requires size { IsSize size }
+fn product(size: Magnitude, weight: Magnitude) -> Part
+    requires size { IsMagnitude size }
     requires weight { IsWeight weight }
     ensures narrow { IsNarrowPart result }
     ensures top { result.top ≡ size.top * weight.top }

@@ -2,3 +2,4 @@ pub mod Growth
 mod Pushing
 mod Turns
 pub mod Ordered
+pub mod Pairs

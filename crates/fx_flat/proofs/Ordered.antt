@@ -1,5 +1,5 @@
 -- The node list of a function: inputs and states first, operands before each node, and copies last.
-use Rattle.std.proofs.Common.{◌≡◌, ℕ, zero, suc, ◌+◌, ◌<◌, ◌≤◌, List, [], ◌∷◌, ◌++◌, length, get_or, refl, sym, subst, ◌∙◌, arith, length-append}
+use Rattle.std.proofs.Common.{◌≡◌, ℕ, zero, suc, ◌+◌, ◌<◌, ◌≤◌, List, [], ◌∷◌, ◌++◌, length, get_or, refl, sym, ap, subst, ◌∙◌, arith, length-append}
 use Rattle.std.specs.Prelude.{All}
 use Rattle.std.proofs.lemmas.List.{length_push}
 use Rattle.std.proofs.lemmas.List.Elements.{All-nil}
@@ -119,6 +119,10 @@ pub record IsNodeList (i s m : ℕ) (nodes : List Node) : Type 0 where
   pub are_copies : All IsCopyNode copies
   pub enough : i + s ≤ length before
   pub ordered : AreInPlace i s 0 nodes
+
+-- so many stand before the copies
+pub before_length : {i s m : ℕ} {nodes : List Node} (l : IsNodeList i s m nodes) → length nodes ≡ length l.before + m
+before_length l = ap length l.is ∙ length-append l.before l.copies ∙ ap (λ (m : ℕ). length l.before + m) l.count
 
 after_ordered : (i s : ℕ) (ts : List Temp) (es : List Tree) (temps roots : List ℕ) (ns : List Node) →
     i + s ≤ length ns → AreInPlace i s 0 ns → AreBelow (length ns) temps → AreBelow (length ns) roots →

@@ -7,8 +7,8 @@ use Rattle.fx_lexer.specs.declared.fault.SourceFault.{SourceFault}
 use Rattle.fx_lexer.specs.declared.fault.SourceKind.TheVariants as kinds
 use Rattle.fx_lexer.specs.Tokens.{Lexeme}
 use Rattle.fx_grammar.specs.declared.head.Head.{Head}
-use Rattle.fx_grammar.specs.declared.side.Side.{Side}
-use Rattle.fx_grammar.specs.declared.side.Side.TheVariants.{Low, High, Error}
+use Rattle.fx_grammar.specs.declared.aspect.Aspect.{Aspect}
+use Rattle.fx_grammar.specs.declared.aspect.Aspect.TheVariants.{Low, High, Error}
 use Rattle.fx_grammar.specs.declared.head.Head.TheVariants as heads
 use Rattle.fx_grammar.specs.Heads.{head_of, ◌==ₕ◌}
 use Rattle.fx_model.specs.Steps.{◌>>=◌}
@@ -39,30 +39,30 @@ abbrev pub is_said : Option Decimal → Bool
 is_said None = false
 is_said (Some d) = true
 
--- what is said of this side
-abbrev pub side_of : Side → Subject → Option Decimal
-side_of Low s = s.lo
-side_of High s = s.hi
-side_of Error s = s.err
+-- what is said of this aspect
+abbrev pub aspect_of : Aspect → Subject → Option Decimal
+aspect_of Low s = s.lo
+aspect_of High s = s.hi
+aspect_of Error s = s.err
 
 -- with this said
-abbrev pub with_side : Side → Decimal → Subject → Subject
-with_side Low d s = record s { lo = Some d }
-with_side High d s = record s { hi = Some d }
-with_side Error d s = record s { err = Some d }
+abbrev pub with_aspect : Aspect → Decimal → Subject → Subject
+with_aspect Low d s = record s { lo = Some d }
+with_aspect High d s = record s { hi = Some d }
+with_aspect Error d s = record s { err = Some d }
 
 -- the subject at a place learns one thing; t is its name where that is said
-abbrev pub said_at : Side → Decimal → Lexeme → Subjects → ℕ → Subject → Result Subjects SourceFault
-said_at side d t subjects k s = if is_said (side_of side s) then Err (fault t.at kinds.NamedTwice)
-    else Ok (slice_set subjects k (with_side side d s))
+abbrev pub said_at : Aspect → Decimal → Lexeme → Subjects → ℕ → Subject → Result Subjects SourceFault
+said_at aspect d t subjects k s = if is_said (aspect_of aspect s) then Err (fault t.at kinds.NamedTwice)
+    else Ok (slice_set subjects k (with_aspect aspect d s))
 
 -- the subject at a place that is there
 abbrev pub subject_or : Subjects → ℕ → Subject
 subject_or subjects k = slice_index_or subjects k (record { name = []; at = 0; lo = None; hi = None; err = None })
 
 -- the subject at this place learns one thing, or it is said twice
-unfoldable pub said : Side → Decimal → Lexeme → Subjects → ℕ → Result Subjects SourceFault
-said side d t subjects k = said_at side d t subjects k (subject_or subjects k)
+unfoldable pub said : Aspect → Decimal → Lexeme → Subjects → ℕ → Result Subjects SourceFault
+said aspect d t subjects k = said_at aspect d t subjects k (subject_or subjects k)
 
 -- the place that was found, or the fault at the name
 abbrev pub found_or : Lexeme → Option ℕ → Result ℕ SourceFault
@@ -89,10 +89,10 @@ stated_error end subjects t k ts = do
   Ok (s, d.1)
 
 -- name rel signed, behind the relation
-unfoldable pub bound_at : ℕ → Subjects → Lexeme → ℕ → Side → Tokens → Parsed Subjects
-bound_at end subjects t k side ts = if next_head ts ==ₕ heads.Name then Err (fault t.at kinds.Unsupported) else (do
+unfoldable pub bound_at : ℕ → Subjects → Lexeme → ℕ → Aspect → Tokens → Parsed Subjects
+bound_at end subjects t k aspect ts = if next_head ts ==ₕ heads.Name then Err (fault t.at kinds.Unsupported) else (do
   d ← signed_at end ts
-  s ← said side d.0 t subjects k
+  s ← said aspect d.0 t subjects k
   Ok (s, d.1))
 
 -- a condition that begins with a name
@@ -111,11 +111,11 @@ is_signed ts =
     (next_head ts ==ₕ heads.Number) || ((next_head ts ==ₕ heads.Minus) && (next_head (drop 1 ts) ==ₕ heads.Number))
 
 -- signed rel name, behind the relation; the condition begins at first
-unfoldable pub behind_relation : ℕ → ℕ → Subjects → Decimal → Side → Tokens → Parsed Subjects
-behind_relation end first subjects d side ts = if is_signed ts then Err (fault first kinds.Unsupported) else (do
+unfoldable pub behind_relation : ℕ → ℕ → Subjects → Decimal → Aspect → Tokens → Parsed Subjects
+behind_relation end first subjects d aspect ts = if is_signed ts then Err (fault first kinds.Unsupported) else (do
   t ← want end heads.Name ts
   k ← subject_at subjects t.0
-  s ← said side d t.0 subjects k
+  s ← said aspect d t.0 subjects k
   Ok (s, t.1))
 
 -- a condition that begins with a number

@@ -7,8 +7,8 @@
 //! The trap: where one token completes two faults, the order of the tests in a definition is the grammar's table.
 #![tactic(auto)]
 
+mod aspect;
 mod head;
-mod side;
 
+pub use aspect::Aspect;
 pub use head::{Head, head_of};
-pub use side::Side;

@@ -1,11 +1,12 @@
 -- Codes each of which may follow those before it are the codes of a lawful program, and the codes of one do so.
-use Rattle.std.proofs.Common.{◌≡◌, ℕ, ◌-◌, ◌+◌, ◌≤◌, List, [], ◌∷◌, length, ℤ, Result, Ok, Err, refl, subst, ◌∙◌, arith}
-use Rattle.std.specs.Prelude.{Contains, IfOk, IsTrue, Bool, ◌↔◌}
+use Rattle.std.proofs.Common.{◌≡◌, ℕ, ◌-◌, ◌+◌, ◌≤◌, List, [], ◌∷◌, length, ℤ, Result, Ok, Err, Option, Some, None, refl, subst, ◌∙◌, arith}
+use Rattle.std.specs.Prelude.{Contains, IfOk, ◌↔◌}
+use Rattle.std.specs.Option.{SomeIff}
 use Rattle.std.proofs.lemmas.List.Elements.{All-nil}
 use Rattle.fx_model.specs.Function.{Function, outputs}
 use Rattle.fx_model.specs.LawfulProgram.{IsPoint, HasLawfulCounts, IsLawfulProgram, versions, widths, first_version}
 use Rattle.fx_model.specs.Limits.{node_limit}
-use Rattle.fx_model.specs.Machine.{Round, Code, Program, first_copy}
+use Rattle.fx_model.specs.Machine.{Round, Code, Program, first_copy, points_of}
 use Rattle.fx_expr.specs.LawfulFunction.{IsLawfulFunction}
 use Rattle.fx_text.specs.Many.{AreEach}
 use Rattle.fx_program.specs.CodeReading.{Head}
@@ -117,18 +118,25 @@ frame_is n r fn cs v i k m count first ve ie ke me ce fe =
     let last : first ≡ length cs - (outputs fn + length fn.states) = fe ∙ (λ j. ce j - (me j + ke j)) in
     λ j. record { width = n; version = ve j; inputs = ie j; states = ke j; first_copy = last j }
 
--- the test of its codes is one of the program
-pub tested : {E : Type 0} (n : ℕ) (r : Round) (fn : Function) (cs : List Code) (v i k m count first : ℕ)
-    (t : Result Bool E) → IsLawfulFunction fn → Contains widths n → v ≡ first_version r → i ≡ length fn.inputs →
-    k ≡ length fn.states → m ≡ outputs fn → count ≡ length cs → first ≡ count - (m + k) →
+-- what tells of one claim tells of another that follows from it and from which it follows
+same_test : {T : Type 0} (o : Option T) (P Q : Type 0) (v : T) → P ↔ Q → SomeIff o P v → SomeIff o Q v
+same_test None P Q v same not = λ q. not (same.1 q)
+same_test (Some x) P Q v same h = (same.0 h.0, h.1)
+
+-- the test of its codes is one of the program, where `points_in` shows the points that were found
+pub frame_tested : {T E : Type 0} (points_in : T → Option (List ℤ)) (n : ℕ) (r : Round) (fn : Function) (cs : List Code)
+    (v i k m count first : ℕ) (t : Result T E) → IsLawfulFunction fn → Contains widths n → v ≡ first_version r →
+    i ≡ length fn.inputs → k ≡ length fn.states → m ≡ outputs fn → count ≡ length cs → first ≡ count - (m + k) →
     (i + k + (m + k) ≤ count) × (count ≤ node_limit) →
     (let h : Frame = record { width = n; version = v; inputs = i; states = k; first_copy = first } in
-    IfOk t (λ t. IsTrue t ↔ AreEach (MayFollow h) with_point [] cs)) →
-    IfOk t (λ t. IsTrue t ↔ IsLawfulProgram (program_for n r fn cs))
-tested n r fn cs v i k m count first (Err e) lawful width ve ie ke me ce fe le h = tt
-tested n r fn cs v i k m count first (Ok t) lawful width ve ie ke me ce fe le h =
+    IfOk t (λ t. SomeIff (points_in t) (AreEach (MayFollow h) with_point [] cs) (points_of cs))) →
+    IfOk t (λ t. SomeIff (points_in t) (IsLawfulProgram (program_for n r fn cs)) (points_of cs))
+frame_tested points_in n r fn cs v i k m count first (Err e) lawful width ve ie ke me ce fe le h = tt
+frame_tested points_in n r fn cs v i k m count first (Ok t) lawful width ve ie ke me ce fe le h =
     let p = program_for n r fn cs in
     let same = frame_is n r fn cs v i k m count first ve ie ke me ce fe in
-    let order = subst (λ (h : Frame). IsTrue t ↔ AreEach (MayFollow h) with_point [] cs) same h in
+    let order =
+    subst (λ (h : Frame). SomeIff (points_in t) (AreEach (MayFollow h) with_point [] cs) (points_of cs)) same h in
     let counts = counts_of n r fn cs lawful (omega (arith, le.0)) (omega (arith, le.1)) in
-    (λ e. ordered_is_lawful p (has_version r) width counts (order.0 e), λ l. order.1 (lawful_is_ordered p l))
+    same_test (points_in t) (AreEach (MayFollow (frame_of p)) with_point [] cs) (IsLawfulProgram p) (points_of cs)
+    (ordered_is_lawful p (has_version r) width counts, lawful_is_ordered p) order

@@ -4,11 +4,11 @@
 //! point follows from those of the operands, so it is computed only behind the test that these stand before.
 
 ghost use Rattle.std.specs.Prelude.{◌↔◌, ◌<◌, ◌≤◌, ◌+◌, ◌-◌, ◌*◌, [], length, map, All, Contains, IfOk, IsTrue};
-ghost use Rattle.std.specs.Option.{SomeIff};
+ghost use Rattle.std.specs.Option.{SomeIff, option_map};
 ghost use Rattle.fx_model.specs.Limits.{node_limit};
 ghost use Rattle.fx_model.specs.LawfulProgram.{widths, least_shift, IsPoint, IsShift, IsCopyShift, IsLawfulCode, IsPlaced, IsCopy, IsOfVersion, IsLawfulProgram};
 ghost use Rattle.fx_model.specs.Machine as machine;
-ghost use Rattle.fx_model.specs.Machine.{IsWord, point_of};
+ghost use Rattle.fx_model.specs.Machine.{IsWord, point_of, points_of};
 ghost use Rattle.fx_word.specs.Words.{IsWidth};
 ghost use Rattle.fx_text.specs.Many.{AreEach};
 ghost use Rattle.fx_program.specs.CodeView.{round_of, kind_of, code_of};
@@ -16,11 +16,11 @@ ghost use Rattle.fx_program.specs.ProgramReading.{with_point};
 ghost use Rattle.fx_lowering.specs.InOrder.{MayStand, MayFollow};
 ghost use Rattle.fx_lowering.specs.OfFunction.{program_for};
 
-use crate::program::{input_count, output_count, program_for, state_count};
+use crate::program::{input_count, output_count, program_at, state_count};
 use fx_expr::Function;
-use fx_num::{GREATEST_POINT, LEAST_POINT, Memory, NODE_LIMIT};
-use fx_program::{Code, Kind, Program, Round, kind_point};
-use fx_word::is_word_at;
+use fx_num::{Memory, NODE_LIMIT};
+use fx_program::{Code, Kind, Program, Round, is_point, kind_point};
+use fx_word::{is_width, is_word_at};
 use std::alloc::Global;
 
 /// What all codes of a program are tested by.
@@ -31,20 +31,6 @@ struct Frame {
     inputs: u32,
     states: u32,
     first_copy: u32,
-}
-
-/// Whether words may have so many bits.
-fn is_width(n: u32) -> bool
-    ensures { IsTrue result ↔ Contains widths n }
-{
-    matches!(n, 8 | 16 | 24 | 32 | 40 | 48 | 56 | 64)
-}
-
-/// Whether this is a binary point.
-fn is_point(f: i32) -> bool
-    ensures { IsTrue result ↔ IsPoint f }
-{
-    LEAST_POINT <= f && f <= GREATEST_POINT
 }
 
 /// Whether this is a word of so many bits.
@@ -68,10 +54,7 @@ fn is_product_shift(width: u32, round: Round, s: u32) -> bool
     requires { IsWidth width }
     ensures { IsTrue result ↔ (s ≤ 2 * width - 2) × (least_shift (round_of round) ≤ s) }
 {
-    match round {
-        Round::Floor => s <= 2 * width - 2,
-        Round::Nearest => 1 <= s && s <= 2 * width - 2,
-    }
+    s <= 2 * width - 2 && round.least_shift() <= s
 }
 
 /// Whether a copy that rounds so may be shifted so.
@@ -79,10 +62,9 @@ fn is_copy_shift(width: u32, round: Round, s: i64) -> bool
     requires { IsWidth width }
     ensures { IsTrue result ↔ IsCopyShift (round_of round) width s }
 {
-    match round {
-        Round::Floor => -i64::from(width) <= s && s <= 64,
-        Round::Nearest => 1 <= s && s <= i64::from(width),
-    }
+    let least = i64::from(round.least_copy_shift(width));
+    let greatest = i64::from(round.greatest_copy_shift(width));
+    least <= s && s <= greatest
 }
 
 /// Whether both operands of code `k` come before it.
@@ -182,23 +164,24 @@ fn next_point(frame: Frame, points: &[i32], code: Code) -> Option<i32>
     if is_point(f) { Some(f) } else { None }
 }
 
-/// Whether each code may follow those before it.
-fn are_in_order(alloc: Global, frame: Frame, codes: &[Code]) -> Result<bool, Memory>
+/// The points of these codes. None where some code may not follow those before it.
+fn points_in_order(alloc: Global, frame: Frame, codes: &[Code]) -> Result<Option<Vec<i32>>, Memory>
     requires known { Contains widths frame.width }
     requires width { IsWidth frame.width }
     requires inputs { frame.inputs ≤ node_limit }
     requires states { frame.states ≤ node_limit }
     requires few { length codes.now ≤ node_limit }
-    ensures { IfOk result (λ t. IsTrue t ↔ AreEach (MayFollow frame) with_point [] (map code_of codes.now)) }
+    ensures { IfOk result (λ found. SomeIff (option_map (λ points. points.items) found)
+        (AreEach (MayFollow frame) with_point [] (map code_of codes.now)) (points_of (map code_of codes.now))) }
 {
     let mut points = Vec::new(alloc);
     for i in 0..codes.len() {
         match next_point(frame, &points, codes[i]) {
             Some(f) => points.push(f)?,
-            None => return Ok(false),
+            None => return Ok(None),
         }
     }
-    Ok(true)
+    Ok(Some(points))
 }
 
 /// Whether so many codes are within the limit, and enough for so many inputs, states and outputs.
@@ -211,23 +194,24 @@ fn is_count(inputs: u32, states: u32, outputs: u32, count: usize) -> bool
     (inputs + states + (outputs + states)) as usize <= count && count <= NODE_LIMIT as usize
 }
 
-/// Whether the program of these codes is lawful.
-fn is_lawful(
+/// The points of these codes, where their program is lawful.
+fn lawful_points(
     alloc: Global,
     function: &Function,
     width: u32,
     round: Round,
     codes: &[Code],
-) -> Result<bool, Memory>
-    ensures { IfOk result (λ t. IsTrue t
-        ↔ IsLawfulProgram (program_for width (round_of round) function.now (map code_of codes.now))) }
+) -> Result<Option<Vec<i32>>, Memory>
+    ensures { IfOk result (λ found. SomeIff (option_map (λ points. points.items) found)
+        (IsLawfulProgram (program_for width (round_of round) function.now (map code_of codes.now)))
+        (points_of (map code_of codes.now))) }
 {
     function.keeps();
     let inputs = input_count(function);
     let states = state_count(function);
     let outputs = output_count(function);
     if !is_width(width) || !is_count(inputs, states, outputs, codes.len()) {
-        return Ok(false);
+        return Ok(None);
     }
     let frame = Frame {
         width,
@@ -236,7 +220,7 @@ fn is_lawful(
         states,
         first_copy: codes.len() as u32 - (outputs + states),
     };
-    are_in_order(alloc, frame, codes)
+    points_in_order(alloc, frame, codes)
 }
 
 /// The program of a function with these codes, in words of `width` bits and of the version that the rounding came with.
@@ -252,8 +236,8 @@ pub fn lawful_program(
         (IsLawfulProgram (program_for width (round_of round) function.now (map code_of codes.items)))
         (program_for width (round_of round) function.now (map code_of codes.items))) }
 {
-    if !is_lawful(alloc, function, width, round, &codes)? {
-        return Ok(None);
+    match lawful_points(alloc, function, width, round, &codes)? {
+        Some(points) => Ok(Some(program_at(alloc, function, width, round, codes, points)?)),
+        None => Ok(None),
     }
-    Ok(Some(program_for(alloc, function, width, round, codes)?))
 }

@@ -12,7 +12,7 @@ use Rattle.fx_grammar.specs.Functions.{require_word_at, Front, body_of, within_n
 use Rattle.fx_parser.specs.Views.{ending_at}
 
 -- the parts before the brace that closes a body were read
-pub record IsInside (end word : ℕ) (f : Front) (ts : Tokens) (i : List model.Input × Tokens) (b : Body × Tokens)
+pub record AreBodyParts (end word : ℕ) (f : Front) (ts : Tokens) (i : List model.Input × Tokens) (b : Body × Tokens)
     (y : Results × Tokens) : Type 0 where
   pub rest : Tokens
   pub requires : require_word_at end f.subjects ts ≡ Ok rest
@@ -21,7 +21,7 @@ pub record IsInside (end word : ℕ) (f : Front) (ts : Tokens) (i : List model.I
   pub results : result_at end word f.reals b.0 b.1 ≡ Ok y
 
 module _ {end word : ℕ} {f : Front} {ts : Tokens} {i : List model.Input × Tokens} {b : Body × Tokens}
-    {y : Results × Tokens} (inside : IsInside end word f ts i b y) where
+    {y : Results × Tokens} (inside : AreBodyParts end word f ts i b y) where
   -- the brace and the demands were read too
   pub body_is : (d : List model.Demand × Tokens) → ending_at end (f.reals - length f.declared.states) y.1 ≡ Ok d →
       body_at end word f ts ≡ within_nodes word b.0 y.0

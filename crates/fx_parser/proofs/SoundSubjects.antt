@@ -17,12 +17,12 @@ use Rattle.fx_lexer.specs.declared.fault.SourceKind.TheVariants as faults
 use Rattle.fx_lexer.specs.Tokens.{Lexeme}
 use Rattle.fx_grammar.specs.declared.head.Head.{Head}
 use Rattle.fx_grammar.specs.declared.head.Head.TheVariants as heads
-use Rattle.fx_grammar.specs.declared.side.Side.{Side}
-use Rattle.fx_grammar.specs.declared.side.Side.TheVariants.{Low, High, Error}
+use Rattle.fx_grammar.specs.declared.aspect.Aspect.{Aspect}
+use Rattle.fx_grammar.specs.declared.aspect.Aspect.TheVariants.{Low, High, Error}
 use Rattle.fx_grammar.specs.Heads.{head_of, by_kind, word_head, sign_head, head_number, ◌==ₕ◌}
 use Rattle.fx_model.specs.Steps.{◌>>=◌}
 use Rattle.fx_grammar.specs.Steps.{fault, Tokens, name_place, next_head, decimal, numeral_at, signed_at}
-use Rattle.fx_grammar.specs.Ranges.{Subject, Subjects, new_subject, names_of, side_of, with_side, is_said, subject_or, said, found_or, subject_at, is_relation, is_upward, is_signed, stated_error, bound_at, name_first, behind_relation, number_first, condition_at, Conditions, are_open, wanted_at, read_at, conditions_step, conditions_at, or_zero, declared_input, is_lacking, is_empty_range, all_pass, inputs_at, require_at}
+use Rattle.fx_grammar.specs.Ranges.{Subject, Subjects, new_subject, names_of, aspect_of, with_aspect, is_said, subject_or, said, found_or, subject_at, is_relation, is_upward, is_signed, stated_error, bound_at, name_first, behind_relation, number_first, condition_at, Conditions, are_open, wanted_at, read_at, conditions_step, conditions_at, or_zero, declared_input, is_lacking, is_empty_range, all_pass, inputs_at, require_at}
 use Rattle.fx_parser.specs.LawfulTokens.{IsSize, IsSound, IsSoundText, AreSound}
 use Rattle.fx_model.proofs.Steps.{on_ok}
 use Rattle.fx_parser.proofs.Reading.{fine, on_when, on_if, refused, same_ok, sound_drop, want_ok, repeat_ok}
@@ -165,27 +165,28 @@ subject_at_ok ss t k e = by (name_place (names_of ss) t.text) refl e where
       subst (λ (j : ℕ). j < length ss) (same_ok p k e) m
 
 -- an error is a size
-abbrev IsSaid : Side → Decimal → Type 0
+abbrev IsSaid : Aspect → Decimal → Type 0
 IsSaid Error d = IsSize d
 IsSaid _ d = Unit {0}
 
-with_side_ok : (side : Side) (d : Decimal) (s : Subject) → IsSaid side d → IsSubject s → IsSubject (with_side side d s)
-with_side_ok Low d s p q = q
-with_side_ok High d s p q = q
-with_side_ok Error d s p q = (q.0, p)
+with_aspect_ok : (aspect : Aspect) (d : Decimal) (s : Subject) → IsSaid aspect d → IsSubject s →
+    IsSubject (with_aspect aspect d s)
+with_aspect_ok Low d s p q = q
+with_aspect_ok High d s p q = q
+with_aspect_ok Error d s p q = (q.0, p)
 
-said_ok : (n : ℕ) (side : Side) (d : Decimal) (t : Lexeme) (ss : Subjects) (k : ℕ) (x : Subjects) → k < length ss →
-    IsSaid side d → AreSubjects n ss → said side d t ss k ≡ Ok x → AreSubjects n x
+said_ok : (n : ℕ) (aspect : Aspect) (d : Decimal) (t : Lexeme) (ss : Subjects) (k : ℕ) (x : Subjects) → k < length ss →
+    IsSaid aspect d → AreSubjects n ss → said aspect d t ss k ≡ Ok x → AreSubjects n x
 unfolding said
-said_ok n side d t ss k x lt p q e =
+said_ok n aspect d t ss k x lt p q e =
     let r =
-    refused (is_said (side_of side (subject_or ss k))) _
-    (Ok (slice_set ss k (with_side side d (subject_or ss k)))) x e in
+    refused (is_said (aspect_of aspect (subject_or ss k))) _
+    (Ok (slice_set ss k (with_aspect aspect d (subject_or ss k)))) x e in
     let all =
-    All-set IsSubject ss k (with_side side d (subject_or ss k))
-    (with_side_ok side d (subject_or ss k) p (All-get_or IsSubject ss k _ lt q.1)) q.1 in
+    All-set IsSubject ss k (with_aspect aspect d (subject_or ss k))
+    (with_aspect_ok aspect d (subject_or ss k) p (All-get_or IsSubject ss k _ lt q.1)) q.1 in
     subst (λ (y : Subjects). AreSubjects n y) (same_ok _ x r.1) (
-      length-set ss k (with_side side d (subject_or ss k))
+      length-set ss k (with_aspect aspect d (subject_or ss k))
           ∙ q.0,
       all,
     )
@@ -198,16 +199,16 @@ error_ok n end ss t k ts x lt q s e = on_ok _ _ x e (λ d de e. on_ok _ _ x e (�
     subst (λ (z : Subjects × Tokens). AreSubjects n z.0 ×
     AreSound z.1) (same_ok (y, d.1) x e) (said_ok n Error d.0 t ss k y lt w.0 q ye, w.1)))
 
-bound_ok : (n end : ℕ) (ss : Subjects) (t : Lexeme) (k : ℕ) (side : Side) (ts : Tokens) (x : Subjects × Tokens) →
-    ((d : Decimal) → IsSaid side d) → k < length ss → AreSubjects n ss → AreSound ts →
-    bound_at end ss t k side ts ≡ Ok x → AreSubjects n x.0 × AreSound x.1
+bound_ok : (n end : ℕ) (ss : Subjects) (t : Lexeme) (k : ℕ) (aspect : Aspect) (ts : Tokens) (x : Subjects × Tokens) →
+    ((d : Decimal) → IsSaid aspect d) → k < length ss → AreSubjects n ss → AreSound ts →
+    bound_at end ss t k aspect ts ≡ Ok x → AreSubjects n x.0 × AreSound x.1
 unfolding bound_at
-bound_ok n end ss t k side ts x free lt q s e =
+bound_ok n end ss t k aspect ts x free lt q s e =
     on_if (next_head ts ==ₕ heads.Name) _ _ x e (λ on e. absurd cc) (λ off e.
     on_ok _ _ x e (λ d de e. on_ok _ _ x e (λ y ye e.
     subst (λ (z : Subjects × Tokens). AreSubjects n z.0 ×
     AreSound z.1) (same_ok (y, d.1) x e) (
-      said_ok n side d.0 t ss k y lt (free d.0) q ye,
+      said_ok n aspect d.0 t ss k y lt (free d.0) q ye,
       signed_ok end ts d s de,
     ))))
 
@@ -232,16 +233,16 @@ name_first_ok n end ss ts x q s e = on_ok _ _ x e (λ t te e. on_ok _ _ x e (λ 
     (sound_drop 1 t.1 w.2) e)
     (λ off e. absurd cc))))
 
-behind_relation_ok : (n end first : ℕ) (ss : Subjects) (d : Decimal) (side : Side) (ts : Tokens) (x : Subjects ×
-    Tokens) → IsSaid side d → AreSubjects n ss → AreSound ts → behind_relation end first ss d side ts ≡ Ok x →
+behind_relation_ok : (n end first : ℕ) (ss : Subjects) (d : Decimal) (aspect : Aspect) (ts : Tokens) (x : Subjects ×
+    Tokens) → IsSaid aspect d → AreSubjects n ss → AreSound ts → behind_relation end first ss d aspect ts ≡ Ok x →
     AreSubjects n x.0 × AreSound x.1
 unfolding behind_relation
-behind_relation_ok n end first ss d side ts x free q s e = on_if (is_signed ts) _ _ x e (λ on e. absurd cc) (λ off e.
+behind_relation_ok n end first ss d aspect ts x free q s e = on_if (is_signed ts) _ _ x e (λ on e. absurd cc) (λ off e.
     on_ok _ _ x e (λ t te e. on_ok _ _ x e (λ k ke e. on_ok _ _ x e (λ y ye e.
     let w = want_ok end heads.Name ts t s te in
     subst (λ (z : Subjects × Tokens). AreSubjects n z.0 ×
     AreSound z.1) (same_ok (y, t.1) x e) (
-      said_ok n side d t.0 ss k y (subject_at_ok ss t.0 k ke) free q ye,
+      said_ok n aspect d t.0 ss k y (subject_at_ok ss t.0 k ke) free q ye,
       w.2,
     )))))
 

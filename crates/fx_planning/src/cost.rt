@@ -24,7 +24,7 @@ pub enum Cost {
     /// demanded end; and the mean of those by the references.
     Planned { excess: Real, mean: Real },
     /// There is no plan: from the node that fails on so many are left.
-    Failed { left: u32 },
+    Unplanned { left: u32 },
 }
 
 /// About a decimal.

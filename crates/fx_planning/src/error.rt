@@ -8,7 +8,7 @@ use crate::setting::Setting;
 use fx_fraction::Fraction;
 use fx_num::{Dyadic, Memory, left_fits};
 use fx_program::{Code, Kind, Round};
-use fx_ranges::{Failed, RangeForm, mix_of, operands, weighted};
+use fx_ranges::{RangeForm, Unplanned, mix_of, operands, weighted};
 use fx_span::{Span, reading_error, unit_on, word_error};
 use std::alloc::Global;
 
@@ -396,18 +396,18 @@ pub fn find_errors(
     setting: &Setting<'_>,
     codes: &mut [Code],
     is_centred: bool,
-) -> Result<Result<Errors, Failed>, Memory> {
+) -> Result<Result<Errors, Unplanned>, Memory> {
     let mut errors = Errors::new(alloc);
     for n in 0..setting.nodes.len() {
         let Some(error) = node_error(setting, codes, &mut errors, n, is_centred) else {
-            return Ok(Err(Failed::at(n)));
+            return Ok(Err(Unplanned::at(n)));
         };
         let Some(is_small) = is_small(setting, n, error.span) else {
-            return Ok(Err(Failed::at(n)));
+            return Ok(Err(Unplanned::at(n)));
         };
         errors.push(error)?;
         if is_small {
-            errors.small.push(Failed::at(n).node)?;
+            errors.small.push(Unplanned::at(n).node)?;
         }
     }
     Ok(Ok(errors))

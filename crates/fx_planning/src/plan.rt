@@ -8,7 +8,7 @@ use fx_expr::Function;
 use fx_flat::Nodes;
 use fx_num::Memory;
 use fx_program::Code;
-use fx_ranges::{Failed, Ranges};
+use fx_ranges::{Ranges, Unplanned};
 use fx_span::Span;
 use fx_wanted::Wanted;
 use std::alloc::Global;
@@ -66,7 +66,7 @@ fn planned(
     setting: &Setting<'_>,
     codes: Vec<Code>,
     is_centred: bool,
-) -> Result<Result<Plan, Failed>, Memory> {
+) -> Result<Result<Plan, Unplanned>, Memory> {
     let mut codes = codes;
     let errors = match find_errors(alloc, setting, &mut codes, is_centred)? {
         Ok(errors) => errors,
@@ -87,7 +87,7 @@ fn finished(
     setting: &Setting<'_>,
     codes: &[Code],
     is_centred: bool,
-) -> Result<Result<Plan, Failed>, Memory> {
+) -> Result<Result<Plan, Unplanned>, Memory> {
     let codes = Vec::from_slice(alloc, codes)?;
     let mut plan = match planned(alloc, setting, codes, is_centred)? {
         Ok(plan) => plan,
@@ -104,7 +104,7 @@ fn better_plan(
     alloc: Global,
     setting: &Setting<'_>,
     codes: &[Code],
-) -> Result<Result<Plan, Failed>, Memory> {
+) -> Result<Result<Plan, Unplanned>, Memory> {
     let nearest = finished(alloc, setting, codes, false)?;
     let Ok(centred) = finished(alloc, setting, codes, true)? else {
         return Ok(nearest);
@@ -130,7 +130,7 @@ pub fn find_plan(
     points: &[i32],
     wanted: Wanted,
     goal: Goal<'_>,
-) -> Result<Result<Plan, Failed>, Memory> {
+) -> Result<Result<Plan, Unplanned>, Memory> {
     let uses = count_uses(alloc, nodes.list.as_slice())?;
     let setting = Setting {
         uses: &uses,
@@ -174,7 +174,7 @@ pub fn find_plan_in<'a>(
     points: &'a [i32],
     wanted: Wanted,
     boxes: &'a [Span],
-) -> Result<Result<Plan, Failed>, Memory> {
+) -> Result<Result<Plan, Unplanned>, Memory> {
     let setting = Setting {
         boxes,
         ..Setting::new(function, nodes, ranges, points, wanted)

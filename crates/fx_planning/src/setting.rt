@@ -6,7 +6,7 @@ use fx_flat::{Node, Nodes};
 use fx_fraction::Fraction;
 use fx_num::{Memory, bits};
 use fx_program::Code;
-use fx_ranges::{Failed, Ranges, codes_of, operands};
+use fx_ranges::{Ranges, Unplanned, codes_of, operands};
 use fx_span::Span;
 use fx_wanted::Wanted;
 use std::alloc::Global;
@@ -73,7 +73,7 @@ impl<'a> Setting<'a> {
 
 impl Setting<'_> {
     /// The codes at the points, with the nearest words, or the first node that has none.
-    pub fn codes(&self, alloc: Global) -> Result<Result<Vec<Code>, Failed>, Memory> {
+    pub fn codes(&self, alloc: Global) -> Result<Result<Vec<Code>, Unplanned>, Memory> {
         let wanted = self.wanted;
         codes_of(
             alloc,

@@ -1,7 +1,7 @@
 //! The points that a node may have.
 ghost use Rattle.std.specs.Prelude.{◌≤◌};
 
-use fx_num::{GREATEST_POINT, LEAST_POINT};
+use fx_program::is_point;
 use fx_span::Real;
 
 /// A point that a node may have.
@@ -52,11 +52,7 @@ pub fn cheaper(first: Option<Choice>, second: Option<Choice>) -> Option<Choice> 
 
 /// The point, if a word can have it.
 fn point_at(f: i32) -> Option<i8> {
-    if LEAST_POINT <= f && f <= GREATEST_POINT {
-        Some(f as i8)
-    } else {
-        None
-    }
+    if is_point(f) { Some(f as i8) } else { None }
 }
 
 /// At most eight choices, the finest point first.

@@ -1,12 +1,12 @@
 //! The codes of nodes at given points, with the nearest words.
 
-use crate::range::Failed;
+use crate::range::Unplanned;
 use fx_expr::Function;
 use fx_flat::Node;
 use fx_fraction::to_fraction;
 use fx_lowering::code_at;
-use fx_num::{GREATEST_POINT, LEAST_POINT, Memory};
-use fx_program::{Code, Round};
+use fx_num::Memory;
+use fx_program::{Code, Round, is_point};
 use fx_span::{nearest, word_at};
 use std::alloc::Global;
 
@@ -39,11 +39,6 @@ fn nearest_code(
     code_at(node, w, f, points, width, round)
 }
 
-/// Whether a code can have this point.
-fn is_point(f: i32) -> bool {
-    LEAST_POINT <= f && f <= GREATEST_POINT
-}
-
 /// Whether a node has a code at a point, after those of its operands.
 pub fn has_code(function: &Function, node: &Node, f: i32, points: &[i32], width: u32) -> bool {
     // which shifts there are doesn't depend on how they round
@@ -74,12 +69,12 @@ pub fn codes_of(
     points: &[i32],
     width: u32,
     round: Round,
-) -> Result<Result<Vec<Code>, Failed>, Memory> {
+) -> Result<Result<Vec<Code>, Unplanned>, Memory> {
     let mut codes = Vec::new(alloc);
     for n in 0..nodes.len() {
         match nth_code(function, nodes, n, points, width, round) {
             Some(code) => codes.push(code)?,
-            None => return Ok(Err(Failed::at(n))),
+            None => return Ok(Err(Unplanned::at(n))),
         }
     }
     Ok(Ok(codes))

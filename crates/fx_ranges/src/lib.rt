@@ -23,5 +23,5 @@ mod start;
 
 pub use code::{codes_of, has_code};
 pub use form::{Mix, RangeForm, mix_of, operands, weighted};
-pub use range::{Failed, Ranges, find_ranges, find_ranges_in};
+pub use range::{Ranges, Unplanned, find_ranges, find_ranges_in};
 pub use start::{start_error, start_range};

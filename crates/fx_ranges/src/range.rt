@@ -13,14 +13,14 @@ use std::alloc::Global;
 
 /// There is no plan: this node is the first for which the pass has nothing to say.
 #[derive(Clone, Copy, Debug, PartialEq, Eq)]
-pub struct Failed {
+pub struct Unplanned {
     pub node: u32,
 }
 
-impl Failed {
+impl Unplanned {
     /// The failure of a node.
-    pub fn at(n: usize) -> Failed {
-        Failed {
+    pub fn at(n: usize) -> Unplanned {
+        Unplanned {
             node: u32::try_from(n).unwrap_or(u32::MAX),
         }
     }
@@ -321,7 +321,7 @@ pub fn find_ranges(
     function: &Function,
     nodes: &Nodes,
     grids: Grids,
-) -> Result<Result<Ranges, Failed>, Memory> {
+) -> Result<Result<Ranges, Unplanned>, Memory> {
     find_ranges_in(alloc, function, nodes, grids, &[])
 }
 
@@ -332,16 +332,16 @@ pub fn find_ranges_in(
     nodes: &Nodes,
     grids: Grids,
     boxes: &[Span],
-) -> Result<Result<Ranges, Failed>, Memory> {
+) -> Result<Result<Ranges, Unplanned>, Memory> {
     let list = nodes.list.as_slice();
     let variables = function.inputs.len().saturating_add(boxes.len());
     let Some(mut ranges) = Ranges::new(alloc, list.len(), variables, grids)? else {
-        return Ok(Err(Failed::at(0)));
+        return Ok(Err(Unplanned::at(0)));
     };
     for n in 0..list.len() {
         match node_range(function, &mut ranges, boxes, n, &list[n]) {
             Some((span, form)) => ranges.push(span, form)?,
-            None => return Ok(Err(Failed::at(n))),
+            None => return Ok(Err(Unplanned::at(n))),
         }
     }
     Ok(Ok(ranges))

@@ -9,8 +9,8 @@ use Rattle.fx_rational.specs.Decimal.{Decimal}
 use Rattle.fx_lexer.specs.declared.fault.SourceFault.{SourceFault}
 use Rattle.fx_lexer.specs.declared.fault.SourceKind.TheVariants.{NamedTwice}
 use Rattle.fx_lexer.specs.Tokens.{Lexeme}
-use Rattle.fx_grammar.specs.declared.side.Side.{Side}
-use Rattle.fx_grammar.specs.Ranges.{names_of, Subjects, subject_or, said, said_at, side_of, with_side, is_said}
+use Rattle.fx_grammar.specs.declared.aspect.Aspect.{Aspect}
+use Rattle.fx_grammar.specs.Ranges.{names_of, Subjects, subject_or, said, said_at, aspect_of, with_aspect, is_said}
 use Rattle.std.specs.Prelude.{bytes_eq}
 use Rattle.std.proofs.lemmas.Bool.{le-ltb}
 use Rattle.std.proofs.lemmas.List.{length-map, get_or-map}
@@ -50,24 +50,24 @@ seated : (xs : List Subject) (k : ℕ) (s : Subject) → k < length xs → s ≡
     subject_or (map subject_of xs) k ≡ subject_of s
 seated xs k s lt e = get_or-map subject_of xs k s _ lt ∙ ap subject_of (sym e)
 
-pub said_twice : (side : Side) (d : Decimal) (t : Lexeme) (xs : List Subject) (k : ℕ) (s : Subject) → k < length xs →
-    s ≡ get_or xs k s → is_said (side_of side (subject_of s)) ≡ true →
-    said side d t (map subject_of xs) k ≡ Err (fault t.at NamedTwice)
+pub said_twice : (aspect : Aspect) (d : Decimal) (t : Lexeme) (xs : List Subject) (k : ℕ) (s : Subject) →
+    k < length xs → s ≡ get_or xs k s → is_said (aspect_of aspect (subject_of s)) ≡ true →
+    said aspect d t (map subject_of xs) k ≡ Err (fault t.at NamedTwice)
 unfolding said
-said_twice side d t xs k s lt e given =
-    let g : said_at side d t (map subject_of xs) k (subject_of s) ≡ Err (fault t.at NamedTwice) = rw given refl in
-    ap (said_at side d t (map subject_of xs) k) (seated xs k s lt e) ∙ g
+said_twice aspect d t xs k s lt e given =
+    let g : said_at aspect d t (map subject_of xs) k (subject_of s) ≡ Err (fault t.at NamedTwice) = rw given refl in
+    ap (said_at aspect d t (map subject_of xs) k) (seated xs k s lt e) ∙ g
 
 made : Subjects → Result Subjects SourceFault
 made subjects = Ok subjects
 
-pub said_once : (side : Side) (d : Decimal) (t : Lexeme) (xs : List Subject) (k : ℕ) (s s' : Subject) → k < length xs →
-    s ≡ get_or xs k s → is_said (side_of side (subject_of s)) ≡ false →
-    subject_of s' ≡ with_side side d (subject_of s) →
-    said side d t (map subject_of xs) k ≡ Ok (map subject_of (set xs k s'))
+pub said_once : (aspect : Aspect) (d : Decimal) (t : Lexeme) (xs : List Subject) (k : ℕ) (s s' : Subject) →
+    k < length xs → s ≡ get_or xs k s → is_said (aspect_of aspect (subject_of s)) ≡ false →
+    subject_of s' ≡ with_aspect aspect d (subject_of s) →
+    said aspect d t (map subject_of xs) k ≡ Ok (map subject_of (set xs k s'))
 unfolding said made
-said_once side d t xs k s s' lt e given w =
-    let g : said_at side d t (map subject_of xs) k (subject_of s)
-    ≡ made (set (map subject_of xs) k (with_side side d (subject_of s))) = rw given refl in
-    ap (said_at side d t (map subject_of xs) k) (seated xs k s lt e) ∙ g
+said_once aspect d t xs k s s' lt e given w =
+    let g : said_at aspect d t (map subject_of xs) k (subject_of s)
+    ≡ made (set (map subject_of xs) k (with_aspect aspect d (subject_of s))) = rw given refl in
+    ap (said_at aspect d t (map subject_of xs) k) (seated xs k s lt e) ∙ g
     ∙ ap (λ v. made (set (map subject_of xs) k v)) (sym w) ∙ ap made (sym (map-set subject_of xs k s'))

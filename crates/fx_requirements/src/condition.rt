@@ -14,7 +14,7 @@ ghost use Rattle.fx_grammar.specs.Ranges.{is_relation, is_upward, is_signed, sta
 
 use crate::subject::{Subject, said, subject_at};
 use fx_cursor::{Numeral, Parsed, behind, number, peek, place_at, signed, want, wrong};
-use fx_grammar::{Head, Side, head_of};
+use fx_grammar::{Aspect, Head, head_of};
 use fx_lexer::{SourceFault, SourceKind, Token};
 
 fn is_relation(head: Head) -> bool
@@ -51,7 +51,7 @@ fn error_at<'t, 'a>(
     ensures shorter { IfOk result (λ x. length x.1.now < length tokens.now) }
 {
     let (value, rest) = number(end, tokens)?;
-    let subjects = said(Side::Error, value, token, subjects, k)?;
+    let subjects = said(Aspect::Error, value, token, subjects, k)?;
     Ok((subjects, rest))
 }
 
@@ -61,19 +61,19 @@ fn bound_at<'t, 'a>(
     subjects: Vec<Subject<'a>>,
     token: &Token<'a>,
     k: usize,
-    side: Side,
+    aspect: Aspect,
     tokens: &'t [Token<'a>],
 ) -> Parsed<'t, 'a, Vec<Subject<'a>>>
     requires { k < length subjects.items }
     ensures value { GivesParsed (λ x. (subjects_of x.0, lexemes x.1.now)) result
-        (bound_at end (subjects_of subjects.entry) (lexeme_of token.now) k side (lexemes tokens.now)) }
+        (bound_at end (subjects_of subjects.entry) (lexeme_of token.now) k aspect (lexemes tokens.now)) }
     ensures shorter { IfOk result (λ x. length x.1.now < length tokens.now) }
 {
     if peek(tokens) == Head::Name {
         return Err(SourceFault::at(token.at, SourceKind::Unsupported));
     }
     let (value, rest) = signed(end, tokens)?;
-    let subjects = said(side, value, token, subjects, k)?;
+    let subjects = said(aspect, value, token, subjects, k)?;
     Ok((subjects, rest))
 }
 
@@ -97,12 +97,12 @@ fn name_first<'t, 'a>(
     if !is_relation(head) {
         return Err(wrong(end, rest));
     }
-    let side = if is_upward(head) {
-        Side::High
+    let aspect = if is_upward(head) {
+        Aspect::High
     } else {
-        Side::Low
+        Aspect::Low
     };
-    bound_at(end, subjects, &token, k, side, behind(rest))
+    bound_at(end, subjects, &token, k, aspect, behind(rest))
 }
 
 #[tactic(auto, unfolding(fx_grammar::specs::Ranges::behind_relation))]
@@ -111,11 +111,11 @@ fn behind_relation<'t, 'a>(
     first: u32,
     subjects: Vec<Subject<'a>>,
     value: Numeral<'a>,
-    side: Side,
+    aspect: Aspect,
     tokens: &'t [Token<'a>],
 ) -> Parsed<'t, 'a, Vec<Subject<'a>>>
     ensures value { GivesParsed (λ x. (subjects_of x.0, lexemes x.1.now)) result
-        (behind_relation end first (subjects_of subjects.entry) (numeral_decimal value.entry) side
+        (behind_relation end first (subjects_of subjects.entry) (numeral_decimal value.entry) aspect
         (lexemes tokens.now)) }
     ensures shorter { IfOk result (λ x. length x.1.now < length tokens.now) }
 {
@@ -124,7 +124,7 @@ fn behind_relation<'t, 'a>(
     }
     let (token, rest) = want(end, Head::Name, tokens)?;
     let k = subject_at(&subjects, &token)?;
-    let subjects = said(side, value, &token, subjects, k)?;
+    let subjects = said(aspect, value, &token, subjects, k)?;
     Ok((subjects, rest))
 }
 
@@ -144,17 +144,17 @@ fn number_first<'t, 'a>(
     if !is_relation(head) {
         return Err(wrong(end, rest));
     }
-    let side = if is_upward(head) {
-        Side::Low
+    let aspect = if is_upward(head) {
+        Aspect::Low
     } else {
-        Side::High
+        Aspect::High
     };
     behind_relation(
         end,
         place_at(end, tokens),
         subjects,
         value,
-        side,
+        aspect,
         behind(rest),
     )
 }

@@ -7,10 +7,10 @@ ghost use Rattle.fx_lexer.specs.Tokens.{lexeme_of};
 ghost use Rattle.fx_cursor.specs.Texts.{numeral_decimal};
 ghost use Rattle.fx_requirements.specs.Views.{subject_of, subjects_of, IsNamed};
 ghost use Rattle.fx_grammar.specs.Steps.{name_place};
-ghost use Rattle.fx_grammar.specs.Ranges.{names_of, new_subject, side_of, with_side, is_said, said, subject_at};
+ghost use Rattle.fx_grammar.specs.Ranges.{names_of, new_subject, aspect_of, with_aspect, is_said, said, subject_at};
 
 use fx_cursor::{Names, Numeral, no_names, with_name};
-use fx_grammar::Side;
+use fx_grammar::Aspect;
 use fx_lexer::{SourceFault, SourceKind, Token};
 use std::alloc::Global;
 
@@ -102,18 +102,18 @@ pub fn subject_at(subjects: &[Subject<'_>], token: &Token<'_>) -> Result<usize, 
     subject_place(subjects, token.text).ok_or(SourceFault::at(token.at, SourceKind::UnknownName))
 }
 
-fn is_said(side: Side, subject: &Subject<'_>) -> bool
-    ensures { result ≡ is_said (side_of side (subject_of subject.now)) }
+fn is_said(aspect: Aspect, subject: &Subject<'_>) -> bool
+    ensures { result ≡ is_said (aspect_of aspect (subject_of subject.now)) }
 {
-    match side {
-        Side::Low => subject.lo.is_some(),
-        Side::High => subject.hi.is_some(),
-        Side::Error => subject.err.is_some(),
+    match aspect {
+        Aspect::Low => subject.lo.is_some(),
+        Aspect::High => subject.hi.is_some(),
+        Aspect::Error => subject.err.is_some(),
     }
 }
 
-fn with_side<'a>(side: Side, value: Numeral<'a>, subject: &Subject<'a>) -> Subject<'a>
-    ensures { subject_of result ≡ with_side side (numeral_decimal value.entry) (subject_of subject.now) }
+fn with_aspect<'a>(aspect: Aspect, value: Numeral<'a>, subject: &Subject<'a>) -> Subject<'a>
+    ensures { subject_of result ≡ with_aspect aspect (numeral_decimal value.entry) (subject_of subject.now) }
 {
     let Subject {
         name,
@@ -122,22 +122,22 @@ fn with_side<'a>(side: Side, value: Numeral<'a>, subject: &Subject<'a>) -> Subje
         hi,
         err,
     } = *subject;
-    match side {
-        Side::Low => Subject {
+    match aspect {
+        Aspect::Low => Subject {
             name,
             at,
             lo: Some(value),
             hi,
             err,
         },
-        Side::High => Subject {
+        Aspect::High => Subject {
             name,
             at,
             lo,
             hi: Some(value),
             err,
         },
-        Side::Error => Subject {
+        Aspect::Error => Subject {
             name,
             at,
             lo,
@@ -149,7 +149,7 @@ fn with_side<'a>(side: Side, value: Numeral<'a>, subject: &Subject<'a>) -> Subje
 
 /// The subject at a place learns one thing.
 pub fn said<'a>(
-    side: Side,
+    aspect: Aspect,
     value: Numeral<'a>,
     token: &Token<'a>,
     mut subjects: Vec<Subject<'a>>,
@@ -157,12 +157,12 @@ pub fn said<'a>(
 ) -> Result<Vec<Subject<'a>>, SourceFault>
     requires { k < length subjects.items }
     ensures { GivesParsed (λ v. subjects_of v) result
-        (said side (numeral_decimal value.entry) (lexeme_of token.now) (subjects_of subjects.entry) k) }
+        (said aspect (numeral_decimal value.entry) (lexeme_of token.now) (subjects_of subjects.entry) k) }
 {
     let subject = subjects[k];
-    if is_said(side, &subject) {
+    if is_said(aspect, &subject) {
         return Err(SourceFault::at(token.at, SourceKind::NamedTwice));
     }
-    subjects[k] = with_side(side, value, &subject);
+    subjects[k] = with_aspect(aspect, value, &subject);
     Ok(subjects)
 }

@@ -10,7 +10,7 @@ use fx_flat::{Node, Nodes, flatten};
 use fx_num::{Dyadic, Memory};
 use fx_planning::{Cost, Plan, bound, find_plan};
 use fx_points::{NodeFacts, PointFault, choose_points};
-use fx_ranges::{Failed, Ranges, find_ranges};
+use fx_ranges::{Ranges, Unplanned, find_ranges};
 use fx_span::{Grids, Real, Span, input_error};
 use std::alloc::Global;
 
@@ -128,7 +128,7 @@ fn placed_within(
     nodes: &Nodes,
     ranges: &Ranges,
     caps: &[i32],
-) -> Result<Result<Placed, Failed>, Memory> {
+) -> Result<Result<Placed, Unplanned>, Memory> {
     let facts = facts_of(alloc, function, nodes, ranges, caps)?;
     let points = match choose_points(
         alloc,
@@ -138,7 +138,7 @@ fn placed_within(
         task.wanted.round,
     ) {
         Ok(points) => points,
-        Err(PointFault::NoPoint { node }) => return Ok(Err(Failed::at(node))),
+        Err(PointFault::NoPoint { node }) => return Ok(Err(Unplanned::at(node))),
         Err(PointFault::Memory) => return Err(Memory),
     };
     let found = find_plan(
@@ -173,9 +173,9 @@ fn backed_off(
     function: &Function,
     nodes: &Nodes,
     ranges: &Ranges,
-) -> Result<Result<Placed, Failed>, Memory> {
+) -> Result<Result<Placed, Unplanned>, Memory> {
     let mut caps = range_caps(alloc, nodes, ranges, task.wanted.width)?;
-    let mut failed = Failed::at(0);
+    let mut failed = Unplanned::at(0);
     for _turn in 0..TURNS {
         let placed = match placed_within(alloc, task, function, nodes, ranges, &caps)? {
             Ok(placed) => placed,
@@ -184,16 +184,16 @@ fn backed_off(
         let Some(node) = placed.plan.small().first() else {
             return Ok(Ok(placed));
         };
-        failed = Failed { node: *node };
+        failed = Unplanned { node: *node };
         lower(&mut caps, &placed);
     }
     Ok(Err(failed))
 }
 
 /// What it costs to fail at a node: the less, the further on it is.
-fn failure(nodes: &Nodes, failed: Failed) -> Cost {
+fn failure(nodes: &Nodes, failed: Unplanned) -> Cost {
     let count = u32::try_from(nodes.list.len()).unwrap_or(u32::MAX);
-    Cost::Failed {
+    Cost::Unplanned {
         left: count.saturating_sub(failed.node),
     }
 }

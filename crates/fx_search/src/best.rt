@@ -24,7 +24,7 @@ pub struct Polished {
 fn excess(attempt: &Attempt) -> Real {
     match attempt.placed.plan.cost() {
         Cost::Planned { excess, .. } => excess,
-        Cost::Failed { .. } => Real::INFINITE,
+        Cost::Unplanned { .. } => Real::INFINITE,
     }
 }
 

@@ -56,7 +56,7 @@ fn heated<R: Rng>(rng: &mut R, cost: Cost) -> Cost {
                 mean: mean.times(factor).over(Real::of(655_360, 0)),
             }
         }
-        Cost::Failed { left } => Cost::Failed { left },
+        Cost::Unplanned { left } => Cost::Unplanned { left },
     }
 }
 

@@ -7,4 +7,3 @@ pub mod Conditions
 pub mod Inputs
 pub mod Demands
 pub mod Searches
-pub mod Pairs

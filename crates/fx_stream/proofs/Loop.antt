@@ -105,10 +105,10 @@ pub record SoFar {T : Type 0} (o now : List (List ℕ) → Outcome T) (r : Lines
   pub prompt : HoldsEachTime (IsAnswered o left before) was is
 
 -- before the first turn
-pub starts : {T : Type 0} (o : List (List ℕ) → Outcome T) (left before : Option (List ℕ)) (was : List Moment)
+pub run_starts : {T : Type 0} (o : List (List ℕ) → Outcome T) (left before : Option (List ℕ)) (was : List Moment)
     {r : LinesState} {page : List ℕ} {limit : ℕ} → (o []).text ≡ [] → r ≡ fresh_lines limit → page ≡ [] →
     SoFar o o r left left before before page 0 limit was was
-starts o left before was {r} {page} {limit} none fresh empty = record {
+run_starts o left before was {r} {page} {limit} none fresh empty = record {
   ran = subst (λ r. Ran o o r left left before before page 0 r.limit) (sym fresh)
       (subst (λ p. Ran o o (fresh_lines limit) left left before before p 0 limit) (sym empty)
       (start o left before limit none));

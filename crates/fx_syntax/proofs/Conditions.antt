@@ -11,11 +11,11 @@ use Rattle.fx_lexer.specs.declared.fault.SourceKind.TheVariants as kinds
 use Rattle.fx_lexer.specs.Tokens.{Lexeme}
 use Rattle.fx_grammar.specs.declared.head.Head.{Head}
 use Rattle.fx_grammar.specs.declared.head.Head.TheVariants as heads
-use Rattle.fx_grammar.specs.declared.side.Side.{Side}
-use Rattle.fx_grammar.specs.declared.side.Side.TheVariants.{Low, High, Error}
+use Rattle.fx_grammar.specs.declared.aspect.Aspect.{Aspect}
+use Rattle.fx_grammar.specs.declared.aspect.Aspect.TheVariants.{Low, High, Error}
 use Rattle.fx_grammar.specs.Heads.{◌==ₕ◌}
 use Rattle.fx_grammar.specs.Steps.{Tokens, fault, next_head, next_place, name_place, when}
-use Rattle.fx_grammar.specs.Ranges.{Subject, Subjects, names_of, is_said, side_of, subject_or, said, found_or, subject_at, is_relation, is_upward, stated_error, bound_at, name_first, is_signed, behind_relation, number_first, condition_at, declared_input, or_zero, is_lacking, is_empty_range, all_pass, inputs_at}
+use Rattle.fx_grammar.specs.Ranges.{Subject, Subjects, names_of, is_said, aspect_of, subject_or, said, found_or, subject_at, is_relation, is_upward, stated_error, bound_at, name_first, is_signed, behind_relation, number_first, condition_at, declared_input, or_zero, is_lacking, is_empty_range, all_pass, inputs_at}
 use Rattle.fx_syntax.specs.Leaves.{IsNext, IsNumber, IsSigned, plain, negative}
 use Rattle.fx_syntax.specs.Conditions as syntax
 use Rattle.fx_syntax.specs.Conditions.{IsSaid, IsRelation, below, at_most, above, at_least, IsNameFirst, IsNumberFirst, IsErrorOf, IsSimple, error_of, IsInputOf, AreInputsOf, none, one_more}
@@ -44,25 +44,25 @@ none_is : (o : Option Decimal) → is_said o ≡ false → o ≡ None
 none_is None e = refl
 none_is (Some d) e = absurd cc
 
-pub said_spells : (side : Side) (d : Decimal) (t : Lexeme) (subjects : Subjects) (k : ℕ) →
-    name_place (names_of subjects) t.text ≡ Some k → OnOk (IsSaid side d t subjects) (said side d t subjects k)
+pub said_spells : (aspect : Aspect) (d : Decimal) (t : Lexeme) (subjects : Subjects) (k : ℕ) →
+    name_place (names_of subjects) t.text ≡ Some k → OnOk (IsSaid aspect d t subjects) (said aspect d t subjects k)
 unfolding said
-said_spells side d t subjects k p =
-    choose (is_said (side_of side (subject_or subjects k))) (λ e. failed)
+said_spells aspect d t subjects k p =
+    choose (is_said (aspect_of aspect (subject_or subjects k))) (λ e. failed)
     (λ e. done (record { place = k; known = p; fresh = none_is _ e; value = refl }))
 
-pub said_reads : (side : Side) (d : Decimal) (t : Lexeme) (before after : Subjects) (i : IsSaid side d t before after) →
-    said side d t before i.place ≡ Ok after
+pub said_reads : (aspect : Aspect) (d : Decimal) (t : Lexeme) (before after : Subjects)
+    (i : IsSaid aspect d t before after) → said aspect d t before i.place ≡ Ok after
 unfolding said
-said_reads side d t before after i = on_false _ (ap is_said i.fresh) (ap (λ (s : Subjects). Ok s) (sym i.value))
+said_reads aspect d t before after i = on_false _ (ap is_said i.fresh) (ap (λ (s : Subjects). Ok s) (sym i.value))
 
 -- ---- relations
 
 -- which end of the name on the left, and of that on the right
-pub on_left : Head → Side
+pub on_left : Head → Aspect
 on_left h = cond (is_upward h) High Low
 
-pub on_right : Head → Side
+pub on_right : Head → Aspect
 on_right h = cond (is_upward h) Low High
 
 relation_spells : (h : Head) → is_relation h ≡ true → IsRelation h (on_left h) (on_right h)
@@ -74,14 +74,14 @@ relation_spells heads.AtLeast e = at_least
 relation_spells _ e = absurd cc
 
 -- a relation is a sign of its own, and gives these ends
-record IsSign (h : Head) (left right : Side) : Type 0 where
+record IsSign (h : Head) (left right : Aspect) : Type 0 where
   relation : is_relation h ≡ true
   error : (h ==ₕ heads.PlusMinus) ≡ false
   end : (h ==ₕ heads.End) ≡ false
   on_left : on_left h ≡ left
   on_right : on_right h ≡ right
 
-relation_reads : {h : Head} {left right : Side} → IsRelation h left right → IsSign h left right
+relation_reads : {h : Head} {left right : Aspect} → IsRelation h left right → IsSign h left right
 unfolding on_left on_right
 relation_reads below = record { relation = refl; error = refl; end = refl; on_left = refl; on_right = refl }
 relation_reads at_most = record { relation = refl; error = refl; end = refl; on_left = refl; on_right = refl }
@@ -194,11 +194,11 @@ name_not_signed {ts = ts} n =
     subst (λ h. ((h ==ₕ heads.Number) || ((h ==ₕ heads.Minus) && (next_head (drop 1 ts) ==ₕ heads.Number))) ≡ false)
     (sym (next_head_is n)) refl
 
-bound_reads : (end : ℕ) (s after : Subjects) (ts rest : Tokens) (t : Lexeme) (d : Decimal) (side : Side) →
-    IsSigned ts d rest → (i : IsSaid side d t s after) → bound_at end s t i.place side ts ≡ Ok (after, rest)
+bound_reads : (end : ℕ) (s after : Subjects) (ts rest : Tokens) (t : Lexeme) (d : Decimal) (aspect : Aspect) →
+    IsSigned ts d rest → (i : IsSaid aspect d t s after) → bound_at end s t i.place aspect ts ≡ Ok (after, rest)
 unfolding bound_at
-bound_reads end s after ts rest t d side n i =
-    on_false _ (signed_head n).0 (steps _ (signed_reads end n) (steps _ (said_reads side d t s after i) refl))
+bound_reads end s after ts rest t d aspect n i =
+    on_false _ (signed_head n).0 (steps _ (signed_reads end n) (steps _ (said_reads aspect d t s after i) refl))
 
 name_first_reads : (end : ℕ) (s : Subjects) (ts : Tokens) (after : Subjects) (rest : Tokens) →
     IsNameFirst s ts after rest → condition_at end s ts ≡ Ok (after, rest)
@@ -211,17 +211,17 @@ name_first_reads end s ts after rest i =
     steps _ (subject_reads s i.name i.said.place i.said.known) (
     on_false _ (not_next i.sign.next heads.PlusMinus sign.error) (
     on_true _ (ap is_relation head ∙ sign.relation) (
-    ap (λ side. bound_at end s i.name i.said.place side (drop 1 i.signs)) (ap on_left head ∙ sign.on_left)
+    ap (λ aspect. bound_at end s i.name i.said.place aspect (drop 1 i.signs)) (ap on_left head ∙ sign.on_left)
     ∙ ap (bound_at end s i.name i.said.place i.left) (behind_is i.sign.next)
     ∙ bound_reads end s after i.numbers rest i.name i.number i.left i.number_is i.said)))))
 
-behind_reads : (end first : ℕ) (s after : Subjects) (ts rest : Tokens) (t : Lexeme) (d : Decimal) (side : Side) →
-    IsNext heads.Name ts t rest → IsSaid side d t s after → behind_relation end first s d side ts ≡ Ok (after, rest)
+behind_reads : (end first : ℕ) (s after : Subjects) (ts rest : Tokens) (t : Lexeme) (d : Decimal) (aspect : Aspect) →
+    IsNext heads.Name ts t rest → IsSaid aspect d t s after → behind_relation end first s d aspect ts ≡ Ok (after, rest)
 unfolding behind_relation
-behind_reads end first s after ts rest t d side n i =
+behind_reads end first s after ts rest t d aspect n i =
     on_false _ (name_not_signed n)
     (steps _ (want_reads end n)
-    (steps _ (subject_reads s t i.place i.known) (steps _ (said_reads side d t s after i) refl)))
+    (steps _ (subject_reads s t i.place i.known) (steps _ (said_reads aspect d t s after i) refl)))
 
 number_first_reads : (end : ℕ) (s : Subjects) (ts : Tokens) (after : Subjects) (rest : Tokens) →
     IsNumberFirst s ts after rest → condition_at end s ts ≡ Ok (after, rest)
@@ -232,7 +232,7 @@ number_first_reads end s ts after rest i =
     on_false _ (signed_head i.number_is).0 (
     steps _ (signed_reads end i.number_is) (
     on_true _ (ap is_relation head ∙ sign.relation) (
-    ap (λ side. behind_relation end (next_place end ts) s i.number side (drop 1 i.signs)) (ap on_right head
+    ap (λ aspect. behind_relation end (next_place end ts) s i.number aspect (drop 1 i.signs)) (ap on_right head
     ∙ sign.on_right)
     ∙ ap (behind_relation end (next_place end ts) s i.number i.right) (behind_is i.sign.next)
     ∙ behind_reads end (next_place end ts) s after i.names rest i.name i.number i.right i.name_next i.said)))

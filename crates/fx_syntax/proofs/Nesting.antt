@@ -3,7 +3,7 @@ use Rattle.std.proofs.Common.{◌≡◌, ℕ, zero, suc, ◌<◌, ◌≤◌, ◌
 use Rattle.std.specs.Prelude.{not}
 use Rattle.std.proofs.lemmas.List.{length-set}
 use Rattle.fx_rational.specs.Decimal.{Decimal}
-use Rattle.fx_grammar.specs.declared.side.Side.{Side}
+use Rattle.fx_grammar.specs.declared.aspect.Aspect.{Aspect}
 use Rattle.fx_model.specs.Function.{Input}
 use Rattle.fx_lexer.specs.declared.fault.SourceFault.{SourceFault}
 use Rattle.fx_lexer.specs.Tokens.{Lexeme}
@@ -11,7 +11,7 @@ use Rattle.fx_grammar.specs.declared.head.Head.TheVariants as heads
 use Rattle.fx_grammar.specs.Heads.{head_of, ◌==ₕ◌}
 use Rattle.fx_model.specs.Steps.{◌>>=◌}
 use Rattle.fx_grammar.specs.Steps.{Tokens, repeat}
-use Rattle.fx_grammar.specs.Ranges.{Subjects, condition_at, Conditions, are_open, wanted_at, read_at, conditions_step, conditions_at, require_at, with_side, subject_or}
+use Rattle.fx_grammar.specs.Ranges.{Subjects, condition_at, Conditions, are_open, wanted_at, read_at, conditions_step, conditions_at, require_at, with_aspect, subject_or}
 use Rattle.fx_syntax.specs.Leaves.{IsNext}
 use Rattle.fx_syntax.specs.Conditions.{IsSaid, IsSimple, number_first, name_first, error_of, IsConditions, last, both, IsCondition, nested, simple, AreInputsOf, none, one_more, IsRequire}
 use Rattle.fx_model.proofs.Steps.{on_ok}
@@ -430,10 +430,10 @@ require_shorter i =
     let z = next_shorter i.close.next in
     omega arith
 
-said_count : {side : Side} {d : Decimal} {t : Lexeme} {before after : Subjects} → IsSaid side d t before after →
+said_count : {aspect : Aspect} {d : Decimal} {t : Lexeme} {before after : Subjects} → IsSaid aspect d t before after →
     length after ≡ length before
-said_count {side = side} {d = d} {before = before} i =
-    ap length i.value ∙ length-set before i.place (with_side side d (subject_or before i.place))
+said_count {aspect = aspect} {d = d} {before = before} i =
+    ap length i.value ∙ length-set before i.place (with_aspect aspect d (subject_or before i.place))
 
 simple_count : {s : Subjects} {ts : Tokens} {after : Subjects} {rest : Tokens} → IsSimple s ts after rest →
     length after ≡ length s

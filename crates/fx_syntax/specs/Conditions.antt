@@ -6,21 +6,21 @@ use Rattle.fx_model.specs.Function.{Input}
 use Rattle.fx_lexer.specs.Tokens.{Lexeme}
 use Rattle.fx_grammar.specs.declared.head.Head.{Head}
 use Rattle.fx_grammar.specs.declared.head.Head.TheVariants as heads
-use Rattle.fx_grammar.specs.declared.side.Side.{Side}
-use Rattle.fx_grammar.specs.declared.side.Side.TheVariants.{Low, High, Error}
+use Rattle.fx_grammar.specs.declared.aspect.Aspect.{Aspect}
+use Rattle.fx_grammar.specs.declared.aspect.Aspect.TheVariants.{Low, High, Error}
 use Rattle.fx_grammar.specs.Steps.{Tokens, name_place}
-use Rattle.fx_grammar.specs.Ranges.{Subject, Subjects, names_of, side_of, with_side, subject_or, or_zero}
+use Rattle.fx_grammar.specs.Ranges.{Subject, Subjects, names_of, aspect_of, with_aspect, subject_or, or_zero}
 use Rattle.fx_syntax.specs.Leaves.{IsNext, IsMark, IsNumber, IsSigned}
 
 -- one thing is said of the subject of this name, for the first time
-pub record IsSaid (side : Side) (d : Decimal) (name : Lexeme) (before after : Subjects) : Type 0 where
+pub record IsSaid (aspect : Aspect) (d : Decimal) (name : Lexeme) (before after : Subjects) : Type 0 where
   pub place : ℕ
   pub known : name_place (names_of before) name.text ≡ Some place
-  pub fresh : side_of side (subject_or before place) ≡ None
-  pub value : after ≡ slice_set before place (with_side side d (subject_or before place))
+  pub fresh : aspect_of aspect (subject_or before place) ≡ None
+  pub value : after ≡ slice_set before place (with_aspect aspect d (subject_or before place))
 
 -- rel = "<" | "<=" | ">" | ">=": which end of the name on its left the number on its right gives, and conversely
-pub data IsRelation : Head → Side → Side → Type 0 where
+pub data IsRelation : Head → Aspect → Aspect → Type 0 where
   below : IsRelation heads.Below High Low
   at_most : IsRelation heads.AtMost High Low
   above : IsRelation heads.Above Low High
@@ -30,8 +30,8 @@ pub data IsRelation : Head → Side → Side → Type 0 where
 pub record IsNameFirst (before : Subjects) (ts : Tokens) (after : Subjects) (rest : Tokens) : Type 0 where
   pub name : Lexeme
   pub head : Head
-  pub left : Side
-  pub right : Side
+  pub left : Aspect
+  pub right : Aspect
   pub number : Decimal
   pub signs : Tokens
   pub numbers : Tokens
@@ -45,8 +45,8 @@ pub record IsNameFirst (before : Subjects) (ts : Tokens) (after : Subjects) (res
 pub record IsNumberFirst (before : Subjects) (ts : Tokens) (after : Subjects) (rest : Tokens) : Type 0 where
   pub name : Lexeme
   pub head : Head
-  pub left : Side
-  pub right : Side
+  pub left : Aspect
+  pub right : Aspect
   pub number : Decimal
   pub signs : Tokens
   pub names : Tokens

@@ -6,7 +6,7 @@ use Rattle.std.proofs.lemmas.List.Elements.{All-take, All-drop}
 use Rattle.fx_rational.specs.Decimal.{decimal_value}
 use Rattle.fx_model.specs.Machine.{IsWord, words_after}
 use Rattle.fx_program.specs.CodeView.{code_of}
-use Rattle.fx_machine.proofs.Next.{next_goes_on, next_lawful, next_runs, nth}
+use Rattle.fx_machine.proofs.Next.{next_goes_on, next_lawful, next_runs, code_there}
 use Rattle.fx_mixed.proofs.Turns.{states_stay}
 use Rattle.fx_mixed.proofs.turn.turn_one.Given.{Over}
 use Rattle.fx_mixed.proofs.turn.turn_one.Goals.{After-keeps, After-set_word}
@@ -44,8 +44,8 @@ returns-clause-states g c =
     let m = counted g here.After-keeps in let lt : n < length codes = c.requires.within in
     let l = next_lawful g.row.B i s codes n lt c.requires.lawful refl refl refl in
     ap (λ us. take s (drop i us)) (put g here.After-set_word)
-    ∙ states_stay g.row.B i s (nth codes n) (map decimal_value c.args.row.now) ws n c.code_word.result (omega arith)
-    l.placed c.code_word.ensures
+    ∙ states_stay g.row.B i s (code_there codes n) (map decimal_value c.args.row.now) ws n c.code_word.result
+    (omega arith) l.placed c.code_word.ensures
 
 pub returns-clause-goes_on : goal.returns-clause-goes_on
 returns-clause-goes_on g c =

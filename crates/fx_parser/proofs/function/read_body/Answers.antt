@@ -8,7 +8,7 @@ use Rattle.fx_grammar.specs.Bodies.{Body, vals_at}
 use Rattle.fx_cursor.specs.Views.{lexemes}
 use Rattle.fx_requirements.specs.Views.{inputs_value, subject_of}
 use Rattle.fx_parser.specs.Views.{body_value, ending_at, front_value, results_value, state_value}
-use Rattle.fx_parser.proofs.BodyParts.{IsInside, body_is, body_wrong}
+use Rattle.fx_parser.proofs.BodyParts.{AreBodyParts, body_is, body_wrong}
 use Rattle.fx_parser.proofs.function.read_body.Goals.{In_ok-results}
 use Rattle.fx_parser.proofs.function.read_body.Goals as goal
 
@@ -19,7 +19,7 @@ states c =
 
 -- the parts before the brace were read
 inside : (c : In_ok-results) →
-    IsInside c.args.end c.args.word (front_value c.args.front) (lexemes c.args.tokens.now)
+    AreBodyParts c.args.end c.args.word (front_value c.args.front) (lexemes c.args.tokens.now)
     (inputs_value c.in_ok-inputs.inputs, lexemes c.in_ok-inputs.rest.now)
     (body_value c.in_ok-known.known, lexemes c.in_ok-known.rest.now)
     (results_value c.in_ok-results.results, lexemes c.in_ok-results.rest.now)

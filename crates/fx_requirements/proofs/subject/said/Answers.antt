@@ -6,12 +6,12 @@ use Rattle.fx_requirements.proofs.subject.said.Goals as goal
 
 pub returns-then-is_said : goal.returns-then-is_said
 returns-then-is_said c =
-    rw c.at.ensures (inl (said_twice c.args.side (numeral_decimal c.args.value)
+    rw c.at.ensures (inl (said_twice c.args.aspect (numeral_decimal c.args.value)
     (lexeme_of c.args.token.now) c.args.subjects.items c.args.k c.index.result.now c.requires c.index.ensures
     (sym c.is_said.ensures ∙ c.if-is_said.true)))
 
 pub returns : goal.returns
 returns c =
-    said_once c.args.side (numeral_decimal c.args.value)
-    (lexeme_of c.args.token.now) c.args.subjects.items c.args.k c.index.result.now c.with_side.result c.requires
-    c.index.ensures (sym c.is_said.ensures ∙ c.if-is_said.false) c.with_side.ensures
+    said_once c.args.aspect (numeral_decimal c.args.value)
+    (lexeme_of c.args.token.now) c.args.subjects.items c.args.k c.index.result.now c.with_aspect.result c.requires
+    c.index.ensures (sym c.is_said.ensures ∙ c.if-is_said.false) c.with_aspect.ensures

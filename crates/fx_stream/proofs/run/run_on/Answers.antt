@@ -1,10 +1,10 @@
 use Rattle.std.proofs.Common.{arith, inl}
-use Rattle.fx_stream.proofs.Loop.{asking-failed, below, ended, smaller, starts, stopped, turned}
+use Rattle.fx_stream.proofs.Loop.{asking-failed, below, ended, smaller, run_starts, stopped, turned}
 use Rattle.fx_stream.proofs.run.run_on.Goals as goal
 
 pub lines-init : goal.lines-init
 lines-init g c = record {
-  so_far = starts _ _ _ _ (g.met.P.Printer.none c.args.printer.now c.requires.settled).0 c.requires.fresh
+  so_far = run_starts _ _ _ _ (g.met.P.Printer.none c.args.printer.now c.requires.settled).0 c.requires.fresh
       c.requires.empty;
   can = c.requires.can;
   held = inl c.requires.settled;

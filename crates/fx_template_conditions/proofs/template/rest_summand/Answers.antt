@@ -1,7 +1,7 @@
 use Rattle.std.proofs.Common.{arith}
 use Rattle.fx_inequalities.specs.Formula.{point}
 use Rattle.fx_inequalities.specs.Affine.{affine_at, templates_of}
-use Rattle.fx_judging.proofs.Shorts.{shorter, short_point}
+use Rattle.fx_judging.proofs.Shorts.{short_within, short_point}
 use Rattle.fx_cert.specs.CertificateView.{lines_view, templates_in}
 use Rattle.fx_cert.specs.Sides.{side_rest}
 use Rattle.fx_conditions.proofs.Shorts.{template_coef_short, side_rest_short}
@@ -13,6 +13,6 @@ returns c =
     let coef = (templates_of a.states written).coef a.i a.s in
     let rest = side_rest a.side.now (affine_at a.variables ls a.n) in
     c.times.ensures (point coef) rest
-    (short_point (shorter 512 (omega arith) (template_coef_short written c.requires.templates a.states a.i a.s)))
+    (short_point (short_within 512 (omega arith) (template_coef_short written c.requires.templates a.states a.i a.s)))
     (side_rest_short a.side.now ls c.requires.lines a.variables a.n)
     (c.point.ensures coef c.template_coef_of.ensures) c.side_rest_of.ensures

@@ -1,6 +1,6 @@
 use Rattle.std.proofs.Common.{leb, ◌∙◌}
 use Rattle.fx_weight.proofs.PowerTests.{below_whole}
-use Rattle.fx_calmness.proofs.size.is_below.Goals as goal
+use Rattle.fx_calmness.proofs.magnitude.is_below.Goals as goal
 
 pub returns : goal.returns
 returns c = (λ i. leb (c.from.ensures i) (c.raised.ensures.value i))

@@ -2,7 +2,7 @@
 
 /// What a condition says of an input, or a demand of an output.
 #[derive(Clone, Copy, Debug, PartialEq, Eq)]
-pub enum Side {
+pub enum Aspect {
     /// Its lower end.
     Low,
     /// Its upper end.

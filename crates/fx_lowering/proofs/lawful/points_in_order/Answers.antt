@@ -2,7 +2,7 @@ use Rattle.std.proofs.Common.{◌≡◌, ◌++◌, ◌∷◌, [], ◌∙◌, ℤ
 use Rattle.std.specs.Int.{w32}
 use Rattle.std.proofs.lemmas.Int.{to_z-of_z}
 use Rattle.fx_lowering.proofs.InOrder.{goes_on_behind, ends_behind}
-use Rattle.fx_lowering.proofs.lawful.are_in_order.Goals as goal
+use Rattle.fx_lowering.proofs.lawful.points_in_order.Goals as goal
 
 pub returns-in-None : goal.returns-in-None
 returns-in-None c =

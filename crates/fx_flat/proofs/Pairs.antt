@@ -1,6 +1,8 @@
 -- Node lists with a value for each node, as they come of a fold whose steps look at operands.
-use Rattle.std.proofs.Common.{◌≡◌, ℕ, ◌+◌, ◌<◌, List, [], ◌∷◌, ◌++◌, length, refl, ap, subst, ◌∙◌, sym, arith, length-append, append_assoc}
+use Rattle.std.proofs.Common.{◌≡◌, ℕ, suc, ◌+◌, ◌<◌, List, [], ◌∷◌, ◌++◌, length, refl, ap, subst, ◌∙◌, sym, arith, length-append, append_assoc}
+use Rattle.std.specs.Prelude.{All}
 use Rattle.std.proofs.lemmas.List.{length_push, append-nil}
+use Rattle.std.proofs.lemmas.List.Elements.{All-head, All-tail}
 use Rattle.std.proofs.Math.Seq.{get_or-append_seam}
 use Rattle.fx_model.specs.Tree.{at}
 use Rattle.fx_model.specs.Nodes.{Node}
@@ -28,6 +30,28 @@ pairs_give P Q R f k [] [] h g = tt
 pairs_give P Q R f k (node ∷ nodes) (x ∷ xs) h g = (f k node x h.0 g.0, pairs_give P Q R f (k + 1) nodes xs h.1 g.1)
 pairs_give P Q R f k [] (x ∷ xs) h g = absurd h
 pairs_give P Q R f k (node ∷ nodes) [] h g = absurd h
+
+-- what holds of each node holds beside its value
+pub pairs_with : {X : Type 0} (P : ℕ → Node → X → Type 0) (W : Node → Type 0) (k : ℕ) (nodes : List Node)
+    (xs : List X) → ArePairs P k nodes xs → All W nodes → ArePairs (λ k node x. P k node x × W node) k nodes xs
+pairs_with P W k [] [] h all = tt
+pairs_with P W k (node ∷ nodes) (x ∷ xs) h all =
+    ((h.0, All-head W node nodes all), pairs_with P W (k + 1) nodes xs h.1 (All-tail W node nodes all))
+pairs_with P W k [] (x ∷ xs) h all = absurd h
+pairs_with P W k (node ∷ nodes) [] h all = absurd h
+
+-- what holds at each index holds of each pair
+pub pairs_at : {X : Type 0} (P : ℕ → Node → X → Type 0) (k : ℕ) (nodes : List Node) (xs : List X) (d : Node) (e : X) →
+    length nodes ≡ length xs → ((j : ℕ) → j < length nodes → P (k + j) (at d nodes j) (at e xs j)) →
+    ArePairs P k nodes xs
+pairs_at P k [] [] d e l h = tt
+pairs_at P k [] (x ∷ xs) d e l h = absurd (omega (arith, l))
+pairs_at P k (node ∷ nodes) [] d e l h = absurd (omega (arith, l))
+pairs_at P k (node ∷ nodes) (x ∷ xs) d e l h = (
+  subst (λ (m : ℕ). P m node x) (omega arith) (h 0 (omega arith)),
+  pairs_at P (k + 1) nodes xs d e (omega (arith, l))
+      (λ j lt. subst (λ (m : ℕ). P m (at d nodes j) (at e xs j)) (omega arith) (h (suc j) (omega (arith, lt)))),
+)
 
 -- ---- a fold
 -- what holds of node k and its value x among the values ws of all nodes: it is what the step makes of all of them

@@ -1,6 +1,6 @@
 use Rattle.std.proofs.Common.{leb, ◌*◌, ◌∙◌}
 use Rattle.fx_calmness.proofs.Sizes.{cross_test}
-use Rattle.fx_calmness.proofs.size.is_at_most.Goals as goal
+use Rattle.fx_calmness.proofs.magnitude.is_at_most.Goals as goal
 
 pub returns : goal.returns
 returns c = (λ i. leb (c.from.ensures i * c.from-2.ensures i) (c.from-3.ensures i * c.from-4.ensures i))

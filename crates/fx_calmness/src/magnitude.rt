@@ -9,7 +9,7 @@ ghost use Rattle.fx_expr.specs.Parts.{input_of};
 ghost use Rattle.fx_sizes.specs.Powers.{magnitude, greater, is_below_power};
 ghost use Rattle.fx_calm_numbers.specs.Calm.{reach_of, reach_at};
 ghost use Rattle.fx_calm_numbers.specs.Bounds.{units_up};
-ghost use Rattle.fx_calmness.specs.SizeOf.{IsSize, size_value};
+ghost use Rattle.fx_calmness.specs.MagnitudeOf.{IsMagnitude, magnitude_value};
 ghost use Rattle.fx_calmness.specs.SumOf.{IsWeight};
 
 use fx_expr::{Function, Input};
@@ -19,7 +19,7 @@ use fx_num::raised;
 
 /// The number `top / bottom`, which isn't negative.
 #[derive(Clone, Copy, Debug)]
-pub struct Size {
+pub struct Magnitude {
     /// What is divided.
     pub top: u64,
     /// By what it is divided, which isn't zero.
@@ -27,12 +27,12 @@ pub struct Size {
 }
 
 /// A whole number.
-pub fn whole(n: u64) -> Size
+pub fn whole(n: u64) -> Magnitude
     requires { n < 2 ^ 62 }
     ensures weight { IsWeight result }
-    ensures value { size_value result ≡ whole (pos n) }
+    ensures value { magnitude_value result ≡ whole (pos n) }
 {
-    Size { top: n, bottom: 1 }
+    Magnitude { top: n, bottom: 1 }
 }
 
 /// The numerator without its sign.
@@ -44,11 +44,11 @@ fn top(c: Fraction) -> u64
 }
 
 /// A fraction without its sign.
-pub fn size_of(c: Fraction) -> Size
-    ensures size { IsSize result }
-    ensures value { size_value result ≡ magnitude c }
+pub fn size_of(c: Fraction) -> Magnitude
+    ensures size { IsMagnitude result }
+    ensures value { magnitude_value result ≡ magnitude c }
 {
-    Size {
+    Magnitude {
         top: top(c),
         bottom: denominator(c),
     }
@@ -72,47 +72,47 @@ fn decimal_bottom(d: Decimal) -> u64
 }
 
 /// A decimal without its sign.
-pub fn size_of_decimal(d: Decimal) -> Size
+pub fn size_of_decimal(d: Decimal) -> Magnitude
     ensures weight { IsWeight result }
-    ensures value { size_value result ≡ magnitude (decimal_value d) }
+    ensures value { magnitude_value result ≡ magnitude (decimal_value d) }
 {
-    Size {
+    Magnitude {
         top: decimal_top(d),
         bottom: decimal_bottom(d),
     }
 }
 
 /// Whether the one isn't above the other.
-fn is_at_most(x: Size, y: Size) -> bool
-    requires left { IsSize x }
-    requires right { IsSize y }
-    ensures { result ≡ is_at_most (size_value x) (size_value y) }
+fn is_at_most(x: Magnitude, y: Magnitude) -> bool
+    requires left { IsMagnitude x }
+    requires right { IsMagnitude y }
+    ensures { result ≡ is_at_most (magnitude_value x) (magnitude_value y) }
 {
     u128::from(x.top) * u128::from(y.bottom) <= u128::from(y.top) * u128::from(x.bottom)
 }
 
 /// The greater of two, the first of equals.
-fn greater(x: Size, y: Size) -> Size
+fn greater(x: Magnitude, y: Magnitude) -> Magnitude
     requires left { IsWeight x }
     requires right { IsWeight y }
     ensures weight { IsWeight result }
-    ensures value { size_value result ≡ greater (size_value x) (size_value y) }
+    ensures value { magnitude_value result ≡ greater (magnitude_value x) (magnitude_value y) }
 {
     if is_at_most(y, x) { x } else { y }
 }
 
 /// What no true value of an input is above, without its sign.
-pub fn reach(input: &Input) -> Size
+pub fn reach(input: &Input) -> Magnitude
     ensures weight { IsWeight result }
-    ensures value { size_value result ≡ reach_of (input_of input.now) }
+    ensures value { magnitude_value result ≡ reach_of (input_of input.now) }
 {
     greater(size_of_decimal(input.lo), size_of_decimal(input.hi))
 }
 
 /// The same of input `k`; nothing where there is none.
-pub fn reach_at(function: &Function, k: u32) -> Size
+pub fn reach_at(function: &Function, k: u32) -> Magnitude
     ensures weight { IsWeight result }
-    ensures value { size_value result ≡ reach_at function.now k }
+    ensures value { magnitude_value result ≡ reach_at function.now k }
 {
     match function.inputs.as_slice().get(k as usize) {
         Some(input) => reach(input),
@@ -121,19 +121,19 @@ pub fn reach_at(function: &Function, k: u32) -> Size
 }
 
 /// Whether it is at most `2^w`.
-pub fn is_below(x: Size, w: u32) -> bool
-    requires size { IsSize x }
+pub fn is_below(x: Magnitude, w: u32) -> bool
+    requires size { IsMagnitude x }
     requires few { w ≤ 64 }
-    ensures { result ≡ is_below_power (size_value x) (pos w) }
+    ensures { result ≡ is_below_power (magnitude_value x) (pos w) }
 {
     u128::from(x.top) <= raised(x.bottom, w)
 }
 
 /// In units `2^-f`, rounded upward.
-pub fn units(x: Size, f: u32) -> u128
-    requires size { IsSize x }
+pub fn units(x: Magnitude, f: u32) -> u128
+    requires size { IsMagnitude x }
     requires point { f ≤ 58 }
-    ensures { result ≡ units_up f (size_value x) }
+    ensures { result ≡ units_up f (magnitude_value x) }
 {
     (raised(x.top, f) + u128::from(x.bottom - 1)) / u128::from(x.bottom)
 }

@@ -1,7 +1,0 @@
-use Rattle.std.proofs.Common.{map}
-use Rattle.fx_program.specs.CodeView.{code_of}
-use Rattle.fx_lowering.proofs.InOrder.{SoFar}
-use Rattle.fx_lowering.proofs.lawful.are_in_order.Given as goal
-
-abbrev pub invariant-loop-i : goal.invariant-loop-i
-invariant-loop-i l = SoFar l.frame (map code_of l.codes) l.i l.points.items
