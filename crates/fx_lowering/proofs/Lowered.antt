@@ -13,6 +13,7 @@ use Rattle.fx_flat.proofs.Pairs.{ArePairs, pairs_length}
 use Rattle.fx_program.specs.Rounding.{RoundsBy}
 use Rattle.fx_program.proofs.Rounded.{has_version, rounded_are_of_version}
 use Rattle.fx_lowering.specs.OfFunction.{program_for}
+use Rattle.fx_lowering.proofs.Ordered.{counts_of}
 
 -- what is asked of the code of node k, among i inputs and s states
 pub record IsLowered (n i s k : ℕ) (node : Node) (c : Code) : Type 0 where
@@ -73,16 +74,8 @@ module _ (n : ℕ) (r : Round) (fn : Function) (cs : List Code) (width : Contain
 
   counts : HasLawfulCounts (program_for n r fn cs)
   counts =
-      let l = long in let b = before_length list in let e = list.enough in let sizes = lawful.sizes in
-      let nodes = sizes.nodes in record {
-        some_input = sizes.some_input;
-        inputs = sizes.inputs;
-        states = sizes.states;
-        some_output = sizes.some_output;
-        outputs = sizes.outputs;
-        enough = omega (arith, l, b, e);
-        codes = omega (arith, l, nodes);
-      }
+      let l = long in let b = before_length list in let e = list.enough in let nodes = lawful.sizes.nodes in
+      counts_of n r fn cs lawful (omega (arith, l, b, e)) (omega (arith, l, nodes))
 
   copies : All IsCopy (drop (length cs - (outputs fn + length fn.states)) cs)
   copies =

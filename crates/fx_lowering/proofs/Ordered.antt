@@ -96,7 +96,8 @@ lawful_is_ordered p h =
     h.points h.copies h.of_version)
 
 -- ---- the program of a function
-counts_of : (n : ℕ) (r : Round) (fn : Function) (cs : List Code) → IsLawfulFunction fn →
+-- enough codes, and not too many
+pub counts_of : (n : ℕ) (r : Round) (fn : Function) (cs : List Code) → IsLawfulFunction fn →
     length fn.inputs + length fn.states + (outputs fn + length fn.states) ≤ length cs → length cs ≤ node_limit →
     HasLawfulCounts (program_for n r fn cs)
 counts_of n r fn cs lawful enough few = record {
