@@ -1,12 +1,17 @@
 -- The plan that serves a function keeps what is promised of it.
-use Rattle.std.proofs.Common.{◌≡◌, ℕ, Bool, true, false, Option, Some, None, refl, sym, subst, ◌∙◌}
+use Rattle.std.proofs.Common.{◌≡◌, ℕ, ◌<◌, Bool, true, false, Option, Some, None, refl, sym, subst, ◌∙◌}
 use Rattle.std.specs.Prelude.{ℤ, is_some, IfSome}
 use Rattle.std.specs.Option.{option_map}
-use Rattle.fx_model.specs.Function.{Function}
+use Rattle.fx_rational.specs.Rational.{AtMost}
+use Rattle.fx_rational.specs.Dyadic.{dyadic_value}
+use Rattle.fx_model.specs.Function.{Function, outputs}
 use Rattle.fx_weight.specs.PlainClass.{Outside, outside_of, output_power}
 use Rattle.fx_calm_numbers.specs.Calm.{is_calm, numbers_of, IsCalm}
 use Rattle.fx_model.specs.Machine.{Program}
 use Rattle.fx_inequalities.specs.Certificate.{Certificate}
+use Rattle.fx_inequalities.specs.Accepted.{certified_bound}
+use Rattle.fx_sizes.specs.Powers.{power_dyadic, power_value}
+use Rattle.fx_weight.specs.PlainPlan.{plain_program, plain_certificate}
 use Rattle.fx_wanted.specs.Asked.{rounding_of}
 use Rattle.fx_wanted.specs.declared.wanted.Wanted.{Wanted}
 use Rattle.fx_calm_plan.specs.CalmPlan.{calm_program, calm_certificate}
@@ -68,6 +73,25 @@ module _ (w : Wanted) (fn : Function) where
       → IfSome o (λ a. IsCalm w.width fn) → (o ≡ None → IsCalm w.width fn → ⊥) → SuitsIfAny w fn o
   calm_suits_first None reason outside own within calm uncalm = unpromised reason outside (uncalm refl)
   calm_suits_first (Some a) reason outside own within calm uncalm = calm_suits a reason outside calm own within
+
+-- ---- the plain plan, certified
+-- it keeps what is promised, where its bounds are at most those powers of two
+pub plain_plan_bounded : (w : Wanted) (fn : Function) (a : Accepted) (p : Program) (cert : Certificate) →
+    a ≡ record { function = fn; program = p; certificate = cert } → p ≡ plain_program w.width (rounding_of w) fn →
+    cert ≡ plain_certificate w.width fn →
+    ((j : ℕ) → j < outputs fn →
+    AtMost (certified_bound (plain_program w.width (rounding_of w) fn) (plain_certificate w.width fn) j)
+    (dyadic_value (power_dyadic (output_power w.width fn j)))) →
+    AreWithinPowers fn a.program a.certificate (output_power w.width fn)
+unfolding power_value
+plain_plan_bounded w fn a p cert is program certificate within =
+    let same : a ≡ record {
+      function = fn;
+      program = plain_program w.width (rounding_of w) fn;
+      certificate = plain_certificate w.width fn;
+    } =
+    is ∙ (λ i. record { function = fn; program = program i; certificate = certificate i }) in
+    subst (λ (x : Accepted). AreWithinPowers fn x.program x.certificate (output_power w.width fn)) (sym same) within
 
 -- ---- the calm plan, certified
 module _ (w : Wanted) (fn : Function) (plan : IsCalmPlan w.width (rounding_of w) fn) where
