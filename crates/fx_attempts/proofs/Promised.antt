@@ -74,8 +74,15 @@ module _ (w : Wanted) (fn : Function) where
   calm_suits_first None reason outside own within calm uncalm = unpromised reason outside (uncalm refl)
   calm_suits_first (Some a) reason outside own within calm uncalm = calm_suits a reason outside calm own within
 
--- ---- the plain plan, certified
--- it keeps what is promised, where its bounds are at most those powers of two
+-- ---- plans, certified
+-- what a program and a certificate come to holds of what is accepted with them
+of_accepted : (P : Accepted → Type 0) (fn : Function) (a : Accepted) (p q : Program) (cert like : Certificate) →
+    a ≡ record { function = fn; program = p; certificate = cert } → p ≡ q → cert ≡ like →
+    P (record { function = fn; program = q; certificate = like }) → P a
+of_accepted P fn a p q cert like is program certificate h =
+    subst P (sym (is ∙ (λ i. record { function = fn; program = program i; certificate = certificate i }))) h
+
+-- the plain plan keeps what is promised, where its bounds are at most those powers of two
 pub plain_plan_bounded : (w : Wanted) (fn : Function) (a : Accepted) (p : Program) (cert : Certificate) →
     a ≡ record { function = fn; program = p; certificate = cert } → p ≡ plain_program w.width (rounding_of w) fn →
     cert ≡ plain_certificate w.width fn →
@@ -85,31 +92,20 @@ pub plain_plan_bounded : (w : Wanted) (fn : Function) (a : Accepted) (p : Progra
     AreWithinPowers fn a.program a.certificate (output_power w.width fn)
 unfolding power_value
 plain_plan_bounded w fn a p cert is program certificate within =
-    let same : a ≡ record {
-      function = fn;
-      program = plain_program w.width (rounding_of w) fn;
-      certificate = plain_certificate w.width fn;
-    } =
-    is ∙ (λ i. record { function = fn; program = program i; certificate = certificate i }) in
-    subst (λ (x : Accepted). AreWithinPowers fn x.program x.certificate (output_power w.width fn)) (sym same) within
+    of_accepted (λ (x : Accepted). AreWithinPowers fn x.program x.certificate (output_power w.width fn))
+    fn a p _ cert _ is program certificate within
 
--- ---- the calm plan, certified
-module _ (w : Wanted) (fn : Function) (plan : IsCalmPlan w.width (rounding_of w) fn) where
-  -- it answers what is wanted, and keeps what is promised
-  pub calm_plan_answers : (a : Accepted) (p : Program) (cert : Certificate) →
-      a ≡ record { function = fn; program = p; certificate = cert } → p ≡ calm_program w.width (rounding_of w) fn →
-      cert ≡ calm_certificate w.width fn → IsAnswerFor w fn a ×
-      AreWithinPowers fn a.program a.certificate (λ j. (numbers_of w.width fn).z)
-  calm_plan_answers a p cert is program certificate =
-      let same : a ≡ record {
-        function = fn;
-        program = calm_program w.width (rounding_of w) fn;
-        certificate = calm_certificate w.width fn;
-      } =
-      is ∙ (λ i. record { function = fn; program = program i; certificate = certificate i }) in
-      subst (λ (x : Accepted). IsAnswerFor w fn x ×
-      AreWithinPowers fn x.program x.certificate (λ j. (numbers_of w.width fn).z)) (sym same)
-      (record { function_is = refl; named = refl; width_is = refl; rounded = plan.rounded }, plan.bounds)
+-- the calm plan answers what is wanted, and keeps what is promised
+pub calm_plan_answers : (w : Wanted) (fn : Function) → IsCalmPlan w.width (rounding_of w) fn →
+    (a : Accepted) (p : Program) (cert : Certificate) →
+    a ≡ record { function = fn; program = p; certificate = cert } → p ≡ calm_program w.width (rounding_of w) fn →
+    cert ≡ calm_certificate w.width fn →
+    IsAnswerFor w fn a × AreWithinPowers fn a.program a.certificate (λ j. (numbers_of w.width fn).z)
+calm_plan_answers w fn plan a p cert is program certificate =
+    of_accepted (λ (x : Accepted). IsAnswerFor w fn x ×
+    AreWithinPowers fn x.program x.certificate (λ j. (numbers_of w.width fn).z))
+    fn a p _ cert _ is program certificate
+    (record { function_is = refl; named = refl; width_is = refl; rounded = plan.rounded }, plan.bounds)
 
 -- what a value is seen as, where there is one
 pub view_of_some : {A B : Type 0} (f : A → B) (o : Option A) (seen : Option B) → option_map f o ≡ seen →

@@ -21,7 +21,6 @@ use fx_weight::{Outside, WeightFault, bound_law, class_law, plain_plan};
 use std::alloc::Global;
 
 // The plain plan, certified.
-#[tactic(auto, unfolding(fx_sizes::specs::Powers::power_value))]
 fn plain_answer(alloc: Global, function: &Function, wanted: Wanted) -> Result<Certified, Memory>
     requires width { Contains widths wanted.width }
     requires class { IsInClass wanted.width function.now }

@@ -11,7 +11,7 @@ mod widths;
 pub use check::check_file;
 pub use migrate::migrate_file;
 pub use node::node_file;
-pub use run::{Kept, run_file};
+pub use run::{Storage, run_file};
 pub use rust::rust_file;
 pub use show::show_file;
 pub use widths::widths_file;

@@ -8,7 +8,7 @@ ghost use Rattle.fx_calm_numbers.specs.Bounds.{error_box, state_bound, input_bou
 ghost use Rattle.fx_calmness.specs.NumbersOf.{numbers_view};
 ghost use Rattle.fx_calm.specs.BoundOf.{bound_of, IsShort, HasPlace};
 
-use fx_calmness::{Numbers, reach, size_of, size_of_decimal, units};
+use fx_calmness::{Numbers, magnitude_of, magnitude_of_decimal, reach, units};
 use fx_expr::Input;
 use fx_fraction::Fraction;
 use fx_num::two_to;
@@ -59,7 +59,7 @@ pub fn input_of(input: &Input, f: u32) -> Bound
     ensures { bound_of result ≡ input_bound f (input_of input.now) }
 {
     let r = units(reach(input), f);
-    let e = units(size_of_decimal(input.err), f);
+    let e = units(magnitude_of_decimal(input.err), f);
     Bound {
         r: r as u64,
         e: e as u64 + 1,
@@ -72,7 +72,7 @@ pub fn literal_of(c: Fraction, f: u32) -> Bound
     requires short { IsShort (const_bound f c) }
     ensures { bound_of result ≡ const_bound f c }
 {
-    let r = units(size_of(c), f);
+    let r = units(magnitude_of(c), f);
     Bound { r: r as u64, e: 1 }
 }
 

@@ -8,7 +8,7 @@ ghost use Rattle.fx_flat.specs.NodeOf.{node_of, nodes_in};
 ghost use Rattle.fx_sizes.specs.Narrow.{IsNarrowNumber, IsNarrowState, IsNarrowNode, IsNarrowDemand};
 ghost use Rattle.fx_calm_plan.specs.Laws.{IsNarrowFunction};
 
-use fx_calmness::{size_of, size_of_decimal, start_at};
+use fx_calmness::{magnitude_of, magnitude_of_decimal, start_at};
 use fx_expr::{Demand, Function};
 use fx_flat::Node;
 use fx_fraction::Decimal;
@@ -30,7 +30,7 @@ fn narrow_error(err: Option<Decimal>)
 {
     match err {
         Some(e) => {
-            let _size = size_of_decimal(e);
+            let _size = magnitude_of_decimal(e);
         }
         None => {}
     }
@@ -58,7 +58,7 @@ fn narrow_node(node: Node)
 {
     match node {
         Node::Const { c } => {
-            let _size = size_of(c);
+            let _size = magnitude_of(c);
         }
         _ => {}
     }

@@ -1,4 +1,4 @@
--- Terms as parts of exact sums.
+-- Terms as summands of exact sums.
 use Rattle.std.proofs.Common.{◌≡◌, ℕ, ◌*◌, ◌^◌, ◌<◌, ◌≤◌, Bool, true, List, [], ◌∷◌, map, pos, ◌*ℤ◌, refl, sym, ap, subst, ◌∙◌, arith, pow-add}
 use Rattle.std.specs.Prelude.{unsigned_abs, All, Result, Ok, Err, OnOk}
 use Rattle.std.proofs.lemmas.Bool.{and_parts}
@@ -19,24 +19,24 @@ use Rattle.fx_sizes.specs.Powers.{power_value, magnitude}
 use Rattle.fx_sizes.proofs.Powers.{power_more, whole_value_is}
 use Rattle.fx_calm_numbers.specs.Linear.{Term, Alone, OfInput, OfState, scaled_term, terms_of, total, input_size, state_size, literal_size, input_reach, are_literals_below}
 use Rattle.fx_calm_numbers.specs.Calm.{reach_at}
-use Rattle.fx_sums.specs.declared.part.Part.{Part}
-use Rattle.fx_sums.specs.Parts.{IsPart, sum_of}
+use Rattle.fx_sums.specs.declared.summand.Summand.{Summand}
+use Rattle.fx_sums.specs.Summands.{IsSummand, sum_of}
 use Rattle.fx_calmness.specs.declared.sum.Sum.{Sum}
 use Rattle.fx_calmness.specs.declared.sum.Sum.TheVariants.{States, Sizes, Adds, Values}
-use Rattle.fx_calmness.specs.SumOf.{sum_value, weight_of, size_of, part_of, IsSum, IsNarrowPart}
+use Rattle.fx_calmness.specs.SumOf.{sum_value, weight_of, size_of, summand_of, IsSum, IsNarrowSummand}
 use Rattle.fx_calmness.proofs.Sizes.{IsUnsigned, greater_unsigned, top_at_most}
 
--- ---- one part
+-- ---- one summand
 pub narrow_product : (s b t d : ℕ) → s < 2 ^ 62 → 0 < b → b < 2 ^ 62 → t < 2 ^ 62 → 0 < d → d ≤ 10 ^ 18 →
-    IsNarrowPart (record { top = s * t; bottom = b * d })
+    IsNarrowSummand (record { top = s * t; bottom = b * d })
 narrow_product s b t d ps pb qb pt pd qd =
     let m = mul-le s t (2 ^ 62) (2 ^ 62) (omega (arith, ps)) (omega (arith, pt)) in
     let n = mul-le b d (2 ^ 62) (10 ^ 18) (omega (arith, qb)) qd in
     record { some = mul-pos {m = b} {n = d} pb pd; few = omega (arith, n); fits = omega (arith, m) }
 
--- the part of two sizes in code
+-- the summand of two sizes in code
 pub product_is : (s b t d : ℕ) → 0 < b → 0 < d →
-    (let x : Part = record { top = s * t; bottom = b * d } in
+    (let x : Summand = record { top = s * t; bottom = b * d } in
     x ≡ record {
       top = unsigned_abs (over (pos s) b).top * unsigned_abs (over (pos t) d).top;
       bottom = bottom (over (pos s) b) * bottom (over (pos t) d);
@@ -129,15 +129,15 @@ terms_unsigned (tree.Difference a b) =
 terms_unsigned (tree.Product a b) = one IsUnsignedTerm _ (product_unsigned a b)
 terms_unsigned (tree.Quotient a b) = All-nil IsUnsignedTerm
 
--- ---- what parts add up to
-pub parts_sum : (fn : Function) (sum : Sum) (xs : List Term) → All IsUnsignedTerm xs →
-    Equal (sum_of (map (part_of fn sum) xs)) (total (worth fn sum) xs)
-parts_sum fn sum [] h = equal_refl _
-parts_sum fn sum (x ∷ xs) h =
+-- ---- what summands add up to
+pub summands_sum : (fn : Function) (sum : Sum) (xs : List Term) → All IsUnsignedTerm xs →
+    Equal (sum_of (map (summand_of fn sum) xs)) (total (worth fn sum) xs)
+summands_sum fn sum [] h = equal_refl _
+summands_sum fn sum (x ∷ xs) h =
     plus_same (subst (λ (r : Rational). Equal r (worth fn sum x))
     (sym (product_value (size_of x) (weight_of fn sum x) (All-head IsUnsignedTerm x xs h)
     (weight_unsigned fn sum x))) (equal_refl (worth fn sum x)))
-    (parts_sum fn sum xs (All-tail IsUnsignedTerm x xs h))
+    (summands_sum fn sum xs (All-tail IsUnsignedTerm x xs h))
 
 states_total : (fn : Function) (xs : List Term) →
     Equal (total (worth fn States) xs) (plus (total state_size xs) (total state_size xs))
@@ -219,7 +219,7 @@ total_is fn (Values n) t =
     equal_trans (values_total fn n (terms_of t))
     (plus_same (times_same (equal_refl (total state_size (terms_of t))) (equal_sym (whole_value_is n))) (equal_refl _))
 
--- ---- how great parts are
+-- ---- how great summands are
 abbrev pub IsLowTerm : Term → Type 0
 IsLowTerm x = AtMost (size_of x) (power 25)
 
@@ -280,10 +280,10 @@ small_product s b t d some p q =
     turned : (b d p q : ℕ) → q ≡ p * p → b * p * (d * p) ≡ b * d * q
     turned b d p q e = let r : b * p * (d * p) ≡ b * d * (p * p) = omega arith in r ∙ ap (λ (n : ℕ). b * d * n) (sym e)
 
--- so narrow parts are parts
-pub term_part : (fn : Function) (sum : Sum) (x : Term) → ((k : ℕ) → AtMost (reach_at fn k) (power 25)) → IsSum sum →
-    IsUnsignedTerm x → IsLowTerm x → IsNarrowPart (part_of fn sum x) → IsPart (part_of fn sum x)
-term_part fn sum x reach s u low h = record {
+-- so narrow summands are summands
+pub term_summand : (fn : Function) (sum : Sum) (x : Term) → ((k : ℕ) → AtMost (reach_at fn k) (power 25)) → IsSum sum →
+    IsUnsignedTerm x → IsLowTerm x → IsNarrowSummand (summand_of fn sum x) → IsSummand (summand_of fn sum x)
+term_summand fn sum x reach s u low h = record {
   some = h.some;
   few = h.few;
   fits = h.fits;
@@ -293,16 +293,16 @@ term_part fn sum x reach s u low h = record {
       (top_at_most (weight_of fn sum x) 25 (weight_unsigned fn sum x) (low_weight fn sum reach s x));
 }
 
-pub terms_parts : (fn : Function) (sum : Sum) (xs : List Term) → ((k : ℕ) → AtMost (reach_at fn k) (power 25)) →
-    IsSum sum → All IsUnsignedTerm xs → All IsLowTerm xs → All IsNarrowPart (map (part_of fn sum) xs) →
-    All IsPart (map (part_of fn sum) xs)
-terms_parts fn sum [] reach s u low h = All-nil IsPart
-terms_parts fn sum (x ∷ xs) reach s u low h =
-    All-cons IsPart (part_of fn sum x) (map (part_of fn sum) xs)
-    (term_part fn sum x reach s (All-head IsUnsignedTerm x xs u) (All-head IsLowTerm x xs low)
-    (All-head IsNarrowPart (part_of fn sum x) (map (part_of fn sum) xs) h))
-    (terms_parts fn sum xs reach s (All-tail IsUnsignedTerm x xs u) (All-tail IsLowTerm x xs low)
-    (All-tail IsNarrowPart (part_of fn sum x) (map (part_of fn sum) xs) h))
+pub terms_summands : (fn : Function) (sum : Sum) (xs : List Term) → ((k : ℕ) → AtMost (reach_at fn k) (power 25)) →
+    IsSum sum → All IsUnsignedTerm xs → All IsLowTerm xs → All IsNarrowSummand (map (summand_of fn sum) xs) →
+    All IsSummand (map (summand_of fn sum) xs)
+terms_summands fn sum [] reach s u low h = All-nil IsSummand
+terms_summands fn sum (x ∷ xs) reach s u low h =
+    All-cons IsSummand (summand_of fn sum x) (map (summand_of fn sum) xs)
+    (term_summand fn sum x reach s (All-head IsUnsignedTerm x xs u) (All-head IsLowTerm x xs low)
+    (All-head IsNarrowSummand (summand_of fn sum x) (map (summand_of fn sum) xs) h))
+    (terms_summands fn sum xs reach s (All-tail IsUnsignedTerm x xs u) (All-tail IsLowTerm x xs low)
+    (All-tail IsNarrowSummand (summand_of fn sum x) (map (summand_of fn sum) xs) h))
 
 -- where the second tree was put too
 pub narrow_both : {A E : Type 0} (P Q R : Type 0) (r : Result A E) → (P → Q) → OnOk r (Q → R) → OnOk r (P → R)

@@ -27,12 +27,12 @@ use Rattle.fx_calm_numbers.proofs.Factors.{naturals_le, power_units}
 use Rattle.fx_calm_numbers.proofs.Rounded.{units_above, units_least}
 use Rattle.fx_sizes.proofs.Inputs.{error_nonnegative}
 use Rattle.fx_weight.proofs.Units.{size_of_nonneg}
-use Rattle.fx_sums.specs.declared.part.Part.{Part}
-use Rattle.fx_sums.specs.Parts.{IsPart, part_value, sum_of}
+use Rattle.fx_sums.specs.declared.summand.Summand.{Summand}
+use Rattle.fx_sums.specs.Summands.{IsSummand, summand_value, sum_of}
 use Rattle.fx_calmness.specs.declared.sum.Sum.{Sum}
-use Rattle.fx_calmness.specs.SumOf.{sum_value, part_of, IsSum, IsNarrowPart}
+use Rattle.fx_calmness.specs.SumOf.{sum_value, summand_of, IsSum, IsNarrowSummand}
 use Rattle.fx_calmness.specs.LimitOf.{no_tree, IsTame}
-use Rattle.fx_calmness.proofs.Counted.{parts_sum, terms_unsigned, total_is, low_terms, terms_parts}
+use Rattle.fx_calmness.proofs.Counted.{summands_sum, terms_unsigned, total_is, low_terms, terms_summands}
 
 -- equal numbers are below the same powers
 same_below : (x y : Rational) (w n : ℕ) → Equal x y → n ≡ 2 ^ w →
@@ -81,67 +81,71 @@ module _ (fn : Function) (sum : Sum) (k : ℕ) (inputs : AreInputs fn.inputs) (t
   pub few : length (terms_of t) ≤ 64
   few = le_of_test _ _ (and_parts (is_linear t) (nat_le (length (terms_of t)) 64) short).1
 
-  -- the parts that were put are parts of a sum, and few
-  pub put_parts : (xs ys : List Part) → xs ≡ [] → ys ≡ xs ++ map (part_of fn sum) (terms_of t) →
-      (All IsNarrowPart xs → All IsNarrowPart ys) → All IsPart ys
-  put_parts xs ys none put narrow =
-      let here : ys ≡ map (part_of fn sum) (terms_of t) = put
-      ∙ ap (λ (zs : List Part). zs ++ map (part_of fn sum) (terms_of t)) none in
-      let own = subst (All IsNarrowPart) here (narrow (subst (All IsNarrowPart) (sym none) (All-nil IsNarrowPart))) in
-      subst (All IsPart) (sym here)
-      (terms_parts fn sum (terms_of t) (reach_low fn inputs tame) is_sum (terms_unsigned t)
+  -- the summands that were put are summands of a sum, and few
+  pub put_summands : (xs ys : List Summand) → xs ≡ [] → ys ≡ xs ++ map (summand_of fn sum) (terms_of t) →
+      (All IsNarrowSummand xs → All IsNarrowSummand ys) → All IsSummand ys
+  put_summands xs ys none put narrow =
+      let here : ys ≡ map (summand_of fn sum) (terms_of t) = put
+      ∙ ap (λ (zs : List Summand). zs ++ map (summand_of fn sum) (terms_of t)) none in
+      let own = subst (All IsNarrowSummand) here (narrow (subst (All IsNarrowSummand) (sym none)
+          (All-nil IsNarrowSummand))) in
+      subst (All IsSummand) (sym here)
+      (terms_summands fn sum (terms_of t) (reach_low fn inputs tame) is_sum (terms_unsigned t)
       (low_terms t (tame.literals k lt)) own)
 
-  pub put_few : (xs ys : List Part) → xs ≡ [] → ys ≡ xs ++ map (part_of fn sum) (terms_of t) → length ys ≤ 64
+  pub put_few : (xs ys : List Summand) → xs ≡ [] → ys ≡ xs ++ map (summand_of fn sum) (terms_of t) → length ys ≤ 64
   put_few xs ys none put =
-      let here : ys ≡ map (part_of fn sum) (terms_of t) = put
-      ∙ ap (λ (zs : List Part). zs ++ map (part_of fn sum) (terms_of t)) none in
-      let l = length-map (terms_of t) (part_of fn sum) in
+      let here : ys ≡ map (summand_of fn sum) (terms_of t) = put
+      ∙ ap (λ (zs : List Summand). zs ++ map (summand_of fn sum) (terms_of t)) none in
+      let l = length-map (terms_of t) (summand_of fn sum) in
       let e = ap length here in
       let f = few in
       omega (arith, l, e, f)
 
-  pub sum_test : (xs ys : List Part) (r : Bool) (w n : ℕ) → xs ≡ [] → ys ≡ xs ++ map (part_of fn sum) (terms_of t) →
+  pub sum_test : (xs ys : List Summand) (r : Bool) (w n : ℕ) → xs ≡ [] →
+      ys ≡ xs ++ map (summand_of fn sum) (terms_of t) →
       n ≡ 2 ^ w → r ≡ is_at_most (sum_of ys) (whole (pos n)) → r ≡ is_below_power (sum_value fn sum t) (pos w)
   sum_test xs ys r w n none put p e =
-      let here : ys ≡ map (part_of fn sum) (terms_of t) = put
-      ∙ ap (λ (zs : List Part). zs ++ map (part_of fn sum) (terms_of t)) none in
-      e ∙ ap (λ (zs : List Part). is_at_most (sum_of zs) (whole (pos n))) here
-      ∙ same_below (sum_of (map (part_of fn sum) (terms_of t))) (sum_value fn sum t) w n
-      (equal_trans (parts_sum fn sum (terms_of t) (terms_unsigned t)) (total_is fn sum t)) p
+      let here : ys ≡ map (summand_of fn sum) (terms_of t) = put
+      ∙ ap (λ (zs : List Summand). zs ++ map (summand_of fn sum) (terms_of t)) none in
+      e ∙ ap (λ (zs : List Summand). is_at_most (sum_of zs) (whole (pos n))) here
+      ∙ same_below (sum_of (map (summand_of fn sum) (terms_of t))) (sum_value fn sum t) w n
+      (equal_trans (summands_sum fn sum (terms_of t) (terms_unsigned t)) (total_is fn sum t)) p
 
 -- ---- inputs
-pub size_part : (t b s d : ℕ) → 0 < b → b < 2 ^ 62 → t < 2 ^ 62 → s ≡ t → d ≡ b →
-    IsPart (record { top = s; bottom = d })
-size_part t b s d some few short e g = record {
+pub size_summand : (t b s d : ℕ) → 0 < b → b < 2 ^ 62 → t < 2 ^ 62 → s ≡ t → d ≡ b →
+    IsSummand (record { top = s; bottom = d })
+size_summand t b s d some few short e g = record {
   some = omega (arith, some, g);
   few = omega (arith, few, g);
   fits = omega (arith, short, e);
   small = omega (arith, some, short, e, g);
 }
 
-two_parts : (xs ys : List Part) (x y : Part) → xs ≡ [] → ys ≡ (xs ++ x ∷ []) ++ y ∷ [] → ys ≡ x ∷ y ∷ []
-two_parts xs ys x y none put = put ∙ ap (λ (zs : List Part). (zs ++ x ∷ []) ++ y ∷ []) none
+two_summands : (xs ys : List Summand) (x y : Summand) → xs ≡ [] → ys ≡ (xs ++ x ∷ []) ++ y ∷ [] → ys ≡ x ∷ y ∷ []
+two_summands xs ys x y none put = put ∙ ap (λ (zs : List Summand). (zs ++ x ∷ []) ++ y ∷ []) none
 
-pub input_parts : (xs ys : List Part) (x y : Part) → xs ≡ [] → ys ≡ (xs ++ x ∷ []) ++ y ∷ [] → IsPart x → IsPart y →
-    All IsPart ys
-input_parts xs ys x y none put p q =
-    subst (All IsPart) (sym (two_parts xs ys x y none put))
-    (All-cons IsPart x (y ∷ []) p (All-cons IsPart y [] q (All-nil IsPart)))
+pub input_summands : (xs ys : List Summand) (x y : Summand) → xs ≡ [] → ys ≡ (xs ++ x ∷ []) ++ y ∷ [] →
+    IsSummand x → IsSummand y →
+    All IsSummand ys
+input_summands xs ys x y none put p q =
+    subst (All IsSummand) (sym (two_summands xs ys x y none put))
+    (All-cons IsSummand x (y ∷ []) p (All-cons IsSummand y [] q (All-nil IsSummand)))
 
-pub input_few : (xs ys : List Part) (x y : Part) → xs ≡ [] → ys ≡ (xs ++ x ∷ []) ++ y ∷ [] → length ys ≤ 64
-input_few xs ys x y none put = let e = ap length (two_parts xs ys x y none put) in omega (arith, e)
+pub input_few : (xs ys : List Summand) (x y : Summand) → xs ≡ [] → ys ≡ (xs ++ x ∷ []) ++ y ∷ [] → length ys ≤ 64
+input_few xs ys x y none put = let e = ap length (two_summands xs ys x y none put) in omega (arith, e)
 
-pub input_test : (xs ys : List Part) (x y : Part) (reach err : Rational) (r : Bool) (w n : ℕ) → xs ≡ [] →
-    ys ≡ (xs ++ x ∷ []) ++ y ∷ [] → part_value x ≡ reach → part_value y ≡ magnitude err → AtMost (whole (pos 0)) err →
+pub input_test : (xs ys : List Summand) (x y : Summand) (reach err : Rational) (r : Bool) (w n : ℕ) → xs ≡ [] →
+    ys ≡ (xs ++ x ∷ []) ++ y ∷ [] → summand_value x ≡ reach → summand_value y ≡ magnitude err →
+        AtMost (whole (pos 0)) err →
     n ≡ 2 ^ w →
     r ≡ is_at_most (sum_of ys) (whole (pos n)) → r ≡ is_below_power (plus reach err) (pos w)
 input_test xs ys x y reach err r w n none put a b nonneg p e =
-    e ∙ ap (λ (zs : List Part). is_at_most (sum_of zs) (whole (pos n))) (two_parts xs ys x y none put)
-    ∙ same_below (plus (part_value x) (plus (part_value y) (whole (pos 0)))) (plus reach err) w n
-    (equal_trans (subst (λ (z : Rational). Equal (plus (part_value x) (plus (part_value y) (whole (pos 0))))
-    (plus z (plus (part_value y) (whole (pos 0))))) a (equal_refl _))
-    (equal_trans (subst (λ (z : Rational). Equal (plus reach (plus (part_value y) (whole (pos 0))))
+    e ∙ ap (λ (zs : List Summand). is_at_most (sum_of zs) (whole (pos n))) (two_summands xs ys x y none put)
+    ∙ same_below (plus (summand_value x) (plus (summand_value y) (whole (pos 0)))) (plus reach err) w n
+    (equal_trans (subst (λ (z : Rational). Equal (plus (summand_value x) (plus (summand_value y) (whole (pos 0))))
+    (plus z (plus (summand_value y) (whole (pos 0))))) a (equal_refl _))
+    (equal_trans (subst (λ (z : Rational). Equal (plus reach (plus (summand_value y) (whole (pos 0))))
     (plus reach (plus z (whole (pos 0))))) (b ∙ size_of_nonneg err nonneg) (equal_refl _))
     (by_quotes {ρ = reach ∷ err ∷ []} {a = plus reach (plus err (whole (pos 0)))} {b = plus reach err}
     (search quotes depth 20) (search quotes depth 20) refl))) p

@@ -6,7 +6,7 @@ use Rattle.fx_model.specs.Function.{Function}
 use Rattle.fx_sizes.specs.Powers.{power_value}
 use Rattle.fx_calm_numbers.specs.Linear.{Term, Alone, OfInput, OfState}
 use Rattle.fx_calm_numbers.specs.Calm.{reach_at, input_sizes, state_sizes, literal_sizes, input_reaches}
-use Rattle.fx_sums.specs.declared.part.Part.{Part}
+use Rattle.fx_sums.specs.declared.summand.Summand.{Summand}
 use Rattle.fx_calmness.specs.declared.magnitude.Magnitude.{Magnitude}
 use Rattle.fx_calmness.specs.MagnitudeOf.{IsMagnitude}
 use Rattle.fx_calmness.specs.declared.sum.Sum.{Sum}
@@ -51,9 +51,9 @@ size_of (Alone x) = x
 size_of (OfInput k x) = x
 size_of (OfState k x) = x
 
--- as a part of the sum
-abbrev pub part_of : Function → Sum → Term → Part
-part_of fn sum x =
+-- as a summand of the sum
+abbrev pub summand_of : Function → Sum → Term → Summand
+summand_of fn sum x =
     let s = size_of x in
     let w = weight_of fn sum x in
     record { top = unsigned_abs s.top * unsigned_abs w.top; bottom = bottom s * bottom w }
@@ -68,8 +68,8 @@ pub record IsWeight (x : Magnitude) : Type 0 where
   pub size : IsMagnitude x
   pub decimal : x.bottom ≤ 10 ^ 18
 
--- a part without what is asked of its value
-pub record IsNarrowPart (x : Part) : Type 0 where
+-- a summand without what is asked of its value
+pub record IsNarrowSummand (x : Summand) : Type 0 where
   pub some : 0 < x.bottom
   pub few : x.bottom < 2 ^ 122
   pub fits : x.top < 2 ^ 127

@@ -9,11 +9,11 @@ ghost use Rattle.fx_calmness.specs.LimitOf.{count_of, is_within, IsReady, IsLeas
 use crate::limit::{Limit, count, is_within};
 use fx_expr::Function;
 use fx_num::Memory;
-use fx_sums::Part;
+use fx_sums::Summand;
 
 /// The least number from `first` on at which thing `i` is within the limit; that behind `last` where there is none.
 fn least_at(
-    parts: &mut Vec<Part>,
+    summands: &mut Vec<Summand>,
     function: &Function,
     limit: Limit,
     i: u32,
@@ -27,7 +27,7 @@ fn least_at(
     ensures { IfOk result (λ w. IsLeastAt function.now limit i first last w) }
 {
     for w in first..last + 1 {
-        if is_within(parts, function, limit, i, w)? {
+        if is_within(summands, function, limit, i, w)? {
             return Ok(w);
         }
     }
@@ -36,7 +36,7 @@ fn least_at(
 
 /// The least number from `first` on at which all are; that behind `last` where there is none.
 pub fn least(
-    parts: &mut Vec<Part>,
+    summands: &mut Vec<Summand>,
     function: &Function,
     limit: Limit,
     first: u32,
@@ -49,14 +49,14 @@ pub fn least(
 {
     let mut w = first;
     for i in 0..count(function, limit) {
-        w = least_at(parts, function, limit, i, w, last)?;
+        w = least_at(summands, function, limit, i, w, last)?;
     }
     Ok(w)
 }
 
 /// The same for two limits together.
 pub fn least_of_both(
-    parts: &mut Vec<Part>,
+    summands: &mut Vec<Summand>,
     function: &Function,
     one: Limit,
     other: Limit,
@@ -69,6 +69,6 @@ pub fn least_of_both(
     requires from { first ≤ last + 1 }
     ensures { IfOk result (λ w. IsLeastOfBoth function.now one other first last w) }
 {
-    let w = least(parts, function, one, first, last)?;
-    least(parts, function, other, w, last)
+    let w = least(summands, function, one, first, last)?;
+    least(summands, function, other, w, last)
 }

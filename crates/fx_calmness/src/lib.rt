@@ -14,5 +14,5 @@ mod sum;
 mod terms;
 
 pub use limit::start_at;
-pub use magnitude::{Magnitude, reach, size_of, size_of_decimal, units};
+pub use magnitude::{Magnitude, magnitude_of, magnitude_of_decimal, reach, units};
 pub use numbers::{Numbers, find_numbers};

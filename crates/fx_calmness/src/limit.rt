@@ -7,21 +7,21 @@ ghost use Rattle.fx_model.specs.Tree.{at};
 ghost use Rattle.fx_inequalities.specs.NodeConditions.{no_input};
 ghost use Rattle.fx_inequalities.specs.Accepted.{start_of};
 ghost use Rattle.fx_expr.specs.TreeOf.{tree};
-ghost use Rattle.fx_expr.specs.Parts.{input_of};
+ghost use Rattle.fx_expr.specs.Summands.{input_of};
 ghost use Rattle.fx_sizes.specs.Powers.{magnitude, is_below_power};
 ghost use Rattle.fx_calm_numbers.specs.Calm.{reach_of};
-ghost use Rattle.fx_sums.specs.Parts.{IsPart};
+ghost use Rattle.fx_sums.specs.Summands.{IsSummand};
 ghost use Rattle.fx_calmness.specs.MagnitudeOf.{IsMagnitude, magnitude_value};
 ghost use Rattle.fx_calmness.specs.SumOf.{sum_value, IsSum, IsWeight};
 ghost use Rattle.fx_calmness.specs.LimitOf.{no_tree, first_result, result_count, count_of, is_within, IsTame, IsReady};
 
-use crate::magnitude::{Magnitude, is_below, reach, size_of_decimal, units};
+use crate::magnitude::{Magnitude, is_below, magnitude_of_decimal, reach, units};
 use crate::sum::Sum;
 use crate::terms::{literals_below, put_terms};
 use fx_expr::{Expr, Function, Input};
 use fx_lowering::{input_count, output_count, state_count};
 use fx_num::{Memory, two_to};
-use fx_sums::{Part, adds_up_to};
+use fx_sums::{Summand, adds_up_to};
 use fx_weight::input_at;
 
 /// What is limited.
@@ -90,7 +90,7 @@ pub fn start_at(function: &Function, k: u32) -> Magnitude
     ensures weight { IsWeight result }
     ensures value { magnitude_value result ≡ magnitude (start_of function.now k) }
 {
-    size_of_decimal(function.states.as_slice()[k as usize].start)
+    magnitude_of_decimal(function.states.as_slice()[k as usize].start)
 }
 
 /// Result `k`.
@@ -109,30 +109,30 @@ fn power(w: u32) -> u64
     1 << w
 }
 
-/// A size as a part of a sum.
-fn part(x: Magnitude) -> Part
+/// A size as a summand of a sum.
+fn summand(x: Magnitude) -> Summand
     requires { IsMagnitude x }
-    ensures part { IsPart result }
+    ensures summand { IsSummand result }
     ensures top { result.top ≡ x.top }
     ensures bottom { result.bottom ≡ x.bottom }
 {
-    Part {
+    Summand {
         top: u128::from(x.top),
         bottom: u128::from(x.bottom),
     }
 }
 
 /// Whether what an input reaches and its error add up to at most `2^w`.
-fn is_input_below(parts: &mut Vec<Part>, input: &Input, w: u32) -> Result<bool, Memory>
+fn is_input_below(summands: &mut Vec<Summand>, input: &Input, w: u32) -> Result<bool, Memory>
     requires error { AtMost (whole (pos 0)) (decimal_value input.now.err) }
     requires few { w ≤ 60 }
     ensures { IfOk result (λ r. r ≡ is_below_power (plus (reach_of (input_of input.now)) (input_of input.now).err)
         (pos w)) }
 {
-    parts.clear();
-    parts.push(part(reach(input)))?;
-    parts.push(part(size_of_decimal(input.err)))?;
-    Ok(adds_up_to(parts, power(w)))
+    summands.clear();
+    summands.push(summand(reach(input)))?;
+    summands.push(summand(magnitude_of_decimal(input.err)))?;
+    Ok(adds_up_to(summands, power(w)))
 }
 
 /// Whether twice the error of an input is at most `2^(1 + w)` units `2^-f`.
@@ -143,12 +143,12 @@ fn is_error_below(input: &Input, f: u32, w: u32) -> bool
     ensures { result ≡ is_below_power (plus (decimal_value input.now.err) (decimal_value input.now.err))
         (pos (1 + w) -ℤ pos f) }
 {
-    units(size_of_decimal(input.err), f) <= two_to(w)
+    units(magnitude_of_decimal(input.err), f) <= two_to(w)
 }
 
 /// Whether the sum of result `k` is at most `2^w`.
 fn is_sum_below(
-    parts: &mut Vec<Part>,
+    summands: &mut Vec<Summand>,
     function: &Function,
     sum: Sum,
     k: u32,
@@ -162,9 +162,9 @@ fn is_sum_below(
         (pos w)) }
 {
     function.keeps();
-    parts.clear();
-    put_terms(parts, function, sum, result_at(function, k))?;
-    Ok(adds_up_to(parts, power(w)))
+    summands.clear();
+    put_terms(summands, function, sum, result_at(function, k))?;
+    Ok(adds_up_to(summands, power(w)))
 }
 
 /// The number of the result that is limited at place `i`.
@@ -177,9 +177,9 @@ fn place(function: &Function, sum: Sum, i: u32) -> u32
     first_result(function, sum) + i
 }
 
-/// Whether thing `i` is within the limit for `w`. Sums are formed in `parts`.
+/// Whether thing `i` is within the limit for `w`. Sums are formed in `summands`.
 pub fn is_within(
-    parts: &mut Vec<Part>,
+    summands: &mut Vec<Summand>,
     function: &Function,
     limit: Limit,
     i: u32,
@@ -193,9 +193,9 @@ pub fn is_within(
     function.keeps();
     match limit {
         Limit::Starts => Ok(is_below(start_at(function, i), w)),
-        Limit::Inputs => is_input_below(parts, input_at(function, i), w),
+        Limit::Inputs => is_input_below(summands, input_at(function, i), w),
         Limit::Literals => Ok(literals_below(result_at(function, i), w)),
-        Limit::Sums { sum } => is_sum_below(parts, function, sum, place(function, sum, i), w),
+        Limit::Sums { sum } => is_sum_below(summands, function, sum, place(function, sum, i), w),
         Limit::Errors { f } => Ok(is_error_below(input_at(function, i), f, w)),
     }
 }

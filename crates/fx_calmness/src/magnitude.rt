@@ -5,7 +5,7 @@ ghost use Rattle.fx_rational.specs.Rational.{bottom, whole, is_at_most};
 ghost use Rattle.fx_rational.specs.Decimal.{decimal_value};
 ghost use Rattle.fx_model.specs.Function as model;
 ghost use Rattle.fx_inequalities.specs.NodeConditions.{no_input};
-ghost use Rattle.fx_expr.specs.Parts.{input_of};
+ghost use Rattle.fx_expr.specs.Summands.{input_of};
 ghost use Rattle.fx_sizes.specs.Powers.{magnitude, greater, is_below_power};
 ghost use Rattle.fx_calm_numbers.specs.Calm.{reach_of, reach_at};
 ghost use Rattle.fx_calm_numbers.specs.Bounds.{units_up};
@@ -44,7 +44,7 @@ fn top(c: Fraction) -> u64
 }
 
 /// A fraction without its sign.
-pub fn size_of(c: Fraction) -> Magnitude
+pub fn magnitude_of(c: Fraction) -> Magnitude
     ensures size { IsMagnitude result }
     ensures value { magnitude_value result ≡ magnitude c }
 {
@@ -72,7 +72,7 @@ fn decimal_bottom(d: Decimal) -> u64
 }
 
 /// A decimal without its sign.
-pub fn size_of_decimal(d: Decimal) -> Magnitude
+pub fn magnitude_of_decimal(d: Decimal) -> Magnitude
     ensures weight { IsWeight result }
     ensures value { magnitude_value result ≡ magnitude (decimal_value d) }
 {
@@ -106,7 +106,10 @@ pub fn reach(input: &Input) -> Magnitude
     ensures weight { IsWeight result }
     ensures value { magnitude_value result ≡ reach_of (input_of input.now) }
 {
-    greater(size_of_decimal(input.lo), size_of_decimal(input.hi))
+    greater(
+        magnitude_of_decimal(input.lo),
+        magnitude_of_decimal(input.hi),
+    )
 }
 
 /// The same of input `k`; nothing where there is none.

@@ -1,7 +1,7 @@
 //! The numbers of a calm function.
 //!
 //! Each is the least exponent at which a list of things is within a limit. What is tested before sums are formed keeps
-//! their parts short: results have at most 64 terms, and inputs and literals are at most `2^25`. Of a function that
+//! their summands short: results have at most 64 terms, and inputs and literals are at most `2^25`. Of a function that
 //! isn't so no number would leave room.
 
 ghost use Rattle.std.specs.Prelude.{int_le, ◌≡◌, ◌+◌, ◌-◌, ◌<◌, ◌≤◌, ◌&&◌, ◌+ℤ◌, ◌-ℤ◌, ◌≤ℤ◌, max, pos, negsuc, true, length, Contains, IfOk, option_map};
@@ -20,7 +20,7 @@ use crate::terms::is_short;
 use fx_expr::Function;
 use fx_lowering::{output_count, state_count};
 use fx_num::Memory;
-use fx_sums::Part;
+use fx_sums::Summand;
 use fx_weight::{allows, demand_at};
 use std::alloc::Global;
 
@@ -137,7 +137,7 @@ fn has_room(function: &Function, c: Numbers) -> bool
 
 /// The numbers, where all exponents but those of errors are known.
 fn with_errors(
-    parts: &mut Vec<Part>,
+    summands: &mut Vec<Summand>,
     function: &Function,
     width: u32,
     q: u32,
@@ -154,7 +154,7 @@ fn with_errors(
     if p + 2 > f {
         return Ok(None);
     }
-    let d = least(parts, function, Limit::Errors { f }, 0, 60)?;
+    let d = least(summands, function, Limit::Errors { f }, 0, 60)?;
     if d > 60 {
         return Ok(None);
     }
@@ -168,7 +168,7 @@ fn with_errors(
 
 /// The numbers, where inputs and literals are at most `2^low`.
 fn of_tame(
-    parts: &mut Vec<Part>,
+    summands: &mut Vec<Summand>,
     function: &Function,
     width: u32,
     low: u32,
@@ -181,11 +181,11 @@ fn of_tame(
     ensures { IfOk result (λ o. option_map numbers_view o ≡ calm_numbers width function.now) }
 {
     function.keeps();
-    if least(parts, function, Limit::Sums { sum: Sum::States }, 0, 0)? > 0 {
+    if least(summands, function, Limit::Sums { sum: Sum::States }, 0, 0)? > 0 {
         return Ok(None);
     }
     let q = least_of_both(
-        parts,
+        summands,
         function,
         Limit::Starts,
         Limit::Sums { sum: Sum::Adds },
@@ -195,13 +195,13 @@ fn of_tame(
     if q > 23 {
         return Ok(None);
     }
-    let a = least(parts, function, Limit::Sums { sum: Sum::Sizes }, 0, 56)?;
+    let a = least(summands, function, Limit::Sums { sum: Sum::Sizes }, 0, 56)?;
     if a > 56 {
         return Ok(None);
     }
     let values = Sum::Values { s: q + 2 };
     let w = least(
-        parts,
+        summands,
         function,
         Limit::Sums { sum: values },
         low.max(q + 2),
@@ -210,7 +210,7 @@ fn of_tame(
     if w > 25 {
         return Ok(None);
     }
-    with_errors(parts, function, width, q, a, w + 1)
+    with_errors(summands, function, width, q, a, w + 1)
 }
 
 /// The numbers of a function that is calm at a width; none of any other.
@@ -226,10 +226,17 @@ pub fn find_numbers(
     if !has_form(function) {
         return Ok(None);
     }
-    let mut parts = Vec::new(alloc);
-    let low = least_of_both(&mut parts, function, Limit::Inputs, Limit::Literals, 2, 25)?;
+    let mut summands = Vec::new(alloc);
+    let low = least_of_both(
+        &mut summands,
+        function,
+        Limit::Inputs,
+        Limit::Literals,
+        2,
+        25,
+    )?;
     if low > 25 {
         return Ok(None);
     }
-    of_tame(&mut parts, function, width, low)
+    of_tame(&mut summands, function, width, low)
 }

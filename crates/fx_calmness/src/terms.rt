@@ -1,4 +1,4 @@
-//! The terms of linear trees, as parts of exact sums.
+//! The terms of linear trees, as summands of exact sums.
 
 ghost use Rattle.std.specs.Prelude.{◌≡◌, ◌+◌, ◌*◌, ◌^◌, ◌<◌, ◌≤◌, ◌++◌, ◌∷◌, [], map, All, pos, OnOk};
 ghost use Rattle.fx_rational.specs.Rational.{whole};
@@ -7,14 +7,14 @@ ghost use Rattle.fx_sizes.specs.Powers.{power_value};
 ghost use Rattle.fx_calm_numbers.specs.Linear.{is_scaled, scaled_term, terms_of, are_literals_below};
 ghost use Rattle.fx_calm_numbers.specs.Calm.{is_short};
 ghost use Rattle.fx_calmness.specs.MagnitudeOf.{IsMagnitude, magnitude_value};
-ghost use Rattle.fx_calmness.specs.SumOf.{weight_of, size_of, part_of, IsSum, IsWeight, IsNarrowPart};
+ghost use Rattle.fx_calmness.specs.SumOf.{weight_of, size_of, summand_of, IsSum, IsWeight, IsNarrowSummand};
 ghost use Rattle.fx_calmness.specs.TermOf.{term_view, IsSized, IsRoomAfter};
 
-use crate::magnitude::{Magnitude, is_below, size_of, whole};
+use crate::magnitude::{Magnitude, is_below, magnitude_of, whole};
 use crate::sum::{Sum, input_weight, literal_weight, state_weight};
 use fx_expr::{Expr, Function};
 use fx_num::Memory;
-use fx_sums::Part;
+use fx_sums::Summand;
 
 /// A term of a linear tree; its size has no sign.
 #[derive(Clone, Copy, Debug)]
@@ -69,7 +69,7 @@ pub fn literals_below(e: &Expr, w: u32) -> bool
     ensures { result ≡ are_literals_below (power_value (pos w)) (tree e.now) }
 {
     match e {
-        Expr::Lit(c) => is_below(size_of(*c), w),
+        Expr::Lit(c) => is_below(magnitude_of(*c), w),
         Expr::Input(_) => true,
         Expr::State(_) => true,
         Expr::Temp(_) => true,
@@ -102,19 +102,19 @@ fn product_term(a: &Expr, b: &Expr) -> Term
     match (a, b) {
         (Expr::Lit(c), Expr::Input(k)) => Term::OfInput {
             k: *k,
-            size: size_of(*c),
+            size: magnitude_of(*c),
         },
         (Expr::Lit(c), Expr::State(k)) => Term::OfState {
             k: *k,
-            size: size_of(*c),
+            size: magnitude_of(*c),
         },
         (Expr::Input(k), Expr::Lit(c)) => Term::OfInput {
             k: *k,
-            size: size_of(*c),
+            size: magnitude_of(*c),
         },
         (Expr::State(k), Expr::Lit(c)) => Term::OfState {
             k: *k,
-            size: size_of(*c),
+            size: magnitude_of(*c),
         },
         _ => Term::Alone { size: whole(0) },
     }
@@ -147,56 +147,69 @@ fn term_size(term: Term) -> Magnitude
 }
 
 /// A size that counts so often.
-fn product(size: Magnitude, weight: Magnitude) -> Part
+fn product(size: Magnitude, weight: Magnitude) -> Summand
     requires size { IsMagnitude size }
     requires weight { IsWeight weight }
-    ensures narrow { IsNarrowPart result }
+    ensures narrow { IsNarrowSummand result }
     ensures top { result.top ≡ size.top * weight.top }
     ensures bottom { result.bottom ≡ size.bottom * weight.bottom }
 {
-    Part {
+    Summand {
         top: u128::from(size.top) * u128::from(weight.top),
         bottom: u128::from(size.bottom) * u128::from(weight.bottom),
     }
 }
 
-/// A term as a part of the sum.
-fn part_of(function: &Function, sum: Sum, term: Term) -> Part
+/// A term as a summand of the sum.
+fn summand_of(function: &Function, sum: Sum, term: Term) -> Summand
     requires sum { IsSum sum }
     requires sized { IsSized term }
-    ensures narrow { IsNarrowPart result }
-    ensures value { result ≡ part_of function.now sum (term_view term) }
+    ensures narrow { IsNarrowSummand result }
+    ensures value { result ≡ summand_of function.now sum (term_view term) }
 {
     product(term_size(term), weight_of(function, sum, term))
 }
 
 /// Appends a term.
-fn put_term(parts: &mut Vec<Part>, function: &Function, sum: Sum, term: Term) -> Result<(), Memory>
+fn put_term(
+    summands: &mut Vec<Summand>,
+    function: &Function,
+    sum: Sum,
+    term: Term,
+) -> Result<(), Memory>
     requires sum { IsSum sum }
     requires sized { IsSized term }
-    ensures put { OnOk result (parts.new.items ≡ parts.old.items ++ part_of function.now sum (term_view term) ∷ []) }
-    ensures narrow { OnOk result (All IsNarrowPart parts.old.items → All IsNarrowPart parts.new.items) }
+    ensures put { OnOk result
+        (summands.new.items ≡ summands.old.items ++ summand_of function.now sum (term_view term) ∷ []) }
+    ensures narrow { OnOk result (All IsNarrowSummand summands.old.items → All IsNarrowSummand summands.new.items) }
 {
-    parts.push(part_of(function, sum, term))?;
+    summands.push(summand_of(function, sum, term))?;
     Ok(())
 }
 
 /// Appends the terms of a tree, from left to right.
 pub fn put_terms(
-    parts: &mut Vec<Part>,
+    summands: &mut Vec<Summand>,
     function: &Function,
     sum: Sum,
     e: &Expr,
 ) -> Result<(), Memory>
     requires { IsSum sum }
     ensures put { OnOk result
-        (parts.new.items ≡ parts.old.items ++ map (part_of function.now sum) (terms_of (tree e.now))) }
-    ensures narrow { OnOk result (All IsNarrowPart parts.old.items → All IsNarrowPart parts.new.items) }
+        (summands.new.items ≡ summands.old.items ++ map (summand_of function.now sum) (terms_of (tree e.now))) }
+    ensures narrow { OnOk result (All IsNarrowSummand summands.old.items → All IsNarrowSummand summands.new.items) }
 {
     match e {
-        Expr::Lit(c) => put_term(parts, function, sum, Term::Alone { size: size_of(*c) }),
+        Expr::Lit(c) => put_term(
+            summands,
+            function,
+            sum,
+            Term::Alone {
+                size: magnitude_of(*c),
+            },
+        ),
         Expr::Input(k) => put_term(
-            parts,
+            summands,
             function,
             sum,
             Term::OfInput {
@@ -205,7 +218,7 @@ pub fn put_terms(
             },
         ),
         Expr::State(k) => put_term(
-            parts,
+            summands,
             function,
             sum,
             Term::OfState {
@@ -214,16 +227,16 @@ pub fn put_terms(
             },
         ),
         Expr::Temp(_) => Ok(()),
-        Expr::Neg(a) => put_terms(parts, function, sum, a),
+        Expr::Neg(a) => put_terms(summands, function, sum, a),
         Expr::Add(a, b) => {
-            put_terms(parts, function, sum, a)?;
-            put_terms(parts, function, sum, b)
+            put_terms(summands, function, sum, a)?;
+            put_terms(summands, function, sum, b)
         }
         Expr::Sub(a, b) => {
-            put_terms(parts, function, sum, a)?;
-            put_terms(parts, function, sum, b)
+            put_terms(summands, function, sum, a)?;
+            put_terms(summands, function, sum, b)
         }
-        Expr::Mul(a, b) => put_term(parts, function, sum, product_term(a, b)),
+        Expr::Mul(a, b) => put_term(summands, function, sum, product_term(a, b)),
         Expr::Div(..) => Ok(()),
     }
 }

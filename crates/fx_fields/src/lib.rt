@@ -7,5 +7,5 @@
 mod line;
 mod pieces;
 
-pub use line::{Fields, plain_line_law, plain_text, record_of, unmarked_line_law};
+pub use line::{Record, plain_line_law, plain_text, record_of, unmarked_line_law};
 pub use pieces::{Pieces, piece_from};

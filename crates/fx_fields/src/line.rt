@@ -11,23 +11,23 @@ use csv::{ByteRecord, ErrorKind, ReaderBuilder};
 use fx_num::Memory;
 use std::alloc::Global;
 
-/// The fields of a line.
+/// A record: the fields of a line.
 #[derive(Drop)]
-pub enum Fields<'a> {
+pub enum Record<'a> {
     /// Those of a line without quotes.
     Plain(Pieces<'a>),
     /// Those of any line.
-    Record(ByteRecord),
+    Parsed(ByteRecord),
 }
 
-impl<'a> Fields<'a> {
+impl<'a> Record<'a> {
     /// The field at a place.
     pub fn get(&self, place: usize) -> Option<&[u8]>
         ensures { option_map (λ f. f.now) result ≡ field_at (seen self.now) place }
     {
         match self {
-            Fields::Plain(pieces) => pieces.get(place),
-            Fields::Record(record) => record.get(place),
+            Record::Plain(pieces) => pieces.get(place),
+            Record::Parsed(record) => record.get(place),
         }
     }
 }

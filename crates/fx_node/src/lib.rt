@@ -13,5 +13,5 @@ mod run;
 pub use fault::Flaw;
 pub use fx_rows::UnitKind;
 pub use law::{events_in_range_law, unit_run_law, units_apart_law, units_law};
-pub use node::Node;
+pub use node::UnitRuns;
 pub use run::{NodeFault, run_node};

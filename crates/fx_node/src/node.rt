@@ -82,14 +82,14 @@ fn put_unit<const B: u32>(page: &mut Page, program: &Program, unit: u32, registe
     put_words(page, program, registers);
 }
 
-/// A certified program with a state for each of several units.
+/// The runs of several units by one certified program, side by side.
 #[derive(Drop)]
-pub struct Node<'a, const B: u32> {
+pub struct UnitRuns<'a, const B: u32> {
     certified: &'a Certified,
     registers: Vec<Registers<B>>,
 }
 
-impl<'a, const B: u32> Model for Node<'a, B> {
+impl<'a, const B: u32> Model for UnitRuns<'a, B> {
     ghost use Rattle.std.specs.Coded.{codes};
     ghost use Rattle.fx_expr.specs.Coding.{function_code};
     ghost use Rattle.fx_node.specs.Units.{Units, IsNode};
@@ -103,9 +103,13 @@ impl<'a, const B: u32> Model for Node<'a, B> {
     ghost invariant = { λ n. IsNode B record { accepted = n.certified.now; registers = n.registers.items } };
 }
 
-impl<'a, const B: u32> Node<'a, B> {
+impl<'a, const B: u32> UnitRuns<'a, B> {
     /// So many units before their first rows. All room is made here.
-    pub fn new(alloc: Global, certified: &'a Certified, units: u32) -> Result<Node<'a, B>, Memory>
+    pub fn new(
+        alloc: Global,
+        certified: &'a Certified,
+        units: u32,
+    ) -> Result<UnitRuns<'a, B>, Memory>
         requires width { certified.now.program.width ≡ B }
         requires some { 1 ≤ units }
         requires few { units ≤ 1024 }
@@ -113,7 +117,7 @@ impl<'a, const B: u32> Node<'a, B> {
     {
         certified.certified();
         let registers = first_registers::<B>(alloc, certified.program(), units)?;
-        Ok(Node {
+        Ok(UnitRuns {
             certified,
             registers,
         })

@@ -23,7 +23,7 @@ ghost use Rattle.fx_node.specs.Steps.{event_then, node_columns, units_outcome};
 ghost use Rattle.fx_node.specs.declared.fault.Flaw.TheVariants as flaw;
 
 use crate::fault::Flaw;
-use crate::node::Node;
+use crate::node::UnitRuns;
 use fx_expr::Function;
 use fx_fraction::Decimal;
 use fx_num::Memory;
@@ -58,7 +58,7 @@ pub(crate) struct NodeReader {
 /// The header and the rows of units as they come.
 #[derive(Drop)]
 pub(crate) struct NodePrinter<'a, const B: u32> {
-    pub(crate) node: Node<'a, B>,
+    pub(crate) node: UnitRuns<'a, B>,
     pub(crate) units: u32,
     pub(crate) reader: Option<NodeReader>,
     pub(crate) row: Vec<Decimal>,
@@ -157,7 +157,7 @@ fn read_event(
 fn take_header<'a, const B: u32>(
     alloc: Global,
     line: &[u8],
-    node: &Node<'a, B>,
+    node: &UnitRuns<'a, B>,
     page: &mut Page,
 ) -> Result<Option<NodeReader>, Stop<Flaw>>
     requires room { HasRoom page.old }
@@ -186,7 +186,7 @@ fn take_event<'a, const B: u32>(
     alloc: Global,
     line: &[u8],
     reader: &NodeReader,
-    node: &mut Node<'a, B>,
+    node: &mut UnitRuns<'a, B>,
     units: u32,
     row: &mut Vec<Decimal>,
     page: &mut Page,

@@ -14,7 +14,7 @@ ghost use Rattle.fx_node.specs.Units.{first_units};
 
 use crate::fault::Flaw;
 use crate::law::units_law;
-use crate::node::Node;
+use crate::node::UnitRuns;
 use crate::printer::NodePrinter;
 use fx_base::{Sink, Source};
 use fx_checker::Certified;
@@ -41,7 +41,7 @@ fn first_printer<'a, const B: u32>(
     ensures room { IfOk result (λ s. length certified.now.function.inputs ≤ vec_capacity s.row) }
 {
     let row = Vec::with_capacity(alloc, certified.function().inputs.len())?;
-    let node = Node::<B>::new(alloc, certified, units)?;
+    let node = UnitRuns::<B>::new(alloc, certified, units)?;
     Ok(NodePrinter {
         node,
         units,

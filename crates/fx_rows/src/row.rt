@@ -22,7 +22,7 @@ use crate::order::Order;
 use crate::quick::read_quick;
 use crate::reader::{RowReader, ranges_of};
 use fx_expr::Function;
-use fx_fields::{Fields, Pieces, piece_from, plain_text, record_of, unmarked_line_law};
+use fx_fields::{Pieces, Record, piece_from, plain_text, record_of, unmarked_line_law};
 use fx_fraction::{Decimal, Range, read_decimal};
 use fx_num::Memory;
 use std::alloc::Global;
@@ -100,7 +100,7 @@ fn read_along(
 
 // The same from fields that are found in any order at once.
 fn read_values(
-    fields: &Fields,
+    fields: &Record,
     places: &[u32],
     ranges: &[Range],
     row: &mut Vec<Decimal>,
@@ -170,7 +170,7 @@ fn read_table(
     ensures room { IfErr result (λ e. e.kind ≡ kind.Memory → vec_capacity row.old < length ranges.now) }
     ensures kept { vec_capacity row.old ≤ vec_capacity row.new }
 {
-    let fields = Fields::Plain(Pieces::of(text));
+    let fields = Record::Plain(Pieces::of(text));
     read_values(&fields, places, ranges, row)
 }
 
@@ -191,7 +191,7 @@ fn read_record(
     ensures kept { vec_capacity row.old ≤ vec_capacity row.new }
 {
     match record_of(alloc, line) {
-        Ok(Some(record)) => match read_values(&Fields::Record(record), places, ranges, row) {
+        Ok(Some(record)) => match read_values(&Record::Parsed(record), places, ranges, row) {
             Ok(()) => Ok(true),
             Err(fault) => Err(fault),
         },

@@ -13,8 +13,8 @@ use Rattle.fx_rational.proofs.Tests.{at_most_true, at_most_false, at_most_holds}
 use Rattle.fx_rational.proofs.Quotient.{whole_above, le_of_times, times_cancel, over_times}
 use Rattle.fx_rational.proofs.Powers.{bottom_times, whole_sum, whole_difference, whole_product, whole_le, whole_order}
 use Rattle.fx_fraction.proofs.Ranges.{le_true, true_le}
-use Rattle.fx_sums.specs.declared.part.Part.{Part}
-use Rattle.fx_sums.specs.Parts.{IsPart, part_value, sum_of, digit, rest, digits, rests, left, decided, enough, SumLaw}
+use Rattle.fx_sums.specs.declared.summand.Summand.{Summand}
+use Rattle.fx_sums.specs.Summands.{IsSummand, summand_value, sum_of, digit, rest, digits, rests, left, decided, enough, SumLaw}
 
 whole_nonneg : (n : ℕ) → Nonneg (whole (pos n))
 whole_nonneg n = nonneg_from (omega (arith, ints))
@@ -23,45 +23,45 @@ whole_nonneg n = nonneg_from (omega (arith, ints))
 abbrev count : ℕ → Rational
 count n = whole (pos n)
 
--- ---- one division: c times a part is its digit and its rest
-divided : (c : ℕ) (x : Part) → 0 < x.bottom →
-    Equal (times (count c) (part_value x)) (plus (whole (pos (digit c x))) (part_value (rest c x)))
+-- ---- one division: c times a summand is its digit and its rest
+divided : (c : ℕ) (x : Summand) → 0 < x.bottom →
+    Equal (times (count c) (summand_value x)) (plus (whole (pos (digit c x))) (summand_value (rest c x)))
 divided c x some =
     let b = x.bottom in let t = c * x.top in
     let e = div-add-mod' t b in
     times_cancel (whole_above b some)
-    (equal_trans (by_quotes {ρ = count c ∷ part_value x ∷ whole (pos b)
+    (equal_trans (by_quotes {ρ = count c ∷ summand_value x ∷ whole (pos b)
     ∷ []} {b =
-    times (count c) (times (part_value x) (whole (pos b)))} (search quotes depth 20) (search quotes depth 20) refl)
+    times (count c) (times (summand_value x) (whole (pos b)))} (search quotes depth 20) (search quotes depth 20) refl)
     (equal_trans (times_same (equal_refl (count c)) (over_times (pos x.top) b some))
     (equal_trans (equal_sym (whole_product (pos c) (pos x.top)))
     (equal_trans (subst (λ (n : ℕ). Equal (whole (pos t)) (whole (pos n))) (sym e) (equal_refl (whole (pos t))))
     (equal_trans (whole_sum (pos (t / b * b)) (pos (t % b)))
     (equal_trans (plus_same (whole_product (pos (t / b)) (pos b)) (equal_sym (over_times (pos (t % b)) b some)))
-    (by_quotes {ρ = whole (pos (t / b)) ∷ whole (pos b) ∷ part_value (rest c x) ∷ []} (search quotes depth 20)
+    (by_quotes {ρ = whole (pos (t / b)) ∷ whole (pos b) ∷ summand_value (rest c x) ∷ []} (search quotes depth 20)
     (search quotes depth 20) refl)))))))
 
 -- ---- all at once
-abbrev pub AreSome : List Part → Type 0
+abbrev pub AreSome : List Summand → Type 0
 AreSome [] = Unit {0}
 AreSome (x ∷ xs) = (0 < x.bottom) × AreSome xs
 
-all_divided : (c : ℕ) (xs : List Part) → AreSome xs →
+all_divided : (c : ℕ) (xs : List Summand) → AreSome xs →
     Equal (times (count c) (sum_of xs)) (plus (whole (pos (digits c xs))) (sum_of (rests c xs)))
 all_divided c [] h = by_quotes {ρ = count c ∷ []} (search quotes depth 20) (search quotes depth 20) refl
 all_divided c (x ∷ xs) h =
-    equal_trans (by_quotes {ρ = count c ∷ part_value x ∷ sum_of xs
+    equal_trans (by_quotes {ρ = count c ∷ summand_value x ∷ sum_of xs
     ∷ []} {b =
-    plus (times (count c) (part_value x)) (times (count c) (sum_of xs))} (search quotes depth 20)
+    plus (times (count c) (summand_value x)) (times (count c) (sum_of xs))} (search quotes depth 20)
     (search quotes depth 20) refl)
     (equal_trans (plus_same (divided c x h.0) (all_divided c xs h.1))
-    (equal_trans (by_quotes {ρ = whole (pos (digit c x)) ∷ part_value (rest c x) ∷ whole (pos (digits c xs))
+    (equal_trans (by_quotes {ρ = whole (pos (digit c x)) ∷ summand_value (rest c x) ∷ whole (pos (digits c xs))
     ∷ sum_of (rests c xs) ∷ []} {b =
     plus (plus (whole (pos (digit c x))) (whole (pos (digits c xs))))
-    (plus (part_value (rest c x)) (sum_of (rests c xs)))} (search quotes depth 20) (search quotes depth 20) refl)
+    (plus (summand_value (rest c x)) (sum_of (rests c xs)))} (search quotes depth 20) (search quotes depth 20) refl)
     (plus_same (equal_sym (whole_sum (pos (digit c x)) (pos (digits c xs)))) (equal_refl _))))
 
-rests_some : (c : ℕ) (xs : List Part) → AreSome xs → AreSome (rests c xs)
+rests_some : (c : ℕ) (xs : List Summand) → AreSome xs → AreSome (rests c xs)
 rests_some c [] h = tt
 rests_some c (x ∷ xs) h = (h.0, rests_some c xs h.1)
 
@@ -70,12 +70,12 @@ over_nonneg : (t b : ℕ) → Nonneg (over (pos t) b)
 unfolding over
 over_nonneg t b = nonneg_from (omega (arith, ints))
 
-sum_nonneg : (xs : List Part) → Nonneg (sum_of xs)
+sum_nonneg : (xs : List Summand) → Nonneg (sum_of xs)
 sum_nonneg [] = whole_nonneg 0
 sum_nonneg (x ∷ xs) = nonneg_plus (over_nonneg x.top x.bottom) (sum_nonneg xs)
 
 -- each top below its bottom
-abbrev AreBelow : List Part → Type 0
+abbrev AreBelow : List Summand → Type 0
 AreBelow [] = Unit {0}
 AreBelow (x ∷ xs) = (x.top < x.bottom) × AreBelow xs
 
@@ -91,37 +91,37 @@ below_one t b l =
     few (suc zero) e = omega (arith, l)
     few (suc (suc m)) e = absurd (omega (arith, e))
 
-below_left : (xs : List Part) → AreBelow xs → AtMost (sum_of xs) (whole (pos (left xs)))
+below_left : (xs : List Summand) → AreBelow xs → AtMost (sum_of xs) (whole (pos (left xs)))
 below_left [] h = le_refl _
 below_left (x ∷ xs) h =
     le_trans (plus_le (below_one x.top x.bottom h.0) (below_left xs h.1))
     (le_of_equal (equal_sym (whole_sum (pos (min x.top 1)) (pos (left xs)))))
 
 -- no more are left than there are
-pub left_few : (xs : List Part) → left xs ≤ length xs
+pub left_few : (xs : List Summand) → left xs ≤ length xs
 left_few [] = omega arith
 left_few (x ∷ xs) = let more = left_few xs in omega (arith, more)
 
-rests_below : (c : ℕ) (xs : List Part) → AreSome xs → AreBelow (rests c xs)
+rests_below : (c : ℕ) (xs : List Summand) → AreSome xs → AreBelow (rests c xs)
 rests_below c [] h = tt
 rests_below c (x ∷ xs) h = (mod_below (c * x.top) x.bottom h.0, rests_below c xs h.1)
 
 -- ---- the decision
 -- s and the rests together
-abbrev value : ℤ → List Part → Rational
+abbrev value : ℤ → List Summand → Rational
 value s xs = plus (whole s) (sum_of xs)
 
 -- those of the next digits
-abbrev next_value : ℤ → List Part → Rational
+abbrev next_value : ℤ → List Summand → Rational
 next_value s xs = value (pos 10 *ℤ s +ℤ pos (digits 10 xs)) (rests 10 xs)
 
 -- where it is above zero, 10^t times it is more than the count
-abbrev IsFar : ℕ → ℤ → List Part → Type 0
+abbrev IsFar : ℕ → ℤ → List Summand → Type 0
 IsFar t s xs = is_at_most (value s xs) (whole (pos 0)) ≡ false →
     AtMost (whole (pos (length xs + 1))) (times (count (10 ^ t)) (value s xs))
 
 -- the next digits make ten of it
-tenfold : (s : ℤ) (xs : List Part) → AreSome xs → Equal (next_value s xs) (times (count 10) (value s xs))
+tenfold : (s : ℤ) (xs : List Summand) → AreSome xs → Equal (next_value s xs) (times (count 10) (value s xs))
 tenfold s xs h =
     equal_trans (plus_same (equal_trans (whole_sum (pos 10 *ℤ s) (pos (digits 10 xs)))
     (plus_same (whole_product (pos 10) s) (equal_refl _))) (equal_refl _))
@@ -145,7 +145,7 @@ same_test x y f g = by (is_at_most x (whole (pos 0))) refl (is_at_most y (whole 
     by false p true q = let e = at_most_holds (g (at_most_true y (whole (pos 0)) q)) in absurd (let z = sym p ∙ e in cc)
 
 -- ten times as much is at most zero exactly where it is
-tenfold_test : (s : ℤ) (xs : List Part) → AreSome xs →
+tenfold_test : (s : ℤ) (xs : List Summand) → AreSome xs →
     is_at_most (next_value s xs) (whole (pos 0)) ≡ is_at_most (value s xs) (whole (pos 0))
 tenfold_test s xs h =
     let e = tenfold s xs h in
@@ -185,7 +185,7 @@ positive x n l h = by (is_at_most x (whole (pos 0))) refl
         absurd (let o = whole_order (le_trans h (at_most_true x (whole (pos 0)) e)) in omega (arith, ints, o, l))
 
 -- ---- each turn decides rightly
-pub decided_is : (t : ℕ) (s : ℤ) (xs : List Part) → AreSome xs → AreBelow xs → IsFar t s xs →
+pub decided_is : (t : ℕ) (s : ℤ) (xs : List Summand) → AreSome xs → AreBelow xs → IsFar t s xs →
     decided t s xs ≡ is_at_most (value s xs) (whole (pos 0))
 unfolding decided
 decided_is zero s xs some below far = by (is_at_most (value s xs) (whole (pos 0))) refl
@@ -262,17 +262,17 @@ plus_bottom : (p q : Rational) → bottom (plus p q) ≡ bottom p * bottom q
 unfolding plus over
 plus_bottom p q = suc_pred_of (bottom p * bottom q) (mul-pos {m = bottom p} {n = bottom q} (omega arith) (omega arith))
 
-part_bottom : (x : Part) → 0 < x.bottom → bottom (part_value x) ≡ x.bottom
+summand_bottom : (x : Summand) → 0 < x.bottom → bottom (summand_value x) ≡ x.bottom
 unfolding over
-part_bottom x h = suc_pred_of x.bottom h
+summand_bottom x h = suc_pred_of x.bottom h
 
-bottom_few : (xs : List Part) → All IsPart xs → bottom (sum_of xs) ≤ 2 ^ (122 * length xs)
+bottom_few : (xs : List Summand) → All IsSummand xs → bottom (sum_of xs) ≤ 2 ^ (122 * length xs)
 bottom_few [] h = pow_pos (122 * 0)
 bottom_few (x ∷ xs) h =
-    let own = All-head IsPart x xs h in let more = bottom_few xs (All-tail IsPart x xs h) in
-    let p = plus_bottom (part_value x) (sum_of xs) in let q = part_bottom x own.some in let f = own.few in
+    let own = All-head IsSummand x xs h in let more = bottom_few xs (All-tail IsSummand x xs h) in
+    let p = plus_bottom (summand_value x) (sum_of xs) in let q = summand_bottom x own.some in let f = own.few in
     let m =
-    mul-le (bottom (part_value x)) (bottom (sum_of xs)) (2 ^ 122) (2 ^ (122 * length xs))
+    mul-le (bottom (summand_value x)) (bottom (sum_of xs)) (2 ^ 122) (2 ^ (122 * length xs))
     (omega (arith, q, f)) more in
     let e = pow-add 2 122 (122 * length xs) in
     let k : 2 ^ (122 * suc (length xs)) ≡ 2 ^ (122 + 122 * length xs) = ap (λ (n : ℕ). 2 ^ n) (omega arith) in
@@ -292,9 +292,9 @@ apart x l e =
     (by_quotes {ρ = x ∷ whole d ∷ whole (pos l) ∷ []} {b = times (minus x (whole (pos l))) (whole d)}
     (search quotes depth 20) (search quotes depth 20) refl))))
 
-all_some : (xs : List Part) → All IsPart xs → AreSome xs
+all_some : (xs : List Summand) → All IsSummand xs → AreSome xs
 all_some [] h = tt
-all_some (x ∷ xs) h = ((All-head IsPart x xs h).some, all_some xs (All-tail IsPart x xs h))
+all_some (x ∷ xs) h = ((All-head IsSummand x xs h).some, all_some xs (All-tail IsSummand x xs h))
 
 -- ---- digits of ten are more than three bits
 tens_more : (t : ℕ) → 2 ^ (3 * t) ≤ 10 ^ t
@@ -317,9 +317,9 @@ enough_tens n b few h =
     omega (arith, k, e, t)
 
 -- ---- the law
-module _ (xs : List Part) (limit : ℕ) (parts : All IsPart xs) (few : length xs ≤ 64) where
+module _ (xs : List Summand) (limit : ℕ) (summands : All IsSummand xs) (few : length xs ≤ 64) where
   some : AreSome xs
-  some = all_some xs parts
+  some = all_some xs summands
 
   abbrev first : ℤ
   first = pos (digits 1 xs) -ℤ pos limit
@@ -366,7 +366,7 @@ module _ (xs : List Part) (limit : ℕ) (parts : All IsPart xs) (few : length xs
       let l = length-map xs (rest 1) in
       let one = apart x limit (sym starts_same ∙ e) in
       let more = at_most_false x (whole (pos limit)) (sym starts_same ∙ e) in
-      let bottoms = enough_tens n b few (bottom_few xs parts) in
+      let bottoms = enough_tens n b few (bottom_few xs summands) in
       let wide : AtMost (times (count (n + 1)) (count b)) (count (10 ^ 2605)) =
       le_trans (le_of_equal (equal_sym (whole_product (pos (n + 1)) (pos b))))
       (whole_le {a = pos ((n + 1) * b)} {b = pos (10 ^ 2605)} (omega (arith, ints, bottoms))) in
@@ -384,4 +384,4 @@ module _ (xs : List Part) (limit : ℕ) (parts : All IsPart xs) (few : length xs
   law = decided_is enough first (rests 1 xs) (rests_some 1 xs some) (rests_below 1 xs some) far ∙ starts_same
 
 pub sums_are : SumLaw
-sums_are xs limit parts few = law xs limit parts few
+sums_are xs limit summands few = law xs limit summands few

@@ -1,10 +1,10 @@
 -- Sums beside whole numbers, by evaluation.
 use Rattle.std.proofs.Common.{◌≡◌, true, false, [], ◌∷◌, ◌^◌, ℕ, List, Bool, pos, ◌-ℤ◌, refl}
-use Rattle.fx_sums.specs.declared.part.Part.{Part}
-use Rattle.fx_sums.specs.Parts.{digits, rests, decided, enough}
+use Rattle.fx_sums.specs.declared.summand.Summand.{Summand}
+use Rattle.fx_sums.specs.Summands.{digits, rests, decided, enough}
 
 -- the answer of `adds_up_to`
-answer : List Part → ℕ → Bool
+answer : List Summand → ℕ → Bool
 answer xs limit = decided enough (pos (digits 1 xs) -ℤ pos limit) (rests 1 xs)
 
 -- 0.1 and 0.4, each twice, are 1
@@ -17,7 +17,7 @@ thirds : answer (record { top = 1; bottom = 3 } ∷ record { top = 2; bottom = 3
 unfolding answer decided enough
 thirds = refl
 
--- a part in 10^18 more is above it
+-- a summand in 10^18 more is above it
 one_more : answer (record { top = 1; bottom = 3 } ∷ record { top = 2; bottom = 3 } ∷ record {
   top = 1;
   bottom = 10 ^ 18;

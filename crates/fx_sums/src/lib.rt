@@ -7,13 +7,13 @@
 //! fractions they take the 2,605 digits, since two different sums differ by a fraction of their denominators' product.
 #![tactic(auto)]
 
-mod part;
 mod settle;
+mod summand;
 
-ghost use Rattle.fx_sums.specs.Parts.{SumLaw};
+ghost use Rattle.fx_sums.specs.Summands.{SumLaw};
 
-pub use part::Part;
 pub use settle::adds_up_to;
+pub use summand::Summand;
 
 /// So many digits decide.
 pub fn sum_law()

@@ -2,15 +2,15 @@
 
 ghost use Rattle.std.specs.Prelude.{int_le, min, ◌≡◌, ◌+◌, ◌*◌, ◌^◌, ◌<◌, ◌≤◌, ◌≤ℤ◌, ◌+ℤ◌, ◌-ℤ◌, ◌*ℤ◌, pos, negsuc, length, All};
 ghost use Rattle.fx_rational.specs.Rational.{whole, is_at_most};
-ghost use Rattle.fx_sums.specs.Parts.{IsPart, IsReady, sum_of, digit, rest, digits, rests, left, decided};
+ghost use Rattle.fx_sums.specs.Summands.{IsSummand, IsReady, sum_of, digit, rest, digits, rests, left, decided};
 
-use crate::part::Part;
+use crate::summand::Summand;
 
 /// So many digits decide: 64 denominators of 122 bits, and 7 bits for their count, make 2,605 digits of three bits.
 const DIGITS: u32 = 2605;
 
 /// How often the bottom goes into `c` times the top.
-fn digit_of(x: Part, c: u128) -> u128
+fn digit_of(x: Summand, c: u128) -> u128
     requires ready { IsReady c x }
     ensures value { result ≡ digit c x }
     ensures small { result < 2 ^ 62 }
@@ -19,35 +19,35 @@ fn digit_of(x: Part, c: u128) -> u128
 }
 
 /// What is left of it.
-fn rest_of(x: Part, c: u128) -> Part
+fn rest_of(x: Summand, c: u128) -> Summand
     requires ready { IsReady c x }
     ensures { result ≡ rest c x }
 {
-    Part {
+    Summand {
         top: c * x.top % x.bottom,
         bottom: x.bottom,
     }
 }
 
 /// All are divided: each leaves its rest, and the digits are added up.
-fn turn(parts: &mut [Part], c: u128) -> u128
-    requires ready { All (IsReady c) parts.old }
-    requires few { length parts.old ≤ 64 }
-    ensures rests { parts.new ≡ rests c parts.old }
-    ensures digits { result ≡ digits c parts.old }
+fn turn(summands: &mut [Summand], c: u128) -> u128
+    requires ready { All (IsReady c) summands.old }
+    requires few { length summands.old ≤ 64 }
+    ensures rests { summands.new ≡ rests c summands.old }
+    ensures digits { result ≡ digits c summands.old }
     ensures small { result ≤ 2 ^ 68 }
 {
     let mut s = 0;
-    for i in 0..parts.len() {
-        let x = parts[i];
+    for i in 0..summands.len() {
+        let x = summands[i];
         s += digit_of(x, c);
-        parts[i] = rest_of(x, c);
+        summands[i] = rest_of(x, c);
     }
     s
 }
 
 /// 1 for a number that isn't zero, and 0 for zero.
-fn one(x: Part) -> u32
+fn one(x: Summand) -> u32
     ensures value { result ≡ min x.top 1 }
     ensures few { result ≤ 1 }
 {
@@ -55,14 +55,14 @@ fn one(x: Part) -> u32
 }
 
 /// How many of them aren't zero.
-fn left(parts: &[Part]) -> u32
-    requires { length parts.now ≤ 64 }
-    ensures value { result ≡ left parts.now }
+fn left(summands: &[Summand]) -> u32
+    requires { length summands.now ≤ 64 }
+    ensures value { result ≡ left summands.now }
     ensures few { result ≤ 64 }
 {
     let mut count = 0;
-    for i in 0..parts.len() {
-        count += one(parts[i]);
+    for i in 0..summands.len() {
+        count += one(summands[i]);
     }
     count
 }
@@ -96,20 +96,20 @@ fn is_under(s: i128, count: u32) -> bool
 }
 
 /// Whether the numbers add up to at most `limit`. They are divided in their place.
-pub fn adds_up_to(parts: &mut [Part], limit: u64) -> bool
-    requires parts { All IsPart parts.old }
-    requires few { length parts.old ≤ 64 }
-    ensures { result ≡ is_at_most (sum_of parts.old) (whole (pos limit)) }
+pub fn adds_up_to(summands: &mut [Summand], limit: u64) -> bool
+    requires summands { All IsSummand summands.old }
+    requires few { length summands.old ≤ 64 }
+    ensures { result ≡ is_at_most (sum_of summands.old) (whole (pos limit)) }
 {
-    let mut s = start(turn(parts, 1), limit);
+    let mut s = start(turn(summands, 1), limit);
     for _turn in 0..DIGITS {
         if s >= 1 {
             return false;
         }
-        if is_under(s, left(parts)) {
+        if is_under(s, left(summands)) {
             return true;
         }
-        s = next(s, turn(parts, 10));
+        s = next(s, turn(summands, 10));
     }
     s <= 0
 }

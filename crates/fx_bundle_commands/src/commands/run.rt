@@ -42,7 +42,7 @@ pub(crate) fn inputs_of(certified: &Certified) -> &[Input]
 
 /// How the words of a run are kept.
 #[derive(Clone, Copy, Debug, PartialEq, Eq)]
-pub enum Kept {
+pub enum Storage {
     /// All in cells of one size: `run`.
     Alike,
     /// Each in its own width: `mixed`.
@@ -53,7 +53,7 @@ pub enum Kept {
 fn run_kept<S: Source<K>, K: Sink>(
     alloc: Global,
     certified: &Certified,
-    kept: Kept,
+    kept: Storage,
     source: &mut S,
     sink: &mut K,
     limit: u64,
@@ -77,8 +77,8 @@ fn run_kept<S: Source<K>, K: Sink>(
     ensures write_fault { IsErrOf result WriteFault → Rose (K.faults sink.old) (K.faults sink.new) }
 {
     match kept {
-        Kept::Alike => run_rows(alloc, certified, source, sink, limit),
-        Kept::Apart => run_mixed(alloc, certified, source, sink, limit),
+        Storage::Alike => run_rows(alloc, certified, source, sink, limit),
+        Storage::Apart => run_mixed(alloc, certified, source, sink, limit),
     }
 }
 
@@ -86,7 +86,7 @@ fn run_kept<S: Source<K>, K: Sink>(
 fn run_input<'a, S: Source<K>, K: Sink>(
     alloc: Global,
     certified: &'a Certified,
-    kept: Kept,
+    kept: Storage,
     input: &mut S,
     output: &mut K,
 ) -> End<'a>
@@ -119,7 +119,7 @@ fn run_input<'a, S: Source<K>, K: Sink>(
 pub fn run_file<H: Shelf, S: Source<K>, K: Sink, N: Sink>(
     alloc: Global,
     shelf: &mut H,
-    kept: Kept,
+    kept: Storage,
     name: &str,
     input: &mut S,
     output: &mut K,

@@ -8,7 +8,7 @@ use Rattle.fx_calm.proofs.narrow.narrow_error.Goals as goal
 
 pub returns-in-Some : goal.returns-in-Some
 returns-in-Some c =
-    let s = c.size_of_decimal-size.ensures.weight.size in
+    let s = c.magnitude_of_decimal-size.ensures.weight.size in
     subst (λ o. IfSome (option_map decimal_value o) IsNarrowNumber) (sym c.in-Some.is)
-    (narrow_size c.size_of_decimal-size.result.top c.size_of_decimal-size.result.bottom
-    (decimal_value c.in-Some.e) s.some s.few c.size_of_decimal-size.ensures.value)
+    (narrow_size c.magnitude_of_decimal-size.result.top c.magnitude_of_decimal-size.result.bottom
+    (decimal_value c.in-Some.e) s.some s.few c.magnitude_of_decimal-size.ensures.value)

@@ -7,4 +7,4 @@ use Rattle.fx_calmness.proofs.limit.is_error_below.Goals as goal
 pub returns : goal.returns
 returns c =
     error_test (decimal_value c.args.input.now.err) c.args.f c.args.w c.units.result c.two_to.result c.requires.error
-    (c.units.ensures ∙ ap (units_up c.args.f) c.size_of_decimal.ensures.value) c.two_to.ensures.value
+    (c.units.ensures ∙ ap (units_up c.args.f) c.magnitude_of_decimal.ensures.value) c.two_to.ensures.value

@@ -7,7 +7,8 @@ loop-i-init c = ((refl, refl), omega arith)
 
 pub digit_of-s-requires : goal.digit_of-s-requires
 digit_of-s-requires c = record {
-  ready = ready_next c.args.c c.loop-i.i c.args.parts.now c.loop-i.parts c.loop-i.s c.requires.ready c.loop-i-test.true
+  ready = ready_next c.args.c c.loop-i.i c.args.summands.now c.loop-i.summands c.loop-i.s c.requires.ready
+      c.loop-i-test.true
       c.loop-i.invariant.0;
 }
 
@@ -19,14 +20,16 @@ overflow_add-s c =
 
 pub rest_of-requires : goal.rest_of-requires
 rest_of-requires c = record {
-  ready = ready_next c.args.c c.loop-i.i c.args.parts.now c.loop-i.parts c.loop-i.s c.requires.ready c.loop-i-test.true
+  ready = ready_next c.args.c c.loop-i.i c.args.summands.now c.loop-i.summands c.loop-i.s c.requires.ready
+      c.loop-i-test.true
       c.loop-i.invariant.0;
 }
 
 pub loop-i-preserved : goal.loop-i-preserved
 loop-i-preserved c =
     let b = c.loop-i.invariant.1 in let m = c.digit_of-s.ensures.small in (
-      turned_more c.args.c c.loop-i.i c.args.parts.now c.loop-i.parts c.loop-i.s c.digit_of-s.result c.rest_of.result
+      turned_more c.args.c c.loop-i.i c.args.summands.now c.loop-i.summands c.loop-i.s c.digit_of-s.result
+          c.rest_of.result
           c.loop-i-test.true c.loop-i.invariant.0 c.digit_of-s.ensures.value c.rest_of.ensures,
       omega (arith, b, m),
     )
@@ -34,13 +37,13 @@ loop-i-preserved c =
 pub returns-clause-rests : goal.returns-clause-rests
 returns-clause-rests c =
     let past = c.loop-i-test.false in let ends = c.loop-i.auto.i-end in
-    (turned_all c.args.c c.loop-i.i c.args.parts.now c.loop-i.parts c.loop-i.s
+    (turned_all c.args.c c.loop-i.i c.args.summands.now c.loop-i.summands c.loop-i.s
     (omega (arith, past, ends)) c.loop-i.invariant.0).0
 
 pub returns-clause-digits : goal.returns-clause-digits
 returns-clause-digits c =
     let past = c.loop-i-test.false in let ends = c.loop-i.auto.i-end in
-    (turned_all c.args.c c.loop-i.i c.args.parts.now c.loop-i.parts c.loop-i.s
+    (turned_all c.args.c c.loop-i.i c.args.summands.now c.loop-i.summands c.loop-i.s
     (omega (arith, past, ends)) c.loop-i.invariant.0).1
 
 pub returns-clause-small : goal.returns-clause-small

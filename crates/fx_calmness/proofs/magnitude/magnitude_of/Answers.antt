@@ -1,7 +1,7 @@
 use Rattle.std.proofs.Common.{◌∙◌, pos}
 use Rattle.fx_rational.specs.Rational.{over}
 use Rattle.fx_calmness.proofs.Sizes.{fraction_size}
-use Rattle.fx_calmness.proofs.magnitude.size_of.Goals as goal
+use Rattle.fx_calmness.proofs.magnitude.magnitude_of.Goals as goal
 
 pub returns-clause-value : goal.returns-clause-value
 returns-clause-value c =

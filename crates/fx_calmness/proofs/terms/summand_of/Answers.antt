@@ -2,7 +2,7 @@ use Rattle.std.proofs.Common.{◌*◌, ◌∙◌}
 use Rattle.std.specs.Prelude.{unsigned_abs}
 use Rattle.fx_rational.specs.Rational.{bottom}
 use Rattle.fx_calmness.proofs.Counted.{product_is}
-use Rattle.fx_calmness.proofs.terms.part_of.Goals as goal
+use Rattle.fx_calmness.proofs.terms.summand_of.Goals as goal
 
 pub returns-clause-value : goal.returns-clause-value
 returns-clause-value c =
