@@ -30,11 +30,13 @@ RUN_OF_A_FILTER = 2000
 
 HEAD = """# Gallery
 
-Made by `bench/gallery.py` with {rows:,} rows a function, random ones and corners of the ranges; {when}. For each example and width:
-how many nodes it has, the certified bound of the program as it is written (`--tries 0`) and of the one that `synth` finds
-(`--tries 200`), the greatest error seen of the latter, as a part of its bound, how long `synth` took, and Gappa's bound of the former
-program, which knows nothing of errors that inputs are given with{gappa}. Errors are those of the outputs against exact values; nothing rounds in the
-comparison. Below the table each example for which there is a program stands with its picture; [examples](../examples/README.md) says where the published ones come from.
+Made by `bench/gallery.py` with {rows:,} rows a function, random ones and corners of the ranges, and 2,000 a filter; {when}. For each example without
+state, at three widths: how many nodes it has, the certified bound of the program as it is written (`--tries 0`) and of the one that `synth` finds
+(`--tries 200`), the greatest error seen of the latter, as a part of its bound, how long `synth` took, and of the former program the bound of
+[Gappa](https://gappa.gitlabpages.inria.fr), which knows nothing of errors that inputs are given with{gappa}. Of several outputs Gappa's bound is of the last, the
+picture of the first. Filters are shown where their bundle stands beside their source (*by hand*: both figures are of that bundle); [measures.md](measures.md) has the others.
+Errors are those of the outputs against exact values; each difference is taken exactly, and rounded to be shown. Below the table each example for which there is a program stands
+with its picture; [examples](../examples/README.md) says where the published ones come from.
 
 | function | bits | nodes | bound as written | bound found | error seen | of the bound | seconds | Gappa |
 |---|---|---|---|---|---|---|---|---|
@@ -175,7 +177,7 @@ def gappa_bound(text):
 
 OVER_INPUT = ("{name} at {width} bits, over its first input `{first}`. The lines above and below are the certified bound, {bound}; each stroke goes from the least to "
               "the greatest error that was seen where the input had that value. In all {seen} was seen, {part} of the bound.")
-OVER_TIME = ("{name} at {width} bits, row after row. The lines above and below are the certified bound, {bound}, which holds forever; the error seen was at most {seen}, {part} of it.")
+OVER_TIME = ("{name} at {width} bits, the first 400 rows of 2,000. The lines above and below are the certified bound, {bound}, which holds forever; the error seen was at most {seen}, {part} of it.")
 
 
 def shown_name(path, function):

@@ -25,6 +25,7 @@ use fx_cert::print_bundle;
 use fx_expr::Function;
 use fx_parser::parse;
 use fx_cert_reader::read_bundle;
+use fx_program::Round;
 use fx_rewrite::{SingleSteps, apply};
 use fx_step::Step;
 use std::alloc::Global;
@@ -64,7 +65,7 @@ fn counted(alloc: Global, function: &Function) -> u64 {
     count
 }
 
-// The first steps of a function that exchange operands.
+// The first steps of a function by rules 1 and 2: an exchange of a sum's operands, or a regrouping.
 fn exchanges(alloc: Global, function: &Function) -> Vec<Step> {
     let mut all = Vec::new(alloc);
     let mut steps = SingleSteps::new(alloc, function);
@@ -134,7 +135,7 @@ fn attempted(alloc: Global, bytes: &[u8], times: u64) -> u64 {
     }
     let mut count = 0u64;
     for _ in 0..times {
-        match plain_attempt(alloc, &function, 32) {
+        match plain_attempt(alloc, &function, 32, Round::Floor) {
             Ok(Some((_, certificate))) => count = count.wrapping_add(certificate.lines.len() as u64),
             _ => return count,
         }
@@ -179,10 +180,10 @@ def built(folder):
         shutil.copytree(os.path.join(ROOT, "crates", name), os.path.join(crates, name), ignore=shutil.ignore_patterns("out"))
     with open(os.path.join(ROOT, "crates.txt")) as file:
         lines = [line for line in file if not line.startswith("fx_cli:")]
-    below = next(line for line in lines if line.startswith("fx_synth:")).split(":")[1].strip()
+    below = next(line for line in lines if line.startswith("fx_demo:")).split(":")[1].strip()
     with open(os.path.join(folder, "crates.txt"), "w") as file:
         file.writelines(lines)
-        file.write(f"inside: fx_synth {below}\n")
+        file.write(f"inside: fx_demo {below}\n")
     with open(os.path.join(folder, "HANDLES"), "w") as file:
         file.write("Handles allowed: none.\n")
     with open(os.path.join(crates, "inside", "src", "main.rt"), "w") as file:
