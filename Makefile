@@ -1,11 +1,11 @@
-# What a newcomer runs: a first look, the examples proved and built, and the gate.
+# What a newcomer runs: a first look, the program proved and built with two examples run, and the gate.
 .PHONY: try run install test wrong-bodies
 
 PROGRAM := build/fixd
 SOURCES := $(shell git ls-files crates crates.txt)
 PREFIX ?= /usr/local
 
-# the first example by the same sources, compiled without a proof of anything: a look, in two minutes
+# the first example by the same sources, compiled without a proof of anything: a look, in two minutes and up to eight beside other work
 try:
 	@echo "compiling without proofs: two minutes, more beside other work" >&2
 	@cd crates/fx_cli && rt try -- run data/half.bundle < ../../examples/half/half.csv

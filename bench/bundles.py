@@ -3,7 +3,7 @@
 
 KIND is `columns` (a sum of 8 inputs), `plain` (4,000 nodes), `forms` (4,000 nodes, each operation with a form over 64 inputs and
 32 states), `rows` (512 templates and 512 error templates of 32 states, each with 64 shares), `steps` (10,000 steps on 2,000 nodes) or
-`long` (16 MiB of forms and shares; its last line is wrong, so that nothing but its reading is measured).
+`long` (16 MB of forms and shares; its last line is wrong, so that nothing but its reading is measured).
 """
 import random
 import sys

@@ -2,8 +2,8 @@
 """Writes an accepted bundle that is made to cost its checker as much as its text allows: costly.py KIND > BUNDLE
 
 KIND is `shares` (512 templates and 512 error templates of 32 states with 512 shares each, and a form over all variables with 512 shares for its
-range and as many for its error at each node: some 60 MB), `rows` (those templates alone), `great` (forms whose coefficients are near 2^61, over 96
-variables, at each of 4,000 nodes), `quotients` (3,997 of them), `copies` (10,000 steps, each of which copies a tree of 1,990 operations or
+range and as many for its error at each sum: some 43 MB), `rows` (those templates alone), `great` (forms whose coefficients are near 2^61, over 96
+variables, at 3,776 of 4,000 nodes), `quotients` (3,997 of them), `copies` (10,000 steps, each of which copies a tree of 1,990 operations or
 compares it with its copy), `name` (a function's name of half a megabyte) or `temps` (1,000 long names that differ at their ends).
 """
 import random

@@ -1,8 +1,9 @@
 #!/usr/bin/env python3
 """Lets each call of a device fail in turn, all of them short: failing.py [PROGRAM]
 
-Each run reads FILE and input, and writes output and line, in pieces of two bytes, or of so many that rows are held back between two reads; `failing.c` then makes one call fail, for each number in
-turn, by an error of the system. Tested is that the run ends
+Each run reads FILE and input, and writes output and line, in pieces of two bytes, or of so many that rows are held back between
+two reads; `failing.c` then makes one call fail, for each number in turn by one error of the system, and for a few numbers by others or by a
+write of nothing. Tested is that the run ends
 
 - with 6 exactly where the call was a read of the input or of FILE, or opened FILE; printed is then what the whole lines that were taken give;
 - with 7 exactly where it was a write of the output; printed is then what was written before, a front of what is due;

@@ -1,5 +1,6 @@
 #!/usr/bin/env python3
-"""Makes docs/gallery.md and its pictures: of each example at three widths, what is certified and what is seen.
+"""Makes docs/gallery.md and its pictures: what is certified and what is seen of each example without state at three widths, and of each filter that
+has a bundle.
 
     bench/gallery.py PROGRAM [--rows 100000] [--widths 16,24,32] [--only NAME,..] [--out docs/gallery.md] [--gappa FOLDER]
 
