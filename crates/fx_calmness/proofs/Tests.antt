@@ -88,7 +88,7 @@ module _ (fn : Function) (sum : Sum) (k : ℕ) (inputs : AreInputs fn.inputs) (t
       let here : ys ≡ map (summand_of fn sum) (terms_of t) = put
       ∙ ap (λ (zs : List Summand). zs ++ map (summand_of fn sum) (terms_of t)) none in
       let own = subst (All IsNarrowSummand) here (narrow (subst (All IsNarrowSummand) (sym none)
-          (All-nil IsNarrowSummand))) in
+      (All-nil IsNarrowSummand))) in
       subst (All IsSummand) (sym here)
       (terms_summands fn sum (terms_of t) (reach_low fn inputs tame) is_sum (terms_unsigned t)
       (low_terms t (tame.literals k lt)) own)
@@ -137,7 +137,7 @@ input_few xs ys x y none put = let e = ap length (two_summands xs ys x y none pu
 
 pub input_test : (xs ys : List Summand) (x y : Summand) (reach err : Rational) (r : Bool) (w n : ℕ) → xs ≡ [] →
     ys ≡ (xs ++ x ∷ []) ++ y ∷ [] → summand_value x ≡ reach → summand_value y ≡ magnitude err →
-        AtMost (whole (pos 0)) err →
+    AtMost (whole (pos 0)) err →
     n ≡ 2 ^ w →
     r ≡ is_at_most (sum_of ys) (whole (pos n)) → r ≡ is_below_power (plus reach err) (pos w)
 input_test xs ys x y reach err r w n none put a b nonneg p e =
