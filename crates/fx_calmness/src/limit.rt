@@ -7,7 +7,7 @@ ghost use Rattle.fx_model.specs.Tree.{at};
 ghost use Rattle.fx_inequalities.specs.NodeConditions.{no_input};
 ghost use Rattle.fx_inequalities.specs.Accepted.{start_of};
 ghost use Rattle.fx_expr.specs.TreeOf.{tree};
-ghost use Rattle.fx_expr.specs.Summands.{input_of};
+ghost use Rattle.fx_expr.specs.Parts.{input_of};
 ghost use Rattle.fx_sizes.specs.Powers.{magnitude, is_below_power};
 ghost use Rattle.fx_calm_numbers.specs.Calm.{reach_of};
 ghost use Rattle.fx_sums.specs.Summands.{IsSummand};
@@ -109,7 +109,7 @@ fn power(w: u32) -> u64
     1 << w
 }
 
-/// A size as a summand of a sum.
+/// A magnitude as a summand of a sum.
 fn summand(x: Magnitude) -> Summand
     requires { IsMagnitude x }
     ensures summand { IsSummand result }

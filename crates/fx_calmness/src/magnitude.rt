@@ -5,7 +5,7 @@ ghost use Rattle.fx_rational.specs.Rational.{bottom, whole, is_at_most};
 ghost use Rattle.fx_rational.specs.Decimal.{decimal_value};
 ghost use Rattle.fx_model.specs.Function as model;
 ghost use Rattle.fx_inequalities.specs.NodeConditions.{no_input};
-ghost use Rattle.fx_expr.specs.Summands.{input_of};
+ghost use Rattle.fx_expr.specs.Parts.{input_of};
 ghost use Rattle.fx_sizes.specs.Powers.{magnitude, greater, is_below_power};
 ghost use Rattle.fx_calm_numbers.specs.Calm.{reach_of, reach_at};
 ghost use Rattle.fx_calm_numbers.specs.Bounds.{units_up};

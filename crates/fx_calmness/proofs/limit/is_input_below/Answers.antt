@@ -1,7 +1,7 @@
 use Rattle.std.proofs.Common.{◌∙◌, ◌++◌, ◌∷◌, [], pos, ap}
 use Rattle.fx_rational.specs.Rational.{over, whole, is_at_most}
 use Rattle.fx_rational.specs.Decimal.{decimal_value}
-use Rattle.fx_expr.specs.Summands.{input_of}
+use Rattle.fx_expr.specs.Parts.{input_of}
 use Rattle.fx_calm_numbers.specs.Calm.{reach_of}
 use Rattle.fx_sums.specs.Summands.{sum_of}
 use Rattle.fx_calmness.proofs.Tests.{input_test}
