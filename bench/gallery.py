@@ -35,8 +35,8 @@ Made by `bench/gallery.py` with {rows:,} rows a function, random ones and corner
 state, at three widths: how many nodes it has, the certified bound of the program as it is written (`--tries 0`) and of the one that `synth` finds
 (`--tries 200`), the greatest error seen of the latter, as a part of its bound, how long `synth` took, and of the former program the bound of
 [Gappa](https://gappa.gitlabpages.inria.fr), which knows nothing of errors that inputs are given with{gappa}. Of several outputs Gappa's bound is of the last, the
-picture of the first. Filters are shown where their bundle stands beside their source (*by hand*: both figures are of that bundle); [measures.md](measures.md) has the others.
-Errors are those of the outputs against exact values; each difference is taken exactly, and rounded to be shown. Below the table each example for which there is a program stands
+picture of the first. Filters are shown where their bundle stands beside their source (*by hand*: bound and error are those of that bundle); [measures.md](measures.md) has the others.
+Errors are those of the outputs against exact values; each difference is taken exactly, and rounded to be shown. Below the table each function of it for which there is a program stands
 with its picture; [examples](../examples/README.md) says where the published ones come from.
 
 | function | bits | nodes | bound as written | bound found | error seen | of the bound | seconds | Gappa |
