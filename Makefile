@@ -5,7 +5,7 @@ PROGRAM := build/fixd
 SOURCES := $(shell git ls-files crates crates.txt)
 PREFIX ?= /usr/local
 
-# the first example by the same sources, compiled without a proof of anything: a look, in two minutes and up to eight beside other work
+# the first example by the same sources, compiled without a proof of anything: a look, in two to eight minutes
 try:
 	@echo "compiling without proofs: two minutes, more beside other work" >&2
 	@cd crates/fx_cli && rt try -- run data/half.bundle < ../../examples/half/half.csv

@@ -4,8 +4,8 @@
 `run` may carry out sixteen rows at once. Each row of a program is run by itself first, which goes one after the other. Then inputs of 1 to 35 of
 these rows go through in one read, in pieces of 1, 2 and 4,096 bytes and of random sizes, with a blank line, a quoted field, a missing last line feed, and
 with a bad row at each place: what is printed has to be the lines of the single rows, up to the bad one. Rows that are sent one at a time have
-to be answered before the next is sent. The programs: five bundles of the examples, and what `synth` finds for five sources of examples/ at all widths, rounding down and to the
-nearest.
+to be answered before the next is sent. The programs: five bundles of the examples, and what `synth` finds for five sources of examples/ at all
+widths, rounding down and to the nearest.
 A difference ends the script with 1. Outside the gate: it needs a built program.
 """
 import glob

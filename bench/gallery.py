@@ -28,10 +28,11 @@ from sources import evaluator, functions_of
 ROOT = os.path.join(os.path.dirname(os.path.abspath(__file__)), "..")
 CODE_ENDS = {"add": 2, "sub": 2, "mul": 2, "div": 2, "neg": 1, "copy": 1}
 RUN_OF_A_FILTER = 2000
+SHOWN_OF_A_FILTER = 400
 
 HEAD = """# Gallery
 
-Made by `bench/gallery.py` with {rows:,} rows a function, random ones and corners of the ranges, and 2,000 a filter; {when}. For each example without
+Made by `bench/gallery.py` with {rows:,} rows a function, random ones and corners of the ranges, and at most {filter_rows:,} a filter; {when}. For each example without
 state, at three widths: how many nodes it has, the certified bound of the program as it is written (`--tries 0`) and of the one that `synth` finds
 (`--tries 200`), the greatest error seen of the latter, as a part of its bound, how long `synth` took, and of the former program the bound of
 [Gappa](https://gappa.gitlabpages.inria.fr), which knows nothing of errors that inputs are given with{gappa}. Of several outputs Gappa's bound is of the last, the
@@ -178,7 +179,7 @@ def gappa_bound(text):
 
 OVER_INPUT = ("{name} at {width} bits, over its first input `{first}`. The lines above and below are the certified bound, {bound}; each stroke goes from the least to "
               "the greatest error that was seen where the input had that value. In all {seen} was seen, {part} of the bound.")
-OVER_TIME = ("{name} at {width} bits, the first 400 rows of 2,000. The lines above and below are the certified bound, {bound}, which holds forever; the error seen was at most {seen}, {part} of it.")
+OVER_TIME = ("{name} at {width} bits, the first {shown} rows of {rows:,}. The lines above and below are the certified bound, {bound}, which holds forever; the error seen was at most {seen}, {part} of it.")
 
 
 def shown_name(path, function):
@@ -293,8 +294,9 @@ class Gallery:
         nodes = re.search(r"^sizes \d+ \d+ \d+ (\d+)$", text, re.M)[1]
         name, part = shown_name(path, function), f"{100 * seen / float(bound):.0f}%"
         self.row(f"`{name}`, by hand", width, nodes, short(bound), "", short(seen), part, "", "")
-        caption = OVER_TIME.format(name=name, width=width, bound=short(bound), seen=short(seen), part=part)
-        self.picture(path, function, error_over_time(f"{name}, {width} bits: error over time", errors[:400], float(bound)), caption)
+        shown = errors[:SHOWN_OF_A_FILTER]
+        caption = OVER_TIME.format(name=name, width=width, shown=len(shown), rows=len(errors), bound=short(bound), seen=short(seen), part=part)
+        self.picture(path, function, error_over_time(f"{name}, {width} bits: error over time", shown, float(bound)), caption)
 
     def example(self, path):
         with open(path, encoding="utf-8") as file:
@@ -311,7 +313,7 @@ class Gallery:
 
     def write(self):
         gappa = "" if self.has_gappa else " (empty: `gappa` wasn't there)"
-        head = HEAD.format(rows=self.options.rows, when=time.strftime("%Y-%m-%d"), gappa=gappa)
+        head = HEAD.format(rows=self.options.rows, filter_rows=RUN_OF_A_FILTER, when=time.strftime("%Y-%m-%d"), gappa=gappa)
         with open(self.options.out, "w", encoding="utf-8") as file:
             file.write(head + "\n".join(self.lines) + "\n\n" + "\n".join(self.pictures))
 

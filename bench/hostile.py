@@ -13,8 +13,7 @@ text alone. The parts are
 
 A fault is another status, line or output than is due, a signal, or more than S seconds of the processor (2 without it; a program that isn't optimised needs
 more). With `--search` sources of 158 to 3,980 nodes are searched with 100,000 tries each, the seconds until they end are told, and nothing else is tried
-unless it is named. The script ends
-with 1 where there is a fault. Outside the gate: it needs a built program, and 1 GiB of memory.
+unless it is named. The script ends with 1 where there is a fault. Outside the gate: it needs a built program, and 1 GiB of memory.
 """
 import os
 import re

@@ -66,7 +66,7 @@ fn counted(alloc: Global, function: &Function) -> u64 {
 }
 
 // The first steps of a function by rules 1 and 2: an exchange of a sum's operands, or a regrouping.
-fn exchanges(alloc: Global, function: &Function) -> Vec<Step> {
+fn sum_steps(alloc: Global, function: &Function) -> Vec<Step> {
     let mut all = Vec::new(alloc);
     let mut steps = SingleSteps::new(alloc, function);
     for _ in 0..100_000 {
@@ -100,7 +100,7 @@ fn rewritten(alloc: Global, bytes: &[u8], times: u64) -> u64 {
     let Ok(mut function) = parse(alloc, bytes, None) else {
         return 0;
     };
-    let steps = exchanges(alloc, &function);
+    let steps = sum_steps(alloc, &function);
     let mut count = 0u64;
     for _ in 0..times {
         count = count.wrapping_add(applied(alloc, &mut function, steps.as_slice()));
