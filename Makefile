@@ -31,7 +31,7 @@ install: $(PROGRAM)
 	install -D -m 755 $(PROGRAM) $(DESTDIR)$(PREFIX)/bin/fixd
 	install -D -m 644 docs/fixd.1 $(DESTDIR)$(PREFIX)/share/man/man1/fixd.1
 
-# every proof from nothing, the wrong bodies that tell most, every case, every test
+# every proof that this machine hasn't passed yet, the wrong bodies that tell most, every case, every test
 test:
 	@.ci/run
 
