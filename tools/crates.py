@@ -1,4 +1,4 @@
-"""The crates of the repository: what each stands on, and what its proof takes of a processor."""
+"""The crates of the repository: what each names, what stands below it, and what its proof takes of a processor."""
 import os
 
 TOP = os.path.dirname(os.path.dirname(os.path.abspath(__file__)))
@@ -16,6 +16,18 @@ def fields_of(path, mark):
 def listed():
     """Returns the crates that each crate lists, those of the toolchain among them, in the order of the file."""
     return {name: below.split() for name, below in fields_of(LIST, ":").items()}
+
+
+def closed(crates):
+    """Returns for each crate all that stands below it, of what each lists."""
+    found = {}
+
+    def below(name):
+        if name not in found:
+            found[name] = set(crates.get(name, ())).union(*(below(it) for it in crates.get(name, ())))
+        return found[name]
+
+    return {name: below(name) for name in crates}
 
 
 def seconds():
