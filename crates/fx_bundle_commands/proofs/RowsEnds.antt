@@ -7,7 +7,7 @@ use Rattle.fx_stream.specs.Outcome.{Outcome}
 use Rattle.fx_stream.specs.Promise.{IsDue}
 use Rattle.fx_stream.specs.declared.fault.RunFault.{RunFault}
 use Rattle.fx_stream.specs.declared.fault.RunFault.TheVariants as run
-use Rattle.fx_bundle_commands.specs.Outside.{Streams}
+use Rattle.fx_stream.specs.Ending.{Streams}
 use Rattle.fx_ends.specs.Ends as ends
 use Rattle.fx_ends.specs.Ends.{End}
 use Rattle.fx_bundle_commands.specs.commands.Rows.{RowsEnd, RunsLines, Takes, bad_line, long, no_memory, unread, unwritten}

@@ -3,3 +3,4 @@ pub mod Opening
 pub mod OpeningView
 pub mod Exact
 pub mod commands
+pub mod Tasks

@@ -12,7 +12,7 @@ use Rattle.fx_grammar.specs.Sources.{parsed}
 use Rattle.fx_text.specs.declared.fault.TextFault.{TextFault}
 use Rattle.fx_cert.specs.BundleView.{Parts, IsLawfulBundle, text_of}
 use Rattle.fx_cert_reader.specs.BundleReading.{bundle_in}
-use Rattle.fx_bundle_commands.specs.Outside.{Streams, AreUntouched, IfFile}
+use Rattle.fx_bundle_commands.specs.Outside.{Outside, AreUntouched, IfFile}
 use Rattle.fx_ends.specs.Ends.{End, Rejected, Misread, BadBundle, ReadFault, NoMemory, OverLimit}
 
 -- these bytes are the one text of this bundle, which is lawful
@@ -52,9 +52,8 @@ pub data OpeningEnds (papers : Option Files) (before after : ℕ) (name : List �
   no_memory : OpeningEnds papers before after name NoMemory
 
 -- a command that opens FILE: there is no accepted bundle, and nothing else is touched; or it does what P says with it
-pub data OpensThen (papers : Option Files) (before after : ℕ) (name : List ℕ) (old new : Streams) (P : Parts →
-    Function → End → Type 0) : End → Type 0 where
-  unopened : (end : End) → OpeningEnds papers before after name end → AreUntouched old new →
-      OpensThen papers before after name old new P end
-  opened : (end : End) (b : Parts) (fn : Function) → IsBundle papers name b → IsAcceptedAs b fn → P b fn end →
-      OpensThen papers before after name old new P end
+pub data OpensThen (old new : Outside) (name : List ℕ) (P : Parts → Function → End → Type 0) : End → Type 0 where
+  unopened : (end : End) → OpeningEnds old.files old.shelf_faults new.shelf_faults name end →
+      AreUntouched old.streams new.streams → OpensThen old new name P end
+  opened : (end : End) (b : Parts) (fn : Function) → IsBundle old.files name b → IsAcceptedAs b fn → P b fn end →
+      OpensThen old new name P end

@@ -1,9 +1,10 @@
 //! One text, written where there was memory for it.
-ghost use Rattle.std.specs.Prelude.{◌≡◌, ℕ, List, Option, IfOk};
+ghost use Rattle.std.specs.Prelude.{◌≡◌, ℕ, List, IfOk};
 ghost use Rattle.fx_stream.specs.Promise.{Grows};
 ghost use Rattle.fx_ends.specs.EndView.{end_of};
 ghost use Rattle.fx_bundle_commands.specs.OpeningView.{IsSilent};
-ghost use Rattle.fx_bundle_commands.specs.Outside.{streams};
+ghost use Rattle.fx_stream.specs.Ending.{Streams};
+ghost use Rattle.fx_bundle_commands.specs.Outside.{beside};
 ghost use Rattle.fx_bundle_commands.specs.commands.Texts.{TextEnds};
 
 use fx_base::{Sink, put_all};
@@ -12,11 +13,8 @@ use fx_num::Memory;
 
 /// Writes a text. Where memory lacked for it, nothing is written.
 pub(crate) fn print_text<K: Sink>(made: Result<Vec<u8>, Memory>, output: &mut K) -> End<'static>
-    ensures ended { (text : List ℕ) (left : Option (List ℕ)) (reads : ℕ) → IfOk made (λ t. t.items ≡ text) →
-        TextEnds text
-        (streams left reads (K.taken output.old) (K.faults output.old))
-        (streams left reads (K.taken output.new) (K.faults output.new))
-        (end_of result) }
+    ensures ended { (text : List ℕ) (rest : Streams) → let at = beside rest K.taken K.faults in
+        IfOk made (λ t. t.items ≡ text) → TextEnds text (at output.old) (at output.new) (end_of result) }
     ensures appended { Grows (K.taken output.old) (K.taken output.new) }
     ensures quiet { IsSilent (end_of result) → output.new ≡ output.old }
 {

@@ -2,20 +2,15 @@
 //!
 //! What is printed and when it is written is just what `run_rows` of `fx_run` prints and writes: the loop over the rows
 //! is the same, and the machine's codes are too.
-ghost use Rattle.std.specs.Prelude.{◌≡◌, ◌-◌, ◌^◌, ◌<◌, ◌≤◌, ◌++◌, ◌∷◌, ◌↔◌, ℕ, List, length, map, IfOk, IfErr, OnOk, IsErrOf, IfSome, Some};
-ghost use Rattle.std.specs.Io.KnownBytes.{Consumes, IsAtEnd};
-ghost use Rattle.fx_base.specs.Causes.{Rose};
-ghost use Rattle.fx_base.specs.Moments.{HoldsEachTime};
-ghost use Rattle.fx_base.specs.Text.{lines_in};
+ghost use Rattle.std.specs.Prelude.{◌≡◌, ◌-◌, ◌^◌, ◌<◌, ◌++◌, ◌∷◌, ℕ, List, map};
 ghost use Rattle.fx_rational.specs.Decimal.{decimal_value};
 ghost use Rattle.fx_rational.specs.Decimal as rational;
 ghost use Rattle.fx_model.specs.Machine.{machine_step};
 ghost use Rattle.fx_model.specs.Rows.{IsInRange};
 ghost use Rattle.fx_machine.specs.Steps.{step_taken};
 ghost use Rattle.fx_rows.specs.Faults.{row_fault_of};
-ghost use Rattle.fx_stream.specs.Promise.{Grows, IsAnswered, IsDone, IsDue};
+ghost use Rattle.fx_stream.specs.Ending.{EndsRun, streams};
 ghost use Rattle.fx_stream.specs.Rooms.{HasLineRoom, HasRoom, line_room};
-ghost use Rattle.fx_stream.specs.declared.fault.RunFault.TheVariants.{ReadFault, WriteFault, TooLong};
 ghost use Rattle.fx_run.specs.Printed.{RowsLaw, run_outcome};
 ghost use Rattle.fx_run.specs.Steps.{lines_from, step_line};
 ghost use Rattle.fx_mixed.specs.Mixing.{IsTurned, carried, first_words, states_among};
@@ -97,24 +92,10 @@ pub fn run_mixed<S: Source<K>, K: Sink>(
     limit: u64,
 ) -> Result<u64, MixedFault>
     requires limit { limit < 2 ^ 64 - 1 }
-    ensures done { let o = run_outcome certified.now.function certified.now.program in
-        IfOk result (λ n. IfSome (S.left source.old)
-        (λ all. IsDone (o (lines_in all)) n (K.taken sink.old) (K.taken sink.new))) }
-    ensures end { OnOk result (IsAtEnd (S.left source.new)) }
-    ensures due { let o = run_outcome certified.now.function certified.now.program in
-        IfErr result (IsDue row_fault_of o (S.left source.old) (S.left source.new) (K.taken sink.old)
-        (K.taken sink.new)) }
-    ensures prompt { HoldsEachTime
-        (IsAnswered (run_outcome certified.now.function certified.now.program) (S.left source.old) (K.taken sink.old))
-        (S.asked source.old) (S.asked source.new) }
-    ensures taken { (taken : List ℕ) × Consumes (S.left source.old) (S.left source.new) taken ×
-        (IsErrOf result TooLong ↔ (limit < length taken)) }
+    ensures ends { let at = streams S.left S.asked S.faults K.taken K.faults in
+        EndsRun row_fault_of (run_outcome certified.now.function certified.now.program) limit
+        (at source.old sink.old) (at source.new sink.new) result }
     ensures honest { RowsLaw certified.now.function certified.now.program certified.now.certificate }
-    ensures grown { Grows (K.taken sink.old) (K.taken sink.new) }
-    ensures read_fault { IsErrOf result ReadFault → Rose (S.faults source.old) (S.faults source.new) }
-    ensures write_fault { IsErrOf result WriteFault → Rose (K.faults sink.old) (K.faults sink.new) }
-    ensures later { S.faults source.old ≤ S.faults source.new }
-    ensures later_sink { K.faults sink.old ≤ K.faults sink.new }
 {
     certified.certified();
     rows_law(certified);

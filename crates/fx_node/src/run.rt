@@ -1,13 +1,8 @@
 //! The run of a certified program's units over a source and a sink.
-ghost use Rattle.std.specs.Prelude.{◌≡◌, ◌-◌, ◌^◌, ◌<◌, ◌≤◌, ◌↔◌, ℕ, List, length, Contains, IfOk, IfErr, OnOk, IsErrOf, IfSome, None};
+ghost use Rattle.std.specs.Prelude.{◌≡◌, ◌-◌, ◌^◌, ◌<◌, ◌≤◌, length, Contains, IfOk, None};
 ghost use Rattle.std.specs.Vec.{vec_capacity};
-ghost use Rattle.std.specs.Io.KnownBytes.{Consumes, IsAtEnd};
-ghost use Rattle.fx_base.specs.Causes.{Rose};
-ghost use Rattle.fx_base.specs.Moments.{HoldsEachTime};
-ghost use Rattle.fx_base.specs.Text.{lines_in};
 ghost use Rattle.fx_model.specs.LawfulProgram.{widths};
-ghost use Rattle.fx_stream.specs.Promise.{Grows, IsAnswered, IsDone, IsDue};
-ghost use Rattle.fx_stream.specs.declared.fault.RunFault.TheVariants.{ReadFault, WriteFault, TooLong};
+ghost use Rattle.fx_stream.specs.Ending.{EndsRun, streams};
 ghost use Rattle.fx_node.specs.Faults.{flaw_of};
 ghost use Rattle.fx_node.specs.NodePage.{UnitsLaw, node_outcome};
 ghost use Rattle.fx_node.specs.Units.{first_units};
@@ -64,22 +59,9 @@ fn run_at<const B: u32, S: Source<K>, K: Sink>(
     requires some { 1 ≤ units }
     requires few { units ≤ 1024 }
     requires limit { limit < 2 ^ 64 - 1 }
-    ensures done { let o = node_outcome certified.now.function certified.now.program units in
-        IfOk result (λ n. IfSome (S.left source.old)
-        (λ all. IsDone (o (lines_in all)) n (K.taken sink.old) (K.taken sink.new))) }
-    ensures end { OnOk result (IsAtEnd (S.left source.new)) }
-    ensures due { let o = node_outcome certified.now.function certified.now.program units in
-        IfErr result (IsDue flaw_of o (S.left source.old) (S.left source.new) (K.taken sink.old) (K.taken sink.new)) }
-    ensures prompt { HoldsEachTime
-        (IsAnswered (node_outcome certified.now.function certified.now.program units) (S.left source.old)
-        (K.taken sink.old)) (S.asked source.old) (S.asked source.new) }
-    ensures taken { (taken : List ℕ) × Consumes (S.left source.old) (S.left source.new) taken ×
-        (IsErrOf result TooLong ↔ (limit < length taken)) }
-    ensures grown { Grows (K.taken sink.old) (K.taken sink.new) }
-    ensures read_fault { IsErrOf result ReadFault → Rose (S.faults source.old) (S.faults source.new) }
-    ensures write_fault { IsErrOf result WriteFault → Rose (K.faults sink.old) (K.faults sink.new) }
-    ensures later { S.faults source.old ≤ S.faults source.new }
-    ensures later_sink { K.faults sink.old ≤ K.faults sink.new }
+    ensures { let at = streams S.left S.asked S.faults K.taken K.faults in
+        EndsRun flaw_of (node_outcome certified.now.function certified.now.program units) limit
+        (at source.old sink.old) (at source.new sink.new) result }
 {
     units_law(certified);
     let Ok(mut printer) = first_printer::<B>(alloc, certified, units) else {
@@ -114,23 +96,10 @@ pub fn run_node<S: Source<K>, K: Sink>(
     requires some { 1 ≤ units }
     requires few { units ≤ 1024 }
     requires limit { limit < 2 ^ 64 - 1 }
-    ensures done { let o = node_outcome certified.now.function certified.now.program units in
-        IfOk result (λ n. IfSome (S.left source.old)
-        (λ all. IsDone (o (lines_in all)) n (K.taken sink.old) (K.taken sink.new))) }
-    ensures end { OnOk result (IsAtEnd (S.left source.new)) }
-    ensures due { let o = node_outcome certified.now.function certified.now.program units in
-        IfErr result (IsDue flaw_of o (S.left source.old) (S.left source.new) (K.taken sink.old) (K.taken sink.new)) }
-    ensures prompt { HoldsEachTime
-        (IsAnswered (node_outcome certified.now.function certified.now.program units) (S.left source.old)
-        (K.taken sink.old)) (S.asked source.old) (S.asked source.new) }
-    ensures taken { (taken : List ℕ) × Consumes (S.left source.old) (S.left source.new) taken ×
-        (IsErrOf result TooLong ↔ (limit < length taken)) }
+    ensures ends { let at = streams S.left S.asked S.faults K.taken K.faults in
+        EndsRun flaw_of (node_outcome certified.now.function certified.now.program units) limit
+        (at source.old sink.old) (at source.new sink.new) result }
     ensures honest { UnitsLaw certified.now.function certified.now.program certified.now.certificate }
-    ensures grown { Grows (K.taken sink.old) (K.taken sink.new) }
-    ensures read_fault { IsErrOf result ReadFault → Rose (S.faults source.old) (S.faults source.new) }
-    ensures write_fault { IsErrOf result WriteFault → Rose (K.faults sink.old) (K.faults sink.new) }
-    ensures later { S.faults source.old ≤ S.faults source.new }
-    ensures later_sink { K.faults sink.old ≤ K.faults sink.new }
 {
     units_law(certified);
     widths!(

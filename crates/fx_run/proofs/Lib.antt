@@ -1,5 +1,4 @@
 pub mod Fields
 pub mod Honest
 pub mod HonestRun
-pub mod Told
 pub mod Blocks

@@ -1,14 +1,9 @@
 //! The run of a certified program over a source and a sink.
-ghost use Rattle.std.specs.Prelude.{◌≡◌, ◌-◌, ◌^◌, ◌<◌, ◌≤◌, ◌↔◌, ℕ, List, length, Contains, IfOk, IfErr, OnOk, IsErrOf, IfSome};
-ghost use Rattle.std.specs.Io.KnownBytes.{Consumes, IsAtEnd};
-ghost use Rattle.fx_base.specs.Causes.{Rose};
-ghost use Rattle.fx_base.specs.Moments.{HoldsEachTime};
-ghost use Rattle.fx_base.specs.Text.{lines_in};
+ghost use Rattle.std.specs.Prelude.{◌≡◌, ◌-◌, ◌^◌, ◌<◌, ◌≤◌, Contains, IfOk};
 ghost use Rattle.fx_model.specs.LawfulProgram.{widths};
 ghost use Rattle.fx_model.specs.Machine.{start_words};
 ghost use Rattle.fx_rows.specs.Faults.{row_fault_of};
-ghost use Rattle.fx_stream.specs.Promise.{Grows, IsAnswered, IsDone, IsDue};
-ghost use Rattle.fx_stream.specs.declared.fault.RunFault.TheVariants.{ReadFault, WriteFault, TooLong};
+ghost use Rattle.fx_stream.specs.Ending.{EndsRun, streams};
 ghost use Rattle.fx_run.specs.Printed.{RowsLaw, run_outcome};
 ghost use Rattle.fx_run.specs.Steps.{CanStep};
 
@@ -56,23 +51,9 @@ fn run_in_turn<const B: u32, S: Source<K>, K: Sink>(
 ) -> Result<u64, RunFault>
     requires width { certified.now.program.width ≡ B }
     requires limit { limit < 2 ^ 64 - 1 }
-    ensures done { let o = run_outcome certified.now.function certified.now.program in
-        IfOk result (λ n. IfSome (S.left source.old)
-        (λ all. IsDone (o (lines_in all)) n (K.taken sink.old) (K.taken sink.new))) }
-    ensures end { OnOk result (IsAtEnd (S.left source.new)) }
-    ensures due { let o = run_outcome certified.now.function certified.now.program in
-        IfErr result (IsDue row_fault_of o (S.left source.old) (S.left source.new) (K.taken sink.old)
-        (K.taken sink.new)) }
-    ensures prompt { HoldsEachTime
-        (IsAnswered (run_outcome certified.now.function certified.now.program) (S.left source.old) (K.taken sink.old))
-        (S.asked source.old) (S.asked source.new) }
-    ensures taken { (taken : List ℕ) × Consumes (S.left source.old) (S.left source.new) taken ×
-        (IsErrOf result TooLong ↔ (limit < length taken)) }
-    ensures grown { Grows (K.taken sink.old) (K.taken sink.new) }
-    ensures read_fault { IsErrOf result ReadFault → Rose (S.faults source.old) (S.faults source.new) }
-    ensures write_fault { IsErrOf result WriteFault → Rose (K.faults sink.old) (K.faults sink.new) }
-    ensures later { S.faults source.old ≤ S.faults source.new }
-    ensures later_sink { K.faults sink.old ≤ K.faults sink.new }
+    ensures { let at = streams S.left S.asked S.faults K.taken K.faults in
+        EndsRun row_fault_of (run_outcome certified.now.function certified.now.program) limit
+        (at source.old sink.old) (at source.new sink.new) result }
 {
     rows_law(certified);
     let Ok(step) = first_step::<B>(alloc, certified) else {
@@ -93,23 +74,9 @@ fn run_held<const B: u32, L: SideBySide<B>, S: Source<K>, K: Sink>(
     requires lane_room { L.HasRoom }
     requires states { certified.now.program.states ≡ 0 }
     requires limit { limit < 2 ^ 64 - 1 }
-    ensures done { let o = run_outcome certified.now.function certified.now.program in
-        IfOk result (λ n. IfSome (S.left source.old)
-        (λ all. IsDone (o (lines_in all)) n (K.taken sink.old) (K.taken sink.new))) }
-    ensures end { OnOk result (IsAtEnd (S.left source.new)) }
-    ensures due { let o = run_outcome certified.now.function certified.now.program in
-        IfErr result (IsDue row_fault_of o (S.left source.old) (S.left source.new) (K.taken sink.old)
-        (K.taken sink.new)) }
-    ensures prompt { HoldsEachTime
-        (IsAnswered (run_outcome certified.now.function certified.now.program) (S.left source.old) (K.taken sink.old))
-        (S.asked source.old) (S.asked source.new) }
-    ensures taken { (taken : List ℕ) × Consumes (S.left source.old) (S.left source.new) taken ×
-        (IsErrOf result TooLong ↔ (limit < length taken)) }
-    ensures grown { Grows (K.taken sink.old) (K.taken sink.new) }
-    ensures read_fault { IsErrOf result ReadFault → Rose (S.faults source.old) (S.faults source.new) }
-    ensures write_fault { IsErrOf result WriteFault → Rose (K.faults sink.old) (K.faults sink.new) }
-    ensures later { S.faults source.old ≤ S.faults source.new }
-    ensures later_sink { K.faults sink.old ≤ K.faults sink.new }
+    ensures { let at = streams S.left S.asked S.faults K.taken K.faults in
+        EndsRun row_fault_of (run_outcome certified.now.function certified.now.program) limit
+        (at source.old sink.old) (at source.new sink.new) result }
 {
     rows_law(certified);
     let Ok(step) = HeldStep::<B, L>::new(alloc, certified) else {
@@ -136,23 +103,9 @@ fn run_at<const B: u32, S: Source<K>, K: Sink>(
 ) -> Result<u64, RunFault>
     requires width { certified.now.program.width ≡ B }
     requires limit { limit < 2 ^ 64 - 1 }
-    ensures done { let o = run_outcome certified.now.function certified.now.program in
-        IfOk result (λ n. IfSome (S.left source.old)
-        (λ all. IsDone (o (lines_in all)) n (K.taken sink.old) (K.taken sink.new))) }
-    ensures end { OnOk result (IsAtEnd (S.left source.new)) }
-    ensures due { let o = run_outcome certified.now.function certified.now.program in
-        IfErr result (IsDue row_fault_of o (S.left source.old) (S.left source.new) (K.taken sink.old)
-        (K.taken sink.new)) }
-    ensures prompt { HoldsEachTime
-        (IsAnswered (run_outcome certified.now.function certified.now.program) (S.left source.old) (K.taken sink.old))
-        (S.asked source.old) (S.asked source.new) }
-    ensures taken { (taken : List ℕ) × Consumes (S.left source.old) (S.left source.new) taken ×
-        (IsErrOf result TooLong ↔ (limit < length taken)) }
-    ensures grown { Grows (K.taken sink.old) (K.taken sink.new) }
-    ensures read_fault { IsErrOf result ReadFault → Rose (S.faults source.old) (S.faults source.new) }
-    ensures write_fault { IsErrOf result WriteFault → Rose (K.faults sink.old) (K.faults sink.new) }
-    ensures later { S.faults source.old ≤ S.faults source.new }
-    ensures later_sink { K.faults sink.old ≤ K.faults sink.new }
+    ensures { let at = streams S.left S.asked S.faults K.taken K.faults in
+        EndsRun row_fault_of (run_outcome certified.now.function certified.now.program) limit
+        (at source.old sink.old) (at source.new sink.new) result }
 {
     width_law(certified);
     if certified.program().states > 0 {
@@ -187,24 +140,10 @@ pub fn run_rows<S: Source<K>, K: Sink>(
     limit: u64,
 ) -> Result<u64, RunFault>
     requires limit { limit < 2 ^ 64 - 1 }
-    ensures done { let o = run_outcome certified.now.function certified.now.program in
-        IfOk result (λ n. IfSome (S.left source.old)
-        (λ all. IsDone (o (lines_in all)) n (K.taken sink.old) (K.taken sink.new))) }
-    ensures end { OnOk result (IsAtEnd (S.left source.new)) }
-    ensures due { let o = run_outcome certified.now.function certified.now.program in
-        IfErr result (IsDue row_fault_of o (S.left source.old) (S.left source.new) (K.taken sink.old)
-        (K.taken sink.new)) }
-    ensures prompt { HoldsEachTime
-        (IsAnswered (run_outcome certified.now.function certified.now.program) (S.left source.old) (K.taken sink.old))
-        (S.asked source.old) (S.asked source.new) }
-    ensures taken { (taken : List ℕ) × Consumes (S.left source.old) (S.left source.new) taken ×
-        (IsErrOf result TooLong ↔ (limit < length taken)) }
+    ensures ends { let at = streams S.left S.asked S.faults K.taken K.faults in
+        EndsRun row_fault_of (run_outcome certified.now.function certified.now.program) limit
+        (at source.old sink.old) (at source.new sink.new) result }
     ensures honest { RowsLaw certified.now.function certified.now.program certified.now.certificate }
-    ensures grown { Grows (K.taken sink.old) (K.taken sink.new) }
-    ensures read_fault { IsErrOf result ReadFault → Rose (S.faults source.old) (S.faults source.new) }
-    ensures write_fault { IsErrOf result WriteFault → Rose (K.faults sink.old) (K.faults sink.new) }
-    ensures later { S.faults source.old ≤ S.faults source.new }
-    ensures later_sink { K.faults sink.old ≤ K.faults sink.new }
 {
     rows_law(certified);
     widths!(

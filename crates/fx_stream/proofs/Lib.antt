@@ -4,5 +4,6 @@ pub mod Turns
 pub mod Exits
 pub mod Asking
 pub mod Grown
+pub mod Ending
 pub mod Prompt
 pub mod Loop

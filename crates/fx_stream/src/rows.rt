@@ -6,22 +6,18 @@
 ghost use Rattle.std.specs.Prelude.{◌≡◌, ◌≢◌, ℕ, List, [], ◌∷◌, ◌++◌, ◌<◌, ◌≤◌, ◌-◌, ◌^◌, ◌⊎◌, ◌↔◌, false, Err, length, map, option_map, IfOk, IfErr, IfSome, OnOk, IsErrOf, None};
 ghost use Rattle.std.specs.List.{list_any};
 ghost use Rattle.std.specs.Vec.{vec_capacity};
-ghost use Rattle.std.specs.Io.KnownBytes.{Consumes, IsAtEnd};
-ghost use Rattle.fx_base.specs.Causes.{Rose};
-ghost use Rattle.fx_base.specs.Moments.{HoldsEachTime};
 ghost use Rattle.fx_rational.specs.Decimal.{decimal_value};
 ghost use Rattle.fx_rational.specs.Decimal as rational;
 ghost use Rattle.fx_model.specs.Function as model;
 ghost use Rattle.fx_model.specs.Rows.{IsInRange};
 ghost use Rattle.fx_fields.specs.Line.{is_special};
 ghost use Rattle.fx_rows.specs.Ranges.{reader_columns, Serves};
-ghost use Rattle.fx_rows.specs.ReadRows.{read_rows};
 ghost use Rattle.fx_rows.specs.Faults.{row_fault_of};
 ghost use Rattle.fx_rows.specs.declared.fault.RowKind.TheVariants as kind;
 ghost use Rattle.fx_stream.specs.Rooms.{HasRoom};
 ghost use Rattle.fx_stream.specs.Outcome.{Outcome, behind_lines, one, behind_text, stopped_lines, IfBad};
-ghost use Rattle.fx_stream.specs.Printed.{lines_outcome, outcome_of};
-ghost use Rattle.fx_stream.specs.Promise.{Grows, IsAnswered, IsDone, IsDue};
+ghost use Rattle.fx_stream.specs.Printed.{lines_outcome};
+ghost use Rattle.fx_stream.specs.Ending.{EndsRun, streams};
 ghost use Rattle.fx_stream.specs.declared.printer.Stop.TheVariants as stop;
 
 use crate::fault::{LINE_TOO_LONG, NO_HEADER, RunFault};
@@ -260,24 +256,9 @@ pub fn run_steps<M: RowStep + Drop, S: Source<K>, K: Sink>(
     requires limit { limit < 2 ^ 64 - 1 }
     requires can { M.can_run step }
     requires settled { M.is_settled step }
-    ensures done { IfOk result
-        (λ n. IfSome (S.left source.old)
-        (λ all. IsDone (outcome_of (M.head step) (M.printed step) (read_rows (M.meaning step) all)) n (K.taken sink.old)
-        (K.taken sink.new))) }
-    ensures end { OnOk result (IsAtEnd (S.left source.new)) }
-    ensures due { IfErr result
-        (IsDue row_fault_of (lines_outcome (M.meaning step) (M.head step) (M.printed step) None) (S.left source.old)
-        (S.left source.new) (K.taken sink.old) (K.taken sink.new)) }
-    ensures prompt { HoldsEachTime
-        (IsAnswered (lines_outcome (M.meaning step) (M.head step) (M.printed step) None) (S.left source.old)
-        (K.taken sink.old)) (S.asked source.old) (S.asked source.new) }
-    ensures taken { (taken : List ℕ) × Consumes (S.left source.old) (S.left source.new) taken ×
-        (IsErrOf result RunFault.TooLong ↔ (limit < length taken)) }
-    ensures grown { Grows (K.taken sink.old) (K.taken sink.new) }
-    ensures read_fault { IsErrOf result RunFault.ReadFault → Rose (S.faults source.old) (S.faults source.new) }
-    ensures write_fault { IsErrOf result RunFault.WriteFault → Rose (K.faults sink.old) (K.faults sink.new) }
-    ensures later { S.faults source.old ≤ S.faults source.new }
-    ensures later_sink { K.faults sink.old ≤ K.faults sink.new }
+    ensures { let at = streams S.left S.asked S.faults K.taken K.faults in
+        EndsRun row_fault_of (lines_outcome (M.meaning step) (M.head step) (M.printed step) None) limit
+        (at source.old sink.old) (at source.new sink.new) result }
 {
     let count = step.function().inputs.len();
     let Ok(row) = Vec::with_capacity(alloc, count) else {

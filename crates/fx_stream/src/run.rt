@@ -1,11 +1,8 @@
 //! The loop: the next line, and what is printed of it.
-ghost use Rattle.std.specs.Prelude.{◌≡◌, ◌+◌, ◌-◌, ◌^◌, ◌<◌, ◌≤◌, ◌↔◌, ℕ, List, [], length, IfOk, IfErr, OnOk, IsErrOf, IfSome};
-ghost use Rattle.std.specs.Io.KnownBytes.{Consumes, IsAtEnd};
+ghost use Rattle.std.specs.Prelude.{◌≡◌, ◌-◌, ◌^◌, ◌<◌, ◌≤◌, [], IsErrOf};
 ghost use Rattle.fx_base.specs.Causes.{Rose};
-ghost use Rattle.fx_base.specs.Moments.{HoldsEachTime};
-ghost use Rattle.fx_base.specs.Text.{lines_in};
 ghost use Rattle.fx_stream.specs.Outcome.{one};
-ghost use Rattle.fx_stream.specs.Promise.{Grows, IsAnswered, IsDone, IsDue};
+ghost use Rattle.fx_stream.specs.Ending.{EndsRun, streams};
 ghost use Rattle.fx_stream.specs.Running.{IsOver, fresh_lines};
 
 use crate::ask::{end_at, next, stop_at, take_line};
@@ -66,22 +63,8 @@ pub fn run_lines<P: Printer, S: Source<K>, K: Sink>(
     requires limit { limit < 2 ^ 64 - 1 }
     requires can { P.can_take printer.old }
     requires settled { P.is_settled printer.old }
-    ensures done { IfOk result
-        (λ n. IfSome (S.left source.old)
-        (λ all. IsDone (P.outcome printer.old (lines_in all)) n (K.taken sink.old) (K.taken sink.new))) }
-    ensures end { OnOk result (IsAtEnd (S.left source.new)) }
-    ensures due { IfErr result
-        (IsDue P.told (P.outcome printer.old) (S.left source.old) (S.left source.new) (K.taken sink.old)
-        (K.taken sink.new)) }
-    ensures prompt { HoldsEachTime (IsAnswered (P.outcome printer.old) (S.left source.old) (K.taken sink.old))
-        (S.asked source.old) (S.asked source.new) }
-    ensures taken { (taken : List ℕ) × Consumes (S.left source.old) (S.left source.new) taken ×
-        (IsErrOf result RunFault.TooLong ↔ (limit < length taken)) }
-    ensures grown { Grows (K.taken sink.old) (K.taken sink.new) }
-    ensures read_fault { IsErrOf result RunFault.ReadFault → Rose (S.faults source.old) (S.faults source.new) }
-    ensures write_fault { IsErrOf result RunFault.WriteFault → Rose (K.faults sink.old) (K.faults sink.new) }
-    ensures later { S.faults source.old ≤ S.faults source.new }
-    ensures later_sink { K.faults sink.old ≤ K.faults sink.new }
+    ensures { let at = streams S.left S.asked S.faults K.taken K.faults in
+        EndsRun P.told (P.outcome printer.old) limit (at source.old sink.old) (at source.new sink.new) result }
 {
     let Ok(mut page) = Page::new(alloc) else {
         return Err(RunFault::Memory);

@@ -1,21 +1,19 @@
 -- What `check FILE` does: it prints the bounds of an accepted bundle.
-use Rattle.std.specs.Prelude.{ℕ, ◌+◌, ◌==◌, List, Option, [], ◌∷◌, ◌++◌, codes, if◌then◌else◌}
+use Rattle.std.specs.Prelude.{ℕ, ◌+◌, ◌==◌, List, [], ◌∷◌, ◌++◌, codes, if◌then◌else◌}
 use Rattle.std.specs.Fmt.{decimal, signed_decimal}
 use Rattle.std.specs.List.{concat}
 use Rattle.std.specs.Io.KnownBytes.{Appends}
 use Rattle.fx_base.specs.Calls.{AppendsFront}
 use Rattle.fx_base.specs.Causes.{Rose}
-use Rattle.fx_base.specs.Shelf.{Files}
 use Rattle.fx_rational.specs.Dyadic.{Dyadic}
 use Rattle.fx_model.specs.Function.{Function}
 use Rattle.fx_model.specs.Machine.{Program}
 use Rattle.fx_inequalities.specs.Certificate.{Certificate}
 use Rattle.fx_inequalities.specs.Accepted.{bound_dyadic}
 use Rattle.fx_cert.specs.BundleView.{Parts}
-use Rattle.fx_bundle_commands.specs.Outside.{Streams}
+use Rattle.fx_stream.specs.Ending.{Streams}
 use Rattle.fx_ends.specs.Ends.{End, Done, WriteFault}
 use Rattle.fx_model.specs.LineText.{numbered_lines}
-use Rattle.fx_bundle_commands.specs.Opening.{OpensThen}
 
 -- m, or m/2^e, piece by piece; what a certificate writes is in lowest terms
 abbrev pub bound_pieces : Dyadic → List (List ℕ)
@@ -38,7 +36,3 @@ pub data ReportEnds (old new : Streams) (b : Parts) (fn : Function) : End → Ty
   reported : Appends old.taken new.taken (report b.program b.certificate) → ReportEnds old new b fn Done
   unwritten : Rose old.write_faults new.write_faults →
       AppendsFront old.taken new.taken (report b.program b.certificate) → ReportEnds old new b fn WriteFault
-
--- all of it
-abbrev pub CheckEnds : Option Files → ℕ → ℕ → Streams → Streams → List ℕ → End → Type 0
-CheckEnds papers before after old new name = OpensThen papers before after name old new (ReportEnds old new)

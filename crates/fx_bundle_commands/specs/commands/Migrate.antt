@@ -1,6 +1,5 @@
 -- What `migrate FILE` does: it writes an accepted bundle as one of the second version.
-use Rattle.std.specs.Prelude.{◌≡◌, ℕ, List, Option}
-use Rattle.fx_base.specs.Shelf.{Files}
+use Rattle.std.specs.Prelude.{◌≡◌, ℕ, List}
 use Rattle.fx_rational.specs.Rational.{Rational}
 use Rattle.fx_model.specs.Function.{Function}
 use Rattle.fx_model.specs.Machine.{machine_run}
@@ -8,8 +7,8 @@ use Rattle.fx_model.specs.Versions.{second_version}
 use Rattle.fx_inequalities.specs.Accepted.{certified_bound}
 use Rattle.fx_cert.specs.BundleView.{Parts, IsLawfulBundle, text_of}
 use Rattle.fx_ends.specs.Ends.{End}
-use Rattle.fx_bundle_commands.specs.Outside.{Streams}
-use Rattle.fx_bundle_commands.specs.Opening.{IsAcceptedAs, OpensThen}
+use Rattle.fx_stream.specs.Ending.{Streams}
+use Rattle.fx_bundle_commands.specs.Opening.{IsAcceptedAs}
 use Rattle.fx_bundle_commands.specs.commands.Texts.{PrintsText}
 
 -- the bundle with the second version of its program, and all else as it is
@@ -29,7 +28,3 @@ pub record IsMigrated (b : Parts) (fn : Function) : Type 0 where
 -- how the writing ends
 abbrev pub WritesMigrated : Streams → Streams → Parts → Function → End → Type 0
 WritesMigrated old new b fn = PrintsText (IsMigrated b fn) (text_of (migrated b)) old new
-
--- all of it
-abbrev pub MigratedEnds : Option Files → ℕ → ℕ → Streams → Streams → List ℕ → End → Type 0
-MigratedEnds papers before after old new name = OpensThen papers before after name old new (WritesMigrated old new)

@@ -12,7 +12,7 @@ use Rattle.fx_cert.specs.BundleView.{Parts}
 use Rattle.fx_stream.specs.Outcome.{Outcome}
 use Rattle.fx_stream.specs.Promise.{IsAnswered, IsDone, IsDue}
 use Rattle.fx_stream.specs.declared.fault.RunFault.TheVariants as run
-use Rattle.fx_bundle_commands.specs.Outside.{Streams}
+use Rattle.fx_stream.specs.Ending.{Streams}
 use Rattle.fx_ends.specs.Ends.{End, Done, ReadFault, WriteFault, NoMemory, OverLimit}
 use Rattle.fx_bundle_commands.specs.Opening.{IsAcceptedAs, IsBundle}
 

@@ -1,6 +1,5 @@
 -- What `rust FILE` does: it prints the program of an accepted bundle as Rust text.
-use Rattle.std.specs.Prelude.{ℕ, List, Option}
-use Rattle.fx_base.specs.Shelf.{Files}
+use Rattle.std.specs.Prelude.{ℕ, List}
 use Rattle.fx_model.specs.Function.{Function}
 use Rattle.fx_model.specs.Machine.{Program}
 use Rattle.fx_inequalities.specs.Certificate.{Certificate}
@@ -11,8 +10,7 @@ use Rattle.fx_statements.specs.RustText.{rust_text}
 use Rattle.fx_widths.specs.LeastWidths.{least_widths}
 use Rattle.fx_mixed.specs.TextRuns.{TextRunsLaw}
 use Rattle.fx_ends.specs.Ends.{End}
-use Rattle.fx_bundle_commands.specs.Outside.{Streams}
-use Rattle.fx_bundle_commands.specs.Opening.{OpensThen}
+use Rattle.fx_stream.specs.Ending.{Streams}
 use Rattle.fx_bundle_commands.specs.commands.Texts.{PrintsText}
 
 -- the one text, in which the name of each code has the least type that its least width fits
@@ -28,7 +26,3 @@ pub record IsRustFor (b : Parts) (fn : Function) : Type 0 where
 -- how the printing ends
 abbrev pub PrintsRust : Streams → Streams → Parts → Function → End → Type 0
 PrintsRust old new b fn = PrintsText (IsRustFor b fn) (rust_of b.program b.certificate) old new
-
--- all of it
-abbrev pub RustEnds : Option Files → ℕ → ℕ → Streams → Streams → List ℕ → End → Type 0
-RustEnds papers before after old new name = OpensThen papers before after name old new (PrintsRust old new)

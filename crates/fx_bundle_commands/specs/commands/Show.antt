@@ -1,9 +1,8 @@
 -- What `show FILE` does: it prints the codes of an accepted bundle with what its certificate says of them, and its
 -- bounds.
-use Rattle.std.specs.Prelude.{ℕ, ℤ, pos, List, Option, [], ◌∷◌, ◌++◌, length, map}
+use Rattle.std.specs.Prelude.{ℕ, ℤ, pos, List, [], ◌∷◌, ◌++◌, length, map}
 use Rattle.std.specs.Fmt.{decimal, signed_decimal}
 use Rattle.std.specs.List.{concat}
-use Rattle.fx_base.specs.Shelf.{Files}
 use Rattle.fx_rational.specs.Dyadic.{Dyadic}
 use Rattle.fx_model.specs.Function.{Function}
 use Rattle.fx_model.specs.LineText.{line_text, numbered_lines}
@@ -12,9 +11,8 @@ use Rattle.fx_model.specs.ProgramText.{instruction_name}
 use Rattle.fx_model.specs.Tree.{at}
 use Rattle.fx_inequalities.specs.Certificate.{Certificate, NodeLine, no_line}
 use Rattle.fx_cert.specs.BundleView.{Parts}
-use Rattle.fx_bundle_commands.specs.Outside.{Streams}
+use Rattle.fx_stream.specs.Ending.{Streams}
 use Rattle.fx_ends.specs.Ends.{End}
-use Rattle.fx_bundle_commands.specs.Opening.{OpensThen}
 use Rattle.fx_bundle_commands.specs.commands.Check.{bound_pieces, bound_lines}
 use Rattle.fx_bundle_commands.specs.commands.Texts.{TextEnds}
 
@@ -41,7 +39,3 @@ table p c = numbered_lines (shown_line p c) 0 (length p.codes) ++ bound_lines p 
 -- how the printing ends
 abbrev pub PrintsTable : Streams → Streams → Parts → Function → End → Type 0
 PrintsTable old new b fn = TextEnds (table b.program b.certificate) old new
-
--- all of it
-abbrev pub ShownEnds : Option Files → ℕ → ℕ → Streams → Streams → List ℕ → End → Type 0
-ShownEnds papers before after old new name = OpensThen papers before after name old new (PrintsTable old new)

@@ -2,15 +2,17 @@
 //!
 //! What is written is the text of the bundle with another version and all else as it was, so that it is accepted too.
 //! The trap: the text is made whole before anything is written, so where memory lacks nothing is written.
-ghost use Rattle.std.specs.Prelude.{◌≡◌, ◌≤◌, ℕ, List, Option, IfOk, length};
+ghost use Rattle.std.specs.Prelude.{◌≡◌, ◌≤◌, IfOk, length};
 ghost use Rattle.fx_stream.specs.Promise.{Grows};
 ghost use Rattle.fx_model.specs.Limits.{source_limit};
 ghost use Rattle.fx_cert.specs.BundleView.{IsLawfulBundle, text_of};
 ghost use Rattle.fx_ends.specs.EndView.{end_of};
 ghost use Rattle.fx_bundle_commands.specs.Opening.{IsAcceptedAs};
 ghost use Rattle.fx_bundle_commands.specs.OpeningView.{IsSilent, with_source};
-ghost use Rattle.fx_bundle_commands.specs.Outside.{streams};
-ghost use Rattle.fx_bundle_commands.specs.commands.Migrate.{MigratedEnds, WritesMigrated, migrated};
+ghost use Rattle.fx_stream.specs.Ending.{Streams};
+ghost use Rattle.fx_bundle_commands.specs.Outside.{beside, printing};
+ghost use Rattle.fx_bundle_commands.specs.Tasks.{BundleEnds, PrintMigrated};
+ghost use Rattle.fx_bundle_commands.specs.commands.Migrate.{WritesMigrated, migrated};
 
 use crate::open::{Opened, open};
 use crate::printing::print_text;
@@ -37,10 +39,9 @@ fn print_migrated<K: Sink>(alloc: Global, opened: &Opened, output: &mut K) -> En
     requires lawful { IsLawfulBundle (with_source opened.now.certified opened.now.source) }
     requires accepted { IsAcceptedAs
         (with_source opened.now.certified opened.now.source) opened.now.certified.function }
-    ensures ended { (left : Option (List ℕ)) (reads : ℕ) → WritesMigrated
-        (streams left reads (K.taken output.old) (K.faults output.old))
-        (streams left reads (K.taken output.new) (K.faults output.new))
-        (with_source opened.now.certified opened.now.source) opened.now.certified.function (end_of result) }
+    ensures ended { (rest : Streams) → let at = beside rest K.taken K.faults in
+        WritesMigrated (at output.old) (at output.new) (with_source opened.now.certified opened.now.source)
+        opened.now.certified.function (end_of result) }
     ensures appended { Grows (K.taken output.old) (K.taken output.new) }
     ensures quiet { IsSilent (end_of result) → output.new ≡ output.old }
 {
@@ -54,11 +55,8 @@ pub fn migrate_file<H: Shelf, K: Sink>(
     name: &str,
     output: &mut K,
 ) -> End<'static>
-    ensures ended { (left : Option (List ℕ)) (reads : ℕ) →
-        MigratedEnds (H.papers shelf.old) (H.faults shelf.old) (H.faults shelf.new)
-        (streams left reads (K.taken output.old) (K.faults output.old))
-        (streams left reads (K.taken output.new) (K.faults output.new))
-        name.now (end_of result) }
+    ensures ended { (rest : Streams) → let at = printing rest H.papers H.faults K.taken K.faults in
+        BundleEnds PrintMigrated (at shelf.old output.old) (at shelf.new output.new) name.now (end_of result) }
     ensures appended { Grows (K.taken output.old) (K.taken output.new) }
     ensures quiet { IsSilent (end_of result) → output.new ≡ output.old }
 {

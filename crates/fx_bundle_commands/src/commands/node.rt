@@ -1,20 +1,17 @@
 //! `node --units M FILE`: the rows of many units through an accepted bundle's program, each unit by itself.
-ghost use Rattle.std.specs.Prelude.{◌≡◌, ◌⊎◌, ◌≤◌, ℕ, List, map};
+ghost use Rattle.std.specs.Prelude.{◌≡◌, ◌≤◌, ℕ, List, map};
 ghost use Rattle.std.specs.Io.KnownBytes.{Consumes};
 ghost use Rattle.fx_expr.specs.Parts.{input_of};
 ghost use Rattle.fx_base.specs.Moments.{HoldsEachTime};
 ghost use Rattle.fx_stream.specs.Promise.{Grows, IsAnswered};
 ghost use Rattle.fx_node.specs.Faults.{flaw_of};
 ghost use Rattle.fx_node.specs.NodePage.{node_outcome};
-ghost use Rattle.fx_ends.specs.Ends as ends;
-ghost use Rattle.fx_ends.specs.Ends.{end_line, status_of};
 ghost use Rattle.fx_ends.specs.EndView.{end_of};
-ghost use Rattle.fx_ends.specs.Notes.{AreNotes};
-ghost use Rattle.fx_bundle_commands.specs.Opening.{IsOpen};
 ghost use Rattle.fx_bundle_commands.specs.OpeningView.{IsQuiet, with_source};
-ghost use Rattle.fx_bundle_commands.specs.Outside.{streams};
-ghost use Rattle.fx_bundle_commands.specs.commands.Rows.{HasAnswered};
-ghost use Rattle.fx_bundle_commands.specs.commands.Node.{NodeEnds, RunsUnits, bad_end};
+ghost use Rattle.fx_stream.specs.Ending.{streams};
+ghost use Rattle.fx_bundle_commands.specs.Outside.{world};
+ghost use Rattle.fx_bundle_commands.specs.Tasks.{RunUnits, RunsFile};
+ghost use Rattle.fx_bundle_commands.specs.commands.Node.{RunsUnits, bad_end};
 
 use crate::commands::run::{ROWS_LIMIT, inputs_of};
 use crate::open::open;
@@ -50,10 +47,9 @@ fn run_units<'a, S: Source<K>, K: Sink>(
 ) -> End<'a>
     requires some { 1 ≤ units }
     requires few { units ≤ 1024 }
-    ensures ended { (source : List ℕ) → RunsUnits units
-        (streams (S.left input.old) (S.faults input.old) (K.taken output.old) (K.faults output.old))
-        (streams (S.left input.new) (S.faults input.new) (K.taken output.new) (K.faults output.new))
-        (with_source certified.now source) certified.now.function (end_of result) }
+    ensures ended { (source : List ℕ) → let at = streams S.left S.asked S.faults K.taken K.faults in
+        RunsUnits units (at input.old output.old) (at input.new output.new) (with_source certified.now source)
+        certified.now.function (end_of result) }
     ensures loud { IsQuiet (end_of result) → ⊥ }
     ensures prompt { HoldsEachTime
         (IsAnswered (node_outcome certified.now.function certified.now.program units) (S.left input.old)
@@ -83,18 +79,9 @@ pub fn node_file<H: Shelf, S: Source<K>, K: Sink, N: Sink>(
 ) -> Status
     requires some { 1 ≤ units }
     requires few { units ≤ 1024 }
-    ensures ended { (end : ends.End) × (result ≡ status_of end) ×
-        AreNotes (N.taken notes.old) (N.taken notes.new) (N.faults notes.old) (N.faults notes.new) (end_line end) ×
-        NodeEnds (H.papers shelf.old) (H.faults shelf.old) (H.faults shelf.new)
-        (streams (S.left input.old) (S.faults input.old) (K.taken output.old) (K.faults output.old))
-        (streams (S.left input.new) (S.faults input.new) (K.taken output.new) (K.faults output.new))
-        units name.now end × (IsQuiet end → (input.new ≡ input.old) × (output.new ≡ output.old)) }
-    ensures prompt { HoldsEachTime
-        (HasAnswered (λ fn p. node_outcome fn p units) (H.papers shelf.old) name.now (S.left input.old)
-        (K.taken output.old)) (S.asked input.old) (S.asked input.new) }
-    ensures untouched { IsOpen (H.papers shelf.old) name.now ⊎ ((input.new ≡ input.old) × (output.new ≡ output.old)) }
-    ensures consumed { (taken : List ℕ) × Consumes (S.left input.old) (S.left input.new) taken }
-    ensures appended { Grows (K.taken output.old) (K.taken output.new) }
+    ensures { let at = world H.papers H.faults S.left S.asked S.faults K.taken K.faults N.taken N.faults in
+        RunsFile (RunUnits units) (at shelf.old input.old output.old notes.old)
+        (at shelf.new input.new output.new notes.new) name.now result }
 {
     match open(alloc, shelf, name) {
         Err(end) => end.finish(notes),

@@ -1,5 +1,5 @@
 //! `show FILE`: the codes of an accepted bundle with what is certified of them, and the bounds.
-ghost use Rattle.std.specs.Prelude.{◌≡◌, ◌++◌, ℕ, List, Option, OnOk, OnErr, length};
+ghost use Rattle.std.specs.Prelude.{◌≡◌, ℕ, List, OnOk, OnErr, length};
 ghost use Rattle.std.specs.Io.KnownBytes.{Appends};
 ghost use Rattle.fx_base.specs.Calls.{AppendsFront};
 ghost use Rattle.fx_base.specs.Causes.{HasCause};
@@ -7,9 +7,10 @@ ghost use Rattle.fx_stream.specs.Promise.{Grows};
 ghost use Rattle.fx_ends.specs.EndView.{end_of};
 ghost use Rattle.fx_model.specs.LineText.{numbered_lines};
 ghost use Rattle.fx_bundle_commands.specs.OpeningView.{IsSilent, with_source};
-ghost use Rattle.fx_bundle_commands.specs.Outside.{streams};
-ghost use Rattle.fx_bundle_commands.specs.commands.Check.{bound_lines};
-ghost use Rattle.fx_bundle_commands.specs.commands.Show.{PrintsTable, ShownEnds, shown_line, table};
+ghost use Rattle.fx_stream.specs.Ending.{Streams};
+ghost use Rattle.fx_bundle_commands.specs.Outside.{beside, printing};
+ghost use Rattle.fx_bundle_commands.specs.Tasks.{BundleEnds, PrintTable};
+ghost use Rattle.fx_bundle_commands.specs.commands.Show.{PrintsTable, shown_line, table};
 
 use crate::open::open;
 use crate::report::put_bounds;
@@ -36,10 +37,9 @@ fn put_table<K: Sink>(text: &[u8], certified: &Certified, output: &mut K) -> Res
 
 // Prints the table of an accepted bundle.
 fn print_table<K: Sink>(alloc: Global, certified: &Certified, output: &mut K) -> End<'static>
-    ensures ended { (source : List ℕ) (left : Option (List ℕ)) (reads : ℕ) → PrintsTable
-        (streams left reads (K.taken output.old) (K.faults output.old))
-        (streams left reads (K.taken output.new) (K.faults output.new))
-        (with_source certified.now source) certified.now.function (end_of result) }
+    ensures ended { (source : List ℕ) (rest : Streams) → let at = beside rest K.taken K.faults in
+        PrintsTable (at output.old) (at output.new) (with_source certified.now source) certified.now.function
+        (end_of result) }
     ensures appended { Grows (K.taken output.old) (K.taken output.new) }
     ensures quiet { IsSilent (end_of result) → output.new ≡ output.old }
 {
@@ -59,11 +59,8 @@ pub fn show_file<H: Shelf, K: Sink>(
     name: &str,
     output: &mut K,
 ) -> End<'static>
-    ensures ended { (left : Option (List ℕ)) (reads : ℕ) →
-        ShownEnds (H.papers shelf.old) (H.faults shelf.old) (H.faults shelf.new)
-        (streams left reads (K.taken output.old) (K.faults output.old))
-        (streams left reads (K.taken output.new) (K.faults output.new))
-        name.now (end_of result) }
+    ensures ended { (rest : Streams) → let at = printing rest H.papers H.faults K.taken K.faults in
+        BundleEnds PrintTable (at shelf.old output.old) (at shelf.new output.new) name.now (end_of result) }
     ensures appended { Grows (K.taken output.old) (K.taken output.new) }
     ensures quiet { IsSilent (end_of result) → output.new ≡ output.old }
 {

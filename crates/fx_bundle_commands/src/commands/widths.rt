@@ -1,10 +1,11 @@
 //! `widths FILE`: the least width of each code of an accepted bundle.
-ghost use Rattle.std.specs.Prelude.{◌≡◌, ℕ, List, Option};
+ghost use Rattle.std.specs.Prelude.{◌≡◌};
 ghost use Rattle.fx_stream.specs.Promise.{Grows};
 ghost use Rattle.fx_ends.specs.EndView.{end_of};
 ghost use Rattle.fx_bundle_commands.specs.OpeningView.{IsSilent};
-ghost use Rattle.fx_bundle_commands.specs.Outside.{streams};
-ghost use Rattle.fx_bundle_commands.specs.commands.Widths.{WidthsEnds};
+ghost use Rattle.fx_stream.specs.Ending.{Streams};
+ghost use Rattle.fx_bundle_commands.specs.Outside.{printing};
+ghost use Rattle.fx_bundle_commands.specs.Tasks.{BundleEnds, PrintWidths};
 
 use crate::open::open;
 use crate::printing::print_text;
@@ -20,11 +21,8 @@ pub fn widths_file<H: Shelf, K: Sink>(
     name: &str,
     output: &mut K,
 ) -> End<'static>
-    ensures ended { (left : Option (List ℕ)) (reads : ℕ) →
-        WidthsEnds (H.papers shelf.old) (H.faults shelf.old) (H.faults shelf.new)
-        (streams left reads (K.taken output.old) (K.faults output.old))
-        (streams left reads (K.taken output.new) (K.faults output.new))
-        name.now (end_of result) }
+    ensures ended { (rest : Streams) → let at = printing rest H.papers H.faults K.taken K.faults in
+        BundleEnds PrintWidths (at shelf.old output.old) (at shelf.new output.new) name.now (end_of result) }
     ensures appended { Grows (K.taken output.old) (K.taken output.new) }
     ensures quiet { IsSilent (end_of result) → output.new ≡ output.old }
 {

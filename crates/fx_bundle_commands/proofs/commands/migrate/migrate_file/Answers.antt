@@ -5,10 +5,10 @@ use Rattle.fx_bundle_commands.proofs.commands.migrate.migrate_file.Goals as goal
 
 pub returns-in-Err-clause-ended : goal.returns-in-Err-clause-ended
 returns-in-Err-clause-ended g c =
-    λ left reads. unopened _ c.in-Err.ensures.failed (record { left = refl; taken = refl })
+    λ rest. unopened _ c.in-Err.ensures.failed (record { left = refl; taken = refl })
 
 pub returns-in-Ok-clause-ended : goal.returns-in-Ok-clause-ended
 returns-in-Ok-clause-ended g c =
     let o = c.in-Ok.ensures.opened in let x = c.in-Ok.opened in
-    λ left reads. opened _ (with_source x.certified x.source) x.certified.function o.is_bundle o.accepted
-    (c.print_migrated.ensures.ended left reads)
+    λ rest. opened _ (with_source x.certified x.source) x.certified.function o.is_bundle o.accepted
+    (c.print_migrated.ensures.ended rest)

@@ -11,15 +11,12 @@ use Rattle.fx_bundle_commands.proofs.commands.node.node_file.Goals as goal
 pub returns-in-Err : goal.returns-in-Err
 returns-in-Err g c =
     record {
-      ended = (
-        end_of c.in-Err.end,
-        c.finish.ensures.status,
-        c.finish.ensures.line,
-        unopened _ c.in-Err.ensures.failed (record { left = refl; taken = refl }),
-        λ quiet. (refl, refl),
-      );
+      end = end_of c.in-Err.end;
+      answer = record { status_is = c.finish.ensures.status; line = c.finish.ensures.line };
+      ends = unopened _ c.in-Err.ensures.failed (record { left = refl; taken = refl });
+      quiet = λ quiet. record { input = refl; output = refl };
+      unopened = inr (record { input = refl; output = refl });
       prompt = none_noted (HasAnswered _ _ _ _ _) _;
-      untouched = inr (refl, refl);
       consumed = none_taken _;
       appended = none_grown _;
     }
@@ -28,13 +25,11 @@ pub returns-in-Ok : goal.returns-in-Ok
 returns-in-Ok g c =
     let o = c.in-Ok.ensures.opened in let x = c.in-Ok.opened in let r = c.run_units-end.ensures in
     record {
-      ended = (
-        end_of c.run_units-end.result,
-        c.finish-in-Ok.ensures.status,
-        c.finish-in-Ok.ensures.line,
-        opened _ (with_source x.certified x.source) x.certified.function o.is_bundle o.accepted (r.ended x.source),
-        λ quiet. absurd (r.loud quiet),
-      );
+      end = end_of c.run_units-end.result;
+      answer = record { status_is = c.finish-in-Ok.ensures.status; line = c.finish-in-Ok.ensures.line };
+      ends = opened _ (with_source x.certified x.source) x.certified.function o.is_bundle o.accepted (r.ended x.source);
+      quiet = λ quiet. absurd (r.loud quiet);
+      unopened = inl (with_source x.certified x.source, x.certified.function, o.is_bundle, o.accepted);
       prompt =
           noted_as _ (HasAnswered _ _ _ _ _) _ _ (λ m is. record {
             bundle = with_source x.certified x.source;
@@ -43,7 +38,6 @@ returns-in-Ok g c =
             accepted = o.accepted;
             answered = is;
           }) r.prompt;
-      untouched = inl (with_source x.certified x.source, x.certified.function, o.is_bundle, o.accepted);
       consumed = r.consumed;
       appended = r.appended;
     }

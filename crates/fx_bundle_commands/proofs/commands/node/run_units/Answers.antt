@@ -17,29 +17,29 @@ pub returns-in-Ok-clause-ended : goal.returns-in-Ok-clause-ended
 returns-in-Ok-clause-ended g c = λ source. let r = c.in-Ok.ensures in
     record {
       law = r.honest;
-      taken = taken_short _ _ _ _ (λ e. absurd cc) (λ e. absurd cc) r.taken;
-      rows = all_run _ r.done r.end;
+      taken = taken_short _ _ _ _ (λ e. absurd cc) (λ e. absurd cc) r.ends.taken;
+      rows = all_run _ r.ends.done r.ends.end;
     }
 
 pub returns-in-Err-Row-clause-ended : goal.returns-in-Err-Row-clause-ended
 returns-in-Err-Row-clause-ended g c = λ source.
     let r = c.in-Err-Row.ensures in let line = c.in-Err-Row.line in let flaw = flaw_of c.in-Err-Row.fault in
     let is = ap (λ inputs. bad_end inputs line flaw) (sym c.inputs_of.ensures) ∙ sym c.end_of_line.ensures.value in
-    lines_bad flaw_of r.honest r.taken r.due c.in-Err-Row.field-0-is is
+    lines_bad flaw_of r.honest r.ends.taken r.ends.due c.in-Err-Row.field-0-is is
     (λ e. not_over c.args.certified.now.function.inputs line flaw (is ∙ e))
 
 pub returns-in-Err-ReadFault-clause-ended : goal.returns-in-Err-ReadFault-clause-ended
 returns-in-Err-ReadFault-clause-ended g c = λ source. let r = c.in-Err-ReadFault.ensures in
-    lines_unread flaw_of r.honest r.taken r.due c.in-Err-ReadFault.field-0-is r.read_fault
+    lines_unread flaw_of r.honest r.ends.taken r.ends.due c.in-Err-ReadFault.field-0-is r.ends.read_fault
 
 pub returns-in-Err-WriteFault-clause-ended : goal.returns-in-Err-WriteFault-clause-ended
 returns-in-Err-WriteFault-clause-ended g c = λ source. let r = c.in-Err-WriteFault.ensures in
-    lines_unwritten flaw_of r.honest r.taken r.due c.in-Err-WriteFault.field-0-is r.write_fault
+    lines_unwritten flaw_of r.honest r.ends.taken r.ends.due c.in-Err-WriteFault.field-0-is r.ends.write_fault
 
 pub returns-in-Err-TooLong-clause-ended : goal.returns-in-Err-TooLong-clause-ended
 returns-in-Err-TooLong-clause-ended g c = λ source. let r = c.in-Err-TooLong.ensures in
-    lines_long flaw_of r.honest r.taken r.due c.in-Err-TooLong.field-0-is
+    lines_long flaw_of r.honest r.ends.taken r.ends.due c.in-Err-TooLong.field-0-is
 
 pub returns-in-Err-Memory-clause-ended : goal.returns-in-Err-Memory-clause-ended
 returns-in-Err-Memory-clause-ended g c = λ source. let r = c.in-Err-Memory.ensures in
-    lines_without_memory flaw_of r.honest r.taken r.due c.in-Err-Memory.field-0-is
+    lines_without_memory flaw_of r.honest r.ends.taken r.ends.due c.in-Err-Memory.field-0-is

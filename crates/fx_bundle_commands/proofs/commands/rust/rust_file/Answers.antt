@@ -5,13 +5,13 @@ use Rattle.fx_bundle_commands.proofs.commands.rust.rust_file.Goals as goal
 
 pub returns-in-Err-clause-ended : goal.returns-in-Err-clause-ended
 returns-in-Err-clause-ended g c =
-    λ left reads. unopened _ c.in-Err.ensures.failed (record { left = refl; taken = refl })
+    λ rest. unopened _ c.in-Err.ensures.failed (record { left = refl; taken = refl })
 
 pub returns-in-Ok-clause-ended : goal.returns-in-Ok-clause-ended
 returns-in-Ok-clause-ended g c =
     let o = c.in-Ok.ensures.opened in let x = c.in-Ok.opened in let law = c.text_law.ensures in
-    λ left reads. opened _ (with_source x.certified x.source) x.certified.function o.is_bundle o.accepted
+    λ rest. opened _ (with_source x.certified x.source) x.certified.function o.is_bundle o.accepted
     (record {
       law = record { steps = law.steps; runs = law.runs };
-      ends = c.print_text.ensures.ended _ left reads c.certified_text.ensures;
+      ends = c.print_text.ensures.ended _ rest c.certified_text.ensures;
     })
