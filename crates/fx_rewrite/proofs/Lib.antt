@@ -1,8 +1,10 @@
 mod NoRule
 mod Heights
-mod Twice
+mod There
 mod Lawful
 mod Within
+mod Folds
+mod Matches
 mod Judged
 mod Applied
 mod Paths

@@ -13,7 +13,7 @@ use Rattle.fx_expr.proofs.Sizes.{nodes_counted, height_counted}
 use Rattle.fx_expr.proofs.Nodes.{nodes_after, part_nodes}
 use Rattle.fx_rules.specs.Steps.{is_low, is_within_limits}
 use Rattle.fx_rewrite.proofs.Heights.{low_after, high_after}
-use Rattle.fx_rewrite.proofs.Twice.{tree_there}
+use Rattle.fx_rewrite.proofs.There.{tree_there}
 use Rattle.fx_rewrite.proofs.Lawful.{low_in}
 
 -- a test of one bound is a test of another that means the same

@@ -1,6 +1,9 @@
-pub mod Ready
+pub mod RuleOf
+pub mod FoundOf
+pub mod FoldedAs
+pub mod SizesOf
+pub mod Matching
 pub mod Refusals
-pub mod SpareOf
 pub mod Prepared
 pub mod Ahead
 pub mod NextPath

@@ -4,11 +4,10 @@ use Rattle.fx_model.specs.Tree.{Tree}
 use Rattle.fx_model.specs.Function.{Function}
 use Rattle.fx_model.specs.Paths.{found, with_tree}
 use Rattle.fx_inequalities.specs.Rewriting.{Rewriting}
-use Rattle.fx_expr.specs.SizeOf.{size_of}
 use Rattle.fx_rules.specs.Rules.{RewritesTree}
-use Rattle.fx_rules.specs.Turned.{Becomes, turned}
 use Rattle.fx_rules.specs.Steps.{rewrite, IsUnmatched}
-use Rattle.fx_fold.specs.declared.measure.Sizes.{Sizes}
+use Rattle.fx_rewrite.specs.Matching.{IsMatch, new_of}
+use Rattle.fx_rewrite.specs.declared.matching.Match.{Match}
 use Rattle.fx_rewrite.specs.declared.fault.StepFault.{StepFault}
 use Rattle.fx_rewrite.specs.declared.fault.StepFault.TheVariants.{NoPlace, NoMatch, TooLong, Memory}
 
@@ -25,10 +24,7 @@ IsRefused Memory f s = Unit {0}
 abbrev pub IsRefusedThere : StepFault → Function → Rewriting → Type 0
 IsRefusedThere fault f s = IsRefused fault f s × (rewrite f s ≡ None)
 
--- the step is there: a tree is found, it becomes another, the limits are kept, and both trees have these sizes
-pub record IsAdmitted (f : Function) (s : Rewriting) (old : Tree) (sizes : Sizes) : Type 0 where
-  pub new : Tree
-  pub becomes : turned s.rule old ≡ Becomes new
-  pub is : rewrite f s ≡ Some (with_tree f s.place s.path new)
-  pub less : sizes.old ≡ size_of old
-  pub more : sizes.new ≡ size_of new
+-- the step is there: the rule matches, and the limits are kept
+pub record IsAdmitted (f : Function) (s : Rewriting) (old : Tree) (m : Match) : Type 0 where
+  pub matches : IsMatch m s.rule old
+  pub is : rewrite f s ≡ Some (with_tree f s.place s.path (new_of m))

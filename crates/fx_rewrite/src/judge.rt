@@ -12,11 +12,9 @@ ghost use Rattle.fx_rules.specs.Steps.{is_within_limits};
 ghost use Rattle.fx_rewrite.specs.Refusals.{IsAdmitted, IsRefusedThere};
 
 use crate::fault::StepFault;
-use crate::rule::measure;
+use crate::matching::{Judged, Match, Sizes, judge};
 use fx_expr::{Expr, Function, at};
-use fx_fold::{Measure, Sizes};
 use fx_num::{HEIGHT_LIMIT, NODE_LIMIT};
-use fx_step::Step;
 
 /// The tree that a step speaks of.
 pub fn find<'a>(function: &'a Function, place: u32, path: &[u8]) -> Option<&'a Expr>
@@ -53,20 +51,24 @@ fn fits(function: &Function, old: &Expr, depth: usize, sizes: Sizes) -> bool
     is_low(depth, sizes.new.height) && is_small(function.nodes(), sizes.old.nodes, sizes.new.nodes)
 }
 
-/// The sizes of `old`, which is found so deep in the function, and of what the rule of this number makes of it, or why
-/// it can't be applied there.
-pub fn admit(function: &Function, old: &Expr, depth: usize, rule: u8) -> Result<Sizes, StepFault>
+/// What the rule of this number makes of `old`, which is found so deep in the function, or why it can't be applied there.
+pub fn admit<'a>(
+    function: &Function,
+    old: &'a Expr,
+    depth: usize,
+    rule: u8,
+) -> Result<Match<'a>, StepFault>
     ensures { (place : ℕ) → (path : List ℕ) → found function.now place path ≡ Some (tree old.now) →
         depth ≡ length path → let s : Rewriting = record { place = place; path = path; rule = rule } in
-        MatchResult result (λ sizes. IsAdmitted function.now s (tree old.now) sizes)
+        MatchResult result (λ m. IsAdmitted function.now s (tree old.now) m)
         (λ fault. IsRefusedThere fault function.now s) }
 {
-    match measure(old, rule) {
-        Measure::NoMatch => Err(StepFault::NoMatch),
-        Measure::TooLong => Err(StepFault::TooLong),
-        Measure::Gives(sizes) => {
-            if fits(function, old, depth, sizes) {
-                Ok(sizes)
+    match judge(old, rule) {
+        Judged::NoMatch => Err(StepFault::NoMatch),
+        Judged::TooLong => Err(StepFault::TooLong),
+        Judged::Matches(m) => {
+            if fits(function, old, depth, m.sizes) {
+                Ok(m)
             } else {
                 Err(StepFault::TooLong)
             }

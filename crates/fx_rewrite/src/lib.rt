@@ -1,19 +1,23 @@
 //! Rewriting: a function is changed in place by a step of a certificate, and keeps its meaning.
 //!
 //! A step names a tree, a path in it and a rule (`fx_step`). What the rules are stands in `fx_rules`, by which
-//! contracts say what a step gives.
+//! contracts say what a step gives. The code has the same table (`table.rt`), and interprets it: the letters of a left
+//! side are found in a tree (`found.rt`), and the right side is measured (`size.rt`) and built (`fill.rt`) with them.
 #![tactic(auto)]
 
 mod change;
 mod cursor;
 mod fault;
+mod fill;
 mod first;
+mod fold;
+mod found;
 mod judge;
-mod measure;
-mod rule;
-mod spare;
+mod matching;
+mod pattern;
+mod size;
 mod successor;
-mod turn;
+mod table;
 
 pub use change::apply;
 pub use cursor::SingleSteps;

@@ -8,8 +8,8 @@ use Rattle.fx_model.specs.Function.{Function}
 use Rattle.fx_model.specs.Paths.{found}
 use Rattle.fx_model.proofs.Samples.{exact_input, half}
 use Rattle.fx_inequalities.specs.Rewriting.{Rewriting}
-use Rattle.fx_rules.specs.Rules.{RewritesTree}
-use Rattle.fx_rules.specs.Turned.{turned}
+use Rattle.fx_rules.specs.Rules.{Rule, RewritesTree, rules as table}
+use Rattle.fx_rules.specs.Turned.{turned_by, turned}
 use Rattle.fx_rules.specs.Turned as rules
 use Rattle.fx_rules.specs.Steps.{rewrite, after}
 use Rattle.fx_rules.proofs.Turns.{turned_judges}
@@ -125,17 +125,18 @@ a_rule_past_the_table =
     unlike worked (step 0 [] 31) (Sum (Difference (Product x y) (Product x y)) (Product x z)) refl refl
 
 -- ---- x / x, of which no rule makes anything, so that none makes 1
--- where none of these turns makes anything of a tree
-none_turns : (e : Tree) (ts : List (Tree → rules.Turned)) (n : ℕ) →
-    map (λ t. t e) ts ≡ replicate (length ts) rules.NoMatch → rules.turned_by (slice_get ts n) e ≡ rules.NoMatch
+-- where none of these rules makes anything of a tree
+none_turns : (e : Tree) (rs : List Rule) (n : ℕ) →
+    map (λ r. turned_by (Some r) e) rs ≡ replicate (length rs) rules.NoMatch →
+    turned_by (slice_get rs n) e ≡ rules.NoMatch
 none_turns e [] n all = refl
-none_turns e (t ∷ ts) zero all = cc
-none_turns e (t ∷ ts) (suc n) all =
-    let rest : map (λ t. t e) ts ≡ replicate (length ts) rules.NoMatch = cc in none_turns e ts n rest
+none_turns e (r ∷ rs) zero all = cc
+none_turns e (r ∷ rs) (suc n) all =
+    let rest : map (λ r. turned_by (Some r) e) rs ≡ replicate (length rs) rules.NoMatch = cc in none_turns e rs n rest
 
 unturned : (rule : ℕ) → turned rule (Quotient x x) ≡ rules.NoMatch
 unturned zero = refl
-unturned (suc n) = none_turns (Quotient x x) rules.turns n refl
+unturned (suc n) = none_turns (Quotient x x) table n refl
 
 a_tree_by_itself : (rule : ℕ) → IsRefusedBy NoMatch (of_three (Quotient x x)) (step 0 [] rule)
 a_tree_by_itself rule = unlike (of_three (Quotient x x)) (step 0 [] rule) (Quotient x x) refl (unturned rule)

@@ -1,22 +1,32 @@
 use Rattle.std.proofs.Common.{sym, ◌∙◌}
 use Rattle.fx_inequalities.specs.Rewriting.{Rewriting}
 use Rattle.fx_expr.specs.TreeOf.{tree}
-use Rattle.fx_rewrite.proofs.Judged.{unmatched, overlong, overfull}
+use Rattle.fx_rewrite.specs.Matching.{new_of}
+use Rattle.fx_rewrite.proofs.Judged.{unmatched, overlong, overfull, admitted}
 use Rattle.fx_rewrite.proofs.judge.admit.Goals as goal
 
 pub returns-in-NoMatch : goal.returns-in-NoMatch
 returns-in-NoMatch c place path there depth =
     let s : Rewriting = record { place = place; path = path; rule = c.args.rule } in
-    unmatched c.args.function.now s (tree c.args.old.now) c.measure.result there c.in-NoMatch.is c.measure.ensures
+    unmatched c.args.function.now s (tree c.args.old.now) there c.in-NoMatch.ensures
 
 pub returns-in-TooLong : goal.returns-in-TooLong
 returns-in-TooLong c place path there depth =
     let s : Rewriting = record { place = place; path = path; rule = c.args.rule } in
-    overlong c.args.function.now s (tree c.args.old.now) c.measure.result there c.in-TooLong.is c.measure.ensures
+    overlong c.args.function.now s (tree c.args.old.now) there c.in-TooLong.ensures
+
+pub returns-then-fits : goal.returns-then-fits
+returns-then-fits c place path there depth =
+    let s : Rewriting = record { place = place; path = path; rule = c.args.rule } in
+    let m = c.in-Matches.m in
+    admitted c.args.function.now s (tree c.args.old.now) m there c.in-Matches.ensures
+    (sym c.if-fits.true
+    ∙ c.fits.ensures place path (new_of m) there depth c.in-Matches.ensures.less c.in-Matches.ensures.more)
 
 pub returns-else-fits : goal.returns-else-fits
 returns-else-fits c place path there depth =
     let s : Rewriting = record { place = place; path = path; rule = c.args.rule } in
-    overfull c.args.function.now s
-    (tree c.args.old.now) c.measure.result c.in-Gives.sizes there c.in-Gives.is c.measure.ensures
-    (λ new less more. sym c.if-fits.false ∙ c.fits.ensures place path new there depth less more)
+    let m = c.in-Matches.m in
+    overfull c.args.function.now s (tree c.args.old.now) m there c.in-Matches.ensures
+    (sym c.if-fits.false
+    ∙ c.fits.ensures place path (new_of m) there depth c.in-Matches.ensures.less c.in-Matches.ensures.more)

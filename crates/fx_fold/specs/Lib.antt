@@ -1,3 +1,0 @@
-pub mod MeasureOf
-pub mod Turns
-pub mod FoldedOf

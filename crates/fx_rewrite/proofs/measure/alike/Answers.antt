@@ -1,6 +1,0 @@
-use Rattle.fx_expr.specs.TreeOf.{tree}
-use Rattle.fx_rules.proofs.SameTree.{decided}
-use Rattle.fx_rewrite.proofs.measure.alike.Goals as goal
-
-pub returns-clause-is : goal.returns-clause-is
-returns-clause-is c = decided c.same.result (tree c.args.a.now) (tree c.args.b.now) c.same.ensures

@@ -1,0 +1,36 @@
+-- What a rule makes of a tree, as the code names it.
+use Rattle.std.specs.Prelude.{◌≡◌, ℕ}
+use Rattle.fx_rational.specs.Rational.{Rational}
+use Rattle.fx_model.specs.Tree.{Tree}
+use Rattle.fx_expr.specs.SizeOf.{size_of}
+use Rattle.fx_rules.specs.Rules.{filled}
+use Rattle.fx_rules.specs.Turned as rules
+use Rattle.fx_rules.specs.Turned.{letters_of, turned}
+use Rattle.fx_rewrite.specs.FoundOf.{found_of}
+use Rattle.fx_rewrite.specs.RuleOf.{pattern_of}
+use Rattle.fx_rewrite.specs.declared.pattern.Rule.{Rule}
+use Rattle.fx_rewrite.specs.declared.matching.Sizes.{Sizes}
+use Rattle.fx_rewrite.specs.declared.matching.Match.{Match}
+use Rattle.fx_rewrite.specs.declared.matching.Judged.{Judged}
+use Rattle.fx_rewrite.specs.declared.matching.Judged.TheVariants.{NoMatch, TooLong, Matches}
+
+-- the sizes of both sides of a rule
+pub record AreSizes (z : Sizes) (r : Rule) (found : rules.Found) : Type 0 where
+  pub old : (made : Rational) → z.old ≡ size_of (filled (letters_of found made) (pattern_of r.left))
+  pub new : (made : Rational) → z.new ≡ size_of (filled (letters_of found made) (pattern_of r.right))
+
+-- the tree that a match makes
+abbrev pub new_of : Match → Tree
+new_of m = filled (letters_of (found_of m.found) m.made) (pattern_of m.right)
+
+-- a rule matches, and both trees have these sizes
+pub record IsMatch (m : Match) (n : ℕ) (old : Tree) : Type 0 where
+  pub becomes : turned n old ≡ rules.Becomes (new_of m)
+  pub less : m.sizes.old ≡ size_of old
+  pub more : m.sizes.new ≡ size_of (new_of m)
+
+-- as the code names it
+abbrev pub IsJudged : Judged → ℕ → Tree → Type 0
+IsJudged NoMatch n old = turned n old ≡ rules.NoMatch
+IsJudged TooLong n old = turned n old ≡ rules.TooLong
+IsJudged (Matches m) n old = IsMatch m n old
