@@ -13,7 +13,7 @@ use fx_step::{Step, copied_steps};
 use std::alloc::Global;
 
 /// The most steps of a draft.
-const STEP_LIMIT: usize = 64;
+const STEP_LIMIT: usize = 1024;
 
 /// A function, and the steps that made it of the source's.
 #[derive(Drop)]

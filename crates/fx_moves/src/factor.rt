@@ -29,9 +29,9 @@ struct Common {
 
 /// A term of a chain of sums: how far down the chain it stands, and whether it is the first of all.
 #[derive(Clone, Copy)]
-struct Term {
-    depth: usize,
-    is_first: bool,
+pub struct Term {
+    pub depth: usize,
+    pub is_first: bool,
 }
 
 /// Appends the paths of a product's factors.
@@ -55,7 +55,7 @@ fn put_factors(
 }
 
 /// The paths of a product's factors.
-fn factors(alloc: Global, e: &Expr) -> Result<Vec<Vec<u8>>, Memory> {
+pub fn factors(alloc: Global, e: &Expr) -> Result<Vec<Vec<u8>>, Memory> {
     let mut path = Vec::new(alloc);
     let mut out = Vec::new(alloc);
     put_factors(alloc, e, &mut path, &mut out)?;
@@ -102,7 +102,7 @@ fn common_factors(alloc: Global, x: &Expr, y: &Expr) -> Result<Vec<Common>, Memo
 }
 
 /// A tree without the negations round it.
-fn unsigned(e: &Expr) -> &Expr {
+pub fn unsigned(e: &Expr) -> &Expr {
     match e {
         Expr::Neg(a) => unsigned(a),
         _ => e,
@@ -125,7 +125,7 @@ fn drawn<R: Rng>(rng: &mut R, mut common: Vec<Common>) -> Option<Common> {
 }
 
 /// Brings the factor at a path of a product to its right end.
-fn pull(alloc: Global, draft: &mut Draft, product: &Site, path: &[u8]) -> Result<bool, Memory> {
+pub fn pull(alloc: Global, draft: &mut Draft, product: &Site, path: &[u8]) -> Result<bool, Memory> {
     for i in (0..path.len()).rev() {
         let (above, rest) = path.split_at(i);
         let site = Site {
@@ -158,7 +158,7 @@ fn is_negated_product(e: &Expr, number: u8) -> bool {
 }
 
 /// Brings the signs of a sum's products into their factors or into the sum.
-fn take_signs(alloc: Global, draft: &mut Draft, site: &Site) -> Result<bool, Memory> {
+pub fn take_signs(alloc: Global, draft: &mut Draft, site: &Site) -> Result<bool, Memory> {
     let Some(e) = draft.at(site) else {
         return Ok(false);
     };
@@ -206,7 +206,7 @@ fn is_factorable(alloc: Global, draft: &Draft, site: &Site) -> Result<bool, Memo
 }
 
 /// The site below another.
-fn below(alloc: Global, site: &Site, path: &[u8]) -> Result<Site, Memory> {
+pub fn below(alloc: Global, site: &Site, path: &[u8]) -> Result<Site, Memory> {
     Ok(Site {
         place: site.place,
         path: joined(alloc, &site.path, path)?,
@@ -239,7 +239,7 @@ fn factor<R: Rng>(
 }
 
 /// The operands of a sum or a difference.
-fn terms(e: &Expr) -> Option<(&Expr, &Expr)> {
+pub fn terms(e: &Expr) -> Option<(&Expr, &Expr)> {
     match e {
         Expr::Add(a, b) => Some((a, b)),
         Expr::Sub(a, b) => Some((a, b)),
@@ -291,7 +291,7 @@ fn drawn_partner<R: Rng>(
 }
 
 /// Brings a term of the chain to the chain's right end.
-fn bring(alloc: Global, draft: &mut Draft, site: &Site, term: Term) -> Result<bool, Memory> {
+pub fn bring(alloc: Global, draft: &mut Draft, site: &Site, term: Term) -> Result<bool, Memory> {
     let mut way = vec![in alloc; 0_u8; term.depth.saturating_add(1)]?;
     if term.is_first {
         let lowest = below(alloc, site, &way)?;

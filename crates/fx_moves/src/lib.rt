@@ -6,7 +6,9 @@
 //! - `factor_all` begins at the source: literals are folded, and common factors taken out in a random order until none
 //!   is
 //!   left (`factor`, `cleaning`). That alone mostly brings the greatest gain.
-//! - `mutate` makes one to three random moves. A move is a few rules at one place (`moves`, `factor`, `cleaning`), or
+//! - `form` begins at the source too, and draws nothing: all is expanded, and the variables are taken out in one of
+//!   some orders, which gives Horner's scheme by each of them (`forms`, `orders`).
+//! - `mutate` makes one to six random moves. A move is a few rules at one place (`moves`, `factor`, `cleaning`), or
 //!   any one
 //!   rule (`mutation`).
 //!
@@ -22,8 +24,10 @@ mod cleaning;
 mod draft;
 mod drawing;
 mod factor;
+mod forms;
 mod moves;
 mod mutation;
+mod orders;
 mod rule;
 mod site;
 
@@ -31,3 +35,4 @@ pub use cleaning::clean_all;
 pub use draft::Draft;
 pub use drawing::draw;
 pub use mutation::{factor_all, mutate};
+pub use orders::form;

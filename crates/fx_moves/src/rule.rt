@@ -26,11 +26,16 @@ pub const SUBTRACT: u8 = 16;
 pub const DROP_NEGATIONS: u8 = 17;
 /// `-(a * b)` to `-a * b`.
 pub const NEGATE_FACTOR: u8 = 18;
+/// `-a * b` to `-(a * b)`.
+pub const TAKE_NEGATION: u8 = 19;
 /// `-(a + b)` to `-a + -b`.
 pub const NEGATE_TERMS: u8 = 20;
 
+/// The product of two literals to a literal.
+pub const FOLD_PRODUCT: u8 = 28;
+
 /// The rules that leave less to compute, folding before a division by a literal becomes a product.
-pub const CLEANING: [u8; 7] = [DROP_NEGATIONS, 26, 27, 28, 29, 30, 25];
+pub const CLEANING: [u8; 7] = [DROP_NEGATIONS, 26, 27, FOLD_PRODUCT, 29, 30, 25];
 
 /// The rules that may match a tree, by its operation.
 pub fn rules_of(e: &Expr) -> &'static [u8] {

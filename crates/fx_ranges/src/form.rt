@@ -102,12 +102,59 @@ pub fn mix_of(node: &Node, form: &RangeForm, a: u32, b: u32) -> Option<Mix> {
 }
 
 /// A number of at most 30 bits near the middle of a range.
-pub fn centre(range: Span) -> Option<Dyadic> {
+pub fn middle_of(range: Span) -> Option<Dyadic> {
     let middle = floor_shift(range.lo.checked_add(range.hi)?, 1);
     let places = bits(middle.unsigned_abs())
         .saturating_sub(CENTRE_BITS)
         .min(range.e);
     Dyadic::checked(floor_shift(middle, places), range.e.saturating_sub(places))
+}
+
+/// Where an operand of a product is centred.
+#[derive(Clone, Copy, Debug, PartialEq, Eq)]
+pub enum Centre {
+    /// At the middle of its range.
+    Middle,
+    /// At the lower end.
+    Low,
+    /// At the upper end.
+    High,
+    /// At zero: of an operand so centred the other one's form is of no use.
+    Zero,
+}
+
+/// The centres of both operands.
+#[derive(Clone, Copy, Debug, PartialEq, Eq)]
+pub struct Centres {
+    pub a: Centre,
+    pub b: Centre,
+}
+
+impl Centres {
+    /// Both at the middle.
+    pub const MIDDLE: Centres = Centres {
+        a: Centre::Middle,
+        b: Centre::Middle,
+    };
+}
+
+/// The range that has this end alone.
+fn end_alone(end: i128, e: u32) -> Span {
+    Span {
+        lo: end,
+        hi: end,
+        e,
+    }
+}
+
+/// A number of at most 30 bits near that point of a range.
+pub fn centre_at(range: Span, at: Centre) -> Option<Dyadic> {
+    match at {
+        Centre::Middle => middle_of(range),
+        Centre::Low => middle_of(end_alone(range.lo, range.e)),
+        Centre::High => middle_of(end_alone(range.hi, range.e)),
+        Centre::Zero => Some(Dyadic::zero()),
+    }
 }
 
 /// A rest and the sum of the row's coefficients by what is said of each input.

@@ -22,6 +22,6 @@ mod range;
 mod start;
 
 pub use code::{codes_of, has_code};
-pub use form::{Mix, RangeForm, mix_of, operands, weighted};
-pub use range::{Ranges, Unplanned, find_ranges, find_ranges_in};
+pub use form::{Centre, Centres, Mix, RangeForm, mix_of, operands, weighted};
+pub use range::{Ranges, Unplanned, find_centred_ranges, find_ranges, find_ranges_in};
 pub use start::{start_error, start_range};

@@ -4,7 +4,7 @@
 //! first node whose range reaches `2^62` as a mantissa, whose divisor may be zero, or whose numbers leave 128 bits.
 
 use crate::coefficients::Coefficients;
-use crate::form::{RangeForm, centre, mix_of, operands, weighted, write_row};
+use crate::form::{Centres, RangeForm, centre_at, mix_of, operands, weighted, write_row};
 use fx_expr::Function;
 use fx_flat::{Node, Nodes};
 use fx_num::{Dyadic, GREATEST_POINT, LEAST_POINT, Memory, bits};
@@ -33,6 +33,8 @@ pub struct Ranges {
     spans: Vec<Span>,
     forms: Vec<Option<RangeForm>>,
     coefficients: Coefficients,
+    /// The centres of each node's operands, in the middle from the list's end on.
+    centres: Vec<Centres>,
 }
 
 impl Ranges {
@@ -41,6 +43,7 @@ impl Ranges {
         count: usize,
         inputs: usize,
         grids: Grids,
+        centres: &[Centres],
     ) -> Result<Option<Ranges>, Memory> {
         match Coefficients::new(alloc, count, inputs)? {
             Some(coefficients) => Ok(Some(Ranges {
@@ -48,6 +51,7 @@ impl Ranges {
                 spans: Vec::new(alloc),
                 forms: Vec::new(alloc),
                 coefficients,
+                centres: Vec::from_slice(alloc, centres)?,
             })),
             None => Ok(None),
         }
@@ -57,6 +61,11 @@ impl Ranges {
         self.spans.push(span)?;
         self.forms.push(form)?;
         Ok(())
+    }
+
+    /// Where the operands of a node are centred.
+    pub fn centres_of(&self, n: usize) -> Centres {
+        self.centres.get(n).copied().unwrap_or(Centres::MIDDLE)
     }
 
     /// The grids of ranges and errors.
@@ -172,12 +181,13 @@ fn plain_range(ranges: &Ranges, node: &Node) -> Option<Span> {
     Some(ranges.grids.rounded(range))
 }
 
-/// The rest of a product's form, with the operands' centres.
+/// The rest of the form of the product that is next, with the operands' centres.
 fn product_form(ranges: &Ranges, a: usize, b: usize) -> Option<RangeForm> {
     let x = ranges.span(a)?;
     let y = ranges.span(b)?;
-    let centre_a = centre(x)?;
-    let centre_b = centre(y)?;
+    let centres = ranges.centres_of(ranges.spans.len());
+    let centre_a = centre_at(x, centres.a)?;
+    let centre_b = centre_at(y, centres.b)?;
     let left = ranges.form_or_rest(a)?.rest.scaled(centre_b)?;
     let right = ranges.form_or_rest(b)?.rest.scaled(centre_a)?;
     let both = Span::single(centre_a).scaled(centre_b)?;
@@ -322,7 +332,7 @@ pub fn find_ranges(
     nodes: &Nodes,
     grids: Grids,
 ) -> Result<Result<Ranges, Unplanned>, Memory> {
-    find_ranges_in(alloc, function, nodes, grids, &[])
+    find_centred_ranges(alloc, function, nodes, grids, &[], &[])
 }
 
 /// The ranges of all nodes, with a box in which each state lies, or the first node that has none.
@@ -333,9 +343,21 @@ pub fn find_ranges_in(
     grids: Grids,
     boxes: &[Span],
 ) -> Result<Result<Ranges, Unplanned>, Memory> {
+    find_centred_ranges(alloc, function, nodes, grids, boxes, &[])
+}
+
+/// The same with the centres of each node's operands. Beyond the list's end they are in the middle.
+pub fn find_centred_ranges(
+    alloc: Global,
+    function: &Function,
+    nodes: &Nodes,
+    grids: Grids,
+    boxes: &[Span],
+    centres: &[Centres],
+) -> Result<Result<Ranges, Unplanned>, Memory> {
     let list = nodes.list.as_slice();
     let variables = function.inputs.len().saturating_add(boxes.len());
-    let Some(mut ranges) = Ranges::new(alloc, list.len(), variables, grids)? else {
+    let Some(mut ranges) = Ranges::new(alloc, list.len(), variables, grids, centres)? else {
         return Ok(Err(Unplanned::at(0)));
     };
     for n in 0..list.len() {

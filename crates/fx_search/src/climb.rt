@@ -6,27 +6,30 @@
 
 use crate::front::{Front, Trial};
 use crate::task::Task;
-use fx_moves::{Draft, clean_all, draw, factor_all, mutate};
+use fx_moves::{Draft, clean_all, draw, factor_all, form, mutate};
 use fx_num::Memory;
 use fx_planning::Cost;
 use fx_span::Real;
 use rand_core::Rng;
 use std::alloc::Global;
 
-/// The first tries begin at the source,
-const FIRST_STARTS: u32 = 4;
+/// The first drafts begin at the source: it is cleaned, then factored at random up to this one,
+const RANDOM_STARTS: u32 = 4;
+
+/// and then come directed forms, up to here,
+const FIRST_STARTS: u32 = 20;
 
 /// and some more from this one on,
-const LATER_START: u32 = 21;
+const LATER_START: u32 = 33;
 
 /// up to here.
-const LAST_START: u32 = 36;
+const LAST_START: u32 = 48;
 
 /// After so many tries without gain one of the best is taken up again.
-const PATIENCE: u32 = 20;
+const PATIENCE: u32 = 40;
 
 /// A dearer draft is taken up only with at most so many steps.
-const WARM_STEPS: usize = 32;
+const WARM_STEPS: usize = 512;
 
 /// Where a search stands.
 #[derive(Drop)]
@@ -60,12 +63,18 @@ fn heated<R: Rng>(rng: &mut R, cost: Cost) -> Cost {
     }
 }
 
-/// A draft that begins at the source: first it is only cleaned, then factored too.
+/// A draft that begins at the source: first it is only cleaned, then factored at random, then come the directed forms,
+/// and behind them it is factored at random again.
 fn started<R: Rng>(alloc: Global, rng: &mut R, task: Task<'_>, turn: u32) -> Result<Draft, Memory> {
     let mut draft = Draft::new(alloc, task.source)?;
     if turn == 1 {
         clean_all(alloc, &mut draft)?;
-    } else {
+        return Ok(draft);
+    }
+    let is_due = RANDOM_STARTS < turn && turn <= FIRST_STARTS;
+    let number = turn.saturating_sub(RANDOM_STARTS).saturating_sub(1);
+    let is_form = is_due && form(alloc, &mut draft, number)?;
+    if !is_form {
         factor_all(alloc, rng, &mut draft)?;
     }
     Ok(draft)

@@ -1,4 +1,5 @@
-//! Polish: points and words of an attempt moved one by one, as long as its cost falls.
+//! Polish: points and words of an attempt, and the centres of its products, moved one by one, as long as its cost
+//! falls.
 
 use crate::attempt::{Attempt, Placed};
 use crate::task::Task;
@@ -6,13 +7,17 @@ use fx_expr::Function;
 use fx_flat::Node;
 use fx_num::Memory;
 use fx_planning::{find_plan, move_word};
+use fx_ranges::{Centre, Centres, find_centred_ranges};
 use std::alloc::Global;
 
 /// By how much a point is moved.
-const POINT_MOVES: [i32; 3] = [1, -1, -2];
+const POINT_MOVES: [i32; 4] = [1, -1, -2, 3];
 
 /// By how many units a word is moved.
 const WORD_MOVES: [i64; 4] = [1, -1, 2, -2];
+
+/// Where the operands of a product may be centred.
+const CENTRES: [Centre; 4] = [Centre::Middle, Centre::Low, Centre::High, Centre::Zero];
 
 /// No more rounds are made, though each had a gain.
 const ROUNDS: u32 = 64;
@@ -47,6 +52,25 @@ fn moved_points(
         let same = follows(node).and_then(|a| moved.get(a as usize).copied());
         let by = if i == n { by } else { 0 };
         moved.push(same.unwrap_or(point.saturating_add(by)))?;
+    }
+    Ok(moved)
+}
+
+/// The centres of all nodes, those of one moved.
+fn moved_centres(
+    alloc: Global,
+    attempt: &Attempt,
+    n: usize,
+    to: Centres,
+) -> Result<Vec<Centres>, Memory> {
+    let mut moved = Vec::new(alloc);
+    for i in 0..attempt.nodes.list.len() {
+        let centres = if i == n {
+            to
+        } else {
+            attempt.ranges.centres_of(i)
+        };
+        moved.push(centres)?;
     }
     Ok(moved)
 }
@@ -103,6 +127,48 @@ impl<'a> Polish<'a> {
         }
     }
 
+    /// Centres the operands of a product elsewhere, and keeps that where the cost falls.
+    fn move_centres(
+        &mut self,
+        attempt: &mut Attempt,
+        n: usize,
+        to: Centres,
+    ) -> Result<bool, Memory> {
+        if attempt.ranges.centres_of(n) == to || !self.spend() {
+            return Ok(false);
+        }
+        let centres = moved_centres(self.alloc, attempt, n, to)?;
+        let Ok(ranges) = find_centred_ranges(
+            self.alloc,
+            self.function,
+            &attempt.nodes,
+            attempt.ranges.grids(),
+            &[],
+            &centres,
+        )?
+        else {
+            return Ok(false);
+        };
+        let Ok(plan) = find_plan(
+            self.alloc,
+            self.function,
+            &attempt.nodes,
+            &ranges,
+            &attempt.placed.points,
+            self.task.wanted,
+            self.task.goal(),
+        )?
+        else {
+            return Ok(false);
+        };
+        if !plan.small().is_empty() || plan.cost() >= attempt.placed.plan.cost() {
+            return Ok(false);
+        }
+        attempt.placed.plan = plan;
+        attempt.ranges = ranges;
+        Ok(true)
+    }
+
     /// Moves the word of a literal, and keeps that where the cost falls.
     fn move_word(&mut self, attempt: &mut Attempt, n: u32, units: i64) -> Result<bool, Memory> {
         if !self.spend() {
@@ -143,6 +209,31 @@ impl<'a> Polish<'a> {
         Ok(has_gain)
     }
 
+    /// Centres the operands of a product at each of some places.
+    fn turn_product(&mut self, attempt: &mut Attempt, n: usize) -> Result<bool, Memory> {
+        let mut has_gain = false;
+        for a in &CENTRES {
+            for b in &CENTRES {
+                if self.move_centres(attempt, n, Centres { a: *a, b: *b })? {
+                    has_gain = true;
+                }
+            }
+        }
+        Ok(has_gain)
+    }
+
+    /// Moves the centres of all products that have a form.
+    fn turn_products(&mut self, attempt: &mut Attempt) -> Result<bool, Memory> {
+        let mut has_gain = false;
+        for n in 0..attempt.nodes.list.len() {
+            let is_product = matches!(attempt.nodes.list.as_slice().get(n), Some(Node::Mul { .. }));
+            if is_product && attempt.ranges.form(n).is_some() && self.turn_product(attempt, n)? {
+                has_gain = true;
+            }
+        }
+        Ok(has_gain)
+    }
+
     /// Moves the points of all nodes that have one of their own.
     fn turn_points(&mut self, attempt: &mut Attempt) -> Result<bool, Memory> {
         let mut has_gain = false;
@@ -177,7 +268,8 @@ impl<'a> Polish<'a> {
         for _round in 0..ROUNDS {
             let points = self.turn_points(attempt)?;
             let words = self.turn_words(attempt)?;
-            if self.budget == 0 || !(points || words) {
+            let centres = self.turn_products(attempt)?;
+            if self.budget == 0 || !(points || words || centres) {
                 return Ok(());
             }
         }

@@ -19,8 +19,17 @@ use rand_core::{Rng, SeedableRng};
 use rand_pcg::Pcg32;
 use std::alloc::Global;
 
-/// So many plans are looked at in polishing, and two more for each try so far.
-const PLANS: u32 = 64;
+/// So many plans are looked at in polishing,
+const PLANS: u32 = 256;
+
+/// and so many more for each try so far.
+const PLANS_A_TRY: u32 = 16;
+
+/// A try looks at so many drafts,
+const TURNS: u32 = 8;
+
+/// fewer where they have more nodes than these together.
+const SHARED_NODES: u32 = 2000;
 
 /// All plans of a mark have at most this part of the work of all tries.
 const POLISH_PART: u32 = 4;
@@ -40,7 +49,7 @@ fn is_mark(tries: u32) -> bool {
 /// is found then is found at the next mark too.
 fn plans_after(nodes: u32, tries: u32) -> u32 {
     if is_mark(tries) {
-        let plans = tries.saturating_mul(2).saturating_add(PLANS);
+        let plans = tries.saturating_mul(PLANS_A_TRY).saturating_add(PLANS);
         affordable(nodes.saturating_mul(POLISH_PART), plans)
     } else {
         0
@@ -69,6 +78,12 @@ fn polish_front(
     Ok(())
 }
 
+/// How many drafts a try looks at, in a function of so many nodes.
+fn turns_a_try(nodes: u32) -> u32 {
+    let few = SHARED_NODES.checked_div(nodes).unwrap_or(TURNS);
+    few.clamp(1, TURNS)
+}
+
 /// The try of this number, of which the source is the first, and the best behind it.
 fn turn<R: Rng>(
     alloc: Global,
@@ -79,7 +94,11 @@ fn turn<R: Rng>(
     number: u32,
 ) -> Result<(), Memory> {
     if number > 1 {
-        climb.turn(alloc, rng, task, number.saturating_sub(1))?;
+        let turns = turns_a_try(task.source.nodes());
+        let before = number.saturating_sub(2).saturating_mul(turns);
+        for i in 0..turns {
+            climb.turn(alloc, rng, task, before.saturating_add(i).saturating_add(1))?;
+        }
     }
     if number == task.tries() || is_mark(number) {
         let plans = plans_after(task.source.nodes(), number);
