@@ -5,7 +5,7 @@ ghost use Rattle.fx_checker.specs.Answers.{IsOffered};
 
 use crate::boxes::intervals;
 use crate::narrow::{narrow_outputs, narrow_ranges, put_shares};
-use crate::point::{caps_of_negated, decider, greatest_points, lowered_caps};
+use crate::point::{caps_of_negated, caps_of_operands, decider, greatest_points, lowered_caps};
 use crate::settle::{Settled, settle};
 use crate::sides::{OfErrors, OfValues};
 use crate::task::Task;
@@ -40,11 +40,12 @@ fn points_within(
 ) -> Result<Option<Vec<i32>>, Memory> {
     let nodes = task.nodes.list.as_slice();
     let caps = caps_of_negated(alloc, nodes, ranges, task.wanted.width, caps)?;
-    let Some(points) = greatest_points(alloc, task, ranges, &caps)? else {
+    let Some(points) = greatest_points(alloc, task, ranges, &caps, false)? else {
         return Ok(None);
     };
     let caps = lowered_caps(alloc, nodes, &points, &caps)?;
-    greatest_points(alloc, task, ranges, &caps)
+    let caps = caps_of_operands(alloc, task, ranges, caps)?;
+    greatest_points(alloc, task, ranges, &caps, true)
 }
 
 /// Puts the caps of what decides too small words below their points.

@@ -52,12 +52,34 @@ fn greatest(task: Task<'_>, n: usize, points: &[i32], cap: i32) -> Option<i32> {
     None
 }
 
+/// The same, but of a product that has no code, because its operands are too fine, the cap itself.
+fn greatest_or_cap(task: Task<'_>, n: usize, points: &[i32], cap: i32) -> Option<i32> {
+    match greatest(task, n, points, cap) {
+        Some(point) => Some(point),
+        None => match task.nodes.list.as_slice().get(n) {
+            Some(Node::Mul { .. }) => Some(cap),
+            _ => None,
+        },
+    }
+}
+
 /// The point of node `n`.
-fn point_of(task: Task<'_>, ranges: &Ranges, n: usize, points: &[i32], cap: i32) -> Option<i32> {
+fn point_of(
+    task: Task<'_>,
+    ranges: &Ranges,
+    n: usize,
+    points: &[i32],
+    cap: i32,
+    are_codes: bool,
+) -> Option<i32> {
     let cap = cap_of(task.nodes, ranges, n, task.wanted.width, cap);
     let decider = decider(task.nodes, n);
     if decider == n {
-        return greatest(task, n, points, cap);
+        return if are_codes {
+            greatest(task, n, points, cap)
+        } else {
+            greatest_or_cap(task, n, points, cap)
+        };
     }
     let only = points.get(decider).copied()?;
     let node = task.nodes.list.as_slice().get(n)?;
@@ -70,17 +92,18 @@ fn point_of(task: Task<'_>, ranges: &Ranges, n: usize, points: &[i32], cap: i32)
     }
 }
 
-/// The greatest points up to these caps, if each node has one.
+/// The greatest points up to these caps, if each node has one. Unless all are to have codes, a product may have none.
 pub fn greatest_points(
     alloc: Global,
     task: Task<'_>,
     ranges: &Ranges,
     caps: &[i32],
+    are_codes: bool,
 ) -> Result<Option<Vec<i32>>, Memory> {
     let mut points = Vec::new(alloc);
     for n in 0..task.nodes.list.len() {
         let cap = caps.get(n).copied().unwrap_or(GREATEST_POINT);
-        match point_of(task, ranges, n, &points, cap) {
+        match point_of(task, ranges, n, &points, cap, are_codes) {
             Some(point) => points.push(point)?,
             None => return Ok(None),
         }
@@ -109,11 +132,24 @@ pub fn caps_of_negated(
     Ok(lowered)
 }
 
+/// By how many places a sum is finer than what it goes into, at most: its operands are rounded one by one then, but
+/// where that adds next to nothing. A sum of small products else has a point that makes all errors long.
+const SUM_PLACES: i32 = 12;
+
+/// The point of a sum that is asked for so, once it is lowered.
+fn lowered_sum(own: i32, point: i32) -> i32 {
+    if own == i32::MIN {
+        point
+    } else {
+        point.min(own.saturating_add(SUM_PLACES))
+    }
+}
+
 /// What a node asks of its operands: the point of a sum, which a finer operand would only round to once more.
 fn asked(node: &Node, own: i32, point: i32) -> i32 {
     match node {
-        Node::Add { .. } => point,
-        Node::Sub { .. } => point,
+        Node::Add { .. } => lowered_sum(own, point),
+        Node::Sub { .. } => lowered_sum(own, point),
         Node::Copy { .. } => point,
         Node::Neg { .. } => own,
         _ => i32::MAX,
@@ -142,17 +178,20 @@ fn needs(alloc: Global, nodes: &[Node], points: &[i32]) -> Result<Vec<i32>, Memo
     Ok(needs)
 }
 
-/// Whether a node may be as coarse as what it goes into: a sum may not, since its operands would be rounded one by one.
-fn may_be_lowered(node: &Node) -> bool {
+/// The greatest point that a node needs where this is the finest that is asked for: products, literals and inputs may be
+/// as coarse as what they go into; a sum only nearly, since its operands are rounded one by one.
+fn needed(node: &Node, need: i32) -> i32 {
     match node {
-        Node::Mul { .. } => true,
-        Node::Const { .. } => true,
-        Node::Input { .. } => true,
-        _ => false,
+        Node::Mul { .. } => need,
+        Node::Const { .. } => need,
+        Node::Input { .. } => need,
+        Node::Add { .. } => need.saturating_add(SUM_PLACES),
+        Node::Sub { .. } => need.saturating_add(SUM_PLACES),
+        _ => i32::MAX,
     }
 }
 
-/// The caps with those of products, literals and inputs lowered to what they go into.
+/// The caps with those of products, literals, inputs and sums lowered to what they go into.
 pub fn lowered_caps(
     alloc: Global,
     nodes: &[Node],
@@ -163,11 +202,108 @@ pub fn lowered_caps(
     let mut lowered = Vec::from_slice(alloc, caps)?;
     for n in 0..nodes.len() {
         let need = needs.get(n).copied().unwrap_or(i32::MAX);
-        if may_be_lowered(&nodes[n]) && need > i32::MIN {
+        if need > i32::MIN {
             if let Some(cap) = lowered.get_mut(n) {
-                *cap = (*cap).min(need);
+                *cap = (*cap).min(needed(&nodes[n], need));
             }
         }
     }
     Ok(lowered)
+}
+
+/// Whether a node is a literal, or a negated one.
+fn is_literal(nodes: &[Node], n: usize) -> bool {
+    match nodes.get(n) {
+        Some(Node::Const { .. }) => true,
+        Some(Node::Neg { a }) => match nodes.get(*a as usize) {
+            Some(Node::Const { .. }) => true,
+            _ => false,
+        },
+        _ => false,
+    }
+}
+
+/// The operand of a product that is made coarser: a literal, which loses only what its word is off, else the finer one.
+fn coarser(nodes: &[Node], points: &[i32], a: usize, b: usize) -> usize {
+    if is_literal(nodes, a) {
+        return a;
+    }
+    if is_literal(nodes, b) {
+        return b;
+    }
+    let own = points.get(a).copied().unwrap_or(LEAST_POINT);
+    let other = points.get(b).copied().unwrap_or(LEAST_POINT);
+    if own < other { b } else { a }
+}
+
+/// How many places a product drops at most: of a literal's no more than matter, whose errors would only get long.
+fn most_dropped(nodes: &[Node], operand: usize, width: u32) -> i32 {
+    let most = width.saturating_mul(2).saturating_sub(2);
+    let most = if is_literal(nodes, operand) {
+        most.min(width.saturating_add(LITERAL_PLACES))
+    } else {
+        most
+    };
+    i32::try_from(most).unwrap_or(0)
+}
+
+/// Lowers the cap of an operand of product `n` so that the product's shift is one. Whether it had to be lowered.
+fn make_room(nodes: &[Node], points: &mut [i32], caps: &mut [i32], n: usize, width: u32) -> bool {
+    let Some(Node::Mul { a, b }) = nodes.get(n) else {
+        return false;
+    };
+    let a = *a as usize;
+    let b = *b as usize;
+    let own = points.get(a).copied().unwrap_or(0);
+    let other = points.get(b).copied().unwrap_or(0);
+    let shift = own
+        .saturating_add(other)
+        .saturating_sub(points.get(n).copied().unwrap_or(0));
+    let c = coarser(nodes, points, a, b);
+    let most = most_dropped(nodes, c, width);
+    if shift <= most {
+        return false;
+    }
+    if let (Some(point), Some(cap)) = (points.get_mut(c), caps.get_mut(c)) {
+        let lower = point
+            .saturating_sub(shift.saturating_sub(most))
+            .max(LEAST_POINT);
+        *point = lower;
+        *cap = (*cap).min(lower);
+    }
+    true
+}
+
+/// So often operands are made coarser, at most.
+const TURNS: u32 = 4;
+
+/// By how much more than its width a product drops at most where it is of a literal: what the literal's word is off is
+/// then at most `2^-12` of a unit of the product.
+const LITERAL_PLACES: u32 = 11;
+
+/// The caps with those of operands lowered so far that each product has a code: a small literal at its greatest point
+/// would ask for a shift that there isn't. A literal whose word becomes 0 is as good as any.
+pub fn caps_of_operands(
+    alloc: Global,
+    task: Task<'_>,
+    ranges: &Ranges,
+    caps: Vec<i32>,
+) -> Result<Vec<i32>, Memory> {
+    let nodes = task.nodes.list.as_slice();
+    let width = task.wanted.width;
+    let mut caps = caps;
+    for _turn in 0..TURNS {
+        let Some(mut points) = greatest_points(alloc, task, ranges, &caps, false)? else {
+            return Ok(caps);
+        };
+        let mut is_lowered = false;
+        for n in (0..nodes.len()).rev() {
+            is_lowered = make_room(nodes, &mut points, &mut caps, n, width) || is_lowered;
+        }
+        if !is_lowered {
+            return Ok(caps);
+        }
+        caps = caps_of_negated(alloc, nodes, ranges, width, &caps)?;
+    }
+    Ok(caps)
 }

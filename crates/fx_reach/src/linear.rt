@@ -89,9 +89,33 @@ fn greatest(first: Option<i32>, intervals: &[Interval]) -> Option<i32> {
     top
 }
 
-/// With so many binary places that the greatest of these has the wanted bits.
-fn scale_of(spans: &[Interval], rests: &[Interval]) -> i32 {
-    match greatest(greatest(None, spans), rests) {
+/// The magnitude of what an input of this span drives with a coefficient.
+fn driven(span: Interval, coef: Dyadic) -> Option<i32> {
+    let own = magnitude(Interval { lo: coef, hi: coef })?;
+    Some(magnitude(span)?.saturating_add(own))
+}
+
+/// The greatest magnitude of what came first and of what the inputs drive.
+fn greatest_driven(
+    first: Option<i32>,
+    variables: usize,
+    coefs: &[Dyadic],
+    spans: &[Interval],
+) -> Option<i32> {
+    let mut top = first;
+    for (place, coef) in coefs.iter().enumerate() {
+        let j = place.checked_rem(variables).unwrap_or(0);
+        if let Some(span) = spans.get(j) {
+            top = greater(top, driven(*span, *coef));
+        }
+    }
+    top
+}
+
+/// With so many binary places that the greatest drive has the wanted bits: of an input's span a small coefficient may
+/// leave next to nothing, which would drown in the rounding of each step.
+fn scale_of(variables: usize, coefs: &[Dyadic], spans: &[Interval], rests: &[Interval]) -> i32 {
+    match greatest_driven(greatest(None, rests), variables, coefs, spans) {
         Some(top) => SIZE_BITS.saturating_sub(top).clamp(-200, 200),
         None => 0,
     }
@@ -183,11 +207,13 @@ impl Linear {
     pub fn of(alloc: Global, t: &Transition, side: &Side) -> Result<Option<Linear>, Memory> {
         let rests = all_rests(alloc, t, side)?;
         let spans = all_spans(alloc, t, side)?;
-        let scale = scale_of(&spans, &rests);
+        let coefs = all_coefs(alloc, t)?;
+        let variables = t.inputs.saturating_add(t.states) as usize;
+        let scale = scale_of(variables, &coefs, &spans, &rests);
         let mut linear = Linear {
             inputs: t.inputs as usize,
             states: t.states as usize,
-            coefs: all_coefs(alloc, t)?,
+            coefs,
             rests,
             spans,
             columns: Vec::new(alloc),
