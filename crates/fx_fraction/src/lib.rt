@@ -27,6 +27,6 @@ pub use decimal::{Decimal, signed, ten_to};
 pub use fault::NumberFault;
 pub use fraction::Fraction;
 pub use quantised::quantise;
-pub use range::Range;
+pub use range::{Range, within};
 pub use read::{read_decimal, read_natural};
 pub use text::decimal_text;

@@ -61,3 +61,10 @@ impl Range {
         self.least <= units && units <= self.most
     }
 }
+
+/// Whether `lo - err <= g <= hi + err`. Who compares many numbers with the same ends makes a `Range` of them once.
+pub fn within(g: Decimal, lo: Decimal, hi: Decimal, err: Decimal) -> bool
+    ensures { result ≡ is_within g lo hi err }
+{
+    Range::new(lo, hi, err).contains(g)
+}
