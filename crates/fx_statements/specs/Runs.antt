@@ -5,7 +5,8 @@ use Rattle.fx_model.specs.Function.{Step, Run, run_of}
 use Rattle.fx_model.specs.Machine.{Program, words_of, machine_step, start_words}
 use Rattle.fx_statements.specs.Statements.{Routine}
 use Rattle.fx_statements.specs.RustText.{rust_text}
-use Rattle.fx_statements.specs.RustMeaning.{Keeping, unchanged, wrapping, routine_step}
+use Rattle.fx_statements.specs.Meaning.{unchanged}
+use Rattle.fx_statements.specs.RustMeaning.{Keeping, wrapping, routine_step}
 use Rattle.fx_statements.specs.OfProgram.{routine_of, input_words}
 use Rattle.fx_statements.specs.Writable.{IsWritable}
 use Rattle.fx_statements.specs.Widths.{FitWidths}
