@@ -1,9 +1,11 @@
 pub mod Causes
 pub mod Sink
 pub mod Shelf
+pub mod Requests
 pub mod Calls
 pub mod Kinds
 pub mod Moments
+pub mod Views
 pub mod Text
 pub mod Fetches
 pub mod LineSteps

@@ -7,9 +7,9 @@ pub record Moment : Type 0 where
   pub left : Option (List ℕ)
   pub taken : Option (List ℕ)
 
--- a source that was asked at this moment notes it behind those of before, or notes nothing
-abbrev pub Notes : Moment → List Moment → List Moment → Type 0
-Notes m old new = (new ≡ old) ⊎ (new ≡ old ++ m ∷ [])
+-- whoever is asked this notes it behind what it noted before, or notes nothing
+abbrev pub Notes : {X : Type 0} → X → List X → List X → Type 0
+Notes x old new = (new ≡ old) ⊎ (new ≡ old ++ x ∷ [])
 
 -- P holds of each moment that was noted since
 abbrev pub HoldsEachTime : (Moment → Type 0) → List Moment → List Moment → Type 0

@@ -40,17 +40,18 @@ pub(crate) fn fetch<S: Source<K>, K: Sink>(
     requires room { length held.old ≤ 131072 }
     requires limit { limit < 2 ^ 64 - 1 }
     requires within { taken.old ≤ limit }
-    ensures more { (more : List ℕ) × Consumes (S.left source.old) (S.left source.new) more
+    ensures more { (more : List ℕ) × Consumes (S.seen source.old).left (S.seen source.new).left more
         × (held.new ≡ held.old ++ more) × (taken.new ≡ min (taken.old + length more) (2 ^ 64 - 1)) }
-    ensures fetched { IfOk result (HasFetched held.new (S.left source.new)) }
+    ensures fetched { IfOk result (HasFetched held.new (S.seen source.new).left) }
     ensures within { OnOk result (taken.new ≤ limit) }
     ensures no_line { IsErrOf result LineFault.ReadFault → position (λ b. b == 10) held.new ≡ None }
-    ensures read_fault { IsErrOf result LineFault.ReadFault → Rose (S.faults source.old) (S.faults source.new) }
+    ensures read_fault { IsErrOf result LineFault.ReadFault →
+        Rose (S.seen source.old).faults (S.seen source.new).faults }
     ensures too_long { IsErrOf result LineFault.TooLong ↔ (limit < taken.new) }
     ensures lazy { ahead ≢ None → (source.new ≡ source.old) × (held.new ≡ held.old) × (taken.new ≡ taken.old) }
-    ensures sought { HoldsEachTime (IsSought held.old (S.left source.old) (K.taken shown.now)) (S.asked source.old)
-        (S.asked source.new) }
-    ensures later { S.faults source.old ≤ S.faults source.new }
+    ensures sought { HoldsEachTime (IsSought held.old (S.seen source.old).left (K.seen shown.now).taken)
+        (S.seen source.old).asked (S.seen source.new).asked }
+    ensures later { (S.seen source.old).faults ≤ (S.seen source.new).faults }
     ensures few { length held.new ≤ 131072 }
 {
     if let Some(end) = ahead {

@@ -68,14 +68,15 @@ impl Held {
         shown: &K,
     ) -> Result<usize, Failed>
         requires { length self.old + 2 ≤ 131072 }
-        ensures more { IfOk result (λ n. (more : List ℕ) × Consumes (S.left source.old) (S.left source.new) more
+        ensures more { IfOk result
+            (λ n. (more : List ℕ) × Consumes (S.seen source.old).left (S.seen source.new).left more
             × (self.new ≡ self.old ++ more) × (length more ≡ n)) }
         ensures few { length self.new ≤ 131072 }
-        ensures end { IfOk result (λ n. n ≡ 0 → IsAtEnd (S.left source.new)) }
-        ensures err { OnErr result (Keeps (S.left source.old) (S.left source.new) × (self.new ≡ self.old)) }
-        ensures moment { Notes (record { left = S.left source.old; taken = K.taken shown.now }) (S.asked source.old)
-            (S.asked source.new) }
-        ensures cause { HasCause (S.faults source.old) (S.faults source.new) result }
+        ensures end { IfOk result (λ n. n ≡ 0 → IsAtEnd (S.seen source.new).left) }
+        ensures err { OnErr result (Keeps (S.seen source.old).left (S.seen source.new).left × (self.new ≡ self.old)) }
+        ensures moment { Notes (record { left = (S.seen source.old).left; taken = (K.seen shown.now).taken })
+            (S.seen source.old).asked (S.seen source.new).asked }
+        ensures cause { HasCause (S.seen source.old).faults (S.seen source.new).faults result }
     {
         move_up(&mut self.block, self.start, self.end);
         self.end -= self.start;
@@ -104,16 +105,16 @@ fn read_behind<S: Source<K>, K: Sink>(
     shown: &K,
 ) -> Result<usize, Failed>
     requires { at < length block.old }
-    ensures more { IfOk result (λ n. (more : List ℕ) × Consumes (S.left source.old) (S.left source.new) more
+    ensures more { IfOk result (λ n. (more : List ℕ) × Consumes (S.seen source.old).left (S.seen source.new).left more
         × (take (at + n) block.new ≡ take at block.old ++ more) × (length more ≡ n)) }
     ensures front { take at block.new ≡ take at block.old }
     ensures room { IfOk result (λ n. at + n ≤ length block.old) }
     ensures length { length block.new ≡ length block.old }
-    ensures end { IfOk result (λ n. n ≡ 0 → IsAtEnd (S.left source.new)) }
-    ensures err { OnErr result (Keeps (S.left source.old) (S.left source.new)) }
-    ensures moment { Notes (record { left = S.left source.old; taken = K.taken shown.now }) (S.asked source.old)
-        (S.asked source.new) }
-    ensures cause { HasCause (S.faults source.old) (S.faults source.new) result }
+    ensures end { IfOk result (λ n. n ≡ 0 → IsAtEnd (S.seen source.new).left) }
+    ensures err { OnErr result (Keeps (S.seen source.old).left (S.seen source.new).left) }
+    ensures moment { Notes (record { left = (S.seen source.old).left; taken = (K.seen shown.now).taken })
+        (S.seen source.old).asked (S.seen source.new).asked }
+    ensures cause { HasCause (S.seen source.old).faults (S.seen source.new).faults result }
 {
     let count = source.read(&mut block[at..], shown)?;
     Ok(count)

@@ -133,7 +133,7 @@ impl Lines {
         shown: &K,
     ) -> Result<LineStep, LineFault>
         requires { IsTrue self.old.is_ready }
-        ensures taken { (more : List ℕ) × Consumes (S.left source.old) (S.left source.new) more
+        ensures taken { (more : List ℕ) × Consumes (S.seen source.old).left (S.seen source.new).left more
             × (self.new.taken ≡ min (self.old.taken + length more) (2 ^ 64 - 1))
             × (length self.old.held + length more ≤ 131072)
             × (result ≡ Ok LineStep.Line → TakesLine self.old self.new more)
@@ -141,11 +141,12 @@ impl Lines {
             × (OnErr result (self.new.held ≡ self.old.held ++ more)) }
         ensures counts { result ≡ Ok LineStep.Line → IsTrue self.new.is_ready →
             self.new.number + length self.new.held ≤ self.new.taken }
-        ensures end { IsTrue self.new.is_ended → IsTrue self.old.is_ended ⊎ IsAtEnd (S.left source.new) }
+        ensures end { IsTrue self.new.is_ended → IsTrue self.old.is_ended ⊎ IsAtEnd (S.seen source.new).left }
         ensures ended { result ≡ Ok LineStep.End → self.new.is_ended ≡ true }
         ensures stop { result ≢ Ok LineStep.Line → (self.new.line ≡ []) × (self.new.is_ready ≡ false) ×
             (self.new.number ≡ self.old.number) }
-        ensures read_fault { IsErrOf result LineFault.ReadFault → Rose (S.faults source.old) (S.faults source.new)
+        ensures read_fault { IsErrOf result LineFault.ReadFault → Rose (S.seen source.old).faults
+            (S.seen source.new).faults
             × (position (λ b. b == 10) self.new.held ≡ None) }
         ensures too_long { IsErrOf result LineFault.TooLong ↔ (self.old.limit < self.new.taken) }
         ensures within { OnOk result (self.new.taken ≤ self.old.limit) }
@@ -154,9 +155,9 @@ impl Lines {
             (source.new ≡ source.old) × (self.new.taken ≡ self.old.taken) × (result ≡ Ok LineStep.Line) }
         ensures after_end { IsTrue self.old.is_ended →
             (source.new ≡ source.old) × (self.new.taken ≡ self.old.taken) × (result ≡ Ok LineStep.End) }
-        ensures sought { HoldsEachTime (IsSought self.old.held (S.left source.old) (K.taken shown.now))
-            (S.asked source.old) (S.asked source.new) }
-        ensures later { S.faults source.old ≤ S.faults source.new }
+        ensures sought { HoldsEachTime (IsSought self.old.held (S.seen source.old).left (K.seen shown.now).taken)
+            (S.seen source.old).asked (S.seen source.new).asked }
+        ensures later { (S.seen source.old).faults ≤ (S.seen source.new).faults }
     {
         let is_first = self.number == 0;
         self.held.drop_front(self.next);

@@ -1,14 +1,18 @@
 //! What files are read from: the trait `Shelf`, the name of a file, and the kind in memory.
 //!
 //! A shelf is read at a place, so a file has no state and two readers can't disturb one another. It may tell its
-//! files (`papers`), which never change. `Papers` holds them in memory and fails at chosen calls.
+//! `files`, which never change, and note what it was `asked` for. `Papers` holds files in memory and fails at chosen
+//! calls.
 //! The trap: a name that isn't there is `Failed` as well, and leaves the count as it was where the shelf tells its
 //! files. So a fault of a read has two causes, and only one of them is the outside's.
-ghost use Rattle.std.specs.Prelude.{◌≡◌, ◌↔◌, ◌⊎◌, ◌-◌, ℕ, List, length, min, string_bytes, Contains, IsErr, IfOk, IfSome, OnErr, Some, None, Option};
+ghost use Rattle.std.specs.Prelude.{◌≡◌, ◌↔◌, ◌⊎◌, ◌-◌, [], length, min, string_bytes, Contains, IsErr, IfOk, IfSome, OnErr, Some, None};
 ghost use Rattle.std.specs.Option.{option_copied};
 ghost use Rattle.std.specs.Io.{ReadsAtMost};
 ghost use Rattle.fx_base.specs.Causes.{counted};
-ghost use Rattle.fx_base.specs.Shelf.{Files, entries, paper_of, ReadsPart, HasShelfCause};
+ghost use Rattle.fx_base.specs.Moments.{Notes};
+ghost use Rattle.fx_base.specs.Requests.{Request};
+ghost use Rattle.fx_base.specs.Shelf.{entries, paper_of, ReadsPart, HasShelfCause};
+ghost use Rattle.fx_base.specs.Views.{ShelfView};
 
 use crate::Failed;
 use crate::copies::copy_from;
@@ -16,19 +20,18 @@ use std::marker::Model;
 
 /// A shelf of files. Of what they hold it may tell nothing.
 pub trait Shelf {
-    // Each name with its bytes, where the shelf tells them.
-    ghost papers: { Self → Option Files };
-
-    // How often a read has failed. It never falls.
-    ghost faults: { Self → ℕ };
+    // What it tells of itself.
+    ghost seen: { Self → ShelfView };
 
     /// Puts bytes of a file, from the place `at` on, into the front of `buf` and gives their count. `Ok(0)` for a
     /// buffer with room is the file's end. A name that isn't there is `Failed`.
     fn read_at(&mut self, name: &str, at: u64, buf: &mut [u8]) -> Result<usize, Failed>
         ensures bound { ReadsAtMost result buf.new }
-        ensures part { ReadsPart (papers self.old) name.now at result buf.new }
-        ensures same { papers self.new ≡ papers self.old }
-        ensures cause { HasShelfCause (papers self.old) name.now (faults self.old) (faults self.new) result };
+        ensures part { ReadsPart (seen self.old).files name.now at result buf.new }
+        ensures same { (seen self.new).files ≡ (seen self.old).files }
+        ensures request { Notes (record { name = name.now; at = at }) (seen self.old).asked (seen self.new).asked }
+        ensures cause { HasShelfCause (seen self.old).files name.now (seen self.old).faults (seen self.new).faults
+            result };
 }
 
 /// The name of a file.
@@ -114,14 +117,13 @@ fn find<'a>(files: &'a [(FileName, Vec<u8>)], name: &str) -> Option<&'a [u8]>
 impl Shelf for Papers {
     ghost use Rattle.fx_base.specs.Kinds.{after_read_at};
 
-    ghost papers = { λ s. Some s.files };
-
-    ghost faults = { λ s. s.faults };
+    ghost seen = { λ s. record { files = Some s.files; asked = []; faults = s.faults } };
 
     fn read_at(&mut self, name: &str, at: u64, buf: &mut [u8]) -> Result<usize, Failed>
         ensures bound { ReadsAtMost result buf.new }
         ensures part { ReadsPart (Some self.old.files) name.now at result buf.new }
         ensures same { self.new.files ≡ self.old.files }
+        ensures request { Notes {X = Request} (record { name = name.now; at = at }) [] [] }
         ensures cause { HasShelfCause (Some self.old.files) name.now self.old.faults self.new.faults result }
 
         ensures fails { IsErr result ↔ (paper_of self.old.files name.now ≡ None) ⊎

@@ -4,30 +4,28 @@
 //! takes all and tells nothing, for notes that nobody reads.
 //! The trap: a sink that answers `Ok(0)` for a piece with bytes would keep its writer in a loop for ever. Clause `some`
 //! forbids it, so an adapter over a real stream turns a write of nothing into `Failed`.
-ghost use Rattle.std.specs.Prelude.{◌≡◌, ℕ, [], List, length, Contains, IsErr, IfOk, Ok, Some, None, Option};
+ghost use Rattle.std.specs.Prelude.{◌≡◌, [], length, Contains, IsErr, IfOk, Ok, Some, None};
 ghost use Rattle.std.specs.Io.{WritesAtMost};
 ghost use Rattle.std.specs.Io.KnownBytes.{WriteAppends};
 ghost use Rattle.fx_base.specs.Causes.{HasCause, counted};
 ghost use Rattle.fx_base.specs.Sink.{WritesSome};
+ghost use Rattle.fx_base.specs.Views.{SinkView};
 
 use crate::Failed;
 use std::marker::Model;
 
 /// A sink of bytes. Of the bytes that it has taken it may tell nothing.
 pub trait Sink {
-    // The bytes written so far, where the sink tells them.
-    ghost taken: { Self → Option (List ℕ) };
-
-    // How often a write has failed. It never falls.
-    ghost faults: { Self → ℕ };
+    // What it tells of itself.
+    ghost seen: { Self → SinkView };
 
     /// Appends the front of `piece` and gives its length, at least 1 for a piece that isn't empty. A write that fails
     /// appends nothing.
     fn write(&mut self, piece: &[u8]) -> Result<usize, Failed>
         ensures bound { WritesAtMost result piece.now }
         ensures some { WritesSome result piece.now }
-        ensures bytes { WriteAppends (taken self.old) (taken self.new) result piece.now }
-        ensures cause { HasCause (faults self.old) (faults self.new) result };
+        ensures bytes { WriteAppends (seen self.old).taken (seen self.new).taken result piece.now }
+        ensures cause { HasCause (seen self.old).faults (seen self.new).faults result };
 }
 
 /// A list in memory. The writes whose numbers, from 1, stand in a list fail, and so does one that finds no memory.
@@ -71,9 +69,7 @@ impl BytesOut {
 impl Sink for BytesOut {
     ghost use Rattle.fx_base.specs.Kinds.{after_write};
 
-    ghost taken = { λ s. Some s.taken };
-
-    ghost faults = { λ s. s.faults };
+    ghost seen = { λ s. record { taken = Some s.taken; faults = s.faults } };
 
     fn write(&mut self, piece: &[u8]) -> Result<usize, Failed>
         ensures bound { WritesAtMost result piece.now }
@@ -102,16 +98,14 @@ pub struct Silent;
 impl Silent {
     /// It never fails.
     pub fn new() -> Self
-        ensures { ⟦<Silent as Sink>⟧.faults result ≡ 0 }
+        ensures { (⟦<Silent as Sink>⟧.seen result).faults ≡ 0 }
     {
         Silent
     }
 }
 
 impl Sink for Silent {
-    ghost taken = { λ s. None };
-
-    ghost faults = { λ s. 0 };
+    ghost seen = { λ s. record { taken = None; faults = 0 } };
 
     fn write(&mut self, piece: &[u8]) -> Result<usize, Failed>
         ensures bound { WritesAtMost result piece.now }

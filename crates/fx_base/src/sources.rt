@@ -1,16 +1,19 @@
 //! What is read from in order: the trait `Source`, and its two kinds in memory.
 //!
-//! A source may tell the bytes still to come (`left`). Callers are generic, so what they prove of a source that tells
-//! holds of the bytes of a real stream, which tells nothing. Whoever feeds a source may look at a sink before more
-//! bytes come, so each read is shown that sink: what a caller owes by then can be said of the moments that a source
-//! notes (`asked`). `BytesIn` comes in pieces and fails at chosen calls, to show that a caller gives the same bytes
-//! whatever the pieces; `CleanIn` never fails. The trap: a method here that states clauses of its own has to repeat the
-//! trait's.
-ghost use Rattle.std.specs.Prelude.{◌≡◌, ℕ, ◌≤◌, ◌↔◌, List, [], length, drop, min, Contains, IsErr, IfOk, OnErr, IsOkAnd, Some, Option};
+//! A source tells what is `seen` of it, and may tell the bytes still to come (`left`). Callers are generic, so what
+//! they
+//! prove of a source that tells holds of the bytes of a real stream, which tells nothing. Whoever feeds a source may
+//! look
+//! at a sink before more bytes come, so each read is shown that sink: what a caller owes by then can be said of the
+//! moments that a source notes (`asked`). `BytesIn` comes in pieces and fails at chosen calls, to show that a caller
+//! gives the same bytes whatever the pieces; `CleanIn` never fails. The trap: a method here that states clauses of its
+//! own has to repeat the trait's.
+ghost use Rattle.std.specs.Prelude.{◌≡◌, ◌≤◌, ◌↔◌, [], length, drop, min, Contains, IsErr, IfOk, OnErr, IsOkAnd, Some};
 ghost use Rattle.std.specs.Io.{ReadsAtMost};
 ghost use Rattle.std.specs.Io.KnownBytes.{ReadConsumes};
 ghost use Rattle.fx_base.specs.Causes.{HasCause, counted};
 ghost use Rattle.fx_base.specs.Moments.{Moment, Notes};
+ghost use Rattle.fx_base.specs.Views.{SourceView};
 
 use crate::copies::copy_from;
 use crate::{Failed, Sink};
@@ -18,23 +21,17 @@ use std::marker::Model;
 
 /// A source of bytes, whose feeder sees what the sink `K` has taken. Of the bytes still to come it may tell nothing.
 pub trait Source<K: Sink> {
-    // The bytes still to come, where the source tells them.
-    ghost left: { Self → Option (List ℕ) };
-
-    // How often a read has failed. It never falls.
-    ghost faults: { Self → ℕ };
-
-    // Moments at which it was asked for bytes, those that it notes.
-    ghost asked: { Self → List Moment };
+    // What it tells of itself.
+    ghost seen: { Self → SourceView };
 
     /// Puts the next bytes into the front of `buf` and gives their count. `Ok(0)` for a buffer with room is the end of
     /// input. A read that fails takes nothing.
     fn read(&mut self, buf: &mut [u8], shown: &K) -> Result<usize, Failed>
         ensures bound { ReadsAtMost result buf.new }
-        ensures bytes { ReadConsumes (left self.old) (left self.new) result buf.new }
-        ensures moment { Notes (record { left = left self.old; taken = K.taken shown.now }) (asked self.old)
-            (asked self.new) }
-        ensures cause { HasCause (faults self.old) (faults self.new) result };
+        ensures bytes { ReadConsumes (seen self.old).left (seen self.new).left result buf.new }
+        ensures moment { Notes (record { left = (seen self.old).left; taken = (K.seen shown.now).taken })
+            (seen self.old).asked (seen self.new).asked }
+        ensures cause { HasCause (seen self.old).faults (seen self.new).faults result };
 }
 
 /// Bytes in memory that come in pieces. The reads whose numbers, from 1, stand in a list fail.
@@ -85,16 +82,13 @@ impl BytesIn {
 impl<K: Sink> Source<K> for BytesIn {
     ghost use Rattle.fx_base.specs.Kinds.{InputState, after_read};
 
-    ghost left = { λ s. Some s.left };
-
-    ghost faults = { λ s. s.faults };
-
-    ghost asked = { λ s. [] };
+    ghost seen = { λ s. record { left = Some s.left; asked = []; faults = s.faults } };
 
     fn read(&mut self, buf: &mut [u8], _shown: &K) -> Result<usize, Failed>
         ensures bound { ReadsAtMost result buf.new }
         ensures bytes { ReadConsumes (Some self.old.left) (Some self.new.left) result buf.new }
-        ensures moment { Notes (record { left = Some self.old.left; taken = K.taken _shown.now }) [] [] }
+        ensures moment { Notes {X = Moment} (record { left = Some self.old.left; taken = (K.seen _shown.now).taken }) []
+            [] }
         ensures cause { HasCause self.old.faults self.new.faults result }
 
         ensures fails { IsErr result ↔ Contains self.old.fails (counted self.old.calls) }
@@ -140,16 +134,12 @@ impl CleanIn {
 }
 
 impl<K: Sink> Source<K> for CleanIn {
-    ghost left = { λ s. Some s };
-
-    ghost faults = { λ s. 0 };
-
-    ghost asked = { λ s. [] };
+    ghost seen = { λ s. record { left = Some s; asked = []; faults = 0 } };
 
     fn read(&mut self, buf: &mut [u8], _shown: &K) -> Result<usize, Failed>
         ensures bound { ReadsAtMost result buf.new }
         ensures bytes { ReadConsumes (Some self.old) (Some self.new) result buf.new }
-        ensures moment { Notes (record { left = Some self.old; taken = K.taken _shown.now }) [] [] }
+        ensures moment { Notes {X = Moment} (record { left = Some self.old; taken = (K.seen _shown.now).taken }) [] [] }
         ensures cause { HasCause 0 0 result }
 
         ensures count { IsOkAnd result (λ n. n ≡ min (length buf.old) (length self.old)) }

@@ -8,6 +8,7 @@ ghost use Rattle.std.specs.Prelude.{◌≡◌, ◌<◌, ◌≤◌, ◌⊎◌, le
 ghost use Rattle.std.specs.Io.KnownBytes.{Consumes, Appends, IsAtEnd};
 ghost use Rattle.fx_base.specs.Causes.{Rose, HasCause};
 ghost use Rattle.fx_base.specs.Shelf.{IfPaper, IsMissing};
+ghost use Rattle.fx_base.specs.Requests.{AsksInOrder};
 ghost use Rattle.fx_base.specs.Calls.{TakesUpTo, AppendsFront};
 
 use crate::{Failed, InFault, Shelf, Silent, Sink, Source};
@@ -23,12 +24,12 @@ pub fn read_all<S: Source<Silent>>(
     source: &mut S,
     limit: u64,
 ) -> Result<Vec<u8>, InFault>
-    ensures all { IfOk result (λ bytes. Consumes (S.left source.old) (S.left source.new) bytes.items) }
-    ensures end { OnOk result (IsAtEnd (S.left source.new)) }
+    ensures all { IfOk result (λ bytes. Consumes (S.seen source.old).left (S.seen source.new).left bytes.items) }
+    ensures end { OnOk result (IsAtEnd (S.seen source.new).left) }
     ensures within { IfOk result (λ bytes. vec_len bytes ≤ limit) }
-    ensures taken { IfErr result (TakesUpTo (S.left source.old) (S.left source.new) limit) }
-    ensures later { S.faults source.old ≤ S.faults source.new }
-    ensures read_fault { IsErrOf result InFault.ReadFault → Rose (S.faults source.old) (S.faults source.new) }
+    ensures taken { IfErr result (TakesUpTo (S.seen source.old).left (S.seen source.new).left limit) }
+    ensures later { (S.seen source.old).faults ≤ (S.seen source.new).faults }
+    ensures read_fault { IsErrOf result InFault.ReadFault → Rose (S.seen source.old).faults (S.seen source.new).faults }
 {
     let mut bytes = Vec::new(alloc);
     let mut block = [0; BLOCK];
@@ -52,15 +53,17 @@ pub fn read_file<H: Shelf>(
     name: &str,
     limit: u64,
 ) -> Result<Vec<u8>, InFault>
-    ensures all { IfOk result (λ bytes. IfPaper (H.papers shelf.old) name.now (λ paper. paper ≡ Some bytes.items)) }
+    ensures all { IfOk result (λ bytes. IfPaper (H.seen shelf.old).files name.now (λ paper. paper ≡ Some bytes.items)) }
     ensures within { IfOk result (λ bytes. vec_len bytes ≤ limit) }
     ensures too_long { IsErrOf result InFault.TooLong
-        → IfPaper (H.papers shelf.old) name.now (λ paper. IsSomeAnd paper (λ file. limit < length file)) }
+        → IfPaper (H.seen shelf.old).files name.now (λ paper. IsSomeAnd paper (λ file. limit < length file)) }
     ensures read_fault { IsErrOf result InFault.ReadFault
-        → IsMissing (H.papers shelf.old) name.now ⊎ Rose (H.faults shelf.old) (H.faults shelf.new) }
-    ensures same { H.papers shelf.new ≡ H.papers shelf.old }
-    ensures later { H.faults shelf.old ≤ H.faults shelf.new }
-    ensures missing { IsMissing (H.papers shelf.old) name.now → H.faults shelf.new ≡ H.faults shelf.old }
+        → IsMissing (H.seen shelf.old).files name.now ⊎ Rose (H.seen shelf.old).faults (H.seen shelf.new).faults }
+    ensures same { (H.seen shelf.new).files ≡ (H.seen shelf.old).files }
+    ensures asked { AsksInOrder name.now (H.seen shelf.old).asked (H.seen shelf.new).asked }
+    ensures later { (H.seen shelf.old).faults ≤ (H.seen shelf.new).faults }
+    ensures missing { IsMissing (H.seen shelf.old).files name.now → (H.seen shelf.new).faults ≡
+        (H.seen shelf.old).faults }
 {
     let mut bytes = Vec::new(alloc);
     let mut block = [0; BLOCK];
@@ -78,9 +81,9 @@ pub fn read_file<H: Shelf>(
 
 /// Appends all of `bytes`. Where a write fails, a front of them was appended.
 pub fn put_all<K: Sink>(sink: &mut K, bytes: &[u8]) -> Result<(), Failed>
-    ensures all { OnOk result (Appends (K.taken sink.old) (K.taken sink.new) bytes.now) }
-    ensures front { OnErr result (AppendsFront (K.taken sink.old) (K.taken sink.new) bytes.now) }
-    ensures cause { HasCause (K.faults sink.old) (K.faults sink.new) result }
+    ensures all { OnOk result (Appends (K.seen sink.old).taken (K.seen sink.new).taken bytes.now) }
+    ensures front { OnErr result (AppendsFront (K.seen sink.old).taken (K.seen sink.new).taken bytes.now) }
+    ensures cause { HasCause (K.seen sink.old).faults (K.seen sink.new).faults result }
 {
     let mut at = 0;
     while at < bytes.len() {

@@ -3,6 +3,7 @@ use Rattle.std.proofs.Common.{◌≡◌, ◌≢◌, ◌⊎◌, ◌<◌, ◌≤�
 use Rattle.std.specs.Prelude.{IsSomeAnd, IfOk, IfErr}
 use Rattle.fx_base.specs.Causes.{Rose}
 use Rattle.fx_base.specs.Shelf.{Files, IfPaper, IsMissing}
+use Rattle.fx_base.specs.Views.{ShelfView}
 use Rattle.fx_base.specs.declared.answers.InFault.{InFault}
 use Rattle.fx_base.specs.declared.answers.InFault.TheVariants as reads
 use Rattle.fx_model.specs.Limits.{bundle_limit}
@@ -86,32 +87,32 @@ is_opened papers name bytes slice source a is short same read =
     }
 
 -- what was read is none
-ending : (papers : Option Files) (before after : ℕ) (name bytes : List ℕ) (end : End) →
-    IfPaper papers name (λ paper. paper ≡ Some bytes) → length bytes ≤ bundle_limit → ReadingEnds bytes end →
-    OpeningEnds papers before after name end
-ending papers before after name bytes end is short (no_bundle fault read) =
-    opens.no_bundle fault (if_file papers name bytes _ is (short, read))
-ending papers before after name bytes end is short (misread b fault spelled meant) =
-    opens.misread b fault (if_file papers name bytes _ is (short, spelled)) meant
-ending papers before after name bytes end is short (rejected b fn fault spelled meant first) =
-    opens.rejected b fn fault (if_file papers name bytes _ is (short, spelled)) meant first
-ending papers before after name bytes end is short opening.no_memory = opens.no_memory
+ending : (old new : ShelfView) (name bytes : List ℕ) (end : End) →
+    IfPaper old.files name (λ paper. paper ≡ Some bytes) → length bytes ≤ bundle_limit → ReadingEnds bytes end →
+    OpeningEnds old new name end
+ending old new name bytes end is short (no_bundle fault read) =
+    opens.no_bundle fault (if_file old.files name bytes _ is (short, read))
+ending old new name bytes end is short (misread b fault spelled meant) =
+    opens.misread b fault (if_file old.files name bytes _ is (short, spelled)) meant
+ending old new name bytes end is short (rejected b fn fault spelled meant first) =
+    opens.rejected b fn fault (if_file old.files name bytes _ is (short, spelled)) meant first
+ending old new name bytes end is short opening.no_memory = opens.no_memory
 
-pub opening_ends : (papers : Option Files) (before after : ℕ) (name bytes slice : List ℕ) (end : End) →
-    IfPaper papers name (λ paper. paper ≡ Some bytes) → length bytes ≤ bundle_limit → slice ≡ bytes →
+pub opening_ends : (old new : ShelfView) (name bytes slice : List ℕ) (end : End) →
+    IfPaper old.files name (λ paper. paper ≡ Some bytes) → length bytes ≤ bundle_limit → slice ≡ bytes →
     ReadingEnds slice end →
-    OpeningEnds papers before after name end
-opening_ends papers before after name bytes slice end is short same read =
-    ending papers before after name bytes end is short (subst (λ (t : List ℕ). ReadingEnds t end) same read)
+    OpeningEnds old new name end
+opening_ends old new name bytes slice end is short same read =
+    ending old new name bytes end is short (subst (λ (t : List ℕ). ReadingEnds t end) same read)
 
 -- it wasn't read
-pub read_ends : (papers : Option Files) (before after : ℕ) (name : List ℕ) (fault : InFault) →
-    (fault ≡ reads.TooLong → IfFile papers name (λ file. bundle_limit < length file)) →
-    (fault ≡ reads.ReadFault → IsMissing papers name ⊎ Rose before after) →
-    OpeningEnds papers before after name (read_end fault)
-read_ends papers before after name reads.ReadFault long failed = opens.unread (failed refl)
-read_ends papers before after name reads.TooLong long failed = opens.long (long refl)
-read_ends papers before after name reads.Memory long failed = opens.no_memory
+pub read_ends : (old new : ShelfView) (name : List ℕ) (fault : InFault) →
+    (fault ≡ reads.TooLong → IfFile old.files name (λ file. bundle_limit < length file)) →
+    (fault ≡ reads.ReadFault → IsMissing old.files name ⊎ Rose old.faults new.faults) →
+    OpeningEnds old new name (read_end fault)
+read_ends old new name reads.ReadFault long failed = opens.unread (failed refl)
+read_ends old new name reads.TooLong long failed = opens.long (long refl)
+read_ends old new name reads.Memory long failed = opens.no_memory
 
 -- ---- what is said of an answer, in other words
 pub if_ok : {T E : Type 0} {P Q : T → Type 0} (r : Result T E) → ((x : T) → P x → Q x) → IfOk r P → IfOk r Q

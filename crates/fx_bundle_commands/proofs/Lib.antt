@@ -3,3 +3,4 @@ mod Shown
 mod Consumed
 mod Migrated
 pub mod RowsEnds
+pub mod FileEnds

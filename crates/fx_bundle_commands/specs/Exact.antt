@@ -11,9 +11,9 @@ use Rattle.fx_bundle_commands.specs.Opening.{IsBundle, IsAcceptedAs}
 -- the shelf tells its files, these are the bytes of FILE, and no read of it failed
 pub record IsFound (old new : Outside) (name file : List ℕ) : Type 0 where
   pub files : Files
-  pub told : old.files ≡ Some files
+  pub told : old.shelf.files ≡ Some files
   pub found : paper_of files name ≡ Some file
-  pub unfailing : ¬ Rose old.shelf_faults new.shelf_faults
+  pub unfailing : ¬ Rose old.shelf.faults new.shelf.faults
 
 -- this end, or want of memory
 abbrev pub OrNoMemory : (End → Type 0) → End → Type 0
@@ -28,5 +28,5 @@ EndsExactly old new name IsCause IsEnd =
 pub record IsReady (old new : Outside) (name : List ℕ) (b : Parts) (fn : Function) : Type 0 where
   pub file : List ℕ
   pub found : IsFound old new name file
-  pub is_bundle : IsBundle old.files name b
+  pub is_bundle : IsBundle old.shelf.files name b
   pub accepted : IsAcceptedAs b fn

@@ -4,3 +4,4 @@ pub mod OpeningView
 pub mod Exact
 pub mod commands
 pub mod Tasks
+pub mod RowsView

@@ -2,6 +2,7 @@
 use Rattle.std.specs.Prelude.{◌≡◌, ◌⊎◌, ◌<◌, ◌≤◌, ℕ, List, length, Option, Some, Result, Ok, Err}
 use Rattle.fx_base.specs.Causes.{Rose}
 use Rattle.fx_base.specs.Shelf.{Files, IsMissing}
+use Rattle.fx_base.specs.Views.{ShelfView}
 use Rattle.fx_model.specs.Function.{Function}
 use Rattle.fx_model.specs.Limits.{bundle_limit}
 use Rattle.fx_inequalities.specs.Accepted.{first_fault, IsAccepted}
@@ -37,23 +38,23 @@ IsBundle papers name b = IfFile papers name (λ file. (length file ≤ bundle_li
 abbrev pub IsOpen : Option Files → List ℕ → Type 0
 IsOpen papers name = (b : Parts) × (fn : Function) × IsBundle papers name b × IsAcceptedAs b fn
 
--- why FILE gives no accepted bundle: the first cause in this order; the shelf's faults are counted before and after
-pub data OpeningEnds (papers : Option Files) (before after : ℕ) (name : List ℕ) : End → Type 0 where
-  unread : IsMissing papers name ⊎ Rose before after → OpeningEnds papers before after name ReadFault
-  long : IfFile papers name (λ file. bundle_limit < length file) → OpeningEnds papers before after name OverLimit
+-- why FILE gives no accepted bundle: the first cause in this order
+pub data OpeningEnds (old new : ShelfView) (name : List ℕ) : End → Type 0 where
+  unread : IsMissing old.files name ⊎ Rose old.faults new.faults → OpeningEnds old new name ReadFault
+  long : IfFile old.files name (λ file. bundle_limit < length file) → OpeningEnds old new name OverLimit
   no_bundle : (fault : TextFault) →
-      IfFile papers name (λ file. (length file ≤ bundle_limit) × (bundle_in file ≡ Err fault)) →
-      OpeningEnds papers before after name (BadBundle fault)
-  misread : (b : Parts) (fault : SourceFault) → IsBundle papers name b → meaning_of b ≡ Err fault →
-      OpeningEnds papers before after name (Misread fault)
-  rejected : (b : Parts) (fn : Function) (fault : Fault) → IsBundle papers name b → meaning_of b ≡ Ok fn →
+      IfFile old.files name (λ file. (length file ≤ bundle_limit) × (bundle_in file ≡ Err fault)) →
+      OpeningEnds old new name (BadBundle fault)
+  misread : (b : Parts) (fault : SourceFault) → IsBundle old.files name b → meaning_of b ≡ Err fault →
+      OpeningEnds old new name (Misread fault)
+  rejected : (b : Parts) (fn : Function) (fault : Fault) → IsBundle old.files name b → meaning_of b ≡ Ok fn →
       first_fault rewrite fn b.program b.certificate ≡ Some fault →
-      OpeningEnds papers before after name (Rejected fault)
-  no_memory : OpeningEnds papers before after name NoMemory
+      OpeningEnds old new name (Rejected fault)
+  no_memory : OpeningEnds old new name NoMemory
 
 -- a command that opens FILE: there is no accepted bundle, and nothing else is touched; or it does what P says with it
 pub data OpensThen (old new : Outside) (name : List ℕ) (P : Parts → Function → End → Type 0) : End → Type 0 where
-  unopened : (end : End) → OpeningEnds old.files old.shelf_faults new.shelf_faults name end →
+  unopened : (end : End) → OpeningEnds old.shelf new.shelf name end →
       AreUntouched old.streams new.streams → OpensThen old new name P end
-  opened : (end : End) (b : Parts) (fn : Function) → IsBundle old.files name b → IsAcceptedAs b fn → P b fn end →
+  opened : (end : End) (b : Parts) (fn : Function) → IsBundle old.shelf.files name b → IsAcceptedAs b fn → P b fn end →
       OpensThen old new name P end

@@ -3,6 +3,7 @@
 mod check;
 mod migrate;
 mod node;
+mod page;
 mod run;
 mod rust;
 mod show;
@@ -10,8 +11,7 @@ mod widths;
 
 pub use check::check_file;
 pub use migrate::migrate_file;
-pub use node::node_file;
-pub use run::{Storage, run_file};
+pub use run::{Rows, run_file};
 pub use rust::rust_file;
 pub use show::show_file;
 pub use widths::widths_file;

@@ -13,8 +13,6 @@ mod report;
 mod table;
 mod widths;
 
-pub use commands::{
-    Storage, check_file, migrate_file, node_file, run_file, rust_file, show_file, widths_file,
-};
+pub use commands::{Rows, check_file, migrate_file, run_file, rust_file, show_file, widths_file};
 pub use open::{end_of_read, end_of_source};
 pub use table::put_value;

@@ -4,6 +4,7 @@
 //! looked at; the first cause ends it. The trap: want of memory may come at any stage, and is no fault of the bundle.
 ghost use Rattle.std.specs.Prelude.{◌≡◌, ◌≢◌, ◌⊎◌, ◌≤◌, length, IfOk, IfErr};
 ghost use Rattle.fx_base.specs.Shelf.{IfPaper};
+ghost use Rattle.fx_base.specs.Requests.{AsksInOrder};
 ghost use Rattle.fx_model.specs.Limits.{bundle_limit};
 ghost use Rattle.fx_text.specs.declared.fault.TextKind.TheVariants as texts;
 ghost use Rattle.fx_lexer.specs.declared.fault.SourceKind.TheVariants as sources;
@@ -102,9 +103,10 @@ fn accept(alloc: Global, bytes: &[u8]) -> Result<Opened, End<'static>>
 
 /// The accepted bundle in the file of this name.
 pub fn open<H: Shelf>(alloc: Global, shelf: &mut H, name: &str) -> Result<Opened, End<'static>>
-    ensures opened { IfOk result (λ o. IsOpened (H.papers shelf.old) name.now o.source o.certified) }
+    ensures opened { IfOk result (λ o. IsOpened (H.seen shelf.old).files name.now o.source o.certified) }
     ensures failed { IfErr result
-        (λ end. OpeningEnds (H.papers shelf.old) (H.faults shelf.old) (H.faults shelf.new) name.now (end_of end)) }
+        (λ end. OpeningEnds (H.seen shelf.old) (H.seen shelf.new) name.now (end_of end)) }
+    ensures asked { AsksInOrder name.now (H.seen shelf.old).asked (H.seen shelf.new).asked }
 {
     let bytes = match read_file(alloc, shelf, name, BUNDLE_LIMIT) {
         Ok(bytes) => bytes,

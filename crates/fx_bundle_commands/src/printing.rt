@@ -3,8 +3,6 @@ ghost use Rattle.std.specs.Prelude.{◌≡◌, ℕ, List, IfOk};
 ghost use Rattle.fx_stream.specs.Promise.{Grows};
 ghost use Rattle.fx_ends.specs.EndView.{end_of};
 ghost use Rattle.fx_bundle_commands.specs.OpeningView.{IsSilent};
-ghost use Rattle.fx_stream.specs.Ending.{Streams};
-ghost use Rattle.fx_bundle_commands.specs.Outside.{beside};
 ghost use Rattle.fx_bundle_commands.specs.commands.Texts.{TextEnds};
 
 use fx_base::{Sink, put_all};
@@ -13,9 +11,9 @@ use fx_num::Memory;
 
 /// Writes a text. Where memory lacked for it, nothing is written.
 pub(crate) fn print_text<K: Sink>(made: Result<Vec<u8>, Memory>, output: &mut K) -> End<'static>
-    ensures ended { (text : List ℕ) (rest : Streams) → let at = beside rest K.taken K.faults in
-        IfOk made (λ t. t.items ≡ text) → TextEnds text (at output.old) (at output.new) (end_of result) }
-    ensures appended { Grows (K.taken output.old) (K.taken output.new) }
+    ensures ended { (text : List ℕ) → IfOk made (λ t. t.items ≡ text) →
+        TextEnds text (K.seen output.old) (K.seen output.new) (end_of result) }
+    ensures appended { Grows (K.seen output.old).taken (K.seen output.new).taken }
     ensures quiet { IsSilent (end_of result) → output.new ≡ output.old }
 {
     let Ok(text) = made else {

@@ -17,9 +17,10 @@ use itoa::Buffer;
 // The line of an output, counted from 0.
 fn put_bound<K: Sink>(output: u32, bound: Dyadic, sink: &mut K) -> Result<(), Failed>
     requires few { output < 64 }
-    ensures all { OnOk result (Appends (K.taken sink.old) (K.taken sink.new) (bound_line output bound)) }
-    ensures front { OnErr result (AppendsFront (K.taken sink.old) (K.taken sink.new) (bound_line output bound)) }
-    ensures cause { HasCause (K.faults sink.old) (K.faults sink.new) result }
+    ensures all { OnOk result (Appends (K.seen sink.old).taken (K.seen sink.new).taken (bound_line output bound)) }
+    ensures front { OnErr result
+        (AppendsFront (K.seen sink.old).taken (K.seen sink.new).taken (bound_line output bound)) }
+    ensures cause { HasCause (K.seen sink.old).faults (K.seen sink.new).faults result }
 {
     let mut number = Buffer::new();
     let mut mantissa = Buffer::new();
@@ -56,12 +57,12 @@ fn outputs_of(certified: &Certified) -> u32
 fn put_output<K: Sink>(certified: &Certified, output: u32, sink: &mut K) -> Result<(), Failed>
     requires { output < certified.now.program.outputs }
     ensures all { OnOk result
-        (Appends (K.taken sink.old) (K.taken sink.new)
+        (Appends (K.seen sink.old).taken (K.seen sink.new).taken
         (bound_line output (bound_dyadic certified.now.program certified.now.certificate output))) }
     ensures front { OnErr result
-        (AppendsFront (K.taken sink.old) (K.taken sink.new)
+        (AppendsFront (K.seen sink.old).taken (K.seen sink.new).taken
         (bound_line output (bound_dyadic certified.now.program certified.now.certificate output))) }
-    ensures cause { HasCause (K.faults sink.old) (K.faults sink.new) result }
+    ensures cause { HasCause (K.seen sink.old).faults (K.seen sink.new).faults result }
 {
     certified.certified();
     put_bound(output, certified.bound(output), sink)
@@ -70,12 +71,12 @@ fn put_output<K: Sink>(certified: &Certified, output: u32, sink: &mut K) -> Resu
 /// Writes the lines of all outputs.
 pub fn put_bounds<K: Sink>(certified: &Certified, sink: &mut K) -> Result<(), Failed>
     ensures all { OnOk result
-        (Appends (K.taken sink.old) (K.taken sink.new)
+        (Appends (K.seen sink.old).taken (K.seen sink.new).taken
         (bound_lines certified.now.program certified.now.certificate 0 certified.now.program.outputs)) }
     ensures front { OnErr result
-        (AppendsFront (K.taken sink.old) (K.taken sink.new)
+        (AppendsFront (K.seen sink.old).taken (K.seen sink.new).taken
         (bound_lines certified.now.program certified.now.certificate 0 certified.now.program.outputs)) }
-    ensures cause { HasCause (K.faults sink.old) (K.faults sink.new) result }
+    ensures cause { HasCause (K.seen sink.old).faults (K.seen sink.new).faults result }
 {
     let outputs = outputs_of(certified);
     for j in 0..outputs {
@@ -87,10 +88,12 @@ pub fn put_bounds<K: Sink>(certified: &Certified, sink: &mut K) -> Result<(), Fa
 /// Writes that the bundle is accepted, and the bound of each output.
 pub fn put_report<K: Sink>(certified: &Certified, sink: &mut K) -> Result<(), Failed>
     ensures all { OnOk result
-        (Appends (K.taken sink.old) (K.taken sink.new) (report certified.now.program certified.now.certificate)) }
+        (Appends (K.seen sink.old).taken (K.seen sink.new).taken
+        (report certified.now.program certified.now.certificate)) }
     ensures front { OnErr result
-        (AppendsFront (K.taken sink.old) (K.taken sink.new) (report certified.now.program certified.now.certificate)) }
-    ensures cause { HasCause (K.faults sink.old) (K.faults sink.new) result }
+        (AppendsFront (K.seen sink.old).taken (K.seen sink.new).taken
+        (report certified.now.program certified.now.certificate)) }
+    ensures cause { HasCause (K.seen sink.old).faults (K.seen sink.new).faults result }
 {
     put_pieces(&["accepted\n"], sink)?;
     put_bounds(certified, sink)

@@ -71,9 +71,7 @@ struct ShortShelf<'a> {
 }
 
 impl<'a> Shelf for ShortShelf<'a> {
-    ghost papers = { λ _. None };
-
-    ghost faults = { λ s. s.faults };
+    ghost seen = { λ s. record { files = None; asked = []; faults = s.faults } };
 
     fn read_at(&mut self, _name: &str, at: u64, buf: &mut [u8]) -> Result<usize, Failed> {
         if self.calls.next_fails() {
@@ -95,11 +93,7 @@ struct ShortInput<'a> {
 }
 
 impl<'a, K: Sink> Source<K> for ShortInput<'a> {
-    ghost left = { λ _. None };
-
-    ghost faults = { λ s. s.faults };
-
-    ghost asked = { λ _. [] };
+    ghost seen = { λ s. record { left = None; asked = []; faults = s.faults } };
 
     fn read(&mut self, buf: &mut [u8], _shown: &K) -> Result<usize, Failed> {
         if self.calls.next_fails() {
@@ -131,9 +125,7 @@ impl ShortSink {
 }
 
 impl Sink for ShortSink {
-    ghost taken = { λ _. None };
-
-    ghost faults = { λ s. s.faults };
+    ghost seen = { λ s. record { taken = None; faults = s.faults } };
 
     fn write(&mut self, piece: &[u8]) -> Result<usize, Failed> {
         let count = piece.len().min(PIECE);

@@ -48,11 +48,11 @@ fn give(left: &[u8], buf: &mut [u8]) -> usize
 }
 
 impl<'a> Source<BytesOut> for Watched<'a> {
-    ghost left = { λ s. Some s.left.now };
-
-    ghost faults = { λ _. 0 };
-
-    ghost asked = { λ s. map (λ l. record { left = Some l.left.now; taken = Some l.printed.items }) s.looks.items };
+    ghost seen = { λ s. record {
+      left = Some s.left.now;
+      asked = map (λ l. record { left = Some l.left.now; taken = Some l.printed.items }) s.looks.items;
+      faults = 0;
+    } };
 
     fn read(&mut self, buf: &mut [u8], shown: &BytesOut) -> Result<usize, Failed> {
         note(self.alloc, &mut self.looks, self.left, shown);

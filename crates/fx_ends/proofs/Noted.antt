@@ -7,6 +7,7 @@ use Rattle.std.specs.List.{concat}
 use Rattle.std.proofs.lemmas.List.{take-append-le, length-append}
 use Rattle.fx_base.specs.Causes.{HasCause}
 use Rattle.fx_base.specs.Calls.{AppendsFront}
+use Rattle.fx_base.specs.Views.{SinkView}
 use Rattle.fx_ends.specs.Notes.{IsNoted}
 
 -- a front of the first piece is one of the whole
@@ -29,12 +30,12 @@ front_behind old mid new text more put front = (
 )
 
 -- a line that a call wrote
-pub noted : {T E : Type 0} {old new : Option (List ℕ)} {before after : ℕ} (line : List ℕ) (r : Result T E) →
-    OnOk r (Appends old new line) → OnErr r (AppendsFront old new line) → HasCause before after r →
-    IsNoted old new before after line
+pub noted : {T E : Type 0} {old new : SinkView} (line : List ℕ) (r : Result T E) →
+    OnOk r (Appends old.taken new.taken line) → OnErr r (AppendsFront old.taken new.taken line) →
+    HasCause old.faults new.faults r → IsNoted old new line
 noted {old = old} {new = new} line (Ok x) all front cause =
     record {
-      front = (length line, omega arith, subst (Appends old new) (sym (take-length line)) all);
+      front = (length line, omega arith, subst (Appends old.taken new.taken) (sym (take-length line)) all);
       whole = λ _. all;
     }
 noted line (Err e) all front cause = record { front = front; whole = λ none. absurd (none cause.failed) }

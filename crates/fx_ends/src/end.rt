@@ -73,7 +73,7 @@ fn name_of(inputs: &[Input], input: u32) -> &str
 }
 
 fn note_rejected<N: Sink>(fault: ConditionFault, notes: &mut N)
-    ensures { AreNotes (N.taken notes.old) (N.taken notes.new) (N.faults notes.old) (N.faults notes.new)
+    ensures { AreNotes (N.seen notes.old) (N.seen notes.new)
         (end_line (ends.Rejected (conditions.condition_fault_of fault))) }
 {
     let mut digits = Buffer::new();
@@ -93,8 +93,7 @@ fn note_rejected<N: Sink>(fault: ConditionFault, notes: &mut N)
 }
 
 fn note_misread<N: Sink>(fault: SourceFault, notes: &mut N)
-    ensures { AreNotes (N.taken notes.old) (N.taken notes.new) (N.faults notes.old) (N.faults notes.new)
-        (end_line (ends.Misread fault)) }
+    ensures { AreNotes (N.seen notes.old) (N.seen notes.new) (end_line (ends.Misread fault)) }
 {
     let mut digits = Buffer::new();
     note_line(
@@ -111,8 +110,7 @@ fn note_misread<N: Sink>(fault: SourceFault, notes: &mut N)
 }
 
 fn note_bundle<N: Sink>(fault: TextFault, notes: &mut N)
-    ensures { AreNotes (N.taken notes.old) (N.taken notes.new) (N.faults notes.old) (N.faults notes.new)
-        (end_line (ends.BadBundle fault)) }
+    ensures { AreNotes (N.seen notes.old) (N.seen notes.new) (end_line (ends.BadBundle fault)) }
 {
     let mut digits = Buffer::new();
     note_line(
@@ -130,7 +128,7 @@ fn note_bundle<N: Sink>(fault: TextFault, notes: &mut N)
 
 // Of a fault of a line as a whole, or of its unit.
 fn note_whole_line<N: Sink>(kind: &str, line: u64, notes: &mut N)
-    ensures { AreNotes (N.taken notes.old) (N.taken notes.new) (N.faults notes.old) (N.faults notes.new)
+    ensures { AreNotes (N.seen notes.old) (N.seen notes.new)
         (Some (ends.note_text (ends.row_reason kind.now line []))) }
 {
     let mut digits = Buffer::new();
@@ -149,7 +147,7 @@ fn note_whole_line<N: Sink>(kind: &str, line: u64, notes: &mut N)
 
 // Of a fault at the column of this name.
 fn note_column<N: Sink>(kind: &str, line: u64, name: &str, notes: &mut N)
-    ensures { AreNotes (N.taken notes.old) (N.taken notes.new) (N.faults notes.old) (N.faults notes.new)
+    ensures { AreNotes (N.seen notes.old) (N.seen notes.new)
         (Some (ends.note_text (ends.row_reason kind.now line (codes " column " ∷ name.now ∷ [])))) }
 {
     let mut digits = Buffer::new();
@@ -169,7 +167,7 @@ fn note_column<N: Sink>(kind: &str, line: u64, name: &str, notes: &mut N)
 }
 
 fn note_place<N: Sink>(part: &str, place: u32, notes: &mut N)
-    ensures { AreNotes (N.taken notes.old) (N.taken notes.new) (N.faults notes.old) (N.faults notes.new)
+    ensures { AreNotes (N.seen notes.old) (N.seen notes.new)
         (Some (ends.note_text (codes "not found: " ∷ part.now ∷ decimal place ∷ []))) }
 {
     let mut digits = Buffer::new();
@@ -180,8 +178,7 @@ fn note_place<N: Sink>(part: &str, place: u32, notes: &mut N)
 }
 
 fn note_outside<N: Sink>(outside: Outside, notes: &mut N)
-    ensures { AreNotes (N.taken notes.old) (N.taken notes.new) (N.faults notes.old) (N.faults notes.new)
-        (end_line (ends.NotFound (outside_view outside))) }
+    ensures { AreNotes (N.seen notes.old) (N.seen notes.new) (end_line (ends.NotFound (outside_view outside))) }
 {
     match outside {
         Outside::Node { node } => note_place("node ", node, notes),
@@ -190,7 +187,7 @@ fn note_outside<N: Sink>(outside: Outside, notes: &mut N)
 }
 
 fn note_row<N: Sink>(inputs: &[Input], line: u64, fault: RowFault, notes: &mut N)
-    ensures { AreNotes (N.taken notes.old) (N.taken notes.new) (N.faults notes.old) (N.faults notes.new)
+    ensures { AreNotes (N.seen notes.old) (N.seen notes.new)
         (end_line (ends.BadRow (map input_of inputs.now) line (rows.row_fault_of fault))) }
 {
     let kind = row_text(fault.kind);
@@ -202,8 +199,7 @@ fn note_row<N: Sink>(inputs: &[Input], line: u64, fault: RowFault, notes: &mut N
 }
 
 fn note_reason<N: Sink>(reason: &str, notes: &mut N)
-    ensures { AreNotes (N.taken notes.old) (N.taken notes.new) (N.faults notes.old) (N.faults notes.new)
-        (Some (ends.note_text (reason.now ∷ []))) }
+    ensures { AreNotes (N.seen notes.old) (N.seen notes.new) (Some (ends.note_text (reason.now ∷ []))) }
 {
     note_line(&["fixd: ", reason, "\n"], notes);
 }
@@ -231,8 +227,7 @@ impl<'a> End<'a> {
 
     /// Writes its line on the notes, or a front of it where they fail.
     pub fn note<N: Sink>(&self, notes: &mut N)
-        ensures { AreNotes (N.taken notes.old) (N.taken notes.new) (N.faults notes.old) (N.faults notes.new)
-            (end_line (end_of self.now)) }
+        ensures { AreNotes (N.seen notes.old) (N.seen notes.new) (end_line (end_of self.now)) }
     {
         match self {
             End::Done => {}
@@ -257,8 +252,7 @@ impl<'a> End<'a> {
     /// Its status, with its line on the notes.
     pub fn finish<N: Sink>(self, notes: &mut N) -> Status
         ensures status { result ≡ status_of (end_of self.entry) }
-        ensures line { AreNotes (N.taken notes.old) (N.taken notes.new) (N.faults notes.old) (N.faults notes.new)
-            (end_line (end_of self.entry)) }
+        ensures line { AreNotes (N.seen notes.old) (N.seen notes.new) (end_line (end_of self.entry)) }
     {
         self.note(notes);
         self.status()

@@ -13,10 +13,11 @@ use fx_base::{Failed, Sink, put_all};
 
 /// Writes these pieces one behind the other.
 pub fn put_pieces<N: Sink>(pieces: &[&str], notes: &mut N) -> Result<(), Failed>
-    ensures all { OnOk result (Appends (N.taken notes.old) (N.taken notes.new) (concat (map (λ p. p.now) pieces.now))) }
+    ensures all { OnOk result
+        (Appends (N.seen notes.old).taken (N.seen notes.new).taken (concat (map (λ p. p.now) pieces.now))) }
     ensures front { OnErr result
-        (AppendsFront (N.taken notes.old) (N.taken notes.new) (concat (map (λ p. p.now) pieces.now))) }
-    ensures cause { HasCause (N.faults notes.old) (N.faults notes.new) result }
+        (AppendsFront (N.seen notes.old).taken (N.seen notes.new).taken (concat (map (λ p. p.now) pieces.now))) }
+    ensures cause { HasCause (N.seen notes.old).faults (N.seen notes.new).faults result }
 {
     for piece in pieces {
         put_all(notes, piece.as_bytes())?;
@@ -27,8 +28,7 @@ pub fn put_pieces<N: Sink>(pieces: &[&str], notes: &mut N) -> Result<(), Failed>
 /// Writes the line of these pieces, or a front of it where the notes fail.
 #[tactic(auto, using(crate::proofs::Noted::noted))]
 pub fn note_line<N: Sink>(pieces: &[&str], notes: &mut N)
-    ensures { IsNoted (N.taken notes.old) (N.taken notes.new) (N.faults notes.old) (N.faults notes.new)
-        (concat (map (λ p. p.now) pieces.now)) }
+    ensures { IsNoted (N.seen notes.old) (N.seen notes.new) (concat (map (λ p. p.now) pieces.now)) }
 {
     let _ = put_pieces(pieces, notes);
 }

@@ -92,7 +92,7 @@ pub fn run_mixed<S: Source<K>, K: Sink>(
     limit: u64,
 ) -> Result<u64, MixedFault>
     requires limit { limit < 2 ^ 64 - 1 }
-    ensures ends { let at = streams S.left S.asked S.faults K.taken K.faults in
+    ensures ends { let at = streams S.seen K.seen in
         EndsRun row_fault_of (run_outcome certified.now.function certified.now.program) limit
         (at source.old sink.old) (at source.new sink.new) result }
     ensures honest { RowsLaw certified.now.function certified.now.program certified.now.certificate }

@@ -30,23 +30,11 @@ use fx_num::Memory;
 use fx_rows::{
     Column, RowFault, RowKind, RowReader, UnitKind, find_column, read_header, read_unit,
 };
-use fx_stream::{Page, Printer, Stop};
+use fx_stream::{LINE_TOO_LONG, NO_HEADER, Page, Printer, Stop, stop_of};
 use std::alloc::Global;
 
 // The name of the units' column.
 const UNIT: &[u8] = b"unit";
-
-// A line of more bytes than a line may have.
-const LINE_TOO_LONG: RowFault = RowFault {
-    kind: RowKind::LineTooLong,
-    input: 0,
-};
-
-// What is missed where no header stands.
-const NO_HEADER: RowFault = RowFault {
-    kind: RowKind::MissingColumn,
-    input: 0,
-};
 
 /// By which columns rows and their units are read.
 #[derive(Debug, Drop)]
@@ -65,15 +53,14 @@ pub(crate) struct NodePrinter<'a, const B: u32> {
     pub(crate) alloc: Global,
 }
 
-// Want of memory is no fault of the line.
-fn stop_of(fault: RowFault) -> Stop<Flaw>
+// Why a row's fault stops the run of units.
+fn stop_at_row(fault: RowFault) -> Stop<Flaw>
     ensures { (fault.kind ≡ kind.Memory × result ≡ stop.Memory) ⊎
         (fault.kind ≢ kind.Memory × result ≡ stop.Bad (flaw.Row fault)) }
 {
-    if fault.kind == RowKind::Memory {
-        Stop::Memory
-    } else {
-        Stop::Bad(Flaw::Row(fault))
+    match stop_of(fault) {
+        Stop::Bad(fault) => Stop::Bad(Flaw::Row(fault)),
+        Stop::Memory => Stop::Memory,
     }
 }
 
@@ -106,7 +93,7 @@ fn reader_of(
     let columns = match read_header(alloc, line, function) {
         Ok(Some(columns)) => columns,
         Ok(None) => return Ok(None),
-        Err(fault) => return Err(stop_of(fault)),
+        Err(fault) => return Err(stop_at_row(fault)),
     };
     let unit = match unit_column(alloc, line) {
         Ok(unit) => unit,
@@ -148,7 +135,7 @@ fn read_event(
             Err(Memory) => Err(Stop::Memory),
         },
         Ok(false) => Ok(None),
-        Err(fault) => Err(stop_of(fault)),
+        Err(fault) => Err(stop_at_row(fault)),
     }
 }
 

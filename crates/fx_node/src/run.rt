@@ -59,7 +59,7 @@ fn run_at<const B: u32, S: Source<K>, K: Sink>(
     requires some { 1 ≤ units }
     requires few { units ≤ 1024 }
     requires limit { limit < 2 ^ 64 - 1 }
-    ensures { let at = streams S.left S.asked S.faults K.taken K.faults in
+    ensures { let at = streams S.seen K.seen in
         EndsRun flaw_of (node_outcome certified.now.function certified.now.program units) limit
         (at source.old sink.old) (at source.new sink.new) result }
 {
@@ -96,7 +96,7 @@ pub fn run_node<S: Source<K>, K: Sink>(
     requires some { 1 ≤ units }
     requires few { units ≤ 1024 }
     requires limit { limit < 2 ^ 64 - 1 }
-    ensures ends { let at = streams S.left S.asked S.faults K.taken K.faults in
+    ensures ends { let at = streams S.seen K.seen in
         EndsRun flaw_of (node_outcome certified.now.function certified.now.program units) limit
         (at source.old sink.old) (at source.new sink.new) result }
     ensures honest { UnitsLaw certified.now.function certified.now.program certified.now.certificate }

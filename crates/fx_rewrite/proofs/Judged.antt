@@ -32,21 +32,24 @@ overlong f s old there is =
     let none = rewrite_is f s old rules.TooLong there is in
     ((old, j.0, there, j.1, none), none)
 
-kept : (f : Function) (s : Rewriting) (old : Tree) (m : Match) (b : Bool) → found f s.place s.path ≡ Some old →
-    IsMatch m s.rule old → b ≡ is_within_limits (with_tree f s.place s.path (new_of m)) s.place →
-    rewrite f s ≡ (if b then Some (with_tree f s.place s.path (new_of m)) else None)
-kept f s old m b there is within = rewrite_is f s old (rules.Becomes (new_of m)) there is.becomes
-    ∙ ap (λ (t : Bool). if t then Some (with_tree f s.place s.path (new_of m)) else None) (sym within)
+kept : (f : Function) (s : Rewriting) (old : Tree) (z : rules.Found) (m : Match) (b : Bool) → found f s.place s.path ≡
+    Some old →
+    IsMatch z m s.rule old → b ≡ is_within_limits (with_tree f s.place s.path (new_of z m)) s.place →
+    rewrite f s ≡ (if b then Some (with_tree f s.place s.path (new_of z m)) else None)
+kept f s old z m b there is within = rewrite_is f s old (rules.Becomes (new_of z m)) there is.becomes
+    ∙ ap (λ (t : Bool). if t then Some (with_tree f s.place s.path (new_of z m)) else None) (sym within)
 
-pub overfull : (f : Function) (s : Rewriting) (old : Tree) (m : Match) → found f s.place s.path ≡ Some old →
-    IsMatch m s.rule old → false ≡ is_within_limits (with_tree f s.place s.path (new_of m)) s.place →
+pub overfull : (f : Function) (s : Rewriting) (old : Tree) (z : rules.Found) (m : Match) → found f s.place s.path ≡ Some
+    old →
+    IsMatch z m s.rule old → false ≡ is_within_limits (with_tree f s.place s.path (new_of z m)) s.place →
     IsRefusedThere faults.TooLong f s
-overfull f s old m there is within =
-    let j = turned_judges s.rule old (rules.Becomes (new_of m)) is.becomes in
-    let none = kept f s old m false there is within in
-    ((old, new_of m, there, j.0, none), none)
+overfull f s old z m there is within =
+    let j = turned_judges s.rule old (rules.Becomes (new_of z m)) is.becomes in
+    let none = kept f s old z m false there is within in
+    ((old, new_of z m, there, j.0, none), none)
 
-pub admitted : (f : Function) (s : Rewriting) (old : Tree) (m : Match) → found f s.place s.path ≡ Some old →
-    IsMatch m s.rule old → true ≡ is_within_limits (with_tree f s.place s.path (new_of m)) s.place →
-    IsAdmitted f s old m
-admitted f s old m there is within = record { matches = is; is = kept f s old m true there is within }
+pub admitted : (f : Function) (s : Rewriting) (old : Tree) (z : rules.Found) (m : Match) → found f s.place s.path ≡ Some
+    old →
+    IsMatch z m s.rule old → true ≡ is_within_limits (with_tree f s.place s.path (new_of z m)) s.place →
+    IsAdmitted f s old z m
+admitted f s old z m there is within = record { matches = is; is = kept f s old z m true there is within }

@@ -6,7 +6,6 @@ use Rattle.fx_expr.specs.SizeOf.{size_of}
 use Rattle.fx_rules.specs.Rules.{filled}
 use Rattle.fx_rules.specs.Turned as rules
 use Rattle.fx_rules.specs.Turned.{letters_of, turned}
-use Rattle.fx_rewrite.specs.FoundOf.{found_of}
 use Rattle.fx_rewrite.specs.RuleOf.{pattern_of}
 use Rattle.fx_rewrite.specs.declared.pattern.Rule.{Rule}
 use Rattle.fx_rewrite.specs.declared.matching.Sizes.{Sizes}
@@ -19,18 +18,18 @@ pub record AreSizes (z : Sizes) (r : Rule) (found : rules.Found) : Type 0 where
   pub old : (made : Rational) → z.old ≡ size_of (filled (letters_of found made) (pattern_of r.left))
   pub new : (made : Rational) → z.new ≡ size_of (filled (letters_of found made) (pattern_of r.right))
 
--- the tree that a match makes
-abbrev pub new_of : Match → Tree
-new_of m = filled (letters_of (found_of m.found) m.made) (pattern_of m.right)
+-- the tree that a match makes with these letters
+abbrev pub new_of : rules.Found → Match → Tree
+new_of found m = filled (letters_of found m.made) (pattern_of m.right)
 
--- a rule matches, and both trees have these sizes
-pub record IsMatch (m : Match) (n : ℕ) (old : Tree) : Type 0 where
-  pub becomes : turned n old ≡ rules.Becomes (new_of m)
+-- a rule matches, its letters are these, and both trees have these sizes
+pub record IsMatch (found : rules.Found) (m : Match) (n : ℕ) (old : Tree) : Type 0 where
+  pub becomes : turned n old ≡ rules.Becomes (new_of found m)
   pub less : m.sizes.old ≡ size_of old
-  pub more : m.sizes.new ≡ size_of (new_of m)
+  pub more : m.sizes.new ≡ size_of (new_of found m)
 
--- as the code names it
-abbrev pub IsJudged : Judged → ℕ → Tree → Type 0
-IsJudged NoMatch n old = turned n old ≡ rules.NoMatch
-IsJudged TooLong n old = turned n old ≡ rules.TooLong
-IsJudged (Matches m) n old = IsMatch m n old
+-- what the rule of number n makes of a tree, as the code names it
+abbrev pub IsJudged : Judged → rules.Found → ℕ → Tree → Type 0
+IsJudged NoMatch found n old = turned n old ≡ rules.NoMatch
+IsJudged TooLong found n old = turned n old ≡ rules.TooLong
+IsJudged (Matches m) found n old = IsMatch found m n old

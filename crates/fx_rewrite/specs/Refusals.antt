@@ -6,6 +6,7 @@ use Rattle.fx_model.specs.Paths.{found, with_tree}
 use Rattle.fx_inequalities.specs.Rewriting.{Rewriting}
 use Rattle.fx_rules.specs.Rules.{RewritesTree}
 use Rattle.fx_rules.specs.Steps.{rewrite, IsUnmatched}
+use Rattle.fx_rules.specs.Turned.{Found}
 use Rattle.fx_rewrite.specs.Matching.{IsMatch, new_of}
 use Rattle.fx_rewrite.specs.declared.matching.Match.{Match}
 use Rattle.fx_rewrite.specs.declared.fault.StepFault.{StepFault}
@@ -25,6 +26,6 @@ abbrev pub IsRefusedThere : StepFault → Function → Rewriting → Type 0
 IsRefusedThere fault f s = IsRefused fault f s × (rewrite f s ≡ None)
 
 -- the step is there: the rule matches, and the limits are kept
-pub record IsAdmitted (f : Function) (s : Rewriting) (old : Tree) (m : Match) : Type 0 where
-  pub matches : IsMatch m s.rule old
-  pub is : rewrite f s ≡ Some (with_tree f s.place s.path (new_of m))
+pub record IsAdmitted (f : Function) (s : Rewriting) (old : Tree) (letters : Found) (m : Match) : Type 0 where
+  pub matches : IsMatch letters m s.rule old
+  pub is : rewrite f s ≡ Some (with_tree f s.place s.path (new_of letters m))

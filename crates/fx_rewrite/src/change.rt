@@ -1,7 +1,7 @@
 //! A step on a function, in place.
 //!
-//! First the step is judged and what it puts in is built, by reference; then the subtree is exchanged. So a refusal finds
-//! the function untouched, and nothing but the subtree is walked over.
+//! First the step is judged and what it puts in is built, by reference; then the subtree is exchanged. So a refusal
+//! finds the function untouched, and nothing but the subtree is walked over.
 ghost use Rattle.std.specs.Prelude.{◌≡◌, Some, IfErr, OnErr, OnOk, MatchResult};
 ghost use Rattle.fx_expr.specs.TreeOf.{tree};
 ghost use Rattle.fx_rules.specs.Steps.{rewrite};
@@ -11,6 +11,7 @@ ghost use Rattle.fx_step.specs.StepView.{step_view};
 
 use crate::fault::StepFault;
 use crate::fill::filled;
+use crate::found::Found;
 use crate::judge::{admit, find};
 use crate::matching::Sizes;
 use fx_expr::{Expr, Function};
@@ -26,8 +27,9 @@ fn prepared(alloc: Global, function: &Function, step: &Step) -> Result<(Expr, Si
     let Some(old) = find(function, step.place, path) else {
         return Err(StepFault::NoPlace);
     };
-    match admit(function, old, path.len(), step.rule) {
-        Ok(m) => match filled(alloc, m.right, &m.found, m.made) {
+    let mut letters = Found::nothing();
+    match admit(function, old, path.len(), step.rule, &mut letters) {
+        Ok(m) => match filled(alloc, m.right, &letters, m.made) {
             Ok(new) => Ok((new, m.sizes)),
             Err(_) => Err(StepFault::Memory),
         },

@@ -4,11 +4,18 @@ ghost use Rattle.fx_model.specs.Paths.{found, tree_at};
 ghost use Rattle.fx_expr.specs.TreeOf.{tree};
 ghost use Rattle.fx_rewrite.specs.FirstOf.{Begins};
 
+use crate::found::Found;
 use crate::judge::admit;
 use fx_expr::{Expr, Function, at};
 
 /// The first of the rules from this number on that can be applied to `old`, which is found so deep in the function.
-fn first_rule(function: &Function, old: &Expr, depth: usize, from: u8) -> Option<u8>
+fn first_rule<'a>(
+    function: &Function,
+    old: &'a Expr,
+    depth: usize,
+    from: u8,
+    letters: &mut Found<'a>,
+) -> Option<u8>
     ensures { (place : ℕ) → (path : List ℕ) → found function.now place path ≡ Some (tree old.now) →
         depth ≡ length path →
         Begins function.now place path from result }
@@ -16,13 +23,13 @@ fn first_rule(function: &Function, old: &Expr, depth: usize, from: u8) -> Option
     if from > 30 {
         return None;
     }
-    match admit(function, old, depth, from) {
+    match admit(function, old, depth, from, letters) {
         Ok(_) => Some(from),
-        Err(_) => first_rule(function, old, depth, from + 1),
+        Err(_) => first_rule(function, old, depth, from + 1, letters),
     }
 }
 
-/// The same at a path in a tree of the function.
+/// The first of the rules from this number on that can be applied at a path in a tree of the function.
 pub fn first_at(function: &Function, whole: &Expr, path: &[u8], from: u8) -> Option<u8>
     ensures { (place : ℕ) → tree_at function.now place ≡ Some (tree whole.now) →
         Begins function.now place path.now from result }
@@ -30,5 +37,5 @@ pub fn first_at(function: &Function, whole: &Expr, path: &[u8], from: u8) -> Opt
     let Some(old) = at(whole, path) else {
         return None;
     };
-    first_rule(function, old, path.len(), from)
+    first_rule(function, old, path.len(), from, &mut Found::nothing())
 }

@@ -1,7 +1,7 @@
 //! The literal that a rule folds, in lowest terms.
 //!
-//! The trap: a literal that leaves the limits of `Fraction` is refused, and a zero divisor is no match, since nothing may
-//! be lost of where a function is undefined.
+//! The trap: a literal that leaves the limits of `Fraction` is refused, and a zero divisor is no match, since nothing
+//! may be lost of where a function is undefined.
 ghost use Rattle.std.specs.Prelude.{◌≡◌, Some, pos};
 ghost use Rattle.fx_rational.specs.Rational.{Rational, whole, negative, quotient};
 ghost use Rattle.fx_fraction.specs.Fractions.{GivesLowest};

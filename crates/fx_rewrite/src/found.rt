@@ -59,7 +59,7 @@ fn equal(x: Fraction, y: Fraction) -> bool
     x == y
 }
 
-/// The same of a literal.
+/// Whether a letter may stand for a literal.
 fn may_be_number(letter: Option<Fraction>, q: Fraction) -> bool
     ensures { result ≡ rules.may_be_number letter q }
 {

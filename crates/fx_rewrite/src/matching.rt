@@ -18,24 +18,24 @@ pub struct Sizes {
     pub new: Size,
 }
 
-/// A rule that matches: the pattern that the tree becomes, its letters, and the sizes.
+/// A rule that matches: the pattern that the tree becomes, the literal that is folded, and the sizes. Its letters stand
+/// where they were found.
 #[derive(Clone, Copy)]
-pub struct Match<'a> {
+pub struct Match {
     pub right: Pattern,
-    pub found: Found<'a>,
     pub made: Fraction,
     pub sizes: Sizes,
 }
 
 /// What a rule makes of a tree.
 #[derive(Clone, Copy)]
-pub enum Judged<'a> {
+pub enum Judged {
     /// The left side doesn't match.
     NoMatch,
     /// The folded literal leaves its limits.
     TooLong,
     /// It matches.
-    Matches(Match<'a>),
+    Matches(Match),
 }
 
 /// The sizes of both sides of a rule.
@@ -49,15 +49,16 @@ fn both_sizes(rule: &Rule, found: &Found<'_>) -> Sizes
     }
 }
 
-/// What the rule of a number makes of a tree.
-pub fn judge(e: &Expr, number_of_rule: u8) -> Judged<'_>
-    ensures { IsJudged result number_of_rule (tree e.now) }
+/// What the rule of a number makes of a tree, whose letters are left in `found`: a caller that tries many rules makes
+/// room for them once.
+pub fn judge<'a>(e: &'a Expr, number_of_rule: u8, found: &mut Found<'a>) -> Judged
+    ensures { IsJudged result (found_of found.new) number_of_rule (tree e.now) }
 {
     let Some(row) = rule(number_of_rule) else {
         return Judged::NoMatch;
     };
-    let mut found = Found::nothing();
-    if !find(row.left, e, &mut found) {
+    *found = Found::nothing();
+    if !find(row.left, e, found) {
         return Judged::NoMatch;
     }
     match fold(row.folding, number(found.l), number(found.k)) {
@@ -65,9 +66,8 @@ pub fn judge(e: &Expr, number_of_rule: u8) -> Judged<'_>
         Folded::TooLong => Judged::TooLong,
         Folded::Literal(made) => Judged::Matches(Match {
             right: row.right,
-            sizes: both_sizes(&row, &found),
-            found,
             made,
+            sizes: both_sizes(&row, found),
         }),
     }
 }

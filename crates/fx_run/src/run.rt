@@ -51,7 +51,7 @@ fn run_in_turn<const B: u32, S: Source<K>, K: Sink>(
 ) -> Result<u64, RunFault>
     requires width { certified.now.program.width ≡ B }
     requires limit { limit < 2 ^ 64 - 1 }
-    ensures { let at = streams S.left S.asked S.faults K.taken K.faults in
+    ensures { let at = streams S.seen K.seen in
         EndsRun row_fault_of (run_outcome certified.now.function certified.now.program) limit
         (at source.old sink.old) (at source.new sink.new) result }
 {
@@ -74,7 +74,7 @@ fn run_held<const B: u32, L: SideBySide<B>, S: Source<K>, K: Sink>(
     requires lane_room { L.HasRoom }
     requires states { certified.now.program.states ≡ 0 }
     requires limit { limit < 2 ^ 64 - 1 }
-    ensures { let at = streams S.left S.asked S.faults K.taken K.faults in
+    ensures { let at = streams S.seen K.seen in
         EndsRun row_fault_of (run_outcome certified.now.function certified.now.program) limit
         (at source.old sink.old) (at source.new sink.new) result }
 {
@@ -103,7 +103,7 @@ fn run_at<const B: u32, S: Source<K>, K: Sink>(
 ) -> Result<u64, RunFault>
     requires width { certified.now.program.width ≡ B }
     requires limit { limit < 2 ^ 64 - 1 }
-    ensures { let at = streams S.left S.asked S.faults K.taken K.faults in
+    ensures { let at = streams S.seen K.seen in
         EndsRun row_fault_of (run_outcome certified.now.function certified.now.program) limit
         (at source.old sink.old) (at source.new sink.new) result }
 {
@@ -140,7 +140,7 @@ pub fn run_rows<S: Source<K>, K: Sink>(
     limit: u64,
 ) -> Result<u64, RunFault>
     requires limit { limit < 2 ^ 64 - 1 }
-    ensures ends { let at = streams S.left S.asked S.faults K.taken K.faults in
+    ensures ends { let at = streams S.seen K.seen in
         EndsRun row_fault_of (run_outcome certified.now.function certified.now.program) limit
         (at source.old sink.old) (at source.new sink.new) result }
     ensures honest { RowsLaw certified.now.function certified.now.program certified.now.certificate }

@@ -13,7 +13,8 @@
 //! fails
 //!   further on is the cheaper one.
 //! - After 1, 2, 5, 10, 20, .. tries the best are polished (`polish`), each point, each word and the centres of each
-//!   product moved by a little, and written. Where the checker or a text refuses it, its numbers left 128 bits, and it is
+//!   product moved by a little, and written. Where the checker or a text refuses it, its numbers left 128 bits, and it
+//! is
 //!   made again on coarser grids (`certify`).
 //! What is certified stays until it is bettered, and no try depends on how many follow, so more tries give no worse
 //! answer.

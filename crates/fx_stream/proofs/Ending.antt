@@ -84,10 +84,10 @@ module _ {T F : Type 0} (line_told : F → T) (o o' : List (List ℕ) → Outcom
   pub ends-told : (limit : ℕ) (old new : Streams) (result : Result ℕ (RunFault F)) →
       EndsRun line_told o limit old new result → EndsRun line_told o' limit old new result
   ends-told limit old new result e = record {
-    done = done-told old.left new.left old.taken new.taken result e.done;
+    done = done-told old.source.left new.source.left old.sink.taken new.sink.taken result e.done;
     end = e.end;
-    due = due-told old.left new.left old.taken new.taken result e.due;
-    prompt = prompt-told old.left old.taken old.asked new.asked e.prompt;
+    due = due-told old.source.left new.source.left old.sink.taken new.sink.taken result e.due;
+    prompt = prompt-told old.source.left old.sink.taken old.source.asked new.source.asked e.prompt;
     taken = e.taken;
     grown = e.grown;
     read_fault = e.read_fault;

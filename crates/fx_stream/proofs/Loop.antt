@@ -1,15 +1,18 @@
 -- What a turn of the loop over lines comes to, once the next line was asked for.
 use Rattle.std.proofs.Common.{◌≡◌, ℕ, ◌+◌, ◌-◌, ◌^◌, ◌<◌, ◌≤◌, Bool, List, [], ◌∷◌, ◌++◌, Option, Result, Err, length, arith, sym, ap, subst, ◌∙◌, true}
-use Rattle.std.specs.Prelude.{None, position, ◌==◌}
+use Rattle.std.specs.Prelude.{None, position, ◌==◌, IsErrOf}
+use Rattle.fx_base.specs.Causes.{Rose}
 use Rattle.fx_base.specs.LineSteps.{LinesState}
 use Rattle.fx_base.specs.Moments.{Moment, HoldsEachTime}
 use Rattle.fx_base.specs.declared.lines.LineStep.{LineStep}
 use Rattle.fx_base.specs.declared.lines.LineStep.TheVariants.{Line, End}
 use Rattle.fx_base.proofs.Noting.{none_noted, noted_on}
+use Rattle.fx_stream.specs.Ending.{EndsRun, Streams}
 use Rattle.fx_stream.specs.Outcome.{Outcome, behind_lines, one, IfBad}
 use Rattle.fx_stream.specs.Promise.{Grows, IsAnswered, IsFailed}
 use Rattle.fx_stream.specs.Running.{EndsAs, HasLine, HasNoLine, IsAnswer, IsAsked, IsBadLine, IsOver, Ran, StopsAs, fresh_lines}
 use Rattle.fx_stream.specs.declared.fault.RunFault.{RunFault}
+use Rattle.fx_stream.specs.declared.fault.RunFault.TheVariants.{ReadFault, WriteFault}
 use Rattle.fx_stream.specs.declared.printer.Stop.{Stop}
 use Rattle.fx_stream.proofs.Exits.{line-stopped, lines-ended, of-result}
 use Rattle.fx_stream.proofs.Grown.{none_grown, grown_on, stopped_grows}
@@ -183,3 +186,28 @@ asking-failed told {o} {now} {r} {left} {left1} {left2} {before} {after} {mid} {
     (subst (λ l. IsFailed told o left left2 before mid l f) so_far.bound failed)
     (grown_on before after mid so_far.grown grown)
     (noted_on (IsAnswered o left before) was is is' so_far.prompt prompt)
+
+-- ---- the whole promise of a run
+-- faults are told only where the streams had them
+pub record IsCaused {F : Type 0} (old new : Streams) (result : Result ℕ (RunFault F)) : Type 0 where
+  pub read_fault : IsErrOf result ReadFault → Rose old.source.faults new.source.faults
+  pub write_fault : IsErrOf result WriteFault → Rose old.sink.faults new.sink.faults
+  pub later : old.source.faults ≤ new.source.faults
+  pub later_sink : old.sink.faults ≤ new.sink.faults
+
+pub ends_run : {T F : Type 0} {told : F → T} {o : List (List ℕ) → Outcome T} {limit : ℕ} {old new : Streams}
+    {result : Result ℕ (RunFault F)} →
+    IsOver told o old.source.left new.source.left old.sink.taken new.sink.taken limit old.source.asked new.source.asked
+    result → IsCaused old new result → EndsRun told o limit old new result
+ends_run over caused = record {
+  done = over.answer.done;
+  end = over.answer.end;
+  due = over.answer.due;
+  prompt = over.prompt;
+  taken = over.answer.taken;
+  grown = over.grown;
+  read_fault = caused.read_fault;
+  write_fault = caused.write_fault;
+  later = caused.later;
+  later_sink = caused.later_sink;
+}

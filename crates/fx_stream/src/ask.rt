@@ -20,11 +20,11 @@ use fx_base::{Failed, LineFault, LineStep, Lines, Sink, Source};
 
 // Writes all text where that is due, or where a line might not find room.
 fn flush<K: Sink>(page: &mut Page, must: bool, sink: &mut K) -> Result<(), Failed>
-    ensures all { OnOk result (IsFlushed must (K.taken sink.old) (K.taken sink.new) page.old page.new) }
+    ensures all { OnOk result (IsFlushed must (K.seen sink.old).taken (K.seen sink.new).taken page.old page.new) }
     ensures room { OnOk result (HasRoom page.new) }
-    ensures front { OnErr result (AppendsFront (K.taken sink.old) (K.taken sink.new) page.old) }
-    ensures grown { Grows (K.taken sink.old) (K.taken sink.new) }
-    ensures cause { HasCause (K.faults sink.old) (K.faults sink.new) result }
+    ensures front { OnErr result (AppendsFront (K.seen sink.old).taken (K.seen sink.new).taken page.old) }
+    ensures grown { Grows (K.seen sink.old).taken (K.seen sink.new).taken }
+    ensures cause { HasCause (K.seen sink.old).faults (K.seen sink.new).faults result }
 {
     if must || !page.has_room() {
         page.write_out(sink)?;
@@ -59,21 +59,24 @@ fn ask<P: Printer, S: Source<K>, K: Sink>(
     ensures untouched { IsErrOf result WriteFault → (source.new ≡ source.old) × (lines.new ≡ lines.old) }
     ensures asked { (o now : List (List ℕ) → Outcome P.Told) (left before : Option (List ℕ)) (count : ℕ) →
         (GoesOut lines.old page.old → (now []).text ≡ [])
-        → Ran o now lines.old left (S.left source.old) before (K.taken sink.old) page.old count lines.old.limit
+        → Ran o now lines.old left (S.seen source.old).left before (K.seen sink.old).taken page.old count
+        lines.old.limit
         → MatchResult result
-        (λ step. IsAsked o now lines.old lines.new left (S.left source.old) (S.left source.new) before
-        (K.taken sink.new) page.new count lines.old.limit step)
-        (λ fault. IsFailed P.told o left (S.left source.new) before (K.taken sink.new) lines.old.limit fault) }
+        (λ step. IsAsked o now lines.old lines.new left (S.seen source.old).left (S.seen source.new).left before
+        (K.seen sink.new).taken page.new count lines.old.limit step)
+        (λ fault. IsFailed P.told o left (S.seen source.new).left before (K.seen sink.new).taken lines.old.limit fault)
+        }
     ensures prompt { (o now : List (List ℕ) → Outcome P.Told) (left before : Option (List ℕ)) (count : ℕ) →
         (GoesOut lines.old page.old → (now []).text ≡ [])
-        → Ran o now lines.old left (S.left source.old) before (K.taken sink.old) page.old count lines.old.limit
-        → HoldsEachTime (IsAnswered o left before) (S.asked source.old) (S.asked source.new) }
+        → Ran o now lines.old left (S.seen source.old).left before (K.seen sink.old).taken page.old count
+        lines.old.limit
+        → HoldsEachTime (IsAnswered o left before) (S.seen source.old).asked (S.seen source.new).asked }
     ensures room { OnOk result (HasRoom page.new) }
-    ensures grown { Grows (K.taken sink.old) (K.taken sink.new) }
-    ensures read_fault { IsErrOf result ReadFault → Rose (S.faults source.old) (S.faults source.new) }
-    ensures write_fault { IsErrOf result WriteFault → Rose (K.faults sink.old) (K.faults sink.new) }
-    ensures later { S.faults source.old ≤ S.faults source.new }
-    ensures later_sink { K.faults sink.old ≤ K.faults sink.new }
+    ensures grown { Grows (K.seen sink.old).taken (K.seen sink.new).taken }
+    ensures read_fault { IsErrOf result ReadFault → Rose (S.seen source.old).faults (S.seen source.new).faults }
+    ensures write_fault { IsErrOf result WriteFault → Rose (K.seen sink.old).faults (K.seen sink.new).faults }
+    ensures later { (S.seen source.old).faults ≤ (S.seen source.new).faults }
+    ensures later_sink { (K.seen sink.old).faults ≤ (K.seen sink.new).faults }
 {
     if flush(page, !lines.holds_line(), sink).is_err() {
         return Err(RunFault::WriteFault);
@@ -111,22 +114,23 @@ pub(crate) fn next<P: Printer, S: Source<K>, K: Sink>(
     ensures can { P.can_take printer.new }
     ensures settled { position (λ b. b == 10) lines.old.held ≡ None → P.is_settled printer.new }
     ensures asked { (o : List (List ℕ) → Outcome P.Told) (left before : Option (List ℕ)) (count : ℕ)
-        → Ran o (P.outcome printer.old) lines.old left (S.left source.old) before (K.taken sink.old) page.old count
-        lines.old.limit
+        → Ran o (P.outcome printer.old) lines.old left (S.seen source.old).left before (K.seen sink.old).taken page.old
+        count lines.old.limit
         → MatchResult result
-        (λ step. IsAsked o (P.outcome printer.new) lines.old lines.new left (S.left source.old)
-        (S.left source.new) before (K.taken sink.new) page.new count lines.old.limit step)
-        (λ fault. IsFailed P.told o left (S.left source.new) before (K.taken sink.new) lines.old.limit fault) }
+        (λ step. IsAsked o (P.outcome printer.new) lines.old lines.new left (S.seen source.old).left
+        (S.seen source.new).left before (K.seen sink.new).taken page.new count lines.old.limit step)
+        (λ fault. IsFailed P.told o left (S.seen source.new).left before (K.seen sink.new).taken lines.old.limit fault)
+        }
     ensures prompt { (o : List (List ℕ) → Outcome P.Told) (left before : Option (List ℕ)) (count : ℕ)
-        → Ran o (P.outcome printer.old) lines.old left (S.left source.old) before (K.taken sink.old) page.old count
-        lines.old.limit
-        → HoldsEachTime (IsAnswered o left before) (S.asked source.old) (S.asked source.new) }
+        → Ran o (P.outcome printer.old) lines.old left (S.seen source.old).left before (K.seen sink.old).taken page.old
+        count lines.old.limit
+        → HoldsEachTime (IsAnswered o left before) (S.seen source.old).asked (S.seen source.new).asked }
     ensures room { OnOk result (HasRoom page.new) }
-    ensures grown { Grows (K.taken sink.old) (K.taken sink.new) }
-    ensures read_fault { IsErrOf result ReadFault → Rose (S.faults source.old) (S.faults source.new) }
-    ensures write_fault { IsErrOf result WriteFault → Rose (K.faults sink.old) (K.faults sink.new) }
-    ensures later { S.faults source.old ≤ S.faults source.new }
-    ensures later_sink { K.faults sink.old ≤ K.faults sink.new }
+    ensures grown { Grows (K.seen sink.old).taken (K.seen sink.new).taken }
+    ensures read_fault { IsErrOf result ReadFault → Rose (S.seen source.old).faults (S.seen source.new).faults }
+    ensures write_fault { IsErrOf result WriteFault → Rose (K.seen sink.old).faults (K.seen sink.new).faults }
+    ensures later { (S.seen source.old).faults ≤ (S.seen source.new).faults }
+    ensures later_sink { (K.seen sink.old).faults ≤ (K.seen sink.new).faults }
 {
     settle_before(lines, printer, page);
     ask::<P, S, K>(lines, page, source, sink)
@@ -165,9 +169,9 @@ pub(crate) fn stop_at<F: Drop, K: Sink>(
     page: &mut Page,
     sink: &mut K,
 ) -> RunFault<F>
-    ensures stops { StopsAs stop number (K.taken sink.old) (K.taken sink.new) page.old result }
-    ensures write_fault { result ≡ WriteFault → Rose (K.faults sink.old) (K.faults sink.new) }
-    ensures later_sink { K.faults sink.old ≤ K.faults sink.new }
+    ensures stops { StopsAs stop number (K.seen sink.old).taken (K.seen sink.new).taken page.old result }
+    ensures write_fault { result ≡ WriteFault → Rose (K.seen sink.old).faults (K.seen sink.new).faults }
+    ensures later_sink { (K.seen sink.old).faults ≤ (K.seen sink.new).faults }
 {
     let Stop::Bad(fault) = stop else {
         return RunFault::Memory;

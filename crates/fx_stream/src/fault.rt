@@ -32,14 +32,14 @@ impl<F: fmt::Display> fmt::Display for RunFault<F> {
 
 impl<F: fmt::Display + fmt::Debug + Drop> Error for RunFault<F> {}
 
-// A line of more bytes than a line may have.
-pub(crate) const LINE_TOO_LONG: RowFault = RowFault {
+/// What is wrong with a line of more bytes than a line may have.
+pub const LINE_TOO_LONG: RowFault = RowFault {
     kind: RowKind::LineTooLong,
     input: 0,
 };
 
-// What is missed where no header stands.
-pub(crate) const NO_HEADER: RowFault = RowFault {
+/// What is missed where no header stands.
+pub const NO_HEADER: RowFault = RowFault {
     kind: RowKind::MissingColumn,
     input: 0,
 };

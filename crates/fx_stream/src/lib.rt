@@ -14,8 +14,8 @@ mod printer;
 mod rows;
 mod run;
 
-pub use fault::RunFault;
+pub use fault::{LINE_TOO_LONG, NO_HEADER, RunFault};
 pub use page::Page;
 pub use printer::{Printer, Stop};
-pub use rows::{RowStep, run_steps};
+pub use rows::{RowStep, run_steps, stop_of};
 pub use run::run_lines;

@@ -104,11 +104,11 @@ impl Page {
 
     /// Writes all. Where that fails, the page stays as it was.
     pub fn write_out<K: Sink>(&mut self, sink: &mut K) -> Result<(), Failed>
-        ensures all { OnOk result (Appends (K.taken sink.old) (K.taken sink.new) self.old) }
+        ensures all { OnOk result (Appends (K.seen sink.old).taken (K.seen sink.new).taken self.old) }
         ensures empty { OnOk result (self.new ≡ []) }
         ensures kept { OnErr result (self.new ≡ self.old) }
-        ensures front { OnErr result (AppendsFront (K.taken sink.old) (K.taken sink.new) self.old) }
-        ensures cause { HasCause (K.faults sink.old) (K.faults sink.new) result }
+        ensures front { OnErr result (AppendsFront (K.seen sink.old).taken (K.seen sink.new).taken self.old) }
+        ensures cause { HasCause (K.seen sink.old).faults (K.seen sink.new).faults result }
     {
         put_all(sink, &self.block[..self.used])?;
         self.used = 0;

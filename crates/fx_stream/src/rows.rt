@@ -95,8 +95,8 @@ struct RowPrinter<M> {
     alloc: Global,
 }
 
-// Want of memory is no fault of the line.
-fn stop_of(fault: RowFault) -> Stop<RowFault>
+/// Why a row's fault stops the run: want of memory is no fault of the line.
+pub fn stop_of(fault: RowFault) -> Stop<RowFault>
     ensures { (fault.kind ≡ kind.Memory × result ≡ stop.Memory) ⊎ (fault.kind ≢ kind.Memory × result ≡ stop.Bad fault) }
 {
     if fault.kind == RowKind::Memory {
@@ -256,7 +256,7 @@ pub fn run_steps<M: RowStep + Drop, S: Source<K>, K: Sink>(
     requires limit { limit < 2 ^ 64 - 1 }
     requires can { M.can_run step }
     requires settled { M.is_settled step }
-    ensures { let at = streams S.left S.asked S.faults K.taken K.faults in
+    ensures { let at = streams S.seen K.seen in
         EndsRun row_fault_of (lines_outcome (M.meaning step) (M.head step) (M.printed step) None) limit
         (at source.old sink.old) (at source.new sink.new) result }
 {

@@ -1,9 +1,8 @@
 //! The loop: the next line, and what is printed of it.
-ghost use Rattle.std.specs.Prelude.{◌≡◌, ◌-◌, ◌^◌, ◌<◌, ◌≤◌, [], IsErrOf};
-ghost use Rattle.fx_base.specs.Causes.{Rose};
+ghost use Rattle.std.specs.Prelude.{◌≡◌, ◌-◌, ◌^◌, ◌<◌, []};
 ghost use Rattle.fx_stream.specs.Outcome.{one};
 ghost use Rattle.fx_stream.specs.Ending.{EndsRun, streams};
-ghost use Rattle.fx_stream.specs.Running.{IsOver, fresh_lines};
+ghost use Rattle.fx_stream.specs.Running.{fresh_lines};
 
 use crate::ask::{end_at, next, stop_at, take_line};
 use crate::fault::RunFault;
@@ -32,12 +31,8 @@ fn run_on<P: Printer, S: Source<K>, K: Sink>(
     requires empty { page.old ≡ [] }
     requires can { P.can_take printer.old }
     requires settled { P.is_settled printer.old }
-    ensures over { IsOver P.told (P.outcome printer.old) (S.left source.old) (S.left source.new) (K.taken sink.old)
-        (K.taken sink.new) lines.old.limit (S.asked source.old) (S.asked source.new) result }
-    ensures read_fault { IsErrOf result RunFault.ReadFault → Rose (S.faults source.old) (S.faults source.new) }
-    ensures write_fault { IsErrOf result RunFault.WriteFault → Rose (K.faults sink.old) (K.faults sink.new) }
-    ensures later { S.faults source.old ≤ S.faults source.new }
-    ensures later_sink { K.faults sink.old ≤ K.faults sink.new }
+    ensures { let at = streams S.seen K.seen in
+        EndsRun P.told (P.outcome printer.old) lines.old.limit (at source.old sink.old) (at source.new sink.new) result }
 {
     let mut count = 0;
     'lines: loop {
@@ -63,7 +58,7 @@ pub fn run_lines<P: Printer, S: Source<K>, K: Sink>(
     requires limit { limit < 2 ^ 64 - 1 }
     requires can { P.can_take printer.old }
     requires settled { P.is_settled printer.old }
-    ensures { let at = streams S.left S.asked S.faults K.taken K.faults in
+    ensures { let at = streams S.seen K.seen in
         EndsRun P.told (P.outcome printer.old) limit (at source.old sink.old) (at source.new sink.new) result }
 {
     let Ok(mut page) = Page::new(alloc) else {

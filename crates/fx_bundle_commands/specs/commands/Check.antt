@@ -5,13 +5,13 @@ use Rattle.std.specs.List.{concat}
 use Rattle.std.specs.Io.KnownBytes.{Appends}
 use Rattle.fx_base.specs.Calls.{AppendsFront}
 use Rattle.fx_base.specs.Causes.{Rose}
+use Rattle.fx_base.specs.Views.{SinkView}
 use Rattle.fx_rational.specs.Dyadic.{Dyadic}
 use Rattle.fx_model.specs.Function.{Function}
 use Rattle.fx_model.specs.Machine.{Program}
 use Rattle.fx_inequalities.specs.Certificate.{Certificate}
 use Rattle.fx_inequalities.specs.Accepted.{bound_dyadic}
 use Rattle.fx_cert.specs.BundleView.{Parts}
-use Rattle.fx_stream.specs.Ending.{Streams}
 use Rattle.fx_ends.specs.Ends.{End, Done, WriteFault}
 use Rattle.fx_model.specs.LineText.{numbered_lines}
 
@@ -32,7 +32,7 @@ abbrev pub report : Program → Certificate → List ℕ
 report p c = codes "accepted\n" ++ bound_lines p c 0 p.outputs
 
 -- how the printing ends
-pub data ReportEnds (old new : Streams) (b : Parts) (fn : Function) : End → Type 0 where
+pub data ReportEnds (old new : SinkView) (b : Parts) (fn : Function) : End → Type 0 where
   reported : Appends old.taken new.taken (report b.program b.certificate) → ReportEnds old new b fn Done
-  unwritten : Rose old.write_faults new.write_faults →
+  unwritten : Rose old.faults new.faults →
       AppendsFront old.taken new.taken (report b.program b.certificate) → ReportEnds old new b fn WriteFault

@@ -1,5 +1,6 @@
 -- What `migrate FILE` does: it writes an accepted bundle as one of the second version.
 use Rattle.std.specs.Prelude.{◌≡◌, ℕ, List}
+use Rattle.fx_base.specs.Views.{SinkView}
 use Rattle.fx_rational.specs.Rational.{Rational}
 use Rattle.fx_model.specs.Function.{Function}
 use Rattle.fx_model.specs.Machine.{machine_run}
@@ -7,7 +8,6 @@ use Rattle.fx_model.specs.Versions.{second_version}
 use Rattle.fx_inequalities.specs.Accepted.{certified_bound}
 use Rattle.fx_cert.specs.BundleView.{Parts, IsLawfulBundle, text_of}
 use Rattle.fx_ends.specs.Ends.{End}
-use Rattle.fx_stream.specs.Ending.{Streams}
 use Rattle.fx_bundle_commands.specs.Opening.{IsAcceptedAs}
 use Rattle.fx_bundle_commands.specs.commands.Texts.{PrintsText}
 
@@ -26,5 +26,5 @@ pub record IsMigrated (b : Parts) (fn : Function) : Type 0 where
   pub itself : b.program.version ≡ 2 → migrated b ≡ b
 
 -- how the writing ends
-abbrev pub WritesMigrated : Streams → Streams → Parts → Function → End → Type 0
+abbrev pub WritesMigrated : SinkView → SinkView → Parts → Function → End → Type 0
 WritesMigrated old new b fn = PrintsText (IsMigrated b fn) (text_of (migrated b)) old new

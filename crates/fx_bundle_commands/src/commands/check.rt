@@ -1,11 +1,7 @@
 //! `check FILE`: the bounds of an accepted bundle.
-ghost use Rattle.std.specs.Prelude.{◌≡◌};
-ghost use Rattle.fx_stream.specs.Promise.{Grows};
 ghost use Rattle.fx_ends.specs.EndView.{end_of};
-ghost use Rattle.fx_bundle_commands.specs.OpeningView.{IsSilent};
-ghost use Rattle.fx_stream.specs.Ending.{Streams};
-ghost use Rattle.fx_bundle_commands.specs.Outside.{printing};
-ghost use Rattle.fx_bundle_commands.specs.Tasks.{BundleEnds, PrintBounds};
+ghost use Rattle.fx_bundle_commands.specs.Outside.{desk};
+ghost use Rattle.fx_bundle_commands.specs.Tasks.{BundleEnds, PrintBounds, PrintsFile};
 
 use crate::open::open;
 use crate::report::put_report;
@@ -20,10 +16,9 @@ pub fn check_file<H: Shelf, K: Sink>(
     name: &str,
     output: &mut K,
 ) -> End<'static>
-    ensures ended { (rest : Streams) → let at = printing rest H.papers H.faults K.taken K.faults in
-        BundleEnds PrintBounds (at shelf.old output.old) (at shelf.new output.new) name.now (end_of result) }
-    ensures appended { Grows (K.taken output.old) (K.taken output.new) }
-    ensures quiet { IsSilent (end_of result) → output.new ≡ output.old }
+    ensures { let at = desk H.seen K.seen in
+        PrintsFile name.now (λ old new. BundleEnds PrintBounds old new name.now)
+        (at shelf.old output.old) (at shelf.new output.new) (end_of result) }
 {
     match open(alloc, shelf, name) {
         Err(end) => end,

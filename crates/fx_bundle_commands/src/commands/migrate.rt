@@ -9,9 +9,8 @@ ghost use Rattle.fx_cert.specs.BundleView.{IsLawfulBundle, text_of};
 ghost use Rattle.fx_ends.specs.EndView.{end_of};
 ghost use Rattle.fx_bundle_commands.specs.Opening.{IsAcceptedAs};
 ghost use Rattle.fx_bundle_commands.specs.OpeningView.{IsSilent, with_source};
-ghost use Rattle.fx_stream.specs.Ending.{Streams};
-ghost use Rattle.fx_bundle_commands.specs.Outside.{beside, printing};
-ghost use Rattle.fx_bundle_commands.specs.Tasks.{BundleEnds, PrintMigrated};
+ghost use Rattle.fx_bundle_commands.specs.Outside.{desk};
+ghost use Rattle.fx_bundle_commands.specs.Tasks.{BundleEnds, PrintMigrated, PrintsFile};
 ghost use Rattle.fx_bundle_commands.specs.commands.Migrate.{WritesMigrated, migrated};
 
 use crate::open::{Opened, open};
@@ -39,10 +38,9 @@ fn print_migrated<K: Sink>(alloc: Global, opened: &Opened, output: &mut K) -> En
     requires lawful { IsLawfulBundle (with_source opened.now.certified opened.now.source) }
     requires accepted { IsAcceptedAs
         (with_source opened.now.certified opened.now.source) opened.now.certified.function }
-    ensures ended { (rest : Streams) → let at = beside rest K.taken K.faults in
-        WritesMigrated (at output.old) (at output.new) (with_source opened.now.certified opened.now.source)
-        opened.now.certified.function (end_of result) }
-    ensures appended { Grows (K.taken output.old) (K.taken output.new) }
+    ensures ended { WritesMigrated (K.seen output.old) (K.seen output.new)
+        (with_source opened.now.certified opened.now.source) opened.now.certified.function (end_of result) }
+    ensures appended { Grows (K.seen output.old).taken (K.seen output.new).taken }
     ensures quiet { IsSilent (end_of result) → output.new ≡ output.old }
 {
     print_text(migrated_text(alloc, opened), output)
@@ -55,10 +53,9 @@ pub fn migrate_file<H: Shelf, K: Sink>(
     name: &str,
     output: &mut K,
 ) -> End<'static>
-    ensures ended { (rest : Streams) → let at = printing rest H.papers H.faults K.taken K.faults in
-        BundleEnds PrintMigrated (at shelf.old output.old) (at shelf.new output.new) name.now (end_of result) }
-    ensures appended { Grows (K.taken output.old) (K.taken output.new) }
-    ensures quiet { IsSilent (end_of result) → output.new ≡ output.old }
+    ensures { let at = desk H.seen K.seen in
+        PrintsFile name.now (λ old new. BundleEnds PrintMigrated old new name.now)
+        (at shelf.old output.old) (at shelf.new output.new) (end_of result) }
 {
     match open(alloc, shelf, name) {
         Err(end) => end,

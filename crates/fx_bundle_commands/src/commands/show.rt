@@ -7,9 +7,8 @@ ghost use Rattle.fx_stream.specs.Promise.{Grows};
 ghost use Rattle.fx_ends.specs.EndView.{end_of};
 ghost use Rattle.fx_model.specs.LineText.{numbered_lines};
 ghost use Rattle.fx_bundle_commands.specs.OpeningView.{IsSilent, with_source};
-ghost use Rattle.fx_stream.specs.Ending.{Streams};
-ghost use Rattle.fx_bundle_commands.specs.Outside.{beside, printing};
-ghost use Rattle.fx_bundle_commands.specs.Tasks.{BundleEnds, PrintTable};
+ghost use Rattle.fx_bundle_commands.specs.Outside.{desk};
+ghost use Rattle.fx_bundle_commands.specs.Tasks.{BundleEnds, PrintTable, PrintsFile};
 ghost use Rattle.fx_bundle_commands.specs.commands.Show.{PrintsTable, shown_line, table};
 
 use crate::open::open;
@@ -25,11 +24,12 @@ fn put_table<K: Sink>(text: &[u8], certified: &Certified, output: &mut K) -> Res
     requires { text.now ≡ numbered_lines (shown_line certified.now.program certified.now.certificate) 0
         (length certified.now.program.codes) }
     ensures all { OnOk result
-        (Appends (K.taken output.old) (K.taken output.new) (table certified.now.program certified.now.certificate)) }
-    ensures front { OnErr result
-        (AppendsFront (K.taken output.old) (K.taken output.new)
+        (Appends (K.seen output.old).taken (K.seen output.new).taken
         (table certified.now.program certified.now.certificate)) }
-    ensures cause { HasCause (K.faults output.old) (K.faults output.new) result }
+    ensures front { OnErr result
+        (AppendsFront (K.seen output.old).taken (K.seen output.new).taken
+        (table certified.now.program certified.now.certificate)) }
+    ensures cause { HasCause (K.seen output.old).faults (K.seen output.new).faults result }
 {
     put_all(output, text)?;
     put_bounds(certified, output)
@@ -37,10 +37,9 @@ fn put_table<K: Sink>(text: &[u8], certified: &Certified, output: &mut K) -> Res
 
 // Prints the table of an accepted bundle.
 fn print_table<K: Sink>(alloc: Global, certified: &Certified, output: &mut K) -> End<'static>
-    ensures ended { (source : List ℕ) (rest : Streams) → let at = beside rest K.taken K.faults in
-        PrintsTable (at output.old) (at output.new) (with_source certified.now source) certified.now.function
-        (end_of result) }
-    ensures appended { Grows (K.taken output.old) (K.taken output.new) }
+    ensures ended { (source : List ℕ) → PrintsTable (K.seen output.old) (K.seen output.new)
+        (with_source certified.now source) certified.now.function (end_of result) }
+    ensures appended { Grows (K.seen output.old).taken (K.seen output.new).taken }
     ensures quiet { IsSilent (end_of result) → output.new ≡ output.old }
 {
     let Ok(text) = codes_text(alloc, certified) else {
@@ -59,10 +58,9 @@ pub fn show_file<H: Shelf, K: Sink>(
     name: &str,
     output: &mut K,
 ) -> End<'static>
-    ensures ended { (rest : Streams) → let at = printing rest H.papers H.faults K.taken K.faults in
-        BundleEnds PrintTable (at shelf.old output.old) (at shelf.new output.new) name.now (end_of result) }
-    ensures appended { Grows (K.taken output.old) (K.taken output.new) }
-    ensures quiet { IsSilent (end_of result) → output.new ≡ output.old }
+    ensures { let at = desk H.seen K.seen in
+        PrintsFile name.now (λ old new. BundleEnds PrintTable old new name.now)
+        (at shelf.old output.old) (at shelf.new output.new) (end_of result) }
 {
     match open(alloc, shelf, name) {
         Err(end) => end,

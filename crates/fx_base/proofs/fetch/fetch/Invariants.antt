@@ -6,14 +6,14 @@ use Rattle.fx_base.proofs.fetch.fetch.Given as goal
 
 abbrev pub invariant-reads : goal.invariant-reads
 invariant-reads g l = record {
-  more : (more : List ℕ) × Consumes (g.S.Source.left l.initial.source) (g.S.Source.left l.source) more
+  more : (more : List ℕ) × Consumes (g.S.Source.seen l.initial.source).left (g.S.Source.seen l.source).left more
       × (l.held ≡ l.initial.held ++ more) × (l.taken ≡ l.initial.taken + length more);
   no_line : position (λ b. b == 10) l.held ≡ None;
   within : l.taken ≤ l.limit;
   room : length l.held ≤ 131072;
-  sought : HoldsEachTime (IsSought l.initial.held (g.S.Source.left l.initial.source) (g.K.Sink.taken l.shown))
-      (g.S.Source.asked l.initial.source) (g.S.Source.asked l.source);
-  later : g.S.Source.faults l.initial.source ≤ g.S.Source.faults l.source;
+  sought : HoldsEachTime (IsSought l.initial.held (g.S.Source.seen l.initial.source).left (g.K.Sink.seen l.shown).taken)
+      (g.S.Source.seen l.initial.source).asked (g.S.Source.seen l.source).asked;
+  later : (g.S.Source.seen l.initial.source).faults ≤ (g.S.Source.seen l.source).faults;
 }
 
 abbrev pub decreases-reads : goal.decreases-reads

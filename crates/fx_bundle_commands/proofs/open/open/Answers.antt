@@ -6,8 +6,8 @@ use Rattle.fx_bundle_commands.proofs.open.open.Goals as goal
 
 pub returns-in-Err-clause-failed : goal.returns-in-Err-clause-failed
 returns-in-Err-clause-failed g c =
-    subst (OpeningEnds _ _ _ _) (sym c.end_of_read.ensures)
-    (read_ends _ _ _ _ c.in-Err.fault (λ e. c.in-Err.ensures.too_long (ap Err e))
+    subst (OpeningEnds _ _ _) (sym c.end_of_read.ensures)
+    (read_ends _ _ _ c.in-Err.fault (λ e. c.in-Err.ensures.too_long (ap Err e))
     (λ e. c.in-Err.ensures.read_fault (ap Err e)))
 
 pub returns-clause-opened : goal.returns-clause-opened
@@ -19,5 +19,5 @@ returns-clause-opened g c =
 pub returns-clause-failed : goal.returns-clause-failed
 returns-clause-failed g c =
     let short : length c.in-Ok.bytes.items ≤ bundle_limit = omega (arith, c.in-Ok.bytes.ok.0, c.in-Ok.ensures.within) in
-    if_err c.accept.result (λ e. opening_ends _ _ _ _ c.in-Ok.bytes.items _ _ c.in-Ok.ensures.all short
+    if_err c.accept.result (λ e. opening_ends _ _ _ c.in-Ok.bytes.items _ _ c.in-Ok.ensures.all short
     c.deref.ensures.value) c.accept.ensures.failed

@@ -6,6 +6,6 @@ use Rattle.fx_ends.proofs.notes.put_pieces.Given as goal
 -- what was sent, and the pieces that are left, are all of them
 abbrev pub invariant-loop-piece : goal.invariant-loop-piece
 invariant-loop-piece g l =
-    (sent : List ℕ) × Appends (g.N.Sink.taken l.initial.notes) (g.N.Sink.taken l.notes) sent ×
+    (sent : List ℕ) × Appends (g.N.Sink.seen l.initial.notes).taken (g.N.Sink.seen l.notes).taken sent ×
     (concat (map (λ p. p.now) l.pieces) ≡ sent ++ concat (map (λ p. p.now) (drop l.piece-index l.pieces))) ×
-    (g.N.Sink.faults l.initial.notes ≤ g.N.Sink.faults l.notes)
+    ((g.N.Sink.seen l.initial.notes).faults ≤ (g.N.Sink.seen l.notes).faults)

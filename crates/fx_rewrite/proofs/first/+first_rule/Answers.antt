@@ -6,7 +6,7 @@ use Rattle.fx_rewrite.proofs.first.+first_rule.Goals as goal
 pub returns-in-Ok : goal.returns-in-Ok
 returns-in-Ok t c place path there depth =
     let a : IsAdmitted c.args.function.now (record { place = place; path = path; rule = c.args.from })
-    (tree c.args.old.now) _ = c.in-Ok.ensures place path there depth in
+    (tree c.args.old.now) _ _ = c.in-Ok.ensures place path there depth in
     rule_is_there c.args.function.now place path c.args.from _ c.if-from-gt30.false a.is
 
 pub returns-in-Err : goal.returns-in-Err

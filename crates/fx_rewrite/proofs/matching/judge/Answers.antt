@@ -15,11 +15,12 @@ returns-in-Literal c =
     let is : table.rule c.args.number_of_rule ≡ Some (rule_of r) =
     sym c.rule.ensures ∙ ap (option_map rule_of) c.in-Some.is in
     let found : matched (pattern_of r.left) (tree c.args.e.now) nothing ≡ Some (found_of c.find.new.z) =
-    ap (matched (pattern_of r.left) (tree c.args.e.now)) (sym c.nothing-found.ensures)
+    ap (matched (pattern_of r.left) (tree c.args.e.now)) (sym c.nothing.ensures)
     ∙ finds c.find.result _ nothing _ c.find.ensures c.if-not-find.false in
     let m =
     matches c.args.number_of_rule r (tree c.args.e.now) (found_of c.find.new.z) c.in-Literal.made c.both_sizes.result
     is found
-    (sym c.in-Literal.is ∙ c.fold.ensures ∙ ap (λ l. folded_by (folding_of r.folding) l c.number-2.result) c.number.ensures
+    (sym c.in-Literal.is ∙ c.fold.ensures ∙ ap (λ l. folded_by (folding_of r.folding) l c.number-2.result)
+    c.number.ensures
     ∙ ap (folded_by (folding_of r.folding) (or_zero c.find.new.z.l)) c.number-2.ensures) c.both_sizes.ensures in
     record { becomes = m.becomes; less = m.less; more = m.more }

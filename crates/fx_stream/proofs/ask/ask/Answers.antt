@@ -14,14 +14,15 @@ returns-then-is_err-clause-asked g c = λ o now left before count none ran.
 
 pub returns-then-is_err-clause-prompt : goal.returns-then-is_err-clause-prompt
 returns-then-is_err-clause-prompt g c =
-    λ o now left before count none ran. none_noted (IsAnswered o left before) (g.S.Source.asked c.args.source.now)
+    λ o now left before count none ran. none_noted (IsAnswered o left before) (g.S.Source.seen c.args.source.now).asked
 
 -- what the flush and the call for the next line say
 turn : (g : Over) (c : goal.After-as_run g) →
-    Turn c.args.lines.now c.next_line.new.self (g.S.Source.left c.args.source.now)
-    (g.S.Source.left c.next_line.new.source) (g.K.Sink.taken c.args.sink.now) (g.K.Sink.taken c.flush.new.sink)
-    c.args.page.now c.flush.new.page c.next_line.ensures.taken.0 (g.S.Source.asked c.args.source.now)
-    (g.S.Source.asked c.next_line.new.source) c.holds_line.result c.next_line.result
+    Turn c.args.lines.now c.next_line.new.self (g.S.Source.seen c.args.source.now).left
+    (g.S.Source.seen c.next_line.new.source).left (g.K.Sink.seen c.args.sink.now).taken
+    (g.K.Sink.seen c.flush.new.sink).taken
+    c.args.page.now c.flush.new.page c.next_line.ensures.taken.0 (g.S.Source.seen c.args.source.now).asked
+    (g.S.Source.seen c.next_line.new.source).asked c.holds_line.result c.next_line.result
 turn g c =
     let m = c.next_line.ensures.taken in
     let says = c.next_line.ensures in
@@ -41,9 +42,10 @@ turn g c =
       over = says.too_long;
       within = says.within;
       limit = says.limit;
-      lazy = λ e. let l = says.lazy (c.holds_line.ensures.0 e) in (ap g.S.Source.asked l.0, l.1, l.2);
+      lazy = λ e. let l = says.lazy (c.holds_line.ensures.0 e) in (ap (g.S.Source.seen l).asked.0, l.1, l.2);
       unheld = unheld c.holds_line.result _ c.holds_line.ensures;
-      after_end = λ e. let l = says.after_end e in (ap g.S.Source.left l.0, ap g.S.Source.asked l.0, l.1, l.2);
+      after_end = λ e. let l = says.after_end e in
+          (ap (g.S.Source.seen l).left.0, ap (g.S.Source.seen l).asked.0, l.1, l.2);
       sought = says.sought;
     }
 

@@ -6,13 +6,13 @@ use Rattle.fx_stream.proofs.run.run_on.Given as goal
 abbrev pub invariant-lines : goal.invariant-lines
 invariant-lines g l = record {
   so_far : SoFar (g.P.Printer.outcome l.initial.printer) (g.P.Printer.outcome l.printer) l.lines
-      (g.S.Source.left l.initial.source) (g.S.Source.left l.source)
-      (g.K.Sink.taken l.initial.sink) (g.K.Sink.taken l.sink) l.page l.count l.initial.lines.limit
-      (g.S.Source.asked l.initial.source) (g.S.Source.asked l.source);
+      (g.S.Source.seen l.initial.source).left (g.S.Source.seen l.source).left
+      (g.K.Sink.seen l.initial.sink).taken (g.K.Sink.seen l.sink).taken l.page l.count l.initial.lines.limit
+      (g.S.Source.seen l.initial.source).asked (g.S.Source.seen l.source).asked;
   can : g.P.Printer.can_take l.printer;
   held : g.P.Printer.is_settled l.printer ⊎ HasRoom l.page;
-  later : g.S.Source.faults l.initial.source ≤ g.S.Source.faults l.source;
-  later_sink : g.K.Sink.faults l.initial.sink ≤ g.K.Sink.faults l.sink;
+  later : (g.S.Source.seen l.initial.source).faults ≤ (g.S.Source.seen l.source).faults;
+  later_sink : (g.K.Sink.seen l.initial.sink).faults ≤ (g.K.Sink.seen l.sink).faults;
 }
 
 abbrev pub decreases-lines : goal.decreases-lines

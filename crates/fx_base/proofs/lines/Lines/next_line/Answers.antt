@@ -10,7 +10,7 @@ use Rattle.fx_base.proofs.lines.Lines.next_line.Goals as goal
 
 -- what was fetched behind what was held
 fetched : (g : Over) (c : After-fetch g) →
-    HasMore c.args.self.now (g.S.Source.left c.args.source.now) (g.S.Source.left c.fetch.new.source)
+    HasMore c.args.self.now (g.S.Source.seen c.args.source.now).left (g.S.Source.seen c.fetch.new.source).left
     c.self.inside.number c.fetch.new.taken c.fetch.new.held c.fetch.ensures.more.0
 fetched g c =
     let m = c.fetch.ensures.more in
@@ -34,8 +34,9 @@ returns-clause-taken g c =
 
 -- the source was asked behind what was held
 sought : (g : Over) (c : After-fetch g) →
-    HoldsEachTime (IsSought c.args.self.now.held (g.S.Source.left c.args.source.now) (g.K.Sink.taken c.args.shown.now))
-    (g.S.Source.asked c.args.source.now) (g.S.Source.asked c.fetch.new.source)
+    HoldsEachTime
+    (IsSought c.args.self.now.held (g.S.Source.seen c.args.source.now).left (g.K.Sink.seen c.args.shown.now).taken)
+    (g.S.Source.seen c.args.source.now).asked (g.S.Source.seen c.fetch.new.source).asked
 sought g c =
     sought_behind _ _ _ _ _ _ (c.drop_front.ensures ∙ ap (λ (r : LinesState). r.held) c.self.view_is)
     c.fetch.ensures.sought

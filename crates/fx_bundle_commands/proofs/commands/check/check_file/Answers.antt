@@ -1,32 +1,21 @@
-use Rattle.std.proofs.Common.{refl}
-use Rattle.fx_stream.proofs.Grown.{none_grown}
-use Rattle.fx_bundle_commands.specs.Opening.{unopened, opened}
 use Rattle.fx_bundle_commands.specs.commands.Check.{reported, unwritten}
-use Rattle.fx_stream.proofs.Grown.{none_grown}
-use Rattle.fx_bundle_commands.specs.OpeningView.{with_source}
+use Rattle.fx_ends.specs.EndView.{end_of}
+use Rattle.fx_bundle_commands.specs.Tasks.{PrintBounds}
+use Rattle.fx_bundle_commands.proofs.FileEnds.{file_unopened, file_opened}
 use Rattle.fx_bundle_commands.proofs.commands.check.check_file.Goals as goal
 
-pub returns-in-Err-clause-ended : goal.returns-in-Err-clause-ended
-returns-in-Err-clause-ended g c =
-    λ rest. unopened _ c.in-Err.ensures.failed (record { left = refl; taken = refl })
+pub returns-in-Err : goal.returns-in-Err
+returns-in-Err g c = file_unopened PrintBounds _ _ _ _ c.in-Err.ensures.asked _ _ c.in-Err.ensures.failed
 
-pub returns-in-Ok-put_report-clause-ended : goal.returns-in-Ok-put_report-clause-ended
-returns-in-Ok-put_report-clause-ended g c =
-    let o = c.in-Ok.ensures.opened in let x = c.in-Ok.opened in
-    λ rest. opened _ (with_source x.certified x.source) x.certified.function o.is_bundle o.accepted
-    (reported c.in-Ok-put_report.ensures.all)
+pub returns-in-Ok-put_report : goal.returns-in-Ok-put_report
+returns-in-Ok-put_report g c =
+    let put = c.in-Ok-put_report.ensures.all in
+    file_opened PrintBounds _ _ _ _ c.in-Ok.ensures.asked _ _ _ _ c.in-Ok.opened.certified c.in-Ok.opened.source
+    c.in-Ok.ensures.opened (λ input. reported put) (_, put) (λ silent. absurd silent)
 
-pub returns-clause-ended : goal.returns-clause-ended
-returns-clause-ended g c =
-    let o = c.in-Ok.ensures.opened in let x = c.in-Ok.opened in
-    λ rest. opened _ (with_source x.certified x.source) x.certified.function o.is_bundle o.accepted
-    (unwritten c.in-Err-put_report.ensures.cause.failed c.in-Err-put_report.ensures.front)
-
-pub returns-in-Err-clause-appended : goal.returns-in-Err-clause-appended
-returns-in-Err-clause-appended g c = none_grown _
-
-pub returns-in-Ok-put_report-clause-appended : goal.returns-in-Ok-put_report-clause-appended
-returns-in-Ok-put_report-clause-appended g c = (_, c.in-Ok-put_report.ensures.all)
-
-pub returns-clause-appended : goal.returns-clause-appended
-returns-clause-appended g c = let front = c.in-Err-put_report.ensures.front in (_, front.2)
+pub returns : goal.returns
+returns g c =
+    let front = c.in-Err-put_report.ensures.front in
+    file_opened PrintBounds _ _ _ _ c.in-Ok.ensures.asked _ _ _ _ c.in-Ok.opened.certified c.in-Ok.opened.source
+    c.in-Ok.ensures.opened (λ input. unwritten c.in-Err-put_report.ensures.cause.failed front) (_, front.2)
+    (λ silent. absurd silent)

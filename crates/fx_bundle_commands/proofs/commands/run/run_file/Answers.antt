@@ -5,7 +5,7 @@ use Rattle.fx_bundle_commands.proofs.Consumed.{none_taken}
 use Rattle.fx_ends.specs.EndView.{end_of}
 use Rattle.fx_bundle_commands.specs.Opening.{unopened, opened}
 use Rattle.fx_bundle_commands.specs.OpeningView.{with_source}
-use Rattle.fx_bundle_commands.specs.commands.Rows.{HasAnswered}
+use Rattle.fx_bundle_commands.specs.Tasks.{IsPromptAt}
 use Rattle.fx_bundle_commands.proofs.commands.run.run_file.Goals as goal
 
 pub returns-in-Err : goal.returns-in-Err
@@ -16,7 +16,8 @@ returns-in-Err g c =
       ends = unopened _ c.in-Err.ensures.failed (record { left = refl; taken = refl });
       quiet = λ quiet. record { input = refl; output = refl };
       unopened = inr (record { input = refl; output = refl });
-      prompt = none_noted (HasAnswered _ _ _ _ _) _;
+      asked = c.in-Err.ensures.asked;
+      prompt = none_noted (IsPromptAt _ _ _ _) _;
       consumed = none_taken _;
       appended = none_grown _;
     }
@@ -30,8 +31,9 @@ returns-in-Ok g c =
       ends = opened _ (with_source x.certified x.source) x.certified.function o.is_bundle o.accepted (r.ended x.source);
       quiet = λ quiet. absurd (r.loud quiet);
       unopened = inl (with_source x.certified x.source, x.certified.function, o.is_bundle, o.accepted);
+      asked = c.in-Ok.ensures.asked;
       prompt =
-          noted_as _ (HasAnswered _ _ _ _ _) _ _ (λ m is. record {
+          noted_as _ (IsPromptAt _ _ _ _) _ _ (λ m is. record {
             bundle = with_source x.certified x.source;
             function = x.certified.function;
             is_bundle = o.is_bundle;

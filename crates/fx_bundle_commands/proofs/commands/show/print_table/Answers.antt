@@ -3,10 +3,10 @@ use Rattle.fx_bundle_commands.specs.commands.Texts.{written, unwritten, no_memor
 use Rattle.fx_bundle_commands.proofs.commands.show.print_table.Goals as goal
 
 pub returns-in_default-clause-ended : goal.returns-in_default-clause-ended
-returns-in_default-clause-ended g c = λ source rest. no_memory refl
+returns-in_default-clause-ended g c = λ source. no_memory refl
 
 pub returns-in-Ok-put_table-clause-ended : goal.returns-in-Ok-put_table-clause-ended
-returns-in-Ok-put_table-clause-ended g c = λ source rest. written c.in-Ok-put_table.ensures.all
+returns-in-Ok-put_table-clause-ended g c = λ source. written c.in-Ok-put_table.ensures.all
 
 pub returns-clause-ended : goal.returns-clause-ended
-returns-clause-ended g c = λ source rest. unwritten c.in-Err.ensures.cause.failed c.in-Err.ensures.front
+returns-clause-ended g c = λ source. unwritten c.in-Err.ensures.cause.failed c.in-Err.ensures.front

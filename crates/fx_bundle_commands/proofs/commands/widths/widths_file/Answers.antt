@@ -1,14 +1,13 @@
-use Rattle.std.proofs.Common.{refl}
-use Rattle.fx_bundle_commands.specs.Opening.{unopened, opened}
-use Rattle.fx_bundle_commands.specs.OpeningView.{with_source}
+use Rattle.fx_ends.specs.EndView.{end_of}
+use Rattle.fx_bundle_commands.specs.Tasks.{PrintWidths}
+use Rattle.fx_bundle_commands.proofs.FileEnds.{file_unopened, file_opened}
 use Rattle.fx_bundle_commands.proofs.commands.widths.widths_file.Goals as goal
 
-pub returns-in-Err-clause-ended : goal.returns-in-Err-clause-ended
-returns-in-Err-clause-ended g c =
-    λ rest. unopened _ c.in-Err.ensures.failed (record { left = refl; taken = refl })
+pub returns-in-Err : goal.returns-in-Err
+returns-in-Err g c = file_unopened PrintWidths _ _ _ _ c.in-Err.ensures.asked _ _ c.in-Err.ensures.failed
 
-pub returns-in-Ok-clause-ended : goal.returns-in-Ok-clause-ended
-returns-in-Ok-clause-ended g c =
-    let o = c.in-Ok.ensures.opened in let x = c.in-Ok.opened in
-    λ rest. opened _ (with_source x.certified x.source) x.certified.function o.is_bundle o.accepted
-    (c.print_text.ensures.ended _ rest c.widths_text.ensures)
+pub returns-in-Ok : goal.returns-in-Ok
+returns-in-Ok g c =
+    file_opened PrintWidths _ _ _ _ c.in-Ok.ensures.asked _ _ _ _ c.in-Ok.opened.certified c.in-Ok.opened.source
+    c.in-Ok.ensures.opened (λ input. c.print_text.ensures.ended _ c.widths_text.ensures)
+    c.print_text.ensures.appended c.print_text.ensures.quiet
