@@ -8,7 +8,7 @@ use std::fmt;
 /// Why nothing was found.
 #[derive(Clone, Copy, Debug, PartialEq, Eq)]
 pub enum SynthFault {
-    /// Neither plan serves the function, and this keeps it from the plain one.
+    /// Neither plan serves the function, and no attempt is accepted; this keeps it from the plain plan.
     NotFound {
         /// The first node that isn't modest, else the first output that has a demanded end or too small a demanded
         /// error.
