@@ -1,12 +1,12 @@
 -- What is demanded of outputs.
-use Rattle.std.specs.Prelude.{◌==◌, ◌&&◌, ℕ, Bool, List, [], ◌∷◌, ◌++◌, length, drop, map, replicate, Result, Ok, Err, if◌then◌else◌}
+use Rattle.std.specs.Prelude.{◌==◌, ◌&&◌, ℕ, Bool, List, [], ◌∷◌, ◌++◌, length, drop, map, replicate, None, Result, Ok, Err, if◌then◌else◌}
 use Rattle.std.specs.Option.{option_map}
 use Rattle.fx_lexer.specs.declared.fault.SourceFault.{SourceFault}
 use Rattle.fx_lexer.specs.declared.fault.SourceKind.TheVariants as kinds
 use Rattle.fx_rational.specs.Decimal.{decimal_value}
 use Rattle.fx_grammar.specs.declared.head.Head.TheVariants as heads
 use Rattle.fx_grammar.specs.Heads.{◌==ₕ◌}
-use Rattle.fx_model.specs.Function.{Demand, free}
+use Rattle.fx_model.specs.Function.{Demand}
 use Rattle.fx_model.specs.Steps.{◌>>=◌}
 use Rattle.fx_grammar.specs.Steps.{Tokens, Parsed, fault, next_head, want, separated, listed, has_name}
 use Rattle.fx_grammar.specs.Ranges.{Subject, Subjects, new_subject, names_of, is_said, is_empty_range, all_pass, condition_at}
@@ -53,17 +53,20 @@ demands_at subjects = do
 
 -- demand = name "+/-" number | signed rel name | name rel signed
 -- ensuring = "ensuring" "(" names "=>" demand { "&&" demand } ")", behind the word
-unfoldable pub ensuring_at : ℕ → ℕ → Tokens → Parsed (List Demand)
+unfoldable pub ensuring_at : ℕ → ℕ → Tokens → Parsed Subjects
 ensuring_at end outputs ts = do
   o ← want end heads.Open ts
   names ← outputs_at end outputs o.1
   a ← want end heads.Arrow names.1
   subjects ← separated heads.And (condition_at end) names.0 a.1
   c ← want end heads.Close subjects.1
-  demands ← demands_at subjects.0
-  Ok (demands, c.1)
+  Ok (subjects.0, c.1)
 
--- [ ensuring ]: without it each output is free
-unfoldable pub maybe_ensuring_at : ℕ → ℕ → Tokens → Parsed (List Demand)
+-- an output of which nothing is said
+abbrev pub unsaid : Subject
+unsaid = record { name = []; at = 0; lo = None; hi = None; err = None }
+
+-- [ ensuring ]: without it nothing is said of any output
+unfoldable pub maybe_ensuring_at : ℕ → ℕ → Tokens → Parsed Subjects
 maybe_ensuring_at end outputs ts =
-    if next_head ts ==ₕ heads.Ensuring then ensuring_at end outputs (drop 1 ts) else Ok (replicate outputs free, ts)
+    if next_head ts ==ₕ heads.Ensuring then ensuring_at end outputs (drop 1 ts) else Ok (replicate outputs unsaid, ts)

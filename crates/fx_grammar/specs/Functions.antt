@@ -6,13 +6,13 @@ use Rattle.fx_lexer.specs.Tokens.{Lexeme}
 use Rattle.fx_grammar.specs.declared.head.Head.TheVariants as heads
 use Rattle.fx_grammar.specs.Heads.{◌==ₕ◌}
 use Rattle.fx_model.specs.Limits.{node_limit}
-use Rattle.fx_model.specs.Function.{Function}
+use Rattle.fx_model.specs.Function.{Function, Demand}
 use Rattle.fx_model.specs.Steps.{◌>>=◌}
 use Rattle.fx_grammar.specs.Steps.{Text, Tokens, Parsed, fault, next_head, wrong, want, past_semicolon, listed, has_name}
 use Rattle.fx_grammar.specs.Ranges.{Subjects, names_of, require_at}
 use Rattle.fx_grammar.specs.Fronts.{Declared, param_at, states_at, type_at}
-use Rattle.fx_grammar.specs.Bodies.{Body, Results, vals_at, result_at, count_of}
-use Rattle.fx_grammar.specs.Ensuring.{maybe_ensuring_at, first_place}
+use Rattle.fx_grammar.specs.Bodies.{Body, vals_at, result_at, count_of}
+use Rattle.fx_grammar.specs.Ensuring.{maybe_ensuring_at, demands_at, first_place}
 
 -- the word require, or the fault that there is none
 unfoldable pub require_word_at : ℕ → Subjects → Tokens → Result Tokens SourceFault
@@ -55,10 +55,19 @@ body_of f = record {
   nodes = 0;
 }
 
--- the function, if it has no more than 4,000 nodes; else the fault at its word
-abbrev pub within_nodes : ℕ → Body → Results → Function → Tokens → Parsed Function
-within_nodes word b r f ts =
-    if nat_lt node_limit (count_of b (length r.trees) r.nodes) then Err (fault word kinds.TooMany) else Ok (f, ts)
+-- a function of so many nodes, or the fault at its word
+abbrev pub within_nodes : ℕ → ℕ → Result (Unit {0}) SourceFault
+within_nodes word nodes = if nat_lt node_limit nodes then Err (fault word kinds.TooMany) else Ok tt
+
+-- the brace and the demands; where both fail at the end, too many nodes come before ends in the wrong order
+-- [ ";" ] "}" [ ensuring ], where a function has so many nodes and outputs
+unfoldable pub ending_at : ℕ → ℕ → ℕ → ℕ → Tokens → Parsed (List Demand)
+ending_at end word nodes outputs ts = do
+  c ← want end heads.CloseBrace (past_semicolon ts)
+  subjects ← maybe_ensuring_at end outputs c.1
+  _ ← within_nodes word nodes
+  demands ← demands_at subjects.0
+  Ok (demands, subjects.1)
 
 -- require { val } result [ ";" ] "}" [ ensuring ]
 unfoldable pub body_at : ℕ → ℕ → Front → Tokens → Parsed Function
@@ -67,16 +76,19 @@ body_at end word f ts = do
   inputs ← require_at end f.subjects r
   b ← vals_at end (body_of f) (past_semicolon inputs.1)
   results ← result_at end word f.reals b.0 b.1
-  c ← want end heads.CloseBrace (past_semicolon results.1)
-  demands ← maybe_ensuring_at end (f.reals - length f.declared.states) c.1
-  within_nodes word b.0 results.0 (record {
-    name = f.name;
-    inputs = inputs.0;
-    states = f.declared.states;
-    temps = b.0.temps;
-    results = results.0.trees;
-    demands = demands.0;
-  }) demands.1
+  demands ← ending_at end word (count_of b.0 (length results.0.trees) results.0.nodes)
+      (f.reals - length f.declared.states) results.1
+  Ok (
+    record {
+      name = f.name;
+      inputs = inputs.0;
+      states = f.declared.states;
+      temps = b.0.temps;
+      results = results.0.trees;
+      demands = demands.0;
+    },
+    demands.1,
+  )
 
 -- def, behind the word, which stands at word
 unfoldable pub def_at : ℕ → ℕ → List Text → Tokens → Parsed Function

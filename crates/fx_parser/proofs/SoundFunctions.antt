@@ -11,7 +11,6 @@ use Rattle.fx_rational.proofs.Tests.{at_most_true}
 use Rattle.fx_model.specs.Names.{IsName}
 use Rattle.fx_model.specs.Tree.{Tree}
 use Rattle.fx_model.specs.Function as model
-use Rattle.fx_model.specs.Function.{free}
 use Rattle.fx_model.specs.Valid.{RefersBelow, AllReferBelow, ReferBack}
 use Rattle.fx_expr.specs.LawfulFunction.{IsLow, IsDemand}
 use Rattle.fx_lexer.specs.declared.fault.SourceKind.TheVariants as faults
@@ -24,8 +23,8 @@ use Rattle.fx_grammar.specs.Expressions.{expr_at}
 use Rattle.fx_grammar.specs.Ranges.{Subject, Subjects, new_subject, names_of, is_said, or_zero, all_pass, condition_at}
 use Rattle.fx_grammar.specs.Fronts.{param_at, Declared, declared_state, states_at, one_real, more_than, type_at}
 use Rattle.fx_grammar.specs.Bodies.{Body, known_of, whole_at, typed_at, with_temp, val_at, vals_at, Results, count_of, single_at, element_at, tuple_at, result_at}
-use Rattle.fx_grammar.specs.Ensuring.{output_at, of_arity, outputs_at, declared_demand, is_empty_demand, demands_at, ensuring_at, maybe_ensuring_at}
-use Rattle.fx_grammar.specs.Functions.{require_word_at, new_name, Front, front_at, body_of, body_at, def_at}
+use Rattle.fx_grammar.specs.Ensuring.{output_at, of_arity, outputs_at, declared_demand, is_empty_demand, demands_at, ensuring_at, unsaid, maybe_ensuring_at}
+use Rattle.fx_grammar.specs.Functions.{require_word_at, new_name, Front, front_at, body_of, within_nodes, ending_at, body_at, def_at}
 use Rattle.fx_grammar.specs.Sources.{dot_at, import_at, imports_at, function_names, one_def, defs_at, ended, object_at, source_of, functions_of}
 use Rattle.fx_parser.specs.LawfulTokens.{IsSize, AreSound}
 use Rattle.fx_parser.specs.LawfulNames.{IsLawfulAndNamed}
@@ -351,18 +350,31 @@ ends_of None hi e = tt {0}
 ends_of (Some l) None e = tt {0}
 ends_of (Some l) (Some h) e = at_most_true _ _ (not_false _ e)
 
-demand_of : (s : Subject) → IsSubject s → is_empty_demand s ≡ false → IsDemand (declared_demand s)
-demand_of s p e = record { err = err_of s.err p.1; ends = ends_of s.lo s.hi e }
+-- the error is one that may be written
+abbrev HasSize : Subject → Type 0
+HasSize s = IfSome s.err IsSize
 
-demands_of : (ss : Subjects) → All IsSubject ss → All (λ s. is_empty_demand s ≡ false) ss →
+-- so many outputs, whether they are named or not
+abbrev AreOutputs : ℕ → Subjects → Type 0
+AreOutputs n ss = (length ss ≡ n) × All HasSize ss
+
+have_size : (ss : Subjects) → All IsSubject ss → All HasSize ss
+have_size [] a = All-nil HasSize
+have_size (s ∷ ss) a = let one = All-head IsSubject s ss a in
+    All-cons HasSize s ss one.1 (have_size ss (All-tail IsSubject s ss a))
+
+demand_of : (s : Subject) → HasSize s → is_empty_demand s ≡ false → IsDemand (declared_demand s)
+demand_of s p e = record { err = err_of s.err p; ends = ends_of s.lo s.hi e }
+
+demands_of : (ss : Subjects) → All HasSize ss → All (λ s. is_empty_demand s ≡ false) ss →
     All IsDemand (map declared_demand ss)
 demands_of [] a o = All-nil IsDemand
 demands_of (s ∷ ss) a o =
-    let one = demand_of s (All-head IsSubject s ss a) (All-head (λ s. is_empty_demand s ≡ false) s ss o) in
+    let one = demand_of s (All-head HasSize s ss a) (All-head (λ s. is_empty_demand s ≡ false) s ss o) in
     All-cons IsDemand (declared_demand s) (map declared_demand ss) one
-    (demands_of ss (All-tail IsSubject s ss a) (All-tail (λ s. is_empty_demand s ≡ false) s ss o))
+    (demands_of ss (All-tail HasSize s ss a) (All-tail (λ s. is_empty_demand s ≡ false) s ss o))
 
-demands_ok : (n : ℕ) (ss : Subjects) (x : List model.Demand) → AreSubjects n ss → demands_at ss ≡ Ok x → AreDemands n x
+demands_ok : (n : ℕ) (ss : Subjects) (x : List model.Demand) → AreOutputs n ss → demands_at ss ≡ Ok x → AreDemands n x
 unfolding demands_at
 demands_ok n ss x q e =
     on_ok (all_pass is_empty_demand (λ at. fault at faults.EmptyRange) ss) (λ u. Ok (map declared_demand ss)) x e
@@ -373,33 +385,31 @@ demands_ok n ss x q e =
       demands_of ss q.1 (all_pass_ok is_empty_demand (λ at. fault at faults.EmptyRange) ss u ue),
     ))
 
-ensuring_ok : (end n : ℕ) (ts : Tokens) (x : List model.Demand × Tokens) → AreSound ts → ensuring_at end n ts ≡ Ok x →
-    AreDemands n x.0 × AreSound x.1
+ensuring_ok : (end n : ℕ) (ts : Tokens) (x : Subjects × Tokens) → AreSound ts → ensuring_at end n ts ≡ Ok x →
+    AreOutputs n x.0 × AreSound x.1
 unfolding ensuring_at
 ensuring_ok end n ts x s e =
     on_ok _ _ x e (λ o oe e. on_ok _ _ x e
-    (λ y ye e. on_ok _ _ x e (λ a ae e. on_ok _ _ x e (λ z ze e. on_ok _ _ x e (λ c ce e. on_ok _ _ x e (λ d de e.
+    (λ y ye e. on_ok _ _ x e (λ a ae e. on_ok _ _ x e (λ z ze e. on_ok _ _ x e (λ c ce e.
     let p = outputs_ok end n o.1 y (want_ok end heads.Open ts o s oe).2 ye in
     let q =
     separated_ok (AreSubjects n) (AreSubjects n) heads.And (condition_at end) (condition_ok n end)
     (condition_ok n end) y.0 a.1 z p.0 (want_ok end heads.Arrow y.1 a p.1 ae).2 ze in
-    subst (λ (y : List model.Demand × Tokens). AreDemands n y.0 ×
-    AreSound y.1) (same_ok (d, c.1) x e) (demands_ok n z.0 d q.0 de, (want_ok end heads.Close z.1 c q.1 ce).2)))))))
+    subst (λ (y : Subjects × Tokens). AreOutputs n y.0 × AreSound y.1) (same_ok (z.0, c.1) x e)
+    ((q.0.0, have_size z.0 q.0.1), (want_ok end heads.Close z.1 c q.1 ce).2))))))
 
-is_free : IsDemand free
-is_free = record { err = tt {0}; ends = tt {0} }
+none_said : (n : ℕ) → AreOutputs n (replicate n unsaid)
+none_said zero = (refl, All-nil HasSize)
+none_said (suc n) =
+    let p = none_said n in (ap suc p.0, All-cons HasSize unsaid (replicate n unsaid) (tt {0}) p.1)
 
-none_asked : (n : ℕ) → AreDemands n (replicate n free)
-none_asked zero = (refl, All-nil IsDemand)
-none_asked (suc n) = let p = none_asked n in (ap suc p.0, All-cons IsDemand free (replicate n free) is_free p.1)
-
-maybe_ok : (end n : ℕ) (ts : Tokens) (x : List model.Demand × Tokens) → AreSound ts →
-    maybe_ensuring_at end n ts ≡ Ok x → AreDemands n x.0 × AreSound x.1
+maybe_ok : (end n : ℕ) (ts : Tokens) (x : Subjects × Tokens) → AreSound ts → maybe_ensuring_at end n ts ≡ Ok x →
+    AreOutputs n x.0 × AreSound x.1
 unfolding maybe_ensuring_at
 maybe_ok end n ts x s e = on_if (next_head ts ==ₕ heads.Ensuring) _ _ x e
     (λ on e. ensuring_ok end n (drop 1 ts) x (sound_drop 1 ts s) e)
-    (λ off e. subst (λ (y : List model.Demand × Tokens). AreDemands n y.0 ×
-    AreSound y.1) (same_ok (_, ts) x e) (none_asked n, s))
+    (λ off e. subst (λ (y : Subjects × Tokens). AreOutputs n y.0 ×
+    AreSound y.1) (same_ok (_, ts) x e) (none_said n, s))
 
 -- ---- functions
 
@@ -443,12 +453,28 @@ require_word_ok end ss ts us s e = on_if (next_head ts ==ₕ heads.Require) _ _ 
     (λ on e. subst AreSound (same_ok (drop 1 ts) us e) (sound_drop 1 ts s))
     (λ off e. on_if (next_head ts ==ₕ heads.Unsupported) _ _ us e (λ on e. absurd cc) (λ off e. absurd cc))
 
+within_ok : (word nodes : ℕ) (u : Unit {0}) → within_nodes word nodes ≡ Ok u → nodes ≤ 4000
+within_ok word nodes u e = on_if (nat_lt 4000 nodes) _ _ u e (λ on e. absurd cc) (λ off e. search (rules, tests))
+
+ending_ok : (end word nodes n : ℕ) (ts : Tokens) (x : List model.Demand × Tokens) → AreSound ts →
+    ending_at end word nodes n ts ≡ Ok x → (nodes ≤ 4000) × (AreDemands n x.0 × AreSound x.1)
+unfolding ending_at
+ending_ok end word nodes n ts x s e =
+    on_ok _ _ x e (λ c ce e. on_ok _ _ x e (λ y ye e. on_ok {A = Unit {0}} _ _ x e (λ u ue e. on_ok _ _ x e (λ d de e.
+    let w = want_ok end heads.CloseBrace (past_semicolon ts) c (sound_semicolon ts s) ce in
+    let a = maybe_ok end n c.1 y w.2 ye in
+    let k = demands_ok n y.0 d a.0 de in (
+      within_ok word nodes u ue,
+      subst (λ (v : List model.Demand × Tokens). AreDemands n v.0 ×
+          AreSound v.1) (same_ok (d, y.1) x e) (k, a.1),
+    )))))
+
 body_ok : (end word : ℕ) (f : Front) (ts : Tokens) (x : model.Function × Tokens) → IsFront f → AreSound ts →
     body_at end word f ts ≡ Ok x → IsLawfulAndNamed x.0 × AreSound x.1
 unfolding body_at
 body_ok end word f ts x p s e =
     on_ok _ _ x e (λ r re e. on_ok _ _ x e
-    (λ i ie e. on_ok _ _ x e (λ b be e. on_ok _ _ x e (λ y ye e. on_ok _ _ x e (λ c ce e. on_ok _ _ x e (λ d de e.
+    (λ i ie e. on_ok _ _ x e (λ b be e. on_ok _ _ x e (λ y ye e. on_ok _ _ x e (λ d de e.
     let states = length f.declared.states in
     let q =
     require_ok (length f.subjects) end f.subjects r i (
@@ -465,8 +491,10 @@ body_ok end word f ts x p s e =
     } in
     let v = vals_ok end (body_of f) (past_semicolon i.1) b start (sound_semicolon i.1 q.1) be in
     let o = result_ok end word f.reals b.0 b.1 y (omega (arith, p.more)) v.0.0 v.1 ye in
-    let w = want_ok end heads.CloseBrace (past_semicolon y.1) c (sound_semicolon y.1 o.1) ce in
-    let a = maybe_ok end (f.reals - states) c.1 d w.2 de in
+    let g =
+    ending_ok end word (count_of b.0 (length y.0.trees) y.0.nodes) (f.reals - states) y.1 d o.1 de in
+    let a = g.1 in
+    let le : b.0.inputs + b.0.states + length y.0.trees + y.0.nodes ≤ 4000 = g.0 in
     let fn : model.Function = record {
       name = f.name;
       inputs = i.0;
@@ -475,8 +503,6 @@ body_ok end word f ts x p s e =
       results = y.0.trees;
       demands = d.0;
     } in
-    on_if (nat_lt 4000 (count_of b.0 (length y.0.trees) y.0.nodes)) _ _ x e (λ on e. absurd cc) (λ off e.
-    let le : b.0.inputs + b.0.states + length y.0.trees + y.0.nodes ≤ 4000 = search (rules, tests) in
     let below = subst (λ n. AllReferBelow n b.0.states (length b.0.temps) y.0.trees) (v.0.1.0
     ∙ sym q.0.0) o.0.1.below in
     let back = subst (λ n. ReferBack n b.0.states 0 b.0.temps) (v.0.1.0 ∙ sym q.0.0) v.0.0.back in
@@ -506,7 +532,7 @@ body_ok end word f ts x p s e =
         record { inputs = q.0.1.1; states = p.declared.2; temps = v.0.0.named },
       ),
       a.1,
-    ))))))))
+    ))))))
 
 def_ok : (end word : ℕ) (functions : List Text) (ts : Tokens) (x : model.Function × Tokens) → AreSound ts →
     def_at end word functions ts ≡ Ok x → IsLawfulAndNamed x.0 × AreSound x.1

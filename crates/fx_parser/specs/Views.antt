@@ -1,14 +1,9 @@
 -- What the values of the code stand for.
-use Rattle.std.specs.Prelude.{◌≡◌, ◌≤◌, ◌+◌, length, ℕ, List, map, Ok, Err, nat_lt, if◌then◌else◌}
-use Rattle.fx_lexer.specs.declared.fault.SourceKind.TheVariants.{TooMany}
+use Rattle.std.specs.Prelude.{◌≡◌, ◌≤◌, ◌+◌, length, List, map}
 use Rattle.fx_rational.specs.Decimal.{decimal_value}
-use Rattle.fx_model.specs.Limits.{input_limit, state_limit, temp_limit, node_limit}
+use Rattle.fx_model.specs.Limits.{input_limit, state_limit, temp_limit}
 use Rattle.fx_model.specs.Function as model
 use Rattle.fx_expr.specs.TreeOf.{tree}
-use Rattle.fx_model.specs.Steps.{◌>>=◌}
-use Rattle.fx_grammar.specs.declared.head.Head.TheVariants as heads
-use Rattle.fx_grammar.specs.Steps.{Tokens, Parsed, fault, past_semicolon, want}
-use Rattle.fx_grammar.specs.Ensuring.{maybe_ensuring_at}
 use Rattle.fx_grammar.specs.Fronts as fronts
 use Rattle.fx_grammar.specs.Bodies as bodies
 use Rattle.fx_grammar.specs.Functions as functions
@@ -63,16 +58,6 @@ source_function_of f = record {
   results = map tree f.results.items;
   demands = map demand_value f.demands.items;
 }
-
--- a function of so many nodes, and the tokens behind it
-abbrev pub bounded : ℕ → ℕ → model.Function → Tokens → Parsed model.Function
-bounded word nodes f ts = if nat_lt node_limit nodes then Err (fault word TooMany) else Ok (f, ts)
-
--- "}" [ ensuring ], where a function has so many outputs
-unfoldable pub ending_at : ℕ → ℕ → Tokens → Parsed (List model.Demand)
-ending_at end outputs ts = do
-  c ← want end heads.CloseBrace (past_semicolon ts)
-  maybe_ensuring_at end outputs c.1
 
 abbrev pub source_functions_of : SourceFunctions → List model.Function
 source_functions_of d = map source_function_of d.list.items

@@ -4,10 +4,9 @@ ghost use Rattle.fx_lexer.specs.Faults.{GivesParsed};
 ghost use Rattle.fx_cursor.specs.Texts.{all_texts};
 ghost use Rattle.fx_cursor.specs.Views.{lexemes};
 ghost use Rattle.fx_requirements.specs.Views.{demand_value, subject_of, subjects_of};
-ghost use Rattle.fx_parser.specs.Views.{source_function_of, front_value, body_value, results_value, HasBodyRoom, bounded, ending_at};
+ghost use Rattle.fx_parser.specs.Views.{source_function_of, front_value, body_value, results_value, HasBodyRoom};
 ghost use Rattle.fx_grammar.specs.Steps.{has_name, name_place};
-ghost use Rattle.fx_grammar.specs.Functions.{front_at, body_of, require_word_at, body_at};
-ghost use Rattle.fx_grammar.specs.Bodies.{count_of};
+ghost use Rattle.fx_grammar.specs.Functions.{front_at, body_of, require_word_at, within_nodes, ending_at, body_at};
 
 use crate::body::{Body, Results, Temp, outcome, vals};
 use crate::front::{Declared, State, params, states, type_at};
@@ -16,7 +15,7 @@ use fx_expr::Expr;
 use fx_grammar::Head;
 use fx_lexer::{SourceFault, SourceKind, Token};
 use fx_num::NODE_LIMIT;
-use fx_requirements::{Demanded, Named, Subject, first_place, maybe_ensuring, require};
+use fx_requirements::{Demanded, Named, Subject, demands_at, first_place, maybe_ensuring, require};
 use std::alloc::Global;
 
 /// A function of the source.
@@ -118,20 +117,34 @@ fn first_body<'a>(alloc: Global, names: Names<'a>, inputs: usize, states: usize)
     }
 }
 
-// The brace that closes a body, and the demands behind it, where the function has so many outputs.
-#[tactic(auto, unfolding(crate::specs::Views::ending_at))]
+/// Whether a function has no more than 4,000 nodes.
+fn within_nodes(word: u32, nodes: usize) -> Result<(), SourceFault>
+    ensures { GivesParsed (λ u. tt) result (within_nodes word nodes) }
+{
+    if nodes > NODE_LIMIT as usize {
+        return Err(SourceFault::at(word, SourceKind::TooMany));
+    }
+    Ok(())
+}
+
+// The brace that closes a body, and the demands behind it, where the function has so many nodes and outputs.
+#[tactic(auto, unfolding(fx_grammar::specs::Functions::ending_at))]
 fn ending<'t, 'a>(
     alloc: Global,
     end: u32,
+    word: u32,
+    nodes: usize,
     outputs: usize,
     tokens: &'t [Token<'a>],
 ) -> Parsed<'t, 'a, Vec<Demanded<'a>>>
     ensures value { GivesParsed (λ x. (map demand_value x.0.items, lexemes x.1.now)) result
-        (ending_at end outputs (lexemes tokens.now)) }
+        (ending_at end word nodes outputs (lexemes tokens.now)) }
     ensures shorter { IfOk result (λ x. length x.1.now ≤ length tokens.now) }
 {
     let (_, rest) = want(end, Head::CloseBrace, past_semicolon(tokens))?;
-    maybe_ensuring(alloc, end, outputs, rest)
+    let (subjects, rest) = maybe_ensuring(alloc, end, outputs, rest)?;
+    within_nodes(word, nodes)?;
+    Ok((demands_at(alloc, &subjects)?, rest))
 }
 
 /// From the `require` on.
@@ -165,9 +178,9 @@ pub fn read_body<'t, 'a>(
     let start = first_body(alloc, names, count, kept);
     let (known, rest) = vals(alloc, end, start, rest)?;
     let (results, rest) = outcome(alloc, end, word, reals, &known, rest)?;
-    let (demands, rest) = ending(alloc, end, reals - kept, rest)?;
-    let Results { trees, nodes } = results;
-    let total = count + kept + trees.len() + nodes as usize;
+    let total = count + kept + results.trees.len() + results.nodes as usize;
+    let (demands, rest) = ending(alloc, end, word, total, reals - kept, rest)?;
+    let Results { trees, .. } = results;
     let Body { temps, .. } = known;
     let source_function = SourceFunction {
         name,
@@ -177,23 +190,5 @@ pub fn read_body<'t, 'a>(
         results: trees,
         demands,
     };
-    within_nodes(word, total, source_function, rest)
-}
-
-/// The function, if it has no more than 4,000 nodes.
-fn within_nodes<'t, 'a>(
-    word: u32,
-    nodes: usize,
-    source_function: SourceFunction<'a>,
-    rest: &'t [Token<'a>],
-) -> Parsed<'t, 'a, SourceFunction<'a>>
-    ensures value { GivesParsed (λ x. (source_function_of x.0, lexemes x.1.now)) result
-        (bounded word nodes (source_function_of source_function.entry) (lexemes rest.now)) }
-    ensures shorter { IfOk result (λ x. length x.1.now ≤ length rest.now) }
-    ensures name { IfOk result (λ x. x.0.name.now ≡ source_function.entry.name.now) }
-{
-    if nodes > NODE_LIMIT as usize {
-        return Err(SourceFault::at(word, SourceKind::TooMany));
-    }
     Ok((source_function, rest))
 }

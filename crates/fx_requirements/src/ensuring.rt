@@ -2,11 +2,10 @@
 //!
 //! A demand is read as a condition of `require` is, over the names of the outputs.
 ghost use Rattle.std.specs.Prelude.{◌≡◌, ◌≤◌, ◌<◌, length, map, replicate, IfOk, Ok};
-ghost use Rattle.fx_model.specs.Function.{free};
 ghost use Rattle.fx_lexer.specs.Faults.{GivesParsed};
 ghost use Rattle.fx_cursor.specs.Views.{lexemes};
 ghost use Rattle.fx_requirements.specs.Views.{subject_of, subjects_of, demand_value, IsNamed};
-ghost use Rattle.fx_grammar.specs.Ensuring.{output_at, first_place, of_arity, outputs_at, declared_demand, demands_at, ensuring_at, maybe_ensuring_at};
+ghost use Rattle.fx_grammar.specs.Ensuring.{output_at, first_place, of_arity, outputs_at, declared_demand, demands_at, unsaid, ensuring_at, maybe_ensuring_at};
 
 use crate::condition::condition_at;
 use crate::range::{Flaw, none_has};
@@ -158,17 +157,6 @@ fn demand_of<'a>(subject: &Subject<'a>) -> Demanded<'a>
     }
 }
 
-// Nothing is demanded.
-fn free<'a>() -> Demanded<'a>
-    ensures { demand_value result ≡ free }
-{
-    Demanded {
-        err: None,
-        lo: None,
-        hi: None,
-    }
-}
-
 fn all_demanded<'a>(
     alloc: Global,
     subjects: &[Subject<'a>],
@@ -183,34 +171,50 @@ fn all_demanded<'a>(
     Ok(demands)
 }
 
-fn no_demands<'a>(alloc: Global, outputs: usize) -> Result<Vec<Demanded<'a>>, SourceFault>
-    ensures { GivesParsed (λ v. map demand_value v.items) result (Ok (replicate outputs free)) }
-{
-    let mut demands = Vec::new(alloc);
-    for _ in 0..outputs {
-        demands.push(free())?;
-    }
-    Ok(demands)
-}
-
 /// The demands, if no two ends are in the wrong order.
 #[tactic(auto, unfolding(fx_grammar::specs::Ensuring::demands_at))]
-fn demands_at<'a>(alloc: Global, subjects: &[Subject<'a>]) -> Result<Vec<Demanded<'a>>, SourceFault>
+pub fn demands_at<'a>(
+    alloc: Global,
+    subjects: &[Subject<'a>],
+) -> Result<Vec<Demanded<'a>>, SourceFault>
     ensures { GivesParsed (λ v. map demand_value v.items) result (demands_at (map subject_of subjects.now)) }
 {
     none_has(Flaw::EmptyDemand, subjects)?;
     all_demanded(alloc, subjects)
 }
 
-/// The demands, behind the word.
+// An output of which nothing is said.
+fn unsaid<'a>() -> Subject<'a>
+    ensures { subject_of result ≡ unsaid }
+{
+    Subject {
+        name: "",
+        at: 0,
+        lo: None,
+        hi: None,
+        err: None,
+    }
+}
+
+fn all_unsaid<'a>(alloc: Global, outputs: usize) -> Result<Vec<Subject<'a>>, SourceFault>
+    ensures { GivesParsed (λ v. subjects_of v) result (Ok (replicate outputs unsaid)) }
+{
+    let mut subjects = Vec::new(alloc);
+    for _ in 0..outputs {
+        subjects.push(unsaid())?;
+    }
+    Ok(subjects)
+}
+
+/// What is said of the outputs, behind the word.
 #[tactic(auto, unfolding(fx_grammar::specs::Ensuring::ensuring_at))]
 fn ensuring_at<'t, 'a>(
     alloc: Global,
     end: u32,
     outputs: usize,
     tokens: &'t [Token<'a>],
-) -> Parsed<'t, 'a, Vec<Demanded<'a>>>
-    ensures value { GivesParsed (λ x. (map demand_value x.0.items, lexemes x.1.now)) result
+) -> Parsed<'t, 'a, Vec<Subject<'a>>>
+    ensures value { GivesParsed (λ x. (subjects_of x.0, lexemes x.1.now)) result
         (ensuring_at end outputs (lexemes tokens.now)) }
     ensures shorter { IfOk result (λ x. length x.1.now < length tokens.now) }
 {
@@ -219,24 +223,23 @@ fn ensuring_at<'t, 'a>(
     let (_, rest) = want(end, Head::Arrow, rest)?;
     let (subjects, rest) = separated(&DemandRule { end }, Head::And, names, rest)?;
     let (_, rest) = want(end, Head::Close, rest)?;
-    let demands = demands_at(alloc, &subjects)?;
-    Ok((demands, rest))
+    Ok((subjects, rest))
 }
 
-/// The demands that there may be.
+/// What may be said of the outputs. Whether it can be demanded is for `demands_at` to tell, behind the count of nodes.
 #[tactic(auto, unfolding(fx_grammar::specs::Ensuring::maybe_ensuring_at))]
 pub fn maybe_ensuring<'t, 'a>(
     alloc: Global,
     end: u32,
     outputs: usize,
     tokens: &'t [Token<'a>],
-) -> Parsed<'t, 'a, Vec<Demanded<'a>>>
-    ensures value { GivesParsed (λ x. (map demand_value x.0.items, lexemes x.1.now)) result
+) -> Parsed<'t, 'a, Vec<Subject<'a>>>
+    ensures value { GivesParsed (λ x. (subjects_of x.0, lexemes x.1.now)) result
         (maybe_ensuring_at end outputs (lexemes tokens.now)) }
     ensures shorter { IfOk result (λ x. length x.1.now ≤ length tokens.now) }
 {
     if peek(tokens) == Head::Ensuring {
         return ensuring_at(alloc, end, outputs, behind(tokens));
     }
-    Ok((no_demands(alloc, outputs)?, tokens))
+    Ok((all_unsaid(alloc, outputs)?, tokens))
 }

@@ -1,8 +1,8 @@
 //! What a function says of its inputs and outputs: `require` and `ensuring`.
 //!
 //! Both speak of subjects, inputs or outputs by name, of which each learns a lower end, an upper end and an error at
-//! most once. `require` gives the inputs with their ranges and `maybe_ensuring` the demands, exactly as the definitions
-//! of `fx_grammar` do, or that memory ran out.
+//! most once. `require` gives the inputs with their ranges, `maybe_ensuring` what is said of the outputs and
+//! `demands_at` the demands that it makes, exactly as the definitions of `fx_grammar` do, or that memory ran out.
 //!
 //! The trap: where one token completes two faults, the order of two tests is the grammar's table; no test may move.
 #![tactic(auto)]
@@ -13,7 +13,7 @@ mod inputs;
 mod range;
 mod subject;
 
-pub use ensuring::{Demanded, first_place, maybe_ensuring};
+pub use ensuring::{Demanded, demands_at, first_place, maybe_ensuring};
 pub use inputs::require;
 pub use range::or_zero;
 pub use subject::{Named, Subject, no_subjects, with_subject};

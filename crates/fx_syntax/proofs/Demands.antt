@@ -1,17 +1,17 @@
 -- What is demanded of each output, read and spelled.
-use Rattle.std.proofs.Common.{◌≡◌, ℕ, false, List, [], ◌∷◌, map, Option, Some, None, Ok, refl, sym, ap, subst, ◌∙◌}
+use Rattle.std.proofs.Common.{◌≡◌, ℕ, zero, suc, false, List, [], ◌∷◌, map, replicate, Option, Some, None, Ok, refl, sym, ap, subst, ◌∙◌}
 use Rattle.std.specs.Prelude.{◌&&◌, not, Bool, true, IfSome}
 use Rattle.std.specs.Option.{option_map}
 use Rattle.std.proofs.lemmas.Bool.{not-false}
 use Rattle.fx_rational.specs.Decimal.{Decimal, decimal_value}
 use Rattle.fx_rational.specs.Rational.{Rational, AtMost, is_at_most}
 use Rattle.fx_rational.proofs.Tests.{at_most_true, at_most_test}
-use Rattle.fx_model.specs.Function.{Demand}
+use Rattle.fx_model.specs.Function.{Demand, free}
 use Rattle.fx_lexer.specs.declared.fault.SourceFault.{SourceFault}
 use Rattle.fx_lexer.specs.declared.fault.SourceKind.TheVariants as kinds
 use Rattle.fx_grammar.specs.Steps.{fault}
 use Rattle.fx_grammar.specs.Ranges.{Subject, Subjects, is_said, or_zero, all_pass}
-use Rattle.fx_grammar.specs.Ensuring.{declared_demand, is_empty_demand, demands_at}
+use Rattle.fx_grammar.specs.Ensuring.{declared_demand, is_empty_demand, demands_at, unsaid}
 use Rattle.fx_syntax.specs.Ensuring.{IsDemandOf, AreDemandsOf, none, one_more}
 use Rattle.fx_syntax.proofs.Outcomes.{OnOk, answered, done, and_then, steps}
 use Rattle.fx_syntax.proofs.Conditions.{pass_spells, passes}
@@ -101,3 +101,13 @@ pub demands_read : {subjects : Subjects} {demands : List Demand} → AreDemandsO
 unfolding demands_at
 demands_read i =
     steps _ (all_ordered (λ at. fault at kinds.EmptyRange) i) (ap (λ (ds : List Demand). Ok ds) (sym (all_declared i)))
+
+-- ---- of outputs of which nothing is said
+
+pub free_demands : (count : ℕ) → AreDemandsOf (replicate count unsaid) (replicate count free)
+free_demands zero = none
+free_demands (suc count) = one_more (demand_is unsaid refl) (free_demands count)
+
+pub all_free : (count : ℕ) {demands : List Demand} → AreDemandsOf (replicate count unsaid) demands →
+    demands ≡ replicate count free
+all_free count i = all_declared i ∙ sym (all_declared (free_demands count))

@@ -1,18 +1,18 @@
 -- The demands of outputs, behind their names.
-use Rattle.std.proofs.Common.{◌≡◌, ℕ, ◌<◌, ◌≤◌, true, false, eqb, List, [], length, drop, Ok, refl, sym, ap, ◌∙◌, arith, rules, tests}
+use Rattle.std.proofs.Common.{◌≡◌, ℕ, ◌<◌, ◌≤◌, true, false, eqb, List, [], length, drop, replicate, Ok, refl, sym, ap, subst, ◌∙◌, arith, rules, tests}
 use Rattle.fx_model.specs.Function.{Demand}
 use Rattle.fx_grammar.specs.declared.head.Head.TheVariants as heads
 use Rattle.fx_grammar.specs.Heads.{◌==ₕ◌}
 use Rattle.fx_grammar.specs.Steps.{Tokens, next_head, has_name, listed as listed_by}
 use Rattle.fx_grammar.specs.Ranges.{Subjects, names_of, condition_at}
-use Rattle.fx_grammar.specs.Ensuring.{output_at, of_arity, outputs_at, ensuring_at, maybe_ensuring_at}
+use Rattle.fx_grammar.specs.Ensuring.{output_at, of_arity, outputs_at, ensuring_at, unsaid, maybe_ensuring_at}
 use Rattle.fx_syntax.specs.Conditions.{IsSimple}
-use Rattle.fx_syntax.specs.Ensuring.{IsOutput, IsOutputs, one, several, IsEnsuring, IsMaybeEnsuring, left_out, written}
+use Rattle.fx_syntax.specs.Ensuring.{IsOutput, IsOutputs, one, several, AreDemandsOf, IsEnsuring, IsMaybeEnsuring, left_out, written}
 use Rattle.fx_syntax.proofs.Outcomes.{OnOk, done, failed, and_then, choose, weaken, steps, on_true, on_false}
 use Rattle.fx_syntax.proofs.Marks.{mark, same_head, next_is, is_next, not_next, behind_is, next_shorter, want_spells, want_reads}
 use Rattle.fx_syntax.proofs.Repeats.{itself, as_seen, from_seen, Any, keeps_any, Spells, separated_spells, separated_reads, listed_spells, listed_reads, separated_shorter, listed_shorter}
 use Rattle.fx_syntax.proofs.Conditions.{condition_spells, simple_reads, simple_step}
-use Rattle.fx_syntax.proofs.Demands.{demands_spell, demands_read}
+use Rattle.fx_syntax.proofs.Demands.{all_free, free_demands}
 
 demand_spells : (end : ℕ) → Spells itself Any IsSimple (condition_at end)
 demand_spells end s any ts = as_seen (condition_spells end s ts)
@@ -64,7 +64,14 @@ outputs_read end count {ts} (several {rest = rest} {outputs = outputs} o i) same
     (λ ts t us n. tt {0}) (λ ts t us n. tt {0}) i)
     (counted_reads count outputs rest same))
 
-ensuring_spells : (end count : ℕ) (ts : Tokens) → OnOk (λ x. IsEnsuring count ts x.0 x.1) (ensuring_at end count ts)
+-- what was said of the outputs can be demanded so
+abbrev pub IsSaid : ℕ → Tokens → Subjects → Tokens → Type 0
+IsSaid count ts subjects rest =
+    (demands : List Demand) → AreDemandsOf subjects demands → IsMaybeEnsuring count ts demands rest
+
+ensuring_spells : (end count : ℕ) (ts : Tokens) →
+    OnOk (λ x. (demands : List Demand) → AreDemandsOf x.0 demands → IsEnsuring count ts demands x.1)
+    (ensuring_at end count ts)
 unfolding ensuring_at
 ensuring_spells end count ts =
     and_then (want_spells end heads.Open ts) (λ o n.
@@ -73,8 +80,7 @@ ensuring_spells end count ts =
     and_then (from_seen (separated_spells itself Any IsSimple (condition_at end) (demand_spells end)
     (keeps_any IsSimple) heads.And refl names.0 (tt {0}) a.1)) (λ s demanded.
     and_then (want_spells end heads.Close s.1) (λ c close.
-    and_then (demands_spell s.0) (λ ds demands.
-    done (record {
+    done (λ ds demands. record {
       outputs = names.0;
       demanded = s.0;
       names = o.1;
@@ -88,10 +94,10 @@ ensuring_spells end count ts =
       close = mark close;
       as_many = outputs.0;
       demands_are = demands;
-    })))))))
+    }))))))
 
-ensuring_reads : (end count : ℕ) (ts : Tokens) (demands : List Demand) (rest : Tokens) →
-    IsEnsuring count ts demands rest → ensuring_at end count ts ≡ Ok (demands, rest)
+ensuring_reads : (end count : ℕ) (ts : Tokens) (demands : List Demand) (rest : Tokens)
+    (i : IsEnsuring count ts demands rest) → ensuring_at end count ts ≡ Ok (i.demanded, rest)
 unfolding ensuring_at
 ensuring_reads end count ts demands rest i =
     steps _ (want_reads end i.opening.next) (
@@ -101,25 +107,34 @@ ensuring_reads end count ts demands rest i =
     (λ s ts after rest i fits. simple_reads end s ts after rest i)
     (λ s ts after rest i. (simple_step s ts after rest i).shorter)
     heads.And (λ ts t us n. tt {0}) i.demanded_are (tt {0}) (not_next i.close.next heads.And refl)) (
-    steps _ (want_reads end i.close.next) (
-    steps _ (demands_read i.demands_are) refl)))))
+    steps _ (want_reads end i.close.next) refl))))
 
 pub maybe_ensuring_spells : (end count : ℕ) (ts : Tokens) →
-    OnOk (λ x. IsMaybeEnsuring count ts x.0 x.1) (maybe_ensuring_at end count ts)
+    OnOk (λ x. IsSaid count ts x.0 x.1) (maybe_ensuring_at end count ts)
 unfolding maybe_ensuring_at
 maybe_ensuring_spells end count ts = choose (next_head ts ==ₕ heads.Ensuring)
     (λ e. let t = next_is ts heads.Ensuring (same_head _ _ e) refl in
-    weaken (λ x i. written (mark t.1) i) (ensuring_spells end count (drop 1 ts)))
-    (λ e. done left_out)
+    weaken (λ x said ds demands. written (mark t.1) (said ds demands)) (ensuring_spells end count (drop 1 ts)))
+    (λ e. done (λ ds demands. subst (λ ds. IsMaybeEnsuring count ts ds ts) (sym (all_free count demands)) left_out))
+
+-- what is said of the outputs, as it is read
+pub record AreSaid (end count : ℕ) (ts : Tokens) (demands : List Demand) (rest : Tokens) : Type 0 where
+  pub subjects : Subjects
+  pub read : maybe_ensuring_at end count ts ≡ Ok (subjects, rest)
+  pub demands_are : AreDemandsOf subjects demands
 
 pub maybe_ensuring_reads : (end count : ℕ) {ts : Tokens} {demands : List Demand} {rest : Tokens} →
     IsMaybeEnsuring count ts demands rest → (next_head rest ==ₕ heads.Ensuring) ≡ false
-    → maybe_ensuring_at end count ts ≡ Ok (demands, rest)
+    → AreSaid end count ts demands rest
 unfolding maybe_ensuring_at
-maybe_ensuring_reads end count left_out off = on_false _ off refl
-maybe_ensuring_reads end count (written {us = us} {rest = rest} {demands = demands} n i) off =
-    on_true _ (is_next n.next) (ap (ensuring_at end count) (behind_is n.next)
-    ∙ ensuring_reads end count us demands rest i)
+maybe_ensuring_reads end count left_out off =
+    record { subjects = replicate count unsaid; read = on_false _ off refl; demands_are = free_demands count }
+maybe_ensuring_reads end count (written {us = us} {rest = rest} {demands = demands} n i) off = record {
+  subjects = i.demanded;
+  read = on_true _ (is_next n.next) (ap (ensuring_at end count) (behind_is n.next)
+      ∙ ensuring_reads end count us demands rest i);
+  demands_are = i.demands_are;
+}
 
 output_shorter : (s : Subjects) (ts : Tokens) (after : Subjects) (rest : Tokens) → IsOutput s ts after rest →
     length rest < length ts

@@ -13,8 +13,7 @@ use Rattle.fx_grammar.specs.Steps.{Text, Tokens, Parsed, next_head, want, past_s
 use Rattle.fx_grammar.specs.Ranges.{Subjects, names_of}
 use Rattle.fx_grammar.specs.Fronts.{param_at}
 use Rattle.fx_grammar.specs.Bodies.{Body, Results, vals_at, result_at, count_of}
-use Rattle.fx_grammar.specs.Ensuring.{maybe_ensuring_at}
-use Rattle.fx_grammar.specs.Functions.{require_word_at, new_name, Front, front_at, body_of, within_nodes, body_at, def_at}
+use Rattle.fx_grammar.specs.Functions.{require_word_at, new_name, Front, front_at, body_of, within_nodes, ending_at, body_at, def_at}
 use Rattle.fx_syntax.specs.Leaves.{IsNext, IsMaybeSemicolon, left_out, written}
 use Rattle.fx_syntax.specs.Runs.{IsRun, IsBehind}
 use Rattle.fx_syntax.specs.Fronts.{IsParam}
@@ -31,6 +30,7 @@ use Rattle.fx_syntax.proofs.Nesting.{require_spells, require_reads, require_shor
 use Rattle.fx_syntax.proofs.ExpressionReads.{Stops, stops_next}
 use Rattle.fx_syntax.proofs.Bodies as bodies
 use Rattle.fx_syntax.proofs.Bodies.{sizes, tree_sizes, results_of, vals_spell, vals_read, vals_follow, vals_shorter, result_spells, result_begins, result_reads, result_shorter, semicolon_shorter}
+use Rattle.fx_syntax.proofs.Demands.{demands_spell, demands_read}
 use Rattle.fx_syntax.proofs.Ensuring.{maybe_ensuring_spells, maybe_ensuring_reads, maybe_ensuring_shorter}
 use Rattle.fx_syntax.proofs.NodeCounts.{nodes_length}
 
@@ -149,16 +149,18 @@ function_of f inputs temps xs demands = record {
 
 closing : ℕ → ℕ → Front → List Input → Body → Results → Tokens → Parsed Function
 closing end word f inputs b r us = do
-  c ← want end heads.CloseBrace (past_semicolon us)
-  demands ← maybe_ensuring_at end (f.reals - length f.declared.states) c.1
-  within_nodes word b r (record {
-    name = f.name;
-    inputs = inputs;
-    states = f.declared.states;
-    temps = b.temps;
-    results = r.trees;
-    demands = demands.0;
-  }) demands.1
+  demands ← ending_at end word (count_of b (length r.trees) r.nodes) (f.reals - length f.declared.states) us
+  Ok (
+    record {
+      name = f.name;
+      inputs = inputs;
+      states = f.declared.states;
+      temps = b.temps;
+      results = r.trees;
+      demands = demands.0;
+    },
+    demands.1,
+  )
 
 ending : ℕ → ℕ → Front → List Input → Body → Tokens → Parsed Function
 ending end word f inputs b us = result_at end word f.reals b us >>= λ r. closing end word f inputs b r.0 r.1
@@ -187,30 +189,58 @@ count_is f inputs temps xs demands same =
     let b = length-map f.subjects (λ s. s.name) in
     let c = length-map f.declared.states (λ s. s.name) in omega arith
 
+-- the brace and what may be demanded, of few nodes
+record IsEnding (nodes outputs : ℕ) (ts : Tokens) (demands : List Demand) (rest : Tokens) : Type 0 where
+  brace : Lexeme
+  braces : Tokens
+  bounds : Tokens
+  semicolon : IsMaybeSemicolon ts braces
+  next : IsNext heads.CloseBrace braces brace bounds
+  ensuring_is : IsMaybeEnsuring outputs bounds demands rest
+  few : nodes ≤ 4000
+
+within_spells : (word nodes : ℕ) → OnOk (λ u. nodes ≤ 4000) (within_nodes word nodes)
+within_spells word nodes =
+    choose (nat_lt 4000 nodes) (λ e. failed) (λ e. let few : nodes ≤ 4000 = search (rules, tests) in done few)
+
+ending_spells : (end word nodes outputs : ℕ) (ts : Tokens) →
+    OnOk (λ y. IsEnding nodes outputs ts y.0 y.1) (ending_at end word nodes outputs ts)
+unfolding ending_at
+ending_spells end word nodes outputs ts =
+    and_then (want_spells end heads.CloseBrace (past_semicolon ts)) (λ c n.
+    and_then (maybe_ensuring_spells end outputs c.1) (λ s said.
+    and_then (within_spells word nodes) (λ u few.
+    and_then (demands_spell s.0) (λ ds demands.
+    done (record {
+      brace = c.0;
+      braces = past_semicolon ts;
+      bounds = c.1;
+      semicolon = semicolon_spells ts;
+      next = n;
+      ensuring_is = said ds demands;
+      few = few;
+    })))))
+
 closing_spells : (end word : ℕ) (f : Front) (inputs : List Input) (temps : List Temp) (xs : List Tree) (ts : Tokens) →
     length inputs ≡ length f.subjects
     → OnOk (λ y. IsClosing f inputs temps xs ts y.0 y.1)
     (closing end word f inputs (bodies.body_at (scope_of f) temps) (results_of (sizes temps) xs) ts)
 unfolding closing function_of
 closing_spells end word f inputs temps xs ts same =
-    and_then (want_spells end heads.CloseBrace (past_semicolon ts)) (λ c n.
-    and_then (maybe_ensuring_spells end (f.reals - length f.declared.states) c.1) (λ d demands.
-    choose (nat_lt 4000 (count_of (bodies.body_at (scope_of f) temps) (length xs) (results_of (sizes temps) xs).nodes))
-    (λ e. failed) (λ e.
-    let few : count_of (bodies.body_at (scope_of f) temps) (length xs) (results_of (sizes temps) xs).nodes ≤ 4000 =
-    search (rules, tests) in
+    and_then (ending_spells end word _ (f.reals - length f.declared.states) ts) (λ d i.
+    let few = i.few in
     let count = count_is f inputs temps xs d.0 same in
     done (record {
       demands = d.0;
-      brace = c.0;
-      braces = past_semicolon ts;
-      bounds = c.1;
-      semicolon = semicolon_spells ts;
-      next = n;
-      ensuring_is = demands;
+      brace = i.brace;
+      braces = i.braces;
+      bounds = i.bounds;
+      semicolon = i.semicolon;
+      next = i.next;
+      ensuring_is = i.ensuring_is;
       value = refl;
       nodes = omega arith;
-    }))))
+    }))
 
 pub body_spells : (end word : ℕ) (f : Front) (ts : Tokens) →
     f.declared.names ≡ names_of f.subjects ++ map (λ s. s.name) f.declared.states → 0 < f.reals →
@@ -287,6 +317,20 @@ same_function f fn n s = ap (λ (x : Text). one_function x f.declared.states) (s
       demands = fn.demands;
     }
 
+ending_reads : (end word : ℕ) {nodes outputs : ℕ} {ts : Tokens} {demands : List Demand} {rest : Tokens} →
+    IsEnding nodes outputs ts demands rest → (next_head rest ==ₕ heads.Ensuring) ≡ false
+    → ending_at end word nodes outputs ts ≡ Ok (demands, rest)
+unfolding ending_at
+ending_reads end word {nodes} {outputs} {rest = rest} i off =
+    let said = maybe_ensuring_reads end outputs i.ensuring_is off in
+    let few = i.few in
+    let e : nat_lt 4000 nodes ≡ false = search (rules, tests, arith) in
+    steps _ (ap (want end heads.CloseBrace) (semicolon_reads i.semicolon (not_next i.next heads.Semicolon refl))
+    ∙ want_reads end i.next) (
+    steps _ said.read (
+    steps _ (on_false _ e refl) (
+    steps _ (demands_read said.demands_are) refl)))
+
 closing_reads : (end word : ℕ) (f : Front) (ts : Tokens) (fn : Function) (rest : Tokens) (i : IsBody f ts fn rest) →
     (next_head rest ==ₕ heads.Ensuring) ≡ false
     → closing end word f fn.inputs (bodies.body_at (scope_of f) fn.temps)
@@ -299,13 +343,15 @@ closing_reads end word f ts fn rest i off =
     subst (λ g. length (nodes_of g) ≤ 4000) (sym same) i.nodes in
     let le : count_of (bodies.body_at (scope_of f) fn.temps) (length fn.results)
     (results_of (sizes fn.temps) fn.results).nodes ≤ 4000 = omega arith in
-    let e : nat_lt 4000 (count_of (bodies.body_at (scope_of f) fn.temps) (length fn.results)
-    (results_of (sizes fn.temps) fn.results).nodes) ≡ false = search (rules, tests, arith) in
-    steps _ (ap (want end heads.CloseBrace)
-    (semicolon_reads i.result_semicolon (not_next i.brace.next heads.Semicolon refl))
-    ∙ want_reads end i.brace.next) (
-    steps _ (maybe_ensuring_reads end (f.reals - length f.declared.states) i.ensuring_is off) (
-    on_false _ e (ap (λ (g : Function). Ok (g, rest)) same)))
+    steps _ (ending_reads end word (record {
+      brace = i.brace.token;
+      braces = i.braces;
+      bounds = i.bounds;
+      semicolon = i.result_semicolon;
+      next = i.brace.next;
+      ensuring_is = i.ensuring_is;
+      few = le;
+    }) off) (ap (λ (g : Function). Ok (g, rest)) same)
 
 -- behind a result a semicolon or the brace stands
 brace_stops : {ts us : Tokens} {t : Lexeme} {rest : Tokens} → IsMaybeSemicolon ts us →

@@ -23,7 +23,7 @@ use Rattle.fx_grammar.specs.Expressions.{closed, opened, atom_of, behind_minus, 
 use Rattle.fx_grammar.specs.Fronts.{param_at, declared_state, states_at, one_real, type_at}
 use Rattle.fx_grammar.specs.Bodies.{whole_at, typed_at, val_at, vals_at, single_at, element_at, tuple_at, result_at}
 use Rattle.fx_grammar.specs.Ensuring.{output_at, outputs_at, demands_at, ensuring_at, maybe_ensuring_at}
-use Rattle.fx_grammar.specs.Functions.{require_word_at, front_at, body_at, def_at}
+use Rattle.fx_grammar.specs.Functions.{require_word_at, front_at, ending_at, body_at, def_at}
 use Rattle.fx_grammar.specs.Sources.{dot_at, import_at, imports_at, one_def, defs_at, object_at, source_of, functions_of}
 use Rattle.fx_syntax.specs.Expressions.{Scope, literal_tree, IsExpr, one_term, difference, one_factor, product, one_atom, IsAtom, number}
 use Rattle.fx_syntax.specs.Laws.{IsSourceText}
@@ -38,7 +38,7 @@ unfolding gcd over is_at_most lowest decimal_value numeral_of trimmed decimal_of
     conditions_step conditions_at all_pass inputs_at require_at closed opened atom_of behind_minus factor_of term_of
     sum_from expr_at inner_at param_at declared_state states_at one_real type_at whole_at typed_at val_at vals_at
     single_at element_at tuple_at result_at output_at outputs_at demands_at ensuring_at maybe_ensuring_at
-    require_word_at front_at body_at def_at dot_at import_at imports_at one_def defs_at object_at source_of
+    require_word_at front_at ending_at body_at def_at dot_at import_at imports_at one_def defs_at object_at source_of
 read text = functions_of text
 
 -- ---- expressions: the body of a function of x and y

@@ -1,14 +1,14 @@
-use Rattle.std.proofs.Common.{◌≡◌, ◌+◌, ◌-◌, length, map, sym, ap, ◌∙◌, arith, rules, tests}
+use Rattle.std.proofs.Common.{◌≡◌, ℕ, refl, ◌+◌, ◌-◌, length, map, sym, ap, ◌∙◌, arith, rules, tests}
 use Rattle.std.proofs.lemmas.List.{length-map}
 use Rattle.std.proofs.lemmas.Result.{err_from_is_err_and}
 use Rattle.fx_expr.specs.TreeOf.{tree}
-use Rattle.fx_grammar.specs.Functions.{body_of, require_word_at}
+use Rattle.fx_grammar.specs.Functions.{body_of, ending_at, require_word_at}
 use Rattle.fx_grammar.specs.Steps.{past_semicolon}
 use Rattle.fx_grammar.specs.Bodies.{Body, vals_at}
 use Rattle.fx_cursor.specs.Views.{lexemes}
 use Rattle.fx_requirements.specs.Views.{inputs_value, subject_of}
-use Rattle.fx_parser.specs.Views.{body_value, ending_at, front_value, results_value, state_value}
-use Rattle.fx_parser.proofs.BodyParts.{AreBodyParts, body_is, body_wrong}
+use Rattle.fx_parser.specs.Views.{body_value, front_value, results_value, state_value}
+use Rattle.fx_parser.proofs.BodyParts.{AreBodyParts, its_ending, body_is, body_wrong}
 use Rattle.fx_parser.proofs.function.read_body.Goals.{In_ok-results}
 use Rattle.fx_parser.proofs.function.read_body.Goals as goal
 
@@ -38,23 +38,29 @@ inside c =
       results = c.in_ok-results.ensures.value;
     }
 
+-- what the brace and the demands behind these parts come to, by the count of the code
+ending_is : (c : In_ok-results) (nodes : ℕ) →
+    nodes ≡ c.len-count.result + c.len-kept.result + length c.in_ok-results.results.trees.items
+    + c.in_ok-results.results.nodes
+    → its_ending (inside c)
+    ≡ ending_at c.args.end c.args.word nodes (c.args.front.reals - c.len-kept.result) (lexemes c.in_ok-results.rest.now)
+ending_is c nodes e =
+    let trees : length (map tree c.in_ok-results.results.trees.items) ≡ length c.in_ok-results.results.trees.items =
+    simp length-map refl in
+    let kept = c.in_ok-known.ensures.kept in let few = c.first_body-start.ensures.few in
+    let count : c.in_ok-known.known.inputs + c.in_ok-known.known.states
+    + length (map tree c.in_ok-results.results.trees.items) + c.in_ok-results.results.nodes ≡ nodes =
+    omega (arith, kept.0, kept.1, few.0, few.1, trees, e) in
+    rw (count, states c) refl
+
 pub returns-in_err-demands-clause-value : goal.returns-in_err-demands-clause-value
 returns-in_err-demands-clause-value c =
     let on = (goal.at.returns-in_err-demands-clause-value c).In_ok-results in
     let fault = err_from_is_err_and c.from_residual-in_err-demands.result c.from_residual-in_err-demands.ensures.1 in
-    rw (fault.1, fault.2) (body_wrong (inside on) c.in_err-demands.field-0.0
-    (rw (states on) c.in_err-demands.ensures.value))
+    let same = ending_is on _ (search (rules, tests)) in
+    rw (fault.1, fault.2) (body_wrong (inside on) c.in_err-demands.field-0.0 (rw same c.in_err-demands.ensures.value))
 
 pub returns-clause-value : goal.returns-clause-value
 returns-clause-value c =
     let on = (goal.at.returns-clause-value c).In_ok-results in
-    let body = body_is (inside on) _ (ap (λ n. ending_at c.args.end (c.args.front.reals - n)
-    (lexemes c.in_ok-results.rest.now)) (states on) ∙ c.in_ok-demands.ensures.value) in
-    let l : length c.in_ok-results.results.trees.items ≡ c.len.result = search (rules, tests) in
-    let trees : length (map tree c.in_ok-results.results.trees.items) ≡ c.len.result = simp length-map l in
-    let kept = c.in_ok-known.ensures.kept in let few = c.first_body-start.ensures.few in
-    let nodes : c.in_ok-known.known.inputs + c.in_ok-known.known.states + length
-    (map tree c.in_ok-results.results.trees.items) + c.in_ok-results.results.nodes
-    ≡ c.len-count.result + c.len-kept.result + c.len.result + c.in_ok-results.results.nodes =
-    omega (arith, kept.0, kept.1, few.0, few.1, trees) in
-    rw body (rw nodes c.within_nodes.ensures.value)
+    body_is (inside on) _ (ending_is on _ (search (rules, tests)) ∙ c.in_ok-demands.ensures.value)
