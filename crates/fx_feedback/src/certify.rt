@@ -93,8 +93,9 @@ fn certified_cleaned(
     if draft.steps.is_empty() || (is_found && !is_turned) {
         return Ok(None);
     }
+    let steps = draft.steps.steps(alloc)?;
     let turned = Task {
-        steps: &draft.steps,
+        steps: &steps,
         function: &draft.function,
         nodes: &nodes,
         ..task

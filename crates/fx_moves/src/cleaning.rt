@@ -41,7 +41,7 @@ fn put_paths(
     Ok(is_literal)
 }
 
-/// The same of an operand.
+/// Appends the paths below an operand, and answers whether it becomes a literal.
 #[cycle(listing)]
 fn put_below(
     alloc: Global,
@@ -66,19 +66,21 @@ fn clean_at(alloc: Global, draft: &mut Draft, site: &Site, below: &[u8]) -> Resu
     Ok(false)
 }
 
-/// Cleans the tree at a site, and answers whether anything was changed.
+/// Cleans the tree at a site, and answers whether anything was changed. Nothing of it is drawn.
 pub fn clean(alloc: Global, draft: &mut Draft, site: &Site) -> Result<bool, Memory> {
     let mut paths = Vec::new(alloc);
     let mut path = Vec::new(alloc);
     if let Some(e) = draft.at(site) {
         let _ = put_paths(alloc, e, &mut path, &mut paths)?;
     }
+    let was = draft.direct(true);
     let mut is_changed = false;
     for path in &paths {
         if clean_at(alloc, draft, site, path)? {
             is_changed = true;
         }
     }
+    let _ = draft.direct(was);
     Ok(is_changed)
 }
 

@@ -3,23 +3,29 @@
 //! A draft is changed in place, one rule at a time. A rule that doesn't match leaves it as it is, and a step that
 //! undoes an earlier one takes that away, so that the list of steps stays short.
 
-ghost use Rattle.std.specs.Prelude.{◌<◌, length, IfSome};
-
 use crate::rule::inverse;
+use crate::trail::Trail;
 use fx_expr::{Expr, Function, Items, same};
 use fx_num::Memory;
 use fx_rewrite::{StepFault, apply};
-use fx_step::{Step, copied_steps};
+use fx_step::Step;
 use std::alloc::Global;
 
 /// The most steps of a draft.
 const STEP_LIMIT: usize = 1024;
 
+/// The most steps that are drawn at random from where a draft is taken up.
+const DRAWN_LIMIT: u32 = 64;
+
 /// A function, and the steps that made it of the source's.
 #[derive(Drop)]
 pub struct Draft {
     pub function: Function,
-    pub steps: Vec<Step>,
+    pub steps: Trail,
+    /// How many steps were drawn since the draft was taken up.
+    drawn: u32,
+    /// Whether the steps that are made follow a rule, so that they aren't drawn.
+    is_directed: bool,
 }
 
 /// Where a rule is tried: a tree's number, and a path in it.
@@ -42,17 +48,14 @@ pub fn joined(alloc: Global, path: &[u8], below: &[u8]) -> Result<Vec<u8>, Memor
     Ok(whole)
 }
 
-/// Whether one path leads through the other's end.
-fn are_related(a: &[u8], b: &[u8]) -> bool {
-    a.starts_with(b) || b.starts_with(a)
-}
-
 impl Draft {
     /// The source as it stands.
     pub fn new(alloc: Global, source: &Function) -> Result<Draft, Memory> {
         Ok(Draft {
             function: source.copy(alloc)?,
-            steps: Vec::new(alloc),
+            steps: Trail::new(alloc),
+            drawn: 0,
+            is_directed: false,
         })
     }
 
@@ -60,13 +63,32 @@ impl Draft {
     pub fn copy(&self, alloc: Global) -> Result<Draft, Memory> {
         Ok(Draft {
             function: self.function.copy(alloc)?,
-            steps: copied_steps(alloc, &self.steps)?,
+            steps: self.steps.copy(alloc)?,
+            drawn: self.drawn,
+            is_directed: self.is_directed,
         })
+    }
+
+    /// Takes the draft up anew: steps are drawn from here.
+    pub fn take_up(&mut self) {
+        self.drawn = 0;
+    }
+
+    /// Has the steps from now on follow a rule, or be drawn, and says which it was.
+    pub fn direct(&mut self, is_directed: bool) -> bool {
+        let was = self.is_directed;
+        self.is_directed = is_directed;
+        was
     }
 
     /// How many steps more there may be.
     pub fn room(&self) -> usize {
-        STEP_LIMIT.saturating_sub(self.steps.len())
+        let left = STEP_LIMIT.saturating_sub(self.steps.len());
+        if self.is_directed {
+            left
+        } else {
+            left.min(DRAWN_LIMIT.saturating_sub(self.drawn) as usize)
+        }
     }
 
     /// Whether both functions have the same trees.
@@ -87,42 +109,32 @@ impl Draft {
         fx_expr::at(self.function.tree(site.place)?, &site.path)
     }
 
-    /// The step that a rule at a place undoes, if nothing behind it is in the way.
-    fn undone(&self, place: u32, path: &[u8], rule: u8) -> Option<usize>
-        ensures { IfSome result (λ i. i < length self.now.steps.items) }
-    {
-        let inverse = inverse(rule)?;
-        for i in (0..self.steps.len()).rev() {
-            let step = &self.steps[i];
-            let way = step.path.as_slice();
-            if step.place == place && are_related(path, way) {
-                return if step.rule == inverse && path == way {
-                    Some(i)
-                } else {
-                    None
-                };
-            }
-        }
-        None
-    }
-
     /// Makes a step, if there is room for it and it can be made.
-    fn make(&mut self, alloc: Global, step: Step) -> Result<bool, Memory> {
-        if self.steps.len() >= STEP_LIMIT {
+    fn make(&mut self, alloc: Global, step: &Step) -> Result<bool, Memory> {
+        if self.room() == 0 {
             return Ok(false);
         }
-        match apply(alloc, &mut self.function, &step) {
+        match apply(alloc, &mut self.function, step) {
             Ok(()) => {}
             Err(StepFault::Memory) => return Err(Memory),
             Err(_) => return Ok(false),
         }
-        match self.undone(step.place, step.path.as_slice(), step.rule) {
-            Some(i) => {
-                let _ = self.steps.remove(i);
-            }
-            None => self.steps.push(step)?,
+        if !self.is_directed {
+            self.drawn = self.drawn.saturating_add(1);
         }
+        self.note(step)?;
         Ok(true)
+    }
+
+    /// Notes a step that was made. One that undoes an earlier one takes that away, if nothing behind it is in the way.
+    fn note(&mut self, step: &Step) -> Result<(), Memory> {
+        let path = step.path.as_slice();
+        if let Some(rule) = inverse(step.rule) {
+            if self.steps.undo(step.place, path, rule) {
+                return Ok(());
+            }
+        }
+        self.steps.push(step.place, path, step.rule)
     }
 
     /// Applies a rule below a site, and answers whether it matched.
@@ -139,6 +151,6 @@ impl Draft {
             path: Items::from_vec(path),
             rule,
         };
-        self.make(alloc, step)
+        self.make(alloc, &step)
     }
 }

@@ -117,7 +117,7 @@ fn sum_turn(b: &Expr) -> Option<Turn> {
     }
 }
 
-/// The same of a difference, which becomes a sum first.
+/// What rids a difference of the negation that is its second operand: it becomes a sum first.
 fn difference_turn(b: &Expr) -> Option<Turn> {
     match b {
         Expr::Neg(_) => here(ADD_NEGATION),

@@ -4,13 +4,14 @@
 //! what a function means over the rationals, and much of what its rounding costs, so a search looks for the best draft.
 //!
 //! - `factor_all` begins at the source: literals are folded, and common factors taken out in a random order until none
-//!   is
-//!   left (`factor`, `cleaning`). That alone mostly brings the greatest gain.
+//!   is left (`factor`, `cleaning`). That alone mostly brings the greatest gain.
 //! - `form` begins at the source too, and draws nothing: all is expanded, and the variables are taken out in one of
 //!   some orders, which gives Horner's scheme by each of them (`forms`, `orders`).
 //! - `mutate` makes one to six random moves. A move is a few rules at one place (`moves`, `factor`, `cleaning`), or
-//!   any one
-//!   rule (`mutation`).
+//!   any one rule (`mutation`).
+//!
+//! A draft has room for 1,024 steps, of which 64 are drawn at random from where it was taken up; a form and a cleaning
+//! follow a rule, and draw none.
 //!
 //! Every choice is drawn from a generator by `draw`, so that a seed gives the same drafts on every machine. Nothing is
 //! promised of a draft but that its function is lawful by its type; whoever certifies it has the steps made again.
@@ -30,9 +31,11 @@ mod mutation;
 mod orders;
 mod rule;
 mod site;
+mod trail;
 
 pub use cleaning::clean_all;
 pub use draft::Draft;
 pub use drawing::draw;
 pub use mutation::{factor_all, mutate};
 pub use orders::form;
+pub use trail::Trail;

@@ -90,8 +90,9 @@ fn random_move<R: Rng>(alloc: Global, rng: &mut R, draft: &mut Draft) -> Result<
     Ok(())
 }
 
-/// One to six random moves.
+/// One to six random moves from a draft that is taken up.
 pub fn mutate<R: Rng>(alloc: Global, rng: &mut R, draft: &mut Draft) -> Result<(), Memory> {
+    draft.take_up();
     let moves = draw(rng, MOVES).saturating_add(1);
     for _turn in 0..moves {
         random_move(alloc, rng, draft)?;

@@ -89,11 +89,13 @@ pub fn form(alloc: Global, draft: &mut Draft, number: u32) -> Result<bool, Memor
         return Ok(false);
     }
     let order = order_of(alloc, count, place)?;
+    let was = draft.direct(true);
     clean_all(alloc, draft)?;
     expand_all(alloc, draft)?;
     factor_by(alloc, draft, &order)?;
     if number % 2 == 1 {
         pair_squares(alloc, draft)?;
     }
+    let _ = draft.direct(was);
     Ok(true)
 }

@@ -51,7 +51,8 @@ fn certified_on(
     let mut left = plans;
     match polished_attempt(alloc, task, draft, grids, &mut left)? {
         Some(attempt) => {
-            let certified = judged_after(alloc, task, &draft.steps, &attempt)?;
+            let steps = draft.steps.steps(alloc)?;
+            let certified = judged_after(alloc, task, &steps, &attempt)?;
             Ok(certified)
         }
         None => Ok(None),
@@ -67,7 +68,8 @@ pub fn certified_as(
 ) -> Result<Option<Certified>, Memory>
     ensures { IfOk result (IsOffered task.entry.wanted task.entry.source.now) }
 {
-    match judged_after(alloc, task, &found.draft.steps, &found.attempt)? {
+    let steps = found.draft.steps.steps(alloc)?;
+    match judged_after(alloc, task, &steps, &found.attempt)? {
         Some(certified) => Ok(Some(certified)),
         None => {
             let other = certified(alloc, task, &found.draft, plans)?;

@@ -42,10 +42,10 @@ turn g c =
       over = says.too_long;
       within = says.within;
       limit = says.limit;
-      lazy = λ e. let l = says.lazy (c.holds_line.ensures.0 e) in (ap (g.S.Source.seen l).asked.0, l.1, l.2);
+      lazy = λ e. let l = says.lazy (c.holds_line.ensures.0 e) in (ap (λ s. (g.S.Source.seen s).asked) l.0, l.1, l.2);
       unheld = unheld c.holds_line.result _ c.holds_line.ensures;
       after_end = λ e. let l = says.after_end e in
-          (ap (g.S.Source.seen l).left.0, ap (g.S.Source.seen l).asked.0, l.1, l.2);
+          (ap (λ s. (g.S.Source.seen s).left) l.0, ap (λ s. (g.S.Source.seen s).asked) l.0, l.1, l.2);
       sought = says.sought;
     }
 
