@@ -16,6 +16,14 @@ struct Mark {
     digits: usize,
 }
 
+/// A step's number, and where its path stands.
+#[derive(Clone, Copy)]
+struct Spot {
+    number: usize,
+    start: usize,
+    end: usize,
+}
+
 /// Steps, the first one first.
 #[derive(Drop)]
 pub struct Trail {
@@ -66,8 +74,25 @@ impl Trail {
         Ok(())
     }
 
-    /// Takes the step of this number away, whose path stands there.
-    fn remove(&mut self, number: usize, start: usize, end: usize) {
+    /// The last step that is at a tree above or below this one, if it is the one by this rule at just this path.
+    fn undone(&self, place: u32, path: &[u8], rule: u8) -> Option<Spot> {
+        let mut end = self.paths.len();
+        for number in (0..self.marks.len()).rev() {
+            let mark = self.marks[number];
+            let start = end.saturating_sub(mark.digits);
+            let way = self.paths.get(start..end).unwrap_or(&[]);
+            if mark.place == place && are_related(path, way) {
+                let is_undone = mark.rule == rule && path == way;
+                return is_undone.then_some(Spot { number, start, end });
+            }
+            end = start;
+        }
+        None
+    }
+
+    /// Takes a step away.
+    fn remove(&mut self, spot: Spot) {
+        let Spot { number, start, end } = spot;
         if start <= end && end <= self.paths.len() && number < self.marks.len() {
             let left = self.paths.len() - (end - start);
             self.paths.copy_within(end.., start);
@@ -79,21 +104,13 @@ impl Trail {
     /// Takes the last step away that is at a tree above or below this one, if it is the one by this rule at just this
     /// path. Says whether it was.
     pub fn undo(&mut self, place: u32, path: &[u8], rule: u8) -> bool {
-        let mut end = self.paths.len();
-        for number in (0..self.marks.len()).rev() {
-            let mark = self.marks[number];
-            let start = end.saturating_sub(mark.digits);
-            let way = self.paths.get(start..end).unwrap_or(&[]);
-            if mark.place == place && are_related(path, way) {
-                let is_undone = mark.rule == rule && path == way;
-                if is_undone {
-                    self.remove(number, start, end);
-                }
-                return is_undone;
+        match self.undone(place, path, rule) {
+            Some(spot) => {
+                self.remove(spot);
+                true
             }
-            end = start;
+            None => false,
         }
-        false
     }
 
     /// The steps, each with a path of its own.
