@@ -64,7 +64,8 @@ fn ask<P: Printer, S: Source<K>, K: Sink>(
         → MatchResult result
         (λ step. IsAsked o now lines.old lines.new left (S.seen source.old).left (S.seen source.new).left before
         (K.seen sink.new).taken page.new count lines.old.limit step)
-        (λ fault. IsFailed P.told o left (S.seen source.new).left before (K.seen sink.new).taken lines.old.limit fault) }
+        (λ fault. IsFailed P.told o left (S.seen source.new).left before (K.seen sink.new).taken lines.old.limit
+        fault) }
     ensures prompt { (o now : List (List ℕ) → Outcome P.Told) (left before : Option (List ℕ)) (count : ℕ) →
         (GoesOut lines.old page.old → (now []).text ≡ [])
         → Ran o now lines.old left (S.seen source.old).left before (K.seen sink.old).taken page.old count
@@ -118,7 +119,8 @@ pub(crate) fn next<P: Printer, S: Source<K>, K: Sink>(
         → MatchResult result
         (λ step. IsAsked o (P.outcome printer.new) lines.old lines.new left (S.seen source.old).left
         (S.seen source.new).left before (K.seen sink.new).taken page.new count lines.old.limit step)
-        (λ fault. IsFailed P.told o left (S.seen source.new).left before (K.seen sink.new).taken lines.old.limit fault) }
+        (λ fault. IsFailed P.told o left (S.seen source.new).left before (K.seen sink.new).taken lines.old.limit
+        fault) }
     ensures prompt { (o : List (List ℕ) → Outcome P.Told) (left before : Option (List ℕ)) (count : ℕ)
         → Ran o (P.outcome printer.old) lines.old left (S.seen source.old).left before (K.seen sink.old).taken page.old
         count lines.old.limit

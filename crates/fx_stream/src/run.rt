@@ -32,7 +32,8 @@ fn run_on<P: Printer, S: Source<K>, K: Sink>(
     requires can { P.can_take printer.old }
     requires settled { P.is_settled printer.old }
     ensures { let at = streams S.seen K.seen in
-        EndsRun P.told (P.outcome printer.old) lines.old.limit (at source.old sink.old) (at source.new sink.new) result }
+        EndsRun P.told (P.outcome printer.old) lines.old.limit
+        (at source.old sink.old) (at source.new sink.new) result }
 {
     let mut count = 0;
     'lines: loop {
