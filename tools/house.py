@@ -2,7 +2,7 @@
 """Draws the picture of the house, docs/layers.md's first part, from crates.txt: house.py [--write | --check]
 
 crates.txt has its crates in groups: a comment `# NAME: WHY` begins one. A group stands on others where a crate of it does, and a crate on
-others as it lists them; both are shown reduced, so that what follows by way of another isn't drawn. Without an option all is printed;
+others as it names them; both are shown reduced, so that what follows by way of another isn't drawn. Without an option all is printed;
 --write puts it into the page between its marks, and --check compares: the picture, each group's table, and the headings, which are the groups
 and one entry for each crate, in the order of crates.txt.
 """
@@ -11,7 +11,7 @@ import re
 import sys
 import textwrap
 
-from crates import LIST, TOP, listed
+from crates import LIST, TOP, closed, listed
 
 PAGE = f"{TOP}/docs/layers.md"
 PART = re.compile(r"(<!-- drawn: ([^>]+) -->)(.*?)(<!-- end of drawn -->)", re.S)
@@ -101,7 +101,7 @@ def table(why, inside, direct):
 
 def parts():
     """Returns what this script writes into the page, by name: the house, and a part for each group."""
-    crates, houses = listed(), groups()
+    crates, houses = closed(listed()), groups()
     direct = reduced(crates_alone(crates))
     found = {"house": house(houses, crates, direct), **{name: table(why, inside, direct) for name, (why, inside) in houses.items()}}
     return {name: "\n".join(["", "", *lines, "", ""]) for name, lines in found.items()}

@@ -1,13 +1,15 @@
--- Each rule keeps the value of what it rewrites.
+-- Each rule keeps the value of what it rewrites: a lemma of algebra for each, and the list of all at the end.
 use Rattle.std.proofs.Common.{◌≡◌, ⊎_elim, zero, suc, pos, negsuc, ℤ, ◌*ℤ◌, [], ◌∷◌, Option, Some, None, refl, arith}
 use Rattle.std.proofs.lemmas.Int.{ints}
 use Rattle.fx_rational.specs.Rational.{Rational, whole, over, plus, minus, negative, times, quotient, lowest, Equal}
-use Rattle.fx_model.specs.Tree.{on_one, on_two, always}
+use Rattle.fx_model.specs.Tree.{on_one, on_two, always, value_of}
 use Rattle.fx_rational.proofs.Ring.{by_quotes, quotes}
 use Rattle.fx_rational.proofs.Laws.{equal_refl, equal_sym, equal_trans, times_same, plus_same}
 use Rattle.fx_rational.proofs.Quotient.{quotient_is, quotient_none, quotient_some, quotient_back, times_cancel_any, zero_or_not}
 use Rattle.fx_rational.proofs.Lowest.{lowest_is}
 use Rattle.fx_rational.specs.Laws.{SameOption}
+use Rattle.fx_rules.specs.Rules.{rules}
+use Rattle.fx_rules.proofs.Rows.{AreRules}
 
 -- the operations where their operands are defined
 abbrev pub add : Option Rational → Option Rational → Option Rational
@@ -332,3 +334,193 @@ rule_25 (Some a) l q v e low =
 
 pub rule_folded : (p : Option Rational) (q v : Rational) → p ≡ Some q → v ≡ lowest q → SameOption p (Some v)
 rule_folded p q v e low = rw e (equal_sym (lowest_same q v low))
+
+-- ---- all of them
+-- what holds of a row, and what holds of all behind it
+infixr 30 ◌⊗◌
+abbrev ◌⊗◌ : {A B : Type 0} → A → B → A × B
+first ⊗ rest = (first, rest)
+
+pub all_rules : AreRules rules
+all_rules =
+    record {
+      sound = λ s f. ((λ t x y. rule_1 (value_of s.a t x y) (value_of s.b t x y)), (λ i k m h. assumption));
+      finds = refl;
+      value = λ s t e. refl;
+      right = λ s t e m. cc;
+    }
+    ⊗ record {
+      sound = λ s f. ((λ t x y. rule_2 (value_of s.a t x y) (value_of s.b t x y) (value_of s.c t x y)), (λ i k m h. assumption));
+      finds = refl;
+      value = λ s t e. refl;
+      right = λ s t e m. cc;
+    }
+    ⊗ record {
+      sound = λ s f. ((λ t x y. rule_3 (value_of s.a t x y) (value_of s.b t x y) (value_of s.c t x y)), (λ i k m h. assumption));
+      finds = refl;
+      value = λ s t e. refl;
+      right = λ s t e m. cc;
+    }
+    ⊗ record {
+      sound = λ s f. ((λ t x y. rule_4 (value_of s.a t x y) (value_of s.b t x y)), (λ i k m h. assumption));
+      finds = refl;
+      value = λ s t e. refl;
+      right = λ s t e m. cc;
+    }
+    ⊗ record {
+      sound = λ s f. ((λ t x y. rule_5 (value_of s.a t x y) (value_of s.b t x y) (value_of s.c t x y)), (λ i k m h. assumption));
+      finds = refl;
+      value = λ s t e. refl;
+      right = λ s t e m. cc;
+    }
+    ⊗ record {
+      sound = λ s f. ((λ t x y. rule_6 (value_of s.a t x y) (value_of s.b t x y) (value_of s.c t x y)), (λ i k m h. assumption));
+      finds = refl;
+      value = λ s t e. refl;
+      right = λ s t e m. cc;
+    }
+    ⊗ record {
+      sound = λ s f. ((λ t x y. rule_7 (value_of s.a t x y) (value_of s.b t x y) (value_of s.c t x y)), (λ i k m h. assumption));
+      finds = refl;
+      value = λ s t e. refl;
+      right = λ s t e m. cc;
+    }
+    ⊗ record {
+      sound = λ s f. ((λ t x y. rule_8 (value_of s.a t x y) (value_of s.b t x y) (value_of s.c t x y)), (λ i k m h. assumption));
+      finds = refl;
+      value = λ s t e. refl;
+      right = λ s t e m. cc;
+    }
+    ⊗ record {
+      sound = λ s f. ((λ t x y. rule_9 (value_of s.a t x y) (value_of s.b t x y) (value_of s.c t x y)), (λ i k m h. assumption));
+      finds = refl;
+      value = λ s t e. refl;
+      right = λ s t e m. cc;
+    }
+    ⊗ record {
+      sound = λ s f. ((λ t x y. rule_10 (value_of s.a t x y) (value_of s.b t x y) (value_of s.c t x y)), (λ i k m h. assumption));
+      finds = refl;
+      value = λ s t e. refl;
+      right = λ s t e m. cc;
+    }
+    ⊗ record {
+      sound = λ s f. ((λ t x y. rule_11 (value_of s.a t x y) (value_of s.b t x y) (value_of s.c t x y)), (λ i k m h. assumption));
+      finds = refl;
+      value = λ s t e. refl;
+      right = λ s t e m. cc;
+    }
+    ⊗ record {
+      sound = λ s f. ((λ t x y. rule_12 (value_of s.a t x y) (value_of s.b t x y) (value_of s.c t x y)), (λ i k m h. assumption));
+      finds = refl;
+      value = λ s t e. refl;
+      right = λ s t e m. cc;
+    }
+    ⊗ record {
+      sound = λ s f. ((λ t x y. rule_13 (value_of s.a t x y) (value_of s.b t x y) (value_of s.c t x y)), (λ i k m h. assumption));
+      finds = refl;
+      value = λ s t e. refl;
+      right = λ s t e m. cc;
+    }
+    ⊗ record {
+      sound = λ s f. ((λ t x y. rule_14 (value_of s.a t x y) (value_of s.b t x y) (value_of s.c t x y)), (λ i k m h. assumption));
+      finds = refl;
+      value = λ s t e. refl;
+      right = λ s t e m. cc;
+    }
+    ⊗ record {
+      sound = λ s f. ((λ t x y. rule_15 (value_of s.a t x y) (value_of s.b t x y)), (λ i k m h. assumption));
+      finds = refl;
+      value = λ s t e. refl;
+      right = λ s t e m. cc;
+    }
+    ⊗ record {
+      sound = λ s f. ((λ t x y. rule_16 (value_of s.a t x y) (value_of s.b t x y)), (λ i k m h. assumption));
+      finds = refl;
+      value = λ s t e. refl;
+      right = λ s t e m. cc;
+    }
+    ⊗ record {
+      sound = λ s f. ((λ t x y. rule_17 (value_of s.a t x y)), (λ i k m h. assumption));
+      finds = refl;
+      value = λ s t e. refl;
+      right = λ s t e m. cc;
+    }
+    ⊗ record {
+      sound = λ s f. ((λ t x y. rule_18 (value_of s.a t x y) (value_of s.b t x y)), (λ i k m h. assumption));
+      finds = refl;
+      value = λ s t e. refl;
+      right = λ s t e m. cc;
+    }
+    ⊗ record {
+      sound = λ s f. ((λ t x y. rule_19 (value_of s.a t x y) (value_of s.b t x y)), (λ i k m h. assumption));
+      finds = refl;
+      value = λ s t e. refl;
+      right = λ s t e m. cc;
+    }
+    ⊗ record {
+      sound = λ s f. ((λ t x y. rule_20 (value_of s.a t x y) (value_of s.b t x y)), (λ i k m h. assumption));
+      finds = refl;
+      value = λ s t e. refl;
+      right = λ s t e m. cc;
+    }
+    ⊗ record {
+      sound = λ s f. ((λ t x y. rule_21 (value_of s.a t x y) (value_of s.b t x y) (value_of s.c t x y)), (λ i k m h. assumption));
+      finds = refl;
+      value = λ s t e. refl;
+      right = λ s t e m. cc;
+    }
+    ⊗ record {
+      sound = λ s f. ((λ t x y. rule_22 (value_of s.a t x y) (value_of s.b t x y) (value_of s.c t x y)), (λ i k m h. assumption));
+      finds = refl;
+      value = λ s t e. refl;
+      right = λ s t e m. cc;
+    }
+    ⊗ record {
+      sound = λ s f. ((λ t x y. rule_23 (value_of s.a t x y) (value_of s.b t x y) (value_of s.c t x y)), (λ i k m h. assumption));
+      finds = refl;
+      value = λ s t e. refl;
+      right = λ s t e m. cc;
+    }
+    ⊗ record {
+      sound = λ s f. ((λ t x y. rule_24 (value_of s.a t x y) (value_of s.b t x y) (value_of s.c t x y)), (λ i k m h. assumption));
+      finds = refl;
+      value = λ s t e. refl;
+      right = λ s t e m. cc;
+    }
+    ⊗ record {
+      sound = λ s f. ((λ t x y. rule_25 (value_of s.a t x y) s.l f.0 s.made f.1 f.2), (λ i k m h. assumption));
+      finds = refl;
+      value = λ s t e. cc;
+      right = λ s t e m. cc;
+    }
+    ⊗ record {
+      sound = λ s f. ((λ t x y. rule_folded (Some (plus s.l s.k)) f.0 s.made f.1 f.2), (λ i k m h. tt {0}));
+      finds = refl;
+      value = λ s t e. cc;
+      right = λ s t e m. cc;
+    }
+    ⊗ record {
+      sound = λ s f. ((λ t x y. rule_folded (Some (minus s.l s.k)) f.0 s.made f.1 f.2), (λ i k m h. tt {0}));
+      finds = refl;
+      value = λ s t e. cc;
+      right = λ s t e m. cc;
+    }
+    ⊗ record {
+      sound = λ s f. ((λ t x y. rule_folded (Some (times s.l s.k)) f.0 s.made f.1 f.2), (λ i k m h. tt {0}));
+      finds = refl;
+      value = λ s t e. cc;
+      right = λ s t e m. cc;
+    }
+    ⊗ record {
+      sound = λ s f. ((λ t x y. rule_folded (quotient s.l s.k) f.0 s.made f.1 f.2), (λ i k m h. tt {0}));
+      finds = refl;
+      value = λ s t e. cc;
+      right = λ s t e m. cc;
+    }
+    ⊗ record {
+      sound = λ s f. ((λ t x y. rule_folded (Some (negative s.l)) f.0 s.made f.1 f.2), (λ i k m h. tt {0}));
+      finds = refl;
+      value = λ s t e. cc;
+      right = λ s t e m. cc;
+    }
+    ⊗ tt {0}

@@ -7,7 +7,8 @@ use Rattle.fx_rules.specs.Rules.{Letters, Rule, Folding, IsFolded, fits_literal,
 use Rattle.fx_rules.specs.Turned.{Turned, NoMatch, TooLong, Becomes, Found, nothing, matched, or_zero, letters_of, folded, where_fits, made, outcome, turned_by, turned}
 use Rattle.fx_rules.specs.Steps.{IsUnmatched}
 use Rattle.fx_rules.proofs.Matching.{holds_nothing, holds_found, there, found}
-use Rattle.fx_rules.proofs.Rows.{value, SameMade, rule_settled}
+use Rattle.fx_rules.proofs.Rows.{value, SameMade}
+use Rattle.fx_rules.proofs.Sound.{is_rule}
 
 -- ---- where the rule matches
 record Folds (g : Folding) (z : Found) (s : Letters) : Type 0 where
@@ -27,7 +28,7 @@ fits_same (Some f) s t m = ap fits_literal m
 pub turned_there : (n : ℕ) (old new : Tree) (r : RewritesTree n old new) →
     turned n old ≡ where_fits (folding_fits r.by.folding r.letters) new
 turned_there n old new r =
-    let row = rule_settled n r.by r.is in
+    let row = is_rule n r.by r.is in
     let f = found r.by.left r.letters nothing row.finds (holds_nothing r.letters) in
     let z = f.next in
     let left : (q : Rational) → filled r.letters r.by.left ≡ filled (letters_of z q) r.by.left =

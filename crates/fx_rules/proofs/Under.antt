@@ -13,7 +13,7 @@ use Rattle.fx_model.specs.Sameness.{SameNumbers, SameStep, HasMeaningOf}
 use Rattle.fx_model.specs.Paths.{child, subtree, child_changed, put, tree_in, tree_at, temps_changed, results_changed, results_after, changed}
 use Rattle.fx_model.proofs.Options.{some_then}
 use Rattle.fx_rules.proofs.EachRule.{same_refl, same_trans}
-use Rattle.fx_rules.proofs.Sound.{SameTrees}
+use Rattle.fx_rules.proofs.Rows.{SameTrees}
 
 on_two_same : (op : Rational → Rational → Option Rational) →
     ((x y u v : Rational) → Equal x y → Equal u v → SameOption (op x u) (op y v)) →
