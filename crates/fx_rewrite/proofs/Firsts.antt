@@ -3,6 +3,7 @@ use Rattle.std.proofs.Common.{◌≡◌, ℕ, suc, ◌+◌, ◌-◌, ◌<◌, �
 use Rattle.std.specs.Prelude.{is_some}
 use Rattle.std.specs.Option.{option_and_then}
 use Rattle.fx_model.specs.Function.{Function}
+use Rattle.fx_model.specs.Limits.{rule_count}
 use Rattle.fx_model.specs.Paths.{found}
 use Rattle.fx_rules.specs.Turned.{turned}
 use Rattle.fx_rules.specs.Steps.{after, rewrite}
@@ -10,16 +11,16 @@ use Rattle.fx_rules.specs.SingleSteps.{numbers_from, steps_by}
 use Rattle.fx_rewrite.specs.Ahead.{rules_from, there}
 use Rattle.fx_rewrite.specs.FirstOf.{Begins}
 
-rules_split : (r : ℕ) → r ≤ 30 → rules_from r ≡ r ∷ rules_from (r + 1)
-rules_split r h = let e : 31 - r ≡ suc (31 - (r + 1)) = omega arith in ap (numbers_from r) e
+rules_split : (r : ℕ) → r ≤ rule_count → rules_from r ≡ r ∷ rules_from (r + 1)
+rules_split r h = let e : rule_count + 1 - r ≡ suc (rule_count + 1 - (r + 1)) = omega arith in ap (numbers_from r) e
 
-no_rules : (r : ℕ) → 30 < r → rules_from r ≡ []
-no_rules r h = let e : 31 - r ≡ 0 = omega arith in ap (numbers_from r) e
+no_rules : (r : ℕ) → rule_count < r → rules_from r ≡ []
+no_rules r h = let e : rule_count + 1 - r ≡ 0 = omega arith in ap (numbers_from r) e
 
-pub no_rule_left : (f : Function) (place : ℕ) (path : List ℕ) (r : ℕ) → 30 < r → Begins f place path r None
+pub no_rule_left : (f : Function) (place : ℕ) (path : List ℕ) (r : ℕ) → rule_count < r → Begins f place path r None
 no_rule_left f place path r h = ap (λ ns. there f (steps_by place path ns)) (no_rules r h)
 
-pub rule_is_there : (f : Function) (place : ℕ) (path : List ℕ) (r : ℕ) (h : Function) → r ≤ 30 →
+pub rule_is_there : (f : Function) (place : ℕ) (path : List ℕ) (r : ℕ) (h : Function) → r ≤ rule_count →
     rewrite f (record { place = place; path = path; rule = r }) ≡ Some h → Begins f place path r (Some r)
 rule_is_there f place path r h l e = (
   l,
@@ -32,7 +33,7 @@ rule_is_there f place path r h l e = (
       (ap is_some e),
 )
 
-pub rule_is_not : (f : Function) (place : ℕ) (path : List ℕ) (r : ℕ) (o : Option ℕ) → r ≤ 30 →
+pub rule_is_not : (f : Function) (place : ℕ) (path : List ℕ) (r : ℕ) (o : Option ℕ) → r ≤ rule_count →
     rewrite f (record { place = place; path = path; rule = r }) ≡ None → Begins f place path (r + 1) o →
     Begins f place path r o
 rule_is_not f place path r o l e b =

@@ -1,6 +1,7 @@
 -- Numbers that are no rule's.
 use Rattle.std.proofs.Common.{◌≡◌, ◌⊎◌, ⊎_elim, ℕ, zero, suc, ◌<◌, ◌≤◌, List, [], ◌∷◌, None, refl, length, arith}
 use Rattle.std.specs.Prelude.{slice_get}
+use Rattle.fx_model.specs.Limits.{rule_count}
 use Rattle.fx_rules.specs.Rules.{rules, rule}
 
 past : {A : Type 0} (xs : List A) (n : ℕ) → length xs ≤ n → slice_get xs n ≡ None
@@ -8,8 +9,8 @@ past [] n h = refl
 past (x ∷ xs) zero h = absurd (omega arith)
 past (x ∷ xs) (suc n) h = past xs n (omega arith)
 
-pub no_rule : (n : ℕ) → (n ≡ 0) ⊎ (30 < n) → rule n ≡ None
+pub no_rule : (n : ℕ) → (n ≡ 0) ⊎ (rule_count < n) → rule n ≡ None
 no_rule zero h = refl
 no_rule (suc n) h =
-    past rules n (⊎_elim (λ (z : suc n ≡ 0). absurd (omega arith)) (λ (l : 30 < suc n). let k : 30 ≤ n = omega arith in
+    past rules n (⊎_elim (λ (z : suc n ≡ 0). absurd (omega arith)) (λ (l : rule_count < suc n). let k : rule_count ≤ n = omega arith in
     k) h)

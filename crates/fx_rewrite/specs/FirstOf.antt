@@ -1,6 +1,7 @@
 -- The first of the steps that are left at a path.
 use Rattle.std.specs.Prelude.{◌≡◌, ℕ, ◌+◌, ◌≤◌, List, [], ◌∷◌, Option, Some, None}
 use Rattle.fx_model.specs.Function.{Function}
+use Rattle.fx_model.specs.Limits.{rule_count}
 use Rattle.fx_rules.specs.SingleSteps.{steps_by}
 use Rattle.fx_rewrite.specs.Ahead.{rules_from, there}
 
@@ -8,7 +9,7 @@ use Rattle.fx_rewrite.specs.Ahead.{rules_from, there}
 abbrev pub Begins : Function → ℕ → List ℕ → ℕ → Option ℕ → Type 0
 Begins f place path from None = there f (steps_by place path (rules_from from)) ≡ []
 Begins f place path from (Some r) =
-    (r ≤ 30) × (there f (steps_by place path (rules_from from)) ≡ record {
+    (r ≤ rule_count) × (there f (steps_by place path (rules_from from)) ≡ record {
       place = place;
       path = path;
       rule = r;

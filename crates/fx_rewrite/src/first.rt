@@ -7,6 +7,10 @@ ghost use Rattle.fx_rewrite.specs.FirstOf.{Begins};
 use crate::found::Found;
 use crate::judge::admit;
 use fx_expr::{Expr, Function, at};
+use fx_num::RULE_COUNT;
+
+// As a step counts them.
+const LAST_RULE: u8 = RULE_COUNT as u8;
 
 /// The first of the rules from this number on that can be applied to `old`, which is found so deep in the function.
 fn first_rule<'a>(
@@ -20,7 +24,7 @@ fn first_rule<'a>(
         depth ≡ length path →
         Begins function.now place path from result }
 {
-    if from > 30 {
+    if from > LAST_RULE {
         return None;
     }
     match admit(function, old, depth, from, letters) {

@@ -1,5 +1,6 @@
-use Rattle.std.proofs.Common.{◌-◌}
+use Rattle.std.proofs.Common.{◌+◌, ◌-◌}
+use Rattle.fx_model.specs.Limits.{rule_count}
 use Rattle.fx_rewrite.proofs.first.+first_rule.Given as goal
 
 abbrev pub decreases-first_rule : goal.decreases-first_rule
-decreases-first_rule l = 31 - l.from
+decreases-first_rule l = rule_count + 1 - l.from
