@@ -180,8 +180,9 @@ impl<'a> Mixed<'a> {
         output_in(&self.bank, self.certified.program(), j)
     }
 
-    // Each word lies in its own width, and the state words are near some exact state.
-    pub(crate) fn keeps(&self)
+    /// Each word that is stored lies in its own width, and the state words are near some exact state: before the first
+    /// row, and behind each.
+    pub fn keeps(&self)
         ensures { IsMixed self.now.accepted self.now.words }
     {
         self.bank.keeps();
