@@ -6,7 +6,7 @@ use Rattle.fx_model.specs.Tree as tree
 use Rattle.fx_model.specs.Tree.{Tree}
 use Rattle.fx_model.specs.Function.{Function, Temp, free}
 use Rattle.fx_sizes.specs.Powers.{power_value}
-use Rattle.fx_calm_numbers.specs.Calm.{first_from, numbers_of, is_calm, is_short}
+use Rattle.fx_calm_numbers.specs.Calm.{first_from, numbers_of, is_calm, is_short, is_contracting}
 
 -- of an input from -1 to 1 with this error, a state with this start, and this next value; the output is the state
 abbrev filter : Rational → Rational → List Temp → Tree → Function
@@ -44,6 +44,20 @@ more_than_half = refl
 added_terms : is_calm 32 (plain (tree.Sum (times_state (over (pos 1) 2)) (times_state (over (pos 1) 4)))) ≡ false
 unfolding first_from power_value dyadic_value over plus times is_at_most
 added_terms = refl
+
+-- 0.6 of a state, and half of the input
+abbrev steep : Tree
+steep = tree.Sum (times_state (over (pos 6) 10)) (tree.Product (tree.Literal (over (pos 1) 2)) (tree.Input 0))
+
+-- a step doesn't halve the state, and no width changes that
+steep_steps : is_contracting steep ≡ false
+unfolding power_value dyadic_value over plus times is_at_most
+steep_steps = refl
+
+-- so it is calm at no width
+steep_is_never_calm : (n : ℕ) → is_calm n (plain steep) ≡ false
+unfolding power_value dyadic_value over plus times is_at_most
+steep_is_never_calm n = refl
 
 -- ---- forms
 -- a product in the other order, a negation of a sum, a literal that stands alone
