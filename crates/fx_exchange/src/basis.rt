@@ -2,37 +2,42 @@
 //! templates on.
 //!
 //! What the shares leave of a template goes to the unit templates, so that nothing rests on how accurate this is, and
-//! stopping at any time is lawful. Entries are whole with 40 binary places, in coordinates in which each template costs
-//! 1.
+//! stopping at any time is lawful. Entries are floats, in coordinates in which each template costs 1, and the inverse
+//! is made anew at each turn, so that no error adds up: directions that nearly cancel need all digits.
 
 use crate::budget::Budget;
+use crate::inverse::{at, inverse};
 use fx_cert::Share;
-use fx_num::{Memory, bits, floor_shift, left_fits};
-use fx_reach::{PLACES, Pool, product, quotient, share_of, unit_cost, unit_vector};
+use fx_num::Memory;
+use fx_reach::{
+    PLACES, Pool, SHARE_BITS, SHARE_PLACES, dyadic_near, power_of_two, size_of, to_float,
+    whole_near,
+};
 use std::alloc::Global;
 
-/// How many binary places entries have.
-const EXCHANGE_PLACES: u32 = 40;
+/// What a template has to gain to come into the basis.
+const START: f64 = 1.0 + 1.0 / 4096.0;
 
-/// One.
-const ONE: i128 = 1 << EXCHANGE_PLACES;
+/// An entry of a column is a pivot from here on.
+const LEAST_PIVOT: f64 = 1.0e-9;
 
-/// The templates of a pool in coordinates in which each costs 1; templates that would be too long are none.
+/// Times that differ by less are as good as one.
+const SLACK: f64 = 1.0e-12;
+
+/// The templates of a pool in coordinates in which each costs 1.
 #[derive(Debug, Drop)]
 pub struct ScaledTemplates<'a> {
     pool: &'a Pool,
-    /// What the unit templates cost.
-    costs: Vec<i128>,
-    templates: Vec<Option<Vec<i128>>>,
+    /// What each template costs.
+    costs: Vec<f64>,
+    /// The entries, template after template.
+    entries: Vec<f64>,
 }
 
-/// A basis, the inverse of its matrix, and how often each of its templates is taken.
+/// A basis: its templates, each with a sign.
 #[derive(Debug, Drop)]
 struct Basis {
-    states: usize,
-    templates: Vec<(usize, i128)>,
-    inverse: Vec<Vec<i128>>,
-    times: Vec<i128>,
+    templates: Vec<(usize, f64)>,
 }
 
 /// What a template takes apart to, and what that costs.
@@ -42,64 +47,44 @@ pub struct Exchanged {
     pub shares: Vec<Share>,
 }
 
-/// Entry `j` of a template, scaled by the costs of the state and of the template.
-fn scaled_entry(entry: i128, state_cost: i128, cost: i128) -> Option<i128> {
-    let z = entry.checked_mul(state_cost)?;
-    let moved = if bits(z.unsigned_abs()).saturating_add(EXCHANGE_PLACES) < 127 {
-        floor_shift(left_fits(z, EXCHANGE_PLACES)?, PLACES)
-    } else {
-        floor_shift(z, PLACES - EXCHANGE_PLACES)
-    };
-    let entry = quotient(moved, cost)?;
-    if entry.unsigned_abs() >> (EXCHANGE_PLACES + 16) != 0 {
-        return None;
-    }
-    Some(entry)
-}
-
-/// A template of this cost in the scaled coordinates, where the unit templates have these costs.
-fn scaled_template(
+/// A template in coordinates in which each state costs 1.
+fn scaled(
     alloc: Global,
     template: &[i128],
-    costs: &[i128],
-    cost: i128,
-) -> Result<Option<Vec<i128>>, Memory> {
+    costs: &[f64],
+    divisor: f64,
+) -> Result<Vec<f64>, Memory> {
+    let unit = power_of_two(-(PLACES as i32));
     let mut scaled = Vec::new(alloc);
-    for (entry, state_cost) in template.iter().zip(costs) {
-        match scaled_entry(*entry, *state_cost, cost) {
-            Some(entry) => scaled.push(entry)?,
-            None => return Ok(None),
-        }
+    for (entry, cost) in template.iter().zip(costs) {
+        scaled.push(to_float(*entry) * unit * (*cost / divisor))?;
     }
-    Ok(Some(scaled))
+    Ok(scaled)
 }
 
-/// What the unit templates of a pool cost.
-fn unit_costs(alloc: Global, pool: &Pool) -> Result<Vec<i128>, Memory> {
+/// What the templates of a pool cost.
+fn costs_of(alloc: Global, pool: &Pool) -> Result<Vec<f64>, Memory> {
     let mut costs = Vec::new(alloc);
-    for j in 0..pool.templates.states {
-        costs.push(pool.cost(j))?;
+    for i in 0..pool.templates.len() {
+        costs.push(to_float(pool.cost(i).max(1)))?;
     }
     Ok(costs)
 }
 
 impl<'a> ScaledTemplates<'a> {
-    /// The templates of a pool behind its unit templates.
+    /// The templates of a pool.
     pub fn of(alloc: Global, pool: &'a Pool) -> Result<ScaledTemplates<'a>, Memory> {
-        let costs = unit_costs(alloc, pool)?;
-        let mut templates = Vec::new(alloc);
-        for i in pool.templates.states..pool.templates.len() {
-            templates.push(scaled_template(
-                alloc,
-                pool.templates.template(i),
-                &costs,
-                pool.cost(i),
-            )?)?;
+        let costs = costs_of(alloc, pool)?;
+        let mut entries = Vec::new(alloc);
+        for (i, cost) in costs.iter().enumerate() {
+            for entry in &scaled(alloc, pool.templates.template(i), &costs, *cost)? {
+                entries.push(*entry)?;
+            }
         }
         Ok(ScaledTemplates {
             pool,
             costs,
-            templates,
+            entries,
         })
     }
 
@@ -107,297 +92,206 @@ impl<'a> ScaledTemplates<'a> {
     pub fn states(&self) -> usize {
         self.pool.templates.states
     }
-}
 
-/// The product of two rows with 40 binary places.
-fn dot(a: &[i128], b: &[i128]) -> Option<i128> {
-    let mut total: i128 = 0;
-    for (x, y) in a.iter().zip(b) {
-        if *x != 0 && *y != 0 {
-            total = total.checked_add(x.checked_mul(*y)?)?;
-        }
+    /// Template `i`.
+    fn template(&self, i: usize) -> &[f64] {
+        let from = i.saturating_mul(self.states());
+        let to = from.saturating_add(self.states());
+        self.entries.as_slice().get(from..to).unwrap_or(&[])
     }
-    Some(floor_shift(total, EXCHANGE_PLACES))
 }
 
-/// A template to come into the basis, with its sign and how much it gains.
+/// The sum of the products of two rows.
+fn dot(a: &[f64], b: &[f64]) -> f64 {
+    let mut total = 0.0;
+    for (x, y) in a.iter().zip(b) {
+        total = total + *x * *y;
+    }
+    total
+}
+
+/// A template to come into the basis, and how much it gains.
 #[derive(Clone, Copy, Debug)]
 struct Entering {
     template: usize,
-    sign: i128,
-    gain: i128,
+    gain: f64,
 }
 
 impl Entering {
-    /// The better one of this and a template that gains so much.
-    fn or(self, template: usize, gain: i128) -> Entering {
-        if gain.unsigned_abs() > self.gain.unsigned_abs() {
-            Entering {
-                template,
-                sign: if gain > 0 { 1 } else { -1 },
-                gain,
-            }
-        } else {
-            self
-        }
+    /// Its sign in the basis.
+    fn sign(self) -> f64 {
+        if self.gain < 0.0 { -1.0 } else { 1.0 }
     }
 }
 
-impl Basis {
-    /// The unit templates, with the signs of a template.
-    fn units(alloc: Global, template: &[i128]) -> Result<Basis, Memory> {
-        let states = template.len();
-        let mut basis = Basis {
-            states,
-            templates: Vec::new(alloc),
-            inverse: Vec::new(alloc),
-            times: Vec::new(alloc),
-        };
-        for j in 0..states {
-            let sign = if template[j] >= 0 { 1 } else { -1 };
-            basis.templates.push((j, sign))?;
-            let entry = if sign < 0 { -ONE } else { ONE };
-            basis.inverse.push(unit_vector(alloc, states, j, entry)?)?;
-            basis.times.push(template[j].saturating_abs())?;
-        }
-        Ok(basis)
-    }
-
-    /// Sums of the inverse's columns: what each state is worth.
-    fn worth(&self, alloc: Global) -> Result<Vec<i128>, Memory> {
-        let mut sums = vec![in alloc; 0_i128; self.states]?;
-        for row in &self.inverse {
-            add_row(&mut sums, row);
-        }
-        Ok(sums)
-    }
-
-    /// The template that gains most.
-    fn entering(&self, scaled: &ScaledTemplates<'_>, worth: &[i128]) -> Option<Entering> {
-        let start = ONE + (ONE >> 12);
-        let mut best = Entering {
-            template: usize::MAX,
-            sign: 1,
-            gain: start,
-        };
-        for j in 0..worth.len() {
-            best = best.or(j, worth[j]);
-        }
-        best = best_template(best, scaled, worth);
-        if best.template == usize::MAX {
-            None
-        } else {
-            Some(best)
+/// The template that gains most, by what each state is worth.
+fn best_gain(templates: &ScaledTemplates<'_>, worth: &[f64]) -> Option<Entering> {
+    let mut best = None;
+    let mut most = START;
+    for i in 0..templates.costs.len() {
+        let gain = dot(worth, templates.template(i));
+        if size_of(gain) > most {
+            most = size_of(gain);
+            best = Some(Entering { template: i, gain });
         }
     }
+    best
+}
 
-    /// The entering template in terms of the basis.
-    fn column(
-        &self,
-        alloc: Global,
-        template: &[i128],
-        sign: i128,
-    ) -> Result<Option<Vec<i128>>, Memory> {
-        let mut column = Vec::new(alloc);
-        for own in &self.inverse {
-            match dot(own, template) {
-                Some(entry) => column.push(entry.saturating_mul(sign))?,
-                None => return Ok(None),
-            }
-        }
-        Ok(Some(column))
-    }
-
-    /// The template of the basis that is used up first.
-    fn leaving(&self, column: &[i128]) -> Option<usize> {
-        let mut best = None;
-        for a in 0..column.len() {
-            if column[a] > ONE >> 24 && self.is_used_before(a, best, column) {
+/// The template of the basis that is used up first, and of those that are so at about the same time the one with the
+/// greatest pivot: a small one would make the inverse's numbers long.
+fn leaving(times: &[f64], column: &[f64]) -> Option<usize> {
+    let mut best = None;
+    let mut least = 0.0;
+    let mut pivot = 0.0;
+    for (a, (time, own)) in times.iter().zip(column).enumerate() {
+        if *own > LEAST_PIVOT {
+            let ratio = *time / *own;
+            if best.is_none() || ratio < least - SLACK || (ratio <= least + SLACK && *own > pivot) {
                 best = Some(a);
-            }
-        }
-        best
-    }
-
-    /// Whether template `a` is used up before another, or at about the same time with a greater pivot: a small one
-    /// would make the inverse's numbers long.
-    fn is_used_before(&self, a: usize, best: Option<usize>, column: &[i128]) -> bool {
-        let Some(b) = best else {
-            return true;
-        };
-        let ta = self.times.get(a).copied().unwrap_or(0);
-        let tb = self.times.get(b).copied().unwrap_or(0);
-        let ca = column.get(a).copied().unwrap_or(1);
-        let cb = column.get(b).copied().unwrap_or(1);
-        let own = ta.saturating_mul(cb);
-        let other = tb.saturating_mul(ca);
-        let slack = other >> 16;
-        own < other.saturating_sub(slack) || (own <= other.saturating_add(slack) && ca > cb)
-    }
-
-    /// The leaving row of the inverse over the pivot.
-    fn pivot_row(
-        &self,
-        alloc: Global,
-        leave: usize,
-        pivot: i128,
-    ) -> Result<Option<Vec<i128>>, Memory> {
-        let mut row = Vec::new(alloc);
-        let old = match self.inverse.get(leave) {
-            Some(old) => old.as_slice(),
-            None => &[],
-        };
-        for x in old {
-            match pivoted(*x, pivot) {
-                Some(entry) => row.push(entry)?,
-                None => return Ok(None),
-            }
-        }
-        Ok(Some(row))
-    }
-
-    /// Takes so many times the pivot's row from another of the inverse.
-    fn reduce(&mut self, a: usize, row: &[i128], c: i128, ratio: i128) -> Option<()> {
-        reduce_row(self.inverse.get_mut(a)?, row, c)?;
-        let time = self.times.get_mut(a)?;
-        *time = time
-            .checked_sub(product(c, ratio, EXCHANGE_PLACES)?)?
-            .max(0);
-        Some(())
-    }
-
-    /// Takes them from all others.
-    fn reduce_all(
-        &mut self,
-        leave: usize,
-        row: &[i128],
-        column: &[i128],
-        ratio: i128,
-    ) -> Option<()> {
-        for a in 0..column.len() {
-            if a != leave && column[a] != 0 {
-                self.reduce(a, row, column[a], ratio)?;
-            }
-        }
-        Some(())
-    }
-
-    /// Exchanges the leaving template for the entering one. None where a number gets too long.
-    fn exchange(
-        &mut self,
-        alloc: Global,
-        leave: usize,
-        entering: Entering,
-        column: &[i128],
-    ) -> Result<Option<()>, Memory> {
-        let pivot = column.get(leave).copied().unwrap_or(0);
-        let time = self.times.get(leave).copied().unwrap_or(0);
-        let Some(row) = self.pivot_row(alloc, leave, pivot)? else {
-            return Ok(None);
-        };
-        let Some(ratio) = pivoted(time, pivot) else {
-            return Ok(None);
-        };
-        if self.reduce_all(leave, &row, column, ratio).is_none() {
-            return Ok(None);
-        }
-        if let Some(slot) = self.times.get_mut(leave) {
-            *slot = ratio;
-        }
-        if let Some(slot) = self.inverse.get_mut(leave) {
-            *slot = row;
-        }
-        if let Some(slot) = self.templates.get_mut(leave) {
-            *slot = (entering.template, entering.sign);
-        }
-        Ok(Some(()))
-    }
-}
-
-/// Adds a row to sums.
-fn add_row(sums: &mut Vec<i128>, row: &[i128]) {
-    for (sum, x) in sums.iter_mut().zip(row) {
-        *sum = sum.saturating_add(*x);
-    }
-}
-
-/// The better one of what is there and the pool's templates.
-fn best_template(first: Entering, scaled: &ScaledTemplates<'_>, worth: &[i128]) -> Entering {
-    let mut best = first;
-    for i in 0..scaled.templates.len() {
-        if let Some(template) = &scaled.templates[i] {
-            if let Some(gain) = dot(worth, template) {
-                best = best.or(i.saturating_add(scaled.pool.templates.states), gain);
+                least = ratio;
+                pivot = *own;
             }
         }
     }
     best
 }
 
-/// A number over a pivot, of at most 24 bits before its places.
-fn pivoted(x: i128, pivot: i128) -> Option<i128> {
-    let entry = quotient(left_fits(x, EXCHANGE_PLACES)?, pivot)?;
-    if entry.unsigned_abs() >> (EXCHANGE_PLACES + 24) != 0 {
-        return None;
+/// What a matrix makes of a vector.
+fn image(alloc: Global, rows: &[Vec<f64>], vector: &[f64]) -> Result<Vec<f64>, Memory> {
+    let mut image = Vec::new(alloc);
+    for row in rows {
+        image.push(dot(row, vector))?;
     }
-    Some(entry)
+    Ok(image)
 }
 
-/// Takes so many times a row from another.
-fn reduce_row(own: &mut Vec<i128>, row: &[i128], c: i128) -> Option<()> {
-    for (x, z) in own.iter_mut().zip(row) {
-        *x = x.checked_sub(product(c, *z, EXCHANGE_PLACES)?)?;
+/// Sums of a matrix's columns.
+fn column_sums(alloc: Global, rows: &[Vec<f64>]) -> Result<Vec<f64>, Memory> {
+    let mut sums = vec![in alloc; 0.0_f64; rows.len()]?;
+    for row in rows {
+        for (sum, x) in sums.iter_mut().zip(row) {
+            *sum = *sum + *x;
+        }
     }
-    Some(())
+    Ok(sums)
 }
 
-/// The entering template itself.
-fn entering_template(
+/// The same numbers, of which none is below 0.
+fn not_negative(numbers: &mut Vec<f64>) {
+    for x in numbers.iter_mut() {
+        if *x < 0.0 {
+            *x = 0.0;
+        }
+    }
+}
+
+impl Basis {
+    /// The unit templates, with the signs of a template.
+    fn units(alloc: Global, template: &[f64]) -> Result<Basis, Memory> {
+        let mut templates = Vec::new(alloc);
+        for (j, x) in template.iter().enumerate() {
+            templates.push((j, if *x < 0.0 { -1.0 } else { 1.0 }))?;
+        }
+        Ok(Basis { templates })
+    }
+
+    /// Row `j` of the matrix whose columns are the basis, and beside it that of the unit matrix.
+    fn row(
+        &self,
+        alloc: Global,
+        templates: &ScaledTemplates<'_>,
+        j: usize,
+    ) -> Result<Vec<f64>, Memory> {
+        let mut row = Vec::new(alloc);
+        for (i, sign) in &self.templates {
+            row.push(at(templates.template(*i), j) * *sign)?;
+        }
+        for k in 0..self.templates.len() {
+            row.push(if k == j { 1.0 } else { 0.0 })?;
+        }
+        Ok(row)
+    }
+
+    /// The inverse of the matrix whose columns are the basis.
+    fn inverse(
+        &self,
+        alloc: Global,
+        templates: &ScaledTemplates<'_>,
+    ) -> Result<Option<Vec<Vec<f64>>>, Memory> {
+        let mut rows = Vec::new(alloc);
+        for j in 0..self.templates.len() {
+            rows.push(self.row(alloc, templates, j)?)?;
+        }
+        inverse(alloc, rows)
+    }
+
+    /// Puts a template in the place of one of the basis, and gives that.
+    fn put(&mut self, place: usize, template: (usize, f64)) -> (usize, f64) {
+        match self.templates.get_mut(place) {
+            Some(slot) => {
+                let before = *slot;
+                *slot = template;
+                before
+            }
+            None => template,
+        }
+    }
+
+    /// The next exchange: which place the entering template takes. None where there is nothing to gain.
+    fn next(
+        &self,
+        alloc: Global,
+        templates: &ScaledTemplates<'_>,
+        inverse: &[Vec<f64>],
+        goal: &[f64],
+    ) -> Result<Option<(usize, (usize, f64))>, Memory> {
+        let worth = column_sums(alloc, inverse)?;
+        let Some(entering) = best_gain(templates, &worth) else {
+            return Ok(None);
+        };
+        let mut times = image(alloc, inverse, goal)?;
+        not_negative(&mut times);
+        let mut column = image(alloc, inverse, templates.template(entering.template))?;
+        for x in column.iter_mut() {
+            *x = *x * entering.sign();
+        }
+        match leaving(&times, &column) {
+            Some(place) => Ok(Some((place, (entering.template, entering.sign())))),
+            None => Ok(None),
+        }
+    }
+}
+
+/// Exchanges templates of a basis, as long as something is gained and the budget allows, and gives its inverse.
+fn improve(
     alloc: Global,
-    scaled: &ScaledTemplates<'_>,
-    i: usize,
-) -> Result<Vec<i128>, Memory> {
-    let states = scaled.pool.templates.states;
-    if i < states {
-        return unit_vector(alloc, states, i, ONE);
-    }
-    match scaled.templates.get(i.saturating_sub(states)) {
-        Some(Some(template)) => Ok(Vec::from_slice(alloc, template)?),
-        _ => Ok(vec![in alloc; 0_i128; states]?),
-    }
-}
-
-/// One exchange, and whether there was one.
-fn exchange_once(
-    alloc: Global,
-    scaled: &ScaledTemplates<'_>,
+    templates: &ScaledTemplates<'_>,
     basis: &mut Basis,
-) -> Result<bool, Memory> {
-    let worth = basis.worth(alloc)?;
-    let Some(entering) = basis.entering(scaled, &worth) else {
-        return Ok(false);
+    goal: &[f64],
+    budget: &mut Budget,
+) -> Result<Option<Vec<Vec<f64>>>, Memory> {
+    let Some(mut inverse) = basis.inverse(alloc, templates)? else {
+        return Ok(None);
     };
-    let template = entering_template(alloc, scaled, entering.template)?;
-    let Some(column) = basis.column(alloc, &template, entering.sign)? else {
-        return Ok(false);
-    };
-    let Some(leave) = basis.leaving(&column) else {
-        return Ok(false);
-    };
-    Ok(basis.exchange(alloc, leave, entering, &column)?.is_some())
-}
-
-/// How often template `i` is taken, as a share.
-fn share_at(pool: &Pool, (i, sign): (usize, i128), time: i128, cost: i128) -> Option<Share> {
-    if i < pool.templates.states || time == 0 {
-        return None;
+    let work = step_work(templates);
+    for _turn in 0..templates.states().saturating_mul(8).saturating_add(16) {
+        if !budget.take(work) {
+            return Ok(Some(inverse));
+        }
+        let Some((place, template)) = basis.next(alloc, templates, &inverse, goal)? else {
+            return Ok(Some(inverse));
+        };
+        let before = basis.put(place, template);
+        match basis.inverse(alloc, templates)? {
+            Some(next) => inverse = next,
+            None => {
+                basis.put(place, before);
+                return Ok(Some(inverse));
+            }
+        }
     }
-    let n = time.checked_mul(sign)?.checked_mul(cost)?;
-    let d = left_fits(pool.cost(i), EXCHANGE_PLACES)?;
-    Some(Share {
-        template: u32::try_from(i).ok()?,
-        times: share_of(n, d)?,
-    })
+    Ok(Some(inverse))
 }
 
 /// Puts a share where its template stands in the order of templates.
@@ -414,40 +308,73 @@ fn insert(shares: &mut Vec<Share>, share: Share) -> Result<(), Memory> {
     Ok(())
 }
 
-/// The shares of a basis.
-fn shares_of(alloc: Global, pool: &Pool, basis: &Basis, cost: i128) -> Result<Vec<Share>, Memory> {
+/// How many places a share of a template has, whose cost is so much of the whole: of one that costs next to nothing the
+/// last places would only get sums of a checker beyond 128 bits.
+fn places_of(part: f64) -> u32 {
+    let mut places = SHARE_PLACES;
+    let mut part = part;
+    for _step in 0..SHARE_PLACES {
+        if part < 1.0 {
+            part = part * 2.0;
+            places = places.saturating_sub(1);
+        }
+    }
+    places
+}
+
+/// How often template `i` is taken, as a share, where it costs such a part of the whole.
+fn share_of(templates: &ScaledTemplates<'_>, i: usize, times: f64, part: f64) -> Option<Share> {
+    if i < templates.states() {
+        return None;
+    }
+    Some(Share {
+        template: u32::try_from(i).ok()?,
+        times: dyadic_near(times, SHARE_BITS, places_of(part))?,
+    })
+}
+
+/// The shares of a basis whose templates are taken so often.
+fn shares_of(
+    alloc: Global,
+    templates: &ScaledTemplates<'_>,
+    basis: &Basis,
+    times: &[f64],
+    cost: f64,
+) -> Result<Vec<Share>, Memory> {
     let mut shares = Vec::new(alloc);
-    for (template, time) in basis.templates.iter().zip(&basis.times) {
-        if let Some(share) = share_at(pool, *template, *time, cost) {
+    for ((i, sign), time) in basis.templates.iter().zip(times) {
+        let part = at(&templates.costs, *i) / cost;
+        if let Some(share) = share_of(templates, *i, *time * *sign / part, part) {
             insert(&mut shares, share)?;
         }
     }
     Ok(shares)
 }
 
-/// What all templates of a basis cost together.
-fn basis_cost(basis: &Basis, cost: i128) -> i128 {
-    let mut total: i128 = 0;
-    for time in &basis.times {
-        total = total.saturating_add(*time);
+/// How great all numbers are together.
+fn total_size(numbers: &[f64]) -> f64 {
+    let mut total = 0.0;
+    for x in numbers {
+        total = total + size_of(*x);
     }
-    product(total, cost, EXCHANGE_PLACES).unwrap_or(i128::MAX)
+    total
 }
 
 /// How many products one exchange comes to, about.
-fn step_work(scaled: &ScaledTemplates<'_>) -> u64 {
-    let states = scaled.pool.templates.states;
-    let templates = scaled
-        .templates
+fn step_work(templates: &ScaledTemplates<'_>) -> u64 {
+    let states = templates.states();
+    let square = states.saturating_mul(states);
+    templates
+        .costs
         .len()
-        .saturating_add(states.saturating_mul(4));
-    templates.saturating_mul(states) as u64
+        .saturating_add(square.saturating_mul(2))
+        .saturating_mul(states) as u64
 }
 
 /// Takes a template of 48 binary places apart, as well as the budget allows.
 pub fn exchange(
     alloc: Global,
-    scaled: &ScaledTemplates<'_>,
+    scaled_templates: &ScaledTemplates<'_>,
     template: &[i128],
     budget: &mut Budget,
 ) -> Result<Exchanged, Memory> {
@@ -455,22 +382,19 @@ pub fn exchange(
         cost: 0,
         shares: Vec::new(alloc),
     };
-    let Some(cost) = unit_cost(template, &scaled.costs) else {
+    let first = scaled(alloc, template, &scaled_templates.costs, 1.0)?;
+    let cost = total_size(&first);
+    if !(cost > 0.0) {
         return Ok(none);
-    };
-    let Some(goal) = scaled_template(alloc, template, &scaled.costs, cost)? else {
-        return Ok(none);
-    };
-    let mut basis = Basis::units(alloc, &goal)?;
-    let turns = scaled.states().saturating_mul(8).saturating_add(16);
-    let work = step_work(scaled);
-    for _turn in 0..turns {
-        if !budget.take(work) || !exchange_once(alloc, scaled, &mut basis)? {
-            break;
-        }
     }
+    let goal = scaled(alloc, template, &scaled_templates.costs, cost)?;
+    let mut basis = Basis::units(alloc, &goal)?;
+    let Some(inverse) = improve(alloc, scaled_templates, &mut basis, &goal, budget)? else {
+        return Ok(none);
+    };
+    let times = image(alloc, &inverse, &goal)?;
     Ok(Exchanged {
-        cost: basis_cost(&basis, cost),
-        shares: shares_of(alloc, scaled.pool, &basis, cost)?,
+        cost: whole_near(total_size(&times) * cost, 0).unwrap_or(i128::MAX),
+        shares: shares_of(alloc, scaled_templates, &basis, &times, cost)?,
     })
 }

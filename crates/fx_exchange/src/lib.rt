@@ -11,6 +11,7 @@
 mod apart;
 mod basis;
 mod budget;
+mod inverse;
 
 pub use apart::{Apart, Combination, pool_of, take_apart};
 pub use basis::{Exchanged, ScaledTemplates, exchange};

@@ -4,7 +4,7 @@ use crate::ends::Ends;
 use crate::image::{drive_of, left_coef, start_of};
 use fx_interval::Interval;
 use fx_num::{Dyadic, Memory, ceil_shift, dadd, dle, floor_shift, left_fits};
-use fx_reach::{Linear, Pool, ceil_at, floor_at};
+use fx_reach::{Linear, Pool, ceil_at, floor_at, power_of_two, size_of, to_float};
 use std::alloc::Global;
 
 /// How many binary places a template's share in itself has.
@@ -163,6 +163,16 @@ pub fn left_of(
     Ok(finished(linear, pool, i, wholes, own, own_places, most, starts))
 }
 
+/// By how many places terms may be finer than the bound, so that a checker's exact sums have room in 128 bits.
+const FINER_PLACES: i32 = 91;
+
+/// Whether what drives a template, and terms with so many places, are little enough finer than a bound with so many.
+fn fits_beside(drive: Interval, most: i32, places: i32) -> bool {
+    let finest = places.saturating_add(FINER_PLACES);
+    let end = finest.max(0).unsigned_abs();
+    most <= finest && drive.lo.e <= end && drive.hi.e <= end
+}
+
 /// The left side of template `i` of these terms.
 fn finished(
     linear: &Linear,
@@ -175,6 +185,9 @@ fn finished(
     starts: Option<&[Interval]>,
 ) -> Option<Left> {
     let drive = drive_of(linear, pool, i)?;
+    if !fits_beside(drive, most, places) {
+        return None;
+    }
     let own = own.unwrap_or(Dyadic::zero());
     let start = match starts {
         Some(starts) => Some(start_of(pool, i, starts, places)?),
@@ -205,6 +218,33 @@ fn lower_over(lo: i128, down: i128, up: i128) -> Option<i128> {
 }
 
 impl Left {
+    /// What a unit of the sums comes to in the bound, in floating point.
+    fn unit(&self) -> f64 {
+        let places = i32::try_from(self.places).unwrap_or(0);
+        let own = to_float(self.own_up) * power_of_two(-(OWN_PLACES as i32));
+        power_of_two(places.saturating_neg()) / (1.0 - own)
+    }
+
+    /// Takes from a row how often each template's bound is taken, with its sign or as a size.
+    pub fn put_weights(&self, row: &mut [f64], is_signed: bool) {
+        let unit = self.unit();
+        for term in &self.terms {
+            if let Some(slot) = row.get_mut(term.template) {
+                let weight = to_float(term.times) * unit;
+                let weight = if is_signed { weight } else { size_of(weight) };
+                *slot = *slot - weight;
+            }
+        }
+    }
+
+    /// The middle of what drives the template, or how far it goes to each side of that.
+    pub fn driven(&self, is_middle: bool) -> f64 {
+        let lo = to_float(self.drive.lo);
+        let hi = to_float(self.drive.hi);
+        let twice = if is_middle { hi + lo } else { hi - lo };
+        twice * 0.5 * self.unit()
+    }
+
     /// Where the template lies after one step, with the start if there is one.
     pub fn at(&self, bounds: &[Ends]) -> Option<Ends> {
         let mut lo = self.drive.lo;
@@ -228,12 +268,14 @@ impl Left {
         } else {
             (lo, hi)
         };
+        Some(self.with_start(Ends { lo, hi }))
+    }
+
+    /// Ends that hold the start, too.
+    pub fn with_start(&self, ends: Ends) -> Ends {
         match self.start {
-            Some(start) => Some(Ends {
-                lo: lo.min(start.lo),
-                hi: hi.max(start.hi),
-            }),
-            None => Some(Ends { lo, hi }),
+            Some(start) => ends.and(start),
+            None => ends,
         }
     }
 }

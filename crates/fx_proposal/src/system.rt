@@ -5,9 +5,10 @@
 
 use crate::ends::{Ends, widened};
 use crate::left::{Left, left_of};
+use crate::start::fixed_point;
 use fx_interval::Interval;
 use fx_num::{Memory, bits, left_fits, lowest};
-use fx_reach::{Linear, Pool, moved_down, moved_up};
+use fx_reach::{Linear, Pool, moved_down, moved_up, to_float, whole_near};
 use std::alloc::Global;
 
 /// How many bits a bound has about.
@@ -168,8 +169,13 @@ impl System {
         Some(())
     }
 
-    /// Widens the bounds by a little, and by more where that isn't enough, until a pass proves them.
+    /// Takes the bounds as they are, widened by a little, and by more where that isn't enough, until a pass proves
+    /// them.
     fn prove(&self, alloc: Global, bounds: &[Ends]) -> Result<Option<Vec<Ends>>, Memory> {
+        let mut own = Vec::from_slice(alloc, bounds)?;
+        if let Some(true) = self.is_raised(&mut own) {
+            return Ok(Some(own));
+        }
         for step in 0..8_i32 {
             let k = 12_i32.saturating_sub(step.saturating_mul(2));
             let Some(mut wider) = widened(alloc, bounds, k)? else {
@@ -184,12 +190,40 @@ impl System {
         Ok(None)
     }
 
+    /// The bounds at which each is its left side, about, if there are some.
+    fn fixed(&self, alloc: Global, first: &[Ends]) -> Result<Option<Vec<Ends>>, Memory> {
+        let mut widths = Vec::new(alloc);
+        for ends in first {
+            widths.push(to_float(ends.width()))?;
+        }
+        let Some((middles, halves)) = fixed_point(alloc, &self.lefts, &widths)? else {
+            return Ok(None);
+        };
+        let mut bounds = Vec::new(alloc);
+        for ((middle, half), left) in middles.iter().zip(&halves).zip(&self.lefts) {
+            match (
+                whole_near(*middle - *half, 0),
+                whole_near(*middle + *half, 0),
+            ) {
+                (Some(lo), Some(hi)) => bounds.push(left.with_start(Ends {
+                    lo: lo.saturating_sub(1),
+                    hi: hi.saturating_add(1),
+                }))?,
+                _ => return Ok(None),
+            }
+        }
+        Ok(Some(bounds))
+    }
+
     /// Bounds that one step keeps, if some are found.
     pub fn solve(&self, alloc: Global, pool: &Pool) -> Result<Option<Vec<Ends>>, Memory> {
         let Some(first) = self.guesses(alloc, pool)? else {
             return Ok(None);
         };
-        let mut bounds = Vec::from_slice(alloc, &first)?;
+        let mut bounds = match self.fixed(alloc, &first)? {
+            Some(bounds) => bounds,
+            None => Vec::from_slice(alloc, &first)?,
+        };
         if self.settle(&mut bounds, &first).is_none() {
             return Ok(None);
         }

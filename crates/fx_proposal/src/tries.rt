@@ -1,13 +1,17 @@
-//! Tries of rising room: each builds templates and solves them for bounds, and the first that comes close to the
-//! reaches is taken, else the best.
+//! Tries: the first with chains alone, then the ladder with templates of poles, from the first step that finds its
+//! place on, and then chains of rising room as a last resort.
+//!
+//! Each builds templates and solves them for bounds; what comes close to the reaches is taken, else the best.
 
 use crate::build::build;
 use crate::ends::Ends;
+use crate::ladder::{Building, place};
+use crate::rungs::{RUNGS, Rung};
 use crate::system::System;
 use fx_exchange::{Budget, ScaledTemplates, exchange};
 use fx_interval::Interval;
 use fx_num::{Memory, left_fits};
-use fx_reach::{Chain, Costs, Linear, Pool};
+use fx_reach::{Chain, Costs, Linear, Pole, Pool, pole_templates, poles_of, to_float};
 use std::alloc::Global;
 
 /// A try: the room as a power of two below what a chain begins with, whether the outputs have chains, and whether
@@ -137,9 +141,22 @@ fn tried(
     budget: &mut Budget,
 ) -> Result<Option<Solved>, Memory> {
     let costs = Costs::of(alloc, chains, one.shift)?;
-    let Some(mut pool) = build(alloc, chains, linear, &costs, one.is_growing, budget)? else {
-        return Ok(None);
-    };
+    match build(alloc, chains, linear, &costs, one.is_growing, budget)? {
+        Some(pool) => solve_pool(alloc, linear, chains, pool, starts, budget),
+        None => Ok(None),
+    }
+}
+
+/// A pool with its bounds, where they stand.
+fn solve_pool(
+    alloc: Global,
+    linear: &Linear,
+    chains: &[Chain],
+    pool: Pool,
+    starts: Option<&[Interval]>,
+    budget: &mut Budget,
+) -> Result<Option<Solved>, Memory> {
+    let mut pool = pool;
     let Some(system) = System::of(alloc, linear, &pool, starts)? else {
         return Ok(None);
     };
@@ -186,18 +203,146 @@ fn used<'a>(chains: &'a [Chain], states: usize, one: Try) -> &'a [Chain] {
     }
 }
 
-/// The best of the tries. Where no work is left for exchanges, the others are left out.
-pub fn best_try(
+/// How wide the states reach.
+fn widths_of(alloc: Global, chains: &[Chain], states: usize) -> Result<Vec<i128>, Memory> {
+    let mut widths = Vec::new(alloc);
+    for chain in chains.iter().take(states) {
+        widths.push(chain.ahead.templates.width(0))?;
+    }
+    Ok(widths)
+}
+
+/// The greatest of these widths.
+fn widest(widths: &[i128]) -> i128 {
+    let mut most = 1;
+    for width in widths {
+        most = most.max(*width);
+    }
+    most
+}
+
+/// A ladder: what its steps are built of.
+#[derive(Clone, Copy, Debug)]
+struct Ladder<'a> {
+    alloc: Global,
+    linear: &'a Linear,
+    chains: &'a [Chain],
+    poles: &'a [Pole],
+    widest: i128,
+}
+
+impl<'a> Ladder<'a> {
+    /// The templates of a step without the ends, if they find their place.
+    fn placed(self, rung: Rung, budget: &mut Budget) -> Result<Option<Building<'a>>, Memory> {
+        let part = to_float(rung.part) / 100.0;
+        match pole_templates(self.alloc, self.linear, self.poles, part, self.widest)? {
+            Some(planes) => place(self.alloc, self.chains, self.linear, rung, &planes, budget),
+            None => Ok(None),
+        }
+    }
+
+    /// The first step that finds its place, between those that don't and those that do.
+    fn first(self, budget: &mut Budget) -> Result<usize, Memory> {
+        let mut low: usize = 0;
+        let mut high = RUNGS.len();
+        for _turn in 0..5 {
+            if low < high {
+                let middle = low.saturating_add(high) / 2;
+                let is_placed = match RUNGS.get(middle) {
+                    Some(rung) => self.placed(*rung, budget)?.is_some(),
+                    None => true,
+                };
+                if is_placed {
+                    high = middle;
+                } else {
+                    low = middle.saturating_add(1);
+                }
+            }
+        }
+        Ok(high)
+    }
+
+    /// A step with its bounds, if it finds its place and they stand.
+    fn stood(
+        self,
+        rung: Rung,
+        starts: Option<&[Interval]>,
+        budget: &mut Budget,
+    ) -> Result<Option<Solved>, Memory> {
+        match self.placed(rung, budget)? {
+            Some(building) => {
+                let pool = building.finish(budget)?;
+                solve_pool(self.alloc, self.linear, self.chains, pool, starts, budget)
+            }
+            None => Ok(None),
+        }
+    }
+
+    /// The best of the steps from the first on that finds its place: mostly that one, and else one of the next two
+    /// whose bounds stand.
+    fn climbed(
+        self,
+        starts: Option<&[Interval]>,
+        budget: &mut Budget,
+    ) -> Result<Option<Solved>, Memory> {
+        let first = self.first(budget)?;
+        let mut best = None;
+        let mut count: u32 = 0;
+        for rung in RUNGS.iter().skip(first) {
+            if let Some(found) = self.stood(*rung, starts, budget)? {
+                count = count.saturating_add(1);
+                let is_enough = count >= 3 || is_expected(&found, *rung);
+                let found = better(best, found);
+                if is_enough {
+                    return Ok(Some(found));
+                }
+                best = Some(found);
+            }
+        }
+        Ok(best)
+    }
+}
+
+/// Whether the bounds are about as wide as the room of a step lets them be.
+fn is_expected(solved: &Solved, rung: Rung) -> bool {
+    let unit = 1_i128 << QUALITY_PLACES;
+    let room = rung.room.saturating_add(4).saturating_mul(unit >> 6);
+    solved.quality <= unit.saturating_add(room)
+}
+
+/// The first step of the ladder that finds its place and whose bounds stand.
+fn climbed(
     alloc: Global,
     linear: &Linear,
     chains: &[Chain],
     starts: Option<&[Interval]>,
     budget: &mut Budget,
 ) -> Result<Option<Solved>, Memory> {
-    let mut best = None;
-    for one in &TRIES {
+    let widths = widths_of(alloc, chains, linear.states)?;
+    let poles = poles_of(alloc, linear, &widths)?;
+    let ladder = Ladder {
+        alloc,
+        linear,
+        chains,
+        poles: &poles,
+        widest: widest(&widths),
+    };
+    ladder.climbed(starts, budget)
+}
+
+/// The best of the older tries. Where no work is left for exchanges, the others are left out.
+fn best_older(
+    alloc: Global,
+    linear: &Linear,
+    chains: &[Chain],
+    starts: Option<&[Interval]>,
+    first: Option<Solved>,
+    budget: &mut Budget,
+) -> Result<Option<Solved>, Memory> {
+    let mut best = first;
+    for one in TRIES.iter().skip(1) {
         let one = *one;
-        if budget.is_spent() && one.shift < 8 {
+        if budget.is_spent() {
             return Ok(best);
         }
         // without chains of outputs a try with them is one without
@@ -220,4 +365,36 @@ pub fn best_try(
         }
     }
     Ok(best)
+}
+
+/// Whether the ladder has done as much as the older tries could.
+fn is_climbed(solved: &Solved) -> bool {
+    let unit = 1_i128 << QUALITY_PLACES;
+    solved.quality <= unit.saturating_add(unit >> 1)
+}
+
+/// The best of the first try, the ladder, and the older tries where that isn't good.
+pub fn best_try(
+    alloc: Global,
+    linear: &Linear,
+    chains: &[Chain],
+    starts: Option<&[Interval]>,
+    budget: &mut Budget,
+) -> Result<Option<Solved>, Memory> {
+    let first = tried(alloc, linear, chains, TRIES[0], starts, budget)?;
+    if let Some(solved) = &first {
+        if is_enough(solved, TRIES[0]) {
+            return Ok(first);
+        }
+    }
+    let best = match climbed(alloc, linear, chains, starts, budget)? {
+        Some(solved) => Some(better(first, solved)),
+        None => first,
+    };
+    if let Some(solved) = &best {
+        if is_climbed(solved) {
+            return Ok(best);
+        }
+    }
+    best_older(alloc, linear, chains, starts, best, budget)
 }

@@ -64,6 +64,11 @@ pub fn room(width: i128, shift: i32) -> i128 {
     moved_down(width, shift).unwrap_or(0)
 }
 
+/// So many parts of a width.
+pub fn room_part(width: i128, parts: i128, whole: i128) -> i128 {
+    width.saturating_mul(parts).checked_div(whole).unwrap_or(0)
+}
+
 /// What a template costs on the unit templates.
 pub fn unit_cost(template: &[i128], costs: &[i128]) -> Option<i128> {
     let mut total: i128 = 0;

@@ -12,7 +12,11 @@
 
 mod ahead;
 mod chain;
+mod complex;
+mod eigen;
+mod float;
 mod linear;
+mod poles;
 mod pool;
 mod sum;
 mod templates;
@@ -20,13 +24,17 @@ mod transition;
 mod whole;
 
 pub use ahead::{Ahead, look_ahead};
-pub use chain::{Chain, Costs, find_closing, room, times_of, unit_cost, wanted_length};
+pub use chain::{Chain, Costs, find_closing, room, room_part, times_of, unit_cost, wanted_length};
+pub use float::{
+    dyadic_near, greater_of, power_of_two, size_of, to_float, whole_below, whole_near,
+};
 pub use linear::Linear;
+pub use poles::{Pole, pole_templates, poles_of};
 pub use pool::Pool;
 pub use sum::{plus_scaled, times};
 pub use templates::Templates;
 pub use transition::Transition;
 pub use whole::{
-    PLACES, ceil_at, floor_at, magnitude, moved_down, moved_up, product, quotient, share_of,
-    unit_vector,
+    PLACES, SHARE_BITS, SHARE_PLACES, ceil_at, floor_at, magnitude, moved_down, moved_up, product,
+    quotient, share_of, unit_vector,
 };

@@ -15,10 +15,10 @@ const HALF: i128 = 1 << (PLACES - 1);
 
 /// Something that is added to the next states, each so many times.
 #[derive(Debug, Drop)]
-struct Drive {
-    coefs: Vec<i128>,
-    lo: i128,
-    hi: i128,
+pub(crate) struct Drive {
+    pub(crate) coefs: Vec<i128>,
+    pub(crate) lo: i128,
+    pub(crate) hi: i128,
 }
 
 /// A step of the states on one side, of values or of errors.
@@ -152,6 +152,11 @@ impl Linear {
         Ok(Some(column))
     }
 
+    /// What drives the states.
+    pub(crate) fn drives(&self) -> &[Drive] {
+        self.drives.as_slice()
+    }
+
     /// Adds what drives by these coefficients, if it isn't zero.
     fn add_drive(&mut self, coefs: Vec<i128>, span: Interval) -> Result<Option<()>, Memory> {
         let Some(lo) = floor_at(span.lo, self.scale) else {
@@ -233,6 +238,18 @@ impl Linear {
     fn image_entry(&self, template: &[i128], j: usize) -> Option<i128> {
         let total = products(template, self.columns.get(j)?)?;
         Some(floor_shift(total.checked_add(HALF)?, PLACES))
+    }
+
+    /// A template's image.
+    pub fn image(&self, alloc: Global, template: &[i128]) -> Result<Option<Vec<i128>>, Memory> {
+        let mut image = Vec::new(alloc);
+        for j in 0..self.states {
+            match self.image_entry(template, j) {
+                Some(entry) => image.push(entry)?,
+                None => return Ok(None),
+            }
+        }
+        Ok(Some(image))
     }
 
     /// Puts a template's image in its place behind the others.

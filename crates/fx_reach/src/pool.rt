@@ -7,7 +7,7 @@ use fx_num::{Dyadic, Memory, bits, floor_shift, lowest};
 use std::alloc::Global;
 
 /// How many bits a coefficient has, counted from what its chain begins with.
-const COEFFICIENT_BITS: i64 = 30;
+const COEFFICIENT_BITS: i64 = 34;
 
 /// All templates of one kind, the unit templates first.
 #[derive(Debug, Drop)]
@@ -51,6 +51,13 @@ impl Pool {
     /// What template `i` costs: how wide its bound gets.
     pub fn cost(&self, i: usize) -> i128 {
         self.templates.width(i).saturating_add(self.room(i))
+    }
+
+    /// Gives template `i` another room.
+    pub fn put_room(&mut self, i: usize, room: i128) {
+        if let Some(slot) = self.rooms.get_mut(i) {
+            *slot = room;
+        }
     }
 
     /// Gives template `i` what its bound came to in the place of a guess.

@@ -98,20 +98,26 @@ pub fn unit_vector(
 /// How many bits of a numerator and its denominator are used.
 const QUOTIENT_BITS: u32 = 62;
 
-/// `n / d` with about 30 significant bits and at most 40 binary places, where both have few bits and `d` is above zero.
+/// How many significant bits a share has, about.
+pub const SHARE_BITS: u32 = 42;
+
+/// How many binary places a share has at most.
+pub const SHARE_PLACES: u32 = 44;
+
+/// `n / d` as a share, where both have few bits and `d` is above zero.
 fn short_share(n: i128, d: i128) -> Option<Dyadic> {
     let top = i64::from(bits(n.unsigned_abs()));
     let bottom = i64::from(bits(d.unsigned_abs()));
-    let e = (30_i64)
+    let e = i64::from(SHARE_BITS)
         .saturating_add(bottom)
         .saturating_sub(top)
-        .clamp(0, 40) as u32;
+        .clamp(0, i64::from(SHARE_PLACES)) as u32;
     let twice = left_fits(n, e.saturating_add(1))?;
     let m = quotient(twice, d)?.checked_add(1)?;
     Some(lowest(floor_shift(m, 1), e))
 }
 
-/// `n / d` with about 30 significant bits and at most 40 binary places, unless one of them is 0. Of numbers that are
+/// `n / d` as a share, unless one of them is 0. Of numbers that are
 /// too long to be moved up the last bits are left out.
 pub fn share_of(n: i128, d: i128) -> Option<Dyadic> {
     let longest = bits(n.unsigned_abs()).max(bits(d.unsigned_abs()));

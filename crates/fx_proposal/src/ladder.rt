@@ -1,0 +1,351 @@
+//! Templates of a step of the ladder: the poles' planes, and chains that are closed on them.
+//!
+//! A chain is followed only until what is left of it costs, on all templates that are there, at most its reach and its
+//! room: then an exchange takes the end apart. What a later chain closes on are the templates of the earlier ones too.
+
+use crate::rungs::Rung;
+use fx_cert::Share;
+use fx_exchange::{Budget, ScaledTemplates, exchange};
+use fx_num::{Dyadic, Memory, TEMPLATE_LIMIT};
+use fx_reach::{Ahead, Chain, Linear, PLACES, Pool, Templates, room_part, unit_cost};
+use std::alloc::Global;
+
+/// How many templates a certificate has at most, as lists count.
+const TEMPLATES: usize = TEMPLATE_LIMIT as usize;
+
+/// How many templates those of poles may be, with the unit templates.
+const MOST_OF_POLES: usize = 400;
+
+/// How long a chain may get.
+const LONGEST: usize = 1024;
+
+/// A template whose image is taken apart by an exchange.
+#[derive(Debug, Drop)]
+struct End {
+    image: Vec<i128>,
+    template: usize,
+}
+
+/// A pool while it is built, with the templates that wait for an exchange.
+#[derive(Debug, Drop)]
+pub struct Building<'a> {
+    alloc: Global,
+    linear: &'a Linear,
+    rung: Rung,
+    pool: Pool,
+    ends: Vec<End>,
+    /// What the unit templates cost, with their room.
+    costs: Vec<i128>,
+    /// How many times the room each unit template has: two for one that follows another.
+    factors: Vec<i128>,
+    /// How many templates still have a place.
+    left: usize,
+}
+
+/// One share, taken once.
+fn once(template: usize) -> Share {
+    Share {
+        template: u32::try_from(template).unwrap_or(u32::MAX),
+        times: Dyadic { m: 1, e: 0 },
+    }
+}
+
+/// How many chains don't begin with a unit template.
+fn free_chains(chains: &[Chain]) -> usize {
+    let mut count: usize = 0;
+    for chain in chains {
+        if chain.state.is_none() {
+            count = count.saturating_add(1);
+        }
+    }
+    count
+}
+
+impl<'a> Building<'a> {
+    /// No template yet.
+    fn new(alloc: Global, linear: &'a Linear, rung: Rung) -> Building<'a> {
+        Building {
+            alloc,
+            linear,
+            rung,
+            pool: Pool::new(alloc, linear.states, linear.scale),
+            ends: Vec::new(alloc),
+            costs: Vec::new(alloc),
+            factors: Vec::new(alloc),
+            left: 0,
+        }
+    }
+
+    /// The room of a chain that begins so wide.
+    fn room(&self, width: i128, factor: i128) -> i128 {
+        room_part(width, self.rung.room.saturating_mul(factor), 64)
+    }
+
+    /// Adds the unit templates.
+    fn put_units(&mut self, chains: &[Chain]) -> Result<(), Memory> {
+        for chain in chains {
+            if let Some(k) = chain.state {
+                let width = chain.ahead.templates.width(0);
+                let room = self.room(width, 1);
+                let reach = chain.ahead.templates.reach(0);
+                self.pool.push_unit(self.alloc, k, reach, room)?;
+                self.costs.push(width.saturating_add(room))?;
+                self.factors.push(1)?;
+            }
+        }
+        Ok(())
+    }
+
+    /// Adds the templates of poles.
+    fn put_poles(&mut self, planes: &Templates) -> Result<(), Memory> {
+        for i in 0..planes.len() {
+            let template = planes.template(i);
+            let width = planes.width(i);
+            let room = room_part(width, self.rung.part, 100);
+            let place = self
+                .pool
+                .push_template(self.alloc, template, width, planes.reach(i), room)?;
+            if let Some(image) = self.linear.image(self.alloc, template)? {
+                self.ends.push(End {
+                    image,
+                    template: place,
+                })?;
+            }
+        }
+        Ok(())
+    }
+
+    /// Whether a chain can be closed at a time, on all templates that are there.
+    fn closes(
+        &self,
+        scaled: &ScaledTemplates<'_>,
+        ahead: &Ahead,
+        time: usize,
+        factor: i128,
+        budget: &mut Budget,
+    ) -> Result<bool, Memory> {
+        let first = ahead.templates.width(0);
+        let limit = ahead
+            .templates
+            .width(time)
+            .saturating_add(self.room(first, factor))
+            .saturating_add(first >> 30);
+        let template = ahead.templates.template(time);
+        if let Some(cost) = unit_cost(template, &self.costs) {
+            if cost <= limit {
+                return Ok(true);
+            }
+        }
+        if self.pool.templates.len() == self.linear.states {
+            return Ok(false);
+        }
+        Ok(exchange(self.alloc, scaled, template, budget)?.cost <= limit)
+    }
+
+    /// Whether the image of a state's unit template takes, but for next to nothing, only other states that follow none.
+    fn takes_others(&self, k: usize, image: &[i128]) -> bool {
+        let least = self.pool.templates.width(k) >> 20;
+        for (j, entry) in image.iter().enumerate() {
+            let size = room_part(
+                self.pool.templates.width(j),
+                entry.saturating_abs() >> 8,
+                1 << (PLACES - 8),
+            );
+            let follows = self.factors.get(j).copied().unwrap_or(1) != 1;
+            if size > least && (j == k || follows) {
+                return false;
+            }
+        }
+        true
+    }
+
+    /// Whether a unit template only follows others: then it gets twice the room, and no chain.
+    fn is_follower(&self, chain: &Chain, k: usize, budget: &mut Budget) -> Result<bool, Memory> {
+        if !self.takes_others(k, chain.ahead.templates.template(1)) {
+            return Ok(false);
+        }
+        let scaled = ScaledTemplates::of(self.alloc, &self.pool)?;
+        Ok(
+            !self.closes(&scaled, &chain.ahead, 1, 1, budget)?
+                && self.closes(&scaled, &chain.ahead, 1, 2, budget)?,
+        )
+    }
+
+    /// Marks those that follow others.
+    fn mark_followers(&mut self, chains: &[Chain], budget: &mut Budget) -> Result<(), Memory> {
+        for chain in chains {
+            if let Some(k) = chain.state {
+                if self.is_follower(chain, k, budget)? {
+                    let room = self.room(chain.ahead.templates.width(0), 2);
+                    self.pool.put_room(k, room);
+                    if let Some(slot) = self.factors.get_mut(k) {
+                        *slot = 2;
+                    }
+                    if let Some(slot) = self.costs.get_mut(k) {
+                        *slot = self.pool.cost(k);
+                    }
+                }
+            }
+        }
+        Ok(())
+    }
+
+    /// The first power of two at which a chain closes. None where there is none that it may have.
+    fn doubled(
+        &self,
+        scaled: &ScaledTemplates<'_>,
+        ahead: &Ahead,
+        factor: i128,
+        budget: &mut Budget,
+    ) -> Result<Option<usize>, Memory> {
+        let mut time: usize = 1;
+        for _turn in 0..11 {
+            if time > LONGEST || time.saturating_add(1) >= ahead.templates.len() {
+                return Ok(None);
+            }
+            if self.closes(scaled, ahead, time, factor, budget)? {
+                return Ok(Some(time));
+            }
+            time = time.saturating_mul(2);
+        }
+        Ok(None)
+    }
+
+    /// The least length at which a chain closes, between a power of two and the one before.
+    fn wanted(
+        &self,
+        ahead: &Ahead,
+        factor: i128,
+        budget: &mut Budget,
+    ) -> Result<Option<usize>, Memory> {
+        let scaled = ScaledTemplates::of(self.alloc, &self.pool)?;
+        let Some(mut high) = self.doubled(&scaled, ahead, factor, budget)? else {
+            return Ok(None);
+        };
+        let mut low = high / 2;
+        for _turn in 0..11 {
+            if high.saturating_sub(low) > 1 {
+                let middle = low.saturating_add(high) / 2;
+                if self.closes(&scaled, ahead, middle, factor, budget)? {
+                    high = middle;
+                } else {
+                    low = middle;
+                }
+            }
+        }
+        Ok(Some(high))
+    }
+
+    /// Adds the template of a chain at a time.
+    fn put_template(&mut self, ahead: &Ahead, time: usize, room: i128) -> Result<usize, Memory> {
+        let reach = ahead.templates.reach(time);
+        self.pool.push_template(
+            self.alloc,
+            ahead.templates.template(time),
+            ahead.templates.width(0),
+            reach,
+            room,
+        )
+    }
+
+    /// Adds a chain of this length, each template shown by the next, and the last waiting for an exchange.
+    fn put_templates(&mut self, chain: &Chain, length: usize, factor: i128) -> Result<(), Memory> {
+        let room = self.room(chain.ahead.templates.width(0), factor);
+        let mut last = match chain.state {
+            Some(k) => k,
+            None => self.put_template(&chain.ahead, 0, room)?,
+        };
+        for time in 1..length {
+            let next = self.put_template(&chain.ahead, time, room)?;
+            self.pool.put_share(self.alloc, last, once(next))?;
+            last = next;
+        }
+        let image = Vec::from_slice(self.alloc, chain.ahead.templates.template(length))?;
+        self.ends.push(End {
+            image,
+            template: last,
+        })?;
+        Ok(())
+    }
+
+    /// Adds a chain. False where there is no place for it.
+    fn put_chain(&mut self, chain: &Chain, budget: &mut Budget) -> Result<bool, Memory> {
+        let factor = match chain.state {
+            Some(k) => self.factors.get(k).copied().unwrap_or(1),
+            None => 1,
+        };
+        let wanted = if factor == 1 {
+            self.wanted(&chain.ahead, factor, budget)?
+        } else {
+            Some(1)
+        };
+        let Some(length) = wanted else {
+            return Ok(false);
+        };
+        let more = length.saturating_sub(1);
+        if more > self.left {
+            return Ok(false);
+        }
+        self.left = self.left.saturating_sub(more);
+        self.put_templates(chain, length, factor)?;
+        Ok(true)
+    }
+
+    /// Adds all chains, likewise.
+    fn put_chains(&mut self, chains: &[Chain], budget: &mut Budget) -> Result<bool, Memory> {
+        for chain in chains {
+            if !self.put_chain(chain, budget)? {
+                return Ok(false);
+            }
+        }
+        Ok(true)
+    }
+
+    /// The shares of all templates that wait for an exchange.
+    fn exchanged(&self, budget: &mut Budget) -> Result<Vec<Vec<Share>>, Memory> {
+        let scaled = ScaledTemplates::of(self.alloc, &self.pool)?;
+        let mut shares = Vec::new(self.alloc);
+        for end in &self.ends {
+            shares.push(exchange(self.alloc, &scaled, &end.image, budget)?.shares)?;
+        }
+        Ok(shares)
+    }
+
+    /// The pool, with what exchanges find for the templates that waited.
+    pub fn finish(self, budget: &mut Budget) -> Result<Pool, Memory> {
+        let shares = self.exchanged(budget)?;
+        let mut pool = self.pool;
+        for (end, own) in self.ends.iter().zip(shares) {
+            pool.put_shares(end.template, own);
+        }
+        Ok(pool)
+    }
+}
+
+/// A pool with all chains of a step of the ladder and these templates of poles, but without what exchanges find for the
+/// ends; none where the chains have no place.
+pub fn place<'a>(
+    alloc: Global,
+    chains: &[Chain],
+    linear: &'a Linear,
+    rung: Rung,
+    planes: &Templates,
+    budget: &mut Budget,
+) -> Result<Option<Building<'a>>, Memory> {
+    let first = linear.states.saturating_add(planes.len());
+    if first > MOST_OF_POLES {
+        return Ok(None);
+    }
+    let mut building = Building::new(alloc, linear, rung);
+    building.put_units(chains)?;
+    building.put_poles(planes)?;
+    building.left = TEMPLATES
+        .saturating_sub(first)
+        .saturating_sub(free_chains(chains));
+    building.mark_followers(chains, budget)?;
+    if building.put_chains(chains, budget)? {
+        Ok(Some(building))
+    } else {
+        Ok(None)
+    }
+}

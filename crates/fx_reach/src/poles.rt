@@ -1,0 +1,301 @@
+//! Poles of a step, and templates that each pole's plane is bounded by.
+//!
+//! A step takes the left eigenvector v of a pair of poles to so many times itself, so that the templates
+//! `Re(e^(i p) v)` form a plane that a step turns and shrinks, whatever else the filter has. A few of them bound all of
+//! the plane: a turned one lies between two neighbours, which costs a part of what the step shrinks. A real pole takes
+//! one.
+
+use crate::complex::{Complex, Matrix};
+use crate::eigen::{eigenvalues, eigenvector, entry};
+use crate::float::{
+    HALF_TURN, angle_of, count_to_float, greater_of, power_of_two, size_of, to_float, turn_by,
+    whole_below, whole_near,
+};
+use crate::linear::Linear;
+use crate::templates::Templates;
+use crate::whole::PLACES;
+use fx_num::Memory;
+use std::alloc::Global;
+use std::num::saturating_f64_to_usize;
+
+/// The least size of a pole that takes templates.
+const LEAST: f64 = 0.5;
+
+/// The most directions of a plane.
+const DIRECTIONS: usize = 256;
+
+/// In so many bins what drives a plane is collected by its direction.
+const BINS: usize = 512;
+
+/// So many steps are looked at, at most.
+const STEPS: usize = 16384;
+
+/// A pole, of a pair the one above the axis, with its left eigenvector over the states.
+#[derive(Debug, Drop)]
+pub struct Pole {
+    value: Complex,
+    size: f64,
+    angle: f64,
+    vector: Vec<Complex>,
+}
+
+/// The matrix whose vectors are the left eigenvectors, in coordinates in which each state is about as wide.
+fn matrix_of(alloc: Global, linear: &Linear, widths: &[f64]) -> Result<Matrix, Memory> {
+    let mut m = Matrix::zero(alloc, linear.states)?;
+    for place in 0..linear.states.saturating_mul(linear.states) {
+        let k = place.checked_div(linear.states).unwrap_or(0);
+        let j = place.checked_rem(linear.states).unwrap_or(0);
+        let ratio = float_at(widths, j) / float_at(widths, k);
+        let entry = to_float(linear.entry(k, j)) * power_of_two(-(PLACES as i32));
+        m.put(j, k, Complex::real(entry * ratio));
+    }
+    Ok(m)
+}
+
+/// An entry of a vector of sizes.
+fn float_at(vector: &[f64], i: usize) -> f64 {
+    match vector.get(i) {
+        Some(x) => *x,
+        None => 1.0,
+    }
+}
+
+/// How wide the states are, where none is 0.
+fn floats_of(alloc: Global, widths: &[i128]) -> Result<Vec<f64>, Memory> {
+    let mut floats = Vec::new(alloc);
+    for width in widths {
+        floats.push(greater_of(to_float(*width), 1.0))?;
+    }
+    Ok(floats)
+}
+
+/// Whether a value is another's neighbour: two poles that coincide have one vector.
+fn is_near(value: Complex, poles: &[Pole]) -> bool {
+    for pole in poles {
+        if value.minus(pole.value).length() < 1.0e-9 {
+            return true;
+        }
+    }
+    false
+}
+
+/// A vector in the states' own coordinates.
+fn unscaled(alloc: Global, vector: &[Complex], widths: &[f64]) -> Result<Vec<Complex>, Memory> {
+    let mut own = Vec::new(alloc);
+    for (x, width) in vector.iter().zip(widths) {
+        own.push(x.scaled(1.0 / *width))?;
+    }
+    Ok(own)
+}
+
+/// A pole of this value.
+fn pole_at(alloc: Global, matrix: &Matrix, widths: &[f64], value: Complex) -> Result<Pole, Memory> {
+    let vector = eigenvector(alloc, matrix, value)?;
+    let angle = if value.im > 1.0e-10 {
+        angle_of(value)
+    } else {
+        0.0
+    };
+    Ok(Pole {
+        value,
+        size: value.size(),
+        angle,
+        vector: unscaled(alloc, &vector, widths)?,
+    })
+}
+
+/// The poles that fade slowly, of a step whose states are so wide.
+pub fn poles_of(alloc: Global, linear: &Linear, widths: &[i128]) -> Result<Vec<Pole>, Memory> {
+    let widths = floats_of(alloc, widths)?;
+    let matrix = matrix_of(alloc, linear, &widths)?;
+    let mut poles: Vec<Pole> = Vec::new(alloc);
+    for value in &eigenvalues(alloc, &matrix)? {
+        let value = *value;
+        let size = value.size();
+        if value.im >= -1.0e-10 && size >= LEAST && size < 1.0 && !is_near(value, &poles) {
+            poles.push(pole_at(alloc, &matrix, &widths, value)?)?;
+        }
+    }
+    Ok(poles)
+}
+
+impl Pole {
+    /// What a step costs a plane of so many directions, over what a circle would.
+    fn cost(&self, count: usize) -> f64 {
+        let step = HALF_TURN / count_to_float(count);
+        let turns = i32::try_from(whole_below(self.angle / step)).unwrap_or(0);
+        let rest = self.angle - f64::from(turns) * step;
+        turn_by(size_of(step / 2.0 - rest)).re / turn_by(step / 2.0).re
+    }
+
+    /// How many directions the plane needs, so that a step loses at most such a part of what it shrinks by.
+    fn directions(&self, part: f64) -> Option<usize> {
+        if self.angle == 0.0 {
+            return Some(1);
+        }
+        for count in 2..DIRECTIONS {
+            if (self.cost(count) - 1.0) * self.size <= part * (1.0 - self.size) {
+                return Some(count);
+            }
+        }
+        None
+    }
+}
+
+/// What drives a plane, collected by its direction, and the middle of what it comes to.
+#[derive(Debug, Drop)]
+struct Driven {
+    bins: Vec<Complex>,
+    middle: Complex,
+}
+
+impl Driven {
+    /// Adds what comes to a plane, which is as good the other way round.
+    fn add(&mut self, x: Complex) {
+        let x = if x.im < 0.0 { x.scaled(-1.0) } else { x };
+        let length = x.length();
+        if length > 0.0 {
+            let place = saturating_f64_to_usize((1.0 - x.re / length) * 0.5 * 511.0);
+            if let Some(bin) = self.bins.get_mut(place) {
+                *bin = bin.plus(x);
+            }
+        }
+    }
+
+    /// Adds all that comes of a drive over the times.
+    fn add_times(&mut self, pole: &Pole, drive: Complex) {
+        let mut now = drive;
+        let least = drive.length() * 1.0e-9;
+        for _step in 0..STEPS {
+            if now.length() > least {
+                self.add(now);
+                now = now.times(pole.value);
+            }
+        }
+    }
+
+    /// How far to each side of its middle the plane reaches in a direction.
+    fn reach(&self, turn: Complex) -> f64 {
+        let mut total = 0.0;
+        for bin in &self.bins {
+            total = total + size_of(turn.re * bin.re - turn.im * bin.im);
+        }
+        total
+    }
+}
+
+/// How much of a drive comes to a vector.
+fn driven_by(vector: &[Complex], coefs: &[i128]) -> Complex {
+    let mut total = Complex::real(0.0);
+    for (x, coef) in vector.iter().zip(coefs) {
+        total = total.plus(x.scaled(to_float(*coef) * power_of_two(-(PLACES as i32))));
+    }
+    total
+}
+
+/// All that drives a pole's plane.
+fn collect_drives(alloc: Global, linear: &Linear, pole: &Pole) -> Result<Driven, Memory> {
+    let mut all = Driven {
+        bins: vec![in alloc; Complex { re: 0.0, im: 0.0 }; BINS]?,
+        middle: Complex::real(0.0),
+    };
+    for drive in linear.drives() {
+        let own = driven_by(&pole.vector, &drive.coefs);
+        let lo = to_float(drive.lo);
+        let hi = to_float(drive.hi);
+        all.middle = all.middle.plus(own.scaled((lo + hi) * 0.5));
+        all.add_times(pole, own.scaled((hi - lo) * 0.5));
+    }
+    let left = Complex::real(1.0).minus(pole.value);
+    all.middle = all.middle.over(left);
+    Ok(all)
+}
+
+/// The power of two by which a template is taken so that it reaches about as far as the widest state: else shares and
+/// coefficients get long.
+fn scale_of(widest: f64, width: f64) -> f64 {
+    let mut scale = 1.0;
+    for _step in 0..512 {
+        if width * scale * 2.0 <= widest * 1.5 {
+            scale = scale * 2.0;
+        } else if width * scale * 0.5 >= widest * 0.75 {
+            scale = scale * 0.5;
+        }
+    }
+    scale
+}
+
+/// Puts a template of a plane behind the others. None where its numbers have too many bits.
+fn push_direction(
+    templates: &mut Templates,
+    pole: &Pole,
+    drives: &Driven,
+    turn: Complex,
+    widest: f64,
+) -> Result<Option<()>, Memory> {
+    let half = drives.reach(turn);
+    let middle = turn.times(drives.middle).re;
+    if !(half > 0.0) {
+        return Ok(None);
+    }
+    let scale = scale_of(widest, half * 2.0);
+    for k in 0..templates.states {
+        let own = turn.times(entry(&pole.vector, k)).re;
+        match whole_near(own * scale, PLACES as i32) {
+            Some(x) => templates.entries.push(x)?,
+            None => return Ok(None),
+        }
+    }
+    let lo = whole_near((middle - half) * scale, 0);
+    let hi = whole_near((middle + half) * scale, 0);
+    match (lo, hi) {
+        (Some(lo), Some(hi)) => {
+            templates.push_reach((lo.saturating_sub(1), hi.saturating_add(1)))?;
+            Ok(Some(()))
+        }
+        _ => Ok(None),
+    }
+}
+
+/// Puts the templates of a pole behind the others.
+fn push_plane(
+    alloc: Global,
+    templates: &mut Templates,
+    linear: &Linear,
+    pole: &Pole,
+    count: usize,
+    widest: f64,
+) -> Result<Option<()>, Memory> {
+    let drives = collect_drives(alloc, linear, pole)?;
+    let step = turn_by(HALF_TURN / count_to_float(count));
+    let mut turn = Complex::real(1.0);
+    for _direction in 0..count {
+        if push_direction(templates, pole, &drives, turn, widest)?.is_none() {
+            return Ok(None);
+        }
+        turn = turn.times(step);
+    }
+    Ok(Some(()))
+}
+
+/// The templates of all poles, so many that a step loses at most such a part of what it shrinks by, each about as wide
+/// as the widest state; none where a plane would need too many.
+pub fn pole_templates(
+    alloc: Global,
+    linear: &Linear,
+    poles: &[Pole],
+    part: f64,
+    widest: i128,
+) -> Result<Option<Templates>, Memory> {
+    let mut templates = Templates::new(alloc, linear.states);
+    for pole in poles {
+        let Some(count) = pole.directions(part) else {
+            return Ok(None);
+        };
+        let widest = to_float(widest);
+        if push_plane(alloc, &mut templates, linear, pole, count, widest)?.is_none() {
+            return Ok(None);
+        }
+    }
+    Ok(Some(templates))
+}
