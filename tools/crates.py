@@ -19,7 +19,7 @@ def listed():
 
 
 def closed(crates):
-    """Returns for each crate all that stands below it, of what each lists."""
+    """Returns for each crate all that stands below it, of what each lists, the upper ones first."""
     found = {}
 
     def below(name):
@@ -27,7 +27,8 @@ def closed(crates):
             found[name] = set(crates.get(name, ())).union(*(below(it) for it in crates.get(name, ())))
         return found[name]
 
-    return {name: below(name) for name in crates}
+    order = {name: place for place, name in enumerate(crates)}
+    return {name: sorted(below(name), key=lambda it: (-order.get(it, -1), it)) for name in crates}
 
 
 def seconds():
