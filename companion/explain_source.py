@@ -1,0 +1,487 @@
+"""Tells a source's first fault: what stands there, what could have, and how the usual slips are mended."""
+from __future__ import annotations
+
+import difflib
+import re
+from fractions import Fraction
+
+from .exact import as_decimal, fits_a_literal, places_of, read_decimal, shown
+from .sources import Fault, RELATIONS, function_of, place_of, tokens_of
+from .told import Told, counted, listed
+
+CHARACTERS = {
+    "#": "a comment begins with '//', or stands between '/*' and '*/'",
+    "^": "there are no powers: write the product, 'x * x' for 'x^2'",
+    "%": "there is no remainder: take it outside, and make what is left an input with its range",
+    "&": "'and' is written '&&'",
+    "|": "there is no 'or': a range has one least and one greatest value, joined by '&&'",
+    "!": "there is no 'not' and no '!='",
+    "?": "there is no choice between two values: choose outside, and make the choice an input with its range",
+    "[": "there are no lists: name each value, as x0, x1, x2",
+    "]": "there are no lists: name each value, as x0, x1, x2",
+    "\ufeff": "this is a byte order mark that an editor put there: save the file as 'UTF-8 without BOM', or: sed -i '1s/^\\xEF\\xBB\\xBF//' FILE",
+    "\u2264": "write '<='", "\u2265": "write '>='", "\u2212": "this is the typographic minus: write '-'",
+    "\u2013": "this is a dash: write '-'", "\u2014": "this is a dash: write '-'", "\u00d7": "write '*'", "\u00b7": "write '*'", "\u00f7": "write '/'",
+    "\u00b1": "write '+/-'", "\u00a0": "this is a no-break space: put a plain blank in its place", "'": "there is no text in a source: comments begin with '//'",
+    '"': "there is no text in a source: comments begin with '//'", "~": "there is no such operator", "@": "there are no annotations",
+    "\\": "an expression goes on in the next line by itself, where its line ends with an operator",
+}
+POLYNOMIAL = "take a polynomial in its place, over the range of what stands in it, and add what the polynomial is off to the certified bound"
+CLAMP = "limits are set outside: hold the input to its range before the call, and demand ends of the output by 'ensuring(out => 0 <= out && out <= 1)'"
+CALLS = {"sqrt": POLYNOMIAL, "sin": POLYNOMIAL, "cos": POLYNOMIAL, "tan": POLYNOMIAL, "exp": POLYNOMIAL, "log": POLYNOMIAL, "atan": POLYNOMIAL, "tanh": POLYNOMIAL,
+         "asin": POLYNOMIAL, "acos": POLYNOMIAL, "ln": POLYNOMIAL, "min": CLAMP, "max": CLAMP, "abs": CLAMP, "clamp": CLAMP, "saturate": CLAMP, "round": CLAMP,
+         "floor": CLAMP, "pow": "write the product, 'x * x' for 'pow(x, 2)'"}
+TYPES = {"Float", "Double", "Int", "Integer", "float", "double", "int", "real", "f32", "f64", "Long", "Short", "Number", "i16", "i32", "Fixed"}
+WORDS = {
+    "if": "there is no choice: write a function for each case and choose outside, or make the choice an input with its range, as a factor from 0 to 1",
+    "else": "there is no choice: write a function for each case and choose outside",
+    "while": "there are no loops: write each turn out, or make what a turn leaves a state: each row is one turn",
+    "for": "there are no loops: write each turn out, or make what a turn leaves a state: each row is one turn",
+    "match": "there is no choice: write a function for each case and choose outside",
+    "var": "values don't change: name each by 'val'; what lasts from row to row is a state, in a second list of parameters: 'def f(u: Real)(s: Real = 0.0)'",
+    "return": "the result stands alone as the last expression, without 'return'",
+    "true": "there are no truth values", "false": "there are no truth values",
+    "new": "'new' is a word of other languages and can't be a name: take another, as 'newest'",
+}
+CONSTANTS = {"pi": "3.14159265358979324", "PI": "3.14159265358979324", "Pi": "3.14159265358979324", "e": "2.71828182845904524"}
+NAME_FOR_ENSURING = "name the outputs first: 'ensuring(out => out +/- 0.001)', of several '(a, b) => a +/- 0.1 && b +/- 0.2'"
+
+
+def told(data: bytes, kind: str, at: int, where: str, function: str = None, first_line: int = 1) -> Told:
+    """Returns what there is to say of a fault that `fixd` found in a source. `first_line` is the source's first line in the file."""
+    known = found_here(data, kind, at, function)
+    maker = MAKERS.get(kind, of_unexpected)
+    made = maker(Context(data, kind, at, known))
+    place = place_of(data, made.at if made.at is not None else min(at, len(data.rstrip())) if kind == "EndOfText" else at)
+    if kind in ("NoSuchFunction", "WhichFunction"):
+        return Told(made.head, where, hints=made.hints, notes=made.notes)
+    if place.column > len(place.text) + 1:
+        place = type(place)(place.line, len(place.text) + 1, place.text)
+    return Told(made.head, where, place.line + first_line - 1, place.column, place.text, made.width,
+                known.expected if known and not made.hides else [], made.hints, made.notes)
+
+
+def found_here(data, kind, at, function):
+    """Returns this reader's own fault where it is the one that `fixd` found, else None."""
+    try:
+        function_of(data, function)
+    except Fault as fault:
+        return fault if (fault.kind, fault.at) == (kind, at) else None
+    except RecursionError:
+        return None
+    return None
+
+
+class Context:
+    """What is known of a fault, and the tokens about it."""
+
+    def __init__(self, data, kind, at, fault):
+        self.data, self.kind, self.at, self.fault = data, kind, at, fault
+        self.known = fault.known if fault else {}
+        try:
+            self.tokens = tokens_of(data)
+        except Fault:
+            self.tokens = []
+        self.index = next((k for k, it in enumerate(self.tokens) if it.at == at), len(self.tokens))
+        self.token = self.tokens[self.index] if self.index < len(self.tokens) else None
+
+    @property
+    def where(self) -> str:
+        return self.known.get("where", "")
+
+    def near(self, ahead: int) -> str:
+        """Returns the text of a token near the one at the fault, or nothing."""
+        k = self.index + ahead
+        return self.tokens[k].text if 0 <= k < len(self.tokens) else ""
+
+    def kind_near(self, ahead: int) -> str:
+        k = self.index + ahead
+        return self.tokens[k].kind if 0 <= k < len(self.tokens) else ""
+
+    def line_at(self, at: int) -> str:
+        place = place_of(self.data, at)
+        return f"line {place.line}, column {place.column}"
+
+
+class Saying:
+    """A head with its hints; `at` moves the mark, `hides` leaves out what was expected."""
+
+    def __init__(self, head, hints=(), notes=(), width=1, at=None, hides=False):
+        self.head, self.hints, self.notes, self.width, self.at, self.hides = head, list(hints), list(notes), width, at, hides
+
+
+def of_utf8(it: Context) -> Saying:
+    byte = it.data[it.at]
+    hints = ["save the file as UTF-8; of one in Windows' or Latin letters: iconv -f WINDOWS-1252 -t UTF-8 FILE > NEW"]
+    if it.data[:2] in (b"\xff\xfe", b"\xfe\xff"):
+        hints = ["the file is UTF-16: save it as UTF-8, or: iconv -f UTF-16 -t UTF-8 FILE > NEW"]
+    return Saying(f"the byte {byte:02X} isn't UTF-8 text", hints)
+
+
+def of_character(it: Context) -> Saying:
+    text = it.data[it.at:it.at + 4].decode("utf-8", "ignore")[:1]
+    name = f"'{text}'" if text.isprintable() and not text.isspace() else f"the character U+{ord(text):04X}"
+    hint = CHARACTERS.get(text)
+    if hint is None and text.isalpha():
+        hint = "a name has the letters A to Z and a to z, digits and '_': write it with these"
+    return Saying(f"{name} begins nothing that a source may have", [hint or "take it out"])
+
+
+def of_number(it: Context) -> Saying:
+    text, behind = it.known.get("text", ""), it.known.get("behind", "")
+    whole = text + behind
+    if re.fullmatch(r"[fFdDlL]", behind):
+        hints = [f"write {text}: a literal is the exact number that it spells, and has no letter behind it"]
+    elif re.fullmatch(r"0", text) and behind[:1] in "xXbB":
+        value = int(whole, 0) if re.fullmatch(r"0[xX][0-9a-fA-F]+|0[bB][01]+", whole) else None
+        hints = [f"numbers are decimals: write {value}" if value is not None else "numbers are decimals"]
+    elif behind.startswith("_"):
+        hints = [f"no '_' within a number: write {whole.replace('_', '')}"]
+    elif behind in ("e", "E"):
+        hints = ["digits have to stand behind the 'e', as in 1e-3"]
+    else:
+        hints = [f"put an operator between number and name: {text} * {behind}"]
+    return Saying(f"'{whole}' is neither a number nor a name: a letter stands directly behind a number", hints, width=len(whole))
+
+
+def of_long_number(it: Context) -> Saying:
+    text = it.known.get("text", "")
+    value = read_decimal(text) if text else None
+    if value is None:
+        return Saying("a number is out of its limits", ["18 decimal places at most, and below 2^62 without its point"])
+    places, limit = places_of(value), 2 ** 62
+    why = f"it has {places} decimal places, and 18 are the most" if places > 18 else f"without its point it isn't below 2^62, {limit}"
+    best = nearest_literal(value)
+    hints = [f"write {as_decimal(best)}, which is {shown(abs(best - value), 2, True)} off at most: that times what it is multiplied by comes to the bound"
+             if best is not None else "scale what it stands for, as metres to kilometres"]
+    return Saying(f"the number is out of its limits: {why}", hints, width=len(text))
+
+
+def nearest_literal(value: Fraction):
+    """Returns a number near by that a source may have, with as many places as there may be."""
+    for places in range(18, -1, -1):
+        found = Fraction(round(value * 10 ** places), 10 ** places)
+        if fits_a_literal(found):
+            return found
+    return None
+
+
+def of_end(it: Context) -> Saying:
+    opens = it.known.get("comment")
+    if opens:
+        inner = f"; the comment within it at {it.line_at(opens[-1])} isn't closed either" if len(opens) > 1 else ""
+        return Saying("a comment begins here and never ends", [f"close it by '*/': comments nest, so that each '/*' wants one{inner}"], width=2, at=opens[0], hides=True)
+    open_now = []
+    for token in it.tokens:
+        if token.text in ("(", "{"):
+            open_now.append(token)
+        elif token.text in (")", "}") and open_now:
+            open_now.pop()
+    notes = [f"'{token.text}' of {it.line_at(token.at)} isn't closed" for token in open_now]
+    closing = "".join({"(": ")", "{": "}"}[token.text] for token in reversed(open_now))
+    hints = [f"what is open wants {listed([repr(one) for one in closing], 'and then')}"] if closing else ["write what is expected here"]
+    return Saying("the text ends too early", hints, notes)
+
+
+def of_unknown(it: Context) -> Saying:
+    name, near = it.known.get("unknown", it.token.text if it.token else ""), it.known.get("near", [])
+    kind, hints, width = it.known.get("kind", "expression"), [], len(name)
+    like = difflib.get_close_matches(name, near, 1, 0.6)
+    whole = it.data.decode("utf-8", "replace")
+    later = re.search(rf"\bval\s+{re.escape(name)}\b", whole)
+    if kind == "input":
+        head = f"no input is called '{name}'"
+        if re.search(rf"\b{re.escape(name)}\s*:\s*Real\s*=", whole):
+            hints.append(f"'{name}' is a state, and 'require' has inputs alone: the range of a state is found, not declared; take the condition out")
+        if it.near(1) == "(":
+            hints.append("a condition has one name and one number: no calls")
+    elif kind == "output":
+        head = f"no output is called '{name}'"
+        hints.append(f"'ensuring' speaks of the names before its '=>': {listed(near)}")
+    else:
+        head = f"nothing above is called '{name}'"
+        if name in CONSTANTS:
+            hints.append(f"there are no constants by name: write {CONSTANTS[name]}")
+        elif name in ("let", "const", "float", "double", "auto", "real", "int"):
+            hints.append(f"a value is named by 'val': 'val {it.near(1) or 'y'} = ..'")
+        elif it.near(1) in ("=", ":"):
+            hints.append(f"to name a value, write 'val' before it: 'val {name} = ..'")
+        elif later and later.start() > it.at:
+            hints.append(f"'{name}' is a 'val' of {it.line_at(later.start())}: it can be used behind its line alone; move it up")
+        elif later:
+            hints.append(f"within its own 'val' '{name}' isn't known yet: what lasts from row to row is a state, 'def f(u: Real)({name}: Real = 0.0)'")
+        elif name == it.known.get("function"):
+            hints.append("that is the function's own name, and functions can't be called")
+    if like:
+        hints.insert(0, f"is '{like[0]}' meant?")
+    what = {"input": "inputs", "output": "outputs"}.get(kind, "names that may stand here")
+    notes = [f"{what}: {', '.join(near)}"] if near else []
+    if not hints:
+        hints = ["name one of these" + ("" if kind == "output" else f", or make '{name}' an input with its range")]
+    return Saying(head, hints, notes, width, hides=True)
+
+
+def of_twice(it: Context) -> Saying:
+    name, end = it.known.get("twice", ""), it.known.get("end")
+    ends = {"lo": "two least values", "hi": "two greatest values", "error": "two errors"}
+    if end:
+        return Saying(f"'{name}' is given {ends[end]}", ["leave one of them: '<' and '<=' both declare a closed end"], width=len(name), hides=True)
+    first = re.search(rf"\b{re.escape(name)}\b", it.data.decode("utf-8", "replace"))
+    notes = [f"the first one stands at {it.line_at(first.start())}"] if first and first.start() < it.at else []
+    return Saying(f"'{name}' is the name of something else already", ["take another name here"], notes, len(name), hides=True)
+
+
+def of_no_range(it: Context) -> Saying:
+    lacking = it.known.get("lacking", [])
+    names = [f"{name}: {what}" for name, what in lacking]
+    example = " && ".join(f"-1 <= {name} && {name} <= 1" for name, _ in lacking[:3]) or "-1 <= x && x <= 1"
+    if lacking and all(what == "no 'require'" for _, what in lacking):
+        return Saying("the function has no 'require': each input has to have a least and a greatest value",
+                      [f"write as the first line in the braces what each input can be, as 'require({example})'"], width=len(lacking[0][0]), hides=True)
+    return Saying(f"{counted(len(lacking), 'input')} without a whole range" if len(lacking) != 1 else f"the input '{lacking[0][0]}' has no whole range",
+                  [f"give both ends in 'require', joined by '&&': as '{example}' with the numbers that the sensor can give"], names,
+                  len(lacking[0][0]) if lacking else 1, hides=True)
+
+
+def of_empty(it: Context) -> Saying:
+    one = it.known.get("empty")
+    if one is None:
+        return Saying("a least value is above the greatest", ["exchange the ends"], hides=True)
+    low, high = as_decimal(one.lo), as_decimal(one.hi)
+    return Saying(f"the least value of '{one.name}', {low}, is above its greatest, {high}", [f"exchange them: '{high} <= {one.name} && {one.name} <= {low}'"],
+                  width=len(one.name), hides=True)
+
+
+def of_deep(it: Context) -> Saying:
+    return Saying("more than 200 parentheses are open here" if it.known.get("parentheses") else "this expression's tree is higher than 200",
+                  ["name parts of it by 'val'; add many terms in pairs, as (a + b) + (c + d)"], hides=True)
+
+
+def of_many(it: Context) -> Saying:
+    what, limit, count = it.known.get("what", "parts"), it.known.get("limit", ""), it.known.get("count")
+    return Saying(f"the function has more than {limit} {what}" + (f": {count}" if count else ""),
+                  ["split the function in two: an output of the first, with its certified range and error, is an input of the second (docs/recipes.md)"], hides=True)
+
+
+def of_unsupported(it: Context) -> Saying:
+    word, call, compares = it.known.get("word"), it.known.get("call"), it.known.get("compares")
+    if word:
+        return Saying(f"no '{word}' in this language", [WORDS[word]], width=len(word))
+    if call:
+        hint = CALLS.get(call) or f"write out what '{call}' computes, by 'val's"
+        if call in it.known.get("names", []):
+            hint = f"'{call}' is a name: a product is written '{call} * (..)'"
+        return Saying(f"no function can be called, and so not '{call}'", [hint], ["expressions have + - * /, names, numbers and parentheses"], len(call), hides=True)
+    if compares == "names":
+        return Saying("a condition compares a name with a number, not two names",
+                      ["give each of them its range; where they hang on one another, make their difference an input of its own"], hides=True)
+    if compares == "numbers":
+        return Saying("a condition compares a name with a number, not two numbers", ["write each end by itself: '0 <= x && x <= 1'"], hides=True)
+    text = it.token.text if it.token else ""
+    return Saying(f"'{text}' isn't in this language", [WORDS.get(text, "expressions have + - * /, names, numbers and parentheses")], width=len(text) or 1)
+
+
+def of_arity(it: Context) -> Saying:
+    known = it.known
+    if "states" in known:
+        return Saying(f"the type has {counted(known['reals'], 'result')}, and the {counted(known['states'], 'state')} and one output at least want {known['states'] + 1}",
+                      [f"the results are the outputs and then a next state for each state: ': ({', '.join(['Real'] * (known['states'] + 1))})', and as many values in parentheses"], hides=True)
+    if "results" in known:
+        return Saying(f"{counted(known['results'], 'result')} where the type has {known['reals']}", ["write as many as the type has: the outputs, and then the next states"], hides=True)
+    if "named" in known:
+        return Saying(f"'ensuring' names {counted(known['named'], 'output')} of {known['outputs']}",
+                      ["name the outputs, all of them and no next state: '(a, b) => ..'; one alone needs no parentheses"], hides=True)
+    return Saying("counts don't agree", ["type and results have the outputs and then a next state for each state"], hides=True)
+
+
+def of_function(it: Context) -> Saying:
+    names, wanted = it.known.get("functions", []), it.known.get("wanted")
+    if not names:
+        return Saying("there is no function in this source", ["a function begins with 'def': def f(x: Real): Real = { require(0 <= x && x <= 1) x }"])
+    like = difflib.get_close_matches(wanted or "", names, 1, 0.5)
+    return Saying(f"no function is called '{wanted}'" if wanted else "the wanted function isn't there",
+                  [f"is '{like[0]}' meant?" if like else "take one of these by --function NAME"], [f"functions: {', '.join(names)}"])
+
+
+def of_which(it: Context) -> Saying:
+    names = it.known.get("functions", [])
+    return Saying("there are several functions, and it isn't said which is meant", [f"say it by --function {names[0] if names else 'NAME'}"], [f"functions: {', '.join(names)}"])
+
+
+def of_unexpected(it: Context) -> Saying:
+    if it.token is None:
+        return Saying("what stands here can't", ["docs/messages.md has what often brings this"])
+    text, hints = it.token.text, []
+    for slip in SLIPS:
+        hint = slip(it, text)
+        if hint:
+            hints.append(hint)
+            break
+    before = it.near(-1)
+    if not hints and before:
+        hints = ["look at what stands before it too: something may be missing there" if it.kind_near(0) != "name" or it.kind_near(-1) not in ("name", "number")
+                 else f"an operator is missing between '{before}' and '{text}'"]
+    kind = {"word": "the word ", "name": "the name "}.get(it.token.kind, "")
+    return Saying(f"{kind}'{text}' can't stand here", hints, width=len(text))
+
+
+# the usual slips: each returns a hint or nothing
+
+
+def slip_power(it, text):
+    if text == "*" and it.near(-1) == "*":
+        return f"there are no powers: write the product, '{it.near(-2)} * {it.near(-2)}' for '{it.near(-2)} ** 2'"
+
+
+def slip_chain(it, text):
+    if text in RELATIONS and it.where in ("require", "ensuring") and it.kind_near(-1) in ("name", "number"):
+        return f"comparisons don't chain: write '{it.near(-3)} {it.near(-2)} {it.near(-1)} && {it.near(-1)} {text} {it.near(1)}'"
+
+
+def slip_comparison(it, text):
+    if text in RELATIONS and it.where == "body":
+        return "there are no comparisons in an expression, and no choice: choose outside, and make the choice an input with its range"
+
+
+def slip_comma_number(it, text):
+    if text == "," and it.kind_near(-1) == "number" and it.kind_near(1) == "number":
+        return f"the decimal point is a point: {it.near(-1)}.{it.near(1)}"
+
+
+def slip_comma_conditions(it, text):
+    if text == "," and it.where in ("require", "ensuring"):
+        return "conditions are joined by '&&', not by ','"
+
+
+def slip_fraction(it, text):
+    if text in "/*" and it.where in ("require", "ensuring", "states") and it.kind_near(-1) == "number" and it.kind_near(1) == "number":
+        first, second = read_decimal(it.near(-1)), read_decimal(it.near(1))
+        if second:
+            value = first / second if text == "/" else first * second
+            best = nearest_literal(value)
+            exact = "" if best == value else f", which is {shown(abs(best - value), 2, True)} off"
+            return f"a number stands here, not an expression: write {as_decimal(best)}{exact}" if best is not None else None
+
+
+def slip_arithmetic(it, text):
+    if text in ("+", "-", "*", "/") and it.where in ("require", "ensuring", "states"):
+        return "a condition has one name and one number, no expressions: work the number out, or make the expression an input of its own"
+
+
+def slip_point(it, text):
+    if text == "." and it.kind_near(1) == "number":
+        return f"a number begins with a digit: 0.{it.near(1)}"
+    if text == "." and it.kind_near(-1) == "number":
+        return f"digits have to stand behind the point: {it.near(-1)}.0, or {it.near(-1)} without it"
+    if text == ".":
+        return "there are no members: a name stands alone"
+
+
+def slip_plus(it, text):
+    if text == "+" and it.near(-1) in ("(", "=", "*", "/", "+", "-", ",", "<=", ">=", "<", ">", ""):
+        return "no '+' before a number or a name: leave it out"
+
+
+def slip_type(it, text):
+    if it.known.get("real"):
+        return f"the type is always 'Real', an exact number: write it for '{text}'; the width of the words is chosen by --width" if text in TYPES or it.kind_near(0) == "name" \
+            else "a type is missing: ': Real'"
+
+
+def slip_no_type(it, text):
+    typed = it.known.get("typed")
+    if typed:
+        return f"each input and state has a type: '{typed}: Real'"
+    if it.where == "type" and text in ("=", "{") and "':'" in (it.fault.expected if it.fault else []):
+        return "the function's type is missing: ': Real' before the '=', of several results ': (Real, Real)'"
+    if it.where == "type" and text == "{":
+        return "the '=' before the brace is missing: ': Real = {'"
+    if it.where == "type":
+        return "a function's head is 'def f(x: Real): Real = {'"
+
+
+def slip_start(it, text):
+    start = it.known.get("start")
+    if start:
+        return f"a state has a start, one number: '{start}: Real = 0.0'"
+
+
+def slip_no_input(it, text):
+    if it.where == "inputs" and text == ")":
+        return "a function has an input at least, with its range"
+
+
+def slip_ensuring(it, text):
+    if it.where == "ensuring" and it.known.get("arrow"):
+        return NAME_FOR_ENSURING
+    if it.where == "ensuring" and text == "(":
+        return "demands have no parentheses around them: take these out"
+    if it.where == "ensuring" and it.kind_near(0) == "number" and it.near(-1) == "(":
+        return NAME_FOR_ENSURING
+
+
+def slip_equals(it, text):
+    if text == "=" and it.where in ("require", "ensuring"):
+        return "ends are given by '<=' and '>=': a fixed value x is '0.5 <= x && x <= 0.5'"
+    if text == "=" and it.near(-1) in ("+", "-", "*", "/") and it.where == "body":
+        return "values don't change: name the new one, as 'val next = ..'; what lasts from row to row is a state"
+    if text == "=" and it.kind_near(-1) == "name":
+        return f"to name a value, write 'val' before it: 'val {it.near(-1)} = ..'"
+
+
+def slip_minus(it, text):
+    if text == "-" and it.token.first:
+        return "a line that begins with '-' begins a new expression: put the '-' at the end of the line before"
+    previous = next((k for k in range(it.index - 1, max(it.index - 40, -1), -1) if it.tokens[k].first), None)
+    if previous is not None and it.tokens[previous].text == "-" and it.where == "body":
+        return f"the line that begins with '-' ({it.line_at(it.tokens[previous].at)}) began a new expression: put that '-' at the end of the line before"
+
+
+def slip_two_results(it, text):
+    if text == "," and it.where == "body" and it.known.get("opened") is not None:
+        return "several results want as many in the type: ': (Real, Real)'"
+    if it.known.get("results"):
+        return f"the type has {it.known['results']} results: write them in parentheses, parted by commas: the outputs, then the next states"
+
+
+def slip_parenthesis(it, text):
+    opened = it.known.get("opened")
+    if opened is not None and text in ("}", "val", "def", "ensuring", ";"):
+        return f"the '(' of {it.line_at(opened)} isn't closed: a ')' is missing before this"
+
+
+def slip_brace(it, text):
+    if it.known.get("outside") and text == "}":
+        return "one '}' too many"
+    if it.known.get("outside") and it.near(-1) != "":
+        return "behind a function only another 'def', or 'ensuring(..)', may stand" if it.kind_near(-1) else None
+    if it.known.get("outside"):
+        return "a source begins with 'def', after 'import' lines and one 'object NAME {' if you like"
+    if it.where == "require" and text != "require" and not it.known.get("condition"):
+        return "in the braces 'require(..)' comes first" if it.near(-1) == "{" else None
+
+
+def slip_late_val(it, text):
+    if text == "val" and it.known.get("behind_result"):
+        return "a 'val' stands before the result: an expression alone ends the function; is a 'val NAME =' missing before it, or an operator?"
+    if text == "require":
+        return "one 'require', first in the braces: join all conditions by '&&'"
+
+
+def slip_behind_number(it, text):
+    if it.known.get("behind_result") and it.kind_near(0) in ("name", "number") and it.near(-1) == ")":
+        return f"an operator is missing before '{text}': a product is written with '*'"
+    if text == "(" and it.where == "body":
+        return "an operator is missing before '(': a product is written with '*'"
+    if text == "{":
+        return "no braces within a function: parts of it are named by 'val'"
+    if text == ":" and it.where == "body":
+        return "only a 'val' may have a type: 'val y: Real = ..'"
+
+
+SLIPS = [slip_power, slip_comma_number, slip_chain, slip_comparison, slip_fraction, slip_comma_conditions, slip_point, slip_ensuring, slip_type, slip_start,
+         slip_no_type, slip_no_input, slip_equals, slip_minus, slip_plus, slip_arithmetic, slip_two_results, slip_parenthesis, slip_late_val, slip_brace,
+         slip_behind_number]
+MAKERS = {"BadUtf8": of_utf8, "BadCharacter": of_character, "BadNumber": of_number, "NumberTooLong": of_long_number, "EndOfText": of_end,
+          "Unexpected": of_unexpected, "UnknownName": of_unknown, "NamedTwice": of_twice, "NoRange": of_no_range, "EmptyRange": of_empty, "TooDeep": of_deep,
+          "TooMany": of_many, "Unsupported": of_unsupported, "WrongArity": of_arity, "NoSuchFunction": of_function, "WhichFunction": of_which}
