@@ -1,47 +1,18 @@
 """Tells why nothing was found: which node or output, what is reached without the demands, and where a bundle is found."""
 from __future__ import annotations
 
-import os
-import subprocess
-import tempfile
 from fractions import Fraction
 
-from .bundles import parsed
 from .exact import at_most, greatest, plus, shown, times
-from .fixd import WIDTHS, Fixd, NOT_FOUND, progress, readable
+from .fixd import WIDTHS, Fixd, progress, readable
 from .linear import linear_of, poles_of
 from .nodes import nodes_of
+from .search import free_of_demands, search
 from .sources import Function, function_of, place_of
 from .told import Told, counted
 
 SECONDS = 120
 HEAVY = 40
-
-
-def free_of_demands(data: bytes, made: Function) -> bytes:
-    """Returns a source in which a function demands nothing, every byte else at its place."""
-    begin = data.rfind(b"ensuring", 0, made.end) if made.demands() else made.end
-    return data[:begin] + b" " * (made.end - begin) + data[made.end:]
-
-
-class Tries:
-    """Calls of the search over one function, in a folder of its own."""
-
-    def __init__(self, fixd: Fixd, name: str, folder: str):
-        self.fixd, self.name, self.folder = fixd, name, folder
-
-    def bundle(self, data: bytes, width, rounding="floor"):
-        """Returns the bundle that is found, or None."""
-        path = os.path.join(self.folder, "source.fixd")
-        with open(path, "wb") as file:
-            file.write(data)
-        words = [self.fixd.path, "synth", "--width", str(width), "--round", rounding, "--function", self.name, path]
-        try:
-            ran = subprocess.run(words, capture_output=True, timeout=SECONDS, check=False)
-        except subprocess.TimeoutExpired:
-            progress(f"{width} bits: stopped after {SECONDS} seconds")
-            return None
-        return parsed(ran.stdout) if ran.returncode == 0 else None
 
 
 def told(fixd: Fixd, path: str, call, what: str, index: int) -> Told:
@@ -54,11 +25,13 @@ def told(fixd: Fixd, path: str, call, what: str, index: int) -> Told:
         say_node(out, data, made, index)
     if made.states:
         say_poles(out, made)
-    with tempfile.TemporaryDirectory(prefix="fixd-tools-") as folder:
-        tries = Tries(fixd, made.name, folder)
-        reached = say_reached(out, tries, data, made, width, rounding) if made.demands() else None
-        if not (made.states and is_unstable(made)):
-            say_elsewhere(out, tries, data, made, width, rounding)
+    def tries(text, bits, how):
+        """Searches a bundle, and stops after two minutes."""
+        return search(fixd, text, made.name, bits, how, seconds=SECONDS).bundle
+
+    reached = say_reached(out, tries, data, made, width, rounding) if made.demands() else None
+    if not (made.states and is_unstable(made)):
+        say_elsewhere(out, tries, data, made, width, rounding)
     if made.demands() and reached is not None:
         out.hints.insert(0, "the demand is the cause: demand a little more than what is reached, take a width at which it is kept, or make the errors of the inputs smaller")
     if not out.hints:
@@ -178,10 +151,10 @@ def bounds_told(made: Function, bundle) -> str:
     return ", ".join(f"{it.name} {at_most(bound)}" for it, bound in zip(made.outputs, bundle.bounds()))
 
 
-def say_reached(out: Told, tries: Tries, data: bytes, made: Function, width: int, rounding: str):
+def say_reached(out: Told, tries, data: bytes, made: Function, width: int, rounding: str):
     """Says what is reached without the demands, output by output."""
     progress(f"searching {width} bits without demands")
-    bundle = tries.bundle(free_of_demands(data, made), width, rounding)
+    bundle = tries(free_of_demands(data, made), width, rounding)
     if bundle is None:
         out.notes.append(f"without its demands nothing is found at {width} bits either: the demands aren't the cause")
         return None
@@ -201,18 +174,18 @@ def say_reached(out: Told, tries: Tries, data: bytes, made: Function, width: int
     return bundle
 
 
-def say_elsewhere(out: Told, tries: Tries, data: bytes, made: Function, width: int, rounding: str) -> None:
+def say_elsewhere(out: Told, tries, data: bytes, made: Function, width: int, rounding: str) -> None:
     """Says at which wider words, and with which rounding, a bundle is found."""
     other = "nearest" if rounding == "floor" else "floor"
     progress(f"searching {width} bits with --round {other}")
-    bundle = tries.bundle(data, width, other)
+    bundle = tries(data, width, other)
     out.notes.append(f"{width} bits, --round {other}: " + (f"found: {bounds_told(made, bundle)}" if bundle else "nothing is found"))
     if bundle:
         out.hints.append(f"--round {other}, for a processor whose multiply rounds to the nearest" if other == "nearest" else "--round floor")
     wider = [it for it in WIDTHS if it > width]
     for it in wider[:3] if len(wider) > 3 else wider:
         progress(f"searching {it} bits")
-        bundle = tries.bundle(data, it, rounding)
+        bundle = tries(data, it, rounding)
         out.notes.append(f"{it} bits: " + (f"found: {bounds_told(made, bundle)}" if bundle else "nothing is found"))
         if bundle:
             out.hints.append(f"--width {it}")
