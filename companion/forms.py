@@ -1,3 +1,172 @@
-HELP = DESCRIPTION = "soon"
-def add_to(parser): pass
-def run(words): return 1
+"""fixd-tools forms FILE: other forms of a filter, how far each is from the given one, and what bound each comes to."""
+from __future__ import annotations
+
+import json
+import os
+import sys
+from dataclasses import dataclass, replace
+from fractions import Fraction
+
+from . import realise
+from .exact import at_most, dyadic, greatest
+from .fixd import WIDTHS, Trouble, find, progress, readable
+from .linear import linear_of, poles_of
+from .search import Found, search
+from .sources import function_of
+from .transfer import difference, is_same
+from .told import counted
+from .width import function_in
+
+HELP = "a filter in other forms, with the bound of each"
+DESCRIPTION = """Writes a linear function with states in other forms, says how far the answers of each can be from those of the given one (a proved bound, in exact
+arithmetic, for all rows in range), and what bound and time each comes to. 'expanded' has outputs and vals multiplied out of the next states; 'cascade' and 'parallel' have
+blocks in a row or side by side, a shrinking rotation for each pair of poles; 'balanced' and 'direct' are what they are called. Standard library only."""
+
+
+def add_to(parser) -> None:
+    """Adds this subcommand's words."""
+    parser.add_argument("file", metavar="FILE", help="a source")
+    parser.add_argument("--function", metavar="NAME", help="the function, where the source has several")
+    parser.add_argument("--width", type=int, default=32, choices=WIDTHS, metavar="N", help="the width at which bundles are searched (default: 32)")
+    parser.add_argument("--round", choices=["floor", "nearest"], default="floor", help="as of fixd synth; at nearest, results and partial sums are rounded by '1 * (..)' too")
+    parser.add_argument("--seconds", type=float, default=120, metavar="S", help="how long each search may take (default: 120)")
+    parser.add_argument("--no-search", action="store_true", help="the distances alone, without bundles")
+    parser.add_argument("--write", metavar="FORM", help="print the source of this form (with '+centred' behind it: with '1 * (..)'), and nothing else")
+    parser.add_argument("--json", action="store_true", help="print the table as JSON")
+
+
+@dataclass
+class Row:
+    """A form with its source, its distance from the given one for each output, and the bundle that is found."""
+    name: str
+    what: str
+    source: str = ""
+    apart: list = None
+    dropped: int = 0
+    found: Found = None
+    why: str = ""
+
+
+def distances(made, system, source: str) -> list:
+    """Returns for each output how far the answers of a form's source can be from the given one's, over all rows in range."""
+    other = function_of(source.encode())
+    theirs = linear_of(other)
+    pulses = [it.start for it in made.states], [it.start for it in other.states]
+    out = []
+    if is_same(system, theirs, pulses):
+        return [Fraction(0)] * made.count
+    for j in range(made.count):
+        total = difference(system, theirs, pulses, j, -1) if any(pulses[0]) or any(pulses[1]) else Fraction(0)
+        for i in range(len(made.inputs) + 1):
+            if not (any(row[i] for row in [*system.B, *system.D]) or any(row[i] for row in [*theirs.B, *theirs.D])):
+                continue
+            one = difference(system, theirs, pulses, j, i)
+            it = made.inputs[i] if i < len(made.inputs) else None
+            size = greatest((it.lo, it.hi)) if it else 1
+            total = None if one is None or total is None else total + one * size
+        out.append(total)
+    return out
+
+
+def row_of(made, system, name: str, centred: bool = False) -> Row:
+    """Returns a form's row, without its bundle."""
+    try:
+        form = realise.FORMS[name](made, system)
+    except (realise.Impossible, ZeroDivisionError, OverflowError) as fault:
+        return Row(name, "", why=str(fault) or "its numbers leave what can be computed")
+    form.centred = centred
+    label = name + ("+centred" if centred else "")
+    row = Row(label, form.what + (", each sum rounded by '1 * (..)'" if centred else ""), dropped=form.dropped)
+    row.source = realise.source_of(made, form, [])
+    row.apart = distances(made, system, row.source)
+    if None in row.apart:
+        row.why = "how far it is from the given one can't be bounded"
+    return row
+
+
+def told_apart(made, row: Row) -> str:
+    """Returns a form's distance in words."""
+    if not any(row.apart):
+        return "exactly the given function"
+    return "at most " + ", ".join(f"{at_most(x)} of {it.name}" for x, it in zip(row.apart, made.outputs)) + " from the given function's answers, over all rows in range"
+
+
+def run(words) -> int:
+    """Runs the subcommand."""
+    data = readable(words.file)
+    made = function_in(data, words.file, words.function)
+    system = linear_of(made)
+    if not made.states or system is None:
+        raise Trouble(f"'{made.name}' of {words.file} " + ("has no states" if not made.states else "isn't linear in its states and inputs")
+                      + ": forms are for linear filters; for a function without states 'fixd synth --tries 10000' looks at other ways to write it")
+    slowest = poles_of(system.A)[0]
+    if slowest.below_one() <= 0:
+        raise Trouble(f"'{made.name}' of {words.file} isn't stable: a pole has the size {slowest.size():.6f}, and no form of it has a bound")
+    if words.write:
+        return write(made, system, words)
+    rows = [Row("given", "the source as it is", data.decode(), [Fraction(0)] * made.count)]
+    rows += [row_of(made, system, name) for name in realise.FORMS]
+    if words.round == "nearest":
+        rows += [row_of(made, system, row.name, True) for row in list(rows[1:]) if not row.why]
+    if not words.no_search:
+        fixd = find(words.fixd)
+        for k, row in enumerate(rows, 1):
+            if not row.why:
+                row.found = search(fixd, row.source.encode(), made.name, words.width, words.round, seconds=words.seconds)
+            progress(f"{k} of {len(rows)} forms")
+    print(json.dumps([value_of(row) for row in rows], indent=1)) if words.json else print_table(made, rows, words)
+    return 0
+
+
+def write(made, system, words) -> int:
+    """Prints the source of a form."""
+    name, _, centred = words.write.partition("+")
+    if name not in realise.FORMS or centred not in ("", "centred"):
+        raise Trouble(f"no form is called '{words.write}': forms are {', '.join(realise.FORMS)}, each with '+centred' behind it if you like")
+    row = row_of(made, system, name, bool(centred))
+    if row.why:
+        raise Trouble(f"'{made.name}' has no form '{name}': {row.why}")
+    kept = [f"{made.name} of {os.path.basename(words.file)} in another form, by fixd-tools forms --write {words.write}: {row.what};", told_apart(made, row)]
+    if row.dropped:
+        kept.append(f"{counted(row.dropped, 'coefficient')} below 1e-10 of their neighbours dropped; the distance counts that")
+    sys.stdout.write("\n".join(f"// {it}" for it in kept) + "\n" + row.source)
+    return 0
+
+
+def value_of(row: Row) -> dict:
+    """Returns a row for a machine."""
+    out = {"form": row.name, "what": row.what, "why_not": row.why or None, "dropped": row.dropped, "apart": row.apart and [float(x) for x in row.apart]}
+    if row.found is not None:
+        out.update({"found": row.found.is_found, "seconds": round(row.found.seconds, 3), "bounds": [dyadic(x) for x in row.found.bounds()] if row.found.is_found else None})
+    return out
+
+
+def print_table(made, rows: list, words) -> None:
+    """Prints the table for a reader: the smallest worst total comes first."""
+    print(f"{made.name}, width {words.width}, --round {words.round}: the bound and the distance add up to how far a printed value can be from the given function's exact one")
+    head = ["form", "states", "bound", "distance", "seconds"]
+    lines = []
+    for row in sorted(rows, key=total_of):
+        if row.why:
+            continue
+        count = len(function_of(row.source.encode(), made.name).states)
+        bound = "not searched" if row.found is None else ", ".join(map(at_most, row.found.bounds())) if row.found.is_found else row.found.why
+        lines.append([row.name, str(count), bound, ", ".join(at_most(x) for x in row.apart), f"{row.found.seconds:.2f}" if row.found else ""])
+    broad = [max(len(line[k]) for line in [head, *lines]) for k in range(len(head))]
+    for line in [head, *lines]:
+        print("  ".join(cell.ljust(size) for cell, size in zip(line, broad)).rstrip())
+    for row in rows:
+        if row.why:
+            print(f"{row.name}: can't be: {row.why}")
+        if row.dropped:
+            print(f"{row.name}: {counted(row.dropped, 'coefficient')} below 1e-10 of their neighbours dropped; the distance counts that")
+    best = min(rows, key=total_of)
+    if best.found is not None and best.found.is_found and best.name != "given":
+        print(f"to take the first one: fixd-tools forms {words.file} --write {best.name} > NEW.fixd")
+
+
+def total_of(row: Row):
+    """Returns what rows are sorted by: how far a printed value can be from the given function's exact one, those that aren't found last."""
+    if row.found is None or not row.found.is_found:
+        return (1, 0.0)
+    return (0, max(float(a + b) for a, b in zip(row.found.bounds(), row.apart)))

@@ -1,9 +1,10 @@
 """Linear functions: what is linear in a source, its matrices, its poles, and sums of its impulse responses."""
 from __future__ import annotations
 
+from cmath import rect
 from dataclasses import dataclass
 from fractions import Fraction
-from math import gcd
+from math import gcd, pi
 
 from .sources import Function, Tree
 
@@ -212,13 +213,13 @@ def simple_roots(poly: list) -> list:
     """Returns the roots of a polynomial without double ones, by Aberth's iteration in whole numbers at 2^-BITS."""
     size = len(poly) - 1
     poly = [x / poly[0] for x in poly]
+    if size == 0:
+        return []
     if size == 1:
         return [Root(int(-poly[1] * ONE), 0)]
     whole = [(int(x * ONE), 0) for x in poly]
     slopes = [(int(x * ONE), 0) for x in derivative(poly)]
-    radius = max(Fraction(1, 100), 1 + max(abs(x) for x in poly[1:])) if size < 2 else 1
-    from cmath import rect
-    points = [rect(float(radius) * 0.8, 2 * 3.141592653589793 * k / size + 0.4) for k in range(size)]
+    points = [rect(0.8, 2 * pi * k / size + 0.4) for k in range(size)]
     now = [(int(p.real * 2 ** 50) << (BITS - 50), int(p.imag * 2 ** 50) << (BITS - 50)) for p in points]
     for _ in range(200):
         moved = 0
