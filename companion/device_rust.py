@@ -159,14 +159,11 @@ def emulated(plan, crate: str) -> str:
 #![no_std]
 #![no_main]
 
-#[path = "../src/lib.rs"]
-#[allow(dead_code)]
-mod library;
 #[path = "../tests/rows_data.rs"]
 mod rows_data;
 
 use core::arch::asm;
-use library::Filter;
+use {crate}::Filter;
 
 fn ask(what: u32, with: u32) {{
     unsafe {{
@@ -214,5 +211,6 @@ pub static VECTORS: Vectors = Vectors(0x2000_4000, start);
 
 def rust_build(crate: str) -> str:
     return """  case $1 in cortex-m0) target=thumbv6m-none-eabi ;; *) target=thumbv7em-none-eabi ;; esac
-  ${RUSTC:-rustc} ${RUSTC_FLAGS-} --edition 2021 --crate-name emulated --crate-type bin --target $target -O -C panic=abort -C linker=${ARM_LD:-rust-lld} -C linker-flavor=ld.lld \\
+  ${RUSTC:-rustc} --edition 2021 --crate-name """ + crate + """ --crate-type rlib --target $target -O -C panic=abort --out-dir build/$1 src/lib.rs &&
+  ${RUSTC:-rustc} --edition 2021 --extern """ + crate + """=build/$1/lib""" + crate + """.rlib --crate-name emulated --crate-type bin --target $target -O -C panic=abort -C linker=${ARM_LD:-rust-lld} -C linker-flavor=ld.lld \\
     -C link-arg=-Temulated/link.ld -o build/$1.elf emulated/main.rs"""

@@ -145,7 +145,8 @@ def findings(fixd, call, words, status: int, notes: str, kept: Kept) -> list:
             return explain_words.of_words(words.words)
         if status in SHAPES and not shape:
             return [Told(f"'{line}' isn't a line that this companion knows: is {fixd.path} another version of fixd?")]
-        return [explained(fixd, call, words, status, said, kept)]
+        before = surplus(call, kept, int(said["line"])) if status == 5 and kept.head else []
+        return [*before, explained(fixd, call, words, status, said, kept)]
     except (Trouble, Fault) as trouble:
         return [Told(f"no more can be told: {trouble}")]
 
@@ -222,15 +223,15 @@ def row_told(call, said: dict, kept: Kept) -> Told:
     return explain_rows.told(said["kind"], rows, said["name"] or "")
 
 
-def surplus(call, kept: Kept) -> list:
-    """Returns a warning where rows have more fields than the header, by the lines that are kept: `fixd` takes such rows."""
+def surplus(call, kept: Kept, before: int = 1 << 62) -> list:
+    """Returns a warning where rows before a line have more fields than the header, by the lines that are kept: `fixd` takes such rows."""
     first = kept.first()
     if not first:
         return []
     header, found, more = text_of(first[1]), None, 0
     names = len(explain_rows.fields_of(header))
     for k, line in enumerate(kept.head.split(b"\n"), 1):
-        if k > first[0] and line.count(b",") >= names and len(explain_rows.fields_of(text_of(line))) > names:
+        if first[0] < k < before and line.count(b",") >= names and len(explain_rows.fields_of(text_of(line))) > names:
             more += 1
             found = found or (k, text_of(line))
     return [explain_rows.of_surplus(rows_name(), *found, header, more - 1)] if found else []

@@ -248,9 +248,10 @@ def of_surplus(where: str, number: int, line: str, header: str, more: int) -> To
     """Returns what there is to say of rows that have more fields than the header; `fixd` takes these."""
     count, names = len(fields_of(line)), len(fields_of(header))
     hints = ["what is behind the header's last column isn't read"]
-    numbers = re.findall(r"(?<![\d.])[-+]?\d+,\d+", line)
+    numbers = re.findall(r"(?<![\d.])(?=([-+]?\d+,\d+))", line)
     if numbers:
-        hints = [COMMA + f"a field '{numbers[0]}' is read as two; put it in a point, as {numbers[0].replace(',', '.')}: sed 's/,/./g; s/;/,/g' ROWS where ';' parts fields", *hints]
+        last = numbers[-1]
+        hints = [COMMA + f"'{last}' is two of them; write {last.replace(',', '.')}", *hints]
     others = f"; so have {more} further rows" if more > 1 else "; so has one further row" if more == 1 else ""
     return Told(f"{count} fields, and the header has {names}{others}: the row was taken all the same", where, number, 1, line, len(line), hints=hints)
 

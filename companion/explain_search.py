@@ -27,7 +27,7 @@ def told(fixd: Fixd, path: str, call, what: str, index: int) -> Told:
         say_poles(out, made)
     def tries(text, bits, how):
         """Searches a bundle, and stops after two minutes."""
-        return search(fixd, text, made.name, bits, how, seconds=SECONDS).bundle
+        return search(fixd, text, made.name, bits, how, call.options.get("--tries"), SECONDS).bundle
 
     reached = say_reached(out, tries, data, made, width, rounding) if made.demands() else None
     if not (made.states and is_unstable(made)):

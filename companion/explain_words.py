@@ -26,6 +26,7 @@ class Call:
     files: list = field(default_factory=list)
     options: dict = field(default_factory=dict)
     wrong: list = field(default_factory=list)
+    meant: list = field(default_factory=list)
 
     @property
     def file(self) -> str:
@@ -116,15 +117,16 @@ def say_option(call: Call, name: str, mine: list) -> None:
         call.add(f"{call.command} has no option {name}", f"{name} is one of {owner}: leave it out here")
     else:
         like = LETTERS.get(name) if LETTERS.get(name) in mine else next(iter(difflib.get_close_matches(name, mine, 1, 0.5)), None)
+        call.meant.append(like)
         call.add(f"no option is called '{name}'", *([f"is '{like}' meant?"] if like else []),
                  f"options of {call.command}: {', '.join(mine)}" if mine else f"{call.command} has no options: {use_of(call.command)}",
                  *([] if name.startswith("--") else [f"of a file whose name begins with a minus: fixd {call.command} -- {name}"]))
 
 
 def look_at_options(call: Call) -> None:
-    if call.command == "synth" and "--width" not in call.options:
+    if call.command == "synth" and "--width" not in [*call.options, *call.meant]:
         call.add("--width is missing", f"the width of the words has to be given, as --width 16: {widths()}; 'fixd-tools width FILE' shows what each comes to")
-    if call.command == "node" and "--units" not in call.options:
+    if call.command == "node" and "--units" not in [*call.options, *call.meant]:
         call.add("--units is missing", "say how many units the rows are of, as --units 2: 1 to 1024")
     for name, value in call.options.items():
         if not value or value.startswith("-") or name == "--function":
