@@ -54,6 +54,16 @@ class Input:
         d = base.denominator * slope.denominator // _gcd(base.denominator, slope.denominator)
         return int(base * d), int(slope * d), d
 
+    def readings(self) -> list:
+        """Returns some readings, the converter's ends and some beyond among them, each with the word that it has to give."""
+        found = []
+        for k in range(-2, 43):
+            reading = self.steps * k // 40
+            value = floor_at(self.low + (self.high - self.low) * reading / self.steps, self.point)
+            if abs(reading) < 2 ** 15:
+                found.append((reading, min(max(value, self.least), self.greatest)))
+        return found
+
 
 def _gcd(a, b):
     while b:
@@ -79,6 +89,7 @@ class Plan:
     states: list
     outputs: list
     rows: list
+    values: list
     header: str
     csv: bytes
     answers: bytes
@@ -116,9 +127,11 @@ def plan_of(fixd: Fixd, words) -> Plan:
     label_all([*inputs, *outputs])
     csv = readable(words.rows) if words.rows else random_rows(inputs, words.count)
     answers = fixd.printed("run", words.bundle, rows=csv)
+    values = values_of(csv, inputs)
+    given_words = [[floor_at(value, it.point) for value, it in zip(row, inputs)] for row in values]
     rows = [(given, [int(Fraction(text) * Fraction(2) ** out.point) for text, out in zip(line.split(","), outputs)])
-            for given, line in zip(words_of(csv, inputs), answers.decode().splitlines()[1:])]
-    return Plan(bundle.name, bundle.width, inputs, states, outputs, rows, f"{bundle.name}, width {bundle.width}", csv, answers, fixd.standing())
+            for given, line in zip(given_words, answers.decode().splitlines()[1:])]
+    return Plan(bundle.name, bundle.width, inputs, states, outputs, rows, values, f"{bundle.name}, width {bundle.width}", csv, answers, fixd.standing())
 
 
 def label_all(named: list) -> None:
@@ -146,14 +159,14 @@ def random_rows(inputs: list, count: int) -> bytes:
     return ("\n".join(lines) + "\n").encode()
 
 
-def words_of(csv: bytes, inputs: list) -> list:
-    """Returns the words of each row of a file that `fixd run` has taken whole."""
+def values_of(csv: bytes, inputs: list) -> list:
+    """Returns the values of each row of a file that `fixd run` has taken whole."""
     from .explain_rows import fields_of
     lines = [line.rstrip(b"\r").decode("utf-8", "replace") for line in csv.removeprefix(b"\xef\xbb\xbf").split(b"\n")]
     lines = [line for line in lines if line]
     names = [field.text for field in fields_of(lines[0])]
     places = [names.index(it.name) for it in inputs]
-    return [[floor_at(Fraction(fields_of(line)[place].text), it.point) for place, it in zip(places, inputs)] for line in lines[1:]]
+    return [[Fraction(fields_of(line)[place].text) for place in places] for line in lines[1:]]
 
 
 def folder(path: str) -> Path:
@@ -211,20 +224,3 @@ def run(words) -> int:
     for it in plan.outputs:
         print(f"{it.name}: word / 2^{it.point}, within {dyadic(it.bound)} of the exact value")
     return 0
-
-
-def page(plan: Plan, language: str, text: str, rest: list) -> str:
-    """Returns the page that says what is proved."""
-    known = f"The `fixd` that judged the bundle and printed the text: {plan.program}." if plan.program else \
-        "The `fixd` that judged the bundle and printed the text isn't one that `fixd-tools` knows: whether it is the proved program can't be said here."
-    lines = [f"# {plan.header}, for a device", "", f"Written by `fixd-tools device --language {language}` from `{plan.name}.bundle`, which `fixd check` accepts.", "",
-             "| | word | stands for | range | words |", "|---|---|---|---|---|"]
-    lines += [f"| input {it.name} | {k} | word / 2^{it.point} | {it.text} | {it.least} to {it.greatest} |" for k, it in enumerate(plan.inputs)]
-    lines += [f"| state {name} | {k} | word / 2^{point} | | {start} before the first step |" for k, (name, start, point) in enumerate(plan.states)]
-    lines += [f"| output {it.name} | {k} | word / 2^{it.point} | within {dyadic(it.bound)} of the exact value | |" for k, it in enumerate(plan.outputs)]
-    lines += ["", "**What is certified.** On all rows in these ranges no intermediate of the program leaves its word, no divisor is zero, and each output is within its bound of the exact",
-              "value of the source, state carried exactly from the first row. Of a value outside a range nothing is certified: `step` holds each word to its range, so that",
-              "nothing overflows, and what comes then is the answer to another value than the sensor's.", "", f"**What is proved of the text.** {text}", "",
-              "**What isn't proved**: what stands around that text in this folder; that a compiler keeps its meaning; that the true value lies where `require` says. The test",
-              f"runs {len(plan.rows)} rows through the compiled step and compares each answer with that of `fixd run`.", "", known, ""]
-    return "\n".join([*lines, *rest, ""])

@@ -4,6 +4,7 @@ from __future__ import annotations
 import re
 
 from .device_emulated import LINKER, emulated_script
+from .device_page import decimal_of, page
 from .fixd import Trouble
 
 PROVED = "`{name}.c` and `{name}.h` are what `fixd-c` prints, byte for byte; what is proved of its text, the README of `fixd`'s repository says, in the\ntable of properties."
@@ -11,7 +12,6 @@ PROVED = "`{name}.c` and `{name}.h` are what `fixd-c` prints, byte for byte; wha
 
 def files_of(plan, source: str, header: str) -> dict:
     """Returns the files of the folder."""
-    from .device import page
     name = plan.name
     return {
         f"{name}.c": source, f"{name}.h": header, f"{name}_device.h": device_header(plan, header), "test.c": test(plan), "rows.h": rows(plan),
@@ -72,7 +72,7 @@ def input_functions(name: str, big: str, k: int, it) -> list:
     """Returns the functions that make a word of an input."""
     a, b, d = it.reading()
     bits = 31 if abs(a) + (abs(b) << 31) < 2 ** 62 else 16
-    if abs(a) + (abs(b) << bits) >= 2 ** 62 or d >= 2 ** 62:
+    if not has_readings(it):
         reading = [f"/* no function makes a word of a reading of {it.name}: its numbers leave 64 bits; take another converter's range */", ""]
     else:
         kind = "int32_t" if bits == 31 else "int16_t"
@@ -92,6 +92,12 @@ def input_functions(name: str, big: str, k: int, it) -> list:
             f"    for (k = 0; k < {max(0, it.point)}; k++) {{", "        word *= 2;", "        rest *= 2;", "        if (rest >= ten) { rest -= ten; word++; }", "    }", shift, "}", ""]
 
 
+def has_readings(it) -> bool:
+    """Returns whether a reading's word can be computed in 64 bits."""
+    a, b, d = it.reading()
+    return abs(a) + (abs(b) << 16) < 2 ** 62 and d < 2 ** 62
+
+
 def rows(plan) -> str:
     """Returns the rows as a table."""
     lines = "\n".join(f"    {{{', '.join(map(c_word, [*given, *answers]))}}}," for given, answers in plan.rows)
@@ -105,6 +111,11 @@ def c_word(word: int) -> str:
 def test(plan) -> str:
     """Returns the test of the rows, for this machine and for an emulated one."""
     name, inputs, outputs = plan.name, len(plan.inputs), len(plan.outputs)
+    checks = [f"    if ({name}_word_of_decimal_{it.name}({literal(digits)}, {places}) != {c_word(word)}) return differs(\"a decimal\");"
+              for (given, _), row in list(zip(plan.rows, plan.values))[:50] for it, word, (digits, places) in zip(plan.inputs, given, map(decimal_of, row))]
+    checks += [f"    if ({name}_word_of_reading_{it.name}({reading}) != {c_word(word)}) return differs(\"a reading\");" for it in plan.inputs if has_readings(it)
+               for reading, word in it.readings()]
+    checks = "\n".join(checks)
     return f"""/* the rows of rows.csv come out as 'fixd run' printed them */
 #include "{name}_device.h"
 #include "rows.h"
@@ -116,9 +127,21 @@ void say(const char *text);
 static void say(const char *text) {{ fputs(text, stdout); }}
 #endif
 
+static int differs(const char *what) {{
+    say(what);
+    say(" gives another word\\n");
+    return 1;
+}}
+
+static int words(void) {{
+{checks}
+    return 0;
+}}
+
 int main(void) {{
     {name}_device filter;
     int k, j;
+    if (words()) return 1;
     {name}_device_reset(&filter);
     for (k = 0; k < ROWS; k++) {{
         {name}_word output[{outputs}];

@@ -4,6 +4,7 @@ from __future__ import annotations
 import re
 
 from .device_emulated import LINKER, emulated_script
+from .device_page import decimal_of, page
 
 PROVED = "`src/filter.rs` is what `fixd rust` prints, byte for byte. That it gives the words of `fixd run`, over all rows in range, is proved by the\n" \
          "meaning that the definitions of `fixd` give to its few forms (README of its repository, the table of properties)."
@@ -16,7 +17,6 @@ def small(name: str) -> str:
 
 def files_of(plan, text: str) -> dict:
     """Returns the files of the crate."""
-    from .device import page
     crate = small(plan.name).strip("_") or "filter"
     return {
         "Cargo.toml": f'[package]\nname = "{crate}"\nversion = "0.1.0"\nedition = "2021"\npublish = false\n\n[lib]\npath = "src/lib.rs"\n\n[workspace]\n',
@@ -127,30 +127,17 @@ def rows_data(plan) -> str:
 
 
 def host_test(plan, crate: str) -> str:
+    """Returns the test of the rows, and of the words of decimals and readings."""
     one = plan.inputs[0]
-    name = one.label
-    return f"""//! The rows of rows.csv come out as `fixd run` printed them.
-mod rows_data;
-
-use {crate}::Filter;
-
-#[test]
-fn rows_come_out_as_fixd_run_printed_them() {{
-    let mut filter = Filter::new();
-    for (k, (given, wanted)) in rows_data::ROWS.iter().enumerate() {{
-        assert_eq!(filter.step(*given), *wanted, "row {{}}", k + 1);
-    }}
-    filter.reset();
-    assert_eq!(filter, Filter::new());
-}}
-
-#[test]
-fn words_are_held_to_the_range() {{
-    assert_eq!({crate}::word_of_reading_{name}(i32::MAX).max({crate}::{one.label.upper()}_LEAST), {crate}::word_of_reading_{name}(i32::MAX));
-    assert_eq!({crate}::word_of_decimal_{name}(i64::MAX, 0), {crate}::{one.label.upper()}_GREATEST);
-    assert_eq!({crate}::word_of_decimal_{name}(i64::MIN, 0), {crate}::{one.label.upper()}_LEAST);
-}}
-"""
+    decimals = [f"    assert_eq!({crate}::word_of_decimal_{it.label}({digits}, {places}), {word});"
+                for (given, _), row in list(zip(plan.rows, plan.values))[:50] for it, word, (digits, places) in zip(plan.inputs, given, map(decimal_of, row))]
+    readings = [f"    assert_eq!({crate}::word_of_reading_{it.label}({reading}), {word});" for it in plan.inputs for reading, word in it.readings()]
+    lines = ["//! The rows of rows.csv come out as `fixd run` printed them, and decimals and readings become their words.", "mod rows_data;", "", f"use {crate}::Filter;", "", "#[test]",
+             "fn rows_come_out_as_fixd_run_printed_them() {", "    let mut filter = Filter::new();", "    for (k, (given, wanted)) in rows_data::ROWS.iter().enumerate() {",
+             '        assert_eq!(filter.step(*given), *wanted, "row {}", k + 1);', "    }", "    filter.reset();", "    assert_eq!(filter, Filter::new());", "}", "", "#[test]",
+             "fn decimals_become_their_words() {", *decimals, f"    assert_eq!({crate}::word_of_decimal_{one.label}(i64::MAX, 0), {crate}::{one.label.upper()}_GREATEST);",
+             f"    assert_eq!({crate}::word_of_decimal_{one.label}(i64::MIN, 0), {crate}::{one.label.upper()}_LEAST);", "}", "", "#[test]", "fn readings_become_their_words() {", *readings, "}", ""]
+    return "\n".join(lines)
 
 
 def emulated(plan, crate: str) -> str:
