@@ -26,10 +26,17 @@ $(PROGRAM): $(SOURCES)
 	  || { cat build/build.log >&2; exit 1; }
 	@cp crates/fx_cli/out/fx_cli $(PROGRAM)
 
-# puts the program and its manual page where a system expects them
+# puts the program, its companion and their manual pages where a system expects them; the companion gets the program's sum, so that it knows it again
+COMPANION = $(DESTDIR)$(PREFIX)/lib/fixd/companion
 install: $(PROGRAM)
 	install -D -m 755 $(PROGRAM) $(DESTDIR)$(PREFIX)/bin/fixd
 	install -D -m 644 docs/fixd.1 $(DESTDIR)$(PREFIX)/share/man/man1/fixd.1
+	install -d $(COMPANION)
+	install -m 644 companion/*.py $(COMPANION)
+	install -m 755 companion/fixd-tools $(COMPANION)
+	sha256sum < $(PROGRAM) > $(COMPANION)/installed.sum
+	ln -sf ../lib/fixd/companion/fixd-tools $(DESTDIR)$(PREFIX)/bin/fixd-tools
+	install -D -m 644 docs/fixd-tools.1 $(DESTDIR)$(PREFIX)/share/man/man1/fixd-tools.1
 
 # every proof that this machine hasn't passed yet, the wrong bodies that tell most, every case, every test
 test:

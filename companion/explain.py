@@ -8,6 +8,7 @@ import stat
 import subprocess
 import sys
 import threading
+from collections import deque
 
 from . import explain_bundle, explain_rows, explain_search, explain_source, explain_words
 from .bundles import is_bundle, parsed
@@ -34,23 +35,24 @@ def add_to(parser) -> None:
 
 
 class Kept:
-    """The first lines of an input and the last ones, so that a bad line can be shown."""
+    """The first bytes of an input and the last ones, so that a bad line can be shown."""
 
     def __init__(self):
-        self.head, self.window, self.cut = b"", b"", 0
+        self.head, self.last, self.size, self.cut = b"", deque(), 0, 0
 
     def add(self, data: bytes) -> None:
+        """Adds what was read; of what is far back only the count of its lines is kept."""
         if len(self.head) < WINDOW:
             self.head += data[:WINDOW - len(self.head)]
-        self.window += data
-        if len(self.window) > 2 * WINDOW:
-            cut = self.window.rfind(b"\n", 0, len(self.window) - WINDOW) + 1
-            self.cut += self.window.count(b"\n", 0, cut)
-            self.window = self.window[cut:]
+        self.last.append(data)
+        self.size += len(data)
+        while self.size - len(self.last[0]) > WINDOW:
+            self.cut += self.last[0].count(b"\n")
+            self.size -= len(self.last.popleft())
 
     def line(self, number: int):
         """Returns a line, counted from 1, or None where it isn't kept or isn't there."""
-        for text, cut in ((self.head, 0), (self.window, self.cut)):
+        for text, cut in ((self.head, 0), (b"".join(self.last), self.cut)):
             lines = text.split(b"\n")
             if 0 < number - cut <= len(lines) and (number - cut < len(lines) or lines[-1]):
                 return lines[number - cut - 1]
@@ -95,17 +97,20 @@ def run_with_rows(fixd: Fixd, words: list, kept: Kept):
 
 
 def run_on_file(fixd: Fixd, words: list, kept: Kept):
-    """Runs a call whose rows are a plain file: it reads the file itself, and the file is looked at behind it."""
+    """Runs a call whose rows are a plain file: it reads the file itself, and the file is looked at behind it, up to the bad line."""
     begin = os.lseek(0, 0, os.SEEK_CUR)
     ran = subprocess.run([fixd.path, *words], stdin=0, stderr=subprocess.PIPE, check=False)
-    offset = begin
-    while True:
-        data = os.pread(0, 1 << 20, offset)
+    notes, offset, lines = ran.stderr.decode("utf-8", "replace"), begin, 0
+    bad = re.search(r" at line (\d+)", notes)
+    wanted = int(bad[1]) if bad and ran.returncode == 5 else 0
+    while offset - begin < WINDOW or lines < wanted:
+        data = os.pread(0, 1 << 18, offset)
         if not data:
             break
         kept.add(data)
         offset += len(data)
-    return ran.returncode, ran.stderr.decode("utf-8", "replace")
+        lines += data.count(b"\n")
+    return ran.returncode, notes
 
 
 def run(words) -> int:
@@ -130,7 +135,8 @@ def run(words) -> int:
     else:
         for it in found:
             it.print_to(sys.stderr)
-    return status
+    # a program that a signal ended has the status that a shell gives it
+    return status if status >= 0 else 128 - status
 
 
 def findings(fixd, call, words, status: int, notes: str, kept: Kept) -> list:

@@ -93,13 +93,13 @@ def built() -> dict:
     """Returns the sums of what `make run` built in the checkout that this companion stands in, if it stands in one."""
     top = HERE.parent
     path = top / "build" / "fixd"
-    return {"what 'make run' leaves at build/fixd of this checkout": sum_of(path)} if (top / "crates.txt").exists() and path.exists() else {}
+    return {"the file at which `make run` of this checkout leaves its program, build/fixd": sum_of(path)} if (top / "crates.txt").exists() and path.exists() else {}
 
 
 def installed() -> dict:
     """Returns the sum that `make install` wrote down when it installed the program and this companion."""
     path = HERE / "installed.sum"
-    return {"what 'make install' put beside this companion, from what 'make run' built": path.read_text().split()[0]} if path.exists() else {}
+    return {"the program that `make install` put in place together with this companion": path.read_text().split()[0]} if path.exists() else {}
 
 
 def candidates(named: str = None):

@@ -143,7 +143,7 @@ def value_of(row: Row) -> dict:
 
 def print_table(made, rows: list, words) -> None:
     """Prints the table for a reader: the smallest worst total comes first."""
-    print(f"{made.name}, width {words.width}, --round {words.round}: the bound and the distance add up to how far a printed value can be from the given function's exact one")
+    print(f"{made.name}, width {words.width}, --round {words.round}")
     head = ["form", "states", "bound", "distance", "seconds"]
     lines = []
     for row in sorted(rows, key=total_of):
@@ -160,6 +160,8 @@ def print_table(made, rows: list, words) -> None:
             print(f"{row.name}: can't be: {row.why}")
         if row.dropped:
             print(f"{row.name}: {counted(row.dropped, 'coefficient')} below 1e-10 of their neighbours dropped; the distance counts that")
+    if not words.no_search:
+        print("bound and distance add up to how far a printed value can be from the given function's exact one")
     best = min(rows, key=total_of)
     if best.found is not None and best.found.is_found and best.name != "given":
         print(f"to take the first one: fixd-tools forms {words.file} --write {best.name} > NEW.fixd")

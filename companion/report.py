@@ -81,7 +81,8 @@ def worth(fixd) -> list:
     text = ["`fixd check` accepts it. What that says: on all rows in the ranges no intermediate leaves its word, no divisor is zero, each printed value keeps the demanded",
             "ends, and for all true inputs within the errors it is no further than the bound from the source's exact value, state carried exactly from the first row.", ""]
     if standing:
-        return text + [f"Of the program that judged it, {standing}, whose contract is proved (README of its repository, the table of properties)."]
+        return text + [f"Of the program that judged it this page knows that {standing}. `make run` proves the contract of what it builds (README of the repository, the",
+                       "table of properties); that the file is still what it built, this page can't see."]
     return text + ["Of the program that judged it this page doesn't know whether it is proved: it isn't one that `make run` of a known checkout built. Whoever relies on the page runs",
                    "`fixd check` with a program that they built by `make run` themselves."]
 
