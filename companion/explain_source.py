@@ -58,7 +58,14 @@ def told(data: bytes, kind: str, at: int, where: str, function: str = None, firs
     if place.column > len(place.text) + 1:
         place = type(place)(place.line, len(place.text) + 1, place.text)
     return Told(made.head, where, place.line + first_line - 1, place.column, place.text, made.width,
-                known.expected if known and not made.hides else [], made.hints, made.notes)
+                expected_of(known, made), made.hints, made.notes)
+
+
+def expected_of(known, made) -> list:
+    """Returns what could have stood at a fault; where a line begins with '-', the one that would go on isn't meant."""
+    if not known or made.hides:
+        return []
+    return [it for it in known.expected if not known.found or it != f"'{known.found.text}'"]
 
 
 def found_here(data, kind, at, function):
@@ -124,7 +131,7 @@ def of_character(it: Context) -> Saying:
     hint = CHARACTERS.get(text)
     if hint is None and text.isalpha():
         hint = "a name has the letters A to Z and a to z, digits and '_': write it with these"
-    return Saying(f"{name} begins nothing that a source may have", [hint or "take it out"])
+    return Saying(f"{name} can't stand in a source", [hint or "take it out"])
 
 
 def of_number(it: Context) -> Saying:

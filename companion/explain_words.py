@@ -14,7 +14,7 @@ OF_ROWS = ("run", "mixed", "node")
 OPTIONS = {"synth": ["--width", "--function", "--seed", "--tries", "--round"], "node": ["--units"]}
 GREATEST = {"--seed": 2 ** 64 - 1, "--tries": 100_000, "--units": 1024}
 LETTERS = {"-w": "--width", "-f": "--function", "-s": "--seed", "-t": "--tries", "-r": "--round", "-u": "--units", "-n": "--units"}
-OTHER_NAMES = {"synthesise": "synth", "synthesize": "synth", "compile": None, "build": "synth", "verify": "check", "validate": "check", "print": "show", "dump": "show"}
+OTHER_NAMES = {"synthesise": "synth", "synthesize": "synth", "compile": "synth", "build": "synth", "verify": "check", "validate": "check", "print": "show", "dump": "show"}
 USES = {"synth": "fixd synth --width 16 FILE > f.bundle", "run": "fixd run FILE < rows.csv", "mixed": "fixd mixed FILE < rows.csv", "node": "fixd node --units 2 FILE < rows.csv",
         "demo": "fixd demo 100"}
 
@@ -120,7 +120,7 @@ def say_option(call: Call, name: str, mine: list) -> None:
         call.meant.append(like)
         call.add(f"no option is called '{name}'", *([f"is '{like}' meant?"] if like else []),
                  f"options of {call.command}: {', '.join(mine)}" if mine else f"{call.command} has no options: {use_of(call.command)}",
-                 *([] if name.startswith("--") else [f"of a file whose name begins with a minus: fixd {call.command} -- {name}"]))
+                 *([] if like or name.startswith("--") else [f"of a file whose name begins with a minus: fixd {call.command} -- {name}"]))
 
 
 def look_at_options(call: Call) -> None:
@@ -141,7 +141,7 @@ def look_at_options(call: Call) -> None:
             near = min(WIDTHS, key=lambda width: (width < int(value), abs(width - int(value))))
             call.add(f"{value} is none of the widths", f"take --width {near}: widths are {widths()}")
         elif name in GREATEST and int(value) > GREATEST[name]:
-            call.add(f"{name} is at most {GREATEST[name]}", f"give it less than {value}" if name != "--units" else "send the other units to a second call")
+            call.add(f"{name} is at most {GREATEST[name]}", f"{name} {GREATEST[name]} is the most" if name != "--units" else "send the other units to a second call")
         elif name == "--units" and int(value) == 0:
             call.add("--units is at least 1", "say how many units the rows are of")
 
