@@ -59,27 +59,3 @@ def error_over_time(title, errors, bound):
         return [f"<polyline points='{points}' stroke='#069' fill='none'/>"]
 
     return frame(title, bound, "row 1", f"row {len(errors)}", marks)
-
-
-def response_and_error(title, exact, errors, bound):
-    """Two pictures on one time line: the exact response, and below it the error, between the lines of the bound."""
-    upper = 140
-    low, high = min(0.0, *exact), max(exact)
-    right, last = WIDTH - 10, max(1, len(exact) - 1)
-    scale = (upper - TOP - 12) / (high - low)
-
-    def line(values, y):
-        return " ".join(f"{LEFT + n / last * (right - LEFT):.1f},{y(value):.1f}" for n, value in enumerate(values))
-
-    def y(value):
-        return upper - 6 - (value - low) * scale
-
-    lines = [f"<text x='{LEFT}' y='16' font-size='12'>{title}</text>"]
-    for value in (low, 1.0):
-        lines.append(f"<line x1='{LEFT}' y1='{y(value):.1f}' x2='{right}' y2='{y(value):.1f}' stroke='#bbb'/>")
-        lines.append(f"<text x='{LEFT - 4}' y='{y(value) + 4:.1f}' text-anchor='end'>{number(value)}</text>")
-    lines.append(f"<polyline points='{line(exact, y)}' stroke='#333' fill='none'/>")
-    below = error_over_time("printed value less the exact one, between the certified bounds", errors, bound)
-    lines += [f"<g transform='translate(0,{upper})'>", *below.splitlines()[2:-1], "</g>"]
-    head = f"<svg xmlns='http://www.w3.org/2000/svg' width='{WIDTH}' height='{upper + HEIGHT}' {STYLE}>"
-    return "\n".join([head, f"<rect width='{WIDTH}' height='{upper + HEIGHT}' fill='white'/>", *lines, "</svg>", ""])

@@ -14,7 +14,7 @@ average=$PWD/examples/average
 bench=$PWD/bench
 pages=$PWD/docs
 device=$PWD/examples/device
-tools=$PWD/tools
+companion=$PWD/companion
 cp examples/smooth/smooth.fixd examples/smooth/smooth.csv "$folder"
 cd "$folder"
 mkdir bin && ln -s "$program" bin/fixd && PATH="$folder/bin:$PATH"
@@ -70,8 +70,7 @@ awk -v ranges='now:-1:1 last:-1:1 older:-1:1' -f good.awk log.csv 2> dropped.lin
 printf 'now,last,older\n0.5,0.25,0.5\n-0.5,1,1e-1\n' | fixd run smooth.bundle | same "rows that are good" - good.out
 [ "$(cat dropped.line)" = "3 rows dropped" ] && echo "rows that are bad: counted" || wrong "rows that are bad: counted"
 
-shown "    head -1 log.csv > header; from=2" "^    tail -n +2 part >> log.out" > restart.sh && bash restart.sh
-[ "$(wc -l < log.out)" = 5 ] && [ "$(grep -c . log.out)" = 2 ] && grep . log.out | same "on behind bad rows" - <(tail -n +2 good.out) || wrong "on behind bad rows"
+printf 'now;last;older\n0,5;0,25;0,5\n' | sed 's/,/./g; s/;/,/g' | fixd run smooth.bundle | same "a decimal comma" - <(head -2 good.out)
 
 printf 'now,last,older\r\n0.5,0.25,0.5\r\n\r\n1,1,1\r\n' > log.csv
 sed 's/\r$//; /^$/d' log.csv > rows.csv
@@ -106,12 +105,18 @@ fixd synth --width 16 free.fixd > free.bundle && fixd check free.bundle | grep -
 # a bound that is useless
 printf 'def ratio(z: Real): Real = { require(0 <= z && z <= 999) z / (z + 1) }\n' > ratio.fixd
 fixd synth --width 16 ratio.fixd > ratio.bundle
-shown "    .*fixd show ratio.bundle" "^    out1" | tail -n +2 | same "a useless bound" - <(fixd show ratio.bundle)
+[ "$(fixd check ratio.bundle | tail -1)" = "out1 501/2^4" ] && echo "a useless bound: as it should be" || wrong "a useless bound"
 sed -i 's:z / (z + 1):1 - 1 / (z + 1):' ratio.fixd && fixd synth --width 16 ratio.fixd > ratio.bundle
 [ "$(fixd check ratio.bundle | tail -1)" = "out1 1087555/2^26" ] && echo "a useless bound: mended" || wrong "a useless bound: mended"
 
 # a page of evidence
-"$bench/evidence.py" smooth.bundle "$program" > smooth.md && grep -q '^| out1 | 3/2^14 | 0.000184 |$' smooth.md && echo "a page of evidence: as it should be" || wrong "a page of evidence: as it should be"
+"$companion/fixd-tools" --fixd "$program" report smooth.bundle > smooth.md && grep -q '^| out | 3/2^14 | 0.0001832 | within 0.001 |$' smooth.md \
+  && echo "a page of evidence: as it should be" || wrong "a page of evidence: as it should be"
+
+# a controller with an integral, as the page has it
+shown "    def pi(setpoint" "^    }\$" > pi.fixd
+fixd synth --width 32 pi.fixd > pi.bundle
+fixd check pi.bundle | awk -F'[ /^]' '/^out1/ { exit !($2 / 2^$4 < 0.0000013) }' && echo "an integral outside: as it should be" || wrong "an integral outside"
 
 # a scheduler and two workers
 python=/usr/bin/python3
@@ -134,42 +139,25 @@ count=$(sed -n 's/^source //p' smooth.bundle | head -1)
 tail -n +3 smooth.bundle | head -c "$count" | same "the bundle's source" - smooth.fixd
 fixd synth --width 16 smooth.fixd | same "made anew" - smooth.bundle
 
-# two bundles of one source
-fixd synth --width 16 --tries 0 smooth.fixd > plain.bundle
-diff <(fixd show plain.bundle) <(fixd show smooth.bundle) > /dev/null && echo "two bundles: alike" || echo "two bundles: compared"
-
 # on a device: the example's text and page are those of its bundle
 cp "$average"/average.bundle .
 fixd rust average.bundle | same "the device's text" - "$device/src/filter.rs"
 fixd run average.bundle < "$device/tests/rows.csv" | same "the device's page" - "$device/tests/rows.out"
 
-# the same from the source on, in a crate of its own: text, start word, points and page of another bundle
-mkdir device && (cd "$device" && cp -r Cargo.toml Cargo.lock src tests "$folder/device")
+# from the source on, in Rust and in C: here, and on emulated processors where these are there
 fixd synth --width 24 "$average/average.fixd" > other.bundle
-fixd rust other.bundle > device/src/filter.rs
-fixd run other.bundle < device/tests/rows.csv > device/tests/rows.out
-sed '1,/^program$/d; /^certificate$/q' other.bundle | grep -E '^(in|st) ' > points
-output=$(fixd show other.bundle | awk '$2 ~ /^copy/ && !seen++ { print $3 }')
-sed -i "s/INPUT_POINT: u32 = .*;/INPUT_POINT: u32 = $(awk '$1 == "in" { print $3 }' points);/; s/OUTPUT_POINT: u32 = .*;/OUTPUT_POINT: u32 = $output;/
-    s/START: \[i64; 1\] = .*;/START: [i64; 1] = [$(awk '$1 == "st" { print $4 }' points)];/" device/src/lib.rs
 if command -v cargo > /dev/null; then
-  (cd device && cargo test --quiet --offline > ../cargo.log 2>&1) && echo "a crate by another bundle: as it should be" || wrong "a crate by another bundle"
-  cp "$average"/average.bundle . && cp -r "$device/src" "$device/tests" device
-  (cd device && cargo test --quiet --offline > ../cargo.log 2>&1) && echo "the device's crate: as it should be" || wrong "the device's crate"
+  "$companion/fixd-tools" --fixd "$program" device other.bundle --to device_rust > device.log
+  device_rust/test-here.sh > cargo.log 2>&1 && echo "a crate: as it should be" || wrong "a crate"
+  device_rust/test-emulated.sh || [ $? = 77 ] || wrong "a crate on an emulated processor"
 else
   echo "cargo isn't installed: left out"
 fi
-
-# in C
-if command -v gcc > /dev/null; then
-  "$tools/rust-to-c" --fixd "$program" average.bundle > average.c
-  "$tools/rust-to-c" --fixd "$program" --header average.bundle > average.h
-  sed -n '/^    #include "average.h"$/,/^    END$/p' "$pages/recipes.md" | sed '$d; s/^    //' > main.c
-  gcc -std=c99 -Wall -Wextra -Werror -O2 average.c main.c -o average
-  awk -F, 'NR > 1 { word = int($2 * 4096); print word - (word > $2 * 4096) }' device/tests/rows.csv | ./average > words
-  fixd run average.bundle < device/tests/rows.csv | awk 'NR > 1 { print $1 * 4096 }' | same "in C" - words
+if command -v cc > /dev/null && "$companion/fixd-tools" --fixd "$program" device other.bundle --to device_c --language c > device.log; then
+  device_c/test-here.sh > cc.log 2>&1 && echo "in C: as it should be" || wrong "in C"
+  device_c/test-emulated.sh || [ $? = 77 ] || wrong "C on an emulated processor"
 else
-  echo "gcc isn't installed: left out"
+  echo "cc or fixd-c isn't there: left out"
 fi
 
 # statuses
@@ -180,12 +168,6 @@ fixd synth --width 16 q.fixd 2> bad.line || status=$?
 [ "$status" = 9 ] && [ "$(cat bad.line)" = "fixd: not found: node 2" ] && echo "nothing found: as it should be" || wrong "nothing found: as it should be"
 
 # where a fault stands
-at() {
-  line=$(head -c "$2" "$1" | wc -l)
-  column=$(head -c "$2" "$1" | tail -n +$((line + 1)) | wc -c)
-  sed -n "$((line + 1))p" "$1"; printf '%*s^\n' "$column" ''
-}
 printf 'def f(x: Real): Real = {\n  require(0 <= x && x <= 1)\n  x + y\n}\n' > f.fixd
-fixd synth --width 16 f.fixd 2> bad.line || true
-[ "$(cat bad.line)" = "fixd: source: UnknownName at byte 59" ]
-[ "$(at f.fixd 59)" = "$(printf '  x + y\n      ^')" ] && echo "a caret: as it should be" || wrong "a caret: as it should be"
+"$companion/fixd-tools" --fixd "$program" explain synth --width 16 f.fixd 2> told || true
+grep -q "^f.fixd:3:7: nothing above is called 'y'\$" told && echo "a caret: as it should be" || wrong "a caret: as it should be"

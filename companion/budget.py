@@ -160,8 +160,11 @@ def filter_parts(bundle, judge, pushes, direct, j):
     if any(slopes[push.node][0] != slopes[push.node][1] for slopes in [*through, direct] for push in pushes):
         return None
     columns = [[slopes[push.node][0] for slopes in through] for push in pushes]
-    offs = [word_value(code.numbers[2], code.point) - state.start for code, state in zip(bundle.state_codes(), judge.made.states)]
-    sums = responses(system.A, system.C[j], columns + [[off if k == i else Fraction(0) for i in range(bundle.states)] for k, off in enumerate(offs) if off])
+    offs = [word_value(code.numbers[2], code.point) - state.start
+            for code, state in zip(bundle.state_codes(), judge.made.states)]
+    sums = responses(system.A, system.C[j],
+                     columns + [[off if k == i else Fraction(0) for i in range(bundle.states)]
+                                for k, off in enumerate(offs) if off])
     if not all(it.settled for it in sums):
         return None
     parts = []
@@ -186,7 +189,8 @@ def budgets_of(bundle: Bundle, judge: Judge) -> list:
             parts = [Part(push.label, times(direct[push.node], push.ends)) for push in pushes]
             if bundle.states:
                 how = "of one row, with what the states are off before it as parts of their own: it isn't linear in its states"
-                parts += [Part(f"what {it.name} is off before", times(direct[bundle.inputs + k], bundle.lines[bundle.inputs + k].error))
+                parts += [Part(f"what {it.name} is off before",
+                               times(direct[bundle.inputs + k], bundle.lines[bundle.inputs + k].error))
                           for k, it in enumerate(judge.made.states)]
         found.append(Budget(judge.made.outputs[j].name, parts, bundle.lines[top].error, how))
     return found

@@ -8,7 +8,8 @@ from .exact import read_pair
 from .fixd import Trouble
 
 SHIFTS = {"add": 2, "sub": 2, "mul": 1, "mulr": 1, "div": 1, "copy": 1, "copyr": 1}
-OPERANDS = {"in": 0, "st": 0, "const": 0, "neg": 1, "add": 2, "sub": 2, "mul": 2, "mulr": 2, "div": 2, "copy": 1, "copyr": 1}
+OPERANDS = {"in": 0, "st": 0, "const": 0, "neg": 1, "add": 2, "sub": 2, "mul": 2, "mulr": 2, "div": 2, "copy": 1,
+            "copyr": 1}
 
 
 @dataclass(frozen=True)
@@ -96,7 +97,8 @@ class Bundle:
 
     def bounds(self) -> list:
         """What the certificate says of each output's error: the greater of the two sides."""
-        return [max(abs(end) for end in line.error) for line in self.lines[self.first_output:self.first_output + self.outputs]]
+        return [max(abs(end) for end in line.error)
+                for line in self.lines[self.first_output:self.first_output + self.outputs]]
 
 
 class Fields:
@@ -150,7 +152,8 @@ def code_of(text: str, before: list) -> Code:
 
 def template_of(fields: Fields, state: int, states: int) -> Template:
     """Returns the template of a line `box` or `row`."""
-    coefficients = [Fraction(int(k == state)) for k in range(states)] if fields.word() == "box" else [fields.number() for _ in range(states)]
+    coefficients = [Fraction(int(k == state)) for k in range(states)] if fields.word() == "box" else [fields.number()
+        for _ in range(states)]
     return Template(coefficients, fields.ends(), fields.shares())
 
 
@@ -184,7 +187,8 @@ def parsed(data: bytes) -> Bundle:
     if not is_bundle(data) or lines[0] != "program":
         raise ValueError
     inputs, states, outputs, codes = map(int, lines[4].split()[1:])
-    made = Bundle(int(head.split()[2]), rest[:count], int(lines[2].split()[1]), lines[3].split()[1], inputs, states, outputs, [])
+    made = Bundle(int(head.split()[2]), rest[:count], int(lines[2].split()[1]), lines[3].split()[1], inputs, states,
+                  outputs, [])
     for text in lines[5:5 + codes]:
         made.codes.append(code_of(text, made.codes))
     read_certificate(made, lines[5 + codes:])

@@ -25,13 +25,18 @@ by a script, on an emulated Cortex-M0 and M4, and a page that says what is prove
 def add_to(parser) -> None:
     """Adds this subcommand's words."""
     parser.add_argument("bundle", metavar="BUNDLE")
-    parser.add_argument("--to", required=True, metavar="DIR", help="the folder that is written; it has to be new or empty, or one that this wrote before")
+    parser.add_argument("--to", required=True, metavar="DIR",
+                        help="the folder that is written; it has to be new or empty, or one that this wrote before")
     parser.add_argument("--language", choices=["rust", "c"], default="rust", help="rust (default) or c")
-    parser.add_argument("--rows", metavar="ROWS", help="rows of the test, as a file for 'fixd run' (default: 1,000 rows at random, with the ends of each range)")
+    parser.add_argument("--rows", metavar="ROWS",
+                        help="rows of the test, as a file for 'fixd run' (default: 1,000 rows at random, with the ends "
+                             "of each range)")
     parser.add_argument("--count", type=int, default=1000, metavar="N", help="how many rows at random (default: 1000)")
     parser.add_argument("--converter", action="append", default=[], metavar="INPUT=LOW:HIGH:STEPS",
-                        help="the converter before an input: reading 0 is the value LOW, reading STEPS is HIGH (default: the input's range in 4096 steps)")
-    parser.add_argument("--fixd-c", metavar="PROGRAM", help="the program that prints C (default: fixd-c beside fixd, else on PATH)")
+                        help="the converter before an input: reading 0 is the value LOW, reading STEPS is HIGH "
+                             "(default: the input's range in 4096 steps)")
+    parser.add_argument("--fixd-c", metavar="PROGRAM",
+                        help="the program that prints C (default: fixd-c beside fixd, else on PATH)")
 
 
 @dataclass
@@ -107,7 +112,8 @@ def converters(words: list, made) -> dict:
     for text in words:
         shape = re.fullmatch(r"(\w+)=(-?[\d.]+):(-?[\d.]+):(\d+)", text)
         if not shape or int(shape[4]) < 1 or shape[1] not in known:
-            raise Trouble(f"--converter {text}: it is INPUT=LOW:HIGH:STEPS, as {made.inputs[0].name}=-1:1:4096; inputs are {', '.join(sorted(known))}")
+            raise Trouble(f"--converter {text}: it is INPUT=LOW:HIGH:STEPS, as {made.inputs[0].name}=-1:1:4096; inputs "
+                          f"are {', '.join(sorted(known))}")
         found[shape[1]] = Fraction(shape[2]), Fraction(shape[3]), int(shape[4])
     return found
 
@@ -120,8 +126,10 @@ def plan_of(fixd: Fixd, words) -> Plan:
     for it, code in zip(made.inputs, bundle.input_codes()):
         low, high, steps = named.get(it.name, (it.lo, it.hi, 4096))
         ends = it.lo - it.off, it.hi + it.off
-        text = f"{as_decimal(it.lo)} to {as_decimal(it.hi)}" + (f", given to within {as_decimal(it.off)}" if it.off else "")
-        inputs.append(Input(it.name, code.point, *(floor_at(end, code.point) for end in ends), text, low, high, steps, ends))
+        text = f"{as_decimal(it.lo)} to {as_decimal(it.hi)}" + (f", given to within {as_decimal(it.off)}" if it.off
+            else "")
+        inputs.append(Input(it.name, code.point, *(floor_at(end, code.point) for end in ends), text, low, high, steps,
+                            ends))
     states = [(it.name, code.numbers[2], code.point) for it, code in zip(made.states, bundle.state_codes())]
     outputs = [Output(it.name, point, bound) for it, point, bound in zip(made.outputs, bundle.output_points(), bounds)]
     label_all([*inputs, *outputs])
@@ -131,7 +139,8 @@ def plan_of(fixd: Fixd, words) -> Plan:
     given_words = [[floor_at(value, it.point) for value, it in zip(row, inputs)] for row in values]
     rows = [(given, [int(Fraction(text) * Fraction(2) ** out.point) for text, out in zip(line.split(","), outputs)])
             for given, line in zip(given_words, answers.decode().splitlines()[1:])]
-    return Plan(bundle.name, bundle.width, inputs, states, outputs, rows, values, f"{bundle.name}, width {bundle.width}", csv, answers, fixd.standing())
+    return Plan(bundle.name, bundle.width, inputs, states, outputs, rows, values,
+                f"{bundle.name}, width {bundle.width}", csv, answers, fixd.standing())
 
 
 def label_all(named: list) -> None:
@@ -153,7 +162,8 @@ def random_rows(inputs: list, count: int) -> bytes:
         for it in inputs:
             low, high = it.ends
             low, high = -(-low * 10 ** 9 // 1), high * 10 ** 9 // 1
-            value = (low, high)[k // 2 % 2] if k % 7 < 2 and low <= high else chance.randint(int(low), int(high)) if low <= high else 0
+            value = (low, high)[k // 2 % 2] if k % 7 < 2 and low <= high else chance.randint(int(low),
+                int(high)) if low <= high else 0
             fields.append(as_decimal(Fraction(int(value), 10 ** 9)) if low <= high else as_decimal(it.ends[0]))
         lines.append(",".join(fields))
     return ("\n".join(lines) + "\n").encode()
@@ -187,7 +197,8 @@ def c_program(named: str, fixd: Fixd) -> str:
     for path in ([named] if named else [beside, shutil.which("fixd-c") or ""]):
         if path and os.path.isfile(path) and os.access(path, os.X_OK):
             return os.path.abspath(path)
-    raise Trouble(f"no program 'fixd-c' was found{f' at {named}' if named else ' beside fixd or on PATH'}: 'make run' in the repository builds it; name it by --fixd-c PROGRAM")
+    raise Trouble(f"no program 'fixd-c' was found{f' at {named}' if named else ' beside fixd or on PATH'}: 'make run' "
+                  "in the repository builds it; name it by --fixd-c PROGRAM")
 
 
 def c_texts(program: str, bundle: str) -> tuple:
@@ -196,7 +207,8 @@ def c_texts(program: str, bundle: str) -> tuple:
     for words in ([bundle], ["--header", bundle]):
         ran = subprocess.run([program, *words], capture_output=True, check=False)
         if ran.returncode:
-            raise Trouble(f"'{os.path.basename(program)} {' '.join(words)}' ended with status {ran.returncode}: {ran.stderr.decode('utf-8', 'replace').strip()}")
+            raise Trouble(f"'{os.path.basename(program)} {' '.join(words)}' ended with status {ran.returncode}: "
+                          f"{ran.stderr.decode('utf-8', 'replace').strip()}")
         texts.append(ran.stdout.decode())
     return tuple(texts)
 
@@ -220,7 +232,8 @@ def run(words) -> int:
         path.write_text(text, encoding="utf-8")
         if name.endswith(".sh"):
             path.chmod(path.stat().st_mode | stat.S_IXUSR | stat.S_IXGRP | stat.S_IXOTH)
-    print(f"{words.to}: {len(files) + 3} files, {len(plan.rows)} rows to test\non this machine: {words.to}/test-here.sh\nemulated:        {words.to}/test-emulated.sh")
+    print(f"{words.to}: {len(files) + 3} files, {len(plan.rows)} rows to test\non this machine: "
+          f"{words.to}/test-here.sh\nemulated:        {words.to}/test-emulated.sh")
     for it in plan.outputs:
         print(f"{it.name}: word / 2^{it.point}, within {dyadic(it.bound)} of the exact value")
     return 0

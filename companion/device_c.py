@@ -14,7 +14,8 @@ def files_of(plan, source: str, header: str) -> dict:
     """Returns the files of the folder."""
     name = plan.name
     return {
-        f"{name}.c": source, f"{name}.h": header, f"{name}_device.h": device_header(plan, header), "test.c": test(plan), "rows.h": rows(plan),
+        f"{name}.c": source, f"{name}.h": header, f"{name}_device.h": device_header(plan, header), "test.c": test(plan),
+        "rows.h": rows(plan),
         "emulated/start.c": START, "emulated/link.ld": LINKER,
         "test-here.sh": f"""#!/bin/sh
 # the rows on this machine, with what C leaves open trapped where the compiler can
@@ -30,8 +31,11 @@ ${{CC:-cc}} -std=c99 -Wall -Wextra -O2 -o build/plain test.c {name}.c && build/p
 
 def use_of(plan) -> list:
     name, one = plan.name, plan.inputs[0]
-    return ["**To use it**, compile `" + name + ".c` and include `" + name + "_device.h`:", "", "```c", f"{name}_device filter;", f"{name}_device_reset(&filter);",
-            f"{name}_word input[FIXD_{name.upper()}_INPUTS] = {{{', '.join(f'{name}_word_of_reading_{it.name}(reading)' for it in plan.inputs)}}};   /* or .._word_of_decimal_{one.name}(digits, places) */",
+    return ["**To use it**, compile `" + name + ".c` and include `" + name + "_device.h`:", "", "```c",
+            f"{name}_device filter;", f"{name}_device_reset(&filter);",
+            f"{name}_word input[FIXD_{name.upper()}_INPUTS] = "
+            f"{{{', '.join(f'{name}_word_of_reading_{it.name}(reading)' for it in plan.inputs)}}};   /* or "
+            f".._word_of_decimal_{one.name}(digits, places) */",
             f"{name}_word output[FIXD_{name.upper()}_OUTPUTS];", f"{name}_device_step(&filter, input, output);", "```"]
 
 
@@ -50,17 +54,22 @@ def device_header(plan, header: str) -> str:
         raise Trouble(f"the header that fixd-c printed declares no fixd_{name}_step: is it another version?")
     big = f"FIXD_{name.upper()}"
     state = "device->state, " if "state" in step else ""
-    lines = [f"/* {plan.header}: one struct with reset and step, and the words of inputs. By fixd-tools device; README.md says what is proved. */",
-             f"#ifndef {big}_DEVICE_H", f"#define {big}_DEVICE_H", "", "#include <stdint.h>", f'#include "{name}.h"', "",
-             f"typedef {kind[1]} {name}_word;", "", "/* the states: one struct for each signal */", f"typedef struct {{ {name}_word state[{max(1, len(plan.states))}]; }} {name}_device;", ""]
+    lines = [f"/* {plan.header}: one struct with reset and step, and the words of inputs. By fixd-tools device; "
+             "README.md says what is proved. */",
+             f"#ifndef {big}_DEVICE_H", f"#define {big}_DEVICE_H", "", "#include <stdint.h>", f'#include "{name}.h"',
+             "",
+             f"typedef {kind[1]} {name}_word;", "", "/* the states: one struct for each signal */",
+             f"typedef struct {{ {name}_word state[{max(1, len(plan.states))}]; }} {name}_device;", ""]
     reset_line = f"    fixd_{name}_reset(device->state);" if "state" in reset else "    (void)device;"
     lines += [f"static inline void {name}_device_reset({name}_device *device) {{", reset_line, "}", ""]
     for k, it in enumerate(plan.inputs):
         lines += input_functions(name, big, k, it)
     held = [f"    held[{k}] = {name}_hold_{it.name}(input[{k}]);" for k, it in enumerate(plan.inputs)]
     lines += ["/* a step: each word is held to the range of its input first, since nothing is certified of others */",
-              f"static inline void {name}_device_step({name}_device *device, const {name}_word input[{len(plan.inputs)}], {name}_word output[{len(plan.outputs)}]) {{",
-              f"    {name}_word held[{len(plan.inputs)}];", *held, *([] if state else ["    (void)device;"]), f"    fixd_{name}_step({state}held, output);", "}", "", "#endif", ""]
+              f"static inline void {name}_device_step({name}_device *device, const {name}_word "
+              f"input[{len(plan.inputs)}], {name}_word output[{len(plan.outputs)}]) {{",
+              f"    {name}_word held[{len(plan.inputs)}];", *held, *([] if state else ["    (void)device;"]),
+              f"    fixd_{name}_step({state}held, output);", "}", "", "#endif", ""]
     return "\n".join(lines)
 
 
@@ -73,23 +82,34 @@ def input_functions(name: str, big: str, k: int, it) -> list:
     a, b, d = it.reading()
     bits = 31 if abs(a) + (abs(b) << 31) < 2 ** 62 else 16
     if not has_readings(it):
-        reading = [f"/* no function makes a word of a reading of {it.name}: its numbers leave 64 bits; take another converter's range */", ""]
+        reading = [f"/* no function makes a word of a reading of {it.name}: its numbers leave 64 bits; take another "
+                   "converter's range */", ""]
     else:
         kind = "int32_t" if bits == 31 else "int16_t"
-        reading = [f"/* the word of a reading of the converter of {it.name}, held to the range: reading 0 is {float(it.low):g}, reading {it.steps} is {float(it.high):g} */",
-                   f"static inline {name}_word {name}_word_of_reading_{it.name}({kind} reading) {{", f"    const int64_t top = {literal(a)} + {literal(b)} * reading;",
-                   f"    const int64_t low = top / {literal(d)} - (top % {literal(d)} < 0);", f"    return {name}_hold_{it.name}(low);", "}", ""]
+        reading = [f"/* the word of a reading of the converter of {it.name}, held to the range: reading 0 is "
+                   f"{float(it.low):g}, reading {it.steps} is {float(it.high):g} */",
+                   f"static inline {name}_word {name}_word_of_reading_{it.name}({kind} reading) {{",
+                   f"    const int64_t top = {literal(a)} + {literal(b)} * reading;",
+                   f"    const int64_t low = top / {literal(d)} - (top % {literal(d)} < 0);",
+                   f"    return {name}_hold_{it.name}(low);", "}", ""]
     top = -(-it.ends[1].numerator // it.ends[1].denominator)
     low = it.ends[0].numerator // it.ends[0].denominator
     least, greatest = literal(it.least), literal(it.greatest)
     shift = f"    return {name}_hold_{it.name}(word);" if it.point >= 0 else f"    return {name}_hold_{it.name}(word >= 0 ? word >> {-it.point} : -1 - ((-1 - word) >> {-it.point}));"
-    return [f"/* holds a word of {it.name}, {it.text}, to the range */", f"static inline {name}_word {name}_hold_{it.name}(int64_t word) {{",
-            f"    return ({name}_word)(word < {least} ? {least} : word > {greatest} ? {greatest} : word);", "}", "", *reading,
-            f"/* the word of the decimal digits / 10^places of {it.name}, held to the range; places above 18 count as 18 */",
-            f"static inline {name}_word {name}_word_of_decimal_{it.name}(int64_t digits, unsigned places) {{", "    int64_t ten = 1, word, rest;", "    unsigned k;",
-            "    for (k = 0; k < places && k < 18; k++) ten *= 10;", "    word = digits / ten;", "    rest = digits % ten;", "    if (rest < 0) { rest += ten; word--; }",
-            f"    if (word < {literal(low)}) return {name}_hold_{it.name}({least});", f"    if (word > {literal(top)}) return {name}_hold_{it.name}({greatest});",
-            f"    for (k = 0; k < {max(0, it.point)}; k++) {{", "        word *= 2;", "        rest *= 2;", "        if (rest >= ten) { rest -= ten; word++; }", "    }", shift, "}", ""]
+    return [f"/* holds a word of {it.name}, {it.text}, to the range */",
+            f"static inline {name}_word {name}_hold_{it.name}(int64_t word) {{",
+            f"    return ({name}_word)(word < {least} ? {least} : word > {greatest} ? {greatest} : word);", "}", "",
+            *reading,
+            f"/* the word of the decimal digits / 10^places of {it.name}, held to the range; places above 18 count as "
+            "18 */",
+            f"static inline {name}_word {name}_word_of_decimal_{it.name}(int64_t digits, unsigned places) {{",
+            "    int64_t ten = 1, word, rest;", "    unsigned k;",
+            "    for (k = 0; k < places && k < 18; k++) ten *= 10;", "    word = digits / ten;",
+            "    rest = digits % ten;", "    if (rest < 0) { rest += ten; word--; }",
+            f"    if (word < {literal(low)}) return {name}_hold_{it.name}({least});",
+            f"    if (word > {literal(top)}) return {name}_hold_{it.name}({greatest});",
+            f"    for (k = 0; k < {max(0, it.point)}; k++) {{", "        word *= 2;", "        rest *= 2;",
+            "        if (rest >= ten) { rest -= ten; word++; }", "    }", shift, "}", ""]
 
 
 def has_readings(it) -> bool:
@@ -111,9 +131,12 @@ def c_word(word: int) -> str:
 def test(plan) -> str:
     """Returns the test of the rows, for this machine and for an emulated one."""
     name, inputs, outputs = plan.name, len(plan.inputs), len(plan.outputs)
-    checks = [f"    if ({name}_word_of_decimal_{it.name}({literal(digits)}, {places}) != {c_word(word)}) return differs(\"a decimal\");"
-              for (given, _), row in list(zip(plan.rows, plan.values))[:50] for it, word, (digits, places) in zip(plan.inputs, given, map(decimal_of, row))]
-    checks += [f"    if ({name}_word_of_reading_{it.name}({reading}) != {c_word(word)}) return differs(\"a reading\");" for it in plan.inputs if has_readings(it)
+    checks = [f"    if ({name}_word_of_decimal_{it.name}({literal(digits)}, {places}) != {c_word(word)}) return "
+              "differs(\"a decimal\");"
+              for (given, _), row in list(zip(plan.rows, plan.values))[:50] for it, word,
+              (digits, places) in zip(plan.inputs, given, map(decimal_of, row))]
+    checks += [f"    if ({name}_word_of_reading_{it.name}({reading}) != {c_word(word)}) return differs(\"a reading\");"
+               for it in plan.inputs if has_readings(it)
                for reading, word in it.readings()]
     checks = "\n".join(checks)
     return f"""/* the rows of rows.csv come out as 'fixd run' printed them */

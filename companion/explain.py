@@ -21,8 +21,10 @@ HELP = "run 'fixd WORDS', and explain how it ends"
 DESCRIPTION = """Runs 'fixd WORDS' with this input and output, and ends with its status. Its line on the error stream is told with the place in the file, what was
 expected there and how it is mended. Of 'not found' it searches on: without the demands, with the other rounding and in wider words."""
 SHAPES = {
-    1: r"rejected: (?P<kind>\w+) at (?P<part>\w+) (?P<index>\d+)", 3: r"source: (?P<kind>\w+) at byte (?P<at>\d+)", 4: r"bundle: (?P<kind>\w+) at line (?P<line>\d+)",
-    5: r"row: (?P<kind>\w+) at line (?P<line>\d+)(?: column (?P<name>\w+))?", 9: r"not found: (?P<what>\w+) (?P<index>\d+)",
+    1: r"rejected: (?P<kind>\w+) at (?P<part>\w+) (?P<index>\d+)", 3: r"source: (?P<kind>\w+) at byte (?P<at>\d+)",
+    4: r"bundle: (?P<kind>\w+) at line (?P<line>\d+)",
+    5: r"row: (?P<kind>\w+) at line (?P<line>\d+)(?: column (?P<name>\w+))?",
+    9: r"not found: (?P<what>\w+) (?P<index>\d+)",
 }
 WINDOW = 1 << 22
 
@@ -31,7 +33,8 @@ def add_to(parser) -> None:
     """Adds this subcommand's words."""
     parser.add_argument("--json", action="store_true", help="tell the findings as JSON on the error stream")
     parser.add_argument("--no-search", action="store_true", help="of 'not found', don't search on")
-    parser.add_argument("words", nargs="...", metavar="WORDS", help="the words of a call of fixd, as: synth --width 16 f.fixd")
+    parser.add_argument("words", nargs="...", metavar="WORDS",
+                        help="the words of a call of fixd, as: synth --width 16 f.fixd")
 
 
 class Kept:
@@ -131,7 +134,8 @@ def run(words) -> int:
     sys.stderr.flush()
     found = findings(fixd, call, words, status, notes, kept)
     if words.json:
-        print(json.dumps({"status": status, "line": notes.strip(), "findings": [it.as_value() for it in found]}, ensure_ascii=False), file=sys.stderr)
+        print(json.dumps({"status": status, "line": notes.strip(), "findings": [it.as_value() for it in found]},
+                         ensure_ascii=False), file=sys.stderr)
     else:
         for it in found:
             it.print_to(sys.stderr)
@@ -159,7 +163,8 @@ def findings(fixd, call, words, status: int, notes: str, kept: Kept) -> list:
 
 def explained(fixd, call, words, status: int, said: dict, kept: Kept) -> Told:
     if status == 1:
-        return explain_bundle.of_rejected(call.file, readable(call.file), said["kind"], said["part"], int(said["index"]))
+        return explain_bundle.of_rejected(call.file, readable(call.file), said["kind"], said["part"],
+                                          int(said["index"]))
     if status == 3:
         return source_told(call, said["kind"], int(said["at"]))
     if status == 4:
@@ -170,13 +175,17 @@ def explained(fixd, call, words, status: int, said: dict, kept: Kept) -> Told:
         return explain_words.of_file(call.file)
     if status == 9 and not words.no_search:
         return explain_search.told(fixd, call.file, call, said["what"], int(said["index"]))
-    return Told(*OTHERS.get(status, (f"status {status}: no line is known for it",))[:1], hints=list(OTHERS.get(status, ("",))[1:]))
+    return Told(*OTHERS.get(status, (f"status {status}: no line is known for it",))[:1],
+                hints=list(OTHERS.get(status, ("",))[1:]))
 
 
-OTHERS = {7: ("the output is full or closed", "make room, or read the output to its end, and run again: what was printed is right"),
-          8: ("there wasn't enough memory", "raise the limit (ulimit -v), or end other programs; a great bundle takes some times its size"),
+OTHERS = {7: ("the output is full or closed",
+              "make room, or read the output to its end, and run again: what was printed is right"),
+          8: ("there wasn't enough memory",
+              "raise the limit (ulimit -v), or end other programs; a great bundle takes some times its size"),
           9: ("nothing was found", "run it without --no-search to see what is"),
-          10: ("FILE or the input is too long: a source has at most 1,048,576 bytes, a bundle 67,108,864, an input 1,099,511,627,776",
+          10: ("FILE or the input is too long: a source has at most 1,048,576 bytes, a bundle 67,108,864, an input "
+               "1,099,511,627,776",
                "cut the input into parts, each with its header; of a program with state only where a run starts")}
 
 
@@ -188,7 +197,8 @@ def source_told(call, kind: str, at: int) -> Told:
             name = parsed(data).name + ".fixd"
         except (ValueError, IndexError):
             name = "f.fixd"
-        return Told(f"'{call.file}' is a bundle, not a source", hints=[f"its source is the lines behind the second: tail -n +3 {call.file} begins with it; "
+        return Told(f"'{call.file}' is a bundle, not a source",
+                    hints=[f"its source is the lines behind the second: tail -n +3 {call.file} begins with it; "
                     f"count=$(sed -n '2s/source //p' {call.file}); tail -n +3 {call.file} | head -c $count > {name}"])
     if call.command == "synth":
         return explain_source.told(data, kind, at, call.file, call.options.get("--function"))
@@ -211,7 +221,8 @@ def rows_name() -> str:
         path = os.readlink("/proc/self/fd/0")
     except OSError:
         return "rows"
-    return (os.path.relpath(path) if len(os.path.relpath(path)) < len(path) else path) if os.path.isfile(path) else "rows"
+    return (os.path.relpath(path) if len(os.path.relpath(path)) < len(path)
+            else path) if os.path.isfile(path) else "rows"
 
 
 def row_told(call, said: dict, kept: Kept) -> Told:
@@ -222,7 +233,8 @@ def row_told(call, said: dict, kept: Kept) -> Told:
         rows.header_line, rows.header = first[0], text_of(first[1])
     line = kept.line(number)
     if line is not None and line.startswith((b"\xff\xfe", b"\xfe\xff")):
-        return Told("the rows are UTF-16, and have to be UTF-8", rows_name(), 1, hints=["iconv -f UTF-16 -t UTF-8 ROWS > NEW"])
+        return Told("the rows are UTF-16, and have to be UTF-8", rows_name(), 1,
+                    hints=["iconv -f UTF-16 -t UTF-8 ROWS > NEW"])
     rows.number, rows.line = number, None if line is None else text_of(line)
     if first is None:
         rows.header = None

@@ -7,26 +7,32 @@ from .inequalities import Judge
 from .sources import Fault, function_of, text_of
 from .told import Told
 
-KINDS = {"Section": "one of the lines that part a bundle should stand here", "BadLine": "this line isn't the one that is due, or has a field too few or too many",
+KINDS = {"Section": "one of the lines that part a bundle should stand here",
+         "BadLine": "this line isn't the one that is due, or has a field too few or too many",
          "BadNumber": "a number isn't in its one spelling: no '+', no needless zero, dyadics as m:e with m odd or e 0",
-         "OutOfRange": "a number is outside what it may be", "TooMany": "a count is over its limit", "Extra": "something stands behind 'end'"}
+         "OutOfRange": "a number is outside what it may be", "TooMany": "a count is over its limit",
+         "Extra": "something stands behind 'end'"}
 WHOLE = "copy the file whole, as bytes, from where 'fixd synth' wrote it; or make it anew from its source"
 
 
 def of_text(path: str, data: bytes, kind: str, line: int) -> Told:
     """Returns what there is to say of a file that is no bundle."""
     if not data.strip():
-        return Told(f"'{path}' is empty", hints=["a 'fixd synth .. > FILE' that finds nothing leaves it so: write to another name and move it, "
+        return Told(f"'{path}' is empty",
+                    hints=["a 'fixd synth .. > FILE' that finds nothing leaves it so: write to another name and move "
+                           "it, "
                                                 "fixd synth .. > new && mv new FILE"])
     if not is_bundle(data):
         return of_other(path, data)
     if data.startswith(b"fixd bundle 1\r\n") or data.startswith(b"fixd bundle 2\r\n"):
-        return Told("lines end by CR LF, and those of a bundle by LF alone", path, 1, hints=[f"tr -d '\\r' < {path} > NEW, if its source had none; " + WHOLE])
+        return Told("lines end by CR LF, and those of a bundle by LF alone", path, 1,
+                    hints=[f"tr -d '\\r' < {path} > NEW, if its source had none; " + WHOLE])
     lines = data.split(b"\n")
     text = lines[line - 1].decode("utf-8", "replace") if 0 < line <= len(lines) else ""
     hints = [WHOLE]
     if kind == "Section" and line == 2:
-        hints.insert(0, "the count behind 'source' isn't the source's length in bytes: was the source edited within the bundle? Edit it outside, and make the bundle anew")
+        hints.insert(0, "the count behind 'source' isn't the source's length in bytes: was the source edited within "
+                        "the bundle? Edit it outside, and make the bundle anew")
     if kind == "BadLine" and text.startswith(("mulr", "copyr")):
         hints.insert(0, "'mulr' and 'copyr' stand in version 2 alone: fixd migrate turns a bundle into one")
     notes = [] if text or line <= len(lines) and line else ["the text ends before"]
@@ -37,8 +43,10 @@ def of_other(path: str, data: bytes) -> Told:
     """Returns what a file is, where it isn't a bundle."""
     new = path.rsplit(".", 1)[0] + ".bundle"
     if looks_like_source(data):
-        return Told(f"'{path}' is a source, not a bundle", hints=[f"make its bundle first: fixd synth --width 16 {path} > {new}"])
-    return Told(f"'{path}' isn't a bundle: its first line isn't 'fixd bundle 1'", hints=["a bundle is what 'fixd synth --width 16 FILE.fixd > FILE.bundle' writes"])
+        return Told(f"'{path}' is a source, not a bundle",
+                    hints=[f"make its bundle first: fixd synth --width 16 {path} > {new}"])
+    return Told(f"'{path}' isn't a bundle: its first line isn't 'fixd bundle 1'",
+                hints=["a bundle is what 'fixd synth --width 16 FILE.fixd > FILE.bundle' writes"])
 
 
 def looks_like_source(data: bytes) -> bool:
@@ -62,7 +70,8 @@ def of_rejected(path: str, data: bytes, kind: str, part: str, index: int) -> Tol
     """Returns what there is to say of a bundle that isn't accepted."""
     head = f"the condition {kind} at {part} {index} fails: the certificate doesn't hold, which doesn't say that the program is unsafe"
     made = Told(head, path, hints=["a bundle that 'fixd synth' wrote is never rejected: make it anew from its source, "
-                                  "or look at docs/inequalities.md for what the condition asks and at docs/messages.md for what to change"])
+                                  "or look at docs/inequalities.md for what the condition asks and at docs/messages.md "
+                                  "for what to change"])
     try:
         bundle = parsed(data)
         source = function_of(bundle.source, bundle.name)

@@ -8,7 +8,8 @@ from dataclasses import dataclass
 from .exact import as_decimal, fits_a_literal, places_of, read_decimal
 from .told import Told, counted, listed
 
-MISSING_MARKS = {"", "nan", "na", "n/a", "null", "none", "inf", "-inf", "+inf", "infinity", "-infinity", "-", "--", "?", "missing", "undefined"}
+MISSING_MARKS = {"", "nan", "na", "n/a", "null", "none", "inf", "-inf", "+inf", "infinity", "-infinity", "-", "--", "?",
+                 "missing", "undefined"}
 DROP = "where the sensor has no value, drop such rows before the run (docs/recipes.md, 'Rows that may be bad'): nothing is certified of them"
 COMMA = "a decimal comma? the decimal point is a point, and commas part the fields: "
 
@@ -91,7 +92,8 @@ def of_missing(rows: Rows, name: str) -> Told:
     names = [it.name for it in rows.inputs] + (["unit"] if rows.command == "node" else [])
     if rows.line is None or rows.header is None and not rows.line.strip():
         return Told(f"there is no header: the input is empty, or has empty lines alone", "", rows.number,
-                    notes=[f"names of the inputs: {', '.join(names)}"], hints=["the first line names the columns, as " + ",".join(names)])
+                    notes=[f"names of the inputs: {', '.join(names)}"],
+                    hints=["the first line names the columns, as " + ",".join(names)])
     line, fields = rows.line, fields_of(rows.line)
     shown = [field.text for field in fields]
     head = f"no column is called '{name}'"
@@ -104,7 +106,8 @@ def of_missing(rows: Rows, name: str) -> Told:
     elif all(read_decimal(text) is not None for text in shown):
         hints = [f"the first line holds numbers: a header has to stand before them, as: sed '1i {','.join(names)}' ROWS"]
     else:
-        like = [text for text in shown if text.lower() == name.lower()] or difflib.get_close_matches(name, shown, 1, 0.6)
+        like = [text for text in shown if text.lower() == name.lower()] or difflib.get_close_matches(name, shown, 1,
+            0.6)
         hints = [f"is '{like[0]}' meant? capitals count: sed '1s/\\b{like[0]}\\b/{name}/' ROWS"] if like else [f"name the column of this input '{name}'"]
         quoted = [text for text in shown if '"' in text]
         hints += ["a quote counts as such only where the field begins with it"] if quoted else []
@@ -125,7 +128,8 @@ def separator_of(line: str, names: list):
 def of_twice(rows: Rows, name: str) -> Told:
     fields = [field for field in fields_of(rows.line or "") if field.text == name]
     second = fields[1] if len(fields) > 1 else Field(name, 1, 1)
-    return Told(f"{len(fields)} columns are called '{name}'", "", rows.number, second.column, rows.line or "", second.width,
+    return Told(f"{len(fields)} columns are called '{name}'", "", rows.number, second.column, rows.line or "",
+                second.width,
                 hints=["rename all but the one that is meant"])
 
 
@@ -134,10 +138,12 @@ def of_few(rows: Rows, name: str) -> Told:
     hints = ["fill the field in, or drop the row"]
     opened = next((field for field in fields if field.open_quote), None)
     if opened:
-        hints = [f"a quote opens at column {opened.column} and doesn't close, so that the commas behind it part nothing: close it or take it out"]
+        hints = [f"a quote opens at column {opened.column} and doesn't close, so that the commas behind it part "
+                 "nothing: close it or take it out"]
     elif separator_of(rows.line or "", []) and "," not in (rows.line or ""):
         hints = [separator_of(rows.line, [])]
-    return Told(f"the row ends before the column of '{name}': it has {counted(len(fields), 'field')}, and '{name}' is field {column + 1}", "",
+    return Told(f"the row ends before the column of '{name}': it has {counted(len(fields), 'field')}, and '{name}' is "
+                f"field {column + 1}", "",
                 rows.number, len(rows.line or "") + 1, rows.line or "", hints=hints)
 
 
@@ -147,7 +153,8 @@ def of_number(rows: Rows, name: str) -> Told:
     field = fields[column] if column < len(fields) else Field("", 1, 1)
     text, value = field.text, read_decimal(field.text)
     if field.open_quote:
-        return at_field(rows, name, column, f"a quote opens here and doesn't close, so that the field is '{text}'", "close the quote or take it out")
+        return at_field(rows, name, column, f"a quote opens here and doesn't close, so that the field is '{text}'",
+                        "close the quote or take it out")
     if not text:
         return at_field(rows, name, column, "the field is empty", "fill it in; " + DROP)
     if value is not None:
@@ -159,10 +166,12 @@ def too_long(text: str, value) -> tuple:
     places = places_of(value)
     if places > 18:
         return (f"{text} has {places} places behind the point, and 18 are the most",
-                f"cut or round it before the run, as to {as_decimal(round_to(value, 17))}, and declare what that costs as the input's error "
+                f"cut or round it before the run, as to {as_decimal(round_to(value, 17))}, and declare what that costs "
+                "as the input's error "
                 "(docs/recipes.md, 'Numbers of other tools')")
     return (f"{text} has too many digits: without its point a number is below 2^62, some 4.6e18",
-            f"round it to fewer places, as {as_decimal(round_to(value, max(0, 17 - len(str(int(abs(value)))))))}" if fits_a_literal(round_to(value, 0)) else "scale it, as metres to kilometres")
+            f"round it to fewer places, as {as_decimal(round_to(value, max(0, 17 - len(str(int(abs(value)))))))}"
+            if fits_a_literal(round_to(value, 0)) else "scale it, as metres to kilometres")
 
 
 def round_to(value, places):
@@ -206,24 +215,28 @@ def of_range(rows: Rows, name: str) -> Told:
     low, high = one.lo - one.off, one.hi + one.off
     widened = f" ({as_decimal(one.lo if value < low else one.hi)} widened by the error, {as_decimal(one.off)})" if one.off else ""
     side, end, by = ("below the least", low, low - value) if value < low else ("above the greatest", high, value - high)
-    hints = ["nothing is certified of such a value: hold readings to the range before the run, or give the input what its sensor can give in 'require', "
+    hints = ["nothing is certified of such a value: hold readings to the range before the run, or give the input what "
+             "its sensor can give in 'require', "
              "and make the bundle anew"]
     if abs(value) >= 99 and set(re.sub(r"\D", "", text)) == {"9"}:
         hints.insert(0, "this looks like a mark for a missing value: drop such rows")
     if len(fields) > len(fields_of(rows.header or "")):
         hints.insert(0, COMMA + f"this row has {len(fields)} fields, and the header {len(fields_of(rows.header or ''))}")
-    return at_field(rows, name, column, f"{text} is {side} value, {as_decimal(end)}{widened}, by {as_decimal(by)}", *hints)
+    return at_field(rows, name, column, f"{text} is {side} value, {as_decimal(end)}{widened}, by {as_decimal(by)}",
+                    *hints)
 
 
 def of_long_line(rows: Rows, name: str) -> Told:
     return Told("the line has more than 65,536 bytes", "", rows.number,
-                hints=["leave out columns that the function doesn't want, as by cut -d, -f1-8; where lines end by CR alone: tr '\\r' '\\n' < ROWS"])
+                hints=["leave out columns that the function doesn't want, as by cut -d, -f1-8; where lines end by CR "
+                       "alone: tr '\\r' '\\n' < ROWS"])
 
 
 def of_return(rows: Rows, name: str) -> Told:
     at = (rows.line or "").find("\r")
     return Told(f"a carriage return stands within the line", "", rows.number, at + 1, rows.line or "",
-                hints=["lines end by LF or by CR LF; where they end by CR alone: tr '\\r' '\\n' < ROWS; else take it out: tr -d '\\r' < ROWS"])
+                hints=["lines end by LF or by CR LF; where they end by CR alone: tr '\\r' '\\n' < ROWS; else take it "
+                       "out: tr -d '\\r' < ROWS"])
 
 
 def of_no_unit(rows: Rows, name: str) -> Told:
@@ -240,7 +253,8 @@ def of_unit(rows: Rows, name: str) -> Told:
     text = fields[column].text if column < len(fields) else ""
     why = f"'{text}' is no unit" if not re.fullmatch(r"\d+", text) else f"{text} is no unit"
     hints = [f"units are whole numbers from 0 to {rows.units - 1}, by --units {rows.units}"]
-    hints.append("raise --units, up to 1024" if re.fullmatch(r"\d{1,4}", text) else "number devices by their names on the way (docs/recipes.md, 'A thousand motors')")
+    hints.append("raise --units, up to 1024" if re.fullmatch(r"\d{1,4}", text)
+                 else "number devices by their names on the way (docs/recipes.md, 'A thousand motors')")
     return at_field(rows, "unit", column, why, *hints)
 
 
@@ -253,8 +267,10 @@ def of_surplus(where: str, number: int, line: str, header: str, more: int) -> To
         last = numbers[-1]
         hints = [COMMA + f"'{last}' is two of them; write {last.replace(',', '.')}", *hints]
     others = f"; so have {more} further rows" if more > 1 else "; so has one further row" if more == 1 else ""
-    return Told(f"{count} fields, and the header has {names}{others}: the row was taken all the same", where, number, 1, line, len(line), hints=hints)
+    return Told(f"{count} fields, and the header has {names}{others}: the row was taken all the same", where, number, 1,
+                line, len(line), hints=hints)
 
 
-MAKERS = {"MissingColumn": of_missing, "TwiceNamed": of_twice, "TooFew": of_few, "BadNumber": of_number, "OutOfRange": of_range, "LineTooLong": of_long_line,
+MAKERS = {"MissingColumn": of_missing, "TwiceNamed": of_twice, "TooFew": of_few, "BadNumber": of_number,
+          "OutOfRange": of_range, "LineTooLong": of_long_line,
           "StrayReturn": of_return, "NoUnitColumn": of_no_unit, "UnitTwice": of_unit_twice, "BadUnit": of_unit}

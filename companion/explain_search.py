@@ -33,9 +33,11 @@ def told(fixd: Fixd, path: str, call, what: str, index: int) -> Told:
     if not (made.states and is_unstable(made)):
         say_elsewhere(out, tries, data, made, width, rounding)
     if made.demands() and reached is not None:
-        out.hints.insert(0, "the demand is the cause: demand a little more than what is reached, take a width at which it is kept, or make the errors of the inputs smaller")
+        out.hints.insert(0, "the demand is the cause: demand a little more than what is reached, take a width at which "
+                            "it is kept, or make the errors of the inputs smaller")
     if not out.hints:
-        out.hints.append("docs/states.md says how a filter is written that is found" if made.states else "docs/recipes.md, 'When nothing is found'")
+        out.hints.append("docs/states.md says how a filter is written that is found" if made.states
+                         else "docs/recipes.md, 'When nothing is found'")
     return out
 
 
@@ -49,7 +51,8 @@ def say_node(out: Told, data: bytes, made: Function, index: int) -> None:
     out.notes.append(f"node {index} is {term}")
     if node.tree is not None and node.tree.end:
         place = place_of(data, node.tree.at)
-        out.line, out.column, out.text, out.width = place.line, place.column, place.text, max(1, node.tree.end - node.tree.at)
+        out.line, out.column, out.text, out.width = place.line, place.column, place.text, max(1,
+            node.tree.end - node.tree.at)
     elif node.op in ("in", "st"):
         one = (made.inputs + made.states)[index]
         place = place_of(data, one.at)
@@ -60,14 +63,18 @@ def say_node(out: Told, data: bytes, made: Function, index: int) -> None:
         spans = spans_of(made, nodes)
         below = spans[node.operands[1]] if spans else None
         if below and below[0] <= 0 <= below[1]:
-            out.notes.append(f"as intervals see it the divisor lies from {shown(below[0])} to {shown(below[1])}, and zero is among that")
-            out.hints.append("give the divisor a range without zero; where it can't be zero in truth, as 1 + x * x, make it an input with its range, or split the function there")
+            out.notes.append(f"as intervals see it the divisor lies from {shown(below[0])} to {shown(below[1])}, and "
+                             "zero is among that")
+            out.hints.append("give the divisor a range without zero; where it can't be zero in truth, as 1 + x * x, "
+                             "make it an input with its range, or split the function there")
         else:
-            out.hints.append("a wider word keeps the machine's divisor further from zero; of a number, write a product: 0.25 * x for x / 4")
+            out.hints.append("a wider word keeps the machine's divisor further from zero; of a number, write a "
+                             "product: 0.25 * x for x / 4")
         return
     weight = weights_of(made, nodes)[index]
     if weight is not None and weight > HEAVY:
-        out.notes.append(f"its weight, a power of two that counts generously, is {weight}, and {HEAVY} is the most that is found always (docs/recipes.md, 'Weights')")
+        out.notes.append(f"its weight, a power of two that counts generously, is {weight}, and {HEAVY} is the most "
+                         "that is found always (docs/recipes.md, 'Weights')")
         out.hints.append("scale the inputs, as metres to kilometres, and scale the result outside")
 
 
@@ -87,7 +94,8 @@ def spans_of(made: Function, nodes: list):
             spans.append(None if low <= 0 <= high else times(given[0], (1 / high, 1 / low)))
         else:
             first = given[0]
-            spans.append(plus(first, given[1]) if node.op == "+" else plus(first, (-given[1][1], -given[1][0])) if node.op == "-" else times(first, given[1])
+            spans.append(plus(first, given[1]) if node.op == "+" else plus(first, (-given[1][1], -given[1][0]))
+                         if node.op == "-" else times(first, given[1])
                          if node.op == "*" else (-first[1], -first[0]) if node.op == "neg" else first)
     return spans
 
@@ -127,8 +135,10 @@ def say_poles(out: Told, made: Function) -> None:
     """Says of a function with state whether it is stable, and how slow."""
     system = linear_of(made)
     if system is None:
-        out.notes.append("its next states aren't linear in states and inputs: whether it is stable isn't told here; what isn't linear counts as an interval over the states' ranges")
-        out.hints.append("put a number in the place of one operand of each product of states, and look which one it is (docs/states.md, 'What can be found')")
+        out.notes.append("its next states aren't linear in states and inputs: whether it is stable isn't told here; "
+                         "what isn't linear counts as an interval over the states' ranges")
+        out.hints.append("put a number in the place of one operand of each product of states, and look which one it is "
+                         "(docs/states.md, 'What can be found')")
         return
     poles = poles_of(system.A)
     slowest = poles[0]
@@ -136,15 +146,20 @@ def say_poles(out: Told, made: Function) -> None:
     where = f"{shown(slowest.real, 6)}" + (f" +- {shown(abs(slowest.imag), 6)} i" if slowest.im else "")
     if room <= 0:
         exactly = "on" if abs(room) < Fraction(1, 2 ** 100) else "outside"
-        out.notes.append(f"a pole lies {exactly} the unit circle, at {where}: what comes in adds up for ever, and no bound is to be found")
-        out.hints.append("give the sum a leak, as 0.999 * sum + x; or hold it outside: make the clamped value an input with its range (docs/recipes.md)" if not slowest.im
+        out.notes.append(f"a pole lies {exactly} the unit circle, at {where}: what comes in adds up for ever, and no "
+                         "bound is to be found")
+        out.hints.append("give the sum a leak, as 0.999 * sum + x; or hold it outside: make the clamped value an input "
+                         "with its range (docs/recipes.md)" if not slowest.im
                          else "make the poles smaller: the function isn't stable as it is written")
         return
     reach = 2 / room
-    out.notes.append(f"all {counted(len(poles), 'pole')} lie within the unit circle; the slowest at {where}, of size {slowest.size():.6f}: a rounding of each row adds up to "
-                     f"some {shown(reach, 2)} of itself at worst in a first order, and to more in a pair of poles in direct form")
+    out.notes.append(f"all {counted(len(poles), 'pole')} lie within the unit circle; the slowest at {where}, of size "
+                     f"{slowest.size():.6f}: a rounding of each row adds up to "
+                     f"some {shown(reach, 2)} of itself at worst in a first order, and to more in a pair of poles in "
+                     "direct form")
     pair = any(pole.im and pole.size() > 0.9 for pole in poles)
-    out.hints.append("look which form is found: fixd-tools forms FILE --width N" + ("; the coupled form suits slow pairs of poles" if pair else ""))
+    out.hints.append("look which form is found: fixd-tools forms FILE --width N"
+                     + ("; the coupled form suits slow pairs of poles" if pair else ""))
 
 
 def bounds_told(made: Function, bundle) -> str:
@@ -168,7 +183,8 @@ def say_reached(out: Told, tries, data: bytes, made: Function, width: int, round
             if end is not None:
                 over = sign * (got - end)
                 missed = "demanded and kept" if over <= 0 else f"demanded, and left by {shown(over, 2, True)}"
-                out.notes.append(f"without demands the {side} printed value of {it.name} is {shown(got, 6)}; {shown(end, 6)} is {missed}")
+                out.notes.append(f"without demands the {side} printed value of {it.name} is {shown(got, 6)}; "
+                                 f"{shown(end, 6)} is {missed}")
         if it.error is None and it.lo is None and it.hi is None:
             out.notes.append(f"without demands {it.name} is within {at_most(bound)}; nothing is demanded of it")
     return bundle
@@ -179,9 +195,11 @@ def say_elsewhere(out: Told, tries, data: bytes, made: Function, width: int, rou
     other = "nearest" if rounding == "floor" else "floor"
     progress(f"searching {width} bits with --round {other}")
     bundle = tries(data, width, other)
-    out.notes.append(f"{width} bits, --round {other}: " + (f"found: {bounds_told(made, bundle)}" if bundle else "nothing is found"))
+    out.notes.append(f"{width} bits, --round {other}: "
+                     + (f"found: {bounds_told(made, bundle)}" if bundle else "nothing is found"))
     if bundle:
-        out.hints.append(f"--round {other}, for a processor whose multiply rounds to the nearest" if other == "nearest" else "--round floor")
+        out.hints.append(f"--round {other}, for a processor whose multiply rounds to the nearest" if other == "nearest"
+                         else "--round floor")
     wider = [it for it in WIDTHS if it > width]
     for it in wider[:3] if len(wider) > 3 else wider:
         progress(f"searching {it} bits")

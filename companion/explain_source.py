@@ -19,31 +19,41 @@ CHARACTERS = {
     "?": "there is no choice between two values: choose outside, and make the choice an input with its range",
     "[": "there are no lists: name each value, as x0, x1, x2",
     "]": "there are no lists: name each value, as x0, x1, x2",
-    "\ufeff": "this is a byte order mark that an editor put there: save the file as 'UTF-8 without BOM', or: sed -i '1s/^\\xEF\\xBB\\xBF//' FILE",
+    "\ufeff": "this is a byte order mark that an editor put there: save the file as 'UTF-8 without BOM', or: sed -i "
+              "'1s/^\\xEF\\xBB\\xBF//' FILE",
     "\u2264": "write '<='", "\u2265": "write '>='", "\u2212": "this is the typographic minus: write '-'",
-    "\u2013": "this is a dash: write '-'", "\u2014": "this is a dash: write '-'", "\u00d7": "write '*'", "\u00b7": "write '*'", "\u00f7": "write '/'",
-    "\u00b1": "write '+/-'", "\u00a0": "this is a no-break space: put a plain blank in its place", "'": "there is no text in a source: comments begin with '//'",
-    '"': "there is no text in a source: comments begin with '//'", "~": "there is no such operator", "@": "there are no annotations",
+    "\u2013": "this is a dash: write '-'", "\u2014": "this is a dash: write '-'", "\u00d7": "write '*'",
+    "\u00b7": "write '*'", "\u00f7": "write '/'",
+    "\u00b1": "write '+/-'", "\u00a0": "this is a no-break space: put a plain blank in its place",
+    "'": "there is no text in a source: comments begin with '//'",
+    '"': "there is no text in a source: comments begin with '//'", "~": "there is no such operator",
+    "@": "there are no annotations",
     "\\": "an expression goes on in the next line by itself, where its line ends with an operator",
 }
 POLYNOMIAL = "take a polynomial in its place, over the range of what stands in it, and add what the polynomial is off to the certified bound"
 CLAMP = "limits are set outside: hold the input to its range before the call, and demand ends of the output by 'ensuring(out => 0 <= out && out <= 1)'"
-CALLS = {"sqrt": POLYNOMIAL, "sin": POLYNOMIAL, "cos": POLYNOMIAL, "tan": POLYNOMIAL, "exp": POLYNOMIAL, "log": POLYNOMIAL, "atan": POLYNOMIAL, "tanh": POLYNOMIAL,
-         "asin": POLYNOMIAL, "acos": POLYNOMIAL, "ln": POLYNOMIAL, "min": CLAMP, "max": CLAMP, "abs": CLAMP, "clamp": CLAMP, "saturate": CLAMP, "round": CLAMP,
+CALLS = {"sqrt": POLYNOMIAL, "sin": POLYNOMIAL, "cos": POLYNOMIAL, "tan": POLYNOMIAL, "exp": POLYNOMIAL,
+         "log": POLYNOMIAL, "atan": POLYNOMIAL, "tanh": POLYNOMIAL,
+         "asin": POLYNOMIAL, "acos": POLYNOMIAL, "ln": POLYNOMIAL, "min": CLAMP, "max": CLAMP, "abs": CLAMP,
+         "clamp": CLAMP, "saturate": CLAMP, "round": CLAMP,
          "floor": CLAMP, "pow": "write the product, 'x * x' for 'pow(x, 2)'"}
-TYPES = {"Float", "Double", "Int", "Integer", "float", "double", "int", "real", "f32", "f64", "Long", "Short", "Number", "i16", "i32", "Fixed"}
+TYPES = {"Float", "Double", "Int", "Integer", "float", "double", "int", "real", "f32", "f64", "Long", "Short", "Number",
+         "i16", "i32", "Fixed"}
 WORDS = {
-    "if": "there is no choice: write a function for each case and choose outside, or make the choice an input with its range, as a factor from 0 to 1",
+    "if": "there is no choice: write a function for each case and choose outside, or make the choice an input with its "
+          "range, as a factor from 0 to 1",
     "else": "there is no choice: write a function for each case and choose outside",
     "while": "there are no loops: write each turn out, or make what a turn leaves a state: each row is one turn",
     "for": "there are no loops: write each turn out, or make what a turn leaves a state: each row is one turn",
     "match": "there is no choice: write a function for each case and choose outside",
-    "var": "values don't change: name each by 'val'; what lasts from row to row is a state, in a second list of parameters: 'def f(u: Real)(s: Real = 0.0)'",
+    "var": "values don't change: name each by 'val'; what lasts from row to row is a state, in a second list of "
+           "parameters: 'def f(u: Real)(s: Real = 0.0)'",
     "return": "the result stands alone as the last expression, without 'return'",
     "true": "there are no truth values", "false": "there are no truth values",
     "new": "'new' is a word of other languages and can't be a name: take another, as 'newest'",
 }
-CONSTANTS = {"pi": "3.14159265358979324", "PI": "3.14159265358979324", "Pi": "3.14159265358979324", "e": "2.71828182845904524"}
+CONSTANTS = {"pi": "3.14159265358979324", "PI": "3.14159265358979324", "Pi": "3.14159265358979324",
+             "e": "2.71828182845904524"}
 NAME_FOR_ENSURING = "name the outputs first: 'ensuring(out => out +/- 0.001)', of several '(a, b) => a +/- 0.1 && b +/- 0.2'"
 
 
@@ -52,7 +62,8 @@ def told(data: bytes, kind: str, at: int, where: str, function: str = None, firs
     known = found_here(data, kind, at, function)
     maker = MAKERS.get(kind, of_unexpected)
     made = maker(Context(data, kind, at, known))
-    place = place_of(data, made.at if made.at is not None else min(at, len(data.rstrip())) if kind == "EndOfText" else at)
+    place = place_of(data, made.at if made.at is not None else min(at, len(data.rstrip())) if kind == "EndOfText"
+                     else at)
     if kind in ("NoSuchFunction", "WhichFunction"):
         return Told(made.head, where, hints=made.hints, notes=made.notes)
     if place.column > len(place.text) + 1:
@@ -148,7 +159,8 @@ def of_number(it: Context) -> Saying:
         hints = ["digits have to stand behind the 'e', as in 1e-3"]
     else:
         hints = [f"put an operator between number and name: {text} * {behind}"]
-    return Saying(f"'{whole}' is neither a number nor a name: a letter stands directly behind a number", hints, width=len(whole))
+    return Saying(f"'{whole}' is neither a number nor a name: a letter stands directly behind a number", hints,
+                  width=len(whole))
 
 
 def of_long_number(it: Context) -> Saying:
@@ -159,7 +171,8 @@ def of_long_number(it: Context) -> Saying:
     places, limit = places_of(value), 2 ** 62
     why = f"it has {places} decimal places, and 18 are the most" if places > 18 else f"without its point it isn't below 2^62, {limit}"
     best = nearest_literal(value)
-    hints = [f"write {as_decimal(best)}, which is {shown(abs(best - value), 2, True)} off at most: that times what it is multiplied by comes to the bound"
+    hints = [f"write {as_decimal(best)}, which is {shown(abs(best - value), 2, True)} off at most: that times what it "
+             "is multiplied by comes to the bound"
              if best is not None else "scale what it stands for, as metres to kilometres"]
     return Saying(f"the number is out of its limits: {why}", hints, width=len(text))
 
@@ -177,7 +190,9 @@ def of_end(it: Context) -> Saying:
     opens = it.known.get("comment")
     if opens:
         inner = f"; the comment within it at {it.line_at(opens[-1])} isn't closed either" if len(opens) > 1 else ""
-        return Saying("a comment begins here and never ends", [f"close it by '*/': comments nest, so that each '/*' wants one{inner}"], width=2, at=opens[0], hides=True)
+        return Saying("a comment begins here and never ends",
+                      [f"close it by '*/': comments nest, so that each '/*' wants one{inner}"], width=2, at=opens[0],
+                      hides=True)
     open_now = []
     for token in it.tokens:
         if token.text in ("(", "{"):
@@ -199,7 +214,8 @@ def of_unknown(it: Context) -> Saying:
     if kind == "input":
         head = f"no input is called '{name}'"
         if re.search(rf"\b{re.escape(name)}\s*:\s*Real\s*=", whole):
-            hints.append(f"'{name}' is a state, and 'require' has inputs alone: the range of a state is found, not declared; take the condition out")
+            hints.append(f"'{name}' is a state, and 'require' has inputs alone: the range of a state is found, not "
+                         "declared; take the condition out")
         if it.near(1) == "(":
             hints.append("a condition has one name and one number: no calls")
     elif kind == "output":
@@ -214,9 +230,11 @@ def of_unknown(it: Context) -> Saying:
         elif it.near(1) in ("=", ":"):
             hints.append(f"to name a value, write 'val' before it: 'val {name} = ..'")
         elif later and later.start() > it.at:
-            hints.append(f"'{name}' is a 'val' of {it.line_at(later.start())}: it can be used behind its line alone; move it up")
+            hints.append(f"'{name}' is a 'val' of {it.line_at(later.start())}: it can be used behind its line alone; "
+                         "move it up")
         elif later:
-            hints.append(f"within its own 'val' '{name}' isn't known yet: what lasts from row to row is a state, 'def f(u: Real)({name}: Real = 0.0)'")
+            hints.append(f"within its own 'val' '{name}' isn't known yet: what lasts from row to row is a state, 'def "
+                         f"f(u: Real)({name}: Real = 0.0)'")
         elif name == it.known.get("function"):
             hints.append("that is the function's own name, and functions can't be called")
     if like:
@@ -232,10 +250,12 @@ def of_twice(it: Context) -> Saying:
     name, end = it.known.get("twice", ""), it.known.get("end")
     ends = {"lo": "two least values", "hi": "two greatest values", "error": "two errors"}
     if end:
-        return Saying(f"'{name}' is given {ends[end]}", ["leave one of them: '<' and '<=' both declare a closed end"], width=len(name), hides=True)
+        return Saying(f"'{name}' is given {ends[end]}", ["leave one of them: '<' and '<=' both declare a closed end"],
+                      width=len(name), hides=True)
     first = re.search(rf"\b{re.escape(name)}\b", it.data.decode("utf-8", "replace"))
     notes = [f"the first one stands at {it.line_at(first.start())}"] if first and first.start() < it.at else []
-    return Saying(f"'{name}' is the name of something else already", ["take another name here"], notes, len(name), hides=True)
+    return Saying(f"'{name}' is the name of something else already", ["take another name here"], notes, len(name),
+                  hides=True)
 
 
 def of_no_range(it: Context) -> Saying:
@@ -244,9 +264,12 @@ def of_no_range(it: Context) -> Saying:
     example = " && ".join(f"-1 <= {name} && {name} <= 1" for name, _ in lacking[:3]) or "-1 <= x && x <= 1"
     if lacking and all(what == "no 'require'" for _, what in lacking):
         return Saying("the function has no 'require': each input has to have a least and a greatest value",
-                      [f"write as the first line in the braces what each input can be, as 'require({example})'"], width=len(lacking[0][0]), hides=True)
-    return Saying(f"{counted(len(lacking), 'input')} without a whole range" if len(lacking) != 1 else f"the input '{lacking[0][0]}' has no whole range",
-                  [f"give both ends in 'require', joined by '&&': as '{example}' with the numbers that the sensor can give"], names,
+                      [f"write as the first line in the braces what each input can be, as 'require({example})'"],
+                      width=len(lacking[0][0]), hides=True)
+    return Saying(f"{counted(len(lacking), 'input')} without a whole range" if len(lacking) != 1
+                  else f"the input '{lacking[0][0]}' has no whole range",
+                  [f"give both ends in 'require', joined by '&&': as '{example}' with the numbers that the sensor can "
+                   "give"], names,
                   len(lacking[0][0]) if lacking else 1, hides=True)
 
 
@@ -255,19 +278,22 @@ def of_empty(it: Context) -> Saying:
     if one is None:
         return Saying("a least value is above the greatest", ["exchange the ends"], hides=True)
     low, high = as_decimal(one.lo), as_decimal(one.hi)
-    return Saying(f"the least value of '{one.name}', {low}, is above its greatest, {high}", [f"exchange them: '{high} <= {one.name} && {one.name} <= {low}'"],
+    return Saying(f"the least value of '{one.name}', {low}, is above its greatest, {high}",
+                  [f"exchange them: '{high} <= {one.name} && {one.name} <= {low}'"],
                   width=len(one.name), hides=True)
 
 
 def of_deep(it: Context) -> Saying:
-    return Saying("more than 200 parentheses are open here" if it.known.get("parentheses") else "this expression's tree is higher than 200",
+    return Saying("more than 200 parentheses are open here" if it.known.get("parentheses")
+                  else "this expression's tree is higher than 200",
                   ["name parts of it by 'val'; add many terms in pairs, as (a + b) + (c + d)"], hides=True)
 
 
 def of_many(it: Context) -> Saying:
     what, limit, count = it.known.get("what", "parts"), it.known.get("limit", ""), it.known.get("count")
     return Saying(f"the function has more than {limit} {what}" + (f": {count}" if count else ""),
-                  ["split the function in two: an output of the first, with its certified range and error, is an input of the second (docs/recipes.md)"], hides=True)
+                  ["split the function in two: an output of the first, with its certified range and error, is an input "
+                   "of the second (docs/recipes.md)"], hides=True)
 
 
 def of_unsupported(it: Context) -> Saying:
@@ -278,41 +304,53 @@ def of_unsupported(it: Context) -> Saying:
         hint = CALLS.get(call) or f"write out what '{call}' computes, by 'val's"
         if call in it.known.get("names", []):
             hint = f"'{call}' is a name: a product is written '{call} * (..)'"
-        return Saying(f"no function can be called, and so not '{call}'", [hint], ["expressions have + - * /, names, numbers and parentheses"], len(call), hides=True)
+        return Saying(f"no function can be called, and so not '{call}'", [hint],
+                      ["expressions have + - * /, names, numbers and parentheses"], len(call), hides=True)
     if compares == "names":
         return Saying("a condition compares a name with a number, not two names",
-                      ["give each of them its range; where they hang on one another, make their difference an input of its own"], hides=True)
+                      ["give each of them its range; where they hang on one another, make their difference an input of "
+                       "its own"], hides=True)
     if compares == "numbers":
-        return Saying("a condition compares a name with a number, not two numbers", ["write each end by itself: '0 <= x && x <= 1'"], hides=True)
+        return Saying("a condition compares a name with a number, not two numbers",
+                      ["write each end by itself: '0 <= x && x <= 1'"], hides=True)
     text = it.token.text if it.token else ""
-    return Saying(f"'{text}' isn't in this language", [WORDS.get(text, "expressions have + - * /, names, numbers and parentheses")], width=len(text) or 1)
+    return Saying(f"'{text}' isn't in this language",
+                  [WORDS.get(text, "expressions have + - * /, names, numbers and parentheses")], width=len(text) or 1)
 
 
 def of_arity(it: Context) -> Saying:
     known = it.known
     if "states" in known:
-        return Saying(f"the type has {counted(known['reals'], 'result')}, and the {counted(known['states'], 'state')} and one output at least want {known['states'] + 1}",
-                      [f"the results are the outputs and then a next state for each state: ': ({', '.join(['Real'] * (known['states'] + 1))})', and as many values in parentheses"], hides=True)
+        return Saying(f"the type has {counted(known['reals'], 'result')}, and the {counted(known['states'], 'state')} "
+                      f"and one output at least want {known['states'] + 1}",
+                      [f"the results are the outputs and then a next state for each state: ': "
+                       f"({', '.join(['Real'] * (known['states'] + 1))})', and as many values in parentheses"],
+                       hides=True)
     if "results" in known:
-        return Saying(f"{counted(known['results'], 'result')} where the type has {known['reals']}", ["write as many as the type has: the outputs, and then the next states"], hides=True)
+        return Saying(f"{counted(known['results'], 'result')} where the type has {known['reals']}",
+                      ["write as many as the type has: the outputs, and then the next states"], hides=True)
     if "named" in known:
         return Saying(f"'ensuring' names {counted(known['named'], 'output')} of {known['outputs']}",
                       ["name the outputs, all of them and no next state: '(a, b) => ..'; one alone needs no parentheses"], hides=True)
-    return Saying("counts don't agree", ["type and results have the outputs and then a next state for each state"], hides=True)
+    return Saying("counts don't agree", ["type and results have the outputs and then a next state for each state"],
+                  hides=True)
 
 
 def of_function(it: Context) -> Saying:
     names, wanted = it.known.get("functions", []), it.known.get("wanted")
     if not names:
-        return Saying("there is no function in this source", ["a function begins with 'def': def f(x: Real): Real = { require(0 <= x && x <= 1) x }"])
+        return Saying("there is no function in this source",
+                      ["a function begins with 'def': def f(x: Real): Real = { require(0 <= x && x <= 1) x }"])
     like = difflib.get_close_matches(wanted or "", names, 1, 0.5)
     return Saying(f"no function is called '{wanted}'" if wanted else "the wanted function isn't there",
-                  [f"is '{like[0]}' meant?" if like else "take one of these by --function NAME"], [f"functions: {', '.join(names)}"])
+                  [f"is '{like[0]}' meant?" if like else "take one of these by --function NAME"],
+                  [f"functions: {', '.join(names)}"])
 
 
 def of_which(it: Context) -> Saying:
     names = it.known.get("functions", [])
-    return Saying("there are several functions, and it isn't said which is meant", [f"say it by --function {names[0] if names else 'NAME'}"], [f"functions: {', '.join(names)}"])
+    return Saying("there are several functions, and it isn't said which is meant",
+                  [f"say it by --function {names[0] if names else 'NAME'}"], [f"functions: {', '.join(names)}"])
 
 
 def of_unexpected(it: Context) -> Saying:
@@ -326,7 +364,8 @@ def of_unexpected(it: Context) -> Saying:
             break
     before = it.near(-1)
     if not hints and before:
-        hints = ["look at what stands before it too: something may be missing there" if it.kind_near(0) != "name" or it.kind_near(-1) not in ("name", "number")
+        hints = ["look at what stands before it too: something may be missing there" if it.kind_near(0) != "name"
+                 or it.kind_near(-1) not in ("name", "number")
                  else f"an operator is missing between '{before}' and '{text}'"]
     kind = {"word": "the word ", "name": "the name "}.get(it.token.kind, "")
     return Saying(f"{kind}'{text}' can't stand here", hints, width=len(text))
@@ -361,7 +400,8 @@ def slip_comma_conditions(it, text):
 
 
 def slip_fraction(it, text):
-    if text in "/*" and it.where in ("require", "ensuring", "states") and it.kind_near(-1) == "number" and it.kind_near(1) == "number":
+    if text in "/*" and it.where in ("require", "ensuring",
+                                     "states") and it.kind_near(-1) == "number" and it.kind_near(1) == "number":
         first, second = read_decimal(it.near(-1)), read_decimal(it.near(1))
         if second:
             value = first / second if text == "/" else first * second
@@ -486,9 +526,14 @@ def slip_behind_number(it, text):
         return "only a 'val' may have a type: 'val y: Real = ..'"
 
 
-SLIPS = [slip_power, slip_comma_number, slip_chain, slip_comparison, slip_fraction, slip_comma_conditions, slip_point, slip_ensuring, slip_type, slip_start,
-         slip_no_type, slip_no_input, slip_equals, slip_minus, slip_plus, slip_arithmetic, slip_two_results, slip_parenthesis, slip_late_val, slip_brace,
+SLIPS = [slip_power, slip_comma_number, slip_chain, slip_comparison, slip_fraction, slip_comma_conditions, slip_point,
+         slip_ensuring, slip_type, slip_start,
+         slip_no_type, slip_no_input, slip_equals, slip_minus, slip_plus, slip_arithmetic, slip_two_results,
+         slip_parenthesis, slip_late_val, slip_brace,
          slip_behind_number]
-MAKERS = {"BadUtf8": of_utf8, "BadCharacter": of_character, "BadNumber": of_number, "NumberTooLong": of_long_number, "EndOfText": of_end,
-          "Unexpected": of_unexpected, "UnknownName": of_unknown, "NamedTwice": of_twice, "NoRange": of_no_range, "EmptyRange": of_empty, "TooDeep": of_deep,
-          "TooMany": of_many, "Unsupported": of_unsupported, "WrongArity": of_arity, "NoSuchFunction": of_function, "WhichFunction": of_which}
+MAKERS = {"BadUtf8": of_utf8, "BadCharacter": of_character, "BadNumber": of_number, "NumberTooLong": of_long_number,
+          "EndOfText": of_end,
+          "Unexpected": of_unexpected, "UnknownName": of_unknown, "NamedTwice": of_twice, "NoRange": of_no_range,
+          "EmptyRange": of_empty, "TooDeep": of_deep,
+          "TooMany": of_many, "Unsupported": of_unsupported, "WrongArity": of_arity, "NoSuchFunction": of_function,
+          "WhichFunction": of_which}

@@ -13,9 +13,12 @@ COMMANDS = ["synth", "check", "show", "widths", "rust", "run", "mixed", "node", 
 OF_ROWS = ("run", "mixed", "node")
 OPTIONS = {"synth": ["--width", "--function", "--seed", "--tries", "--round"], "node": ["--units"]}
 GREATEST = {"--seed": 2 ** 64 - 1, "--tries": 100_000, "--units": 1024}
-LETTERS = {"-w": "--width", "-f": "--function", "-s": "--seed", "-t": "--tries", "-r": "--round", "-u": "--units", "-n": "--units"}
-OTHER_NAMES = {"synthesise": "synth", "synthesize": "synth", "compile": "synth", "build": "synth", "verify": "check", "validate": "check", "print": "show", "dump": "show"}
-USES = {"synth": "fixd synth --width 16 FILE > f.bundle", "run": "fixd run FILE < rows.csv", "mixed": "fixd mixed FILE < rows.csv", "node": "fixd node --units 2 FILE < rows.csv",
+LETTERS = {"-w": "--width", "-f": "--function", "-s": "--seed", "-t": "--tries", "-r": "--round", "-u": "--units",
+           "-n": "--units"}
+OTHER_NAMES = {"synthesise": "synth", "synthesize": "synth", "compile": "synth", "build": "synth", "verify": "check",
+               "validate": "check", "print": "show", "dump": "show"}
+USES = {"synth": "fixd synth --width 16 FILE > f.bundle", "run": "fixd run FILE < rows.csv",
+        "mixed": "fixd mixed FILE < rows.csv", "node": "fixd node --units 2 FILE < rows.csv",
         "demo": "fixd demo 100"}
 
 
@@ -58,11 +61,15 @@ def taken_apart(words: list) -> Call:
 def say_commands(call: Call, words: list) -> None:
     shown = f"commands: {', '.join(COMMANDS)}"
     if not words:
-        call.add("no command is named", "begin with: fixd synth --width 16 FILE > f.bundle, then fixd check f.bundle, then fixd run f.bundle < rows.csv", shown)
+        call.add("no command is named",
+                 "begin with: fixd synth --width 16 FILE > f.bundle, then fixd check f.bundle, then fixd run f.bundle "
+                 "< rows.csv", shown)
         return
     if words[0] in ("--help", "-h", "help", "--version", "-V", "-?"):
-        call.add(f"there is no '{words[0]}'", "the help is the manual page: man fixd (before it is installed: man docs/fixd.1)",
-                 "the first steps: fixd synth --width 16 FILE > f.bundle; fixd check f.bundle; fixd run f.bundle < rows.csv", shown)
+        call.add(f"there is no '{words[0]}'",
+                 "the help is the manual page: man fixd (before it is installed: man docs/fixd.1)",
+                 "the first steps: fixd synth --width 16 FILE > f.bundle; fixd check f.bundle; fixd run f.bundle < "
+                 "rows.csv", shown)
         return
     like = OTHER_NAMES.get(words[0]) or next(iter(difflib.get_close_matches(words[0], COMMANDS, 1, 0.6)), None)
     head = f"no command is called '{words[0]}'"
@@ -99,13 +106,15 @@ def read_options(call: Call, words: list) -> None:
         call.options[name] = value
         if not value or value.startswith("-"):
             shown = f" '{value}'" if value else ""
-            call.add(f"{name} has no value{shown and ': behind it stands' + shown}", f"give it one, as {name} {example_of(name)}",
+            call.add(f"{name} has no value{shown and ': behind it stands' + shown}",
+                     f"give it one, as {name} {example_of(name)}",
                      *(["a value doesn't begin with a minus"] if value else []))
 
 
 def example_of(option: str) -> str:
     """Returns a value that an option may have."""
-    return {"--width": "16", "--round": "nearest", "--function": "NAME", "--units": "2", "--seed": "1", "--tries": "1000"}[option]
+    return {"--width": "16", "--round": "nearest", "--function": "NAME", "--units": "2", "--seed": "1",
+            "--tries": "1000"}[option]
 
 
 def say_option(call: Call, name: str, mine: list) -> None:
@@ -116,16 +125,20 @@ def say_option(call: Call, name: str, mine: list) -> None:
         owner = next(command for command, options in OPTIONS.items() if name in options)
         call.add(f"{call.command} has no option {name}", f"{name} is one of {owner}: leave it out here")
     else:
-        like = LETTERS.get(name) if LETTERS.get(name) in mine else next(iter(difflib.get_close_matches(name, mine, 1, 0.5)), None)
+        like = LETTERS.get(name) if LETTERS.get(name) in mine else next(iter(difflib.get_close_matches(name, mine, 1,
+            0.5)), None)
         call.meant.append(like)
         call.add(f"no option is called '{name}'", *([f"is '{like}' meant?"] if like else []),
-                 f"options of {call.command}: {', '.join(mine)}" if mine else f"{call.command} has no options: {use_of(call.command)}",
-                 *([] if like or name.startswith("--") else [f"of a file whose name begins with a minus: fixd {call.command} -- {name}"]))
+                 f"options of {call.command}: {', '.join(mine)}" if mine
+                 else f"{call.command} has no options: {use_of(call.command)}",
+                 *([] if like or name.startswith("--")
+                   else [f"of a file whose name begins with a minus: fixd {call.command} -- {name}"]))
 
 
 def look_at_options(call: Call) -> None:
     if call.command == "synth" and "--width" not in [*call.options, *call.meant]:
-        call.add("--width is missing", f"the width of the words has to be given, as --width 16: {widths()}; 'fixd-tools width FILE' shows what each comes to")
+        call.add("--width is missing", f"the width of the words has to be given, as --width 16: {widths()}; "
+                                       "'fixd-tools width FILE' shows what each comes to")
     if call.command == "node" and "--units" not in [*call.options, *call.meant]:
         call.add("--units is missing", "say how many units the rows are of, as --units 2: 1 to 1024")
     for name, value in call.options.items():
@@ -136,12 +149,15 @@ def look_at_options(call: Call) -> None:
                 call.add(f"'{value}' is no rounding", "write --round floor or nearest")
         elif not re.fullmatch(r"[0-9]{1,20}", value):
             digits = re.sub(r"\D", "", value)
-            call.add(f"{name}: '{value}' is no number", f"1 to 20 digits and nothing else, as {name} {digits or example_of(name)}")
+            call.add(f"{name}: '{value}' is no number",
+                     f"1 to 20 digits and nothing else, as {name} {digits or example_of(name)}")
         elif name == "--width" and int(value) not in WIDTHS:
             near = min(WIDTHS, key=lambda width: (width < int(value), abs(width - int(value))))
             call.add(f"{value} is none of the widths", f"take --width {near}: widths are {widths()}")
         elif name in GREATEST and int(value) > GREATEST[name]:
-            call.add(f"{name} is at most {GREATEST[name]}", f"{name} {GREATEST[name]} is the most" if name != "--units" else "send the other units to a second call")
+            call.add(f"{name} is at most {GREATEST[name]}",
+                     f"{name} {GREATEST[name]} is the most" if name != "--units"
+                     else "send the other units to a second call")
         elif name == "--units" and int(value) == 0:
             call.add("--units is at least 1", "say how many units the rows are of")
 
@@ -162,9 +178,11 @@ def look_at_files(call: Call) -> None:
     if not call.files:
         call.add("FILE is missing", f"name one: {use_of(call.command)}")
     if len(call.files) > 1 and call.command in OF_ROWS:
-        call.add(f"{call.command} takes one FILE, and rows come by the standard input", f"fixd {call.command} {call.file} < {call.files[1]}")
+        call.add(f"{call.command} takes one FILE, and rows come by the standard input",
+                 f"fixd {call.command} {call.file} < {call.files[1]}")
     elif len(call.files) > 1:
-        call.add(f"{call.command} takes one FILE alone, and here are {len(call.files)}: {', '.join(call.files)}", f"call it once for each: {use_of(call.command)}")
+        call.add(f"{call.command} takes one FILE alone, and here are {len(call.files)}: {', '.join(call.files)}",
+                 f"call it once for each: {use_of(call.command)}")
 
 
 def of_words(words: list) -> list:
@@ -172,23 +190,29 @@ def of_words(words: list) -> list:
     call = taken_apart(words)
     shown = " ".join(["fixd", *words])
     if not call.wrong:
-        return [Told(f"'{shown}' is refused, and this companion doesn't see why", hints=["man fixd has all commands and options"])]
-    return [Told(head, f"fixd {call.command}".strip() if call.command in COMMANDS else "fixd", hints=hints, notes=notes) for head, hints, notes in call.wrong]
+        return [Told(f"'{shown}' is refused, and this companion doesn't see why",
+                     hints=["man fixd has all commands and options"])]
+    return [Told(head, f"fixd {call.command}".strip() if call.command in COMMANDS else "fixd", hints=hints,
+                 notes=notes) for head, hints, notes in call.wrong]
 
 
 def of_file(path: str) -> Told:
     """Returns what there is to say of a file that can't be read."""
     if os.path.isdir(path):
         inside = sorted(it for it in os.listdir(path) if it.endswith((".fixd", ".bundle")))[:5]
-        return Told(f"'{path}' is a folder", hints=["name a file" + (f" in it, as {os.path.join(path, inside[0])}" if inside else "")])
+        return Told(f"'{path}' is a folder",
+                    hints=["name a file" + (f" in it, as {os.path.join(path, inside[0])}" if inside else "")])
     if not os.path.exists(path):
         folder = os.path.dirname(path) or "."
         if not os.path.isdir(folder):
             return Told(f"there is no folder '{folder}'", hints=["look at its name"])
         like = difflib.get_close_matches(os.path.basename(path), os.listdir(folder), 1, 0.6)
-        return Told(f"there is no file '{path}'", hints=[f"is '{os.path.join(os.path.dirname(path), like[0])}' meant?" if like else "look at its name, and at the folder in which you are"])
+        return Told(f"there is no file '{path}'",
+                    hints=[f"is '{os.path.join(os.path.dirname(path), like[0])}' meant?" if like
+                           else "look at its name, and at the folder in which you are"])
     if not os.path.isfile(path):
-        return Told(f"'{path}' isn't a plain file", hints=["FILE can't be a pipe, as '<(..)' is: write it to a file first"])
+        return Told(f"'{path}' isn't a plain file",
+                    hints=["FILE can't be a pipe, as '<(..)' is: write it to a file first"])
     if not os.access(path, os.R_OK):
         return Told(f"'{path}' may not be read", hints=[f"its rights don't allow it: chmod u+r {path}"])
     return Told(f"'{path}' or the input failed while it was read", hints=["run again; what was printed is right"])

@@ -125,8 +125,10 @@ def find(named: str = None) -> Fixd:
             found = shutil.which(path)
             if found:
                 return Fixd(os.path.abspath(found))
-            raise Trouble(f"{how} names {path}, which isn't a program that can be run: name the program that 'make run' built, build/fixd of the repository")
-    raise Trouble("no program 'fixd' was found: neither beside fixd-tools nor on PATH. Name one by --fixd PROGRAM or in the variable FIXD; "
+            raise Trouble(f"{how} names {path}, which isn't a program that can be run: name the program that 'make "
+                          "run' built, build/fixd of the repository")
+    raise Trouble("no program 'fixd' was found: neither beside fixd-tools nor on PATH. Name one by --fixd PROGRAM or "
+                  "in the variable FIXD; "
                   "'make run' in the repository builds build/fixd")
 
 

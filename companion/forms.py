@@ -27,11 +27,16 @@ def add_to(parser) -> None:
     """Adds this subcommand's words."""
     parser.add_argument("file", metavar="FILE", help="a source")
     parser.add_argument("--function", metavar="NAME", help="the function, where the source has several")
-    parser.add_argument("--width", type=int, default=32, choices=WIDTHS, metavar="N", help="the width at which bundles are searched (default: 32)")
-    parser.add_argument("--round", choices=["floor", "nearest"], default="floor", help="as of fixd synth; at nearest, results and partial sums are rounded by '1 * (..)' too")
-    parser.add_argument("--seconds", type=float, default=120, metavar="S", help="how long each search may take (default: 120)")
+    parser.add_argument("--width", type=int, default=32, choices=WIDTHS, metavar="N",
+                        help="the width at which bundles are searched (default: 32)")
+    parser.add_argument("--round", choices=["floor", "nearest"], default="floor",
+                        help="as of fixd synth; at nearest, results and partial sums are rounded by '1 * (..)' too")
+    parser.add_argument("--seconds", type=float, default=120, metavar="S",
+                        help="how long each search may take (default: 120)")
     parser.add_argument("--no-search", action="store_true", help="the distances alone, without bundles")
-    parser.add_argument("--write", metavar="FORM", help="print the source of this form (with '+centred' behind it: with '1 * (..)'), and nothing else")
+    parser.add_argument("--write", metavar="FORM",
+                        help="print the source of this form (with '+centred' behind it: with '1 * (..)'), and nothing "
+                             "else")
     parser.add_argument("--json", action="store_true", help="print the table as JSON")
 
 
@@ -88,7 +93,8 @@ def told_apart(made, row: Row) -> str:
     """Returns a form's distance in words."""
     if not any(row.apart):
         return "exactly the given function"
-    return "at most " + ", ".join(f"{at_most(x)} of {it.name}" for x, it in zip(row.apart, made.outputs)) + " from the given function's answers, over all rows in range"
+    return "at most " + ", ".join(f"{at_most(x)} of {it.name}"
+                                  for x, it in zip(row.apart, made.outputs)) + " from the given function's answers, over all rows in range"
 
 
 def run(words) -> int:
@@ -97,11 +103,14 @@ def run(words) -> int:
     made = function_in(data, words.file, words.function)
     system = linear_of(made)
     if not made.states or system is None:
-        raise Trouble(f"'{made.name}' of {words.file} " + ("has no states" if not made.states else "isn't linear in its states and inputs")
-                      + ": forms are for linear filters; for a function without states 'fixd synth --tries 10000' looks at other ways to write it")
+        raise Trouble(f"'{made.name}' of {words.file} "
+                      + ("has no states" if not made.states else "isn't linear in its states and inputs")
+                      + ": forms are for linear filters; for a function without states 'fixd synth --tries 10000' "
+                        "looks at other ways to write it")
     slowest = poles_of(system.A)[0]
     if slowest.below_one() <= 0:
-        raise Trouble(f"'{made.name}' of {words.file} isn't stable: a pole has the size {slowest.size():.6f}, and no form of it has a bound")
+        raise Trouble(f"'{made.name}' of {words.file} isn't stable: a pole has the size {slowest.size():.6f}, and no "
+                      "form of it has a bound")
     if words.write:
         return write(made, system, words)
     rows = [Row("given", "the source as it is", data.decode(), [Fraction(0)] * made.count)]
@@ -112,7 +121,8 @@ def run(words) -> int:
         fixd = find(words.fixd)
         for k, row in enumerate(rows, 1):
             if not row.why:
-                row.found = search(fixd, row.source.encode(), made.name, words.width, words.round, seconds=words.seconds)
+                row.found = search(fixd, row.source.encode(), made.name, words.width, words.round,
+                                   seconds=words.seconds)
             progress(f"{k} of {len(rows)} forms")
     print(json.dumps([value_of(row) for row in rows], indent=1)) if words.json else print_table(made, rows, words)
     return 0
@@ -122,22 +132,27 @@ def write(made, system, words) -> int:
     """Prints the source of a form."""
     name, _, centred = words.write.partition("+")
     if name not in realise.FORMS or centred not in ("", "centred"):
-        raise Trouble(f"no form is called '{words.write}': forms are {', '.join(realise.FORMS)}, each with '+centred' behind it if you like")
+        raise Trouble(f"no form is called '{words.write}': forms are {', '.join(realise.FORMS)}, each with '+centred' "
+                      "behind it if you like")
     row = row_of(made, system, name, bool(centred))
     if row.why:
         raise Trouble(f"'{made.name}' has no form '{name}': {row.why}")
-    kept = [f"{made.name} of {os.path.basename(words.file)} in another form, by fixd-tools forms --write {words.write}: {row.what};", told_apart(made, row)]
+    kept = [f"{made.name} of {os.path.basename(words.file)} in another form, by fixd-tools forms --write "
+            f"{words.write}: {row.what};", told_apart(made, row)]
     if row.dropped:
-        kept.append(f"{counted(row.dropped, 'coefficient')} below 1e-10 of their neighbours dropped; the distance counts that")
+        kept.append(f"{counted(row.dropped, 'coefficient')} below 1e-10 of their neighbours dropped; the distance "
+                    "counts that")
     sys.stdout.write("\n".join(f"// {it}" for it in kept) + "\n" + row.source)
     return 0
 
 
 def value_of(row: Row) -> dict:
     """Returns a row for a machine."""
-    out = {"form": row.name, "what": row.what, "why_not": row.why or None, "dropped": row.dropped, "apart": row.apart and [float(x) for x in row.apart]}
+    out = {"form": row.name, "what": row.what, "why_not": row.why or None, "dropped": row.dropped,
+           "apart": row.apart and [float(x) for x in row.apart]}
     if row.found is not None:
-        out.update({"found": row.found.is_found, "seconds": round(row.found.seconds, 3), "bounds": [dyadic(x) for x in row.found.bounds()] if row.found.is_found else None})
+        out.update({"found": row.found.is_found, "seconds": round(row.found.seconds, 3),
+                    "bounds": [dyadic(x) for x in row.found.bounds()] if row.found.is_found else None})
     return out
 
 
@@ -150,8 +165,10 @@ def print_table(made, rows: list, words) -> None:
         if row.why:
             continue
         count = len(function_of(row.source.encode(), made.name).states)
-        bound = "not searched" if row.found is None else ", ".join(map(at_most, row.found.bounds())) if row.found.is_found else row.found.why
-        lines.append([row.name, str(count), bound, ", ".join(at_most(x) for x in row.apart), f"{row.found.seconds:.2f}" if row.found else ""])
+        bound = "not searched" if row.found is None else ", ".join(map(at_most,
+            row.found.bounds())) if row.found.is_found else row.found.why
+        lines.append([row.name, str(count), bound, ", ".join(at_most(x) for x in row.apart),
+                      f"{row.found.seconds:.2f}" if row.found else ""])
     broad = [max(len(line[k]) for line in [head, *lines]) for k in range(len(head))]
     for line in [head, *lines]:
         print("  ".join(cell.ljust(size) for cell, size in zip(line, broad)).rstrip())
@@ -159,7 +176,8 @@ def print_table(made, rows: list, words) -> None:
         if row.why:
             print(f"{row.name}: can't be: {row.why}")
         if row.dropped:
-            print(f"{row.name}: {counted(row.dropped, 'coefficient')} below 1e-10 of their neighbours dropped; the distance counts that")
+            print(f"{row.name}: {counted(row.dropped, 'coefficient')} below 1e-10 of their neighbours dropped; the "
+                  "distance counts that")
     if not words.no_search:
         print("bound and distance add up to how far a printed value can be from the given function's exact one")
     best = min(rows, key=total_of)

@@ -12,7 +12,8 @@ from .exact import NOTHING, dyadic, minus, plus, scaled, shown, times, word_valu
 from .nodes import nodes_of, rewritten
 from .sources import Function
 
-OPS = {"+": ("add",), "-": ("sub",), "*": ("mul", "mulr"), "/": ("div",), "neg": ("neg",), "in": ("in",), "st": ("st",), "const": ("const",), "copy": ("copy", "copyr")}
+OPS = {"+": ("add",), "-": ("sub",), "*": ("mul", "mulr"), "/": ("div",), "neg": ("neg",), "in": ("in",), "st": ("st",),
+       "const": ("const",), "copy": ("copy", "copyr")}
 
 
 @dataclass
@@ -30,7 +31,8 @@ class Side:
     def told(self) -> str:
         """Returns it as a sentence with decimals."""
         if None in self.written:
-            end, side, got = (self.written[1], "above", self.comes[1]) if self.written[0] is None else (self.written[0], "below", self.comes[0])
+            end, side, got = (self.written[1], "above", self.comes[1]) if self.written[0] is None else (self.written[0],
+                "below", self.comes[0])
             relation = "it is not" if self.holds else "it is"
             return f"{self.what}: {number(got)} may not be {side} {number(end)}; {relation}"
         text = f"{self.what} comes to [{number(self.comes[0])}, {number(self.comes[1])}] and has to lie in [{number(self.written[0])}, {number(self.written[1])}]"
@@ -110,24 +112,29 @@ class Judge:
         else:
             sign = -1 if node.op == "neg" else 1
             coefficients = [sign * x for x in given[0][0]]
-            rest, error = scaled(sign, given[0][1]), plus(scaled(sign, given[0][2]), lost[0] if node.op == "copy" else NOTHING)
+            rest, error = scaled(sign, given[0][1]), plus(scaled(sign, given[0][2]),
+                                                          lost[0] if node.op == "copy" else NOTHING)
         left = [x - y for x, y in zip(coefficients, form.coefficients)]
         for j, x in enumerate(left):
             rest, error = plus(rest, scaled(x, self.ranges(j))), plus(error, scaled(x, self.errors(j)))
-        return [Side("the rest of the value beside the form", rest, form.rest), Side("the rest of the error beside the form", error, form.error_rest)]
+        return [Side("the rest of the value beside the form", rest, form.rest),
+                Side("the rest of the error beside the form", error, form.error_rest)]
 
     def product_form(self, node, form, given, lost):
         (a, b), (ma, mb) = node.operands, form.centres
         coefficients = [mb * x + ma * y for x, y in zip(given[0][0], given[1][0])]
         da, db = minus(self.ranges(a), (ma, ma)), minus(self.ranges(b), (mb, mb))
         rest = plus(plus(plus(scaled(mb, given[0][1]), scaled(ma, given[1][1])), (-ma * mb, -ma * mb)), times(da, db))
-        error = plus(plus(scaled(mb, given[0][2]), scaled(ma, given[1][2])), plus(times(da, self.errors(b)), times(db, self.errors(a))))
+        error = plus(plus(scaled(mb, given[0][2]), scaled(ma, given[1][2])),
+                     plus(times(da, self.errors(b)), times(db, self.errors(a))))
         return coefficients, rest, plus(plus(error, times(self.errors(a), self.errors(b))), lost)
 
     def range_side(self, n):
         node, line = self.nodes[n], self.bundle.lines[n]
         if line.form and line.form.shares is not None:
-            return Side("the value by its form", self.bound(line.form.coefficients, line.form.rest, self.ranges, self.bundle.templates, line.form.shares), line.range)
+            return Side("the value by its form",
+                        self.bound(line.form.coefficients, line.form.rest, self.ranges, self.bundle.templates,
+                                   line.form.shares), line.range)
         return Side("the exact value", self.value_of(n, node), line.range)
 
     def value_of(self, n, node):
@@ -140,13 +147,17 @@ class Judge:
             return node.tree.value, node.tree.value
         given = [self.ranges(k) for k in node.operands]
         if node.op == "/":
-            return times(given[0], (1 / given[1][1], 1 / given[1][0])) if given[1][0] * given[1][1] > 0 else (Fraction(-10 ** 30), Fraction(10 ** 30))
+            return times(given[0], (1 / given[1][1],
+                                    1 / given[1][0])) if given[1][0] * given[1][1] > 0 else (Fraction(-10 ** 30),
+                                        Fraction(10 ** 30))
         return plus(*given) if node.op == "+" else minus(*given) if node.op == "-" else times(*given) if node.op == "*" else scaled(-1, given[0]) if node.op == "neg" else given[0]
 
     def error_side(self, n):
         node, line = self.nodes[n], self.bundle.lines[n]
         if line.form and line.form.error_shares is not None:
-            return Side("the error by its form", self.bound(line.form.coefficients, line.form.error_rest, self.errors, self.bundle.error_templates, line.form.error_shares), line.error)
+            return Side("the error by its form",
+                        self.bound(line.form.coefficients, line.form.error_rest, self.errors,
+                                   self.bundle.error_templates, line.form.error_shares), line.error)
         return Side("the error", self.error_of(n, node), line.error)
 
     def error_of(self, n, node):
@@ -169,19 +180,22 @@ class Judge:
             return plus(plus(plus(times(g[0], h[1]), times(g[1], h[0])), times(*h)), lost[0])
         if node.op == "/":
             top, below = minus(h[0], times(self.ranges(n), h[1])), plus(g[1], h[1])
-            spread = times(top, (1 / below[1], 1 / below[0])) if below[0] * below[1] > 0 else (Fraction(-10 ** 30), Fraction(10 ** 30))
+            spread = times(top, (1 / below[1], 1 / below[0])) if below[0] * below[1] > 0 else (Fraction(-10 ** 30),
+                Fraction(10 ** 30))
             return plus(spread, (-unit, unit))
         return scaled(-1, h[0]) if node.op == "neg" else plus(h[0], lost[0])
 
     def word_side(self, n):
         code, line = self.bundle.codes[n], self.bundle.lines[n]
-        ends = word_value(-2 ** (self.bundle.width - 1), code.point), word_value(2 ** (self.bundle.width - 1) - 1, code.point)
+        ends = word_value(-2 ** (self.bundle.width - 1), code.point), word_value(2 ** (self.bundle.width - 1) - 1,
+            code.point)
         return Side(f"the word's value at point {code.point}", plus(line.range, line.error), ends)
 
     def divisor_sides(self, n):
         _, b = self.nodes[n].operands
         return [f"the divisor lies in [{number(self.ranges(b)[0])}, {number(self.ranges(b)[1])}], and the machine's in "
-                f"[{number(plus(self.ranges(b), self.errors(b))[0])}, {number(plus(self.ranges(b), self.errors(b))[1])}]: zero may lie in neither"]
+                f"[{number(plus(self.ranges(b), self.errors(b))[0])}, "
+                f"{number(plus(self.ranges(b), self.errors(b))[1])}]: zero may lie in neither"]
 
     def start_sides(self, part, k):
         bundle = self.bundle
@@ -189,7 +203,8 @@ class Judge:
             state, (value, error) = self.made.states[k], bundle.starts[k]
             code = bundle.state_codes()[k]
             word = word_value(code.numbers[2], code.point)
-            return [Side(f"the start of '{state.name}'", (state.start, state.start), value), Side("what the start word is off", (word - state.start,) * 2, error)]
+            return [Side(f"the start of '{state.name}'", (state.start, state.start), value),
+                    Side("what the start word is off", (word - state.start,) * 2, error)]
         templates, which = (bundle.templates, 0) if part == "row" else (bundle.error_templates, 1)
         total = NOTHING
         for k2, x in enumerate(templates[k].coefficients):
@@ -205,7 +220,9 @@ class Judge:
             coefficients, value, error = self.form(first + s)
             total = [y + x * z for y, z in zip(total, coefficients)]
             rest = plus(rest, scaled(x, error if errors else value))
-        return Side("the template's sum behind a step", self.bound(total, rest, self.errors if errors else self.ranges, templates, template.shares), template.ends)
+        return Side("the template's sum behind a step",
+                    self.bound(total, rest, self.errors if errors else self.ranges, templates, template.shares),
+                    template.ends)
 
     def demand_sides(self, j):
         n = self.bundle.first_output + j
@@ -214,7 +231,8 @@ class Judge:
         if demand.error is not None:
             found.append(Side("the certified error", line.error, (-demand.error, demand.error)))
         if demand.lo is not None or demand.hi is not None:
-            found.append(Side("the printed value, range and error together", plus(line.range, line.error), (demand.lo, demand.hi)))
+            found.append(Side("the printed value, range and error together", plus(line.range, line.error),
+                              (demand.lo, demand.hi)))
         return found
 
     def sides(self, kind: str, part: str, index: int) -> list:
@@ -222,7 +240,8 @@ class Judge:
         if kind == "Beyond":
             return self.all_sides(part, index)
         if kind == "Form":
-            return self.form_sides(index) or ["a form stands at a literal, a quotient, an input or a state, which can't have one"]
+            return self.form_sides(index) or ["a form stands at a literal, a quotient, an input or a state, which "
+                                              "can't have one"]
         one = {"Range": self.range_side, "Error": self.error_side, "WordTooSmall": self.word_side}.get(kind)
         if one:
             return [one(index)]

@@ -14,8 +14,11 @@ and what a device needs. It is outside what is proved: 'fixd check' alone judges
 
 def words_of(only=None):
     """Returns the reader of the command's words; where `only` is a subcommand, of that one alone, so that no other is read in."""
-    parser = argparse.ArgumentParser(prog="fixd-tools", description=ABOUT, epilog="docs/companion.md has a section and an example for each subcommand.")
-    parser.add_argument("--fixd", metavar="PROGRAM", help="the program fixd; without it the one that FIXD names, else one beside this command, else one on PATH")
+    parser = argparse.ArgumentParser(prog="fixd-tools", description=ABOUT,
+                                     epilog="docs/companion.md has a section and an example for each subcommand.")
+    parser.add_argument("--fixd", metavar="PROGRAM",
+                        help="the program fixd; without it the one that FIXD names, else one beside this command, else "
+                             "one on PATH")
     parts = parser.add_subparsers(dest="subcommand", metavar="SUBCOMMAND", required=True)
     for name in [only] if only in SUBCOMMANDS else SUBCOMMANDS:
         module = importlib.import_module(f".{name}", __package__)

@@ -46,7 +46,8 @@ class Plotted:
 
     def errors(self, rows: list) -> list:
         """Returns by how much the printed value of each row differs from the exact one, and the exact ones."""
-        csv = ",".join(it.name for it in self.made.inputs) + "\n" + "".join(",".join(map(as_decimal, row)) + "\n" for row in rows)
+        csv = ",".join(it.name for it in self.made.inputs) + "\n" + "".join(",".join(map(as_decimal, row)) + "\n"
+            for row in rows)
         printed = self.fixd.printed("run", self.path, rows=csv.encode()).decode().splitlines()[1:]
         states, exact = [it.start for it in self.made.states], []
         for row in rows:
@@ -57,12 +58,14 @@ class Plotted:
 
     def chance(self, source: random.Random) -> list:
         """Returns a row at random."""
-        return [limited(it, Fraction(source.randint(int(it.lo * 10 ** PLACES), int(it.hi * 10 ** PLACES)), 10 ** PLACES)) for it in self.made.inputs]
+        return [limited(it, Fraction(source.randint(int(it.lo * 10 ** PLACES), int(it.hi * 10 ** PLACES)),
+                                     10 ** PLACES)) for it in self.made.inputs]
 
 
 def shortened(value: Fraction) -> Fraction:
     """Returns a number to 2^-200: what is lost is far below what is shown."""
-    return value if value.denominator.bit_length() < 260 else Fraction((value.numerator << 200) // value.denominator, 1 << 200)
+    return value if value.denominator.bit_length() < 260 else Fraction((value.numerator << 200) // value.denominator,
+        1 << 200)
 
 
 def limited(it, value: Fraction) -> Fraction:
@@ -71,11 +74,13 @@ def limited(it, value: Fraction) -> Fraction:
 
 def rows_of(path: str, made: Function) -> list:
     """Returns the values of a file of rows."""
-    lines = [line.rstrip(b"\r").decode("utf-8", "replace") for line in readable(path).removeprefix(b"\xef\xbb\xbf").split(b"\n")]
+    lines = [line.rstrip(b"\r").decode("utf-8", "replace")
+             for line in readable(path).removeprefix(b"\xef\xbb\xbf").split(b"\n")]
     lines = [line for line in lines if line]
     names = [field.text for field in fields_of(lines[0])] if lines else []
     if any(it.name not in names for it in made.inputs):
-        raise Trouble(f"{path} has no column for each input ({', '.join(it.name for it in made.inputs)}): fixd-tools explain run BUNDLE < {path}")
+        raise Trouble(f"{path} has no column for each input ({', '.join(it.name for it in made.inputs)}): fixd-tools "
+                      f"explain run BUNDLE < {path}")
     places = [names.index(it.name) for it in made.inputs]
     try:
         return [[Fraction(fields_of(line)[place].text) for place in places] for line in lines[1:]]
@@ -88,12 +93,15 @@ def driven(shown: Plotted, count: int) -> list:
     source = random.Random(1)
     system = linear_of(shown.made) if shown.made.states else None
     if shown.made.states:
-        return follow(shown, system, count) if system else [[(it.lo, it.hi)[source.randint(0, 1)] for it in shown.made.inputs] for _ in range(count)]
+        return follow(shown, system, count) if system else [[(it.lo, it.hi)[source.randint(0, 1)]
+            for it in shown.made.inputs] for _ in range(count)]
     rows = [shown.chance(source) for _ in range(count)]
     for turn in range(4):
         errors, _ = shown.errors(rows)
         best = [row for _, row in sorted(zip(errors, rows), key=lambda pair: -abs(pair[0]))][:max(1, count // 20)]
-        rows = best + [[limited(it, x + Fraction(source.randint(-10 ** 9, 10 ** 9), 10 ** 9) * (it.hi - it.lo) / 4 ** (turn + 2)) if source.random() < 0.7 else x
+        rows = best + [[limited(it, x + Fraction(source.randint(-10 ** 9, 10 ** 9),
+                                                 10 ** 9) * (it.hi - it.lo) / 4 ** (turn + 2)) if source.random() < 0.7
+                                                 else x
                         for it, x in zip(shown.made.inputs, source.choice(best))] for _ in range(count - len(best))]
         rows = [[Fraction(round(x * 10 ** PLACES), 10 ** PLACES) for x in row] for row in rows]
     return rows
@@ -105,7 +113,8 @@ def follow(shown: Plotted, system, count: int) -> list:
     image = [float(x) for x in system.C[shown.output]]
     A = [[float(x) for x in row] for row in system.A]
     for _ in range(count):
-        kernel.append([sum(x * row[i] for x, row in zip(image, [[float(y) for y in line] for line in system.B])) for i in range(len(made.inputs))])
+        kernel.append([sum(x * row[i] for x, row in zip(image, [[float(y) for y in line] for line in system.B]))
+                       for i in range(len(made.inputs))])
         image = [sum(image[k] * A[k][j] for k in range(len(A))) for j in range(len(A))]
     return [[it.hi if x > 0 else it.lo for it, x in zip(made.inputs, kernel[count - 1 - k])] for k in range(count)]
 
@@ -117,7 +126,8 @@ def error_panel(shown: Plotted, names_and_rows: list) -> Panel:
     for label, rows in names_and_rows:
         progress(f"running {len(rows)} rows, {label}")
         errors, _ = shown.errors(rows)
-        panel.dots.append((f"{label}: {float(max(map(abs, errors))):.3g}", [(k + 1, float(error)) for k, error in enumerate(errors)]))
+        panel.dots.append((f"{label}: {float(max(map(abs, errors))):.3g}",
+                           [(k + 1, float(error)) for k, error in enumerate(errors)]))
     bound = max(abs(end) for end in line.error)
     panel.marks = [(float(line.error[0]), "certified"), (float(line.error[1]), "certified")]
     panel.title += f"; certified to be within {at_most(bound)}"
@@ -130,29 +140,34 @@ def step_panel(shown: Plotted, count: int = 120) -> Panel:
     rows = [middle] * (count // 8) + [[it.hi for it in shown.made.inputs]] * (count - count // 8)
     errors, exact = shown.errors(rows)
     panel = Panel("a step to the greatest inputs", "row", shown.made.outputs[shown.output].name)
-    panel.lines = [("exact", [(k + 1, float(x)) for k, x in enumerate(exact)]), ("printed", [(k + 1, float(x + e)) for k, (x, e) in enumerate(zip(exact, errors))])]
+    panel.lines = [("exact", [(k + 1, float(x)) for k, x in enumerate(exact)]),
+                   ("printed", [(k + 1, float(x + e)) for k, (x, e) in enumerate(zip(exact, errors))])]
     return panel
 
 
 def frequency_panel(shown: Plotted, system) -> Panel:
     """Returns the panel of the frequency response of the first input: exact by the matrices, and of the integer program by sines through it."""
     one = shown.made.inputs[0]
-    A, b, c = ([[float(x) for x in row] for row in system.A], [float(row[0]) for row in system.B], [float(x) for x in system.C[shown.output]])
-    exact = [(f, 20 * log(abs(gain(A, b, c, float(system.D[shown.output][0]), f)))) for f in (0.5 * 10 ** (-3 + 3 * k / 160) for k in range(160))]
+    A, b, c = ([[float(x) for x in row] for row in system.A], [float(row[0]) for row in system.B],
+               [float(x) for x in system.C[shown.output]])
+    exact = [(f, 20 * log(abs(gain(A, b, c, float(system.D[shown.output][0]), f))))
+             for f in (0.5 * 10 ** (-3 + 3 * k / 160) for k in range(160))]
     middle, size = (one.lo + one.hi) / 2, (one.hi - one.lo) / 2 * Fraction(9, 10)
     measured = []
     for k in range(20):
         periods, length = max(2, round(0.5 * 10 ** (-2.2 + 2.15 * k / 19) * 512)), 512
         frequency = periods / length
         progress(f"frequency {k + 1} of 20")
-        wave = [Fraction(round((float(middle) + float(size) * cmath.sin(2 * pi * frequency * t).real) * 10 ** PLACES), 10 ** PLACES) for t in range(2 * length)]
+        wave = [Fraction(round((float(middle) + float(size) * cmath.sin(2 * pi * frequency * t).real) * 10 ** PLACES),
+                         10 ** PLACES) for t in range(2 * length)]
         rows = [[limited(one, x), *[limited(it, Fraction(0)) for it in shown.made.inputs[1:]]] for x in wave]
         errors, outs = shown.errors(rows)
         turn = [cmath.exp(-2j * pi * frequency * t) for t in range(length, 2 * length)]
         got = sum(float(x + e) * z for x, e, z in zip(outs[length:], errors[length:], turn))
         given = sum(float(row[0]) * z for row, z in zip(rows[length:], turn))
         measured.append((frequency, 20 * log(abs(got / given))))
-    panel = Panel(f"from {one.name} to {shown.made.outputs[shown.output].name}", "frequency, in rows' rates", "dB", log_x=True)
+    panel = Panel(f"from {one.name} to {shown.made.outputs[shown.output].name}", "frequency, in rows' rates", "dB",
+                  log_x=True)
     panel.lines, panel.dots = [("exact", exact)], [("integer program", measured)]
     return panel
 
@@ -191,7 +206,8 @@ def panels_of(shown: Plotted, rows_path: str, count: int) -> list:
     if rows_path:
         return [error_panel(shown, [(os.path.basename(rows_path), rows_of(rows_path, shown.made))])]
     source = random.Random(0)
-    panels = [error_panel(shown, [("at random", [shown.chance(source) for _ in range(count)]), ("driven", driven(shown, count))])]
+    panels = [error_panel(shown, [("at random", [shown.chance(source) for _ in range(count)]),
+                                  ("driven", driven(shown, count))])]
     if shown.made.states:
         panels.append(step_panel(shown))
         system = linear_of(shown.made)

@@ -62,7 +62,8 @@ def cleaned(form: Form, terms: dict, alone=Fraction(0)) -> Sum:
 def names_for(made: Function, count: int, stem: str = "s") -> list:
     """Returns names for states that nothing else has."""
     taken = {it.name for it in made.inputs} | {"if", "else"}
-    stem = next(stem + "_" * k for k in range(9) if not any(name.startswith(stem + "_" * k) and name[len(stem) + k:].isdigit() for name in taken))
+    stem = next(stem + "_" * k for k in range(9)
+                if not any(name.startswith(stem + "_" * k) and name[len(stem) + k:].isdigit() for name in taken))
     return [f"{stem}{k + 1}" for k in range(count)]
 
 
@@ -79,7 +80,8 @@ def from_matrices(made: Function, name: str, what: str, system: Linear, starts: 
 
 def expanded(made: Function, system: Linear) -> Form:
     """The given states, with all that stands between multiplied out."""
-    return from_matrices(made, "expanded", "the given states, with outputs and 'val's multiplied out of the next states", system,
+    return from_matrices(made, "expanded",
+                         "the given states, with outputs and 'val's multiplied out of the next states", system,
                          [it.start for it in made.states], [it.name for it in made.states])
 
 
@@ -115,7 +117,8 @@ def parallel_system(made: Function, system: Linear):
         if root.im < 0:
             continue
         all_parts = residues(transfer, root)
-        j, i = max(((j, i) for j in range(len(all_parts)) for i in range(len(kept))), key=lambda at: sum(x * x for x in all_parts[at[0]][at[1]]), default=(0, 0))
+        j, i = max(((j, i) for j in range(len(all_parts)) for i in range(len(kept))),
+                   key=lambda at: sum(x * x for x in all_parts[at[0]][at[1]]), default=(0, 0))
         pivot, scale = all_parts[j][i], block_scale(root)
         if not any(pivot):
             raise Impossible("a pole is driven by nothing but its start")
@@ -138,7 +141,9 @@ def parallel_system(made: Function, system: Linear):
 def parallel(made: Function, system: Linear) -> Form:
     """Blocks side by side: a first order for each real pole, a rotation that shrinks for each pair."""
     found, starts = parallel_system(made, system)
-    return from_matrices(made, "parallel", "blocks side by side: a first order for each real pole, a shrinking rotation for each pair", found, starts)
+    return from_matrices(made, "parallel",
+                         "blocks side by side: a first order for each real pole, a shrinking rotation for each pair",
+                         found, starts)
 
 
 # one input and one output: the transfer function as a product
@@ -173,7 +178,8 @@ def direct(made: Function, system: Linear) -> Form:
     A = [[-below[k + 1] if j == 0 else Fraction(int(j == k + 1)) for j in range(size)] for k in range(size)]
     B = [[top[k + 1] - below[k + 1] * top[0], Fraction(0)] for k in range(size)]
     C = [[Fraction(int(j == 0)) for j in range(size)]]
-    return from_matrices(made, "direct", "transposed direct form, the output multiplied out of the next states", Linear(A, B, C, [[top[0], Fraction(0)]]), [Fraction(0)] * size)
+    return from_matrices(made, "direct", "transposed direct form, the output multiplied out of the next states",
+                         Linear(A, B, C, [[top[0], Fraction(0)]]), [Fraction(0)] * size)
 
 
 def grouped(found: list) -> list:
@@ -199,7 +205,8 @@ def sections_of(top: list, below: list) -> list:
     made = []
     for group in groups:
         section, room = Section([Fraction(1)], poly_of(group), group), len(group)
-        for zero in sorted(zeros, key=lambda zero: float((zero[0].real - group[0].real) ** 2 + (abs(zero[0].imag) - abs(group[0].imag)) ** 2)):
+        for zero in sorted(zeros, key=lambda zero: float((zero[0].real - group[0].real) ** 2
+                                                         + (abs(zero[0].imag) - abs(group[0].imag)) ** 2)):
             if len(zero) <= room:
                 section.top = multiplied(section.top, poly_of(zero))
                 room -= len(zero)
@@ -208,7 +215,8 @@ def sections_of(top: list, below: list) -> list:
                 break
         made.append(section)
     if zeros:
-        raise Impossible("its zeros and poles can't be put together in sections of two: a pair of zeros stands against real poles")
+        raise Impossible("its zeros and poles can't be put together in sections of two: a pair of zeros stands against "
+                         "real poles")
     made.reverse()
     for k, section in enumerate(made):
         size = len(section.below) - 1
@@ -293,7 +301,8 @@ def balanced(made: Function, system: Linear) -> Form:
     back = [[x / root ** 2 for x in row] for row, root in zip(back, roots)]
     found = Linear(exact(mul(back, mul(A, to))), exact(mul(back, B)), exact(mul(C, to)), system.D)
     begins = exact(mul(back, [[float(x)] for x in starts]))
-    return from_matrices(made, "balanced", "balanced: each state is driven and read alike", found, [row[0] for row in begins])
+    return from_matrices(made, "balanced", "balanced: each state is driven and read alike", found,
+                         [row[0] for row in begins])
 
 
 def mul(a, b):
@@ -386,9 +395,11 @@ def source_of(made: Function, form: Form, notes: list) -> str:
     states = ", ".join(f"{name}: Real = {as_decimal(start)}" for name, start in form.starts)
     count = len(form.outputs) + len(form.nexts)
     kind = "Real" if count == 1 else f"({', '.join(['Real'] * count)})"
-    conditions = [f"{as_decimal(it.lo)} <= {it.name} && {it.name} <= {as_decimal(it.hi)}" + (f" && {it.name} +/- {as_decimal(it.off)}" if it.off else "") for it in made.inputs]
+    conditions = [f"{as_decimal(it.lo)} <= {it.name} && {it.name} <= {as_decimal(it.hi)}"
+                  + (f" && {it.name} +/- {as_decimal(it.off)}" if it.off else "") for it in made.inputs]
     lines = [f"// {note}" for note in notes]
-    lines += [f"def {made.name}({inputs}){f'({states})' if states else ''}: {kind} = {{", f"  require({' && '.join(conditions)})"]
+    lines += [f"def {made.name}({inputs}){f'({states})' if states else ''}: {kind} = {{",
+              f"  require({' && '.join(conditions)})"]
     lines += [f"  val {name} = {sum_text(one, form.centred)}" for name, one in form.vals]
     results = [sum_text(one, form.centred) for one in [*form.outputs, *form.nexts]]
     lines += [f"  {results[0]}"] if count == 1 else ["  (" + ",\n   ".join(results) + ")"]

@@ -21,9 +21,12 @@ from, what acceptance is worth, a picture, and the sums of bundle, source and pr
 def add_to(parser) -> None:
     """Adds this subcommand's words."""
     parser.add_argument("bundle", metavar="BUNDLE")
-    parser.add_argument("--picture", metavar="FILE.svg", help="write a picture of errors seen into this file, and show it on the page")
-    parser.add_argument("--count", type=int, default=1000, metavar="N", help="how many rows the picture has (default: 1000)")
-    parser.add_argument("--parts", type=int, default=8, metavar="N", help="how many parts of a bound are listed (default: 8)")
+    parser.add_argument("--picture", metavar="FILE.svg",
+                        help="write a picture of errors seen into this file, and show it on the page")
+    parser.add_argument("--count", type=int, default=1000, metavar="N",
+                        help="how many rows the picture has (default: 1000)")
+    parser.add_argument("--parts", type=int, default=8, metavar="N",
+                        help="how many parts of a bound are listed (default: 8)")
 
 
 def sum_of(data: bytes) -> str:
@@ -35,7 +38,8 @@ def commit() -> str:
     if not (HERE.parent / "crates.txt").exists():
         return ""
     try:
-        ended = subprocess.run(["git", "-C", str(HERE), "describe", "--always", "--dirty"], capture_output=True, text=True, check=False)
+        ended = subprocess.run(["git", "-C", str(HERE), "describe", "--always", "--dirty"], capture_output=True,
+                               text=True, check=False)
     except OSError:
         return ""
     return ended.stdout.strip()
@@ -57,15 +61,21 @@ def run(words) -> int:
 def page(fixd, words, bundle, bounds, judge) -> list:
     """Returns the page's lines."""
     made, data, name = judge.made, readable(words.bundle), os.path.basename(words.bundle)
-    lines = [f"# {name}", "", f"Function `{bundle.name}`, in words of {bundle.width} bits: {counted(len(bundle.codes), 'code')}, {counted(bundle.inputs, 'input')}, "
-             f"{counted(bundle.states, 'state')}, {counted(bundle.outputs, 'output')}; a program of version {bundle.version}.", "",
-             "Its source, with ranges (`require`), errors (`+/-`) and demands (`ensuring`):", "", *["    " + line for line in bundle.source.decode().splitlines()], "",
+    lines = [f"# {name}", "", f"Function `{bundle.name}`, in words of {bundle.width} bits: "
+                              f"{counted(len(bundle.codes), 'code')}, {counted(bundle.inputs, 'input')}, "
+             f"{counted(bundle.states, 'state')}, {counted(bundle.outputs, 'output')}; a program of version "
+             f"{bundle.version}.", "",
+             "Its source, with ranges (`require`), errors (`+/-`) and demands (`ensuring`):", "",
+             *["    " + line for line in bundle.source.decode().splitlines()], "",
              "| input | from | to | a given value is off at most |", "|---|---|---|---|",
-             *[f"| {it.name} | {as_decimal(it.lo)} | {as_decimal(it.hi)} | {as_decimal(it.off)} |" for it in made.inputs], "",
-             "| output | no printed value is further from the exact one than | that is at most | demanded |", "|---|---|---|---|"]
+             *[f"| {it.name} | {as_decimal(it.lo)} | {as_decimal(it.hi)} | {as_decimal(it.off)} |"
+               for it in made.inputs], "",
+             "| output | no printed value is further from the exact one than | that is at most | demanded |",
+             "|---|---|---|---|"]
     for it, bound in zip(made.outputs, bounds):
         lines.append(f"| {it.name} | {dyadic(bound)} | {at_most(bound)} | {demands_of(it)} |")
-    return [*lines, "", *worth(fixd), "", *budget_lines(bundle, judge, words.parts), *picture_lines(words), *sums(fixd, data, bundle, name)]
+    return [*lines, "", *worth(fixd), "", *budget_lines(bundle, judge, words.parts), *picture_lines(words),
+            *sums(fixd, data, bundle, name)]
 
 
 def demands_of(it) -> str:
@@ -78,12 +88,16 @@ def demands_of(it) -> str:
 def worth(fixd) -> list:
     """Returns what the acceptance is worth, and of which program that is known."""
     standing = fixd.standing()
-    text = ["`fixd check` accepts it. What that says: on all rows in the ranges no intermediate leaves its word, no divisor is zero, each printed value keeps the demanded",
-            "ends, and for all true inputs within the errors it is no further than the bound from the source's exact value, state carried exactly from the first row.", ""]
+    text = ["`fixd check` accepts it. What that says: on all rows in the ranges no intermediate leaves its word, no "
+            "divisor is zero, each printed value keeps the demanded",
+            "ends, and for all true inputs within the errors it is no further than the bound from the source's exact "
+            "value, state carried exactly from the first row.", ""]
     if standing:
-        return text + [f"Of the program that judged it this page knows that {standing}. `make run` proves the contract of what it builds (README of the repository, the",
+        return text + [f"Of the program that judged it this page knows that {standing}. `make run` proves the contract "
+                       "of what it builds (README of the repository, the",
                        "table of properties); that the file is still what it built, this page can't see."]
-    return text + ["Of the program that judged it this page doesn't know whether it is proved: it isn't one that `make run` of a known checkout built. Whoever relies on the page runs",
+    return text + ["Of the program that judged it this page doesn't know whether it is proved: it isn't one that `make "
+                   "run` of a known checkout built. Whoever relies on the page runs",
                    "`fixd check` with a program that they built by `make run` themselves."]
 
 
@@ -95,20 +109,25 @@ def budget_lines(bundle, judge, most: int) -> list:
         out += [f"{it.name}, {it.how}:", "", "| part | adds at most | what |", "|---|---|---|"]
         kept, rest = rows[:-1][:most], rows[:-1][most:]
         kept = [*kept, *([(f"{len(rest)} further places", sum(size for _, size in rest))] if rest else []), rows[-1]]
-        out += [f"| {float(100 * size / it.bound) if it.bound else 0:.1f} % | {shown(size, 3)} | {cut(label, 90)} |" for label, size in kept]
+        out += [f"| {float(100 * size / it.bound) if it.bound else 0:.1f} % | {shown(size, 3)} | {cut(label, 90)} |"
+                for label, size in kept]
         out.append("")
-    return out + ["These parts are worked out by `fixd-tools` in exact numbers; only the bound itself is certified.", ""]
+    return out + ["These parts are worked out by `fixd-tools` in exact numbers; only the bound itself is certified.",
+                  ""]
 
 
 def picture_lines(words) -> list:
     if not words.picture:
         return []
-    return ["## Errors seen", "", f"![errors of rows, between the lines of the certified bound]({os.path.basename(words.picture)})", "",
+    return ["## Errors seen", "", f"![errors of rows, between the lines of the certified "
+                                  f"bound]({os.path.basename(words.picture)})", "",
             "Rows that were run for this page: they show how near errors come to the bound, and prove nothing.", ""]
 
 
 def sums(fixd, data, bundle, name) -> list:
     """Returns the sums of what the page speaks of."""
-    lines = ["## What it is about", "", "| | SHA-256 |", "|---|---|", f"| bundle | {sum_of(data)} |", f"| source | {sum_of(bundle.source)} |", f"| `fixd` | {fixd.sum()} |", ""]
+    lines = ["## What it is about", "", "| | SHA-256 |", "|---|---|", f"| bundle | {sum_of(data)} |",
+             f"| source | {sum_of(bundle.source)} |", f"| `fixd` | {fixd.sum()} |", ""]
     now = commit()
-    return lines + [(f"This checkout of `fixd`'s repository: {now}. " if now else "") + f"To see it again: `fixd check {name}`, with a `fixd` that `make run` built."]
+    return lines + [(f"This checkout of `fixd`'s repository: {now}. " if now
+                     else "") + f"To see it again: `fixd check {name}`, with a `fixd` that `make run` built."]

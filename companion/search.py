@@ -48,13 +48,15 @@ class Found:
         return [plus(line.range, line.error) for line in self.bundle.lines[first:first + self.bundle.outputs]]
 
 
-def search(fixd: Fixd, data: bytes, name: str, width: int, rounding: str = "floor", tries: int = None, seconds: float = 600) -> Found:
+def search(fixd: Fixd, data: bytes, name: str, width: int, rounding: str = "floor", tries: int = None,
+           seconds: float = 600) -> Found:
     """Searches a bundle for a function of a source. A fault of the source ends the call."""
     with tempfile.TemporaryDirectory(prefix="fixd-tools-") as folder:
         path = os.path.join(folder, "source.fixd")
         with open(path, "wb") as file:
             file.write(data)
-        words = [fixd.path, "synth", "--width", str(width), "--round", rounding, "--function", name] + (["--tries", str(tries)] if tries is not None else [])
+        words = [fixd.path, "synth", "--width", str(width), "--round", rounding, "--function",
+                 name] + (["--tries", str(tries)] if tries is not None else [])
         begin = time.monotonic()
         try:
             ran = subprocess.run([*words, path], capture_output=True, timeout=seconds, check=False)
@@ -65,7 +67,8 @@ def search(fixd: Fixd, data: bytes, name: str, width: int, rounding: str = "floo
     if ran.returncode == NOT_FOUND:
         return Found(width, rounding, why=line, seconds=spent)
     if ran.returncode:
-        raise Trouble(f"fixd synth ended with status {ran.returncode}: {line}\nto have that explained: fixd-tools explain synth --width {width} FILE")
+        raise Trouble(f"fixd synth ended with status {ran.returncode}: {line}\nto have that explained: fixd-tools "
+                      f"explain synth --width {width} FILE")
     return Found(width, rounding, ran.stdout, bundles.parsed(ran.stdout), seconds=spent)
 
 

@@ -12,7 +12,8 @@ from fractions import Fraction
 from .exact import fits_a_literal, read_decimal
 
 # in the order in which one token's faults are told: the last one
-KINDS = ["BadUtf8", "BadCharacter", "BadNumber", "NumberTooLong", "EndOfText", "Unexpected", "UnknownName", "NamedTwice", "NoRange", "EmptyRange",
+KINDS = ["BadUtf8", "BadCharacter", "BadNumber", "NumberTooLong", "EndOfText", "Unexpected", "UnknownName",
+         "NamedTwice", "NoRange", "EmptyRange",
          "TooDeep", "TooMany", "Unsupported", "WrongArity", "NoSuchFunction", "WhichFunction"]
 GRAMMAR_WORDS = {"import", "object", "def", "val", "require", "ensuring"}
 OTHER_WORDS = {"if", "else", "while", "for", "match", "var", "return", "true", "false", "new"}
@@ -180,7 +181,8 @@ class Reader:
         least = min(found for found, *_ in self.late)
         _, kind, place, known = max((it for it in self.late if it[0] == least), key=lambda it: it[1])
         token = self.tokens[self.at] if self.at < len(self.tokens) else None
-        known = {"where": self.where, "function": self.function_name, "inputs": self.inputs, "names": list(self.names), **known}
+        known = {"where": self.where, "function": self.function_name, "inputs": self.inputs, "names": list(self.names),
+                 **known}
         raise Fault(KINDS[kind], place, self.wanted.get(self.at, []), token, known)
 
     def stop(self, **known):
@@ -514,7 +516,8 @@ class Reader:
             if self.sees("(", quiet=True) and not self.peek().first:
                 self.fail("Unsupported", token.at, self.at, call=token.text)
             if token.text not in self.names:
-                self.fail("UnknownName", token.at, self.at - 1, unknown=token.text, near=list(self.names), kind="expression")
+                self.fail("UnknownName", token.at, self.at - 1, unknown=token.text, near=list(self.names),
+                          kind="expression")
             return Tree("name", name=token.text, at=token.at, end=token.end), 1
         if self.sees("(", quiet=True):
             self.take()

@@ -35,7 +35,8 @@ class Told:
 
     def as_value(self) -> dict:
         """Returns it for a machine."""
-        return {"head": self.head, "file": self.where, "line": self.line or None, "column": self.column or None, "expected": self.expected,
+        return {"head": self.head, "file": self.where, "line": self.line or None, "column": self.column or None,
+                "expected": self.expected,
                 "notes": self.notes, "to_mend": self.hints}
 
 

@@ -33,7 +33,8 @@ def transfer_of(system: Linear, columns: list) -> Transfer:
             for j, row in enumerate(system.C):
                 tops[j][i].append(sum((x * y for x, y in zip(row, image) if x), Fraction(0)))
         if k + 1 < size:
-            images = [[sum((x * image[m] for m, x in enumerate(row) if x), Fraction(0)) + below[k + 1] * column[n] for n, row in enumerate(system.A)]
+            images = [[sum((x * image[m] for m, x in enumerate(row) if x), Fraction(0)) + below[k + 1] * column[n]
+                       for n, row in enumerate(system.A)]
                       for image, column in zip(images, columns)]
     shared = below
     for row in tops:
@@ -50,7 +51,8 @@ def valued(poly: list, root: Root):
     """Returns a polynomial's value at a root, as a pair of fractions rounded to 2^-BITS."""
     re, im = 0, 0
     for x in poly:
-        re, im = ((re * root.re - im * root.im) >> BITS) + (x.numerator << BITS) // x.denominator, (re * root.im + im * root.re) >> BITS
+        re, im = ((re * root.re - im * root.im) >> BITS) + (x.numerator << BITS) // x.denominator, (re * root.im
+            + im * root.re) >> BITS
     return Fraction(re, ONE), Fraction(im, ONE)
 
 
@@ -114,7 +116,8 @@ def sum_of_sizes(A: list, row: list, column: list) -> Fraction:
     if total is None:
         return None
     size = len(A)
-    turned = [[(k, (line[j].numerator << DEEP) // line[j].denominator) for k, line in enumerate(A) if line[j]] for j in range(size)]
+    turned = [[(k, (line[j].numerator << DEEP) // line[j].denominator) for k, line in enumerate(A) if line[j]]
+              for j in range(size)]
     push = [(x.numerator << DEEP) // x.denominator for x in column]
     image = [(x.numerator << DEEP) // x.denominator for x in row]
     widest = max([abs(x) for x in column], default=Fraction(0)) + 1
@@ -135,7 +138,9 @@ def is_same(first: Linear, second: Linear, pulses: tuple) -> bool:
     """Returns whether two systems give exactly the same answers to the same inputs."""
     def whole(system, start):
         columns = [[row[i] for row in system.B] for i in range(len(system.D[0]))]
-        found = transfer_of(system, [*columns, start]) if system.states else Transfer([[[Fraction(0)]] * (len(columns) + 1) for _ in system.C], [Fraction(1)], system.D)
+        found = transfer_of(system, [*columns,
+                                     start]) if system.states else Transfer([[[Fraction(0)]] * (len(columns) + 1)
+                                         for _ in system.C], [Fraction(1)], system.D)
         return found.below, [[trimmed(top) for top in row] for row in found.tops], system.D
 
     return whole(first, list(pulses[0])) == whole(second, list(pulses[1]))

@@ -21,8 +21,10 @@ def add_to(parser) -> None:
     """Adds this subcommand's words."""
     parser.add_argument("file", metavar="FILE", help="a source")
     parser.add_argument("--function", metavar="NAME", help="the function, where the source has several")
-    parser.add_argument("--widths", metavar="N,N", default=",".join(map(str, WIDTHS)), help="the widths to look at (default: all eight)")
-    parser.add_argument("--round", choices=["floor", "nearest", "both"], default="both", help="the roundings to look at (default: both)")
+    parser.add_argument("--widths", metavar="N,N", default=",".join(map(str, WIDTHS)),
+                        help="the widths to look at (default: all eight)")
+    parser.add_argument("--round", choices=["floor", "nearest", "both"], default="both",
+                        help="the roundings to look at (default: both)")
     parser.add_argument("--tries", type=int, metavar="T", help="as of fixd synth")
     parser.add_argument("--jobs", type=int, default=2, metavar="J", help="how many searches run at a time (default: 2)")
     parser.add_argument("--json", action="store_true", help="print the table as JSON, with exact bounds")
@@ -79,7 +81,8 @@ def run(words) -> int:
 
 def value_of(made, found, size) -> dict:
     """Returns a row for a machine."""
-    out = {"width": found.width, "round": found.rounding, "found": found.is_found and not found.free, "keeps_demands": found.is_found and not found.free,
+    out = {"width": found.width, "round": found.rounding, "found": found.is_found and not found.free,
+           "keeps_demands": found.is_found and not found.free,
            "why": found.why or None, "seconds": round(found.seconds, 3), "bytes": size}
     if found.is_found:
         out["outputs"] = [{"name": it.name, "bound": dyadic(bound), "range": [dyadic(end) for end in span]}
@@ -101,17 +104,21 @@ def cells(made, found, size) -> list:
 def print_table(made, rows) -> None:
     """Prints the table for a reader."""
     for it in made.outputs:
-        demands = ([f"within {as_decimal(it.error)}"] if it.error is not None else []) + ([f"from {as_decimal(it.lo)}"] if it.lo is not None else []) \
+        demands = ([f"within {as_decimal(it.error)}"] if it.error is not None else []) + ([f"from {as_decimal(it.lo)}"]
+            if it.lo is not None else []) \
             + ([f"up to {as_decimal(it.hi)}"] if it.hi is not None else [])
         if demands:
             print(f"demanded of {it.name}: {', '.join(demands)}")
-    head = ["width", "round", *[f"{name} of {it.name}" if k == 0 else name for it in made.outputs for k, name in enumerate(("bound", "places", "of range"))], "bytes"]
+    head = ["width", "round", *[f"{name} of {it.name}" if k == 0 else name for it in made.outputs
+                                for k, name in enumerate(("bound", "places", "of range"))], "bytes"]
     kept = [found.width for found, _ in rows if found.is_found and not found.free]
     lines = [head]
     for found, size in rows:
         mark = "*" if kept and found.width == min(kept) and found.is_found and not found.free else "-" if found.free else ""
-        lines.append([f"{found.width}{mark}", found.rounding, *[cell for part in cells(made, found, size) for cell in part], str(size or "")])
-    broad = [max(len(line[k]) for line in lines if k >= len(line) - 1 or not line[2].startswith("not found")) for k in range(len(head))]
+        lines.append([f"{found.width}{mark}", found.rounding,
+                      *[cell for part in cells(made, found, size) for cell in part], str(size or "")])
+    broad = [max(len(line[k]) for line in lines if k >= len(line) - 1 or not line[2].startswith("not found"))
+             for k in range(len(head))]
     for line in lines:
         print("  ".join(cell.ljust(size) for cell, size in zip(line, broad)).rstrip())
     if kept:
