@@ -13,7 +13,7 @@ from pathlib import Path
 
 from . import device_c, device_rust
 from .exact import as_decimal, dyadic, floor_at
-from .fixd import Fixd, Trouble, find, readable
+from .fixd import Fixd, Trouble, find, progress, readable
 from .show import accepted
 
 HELP = "a crate without std, or a pair of C files, for a device, with a test"
@@ -37,6 +37,10 @@ def add_to(parser) -> None:
                              "(default: the input's range in 4096 steps)")
     parser.add_argument("--fixd-c", metavar="PROGRAM",
                         help="the program that prints C (default: fixd-c beside fixd, else on PATH)")
+
+
+# what rows may take of an emulated processor's memory, in bytes
+ROOM = 160_000
 
 
 @dataclass
@@ -130,6 +134,7 @@ def plan_of(fixd: Fixd, words) -> Plan:
             else "")
         inputs.append(Input(it.name, code.point, *(floor_at(end, code.point) for end in ends), text, low, high, steps,
                             ends))
+    most = ROOM // ((len(inputs) + bundle.outputs) * 8)
     states = [(it.name, code.numbers[2], code.point) for it, code in zip(made.states, bundle.state_codes())]
     outputs = [Output(it.name, point, bound) for it, point, bound in zip(made.outputs, bundle.output_points(), bounds)]
     label_all([*inputs, *outputs])
@@ -137,8 +142,10 @@ def plan_of(fixd: Fixd, words) -> Plan:
     answers = fixd.printed("run", words.bundle, rows=csv)
     values = values_of(csv, inputs)
     given_words = [[floor_at(value, it.point) for value, it in zip(row, inputs)] for row in values]
+    if len(values) > most:
+        progress(f"{len(values)} rows are too many for the memory of an emulated processor: the first {most} are tested")
     rows = [(given, [int(Fraction(text) * Fraction(2) ** out.point) for text, out in zip(line.split(","), outputs)])
-            for given, line in zip(given_words, answers.decode().splitlines()[1:])]
+            for given, line in list(zip(given_words, answers.decode().splitlines()[1:]))[:most]]
     return Plan(bundle.name, bundle.width, inputs, states, outputs, rows, values,
                 f"{bundle.name}, width {bundle.width}", csv, answers, fixd.standing())
 

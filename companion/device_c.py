@@ -14,17 +14,17 @@ def files_of(plan, source: str, header: str) -> dict:
     """Returns the files of the folder."""
     name = plan.name
     return {
-        f"{name}.c": source, f"{name}.h": header, f"{name}_device.h": device_header(plan, header), "test.c": test(plan),
-        "rows.h": rows(plan),
+        f"{name}.c": source, f"{name}.h": header, f"{name}_device.h": device_header(plan, header), f"{name}_test.c": test(plan),
+        f"{name}_rows.h": rows(plan),
         "emulated/start.c": START, "emulated/link.ld": LINKER,
         "test-here.sh": f"""#!/bin/sh
 # the rows on this machine, with what C leaves open trapped where the compiler can
 cd "$(dirname "$0")" && mkdir -p build || exit 1
-${{CC:-cc}} -std=c99 -Wall -Wextra -O2 -fsanitize=undefined -fno-sanitize-recover -o build/checked test.c {name}.c && build/checked &&
-${{CC:-cc}} -std=c99 -Wall -Wextra -O2 -o build/plain test.c {name}.c && build/plain
+${{CC:-cc}} -std=c99 -Wall -Wextra -O2 -fsanitize=undefined -fno-sanitize-recover -o build/checked {name}_test.c {name}.c && build/checked &&
+${{CC:-cc}} -std=c99 -Wall -Wextra -O2 -o build/plain {name}_test.c {name}.c && build/plain
 """,
         "test-emulated.sh": emulated_script(f"""  ${{ARM_CC:-arm-none-eabi-gcc}} ${{ARM_FLAGS-}} -std=gnu99 -mcpu=$1 -mthumb -Os -ffreestanding -nostdlib -DEMULATED -Temulated/link.ld \\
-    -o build/$1.elf emulated/start.c test.c {name}.c -lgcc""", "arm-none-eabi-gcc", "Debian: gcc-arm-none-eabi"),
+    -o build/$1.elf emulated/start.c {name}_test.c {name}.c -lgcc""", "arm-none-eabi-gcc", "Debian: gcc-arm-none-eabi"),
         "README.md": page(plan, "c", PROVED.format(name=name), use_of(plan)),
     }
 
@@ -141,7 +141,7 @@ def test(plan) -> str:
     checks = "\n".join(checks)
     return f"""/* the rows of rows.csv come out as 'fixd run' printed them */
 #include "{name}_device.h"
-#include "rows.h"
+#include "{name}_rows.h"
 
 #ifdef EMULATED
 void say(const char *text);

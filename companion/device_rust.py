@@ -17,7 +17,7 @@ def small(name: str) -> str:
 
 def files_of(plan, text: str) -> dict:
     """Returns the files of the crate."""
-    crate = small(plan.name).strip("_") or "filter"
+    crate = "fixd_" + small(plan.name).strip("_")
     return {
         "Cargo.toml": f'[package]\nname = "{crate}"\nversion = "0.1.0"\nedition = "2021"\npublish = '
                       'false\n\n[lib]\npath = "src/lib.rs"\n\n[workspace]\n',
