@@ -14,7 +14,8 @@ from . import explain_bundle, explain_rows, explain_search, explain_source, expl
 from .bundles import is_bundle, parsed
 from .explain_rows import Rows
 from .fixd import Fixd, Trouble, find, readable
-from .sources import Fault, function_of
+from .reader import Fault
+from .sources import function_of
 from .told import Told
 
 HELP = "run 'fixd WORDS', and explain how it ends"

@@ -4,7 +4,8 @@ from __future__ import annotations
 from .bundles import is_bundle, parsed
 from .fixd import Trouble
 from .inequalities import Judge
-from .sources import Fault, function_of, text_of
+from .reader import Fault
+from .sources import function_of, text_of
 from .told import Told
 
 KINDS = {"Section": "one of the lines that part a bundle should stand here",

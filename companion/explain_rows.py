@@ -6,7 +6,7 @@ import re
 from dataclasses import dataclass
 
 from .exact import as_decimal, fits_a_literal, places_of, read_decimal
-from .told import Told, counted, listed
+from .told import Told, counted
 
 MISSING_MARKS = {"", "nan", "na", "n/a", "null", "none", "inf", "-inf", "+inf", "infinity", "-infinity", "-", "--", "?",
                  "missing", "undefined"}

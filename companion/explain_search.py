@@ -8,7 +8,8 @@ from .fixd import WIDTHS, Fixd, progress, readable
 from .linear import linear_of, poles_of
 from .nodes import nodes_of
 from .search import free_of_demands, search
-from .sources import Function, function_of, place_of
+from .functions import Function
+from .sources import function_of, place_of
 from .told import Told, counted
 
 SECONDS = 120

@@ -4,7 +4,7 @@ from __future__ import annotations
 import json
 import os
 import sys
-from dataclasses import dataclass, replace
+from dataclasses import dataclass
 from fractions import Fraction
 
 from . import realise
@@ -180,8 +180,17 @@ def print_table(made, rows: list, words) -> None:
                   "distance counts that")
     if not words.no_search:
         print("bound and distance add up to how far a printed value can be from the given function's exact one")
-    best = min(rows, key=total_of)
-    if best.found is not None and best.found.is_found and best.name != "given":
+    say_best(rows, words)
+
+
+def say_best(rows: list, words) -> None:
+    """Says how the best form is had, where it is better than the given one by more than a twentieth."""
+    best, given = min(rows, key=total_of), rows[0]
+    if best.found is None or not best.found.is_found:
+        return
+    if given.found.is_found and total_of(best)[1] > 0.95 * total_of(given)[1]:
+        print("no form is better than the given one by more than a twentieth")
+    else:
         print(f"to take the first one: fixd-tools forms {words.file} --write {best.name} > NEW.fixd")
 
 

@@ -10,7 +10,7 @@ from fractions import Fraction
 from .bundles import Bundle
 from .exact import NOTHING, dyadic, minus, plus, scaled, shown, times, word_value
 from .nodes import nodes_of, rewritten
-from .sources import Function
+from .functions import Function
 
 OPS = {"+": ("add",), "-": ("sub",), "*": ("mul", "mulr"), "/": ("div",), "neg": ("neg",), "in": ("in",), "st": ("st",),
        "const": ("const",), "copy": ("copy", "copyr")}

@@ -6,7 +6,7 @@ from dataclasses import dataclass
 from fractions import Fraction
 from math import gcd, pi
 
-from .sources import Function, Tree
+from .functions import Function, Tree
 
 BITS = 200
 ONE = 1 << BITS

@@ -5,7 +5,7 @@ import re
 from dataclasses import dataclass, replace
 from fractions import Fraction
 
-from .sources import Function, Tree, written
+from .functions import Function, Tree, written
 
 RULES = """
 A + B -> B + A

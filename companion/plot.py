@@ -5,7 +5,6 @@ import cmath
 import os
 import random
 import sys
-import tempfile
 from dataclasses import dataclass
 from fractions import Fraction
 from math import pi
@@ -14,16 +13,16 @@ from .bundles import Bundle
 from .exact import as_decimal, at_most
 from .explain_rows import fields_of
 from .fixd import Fixd, Trouble, find, progress, readable
-from .linear import linear_of, responses
+from .linear import linear_of
 from .show import accepted
-from .sources import Function, evaluate
+from .sources import function_of
+from .functions import evaluate, Function
 from .svg import Panel, picture
 
 HELP = "a picture: errors between the lines of the bound, and a filter's responses"
 DESCRIPTION = """Prints an SVG: by how much printed values differ from exact ones, between the lines of the certified bound, over the rows of ROWS, or else over rows at random and over
 rows that are driven to the worst; of a filter its step and, where it is linear, its frequency response, exact and as the integer program gives it."""
 PLACES = 9
-MOST_BYTES = 1 << 24
 
 
 def add_to(parser) -> None:
@@ -193,7 +192,6 @@ def gain(A, b, c, d, frequency):
 def plotted(words, fixd: Fixd) -> Plotted:
     """Returns what is plotted, by the words of a call."""
     bundle, _, judge = accepted(fixd, words.bundle)
-    from .sources import function_of
     made = function_of(bundle.source, bundle.name)
     names = [it.name for it in made.outputs]
     if getattr(words, "output", None) and words.output not in names:

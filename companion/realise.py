@@ -3,11 +3,10 @@ from __future__ import annotations
 
 from dataclasses import dataclass, field
 from fractions import Fraction
-from math import isqrt
 
 from .exact import as_decimal, fits_a_literal
-from .linear import ONE, Linear, Root, linear_of, responses, roots_of, trimmed
-from .sources import Function
+from .linear import Linear, Root, responses, roots_of, trimmed
+from .functions import Function
 from .transfer import over, poles, residues, times, transfer_of
 
 DIGITS = 17

@@ -10,7 +10,7 @@ from dataclasses import dataclass
 from . import bundles
 from .exact import plus
 from .fixd import Fixd, NOT_FOUND, Trouble
-from .sources import Function
+from .functions import Function
 
 
 def free_of_demands(data: bytes, made: Function) -> bytes:

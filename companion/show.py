@@ -8,7 +8,8 @@ from .budget import budgets_of
 from .exact import at_most, dyadic, read_bound, shown
 from .fixd import Fixd, REJECTED, Trouble, find, readable
 from .inequalities import Judge
-from .sources import Fault, function_of
+from .reader import Fault
+from .sources import function_of
 
 HELP = "each code with decimals and its term, and where the bound comes from"
 DESCRIPTION = """Has 'fixd check' judge the bundle, and prints each code with its point, range and error as decimals and with its term in the source; then, for each output, what

@@ -9,7 +9,8 @@ from math import log2
 from .exact import as_decimal, at_most, dyadic, shown
 from .fixd import WIDTHS, Trouble, find, progress, readable
 from .search import bytes_of_words, free_of_demands, search
-from .sources import Fault, function_of
+from .reader import Fault
+from .sources import function_of
 
 HELP = "a table of the widths: found or not, bounds, bytes"
 DESCRIPTION = """Searches a bundle at each width and with each rounding, and prints a table: each output's certified bound as a decimal, the binary places that are right
