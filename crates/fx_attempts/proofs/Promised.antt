@@ -1,5 +1,5 @@
 -- The plan that serves a function keeps what is promised of it.
-use Rattle.std.proofs.Common.{◌≡◌, ℕ, ◌<◌, Bool, true, false, Option, Some, None, refl, sym, subst, ◌∙◌}
+use Rattle.std.proofs.Common.{◌≡◌, ℕ, ◌<◌, Bool, true, false, Option, Some, None, inl, inr, refl, sym, subst, ◌∙◌}
 use Rattle.std.specs.Prelude.{ℤ, is_some, IfSome}
 use Rattle.std.specs.Option.{option_map}
 use Rattle.fx_rational.specs.Rational.{AtMost}
@@ -9,7 +9,12 @@ use Rattle.fx_weight.specs.PlainClass.{Outside, outside_of, output_power}
 use Rattle.fx_calm_numbers.specs.Calm.{is_calm, numbers_of, IsCalm}
 use Rattle.fx_model.specs.Machine.{Program}
 use Rattle.fx_inequalities.specs.Certificate.{Certificate}
-use Rattle.fx_inequalities.specs.Accepted.{certified_bound}
+use Rattle.fx_inequalities.specs.Condition.{Fault}
+use Rattle.fx_inequalities.specs.Accepted.{certified_bound, IsAccepted}
+use Rattle.fx_rules.specs.Steps.{rewrite}
+use Rattle.fx_judging.specs.declared.condition.ConditionFault.{ConditionFault}
+use Rattle.fx_checker.specs.declared.fault.CheckFault.TheVariants.{Condition}
+use Rattle.fx_checker.specs.Refusal.{IsRefusal}
 use Rattle.fx_sizes.specs.Powers.{power_dyadic, power_value}
 use Rattle.fx_weight.specs.PlainPlan.{plain_program, plain_certificate}
 use Rattle.fx_wanted.specs.Asked.{rounding_of}
@@ -106,6 +111,18 @@ calm_plan_answers w fn plan a p cert is program certificate =
     AreWithinPowers fn x.program x.certificate (λ j. (numbers_of w.width fn).z))
     fn a p _ cert _ is program certificate
     (record { function_is = refl; named = refl; width_is = refl; rounded = plan.rounded }, plan.bounds)
+
+-- a program and a certificate that come to accepted ones are accepted
+pub accepted_as : (fn : Function) (p q : Program) (cert like : Certificate) → p ≡ q → cert ≡ like →
+    IsAccepted rewrite fn q like → IsAccepted rewrite fn p cert
+accepted_as fn p q cert like program certificate accepted =
+    subst (λ (x : Program). IsAccepted rewrite fn x cert) (sym program)
+    (subst (λ (y : Certificate). IsAccepted rewrite fn q y) (sym certificate) accepted)
+
+-- of what is accepted no condition is told
+pub untold : (fault : ConditionFault) (found : Option Fault) → found ≡ None → IsRefusal (Condition fault) found → ⊥
+untold fault found none (inl memory) = absurd cc
+untold fault found none (inr told) = absurd cc
 
 -- what a value is seen as, where there is one
 pub view_of_some : {A B : Type 0} (f : A → B) (o : Option A) (seen : Option B) → option_map f o ≡ seen →

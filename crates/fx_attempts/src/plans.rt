@@ -1,6 +1,7 @@
 //! The first answer: the plan of a class in which one always serves, passed through the checker.
 //!
-//! That a plan is accepted and which bounds it has are laws, so that the checker's answer can only be want of memory.
+//! That a plan is accepted and which bounds it has are laws, by which the checker can answer nothing else but want of
+//! memory: whoever changes a plan before it is checked breaks the proof.
 ghost use Rattle.std.specs.Prelude.{◌≡◌, ◌≢◌, None, Contains, IfOk, IfSome, option_map};
 ghost use Rattle.fx_model.specs.LawfulProgram.{widths};
 ghost use Rattle.fx_weight.specs.Laws.{IsInClass};
@@ -10,15 +11,44 @@ ghost use Rattle.fx_calm_numbers.specs.Calm.{numbers_of, IsCalm};
 ghost use Rattle.fx_attempts.specs.Bounds.{AreWithinPowers};
 ghost use Rattle.fx_attempts.specs.Turns.{SuitsIfAny};
 ghost use Rattle.fx_checker.specs.Answers.{IsAnswerFor};
+ghost use Rattle.fx_inequalities.specs.Accepted.{IsAccepted};
+ghost use Rattle.fx_inequalities.specs.LawfulCertificate.{IsLawfulCertificate};
+ghost use Rattle.fx_rules.specs.Steps.{rewrite};
+ghost use Rattle.fx_cert.specs.CertificateView.{certificate_of};
 
 use fx_calm::{CalmFault, calm_plan};
 use fx_calm_plan::calm_law;
-use fx_checker::{Certified, check};
+use fx_cert::Certificate;
+use fx_checker::{Certified, CheckFault, check};
 use fx_expr::Function;
 use fx_num::Memory;
+use fx_program::Program;
 use fx_wanted::Wanted;
 use fx_weight::{Outside, WeightFault, bound_law, class_law, plain_plan};
 use std::alloc::Global;
+
+// A plan that is known to be accepted, certified: only memory can be wanting.
+#[tactic(auto, using(crate::proofs::Promised::untold))]
+fn certify_plan(
+    alloc: Global,
+    function: &Function,
+    program: Program,
+    certificate: Certificate,
+) -> Result<Certified, Memory>
+    requires lawful { IsLawfulCertificate (certificate_of certificate) }
+    requires accepted { IsAccepted rewrite function.now program (certificate_of certificate) }
+    ensures { IfOk result (λ certified. certified ≡ record {
+      function = function.now;
+      program = program;
+      certificate = certificate_of certificate;
+    }) }
+{
+    match check(alloc, function, program, certificate) {
+        Ok(certified) => Ok(certified),
+        Err(CheckFault::Memory) => Err(Memory),
+        Err(CheckFault::Condition(_)) => unreachable!(),
+    }
+}
 
 // The plain plan, certified.
 fn plain_answer(alloc: Global, function: &Function, wanted: Wanted) -> Result<Certified, Memory>
@@ -35,11 +65,8 @@ fn plain_answer(alloc: Global, function: &Function, wanted: Wanted) -> Result<Ce
         Err(WeightFault::NotModest { .. }) => unreachable!(),
         Err(WeightFault::Memory) => return Err(Memory),
     };
-    match check(alloc, function, program, certificate) {
-        Ok(certified) => Ok(certified),
-        // the plan is accepted, so only memory was wanting
-        Err(_) => Err(Memory),
-    }
+    let certified = certify_plan(alloc, function, program, certificate)?;
+    Ok(certified)
 }
 
 // The calm plan, certified, where the function is calm.
@@ -62,11 +89,8 @@ fn calm_answer(
         Err(CalmFault::NotCalm) => return Ok(None),
         Err(CalmFault::Memory) => return Err(Memory),
     };
-    match check(alloc, function, program, certificate) {
-        Ok(certified) => Ok(Some(certified)),
-        // the plan is accepted, so only memory was wanting
-        Err(_) => Err(Memory),
-    }
+    let certified = certify_plan(alloc, function, program, certificate)?;
+    Ok(Some(certified))
 }
 
 /// The first answer: the plain plan where it serves the function, else the calm plan where the function is calm.

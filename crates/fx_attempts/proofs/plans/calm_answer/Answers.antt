@@ -1,30 +1,29 @@
 use Rattle.std.proofs.Common.{sym, subst}
 use Rattle.fx_inequalities.specs.LawfulCertificate.{IsLawfulCertificate}
+use Rattle.fx_rules.specs.Steps.{rewrite}
 use Rattle.fx_wanted.specs.Asked.{rounding_of}
-use Rattle.fx_attempts.proofs.Promised.{calm_plan_answers}
+use Rattle.fx_attempts.proofs.Promised.{accepted_as, calm_plan_answers}
 use Rattle.fx_attempts.proofs.plans.calm_answer.Goals as goal
 
-pub check-requires : goal.check-requires
-check-requires c =
+pub certify_plan-requires : goal.certify_plan-requires
+certify_plan-requires c =
     let w = c.args.wanted in let fn = c.args.function.now in let e = c.in-Ok.ensures in
+    let plan = c.calm_law.ensures w.width (rounding_of w) fn c.requires.width e.narrow e.calm in
     record {
-      lawful =
-          subst IsLawfulCertificate (sym e.certificate)
-          (c.calm_law.ensures w.width (rounding_of w) fn c.requires.width e.narrow e.calm).certificate;
+      lawful = subst IsLawfulCertificate (sym e.certificate) plan.certificate;
+      accepted = accepted_as fn _ _ _ _ e.program e.certificate (plan.accepted rewrite);
     }
 
-pub returns-in-Ok-check-clause-answer : goal.returns-in-Ok-check-clause-answer
-returns-in-Ok-check-clause-answer c =
+pub returns-clause-answer : goal.returns-clause-answer
+returns-clause-answer c =
     let w = c.args.wanted in let fn = c.args.function.now in let e = c.in-Ok.ensures in
     (calm_plan_answers w fn
-    (c.calm_law.ensures w.width
-    (rounding_of w) fn c.requires.width e.narrow e.calm) c.in-Ok-check.certified _ _ c.in-Ok-check.ensures.kept
-    e.program e.certificate).0
+    (c.calm_law.ensures w.width (rounding_of w) fn c.requires.width e.narrow e.calm)
+    c.in_ok-certified.certified _ _ c.in_ok-certified.ensures e.program e.certificate).0
 
-pub returns-in-Ok-check-clause-bounded : goal.returns-in-Ok-check-clause-bounded
-returns-in-Ok-check-clause-bounded c =
+pub returns-clause-bounded : goal.returns-clause-bounded
+returns-clause-bounded c =
     let w = c.args.wanted in let fn = c.args.function.now in let e = c.in-Ok.ensures in
     (calm_plan_answers w fn
-    (c.calm_law.ensures w.width
-    (rounding_of w) fn c.requires.width e.narrow e.calm) c.in-Ok-check.certified _ _ c.in-Ok-check.ensures.kept
-    e.program e.certificate).1
+    (c.calm_law.ensures w.width (rounding_of w) fn c.requires.width e.narrow e.calm)
+    c.in_ok-certified.certified _ _ c.in_ok-certified.ensures e.program e.certificate).1
