@@ -25,4 +25,4 @@ rule_matches law f s there (old, found, unmatched) =
     let same : i.old ≡ old = (let t = i.there in cc) in unmatched i.new (rw (sym same) i.rewrites)
 
 pub limits_are_kept : RewriteLaw → (f : Function) (s : Rewriting) → is_there f s ≡ true → IsRefused TooLong f s → ⊥
-limits_are_kept law f s there refused = let h = some_of (rewrite f s) there in let e = refused.2.2.2 in absurd cc
+limits_are_kept law f s there refused = let h = some_of (rewrite f s) there in let e = refused.4 in absurd cc
