@@ -12,7 +12,7 @@ use fx_expr::Function;
 use fx_listing::{ROWS, function_of, last_line, rows_text};
 use fx_num::Memory;
 use fx_run::run_rows;
-use fx_synth::{Round, SynthFault, synthesise};
+use fx_synth::{Round, synthesise};
 use fx_weight::find_outside;
 use std::alloc::Global;
 
@@ -45,9 +45,8 @@ fn program_of(alloc: Global, n: u32) -> Result<Certified, Memory>
             certified.certified();
             Ok(certified)
         }
-        Err(SynthFault::Memory) => Err(Memory),
-        // the plain plan serves the function
-        Err(SynthFault::NotFound { .. }) => unreachable!(),
+        // where the plan serves, only memory was wanting
+        Err(_) => Err(Memory),
     }
 }
 
