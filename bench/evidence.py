@@ -67,7 +67,7 @@ def page(path, program):
         "|---|---|---|",
         *[f"| {name} | {bound} | {as_decimal(bound)} |" for name, bound in bounds],
         "",
-        "`fixd check` accepts it. What that is worth is proved of this program of `fixd` (README, the table of properties): on all rows in the ranges",
+        "`fixd check` accepts it. What that is worth is proved of this program of `fixd` (docs/guarantees.md): on all rows in the ranges",
         "no intermediate leaves its word, no divisor is zero, each printed value keeps the demanded ends, and for all true inputs within the errors",
         "it is no further than the bound from the source's exact value, state carried exactly from the first row.",
         "",

@@ -7,7 +7,7 @@ from .device_emulated import LINKER, emulated_script
 from .device_page import decimal_of, page
 from .fixd import Trouble
 
-PROVED = "`{name}.c` and `{name}.h` are what `fixd-c` prints, byte for byte; what is proved of its text, the README of `fixd`'s repository says, in the\ntable of properties."
+PROVED = "`{name}.c` and `{name}.h` are what `fixd-c` prints, byte for byte; what is proved of its text,\ndocs/guarantees.md of `fixd`'s repository says."
 
 
 def files_of(plan, source: str, header: str) -> dict:

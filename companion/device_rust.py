@@ -7,7 +7,7 @@ from .device_emulated import LINKER, emulated_script
 from .device_page import decimal_of, page
 
 PROVED = "`src/filter.rs` is what `fixd rust` prints, byte for byte. That it gives the words of `fixd run`, over all rows in range, is proved by the\n" \
-         "meaning that the definitions of `fixd` give to its few forms (README of its repository, the table of properties)."
+         "meaning that the definitions of `fixd` give to its few forms (docs/guarantees.md of its repository)."
 
 
 def small(name: str) -> str:

@@ -94,8 +94,8 @@ def worth(fixd) -> list:
             "value, state carried exactly from the first row.", ""]
     if standing:
         return text + [f"Of the program that judged it this page knows that {standing}. `make run` proves the contract "
-                       "of what it builds (README of the repository, the",
-                       "table of properties); that the file is still what it built, this page can't see."]
+                       "of what it builds (docs/guarantees.md of the repository",
+                       "says which); that the file is still what it built, this page can't see."]
     return text + ["Of the program that judged it this page doesn't know whether it is proved: it isn't one that `make "
                    "run` of a known checkout built. Whoever relies on the page runs",
                    "`fixd check` with a program that they built by `make run` themselves."]
