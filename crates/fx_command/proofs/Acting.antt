@@ -1,5 +1,5 @@
 -- A call did what its command says: each command's own promise, told of the whole outside.
-use Rattle.std.proofs.Common.{◌≡◌, ◌⊎◌, refl, sym, ap, subst, ◌∙◌, ℕ, List, [], Bool, true, false, Option, Some, None, inl, inr}
+use Rattle.std.proofs.Common.{◌≡◌, ◌⊎◌, refl, sym, ap, subst, ◌∙◌, ℕ, List, [], true, false, Option, Some, None, inl, inr}
 use Rattle.std.specs.Prelude.{String, option_map}
 use Rattle.std.specs.Option.{option_and_then}
 use Rattle.std.specs.declared.alloc.Global.{Global}
@@ -15,12 +15,12 @@ use Rattle.fx_node.specs.Events.{EventsInRangeLaw}
 use Rattle.fx_stream.specs.Promise.{Grows}
 use Rattle.fx_stream.proofs.Grown.{none_grown}
 use Rattle.fx_arguments.specs.Command.{Command, command_of, texts}
-use Rattle.fx_ends.specs.Ends.{End, Usage, NoMemory}
+use Rattle.fx_ends.specs.Ends.{End, NoMemory}
 use Rattle.fx_bundle_commands.specs.Outside.{Outside, World, IsUntouched}
 use Rattle.fx_bundle_commands.specs.Opening as opening
 use Rattle.fx_bundle_commands.specs.Opening.{IsOpen, OpeningEnds}
-use Rattle.fx_bundle_commands.specs.OpeningView.{IsQuiet, IsSilent}
-use Rattle.fx_bundle_commands.specs.Tasks.{Task, BundleEnds, IsPromptAt, IsAnswer, RunsFile}
+use Rattle.fx_bundle_commands.specs.OpeningView.{IsSilent}
+use Rattle.fx_bundle_commands.specs.Tasks.{Task, IsPromptAt, IsAnswer, RunsFile}
 use Rattle.fx_command.specs.Source as source
 use Rattle.fx_command.specs.commands.Synth as synth
 use Rattle.fx_command.specs.commands.Demo as demo
