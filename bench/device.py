@@ -1,12 +1,14 @@
 #!/usr/bin/env python3
 """Runs programs on emulated microcontrollers and compares them with `fixd run`: device.py [--fixd PROGRAM] [--c COMMAND]
 
-Of examples of 16 and 32 bits three things are compiled for a Cortex-M0 (qemu's `microbit`) and a Cortex-M4 (`mps2-an386`): the text of `fixd rust`, the C that a
-command prints of the bundle, and C by hand (bench/device/by_hand). A thousand rows in range go through each, the ends of the ranges among them, and each word of
-an output has to be that of `fixd run`. Printed is a table in Markdown: the instructions of a step, with all that it calls, and the bytes of code of both.
+Of examples of 16 and 32 bits three things are compiled for a Cortex-M0 (qemu's `microbit`) and a Cortex-M4 (`mps2-an386`): the text of `fixd rust`,
+the C that a command prints of the bundle, and C by hand (bench/device/by_hand). A thousand rows in range go through each, the ends of the ranges among
+them, and each word of an output has to be that of `fixd run`. Printed is a table in Markdown: the instructions of a step, with all that it calls, and the
+bytes of code of both.
 
-Instructions are counted one by one, over the first hundred rows in a run of its own. qemu goes instruction by instruction and writes a line for each that lies in the
-section of the step, where nothing stands but the step and what it calls of a library (bench/device/device.ld). So the figure is a mean, without the call of the step.
+Instructions are counted one by one, over the first hundred rows in a run of its own. qemu goes instruction by instruction and writes a line for each
+that lies in the section of the step, where nothing stands but the step and what it calls of a library (bench/device/device.ld). So the figure is a mean,
+without the call of the step.
 
 rustc has no `core` for these processors here, so it is built from rustc's own source, once, into build/device: some 40 seconds of a processor for each.
 --c COMMAND    prints the C of the bundle whose path follows; without it tools/rust-to-c
