@@ -119,7 +119,7 @@ def wrong_in(text):
     wrong += [f"there is no part for {name}" for name in parts() if name not in [it[1] for it in PART.findall(text)]]
     wanted = [line for name, (_, inside) in groups().items() for line in [name, *inside]]
     heads = re.findall(r"^###? (.*)$", text, re.M)[1:]
-    told = [line for head in heads for line in re.findall(r"^`(fx_[a-z_]+)`", head) or [head]]
+    told = [line for head in heads for line in re.findall(r"^`(fx_[a-z0-9_]+)`", head) or [head]]
     for number, (one, other) in enumerate(zip([*wanted, "nothing"], [*told, "nothing"])):
         if one != other:
             return [*wrong, f"heading {number + 1} is that of {other}, where crates.txt has {one}"]

@@ -1,0 +1,210 @@
+-- What was written piece by piece.
+use Rattle.std.proofs.Common.{◌≡◌, ℕ, zero, suc, ◌+◌, ◌<◌, ◌≤◌, ℤ, Bool, true, false, cond, List, [], ◌∷◌, ◌++◌, length, get_or, take, map, refl, sym, ap, ◌∙◌, arith, codes}
+use Rattle.std.specs.Prelude.{◌||◌}
+use Rattle.std.specs.Fmt.{decimal}
+use Rattle.std.specs.List.{flat_map, list_any, range_with_len}
+use Rattle.std.proofs.Common.{append_assoc, length-append}
+use Rattle.std.proofs.lemmas.List.{append-nil, flat_map_more, map_more, length-map, length-take}
+use Rattle.std.proofs.lemmas.List.Folds.{list_any-append}
+use Rattle.std.proofs.lemmas.List.FromFn.{map-range_with_len_more}
+use Rattle.fx_model.specs.Machine.{Round, Floor, Nearest, Code, starts_of, start_words}
+use Rattle.fx_model.specs.Tree.{at}
+use Rattle.fx_statements.specs.Statements.{Size, Operator, Wide, Two, Narrowed, Let}
+use Rattle.fx_statements.specs.RustText.{operator_text}
+use Rattle.fx_statements.specs.OfProgram.{least_size, store_of, stores_of}
+use Rattle.fx_c99.specs.CText.{c_wide_text, working_wide_text, c_cast_text, c_value_text, c_let_text, assignment_text, placed, start_text, starts_text, wide_type_text, computes_in, rounds_in, floor_text, helpers_text}
+use Rattle.fx_c99.specs.OfProgram.{c_rounded, c_let_of, c_lets_from}
+use Rattle.fx_c99.specs.Working.{working_bits}
+use Rattle.fx_c.specs.Around.{opening, closing}
+
+-- ---- what is rounded
+-- an expression between the two
+pub rounded_text : (bits : ℕ) (r : Round) (e : Wide) (s : ℕ) →
+    c_wide_text bits (c_rounded r e s) ≡ opening bits r s ++ (c_wide_text bits e ++ closing bits r s)
+rounded_text bits Floor e zero = sym (append-nil (c_wide_text bits e))
+rounded_text bits Nearest e zero = sym (append-nil (c_wide_text bits e))
+rounded_text bits Floor e (suc s) = simp append_assoc
+rounded_text bits Nearest e (suc s) = simp append_assoc
+
+-- what was written in three pieces
+pub between : (bits : ℕ) (r : Round) (e : Wide) (s : ℕ) (old before middle new : List ℕ) →
+    before ≡ old ++ opening bits r s → middle ≡ before ++ c_wide_text bits e
+    → new ≡ middle ++ closing bits r s → new ≡ old ++ c_wide_text bits (c_rounded r e s)
+between bits r e s old before middle new p q h =
+    let joined : ((old ++ opening bits r s) ++ c_wide_text bits e) ++ closing bits r s ≡ old
+    ++ (opening bits r s ++ (c_wide_text bits e ++ closing bits r s)) = simp append_assoc in
+    h ∙ ap (λ o. o ++ closing bits r s) (q ∙ ap (λ o. o ++ c_wide_text bits e) p) ∙ joined
+    ∙ ap (λ t. old ++ t) (sym (rounded_text bits r e s))
+
+-- ---- one statement more
+-- behind the texts of a list that of one more
+one_more : {A : Type 0} (f : A → List ℕ) (xs : List A) (x : A) (old out new : List ℕ) → out ≡ old ++ flat_map f xs →
+    new ≡ out ++ f x
+    → new ≡ old ++ flat_map f (xs ++ x ∷ [])
+one_more f xs x old out new p q = q ∙ ap (λ o. o ++ f x) p ∙ flat_map_more f old xs x
+
+lets_push : (n k : ℕ) (ns : List ℕ) (cs : List Code) (c : Code)
+    → c_lets_from n k ns (cs ++ c ∷ [])
+    ≡ c_lets_from n k ns cs ++ c_let_of n (k + length cs) (at 0 ns (k + length cs)) c ∷ []
+lets_push n k ns [] c = let a : k ≡ k + 0 = omega arith in λ i. c_let_of n (a i) (at 0 ns (a i)) c ∷ []
+lets_push n k ns (d ∷ cs) c = let a : (k + 1) + length cs ≡ k + suc (length cs) = omega arith in
+    ap (λ t. c_let_of n k (at 0 ns k) d ∷ t) (lets_push n (k + 1) ns cs c
+    ∙ (λ i. c_lets_from n (k + 1) ns cs ++ c_let_of n (a i) (at 0 ns (a i)) c ∷ []))
+
+-- one code more
+pub lets_more : {X : Type 0} (f : X → Code) (n : ℕ) (ns : List ℕ) (xs : List X) (k : ℕ) (d : X) → k < length xs →
+    c_lets_from n 0 ns (map f (take (k + 1) xs))
+    ≡ c_lets_from n 0 ns (map f (take k xs)) ++ c_let_of n k (at 0 ns k) (f (get_or xs k d)) ∷ []
+lets_more f n ns xs k d lt =
+    let cs = map f (take k xs) in let c = f (get_or xs k d) in
+    let many : 0 + length cs ≡ k = let a = length-map (take k xs) f in let b = length-take k xs in omega arith in
+    ap (c_lets_from n 0 ns) (map_more f xs k d lt) ∙ lets_push n 0 ns cs c
+    ∙ ap (λ (j : ℕ). c_lets_from n 0 ns cs ++ c_let_of n j (at 0 ns j) c ∷ []) many
+
+pub let_more : {X : Type 0} (f : X → Code) (n : ℕ) (ns : List ℕ) (xs : List X) (k : ℕ) (d : X) (old out new : List ℕ) →
+    k < length xs
+    → out ≡ old ++ flat_map (c_let_text n) (c_lets_from n 0 ns (map f (take k xs))) →
+    new ≡ out ++ c_let_text n (c_let_of n k (at 0 ns k) (f (get_or xs k d)))
+    → new ≡ old ++ flat_map (c_let_text n) (c_lets_from n 0 ns (map f (take (k + 1) xs)))
+let_more f n ns xs k d old out new lt p q =
+    one_more (c_let_text n) (c_lets_from n 0 ns (map f (take k xs)))
+    (c_let_of n k (at 0 ns k) (f (get_or xs k d))) old out new p q
+    ∙ ap (λ ls. old ++ flat_map (c_let_text n) ls) (sym (lets_more f n ns xs k d lt))
+
+-- one code more that may pass a test
+pub any_more : {X : Type 0} (test : Let → Bool) (f : X → Code) (n : ℕ) (ns : List ℕ) (xs : List X) (k : ℕ) (d : X)
+    (found now new : Bool) → k < length xs
+    → found ≡ list_any test (c_lets_from n 0 ns (map f (take k xs))) →
+    now ≡ test (c_let_of n k (at 0 ns k) (f (get_or xs k d))) → new ≡ (found || now)
+    → new ≡ list_any test (c_lets_from n 0 ns (map f (take (k + 1) xs)))
+any_more test f n ns xs k d found now new lt p q r =
+    let ls = c_lets_from n 0 ns (map f (take k xs)) in let l = c_let_of n k (at 0 ns k) (f (get_or xs k d)) in
+    r ∙ ap (λ (b : Bool). b || now) p ∙ ap (λ (b : Bool). list_any test ls || b) (q ∙ sym (or_false (test l)))
+    ∙ sym (list_any-append test ls (l ∷ [])) ∙ ap (list_any test) (sym (lets_more f n ns xs k d lt))
+  where
+    or_false : (b : Bool) → (b || false) ≡ b
+    or_false true = refl
+    or_false false = refl
+
+pub store_more : (array : List ℕ) (n c m : ℕ) (old out new : List ℕ) →
+    out ≡ old ++ flat_map (assignment_text array n) (stores_of c m) →
+    new ≡ out ++ assignment_text array n (store_of m (c + m))
+    → new ≡ old ++ flat_map (assignment_text array n) (stores_of c (m + 1))
+store_more array n c m old out new p q =
+    one_more (assignment_text array n) (stores_of c m) (store_of m (c + m)) old out new p q
+    ∙ ap (λ ts. old ++ flat_map (assignment_text array n) ts)
+    (sym (map-range_with_len_more (λ k. store_of k (c + k)) 0 m m (let e : 0 + m ≡ m = omega arith in e)))
+
+-- names in order, with their places
+placed_are : (j c m : ℕ) → placed j (range_with_len (c + j) m) ≡ map (λ k. store_of k (c + k)) (range_with_len j m)
+placed_are j c zero = refl
+placed_are j c (suc m) =
+    let a : (c + j) + 1 ≡ c + (j + 1) = omega arith in
+    ap (λ ts. store_of j (c + j) ∷ ts) (ap (λ (i : ℕ). placed (j + 1) (range_with_len i m)) a ∙ placed_are (j + 1) c m)
+
+pub placed_stores : (c m : ℕ) → stores_of c m ≡ placed 0 (range_with_len c m)
+placed_stores c m =
+    let a : c + 0 ≡ c = omega arith in
+    sym (placed_are 0 c m) ∙ ap (λ (i : ℕ). placed 0 (range_with_len i m)) a
+
+-- ---- start words
+starts_push : (k : ℕ) (ws us : List ℤ) → starts_text k (ws ++ us) ≡ starts_text k ws ++ starts_text (k + length ws) us
+starts_push k [] us = let a : k ≡ k + 0 = omega arith in ap (λ (j : ℕ). starts_text j us) a
+starts_push k (w ∷ ws) us = let a : (k + 1) + length ws ≡ k + suc (length ws) = omega arith in
+    ap (λ t. start_text k w ++ t) (starts_push (k + 1) ws us
+    ∙ ap (λ (j : ℕ). starts_text (k + 1) ws ++ starts_text j us) a)
+    ∙ sym (append_assoc (start_text k w) (starts_text (k + 1) ws) (starts_text (k + suc (length ws)) us))
+
+-- one code more
+start_more : {X : Type 0} (f : X → Code) (xs : List X) (k : ℕ) (d : X) → k < length xs →
+    start_words (map f (take (k + 1) xs)) ≡ start_words (map f (take k xs)) ++ starts_of (f (get_or xs k d))
+start_more f [] k d lt = absurd (omega arith)
+start_more f (x ∷ xs) zero d lt = append-nil (starts_of (f x))
+start_more f (x ∷ xs) (suc k) d lt =
+    let e : suc k + 1 ≡ suc (k + 1) = omega arith in
+    rw e (ap (λ ws. starts_of (f x) ++ ws) (start_more f xs k d (omega arith))
+    ∙ sym (append_assoc (starts_of (f x)) (start_words (map f (take k xs))) (starts_of (f (get_or xs k d)))))
+
+pub output_more : (array : List ℕ) (n c m : ℕ) (old out new : List ℕ) →
+    out ≡ old ++ flat_map (assignment_text array n) (placed 0 (range_with_len c m)) →
+    new ≡ out ++ assignment_text array n (store_of m (c + m))
+    → new ≡ old ++ flat_map (assignment_text array n) (placed 0 (range_with_len c (m + 1)))
+output_more array n c m old out new p q =
+    store_more array n c m old out new
+    (p ∙ ap (λ ts. old ++ flat_map (assignment_text array n) ts) (sym (placed_stores c m))) q
+    ∙ ap (λ ts. old ++ flat_map (assignment_text array n) ts) (placed_stores c (m + 1))
+
+pub record Started {X : Type 0} (f : X → Code) (xs : List X) (k place : ℕ) (old out : List ℕ) : Type 0 where
+  pub places : place ≡ length (start_words (map f (take k xs)))
+  pub most : place ≤ k
+  pub text : out ≡ old ++ starts_text 0 (start_words (map f (take k xs)))
+
+pub started_more : {X : Type 0} (f : X → Code) (xs : List X) (k : ℕ) (d : X) (place next : ℕ) (old out new : List ℕ) →
+    k < length xs → Started f xs k place old out → next ≡ place + length (starts_of (f (get_or xs k d))) →
+    next ≤ place + 1 → new ≡ out ++ starts_text place (starts_of (f (get_or xs k d)))
+    → Started f xs (k + 1) next old new
+started_more f xs k d place next old out new lt s p most q =
+    let ws = start_words (map f (take k xs)) in let us = starts_of (f (get_or xs k d)) in
+    let more = start_more f xs k d lt in
+    let le = s.most in
+    let none : length ws ≡ 0 + length ws = omega arith in
+    record {
+      places = p ∙ ap (λ (j : ℕ). j + length us) s.places ∙ sym (length-append ws us) ∙ ap length (sym more);
+      most = omega arith;
+      text = q ∙ ap (λ o. o ++ starts_text place us) s.text
+          ∙ ap (λ (j : ℕ). (old ++ starts_text 0 ws) ++ starts_text j us) (s.places ∙ none)
+          ∙ append_assoc old (starts_text 0 ws) (starts_text (0 + length ws) us)
+          ∙ ap (λ t. old ++ t) (sym (starts_push 0 ws us))
+          ∙ ap (λ us. old ++ starts_text 0 us) (sym more);
+    }
+
+-- ---- a sum, in its type
+pub summed : (n bits : ℕ) (operator : Operator) (e f : Wide) (old new : List ℕ) →
+    bits ≡ working_bits n (Two operator e f) →
+    new ≡ old ++ codes "(" ++ c_wide_text bits e ++ operator_text operator ++ c_wide_text bits f ++ codes ")"
+    → new ≡ old ++ working_wide_text n (Two operator e f)
+summed n bits operator e f old new p q =
+    let joined : old ++ codes "(" ++ c_wide_text bits e ++ operator_text operator ++ c_wide_text bits f ++ codes ")"
+    ≡ old ++ c_wide_text bits (Two operator e f) = simp append_assoc in
+    q ∙ joined ∙ ap (λ (b : ℕ). old ++ c_wide_text b (Two operator e f)) p
+
+-- ---- an assignment
+pub assigned : (array : List ℕ) (n place name : ℕ) (old a b c new : List ℕ) →
+    a ≡ old ++ codes "    " ++ array ++ codes "[" ++ decimal place ++ codes "] = " →
+    b ≡ a ++ c_cast_text (least_size n) → c ≡ b ++ codes "w" ++ decimal name → new ≡ c ++ codes ";\n"
+    → new ≡ old ++ assignment_text array n (store_of place name)
+assigned array n place name old a b c new p q r s =
+    let joined : old ++ codes "    " ++ array ++ codes "[" ++ decimal place ++ codes "] = " ++ c_cast_text (least_size n)
+    ++ codes "w" ++ decimal name ++ codes ";\n" ≡ old ++ assignment_text array n (store_of place name) =
+    simp append_assoc in
+    s ∙ ap (λ t. t ++ codes ";\n") (r ∙ ap (λ t. t ++ codes "w" ++ decimal name)
+    (q ∙ ap (λ t. t ++ c_cast_text (least_size n)) p)) ∙ joined
+
+-- ---- a cast expression
+pub cast_behind : (n : ℕ) (size : Size) (e : Wide) (old a new : List ℕ) → a ≡ old ++ c_cast_text size →
+    new ≡ a ++ working_wide_text n e → new ≡ old ++ c_value_text n size (Narrowed e)
+cast_behind n size e old a new p q =
+    q ∙ ap (λ t. t ++ working_wide_text n e) p ∙ append_assoc old (c_cast_text size) (working_wide_text n e)
+
+-- ---- what stands above the functions
+pub helped : (n : ℕ) (ls : List Let) (w x y z : Bool) (old a b c new : List ℕ) → w ≡ list_any (computes_in n 128) ls →
+    x ≡ list_any (rounds_in n 32) ls → y ≡ list_any (rounds_in n 64) ls → z ≡ list_any (rounds_in n 128) ls →
+    a ≡ old ++ cond w wide_type_text [] → b ≡ a ++ cond x (floor_text 32) [] → c ≡ b ++ cond y (floor_text 64) [] →
+    new ≡ c ++ cond z (floor_text 128) []
+    → new ≡ old ++ helpers_text n ls
+helped n ls w x y z old a b c new pw px py pz p q r s =
+    s ∙ ap (λ t. t ++ cond z (floor_text 128) []) (r ∙ ap (λ t. t ++ cond y (floor_text 64) []) (q
+    ∙ ap (λ t. t ++ cond x (floor_text 32) []) p))
+    ∙ joined (cond w wide_type_text []) (cond x (floor_text 32) []) (cond y (floor_text 64) []) (cond z (floor_text 128) [])
+    ∙ (λ i. old ++ (cond (pw i) wide_type_text [] ++ (cond (px i) (floor_text 32) [] ++ (cond (py i) (floor_text 64) []
+    ++ cond (pz i) (floor_text 128) []))))
+  where
+    joined : (d e f g : List ℕ) → (((old ++ d) ++ e) ++ f) ++ g ≡ old ++ (d ++ (e ++ (f ++ g)))
+    joined d e f g = simp append_assoc
+
+-- ---- any four pieces
+pub four_pieces : (d e f g old a b c new : List ℕ) → a ≡ old ++ d → b ≡ a ++ e → c ≡ b ++ f → new ≡ c ++ g
+    → new ≡ old ++ (d ++ (e ++ (f ++ g)))
+four_pieces d e f g old a b c new p q r s =
+    let joined : ((old ++ d) ++ e) ++ f ++ g ≡ old ++ (d ++ (e ++ (f ++ g))) = simp append_assoc in
+    s ∙ ap (λ t. t ++ g) (r ∙ ap (λ t. t ++ f) (q ∙ ap (λ t. t ++ e) p)) ∙ joined

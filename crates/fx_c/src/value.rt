@@ -1,0 +1,263 @@
+//! What a name stands for.
+//!
+//! Each expression is written by one function, for the number of bits that its statement computes in.
+
+ghost use Rattle.std.specs.Prelude.{◌≡◌, ◌++◌, codes, decimal, OnOk};
+ghost use Rattle.fx_model.specs.Machine as machine;
+ghost use Rattle.fx_program.specs.CodeView.{round_of, kind_of};
+ghost use Rattle.fx_statements.specs.Statements.{Plus, Minus, Over, Widened, Negated, Two, Narrowed};
+ghost use Rattle.fx_statements.specs.OfProgram.{least_size, product};
+ghost use Rattle.fx_c99.specs.CText.{c_wide_text, working_wide_text, c_value_text};
+ghost use Rattle.fx_c99.specs.OfProgram.{raised, c_rounded, c_operand, c_value_for};
+
+use crate::piece::{put, put_cast, put_digits, put_literal, put_name, put_power, put_working};
+use crate::rounding::{close_rounded, open_rounded};
+use crate::working::{copy_bits, double_bits, few, plain_bits, sum_bits};
+use fx_program::{Kind, Round};
+use std::alloc::AllocError;
+
+// `(int32_t)w3`.
+fn put_widened(out: &mut Vec<u8>, bits: u32, name: u32) -> Result<(), AllocError>
+    ensures { OnOk result (out.new.items ≡ out.old.items ++ c_wide_text bits (Widened name)) }
+{
+    put(out, b"(")?;
+    put_working(out, bits)?;
+    put(out, b")")?;
+    put_name(out, name)
+}
+
+// A word, times a power of two.
+fn put_raised(out: &mut Vec<u8>, bits: u32, a: u32, s: u64) -> Result<(), AllocError>
+    ensures { OnOk result (out.new.items ≡ out.old.items ++ c_wide_text bits (raised a s)) }
+{
+    put(out, b"(")?;
+    put_widened(out, bits, a)?;
+    put(out, b" * ")?;
+    put_power(out, bits, s)?;
+    put(out, b")")
+}
+
+// A word, shifted to the right and rounded.
+fn put_lowered(out: &mut Vec<u8>, bits: u32, r: Round, a: u32, s: u64) -> Result<(), AllocError>
+    ensures { OnOk result (out.new.items ≡ out.old.items ++ c_wide_text bits (c_rounded (round_of r) (Widened a) s)) }
+{
+    open_rounded(out, bits, r, s)?;
+    put_widened(out, bits, a)?;
+    close_rounded(out, bits, r, s)?;
+    Ok(())
+}
+
+// An operand that is rounded down, or raised, as the sign of `s` says.
+fn put_operand(out: &mut Vec<u8>, width: u32, bits: u32, a: u32, s: i64) -> Result<(), AllocError>
+    ensures { OnOk result (out.new.items ≡ out.old.items ++ c_wide_text bits (c_operand width machine.Floor a s)) }
+{
+    if s < 0 {
+        put_raised(out, bits, a, s.unsigned_abs())
+    } else {
+        put_lowered(out, bits, Round::Floor, a, few(width, s.unsigned_abs()))
+    }
+}
+
+// A copy.
+fn put_copy(
+    out: &mut Vec<u8>,
+    width: u32,
+    bits: u32,
+    r: Round,
+    a: u32,
+    s: i64,
+) -> Result<(), AllocError>
+    ensures { OnOk result (out.new.items ≡ out.old.items ++ c_wide_text bits (c_operand width (round_of r) a s)) }
+{
+    match r {
+        Round::Floor => put_operand(out, width, bits, a, s),
+        Round::Nearest if s < 0 => put_raised(out, bits, a, s.unsigned_abs()),
+        Round::Nearest => put_lowered(out, bits, Round::Nearest, a, s.unsigned_abs()),
+    }
+}
+
+// A sum, or a difference, of two shifted operands, as the text between them says.
+fn put_sum(
+    out: &mut Vec<u8>,
+    width: u32,
+    bits: u32,
+    a: u32,
+    sa: i32,
+    operator: &[u8],
+    b: u32,
+    sb: i32,
+) -> Result<(), AllocError>
+    ensures { OnOk result (out.new.items ≡ out.old.items ++ codes "("
+        ++ c_wide_text bits (c_operand width machine.Floor a sa)
+        ++ operator.now ++ c_wide_text bits (c_operand width machine.Floor b sb) ++ codes ")") }
+{
+    put(out, b"(")?;
+    put_operand(out, width, bits, a, i64::from(sa))?;
+    put(out, operator)?;
+    put_operand(out, width, bits, b, i64::from(sb))?;
+    put(out, b")")
+}
+
+// A sum, in its type.
+fn put_addition(
+    out: &mut Vec<u8>,
+    width: u32,
+    a: u32,
+    sa: i32,
+    b: u32,
+    sb: i32,
+) -> Result<(), AllocError>
+    ensures { OnOk result (out.new.items ≡ out.old.items ++ working_wide_text width
+        (Two Plus (c_operand width machine.Floor a sa) (c_operand width machine.Floor b sb))) }
+{
+    let bits = sum_bits(width, a, sa, b, sb);
+    put_sum(out, width, bits, a, sa, b" + ", b, sb)?;
+    Ok(())
+}
+
+// A difference, in its type.
+fn put_difference(
+    out: &mut Vec<u8>,
+    width: u32,
+    a: u32,
+    sa: i32,
+    b: u32,
+    sb: i32,
+) -> Result<(), AllocError>
+    ensures { OnOk result (out.new.items ≡ out.old.items ++ working_wide_text width
+        (Two Minus (c_operand width machine.Floor a sa) (c_operand width machine.Floor b sb))) }
+{
+    let bits = sum_bits(width, a, sa, b, sb);
+    put_sum(out, width, bits, a, sa, b" - ", b, sb)?;
+    Ok(())
+}
+
+// A product of two words.
+fn put_product(out: &mut Vec<u8>, bits: u32, a: u32, b: u32) -> Result<(), AllocError>
+    ensures { OnOk result (out.new.items ≡ out.old.items ++ c_wide_text bits (product a b)) }
+{
+    put(out, b"(")?;
+    put_widened(out, bits, a)?;
+    put(out, b" * ")?;
+    put_widened(out, bits, b)?;
+    put(out, b")")
+}
+
+// The same, shifted to the right and rounded.
+fn put_rounded_product(
+    out: &mut Vec<u8>,
+    bits: u32,
+    r: Round,
+    a: u32,
+    b: u32,
+    s: u64,
+) -> Result<(), AllocError>
+    ensures { OnOk result (out.new.items ≡ out.old.items ++ c_wide_text bits (c_rounded (round_of r) (product a b) s)) }
+{
+    open_rounded(out, bits, r, s)?;
+    put_product(out, bits, a, b)?;
+    close_rounded(out, bits, r, s)?;
+    Ok(())
+}
+
+// A quotient of a raised dividend.
+fn put_quotient(out: &mut Vec<u8>, bits: u32, a: u32, b: u32, s: u64) -> Result<(), AllocError>
+    ensures { OnOk result (out.new.items ≡ out.old.items ++ c_wide_text bits (Two Over (raised a s) (Widened b))) }
+{
+    put(out, b"(")?;
+    put_raised(out, bits, a, s)?;
+    put(out, b" / ")?;
+    put_widened(out, bits, b)?;
+    put(out, b")")
+}
+
+// A negation.
+fn put_negation(out: &mut Vec<u8>, bits: u32, a: u32) -> Result<(), AllocError>
+    ensures { OnOk result (out.new.items ≡ out.old.items ++ c_wide_text bits (Negated (Widened a))) }
+{
+    put(out, b"(-")?;
+    put_widened(out, bits, a)?;
+    put(out, b")")
+}
+
+// An element of an array.
+fn put_element(out: &mut Vec<u8>, array: &[u8], k: u32) -> Result<(), AllocError>
+    ensures { OnOk result (out.new.items ≡ out.old.items ++ array.now ++ codes "[" ++ decimal k ++ codes "]") }
+{
+    put(out, array)?;
+    put(out, b"[")?;
+    put_digits(out, k)?;
+    put(out, b"]")
+}
+
+// A sum, cast.
+fn put_cast_addition(
+    out: &mut Vec<u8>,
+    width: u32,
+    own: u32,
+    a: u32,
+    sa: i32,
+    b: u32,
+    sb: i32,
+) -> Result<(), AllocError>
+    ensures { OnOk result (out.new.items ≡ out.old.items ++ c_value_text width (least_size own) (Narrowed
+        (Two Plus (c_operand width machine.Floor a sa) (c_operand width machine.Floor b sb)))) }
+{
+    put_cast(out, own)?;
+    put_addition(out, width, a, sa, b, sb)?;
+    Ok(())
+}
+
+// A difference, cast.
+fn put_cast_difference(
+    out: &mut Vec<u8>,
+    width: u32,
+    own: u32,
+    a: u32,
+    sa: i32,
+    b: u32,
+    sb: i32,
+) -> Result<(), AllocError>
+    ensures { OnOk result (out.new.items ≡ out.old.items ++ c_value_text width (least_size own) (Narrowed
+        (Two Minus (c_operand width machine.Floor a sa) (c_operand width machine.Floor b sb)))) }
+{
+    put_cast(out, own)?;
+    put_difference(out, width, a, sa, b, sb)?;
+    Ok(())
+}
+
+/// What the name of such a code stands for, at the type of its own width.
+pub fn put_value(out: &mut Vec<u8>, width: u32, own: u32, kind: Kind) -> Result<(), AllocError>
+    ensures { OnOk result (out.new.items ≡ out.old.items
+        ++ c_value_text width (least_size own) (c_value_for width (kind_of kind))) }
+{
+    match kind {
+        Kind::Input { k, .. } => {
+            put_cast(out, own)?;
+            put_element(out, b"input", k)
+        }
+        Kind::State { k, .. } => {
+            put_cast(out, own)?;
+            put_element(out, b"state", k)
+        }
+        Kind::Const { w, .. } => put_literal(out, w),
+        Kind::Neg { a } => {
+            put_cast(out, own)?;
+            put_negation(out, plain_bits(width), a)
+        }
+        Kind::Add { a, b, sa, sb } => { put_cast_addition(out, width, own, a, sa, b, sb) }
+        Kind::Sub { a, b, sa, sb } => { put_cast_difference(out, width, own, a, sa, b, sb) }
+        Kind::Mul { r, a, b, s } => {
+            put_cast(out, own)?;
+            put_rounded_product(out, double_bits(width), r, a, b, u64::from(s))
+        }
+        Kind::Div { a, b, s } => {
+            put_cast(out, own)?;
+            put_quotient(out, double_bits(width), a, b, u64::from(s))
+        }
+        Kind::Copy { r, a, s } => {
+            put_cast(out, own)?;
+            put_copy(out, width, copy_bits(width, r, a, s), r, a, s)
+        }
+    }
+}

@@ -1,0 +1,56 @@
+//! The C99 text of a program: how its statements are written, and what they do.
+//!
+//! `specs/` has the definitions: `Working` says in how many bits a statement computes, `CText` how it is written, and
+//! `CMeaning` what it does, which is nothing wherever C99 leaves it undefined or to the compiler. The statements are
+//! those of `fx_statements`; `OfProgram` says which a program has. Nothing here runs: the functions below have empty
+//! bodies, and each carries a law, of which `Laws` has the words. The trap: a shift to the left is no form of C here,
+//! since C leaves it undefined below 0, so a word is multiplied by a power of two.
+#![tactic(auto)]
+
+ghost use Rattle.fx_c99.specs.Laws.{FlooredLaw, ResetLaw, StepLaw, RunLaw, CertifiedLaw, OneReadingLaw, DoesOnceLaw, TextLaw};
+
+use fx_widths::{least_law, own_width_law};
+
+/// One text has one list of statements and one of start words, so that what a text does is well said.
+pub fn one_reading_law()
+    ensures { OneReadingLaw }
+{}
+
+/// What a text does is one thing.
+pub fn does_once_law()
+    ensures { DoesOnceLaw }
+{}
+
+/// The helping function rounds down, below 0 too.
+pub fn floored_law()
+    ensures { FlooredLaw }
+{}
+
+/// The reset writes the start words, whatever stood there.
+pub fn reset_law()
+    ensures { ResetLaw }
+{}
+
+/// Where the machine's step isn't stuck and each word lies in its width, the C text does that step.
+pub fn step_law()
+    ensures { StepLaw }
+{}
+
+/// Over any rows, from the reset on, the C text gives the machine's run.
+pub fn run_law()
+    ensures { RunLaw }
+{}
+
+/// The C text at the least widths gives the machine's run, over all rows in range.
+pub fn certified_c_law()
+    ensures { CertifiedLaw }
+{
+    least_law();
+    own_width_law();
+    run_law();
+}
+
+/// A lawful program's C text does the machine's steps, wherever each word lies in its width.
+pub fn text_law()
+    ensures { TextLaw }
+{}
