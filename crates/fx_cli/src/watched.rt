@@ -3,7 +3,7 @@
 //! That it is so at every read is a clause of `fixd` (`prompt`), told of the moments that a source notes. This one
 //! notes them all.
 ghost use Rattle.std.specs.Prelude.{◌≡◌, ℕ, List, map, take, length, min, Some};
-ghost use Rattle.fx_base.specs.Moments.{Notes};
+ghost use Rattle.fx_base.specs.Moments.{Moment, Notes};
 
 use crate::tests::call;
 use fx_base::{BytesOut, Failed, Source, Status};
@@ -27,7 +27,7 @@ struct Watched<'a> {
 
 /// Notes what stands now. Where memory is wanting nothing is noted.
 fn note<'a>(alloc: Global, looks: &mut Vec<Look<'a>>, left: &'a [u8], shown: &BytesOut)
-    ensures { Notes (record { left = Some left.now; taken = Some shown.now.taken })
+    ensures { Notes {X = Moment} (record { left = Some left.now; taken = Some shown.now.taken })
         (map (λ l. record { left = Some l.left.now; taken = Some l.printed.items }) looks.old.items)
         (map (λ l. record { left = Some l.left.now; taken = Some l.printed.items }) looks.new.items) }
 {
