@@ -2,36 +2,12 @@
 //!
 //! Each call appends what its clause says. What a failed call has appended isn't told: its caller drops the text.
 
-ghost use Rattle.std.specs.Prelude.{◌≡◌, ◌++◌, ◌≤◌, codes, decimal, OnOk};
-ghost use Rattle.fx_statements.specs.RustText.{name_text};
+ghost use Rattle.std.specs.Prelude.{◌≡◌, ◌++◌, codes, decimal, OnOk};
 ghost use Rattle.fx_statements.specs.OfProgram.{least_size};
 ghost use Rattle.fx_c99.specs.CText.{type_text, c_cast_text, working_text, power_text, floor_name, literal_text};
 
-use itoa::{Buffer, Integer};
+use fx_rust::{put, put_digits};
 use std::alloc::AllocError;
-
-/// A text as it is.
-pub fn put(out: &mut Vec<u8>, text: &[u8]) -> Result<(), AllocError>
-    ensures { OnOk result (out.new.items ≡ out.old.items ++ text.now) }
-{
-    out.extend_from_slice(text)
-}
-
-/// A whole number, with no space before it.
-pub fn put_digits<I: Integer>(out: &mut Vec<u8>, n: I) -> Result<(), AllocError>
-    ensures { OnOk result (out.new.items ≡ out.old.items ++ I.text n) }
-{
-    let mut buffer = Buffer::new();
-    put(out, buffer.format(n).as_bytes())
-}
-
-/// `w3`.
-pub fn put_name<I: Integer>(out: &mut Vec<u8>, name: I) -> Result<(), AllocError>
-    ensures { OnOk result (out.new.items ≡ out.old.items ++ codes "w" ++ I.text name) }
-{
-    put(out, b"w")?;
-    put_digits(out, name)
-}
 
 /// The type of a width.
 pub fn put_type(out: &mut Vec<u8>, width: u32) -> Result<(), AllocError>

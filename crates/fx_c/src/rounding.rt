@@ -5,8 +5,9 @@ ghost use Rattle.fx_program.specs.CodeView.{round_of};
 ghost use Rattle.fx_c99.specs.CText.{power_text};
 ghost use Rattle.fx_c.specs.Around.{opening, closing};
 
-use crate::piece::{put, put_digits, put_floor_name, put_power};
+use crate::piece::{put_floor_name, put_power};
 use fx_program::Round;
+use fx_rust::{put, put_digits};
 use std::alloc::AllocError;
 
 /// What stands before it.

@@ -6,9 +6,10 @@ ghost use Rattle.fx_statements.specs.OfProgram.{store_of};
 ghost use Rattle.fx_c99.specs.CText.{c_let_text, assignment_text, start_text};
 ghost use Rattle.fx_c99.specs.OfProgram.{c_let_of};
 
-use crate::piece::{put, put_cast, put_digits, put_literal, put_name, put_type};
+use crate::piece::{put_cast, put_literal, put_type};
 use crate::value::put_value;
 use fx_program::{Code, Kind};
+use fx_rust::{put, put_digits, put_name};
 use std::alloc::AllocError;
 
 // The name of a code of this kind.

@@ -13,12 +13,13 @@ ghost use Rattle.fx_c99.specs.CText.{c_let_text, let_takes, unread_text, unreads
 ghost use Rattle.fx_c99.specs.OfProgram.{c_lets_from, c_routine_of, c_text_of};
 ghost use Rattle.fx_c99.specs.Runs.{DoesSteps};
 
-use crate::piece::{put, put_digits, put_floor_name, put_name, put_type, put_working};
+use crate::piece::{put_floor_name, put_type, put_working};
 use crate::statement::{put_assignment, put_let, put_start};
 use crate::working::{code_computes_in, code_rounds_in, code_takes};
 use fx_c99::text_law;
 use fx_num::Memory;
 use fx_program::{Code, Program};
+use fx_rust::{put, put_digits, put_name};
 use std::alloc::{AllocError, Global};
 
 // A line for each code.

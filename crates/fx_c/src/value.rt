@@ -10,10 +10,11 @@ ghost use Rattle.fx_statements.specs.OfProgram.{least_size, product};
 ghost use Rattle.fx_c99.specs.CText.{c_wide_text, working_wide_text, c_value_text};
 ghost use Rattle.fx_c99.specs.OfProgram.{raised, c_rounded, c_operand, c_value_for};
 
-use crate::piece::{put, put_cast, put_digits, put_literal, put_name, put_power, put_working};
+use crate::piece::{put_cast, put_literal, put_power, put_working};
 use crate::rounding::{close_rounded, open_rounded};
 use crate::working::{copy_bits, double_bits, few, plain_bits, sum_bits};
 use fx_program::{Kind, Round};
+use fx_rust::{put, put_digits, put_name};
 use std::alloc::AllocError;
 
 // `(int32_t)w3`.

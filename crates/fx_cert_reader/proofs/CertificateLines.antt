@@ -6,7 +6,8 @@ use Rattle.std.specs.List.{AllByRecursion}
 use Rattle.std.proofs.lemmas.Int.{ints}
 use Rattle.fx_rational.specs.Dyadic.{Dyadic, IsWritten}
 use Rattle.fx_rational.specs.Interval.{Interval, IsWrittenInterval}
-use Rattle.fx_model.specs.Limits.{input_limit, state_limit, node_limit, step_limit, place_end, rule_count, template_limit}
+use Rattle.fx_model.specs.Limits.{input_limit, state_limit, node_limit, step_limit, place_end, template_limit}
+use Rattle.fx_model.specs.Rules.{rule_count}
 use Rattle.fx_model.specs.LineText.{dyadic_text, interval_fields}
 use Rattle.fx_inequalities.specs.Rewriting.{Rewriting}
 use Rattle.fx_inequalities.specs.Certificate.{StartBox}

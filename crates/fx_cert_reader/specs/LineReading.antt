@@ -1,7 +1,8 @@
 -- Reading the lines of a certificate: the fields from left to right.
 use Rattle.std.specs.Prelude.{ℕ, pos, ◌+◌, ◌&&◌, Some, None, Result, Ok, Err, if◌then◌else◌, nat_le, unsigned_abs, codes}
 use Rattle.std.specs.Str.{bytes_eq}
-use Rattle.fx_model.specs.Limits.{input_limit, state_limit, node_limit, step_limit, place_end, rule_count, template_limit}
+use Rattle.fx_model.specs.Limits.{input_limit, state_limit, node_limit, step_limit, place_end, template_limit}
+use Rattle.fx_model.specs.Rules.{rule_count}
 use Rattle.fx_inequalities.specs.Rewriting.{Rewriting}
 use Rattle.fx_inequalities.specs.Certificate.{Form, NodeLine, Template, StartBox}
 use Rattle.fx_inequalities.specs.LawfulCertificate.{unit_vector}

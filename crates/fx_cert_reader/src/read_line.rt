@@ -19,8 +19,9 @@ use fx_cert::{Form, NodeLine, StartBox, Template, unit_vector};
 use fx_expr::Items;
 use fx_interval::Interval;
 use fx_num::{
-    INPUT_LIMIT, NODE_LIMIT, PLACE_END, RULE_COUNT, STATE_LIMIT, STEP_LIMIT, TEMPLATE_LIMIT,
+    INPUT_LIMIT, NODE_LIMIT, PLACE_END, STATE_LIMIT, STEP_LIMIT, TEMPLATE_LIMIT,
 };
+use fx_rewrite::RULE_COUNT;
 use fx_step::Step;
 use fx_text::{
     Fields, TextKind, count, dyadic, dyadics, ended, interval as ends, place, small, word,

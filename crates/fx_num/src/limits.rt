@@ -33,9 +33,6 @@ pub const STEP_LIMIT: u32 = 10_000;
 /// The place of a step is below this.
 pub const PLACE_END: u32 = 2000;
 
-/// The rewriting rules count from 1 to this.
-pub const RULE_COUNT: i32 = 30;
-
 /// The most templates, and the most error templates.
 pub const TEMPLATE_LIMIT: u32 = 512;
 

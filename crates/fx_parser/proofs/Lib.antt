@@ -3,6 +3,9 @@ pub mod SoundTokens
 pub mod NodeCounts
 pub mod SoundTrees
 pub mod SoundSubjects
+pub mod SoundFronts
+pub mod SoundBodies
+pub mod SoundDemands
 pub mod SoundFunctions
 pub mod Unmapped
 pub mod Choices

@@ -3,7 +3,7 @@ use Rattle.std.proofs.Common.{◌≡◌, ℕ, suc, ◌+◌, ◌-◌, ◌<◌, �
 use Rattle.std.specs.Prelude.{is_some}
 use Rattle.std.specs.Option.{option_and_then}
 use Rattle.fx_model.specs.Function.{Function}
-use Rattle.fx_model.specs.Limits.{rule_count}
+use Rattle.fx_model.specs.Rules.{rule_count}
 use Rattle.fx_model.specs.Paths.{found}
 use Rattle.fx_rules.specs.Turned.{turned}
 use Rattle.fx_rules.specs.Steps.{after, rewrite}

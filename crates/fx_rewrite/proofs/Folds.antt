@@ -9,7 +9,7 @@ use Rattle.fx_rational.proofs.Laws.{equal_refl}
 use Rattle.fx_rational.proofs.Lowest.{lowest_is}
 use Rattle.fx_rational.proofs.Quotient.{quotient_none}
 use Rattle.fx_fraction.specs.Fractions.{IsFraction}
-use Rattle.fx_rules.specs.Rules.{fits_literal}
+use Rattle.fx_model.specs.Rules.{fits_literal}
 use Rattle.fx_rewrite.specs.FoldedAs.{where_kept, folded_as}
 use Rattle.fx_rewrite.specs.declared.fold.Folded.TheVariants.{NoMatch, Literal}
 

@@ -3,8 +3,8 @@ use Rattle.std.proofs.Common.{◌≡◌, ℕ, Bool, true, false, Option, Some, N
 use Rattle.fx_rational.specs.Rational.{Rational, lowest}
 use Rattle.fx_model.specs.Tree.{Tree}
 use Rattle.fx_expr.specs.SizeOf.{size_of}
-use Rattle.fx_rules.specs.Rules as table
-use Rattle.fx_rules.specs.Rules.{Folding, fits_literal, folding_fits, filled}
+use Rattle.fx_model.specs.Rules as table
+use Rattle.fx_model.specs.Rules.{Folding, fits_literal, folding_fits, filled}
 use Rattle.fx_rules.specs.Turned as rules
 use Rattle.fx_rules.specs.Turned.{nothing, matched, or_zero, letters_of, folded, where_fits, made, outcome, turned_by, turned}
 use Rattle.fx_rules.proofs.Matching.{there, holds_found}

@@ -1,8 +1,7 @@
 -- Numbers that are no rule's.
 use Rattle.std.proofs.Common.{◌≡◌, ◌⊎◌, ⊎_elim, ℕ, zero, suc, ◌<◌, ◌≤◌, List, [], ◌∷◌, None, refl, length, arith}
 use Rattle.std.specs.Prelude.{slice_get}
-use Rattle.fx_model.specs.Limits.{rule_count}
-use Rattle.fx_rules.specs.Rules.{rules, rule}
+use Rattle.fx_model.specs.Rules.{rules, rule, rule_count}
 
 past : {A : Type 0} (xs : List A) (n : ℕ) → length xs ≤ n → slice_get xs n ≡ None
 past [] n h = refl

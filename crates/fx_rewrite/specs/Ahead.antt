@@ -1,7 +1,7 @@
 -- What is left of the steps behind a place, a path and a rule.
 use Rattle.std.specs.Prelude.{ℕ, zero, suc, ◌+◌, ◌-◌, List, [], ◌∷◌, ◌++◌, map, drop}
 use Rattle.std.specs.List.{filter}
-use Rattle.fx_model.specs.Limits.{rule_count}
+use Rattle.fx_model.specs.Rules.{rule_count}
 use Rattle.fx_model.specs.Tree.{Tree, Negation, Sum, Difference, Product, Quotient}
 use Rattle.fx_model.specs.Function.{Function}
 use Rattle.fx_inequalities.specs.Rewriting.{Rewriting}

@@ -1,7 +1,7 @@
 -- The first of the steps that are left at a path.
 use Rattle.std.specs.Prelude.{◌≡◌, ℕ, ◌+◌, ◌≤◌, List, [], ◌∷◌, Option, Some, None}
 use Rattle.fx_model.specs.Function.{Function}
-use Rattle.fx_model.specs.Limits.{rule_count}
+use Rattle.fx_model.specs.Rules.{rule_count}
 use Rattle.fx_rules.specs.SingleSteps.{steps_by}
 use Rattle.fx_rewrite.specs.Ahead.{rules_from, there}
 

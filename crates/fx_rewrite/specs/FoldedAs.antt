@@ -1,7 +1,7 @@
 -- What is folded, as the code names it.
 use Rattle.std.specs.Prelude.{Bool, true, false, Option, Some, None, pos}
 use Rattle.fx_rational.specs.Rational.{Rational, whole, lowest}
-use Rattle.fx_rules.specs.Rules.{Folding, fits_literal}
+use Rattle.fx_model.specs.Rules.{Folding, fits_literal}
 use Rattle.fx_rewrite.specs.declared.fold.Folded.{Folded}
 use Rattle.fx_rewrite.specs.declared.fold.Folded.TheVariants.{NoMatch, TooLong, Literal}
 

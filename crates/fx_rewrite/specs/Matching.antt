@@ -3,7 +3,7 @@ use Rattle.std.specs.Prelude.{◌≡◌, ℕ}
 use Rattle.fx_rational.specs.Rational.{Rational}
 use Rattle.fx_model.specs.Tree.{Tree}
 use Rattle.fx_expr.specs.SizeOf.{size_of}
-use Rattle.fx_rules.specs.Rules.{filled}
+use Rattle.fx_model.specs.Rules.{filled}
 use Rattle.fx_rules.specs.Turned as rules
 use Rattle.fx_rules.specs.Turned.{letters_of, turned}
 use Rattle.fx_rewrite.specs.RuleOf.{pattern_of}

@@ -4,7 +4,7 @@ use Rattle.fx_model.specs.Tree.{Tree}
 use Rattle.fx_model.specs.Function.{Function}
 use Rattle.fx_model.specs.Paths.{found, with_tree}
 use Rattle.fx_inequalities.specs.Rewriting.{Rewriting}
-use Rattle.fx_rules.specs.Rules.{RewritesTree}
+use Rattle.fx_model.specs.Rules.{RewritesTree}
 use Rattle.fx_rules.specs.Steps.{rewrite, IsUnmatched}
 use Rattle.fx_rules.specs.Turned.{Found}
 use Rattle.fx_rewrite.specs.Matching.{IsMatch, new_of}

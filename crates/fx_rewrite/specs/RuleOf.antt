@@ -2,7 +2,7 @@
 use Rattle.std.specs.Prelude.{Some, None, pos}
 use Rattle.fx_rational.specs.Rational.{plus, minus, times, negative, quotient, whole}
 use Rattle.fx_model.specs.Tree.{always}
-use Rattle.fx_rules.specs.Rules as rules
+use Rattle.fx_model.specs.Rules as rules
 use Rattle.fx_rewrite.specs.declared.pattern.Letter.{Letter}
 use Rattle.fx_rewrite.specs.declared.pattern.Letter.TheVariants as letters
 use Rattle.fx_rewrite.specs.declared.pattern.Part.{Part}

@@ -1,6 +1,6 @@
 -- The sizes of letters.
 use Rattle.fx_expr.specs.SizeOf.{size_of}
-use Rattle.fx_rules.specs.Rules.{Letters}
+use Rattle.fx_model.specs.Rules.{Letters}
 use Rattle.fx_rewrite.specs.declared.size.LetterSizes.{LetterSizes}
 
 -- of each

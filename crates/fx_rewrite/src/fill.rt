@@ -2,7 +2,7 @@
 ghost use Rattle.std.specs.Prelude.{◌≡◌, IfOk};
 ghost use Rattle.std.specs.Option.{option_map};
 ghost use Rattle.fx_expr.specs.TreeOf.{tree};
-ghost use Rattle.fx_rules.specs.Rules as rules;
+ghost use Rattle.fx_model.specs.Rules as rules;
 ghost use Rattle.fx_rules.specs.Turned.{letters_of, or_leaf};
 ghost use Rattle.fx_rewrite.specs.FoundOf.{found_of};
 ghost use Rattle.fx_rewrite.specs.RuleOf.{letter_of, part_of, pattern_of};

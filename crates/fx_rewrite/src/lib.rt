@@ -1,8 +1,9 @@
 //! Rewriting: a function is changed in place by a step of a certificate, and keeps its meaning.
 //!
-//! A step names a tree, a path in it and a rule (`fx_step`). What the rules are stands in `fx_rules`, by which
-//! contracts say what a step gives. The code has the same table (`table.rt`), and interprets it: the letters of a left
-//! side are found in a tree (`found.rt`), and the right side is measured (`size.rt`) and built (`fill.rt`) with them.
+//! A step names a tree, a path in it and a rule (`fx_step`). The rules are a table of patterns
+//! (`fx_model/specs/Rules.antt`), and contracts say by `fx_rules` what a step gives. The code has the same table
+//! (`table.rt`), and interprets it: the letters of a left side are found in a tree (`found.rt`), and the right side is
+//! measured (`size.rt`) and built (`fill.rt`) with them.
 #![tactic(auto)]
 
 mod change;
@@ -22,3 +23,4 @@ mod table;
 pub use change::apply;
 pub use cursor::SingleSteps;
 pub use fault::StepFault;
+pub use table::RULE_COUNT;

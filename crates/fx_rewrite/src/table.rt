@@ -1,13 +1,16 @@
 //! The rules by their numbers.
 ghost use Rattle.std.specs.Prelude.{◌≡◌};
 ghost use Rattle.std.specs.Option.{option_map};
-ghost use Rattle.fx_rules.specs.Rules as rules;
+ghost use Rattle.fx_model.specs.Rules as rules;
 ghost use Rattle.fx_rewrite.specs.RuleOf.{rule_of};
 ghost use Rattle.fx_rewrite.specs.declared.pattern.Folding.TheVariants as foldings;
 
 use crate::pattern::Letter::{A, B, C, K, L, Made};
 use crate::pattern::Part::One;
 use crate::pattern::{Folding, Part, Pattern, Rule};
+
+/// The rules count from 1 to this.
+pub const RULE_COUNT: i32 = 30;
 
 /// A rule that makes no literal.
 fn plain(left: Pattern, right: Pattern) -> Rule

@@ -8,7 +8,7 @@ use Rattle.fx_rational.proofs.Laws.{equal_refl, equal_sym, equal_trans, times_sa
 use Rattle.fx_rational.proofs.Quotient.{quotient_is, quotient_none, quotient_some, quotient_back, times_cancel_any, zero_or_not}
 use Rattle.fx_rational.proofs.Lowest.{lowest_is}
 use Rattle.fx_rational.specs.Laws.{SameOption}
-use Rattle.fx_rules.specs.Rules.{rules}
+use Rattle.fx_model.specs.Rules.{rules}
 use Rattle.fx_rules.proofs.Rows.{AreRules}
 
 -- the operations where their operands are defined

@@ -5,8 +5,8 @@ use Rattle.std.specs.Option.{option_and_then}
 use Rattle.fx_rational.specs.Rational.{Rational}
 use Rattle.fx_model.specs.Tree.{Tree, Literal, Negation, Sum, Difference, Product, Quotient}
 use Rattle.fx_model.proofs.Options.{some_then}
-use Rattle.fx_rules.specs.Rules as table
-use Rattle.fx_rules.specs.Rules.{Pattern, Letters, A, B, C, L, K, Made, filled}
+use Rattle.fx_model.specs.Rules as table
+use Rattle.fx_model.specs.Rules.{Pattern, Letters, A, B, C, L, K, Made, filled}
 use Rattle.fx_rules.specs.Turned.{Found, nothing, may_be, may_be_number, matched, or_leaf, or_zero, letters_of}
 use Rattle.fx_rules.proofs.SameTree.{same_tree_refl, same_tree_true}
 

@@ -5,7 +5,7 @@ use Rattle.fx_rational.specs.Rational.{Rational}
 use Rattle.fx_rational.specs.Laws.{SameOption}
 use Rattle.fx_model.specs.Tree.{Tree, value_of}
 use Rattle.fx_model.specs.Valid.{RefersBelow}
-use Rattle.fx_rules.specs.Rules.{Letters, Rule, filled, Folding, IsFolded}
+use Rattle.fx_model.specs.Rules.{Letters, Rule, filled, Folding, IsFolded}
 use Rattle.fx_rules.proofs.Matching.{finds_all}
 
 -- two trees have one value everywhere

@@ -2,7 +2,7 @@
 use Rattle.std.proofs.Common.{◌≡◌, ℕ, zero, suc, List, [], ◌∷◌, Some}
 use Rattle.std.specs.Prelude.{slice_get}
 use Rattle.fx_model.specs.Tree.{Tree}
-use Rattle.fx_rules.specs.Rules.{Rule, rules, rule, RewritesTree}
+use Rattle.fx_model.specs.Rules.{Rule, rules, rule, RewritesTree}
 use Rattle.fx_rules.proofs.Rows.{SameTrees, KeepsRefers, IsRule, AreRules}
 use Rattle.fx_rules.proofs.EachRule.{all_rules}
 

@@ -3,7 +3,7 @@ use Rattle.std.proofs.Common.{◌≡◌, ℕ, Bool, true, false, Option, Some, N
 use Rattle.std.specs.Option.{option_map}
 use Rattle.fx_rational.specs.Rational.{Rational, lowest}
 use Rattle.fx_model.specs.Tree.{Tree}
-use Rattle.fx_rules.specs.Rules.{Letters, Rule, Folding, IsFolded, fits_literal, folding_fits, rule, filled, RewritesTree}
+use Rattle.fx_model.specs.Rules.{Letters, Rule, Folding, IsFolded, fits_literal, folding_fits, rule, filled, RewritesTree}
 use Rattle.fx_rules.specs.Turned.{Turned, NoMatch, TooLong, Becomes, Found, nothing, matched, or_zero, letters_of, folded, where_fits, made, outcome, turned_by, turned}
 use Rattle.fx_rules.specs.Steps.{IsUnmatched}
 use Rattle.fx_rules.proofs.Matching.{holds_nothing, holds_found, there, found}

@@ -1,4 +1,3 @@
-pub mod Rules
 pub mod Turned
 pub mod Steps
 pub mod SingleSteps

@@ -1,7 +1,7 @@
 -- The single steps of a function: all that are there, in their order.
 use Rattle.std.specs.Prelude.{ℕ, zero, suc, ◌+◌, List, [], ◌∷◌, ◌++◌, map, is_some, Bool}
 use Rattle.std.specs.List.{filter}
-use Rattle.fx_model.specs.Limits.{rule_count}
+use Rattle.fx_model.specs.Rules.{rule_count}
 use Rattle.fx_model.specs.Tree.{Tree, Literal, Input, State, Temp, Negation, Sum, Difference, Product, Quotient}
 use Rattle.fx_model.specs.Function.{Function}
 use Rattle.fx_inequalities.specs.Rewriting.{Rewriting}

@@ -7,7 +7,7 @@ use Rattle.fx_model.specs.Function.{Function}
 use Rattle.fx_model.specs.Nodes.{nodes_of}
 use Rattle.fx_model.specs.Paths.{height, found, tree_at, with_tree}
 use Rattle.fx_inequalities.specs.Rewriting.{Rewriting, Rewrites as Way, KeepsMeaning}
-use Rattle.fx_rules.specs.Rules.{RewritesTree, folding_fits}
+use Rattle.fx_model.specs.Rules.{RewritesTree, folding_fits}
 use Rattle.fx_rules.specs.Turned.{Turned, NoMatch, TooLong, Becomes, turned}
 
 -- h is f rewritten by the step: the place and the path are there, the rule matches, and the limits are kept

@@ -3,8 +3,8 @@ use Rattle.std.specs.Prelude.{ℕ, ◌==◌, ◌&&◌, Bool, true, false, Option
 use Rattle.std.specs.Option.{option_and_then, option_map}
 use Rattle.fx_rational.specs.Rational.{Rational, whole, lowest}
 use Rattle.fx_model.specs.Tree.{Tree, Literal, Input, State, Temp, Negation, Sum, Difference, Product, Quotient}
-use Rattle.fx_rules.specs.Rules as table
-use Rattle.fx_rules.specs.Rules.{Pattern, Letters, Rule, Folding, A, B, C, L, K, rule, filled, folding_fits}
+use Rattle.fx_model.specs.Rules as table
+use Rattle.fx_model.specs.Rules.{Pattern, Letters, Rule, Folding, A, B, C, L, K, rule, filled, folding_fits}
 
 -- the left side doesn't match, or the literal that is folded leaves its limits, or the tree becomes another
 pub data Turned : Type 0 where

@@ -1,8 +1,8 @@
 //! The rewriting rules, and that they keep the meaning of a function.
 //!
-//! Nothing here runs. `specs/Rules.antt` has the thirty rules as one table, `specs/Turned.antt` what each makes of a
-//! tree by cases, and `specs/Steps.antt` what a step makes of a function. The trap: value *and definedness* stay, so no
-//! rule may drop a divisor that can be zero.
+//! Nothing here runs. The thirty rules are one table of patterns (`fx_model/specs/Rules.antt`); `specs/Turned.antt` says
+//! what a rule makes of a tree, by a walk over its patterns, and `specs/Steps.antt` what a step makes of a function. The
+//! trap: value *and definedness* stay, so no rule may drop a divisor that can be zero.
 #![tactic(auto)]
 
 ghost use Rattle.fx_rules.specs.Steps.{RewriteLaw};

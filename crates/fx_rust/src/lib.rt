@@ -11,4 +11,5 @@ mod statement;
 mod text;
 mod value;
 
+pub use piece::{put, put_digits, put_name};
 pub use text::rust_text;

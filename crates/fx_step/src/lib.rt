@@ -1,7 +1,7 @@
 //! Rewriting steps as data, as a certificate lists them.
 //!
-//! A `Step` names a tree, a path in it and a rule. What a step does to a function is the work of `fx_rewrite`, and what
-//! the rules are stands in `fx_rules`: who only reads, writes or keeps certificates needs neither. The trap: a step
+//! A `Step` names a tree, a path in it and a rule. What a step does to a function is the work of `fx_rewrite`, which has
+//! the rules as code too: who only writes or keeps certificates doesn't need it. The trap: a step
 //! need not lead anywhere. Whether its place, its path and its rule are there, who applies it finds out.
 #![tactic(auto)]
 

@@ -8,7 +8,7 @@ use Rattle.fx_model.specs.Function.{Function}
 use Rattle.fx_model.specs.Paths.{found}
 use Rattle.fx_model.proofs.Samples.{exact_input, half}
 use Rattle.fx_inequalities.specs.Rewriting.{Rewriting}
-use Rattle.fx_rules.specs.Rules.{Rule, RewritesTree, rules as table}
+use Rattle.fx_model.specs.Rules.{Rule, RewritesTree, rules as table}
 use Rattle.fx_rules.specs.Turned.{turned_by, turned}
 use Rattle.fx_rules.specs.Turned as rules
 use Rattle.fx_rules.specs.Steps.{rewrite, after}

@@ -1,7 +1,7 @@
 use Rattle.std.proofs.Common.{◌≡◌, Some, sym, ap, ◌∙◌}
 use Rattle.std.specs.Option.{option_map}
 use Rattle.fx_expr.specs.TreeOf.{tree}
-use Rattle.fx_rules.specs.Rules as table
+use Rattle.fx_model.specs.Rules as table
 use Rattle.fx_rules.specs.Turned.{nothing, matched, or_zero}
 use Rattle.fx_rewrite.specs.RuleOf.{pattern_of, folding_of, rule_of}
 use Rattle.fx_rewrite.specs.FoundOf.{found_of}

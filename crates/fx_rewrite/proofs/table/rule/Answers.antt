@@ -1,5 +1,5 @@
 use Rattle.std.proofs.Common.{◌≡◌, ◌⊎◌, ◌<◌, sym, arith}
-use Rattle.fx_model.specs.Limits.{rule_count}
+use Rattle.fx_model.specs.Rules.{rule_count}
 use Rattle.fx_rewrite.proofs.NoRule.{no_rule}
 use Rattle.fx_rewrite.proofs.table.rule.Goals as goal
 

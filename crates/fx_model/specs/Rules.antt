@@ -51,6 +51,10 @@ plain left right = record { left = left; right = right; folding = None }
 abbrev pub folds : Pattern → Pattern → (Rational → Rational → Option Rational) → Rule
 folds left right f = record { left = left; right = right; folding = Some f }
 
+-- the rewriting rules count from 1 to this
+abbrev pub rule_count : ℕ
+rule_count = 30
+
 -- the rules by number, from 1
 abbrev pub rules : List Rule
 rules =
