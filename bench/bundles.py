@@ -2,8 +2,8 @@
 """Writes a bundle that is accepted and long in one way, or one whose last line is wrong: bundles.py KIND > BUNDLE
 
 KIND is `columns` (a sum of 8 inputs), `plain` (4,000 nodes), `forms` (4,000 nodes, each operation with a form over 64 inputs and
-32 states), `rows` (512 templates and 512 error templates of 32 states, each with 64 shares), `steps` (10,000 steps on 2,000 nodes) or
-`long` (16 MB of forms and shares; its last line is wrong, so that nothing but its reading is measured).
+32 states), `rows` (512 templates and 512 error templates of 32 states, each with 64 shares), `steps` (10,000 steps on 2,000 nodes),
+`root` (10,000 steps at the root of a tree of 4,000 nodes) or `long` (16 MB of forms and shares; its last line is wrong, so that nothing but its reading is measured).
 """
 import random
 import sys
@@ -157,6 +157,26 @@ def steps():
     return text(source, "f", 32, (1, 0, 1), codes, [*lines, lines[-1]], steps=made)
 
 
+def root():
+    """A balanced sum of 3,998 operations, whose two halves change places 10,000 times."""
+    codes, lines = [f"in 0 {POINT}"], [plain(0, 1, -1, 0)]
+
+    def add(count):
+        """Appends the codes of a sum of so many inputs; gives its text and its last code."""
+        if count == 1:
+            return "x", 0
+        left, a = add(count // 2)
+        right, b = add(count - count // 2)
+        codes.append(f"add {a} {b} 0 0")
+        lines.append(plain(0, count, -count, 0))
+        return f"({left} + {right})", len(codes) - 1
+
+    whole, last = add(3999)
+    codes.append(f"copy {last} 0")
+    source = f"def f(x: Real): Real = {{ require(0 <= x && x <= 1) {whole} }}"
+    return text(source, "f", 32, (1, 0, 1), codes, [*lines, lines[-1]], steps=["step 0 - 1"] * 10000)
+
+
 def long():
     """Numbers of all lengths; behind each form 52 shares. It ends with another word than `end`."""
     inputs, states, count = 64, 32, 512
@@ -181,6 +201,6 @@ def long():
     return text(source, "f", 32, (inputs, states, 1), codes, lines, ["start 0:0 0:0 0:0 0:0"] * states, (group, group), end="fin")
 
 
-KINDS = {"columns": columns, "plain": plain_nodes, "forms": forms, "rows": rows, "steps": steps, "long": long}
+KINDS = {"columns": columns, "plain": plain_nodes, "forms": forms, "rows": rows, "steps": steps, "root": root, "long": long}
 if __name__ == "__main__":
     sys.stdout.write(KINDS[sys.argv[1]]())

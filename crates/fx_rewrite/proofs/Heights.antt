@@ -1,8 +1,19 @@
 -- Heights once a tree is exchanged: only the path and the new tree count.
 use Rattle.std.proofs.Common.{◌≡◌, ℕ, zero, suc, ◌+◌, ◌<◌, ◌≤◌, List, [], ◌∷◌, Some, ap, arith, length}
-use Rattle.fx_model.specs.Tree.{Tree, Negation, Sum, Difference, Product, Quotient}
+use Rattle.fx_model.specs.Tree.{Tree, Literal, Input, State, Temp, Negation, Sum, Difference, Product, Quotient}
 use Rattle.fx_model.specs.Paths.{height, child, subtree, child_changed, put}
 use Rattle.fx_model.proofs.Options.{some_then}
+
+pub height_above : (e : Tree) → 0 < height e
+height_above (Literal c) = omega arith
+height_above (Input k) = omega arith
+height_above (State k) = omega arith
+height_above (Temp k) = omega arith
+height_above (Negation a) = omega arith
+height_above (Sum a b) = omega arith
+height_above (Difference a b) = omega arith
+height_above (Product a b) = omega arith
+height_above (Quotient a b) = omega arith
 
 -- an operand is lower
 child_lower : (d : ℕ) (e a : Tree) → child d e ≡ Some a → height a < height e

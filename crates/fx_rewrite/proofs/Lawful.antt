@@ -1,15 +1,17 @@
 -- A function with an exchanged tree is lawful where the limits are kept.
-use Rattle.std.proofs.Common.{◌≡◌, ℕ, zero, suc, ◌+◌, ◌≤◌, List, [], ◌∷◌, Some, sym, subst, length}
+use Rattle.std.proofs.Common.{◌≡◌, ℕ, zero, suc, ◌+◌, ◌≤◌, List, [], ◌∷◌, Some, sym, subst, arith, length}
 use Rattle.std.specs.Prelude.{slice_get}
 use Rattle.std.specs.List.{All}
 use Rattle.std.proofs.lemmas.List.Elements.{All-head, All-tail, All-cons}
-use Rattle.fx_model.specs.Tree.{Tree}
+use Rattle.fx_model.specs.Tree.{Tree, Input}
 use Rattle.fx_model.specs.Function as function
 use Rattle.fx_model.specs.Function.{Function}
 use Rattle.fx_model.specs.Nodes.{nodes_of}
 use Rattle.fx_model.specs.Paths.{height, subtree, put, tree_in, tree_at, found, temps_changed, results_changed, results_after, with_tree}
+use Rattle.fx_model.proofs.Counted.{node_count_is}
 use Rattle.fx_model.proofs.Options.{some_then}
 use Rattle.fx_expr.specs.LawfulFunction.{IsLow, IsLawfulFunction}
+use Rattle.fx_expr.proofs.Nodes.{nodes_after}
 use Rattle.fx_rules.proofs.Refers.{KeepsBelow, put_refers, changed_valid, same_temps}
 use Rattle.fx_rewrite.proofs.Heights.{low_after}
 
@@ -75,3 +77,12 @@ lawful_with f k path old new is there keeps low few =
       low_temps = low_temps f.temps f.results k s.0 (put path new) is.low_temps s.1 high;
       low_results = low_results f.temps f.results k s.0 (put path new) is.low_results s.1 high;
     }
+
+-- with a leaf in place of a tree
+pub lawful_leaf : (f : Function) (k : ℕ) (path : List ℕ) (old : Tree) → IsLawfulFunction f → found f k path ≡ Some old →
+    length path + 1 ≤ 200 → IsLawfulFunction (with_tree f k path (Input 0))
+lawful_leaf f k path old is there low =
+    let x = nodes_after f k path old (Input 0) there in
+    let c = node_count_is f in let d = node_count_is (with_tree f k path (Input 0)) in
+    let few = is.sizes.nodes in
+    lawful_with f k path old (Input 0) is there (λ k m h. is.sizes.some_input) low (omega arith)

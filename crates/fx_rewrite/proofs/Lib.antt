@@ -1,6 +1,7 @@
 mod NoRule
 mod Heights
 mod There
+mod Twice
 mod Lawful
 mod Within
 mod Folds

@@ -12,6 +12,7 @@ use Rattle.fx_rewrite.specs.RuleOf.{pattern_of, folding_of, rule_of}
 use Rattle.fx_rewrite.specs.FoundOf.{Finds}
 use Rattle.fx_rewrite.specs.FoldedAs.{where_kept, folded_as, folded_by}
 use Rattle.fx_rewrite.specs.Matching.{AreSizes}
+use Rattle.fx_rewrite.specs.Moving.{IsMovable, all_carried, copied}
 use Rattle.fx_rewrite.specs.declared.fold.Folded.TheVariants.{Literal}
 use Rattle.fx_rewrite.specs.declared.pattern.Rule.{Rule}
 use Rattle.fx_rewrite.specs.declared.matching.Sizes.{Sizes}
@@ -41,17 +42,19 @@ folds_as (Some f) z q e = by (f (or_zero z.l) (or_zero z.k)) refl e
     by None is e = absurd cc
     by (Some v) is e = kept v is (fits_literal (lowest v)) refl e
 
--- what a rule becomes, and both sizes
+-- what a rule becomes, both sizes, and that its letters can be moved
 pub record Matches (n : ℕ) (r : Rule) (old : Tree) (z : rules.Found) (q : Rational) (sizes : Sizes) : Type 0 where
   pub becomes : turned n old ≡ rules.Becomes (filled (letters_of z q) (pattern_of r.right))
   pub less : sizes.old ≡ size_of old
   pub more : sizes.new ≡ size_of (filled (letters_of z q) (pattern_of r.right))
+  pub finished : all_carried r.moves old (filled (letters_of (copied r.moves z) q) (pattern_of r.right))
+      ≡ filled (letters_of z q) (pattern_of r.right)
 
 pub matches : (n : ℕ) (r : Rule) (old : Tree) (z : rules.Found) (q : Rational) (sizes : Sizes) →
     table.rule n ≡ Some (rule_of r) → matched (pattern_of r.left) old nothing ≡ Some z →
-    Literal q ≡ folded_by (folding_of r.folding) (or_zero z.l) (or_zero z.k) → AreSizes sizes r z →
+    Literal q ≡ folded_by (folding_of r.folding) (or_zero z.l) (or_zero z.k) → AreSizes sizes r z → IsMovable r →
     Matches n r old z q sizes
-matches n r old z q sizes is m f s =
+matches n r old z q sizes is m f s movable =
     let g = folds_as (folding_of r.folding) z q f in
     let left = (there (pattern_of r.left) old nothing z (letters_of z q) m (holds_found z q)).0 in
     record {
@@ -59,4 +62,7 @@ matches n r old z q sizes is m f s =
           ∙ ap (λ b. where_fits b (filled (letters_of z q) (pattern_of r.right))) g.fits;
       less = s.old q ∙ ap size_of (sym left);
       more = s.new q;
+      finished =
+          ap (λ t. all_carried r.moves t (filled (letters_of (copied r.moves z) q) (pattern_of r.right))) left
+          ∙ movable z q;
     }

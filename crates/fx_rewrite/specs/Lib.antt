@@ -1,5 +1,6 @@
 pub mod RuleOf
 pub mod FoundOf
+pub mod Moving
 pub mod FoldedAs
 pub mod SizesOf
 pub mod Matching

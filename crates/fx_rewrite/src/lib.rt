@@ -3,7 +3,8 @@
 //! A step names a tree, a path in it and a rule (`fx_step`). The rules are a table of patterns
 //! (`fx_model/specs/Rules.antt`), and contracts say by `fx_rules` what a step gives. The code has the same table
 //! (`table.rt`), and interprets it: the letters of a left side are found in a tree (`found.rt`), and the right side is
-//! measured (`size.rt`) and built (`fill.rt`) with them.
+//! measured (`size.rt`) and built (`fill.rt`) with them, of copies where a letter stands twice, else by moving what it
+//! stands for (`moving.rt`).
 #![tactic(auto)]
 
 mod change;
@@ -15,6 +16,7 @@ mod fold;
 mod found;
 mod judge;
 mod matching;
+mod moving;
 mod pattern;
 mod size;
 mod successor;

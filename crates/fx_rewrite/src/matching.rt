@@ -5,6 +5,7 @@ ghost use Rattle.fx_rewrite.specs.FoundOf.{found_of};
 
 use crate::fold::{Folded, fold, number};
 use crate::found::{Found, find};
+use crate::moving::Moves;
 use crate::pattern::{Pattern, Rule};
 use crate::size::LetterSizes;
 use crate::table::rule;
@@ -18,12 +19,13 @@ pub struct Sizes {
     pub new: Size,
 }
 
-/// A rule that matches: the pattern that the tree becomes, the literal that is folded, and the sizes. Its letters stand
-/// where they were found.
+/// A rule that matches: the pattern that the tree becomes, the literal that is folded, the letters that are moved, and
+/// the sizes. Its letters stand where they were found.
 #[derive(Clone, Copy)]
 pub struct Match {
     pub right: Pattern,
     pub made: Fraction,
+    pub moves: Moves,
     pub sizes: Sizes,
 }
 
@@ -67,6 +69,7 @@ pub fn judge<'a>(e: &'a Expr, number_of_rule: u8, found: &mut Found<'a>) -> Judg
         Folded::Literal(made) => Judged::Matches(Match {
             right: row.right,
             made,
+            moves: row.moves,
             sizes: both_sizes(&row, found),
         }),
     }

@@ -1,4 +1,7 @@
 //! The patterns that rules are made of: a tree of two levels at most.
+
+use crate::moving::Moves;
+
 /// What stands for a tree, a literal, or the literal that is folded.
 #[derive(Clone, Copy)]
 pub enum Letter {
@@ -50,4 +53,6 @@ pub struct Rule {
     pub left: Pattern,
     pub right: Pattern,
     pub folding: Folding,
+    /// The letters that stand once on the right.
+    pub moves: Moves,
 }

@@ -1,10 +1,15 @@
 //! The rules by their numbers.
-ghost use Rattle.std.specs.Prelude.{◌≡◌};
+ghost use Rattle.std.specs.Prelude.{◌≡◌, Some, None, IfSome};
 ghost use Rattle.std.specs.Option.{option_map};
 ghost use Rattle.fx_model.specs.Rules as rules;
+ghost use Rattle.fx_rewrite.specs.Moving.{IsMovable};
 ghost use Rattle.fx_rewrite.specs.RuleOf.{rule_of};
 ghost use Rattle.fx_rewrite.specs.declared.pattern.Folding.TheVariants as foldings;
 
+use crate::moving::Way::{
+    First, FirstOfFirst, FirstOfSecond, Second, SecondOfFirst, SecondOfSecond, Whole,
+};
+use crate::moving::{Move, Moves, Way};
 use crate::pattern::Letter::{A, B, C, K, L, Made};
 use crate::pattern::Part::One;
 use crate::pattern::{Folding, Part, Pattern, Rule};
@@ -12,121 +17,266 @@ use crate::pattern::{Folding, Part, Pattern, Rule};
 /// The rules count from 1 to this.
 pub const RULE_COUNT: i32 = 30;
 
-/// A rule that makes no literal.
+/// A rule that makes no literal, whose letters are copied.
 fn plain(left: Pattern, right: Pattern) -> Rule
-    ensures { result ≡ record { left = left; right = right; folding = foldings.Nothing } }
+    ensures { result ≡ record {
+      left = left;
+      right = right;
+      folding = foldings.Nothing;
+      moves = record { a = None; b = None; c = None };
+    } }
 {
     folds(left, right, Folding::Nothing)
 }
 
-/// A rule that folds a literal.
+/// A rule that folds a literal, whose letters are copied.
 fn folds(left: Pattern, right: Pattern, folding: Folding) -> Rule
-    ensures { result ≡ record { left = left; right = right; folding = folding } }
+    ensures { result ≡ record {
+      left = left;
+      right = right;
+      folding = folding;
+      moves = record { a = None; b = None; c = None };
+    } }
 {
     Rule {
         left,
         right,
         folding,
+        moves: Moves {
+            a: None,
+            b: None,
+            c: None,
+        },
+    }
+}
+
+/// A letter is moved from here to there.
+fn along(from: Way, to: Way) -> Option<Move>
+    ensures { result ≡ Some (record { from = from; to = to }) }
+{
+    Some(Move { from, to })
+}
+
+impl Rule {
+    /// With letters that are moved.
+    fn moving(self, a: Option<Move>, b: Option<Move>, c: Option<Move>) -> Rule
+        ensures { result ≡ record self { moves = record { a = a; b = b; c = c } } }
+    {
+        Rule {
+            moves: Moves { a, b, c },
+            ..self
+        }
     }
 }
 
 /// The rule of a number, if there is one.
 pub fn rule(number: u8) -> Option<Rule>
-    ensures { option_map rule_of result ≡ rules.rule number }
+    ensures row { option_map rule_of result ≡ rules.rule number }
+    ensures movable { IfSome result IsMovable }
 {
     Some(match number {
-        1 => plain(Pattern::Add(One(A), One(B)), Pattern::Add(One(B), One(A))),
+        1 => plain(Pattern::Add(One(A), One(B)), Pattern::Add(One(B), One(A))).moving(
+            along(First, Second),
+            along(Second, First),
+            None,
+        ),
         2 => plain(
             Pattern::Add(Part::Add(A, B), One(C)),
             Pattern::Add(One(A), Part::Add(B, C)),
+        )
+        .moving(
+            along(FirstOfFirst, First),
+            along(SecondOfFirst, FirstOfSecond),
+            along(Second, SecondOfSecond),
         ),
         3 => plain(
             Pattern::Add(One(A), Part::Add(B, C)),
             Pattern::Add(Part::Add(A, B), One(C)),
+        )
+        .moving(
+            along(First, FirstOfFirst),
+            along(FirstOfSecond, SecondOfFirst),
+            along(SecondOfSecond, Second),
         ),
-        4 => plain(Pattern::Mul(One(A), One(B)), Pattern::Mul(One(B), One(A))),
+        4 => plain(Pattern::Mul(One(A), One(B)), Pattern::Mul(One(B), One(A))).moving(
+            along(First, Second),
+            along(Second, First),
+            None,
+        ),
         5 => plain(
             Pattern::Mul(Part::Mul(A, B), One(C)),
             Pattern::Mul(One(A), Part::Mul(B, C)),
+        )
+        .moving(
+            along(FirstOfFirst, First),
+            along(SecondOfFirst, FirstOfSecond),
+            along(Second, SecondOfSecond),
         ),
         6 => plain(
             Pattern::Mul(One(A), Part::Mul(B, C)),
             Pattern::Mul(Part::Mul(A, B), One(C)),
+        )
+        .moving(
+            along(First, FirstOfFirst),
+            along(FirstOfSecond, SecondOfFirst),
+            along(SecondOfSecond, Second),
         ),
         7 => plain(
             Pattern::Mul(One(A), Part::Add(B, C)),
             Pattern::Add(Part::Mul(A, B), Part::Mul(A, C)),
+        )
+        .moving(
+            None,
+            along(FirstOfSecond, SecondOfFirst),
+            along(SecondOfSecond, SecondOfSecond),
         ),
         8 => plain(
             Pattern::Mul(Part::Add(A, B), One(C)),
             Pattern::Add(Part::Mul(A, C), Part::Mul(B, C)),
+        )
+        .moving(
+            along(FirstOfFirst, FirstOfFirst),
+            along(SecondOfFirst, FirstOfSecond),
+            None,
         ),
         9 => plain(
             Pattern::Mul(One(A), Part::Sub(B, C)),
             Pattern::Sub(Part::Mul(A, B), Part::Mul(A, C)),
+        )
+        .moving(
+            None,
+            along(FirstOfSecond, SecondOfFirst),
+            along(SecondOfSecond, SecondOfSecond),
         ),
         10 => plain(
             Pattern::Mul(Part::Sub(A, B), One(C)),
             Pattern::Sub(Part::Mul(A, C), Part::Mul(B, C)),
+        )
+        .moving(
+            along(FirstOfFirst, FirstOfFirst),
+            along(SecondOfFirst, FirstOfSecond),
+            None,
         ),
         11 => plain(
             Pattern::Add(Part::Mul(A, B), Part::Mul(A, C)),
             Pattern::Mul(One(A), Part::Add(B, C)),
+        )
+        .moving(
+            along(FirstOfFirst, First),
+            along(SecondOfFirst, FirstOfSecond),
+            along(SecondOfSecond, SecondOfSecond),
         ),
         12 => plain(
             Pattern::Add(Part::Mul(A, C), Part::Mul(B, C)),
             Pattern::Mul(Part::Add(A, B), One(C)),
+        )
+        .moving(
+            along(FirstOfFirst, FirstOfFirst),
+            along(FirstOfSecond, SecondOfFirst),
+            along(SecondOfFirst, Second),
         ),
         13 => plain(
             Pattern::Sub(Part::Mul(A, B), Part::Mul(A, C)),
             Pattern::Mul(One(A), Part::Sub(B, C)),
+        )
+        .moving(
+            along(FirstOfFirst, First),
+            along(SecondOfFirst, FirstOfSecond),
+            along(SecondOfSecond, SecondOfSecond),
         ),
         14 => plain(
             Pattern::Sub(Part::Mul(A, C), Part::Mul(B, C)),
             Pattern::Mul(Part::Sub(A, B), One(C)),
+        )
+        .moving(
+            along(FirstOfFirst, FirstOfFirst),
+            along(FirstOfSecond, SecondOfFirst),
+            along(SecondOfFirst, Second),
         ),
         15 => plain(
             Pattern::Sub(One(A), One(B)),
             Pattern::Add(One(A), Part::Neg(B)),
-        ),
+        )
+        .moving(along(First, First), along(Second, FirstOfSecond), None),
         16 => plain(
             Pattern::Add(One(A), Part::Neg(B)),
             Pattern::Sub(One(A), One(B)),
+        )
+        .moving(along(First, First), along(FirstOfSecond, Second), None),
+        17 => plain(Pattern::Neg(Part::Neg(A)), Pattern::One(One(A))).moving(
+            along(FirstOfFirst, Whole),
+            None,
+            None,
         ),
-        17 => plain(Pattern::Neg(Part::Neg(A)), Pattern::One(One(A))),
         18 => plain(
             Pattern::Neg(Part::Mul(A, B)),
             Pattern::Mul(Part::Neg(A), One(B)),
+        )
+        .moving(
+            along(FirstOfFirst, FirstOfFirst),
+            along(SecondOfFirst, Second),
+            None,
         ),
         19 => plain(
             Pattern::Mul(Part::Neg(A), One(B)),
             Pattern::Neg(Part::Mul(A, B)),
+        )
+        .moving(
+            along(FirstOfFirst, FirstOfFirst),
+            along(Second, SecondOfFirst),
+            None,
         ),
         20 => plain(
             Pattern::Neg(Part::Add(A, B)),
             Pattern::Add(Part::Neg(A), Part::Neg(B)),
+        )
+        .moving(
+            along(FirstOfFirst, FirstOfFirst),
+            along(SecondOfFirst, FirstOfSecond),
+            None,
         ),
         21 => plain(
             Pattern::Div(Part::Add(A, B), One(C)),
             Pattern::Add(Part::Div(A, C), Part::Div(B, C)),
+        )
+        .moving(
+            along(FirstOfFirst, FirstOfFirst),
+            along(SecondOfFirst, FirstOfSecond),
+            None,
         ),
         22 => plain(
             Pattern::Add(Part::Div(A, C), Part::Div(B, C)),
             Pattern::Div(Part::Add(A, B), One(C)),
+        )
+        .moving(
+            along(FirstOfFirst, FirstOfFirst),
+            along(FirstOfSecond, SecondOfFirst),
+            along(SecondOfFirst, Second),
         ),
         23 => plain(
             Pattern::Div(Part::Div(A, B), One(C)),
             Pattern::Div(One(A), Part::Mul(B, C)),
+        )
+        .moving(
+            along(FirstOfFirst, First),
+            along(SecondOfFirst, FirstOfSecond),
+            along(Second, SecondOfSecond),
         ),
         24 => plain(
             Pattern::Div(One(A), Part::Mul(B, C)),
             Pattern::Div(Part::Div(A, B), One(C)),
+        )
+        .moving(
+            along(First, FirstOfFirst),
+            along(FirstOfSecond, SecondOfFirst),
+            along(SecondOfSecond, Second),
         ),
         25 => folds(
             Pattern::Div(One(A), One(L)),
             Pattern::Mul(One(A), One(Made)),
             Folding::Inverse,
-        ),
+        )
+        .moving(along(First, First), None, None),
         26 => folds(
             Pattern::Add(One(L), One(K)),
             Pattern::One(One(Made)),
