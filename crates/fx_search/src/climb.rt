@@ -26,7 +26,7 @@ const LATER_START: u32 = 33;
 const LAST_START: u32 = 48;
 
 /// After so many tries without gain one of the best is taken up again.
-const PATIENCE: u32 = 40;
+const PATIENCE: u32 = 60;
 
 /// A dearer draft is taken up only with at most so many steps.
 const WARM_STEPS: usize = 512;

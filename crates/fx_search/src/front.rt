@@ -9,7 +9,7 @@ use fx_span::Grids;
 use std::alloc::Global;
 
 /// So many drafts are kept.
-const KEPT: usize = 5;
+const KEPT: usize = 20;
 
 /// A draft, and what its attempt costs.
 #[derive(Drop)]

@@ -1,5 +1,5 @@
-//! Polish: points and words of an attempt, and the centres of its products, moved one by one, as long as its cost
-//! falls.
+//! Polish: points and words of an attempt, and the centres of its products, are moved one by one, and points of an
+//! operation and its operands two at a time, as long as its cost falls.
 
 use crate::attempt::{Attempt, Placed};
 use crate::task::Task;
@@ -12,6 +12,9 @@ use std::alloc::Global;
 
 /// By how much a point is moved.
 const POINT_MOVES: [i32; 4] = [1, -1, -2, 3];
+
+/// By how much two points are moved together.
+const PAIR_MOVES: [(i32, i32); 4] = [(1, 1), (-1, -1), (1, -1), (-1, 1)];
 
 /// By how many units a word is moved.
 const WORD_MOVES: [i64; 4] = [1, -1, 2, -2];
@@ -35,6 +38,16 @@ pub struct Polish<'a> {
 fn follows(node: &Node) -> Option<u32> {
     match node {
         Node::Neg { a } | Node::Copy { a } => Some(*a),
+        _ => None,
+    }
+}
+
+/// The operands of an operation with two.
+fn operands(node: &Node) -> Option<(usize, usize)> {
+    match node {
+        Node::Add { a, b } | Node::Sub { a, b } | Node::Mul { a, b } | Node::Div { a, b } => {
+            Some((*a as usize, *b as usize))
+        }
         _ => None,
     }
 }
@@ -98,13 +111,8 @@ impl<'a> Polish<'a> {
         is_left
     }
 
-    /// Moves a point, and keeps that where the cost falls.
-    fn move_point(&mut self, attempt: &mut Attempt, n: usize, by: i32) -> Result<bool, Memory> {
-        if !self.spend() {
-            return Ok(false);
-        }
-        let nodes = attempt.nodes.list.as_slice();
-        let points = moved_points(self.alloc, nodes, &attempt.placed.points, n, by)?;
+    /// Takes other points, where the cost falls by them.
+    fn take_points(&mut self, attempt: &mut Attempt, points: Vec<i32>) -> Result<bool, Memory> {
         let found = find_plan(
             self.alloc,
             self.function,
@@ -125,6 +133,32 @@ impl<'a> Polish<'a> {
             }
             Err(_) => Ok(false),
         }
+    }
+
+    /// Moves a point, and keeps that where the cost falls.
+    fn move_point(&mut self, attempt: &mut Attempt, n: usize, by: i32) -> Result<bool, Memory> {
+        if !self.spend() {
+            return Ok(false);
+        }
+        let nodes = attempt.nodes.list.as_slice();
+        let points = moved_points(self.alloc, nodes, &attempt.placed.points, n, by)?;
+        self.take_points(attempt, points)
+    }
+
+    /// Moves two points together, likewise.
+    fn move_pair(
+        &mut self,
+        attempt: &mut Attempt,
+        (n, m): (usize, usize),
+        (by, other): (i32, i32),
+    ) -> Result<bool, Memory> {
+        if n == m || !self.spend() {
+            return Ok(false);
+        }
+        let nodes = attempt.nodes.list.as_slice();
+        let first = moved_points(self.alloc, nodes, &attempt.placed.points, n, by)?;
+        let points = moved_points(self.alloc, nodes, &first, m, other)?;
+        self.take_points(attempt, points)
     }
 
     /// Centres the operands of a product elsewhere, and keeps that where the cost falls.
@@ -198,6 +232,17 @@ impl<'a> Polish<'a> {
         Ok(has_gain)
     }
 
+    /// Moves two points together, this way and that.
+    fn turn_pair(&mut self, attempt: &mut Attempt, pair: (usize, usize)) -> Result<bool, Memory> {
+        let mut has_gain = false;
+        for by in &PAIR_MOVES {
+            if self.move_pair(attempt, pair, *by)? {
+                has_gain = true;
+            }
+        }
+        Ok(has_gain)
+    }
+
     /// Moves the word of a literal this way and that.
     fn turn_word(&mut self, attempt: &mut Attempt, n: u32) -> Result<bool, Memory> {
         let mut has_gain = false;
@@ -249,6 +294,21 @@ impl<'a> Polish<'a> {
         Ok(has_gain)
     }
 
+    /// Moves the points of each operation and its operands, two at a time.
+    fn turn_pairs(&mut self, attempt: &mut Attempt) -> Result<bool, Memory> {
+        let mut has_gain = false;
+        for n in 0..attempt.nodes.list.len() {
+            let node = attempt.nodes.list.as_slice().get(n);
+            if let Some((a, b)) = node.and_then(operands) {
+                let first = self.turn_pair(attempt, (n, a))?;
+                let second = self.turn_pair(attempt, (n, b))?;
+                let both = self.turn_pair(attempt, (a, b))?;
+                has_gain = has_gain || first || second || both;
+            }
+        }
+        Ok(has_gain)
+    }
+
     /// Moves the words of all literals.
     fn turn_words(&mut self, attempt: &mut Attempt) -> Result<bool, Memory> {
         let mut has_gain = false;
@@ -269,7 +329,8 @@ impl<'a> Polish<'a> {
             let points = self.turn_points(attempt)?;
             let words = self.turn_words(attempt)?;
             let centres = self.turn_products(attempt)?;
-            if self.budget == 0 || !(points || words || centres) {
+            let pairs = self.turn_pairs(attempt)?;
+            if self.budget == 0 || !(points || words || centres || pairs) {
                 return Ok(());
             }
         }
