@@ -106,10 +106,10 @@ macro_in text title what v p fits =
     defines_in text (macro_text title what v) title what v p (defines title what v (number_read v fits))
 
 -- three macros behind a comment
-pub record Three (text a b c : List ℕ) : Type 0 where
-  pub first : Part text a
-  pub second : Part text b
-  pub third : Part text c
+record Three (text a b c : List ℕ) : Type 0 where
+  first : Part text a
+  second : Part text b
+  third : Part text c
 
 three_in : (comment a b c : List ℕ) → IsLines comment → IsLines a → IsLines b → Three (comment ++ (a ++ (b ++ c))) a b c
 three_in comment a b c is a_is b_is =

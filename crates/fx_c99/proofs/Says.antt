@@ -1,5 +1,5 @@
 -- A header says what is certified.
-use Rattle.std.proofs.Common.{◌≡◌, ℕ, ◌+◌, ◌<◌, ◌≤◌, ℤ, pos, nat_eq, cond, Bool, true, false, List, [], ◌++◌, refl, sym, subst, arith, append_assoc, codes}
+use Rattle.std.proofs.Common.{◌≡◌, ℕ, ◌+◌, ◌<◌, ℤ, pos, nat_eq, cond, Bool, true, false, List, [], ◌++◌, refl, sym, subst, arith, append_assoc, codes}
 use Rattle.std.proofs.lemmas.List.FromFn.{get_or-map-range_with_len}
 use Rattle.fx_rational.specs.Dyadic.{Dyadic, zero_dyadic}
 use Rattle.fx_model.specs.Tree.{at}
@@ -14,41 +14,46 @@ use Rattle.fx_c99.specs.CText.{step_head, reset_head}
 use Rattle.fx_c99.specs.CHeader.{point, bounds_of, macro_text, count_macros, input_group, state_group, output_macros, output_group, reset_declaration, declarations_text, c_header_of}
 use Rattle.fx_c99.specs.CHeaderMeaning.{HasLine, Defines, SaysOutput}
 use Rattle.fx_c99.specs.Laws.{HeaderLaw}
-use Rattle.fx_c99.proofs.HeaderLines.{IsLines, behind, alone, none, front, rest, within, numbered_part, line_of, line_in, macro_is, defines_in}
+use Rattle.fx_c99.proofs.HeaderLines.{IsLine, IsLines, behind, alone, none, front, rest, within, numbered_part, line_of, line_in, macro_is, defines_in}
 use Rattle.fx_c99.proofs.HeaderNumbers.{count_fits, point_fits, mantissa_fits}
 use Rattle.fx_c99.proofs.HeaderWords.{point_is, start_fits, bound_short, lows_fit, highs_fit}
 use Rattle.fx_c99.proofs.Headers.{macro_in, input_says, state_says, output_says, input_in, state_in, output_in, input_is, state_is, output_is, pieces_of}
 
 -- ---- the counts
-record SaysCounts (title : List ℕ) (n inputs states outputs : ℕ) (text : List ℕ) : Type 0 where
-  width : Defines text title (codes "WIDTH") (pos n)
-  inputs_too : Defines text title (codes "INPUTS") (pos inputs)
-  states_too : Defines text title (codes "STATES") (pos states)
-  outputs_too : Defines text title (codes "OUTPUTS") (pos outputs)
+record SaysCounts (p : Program) (text : List ℕ) : Type 0 where
+  width : Defines text p.name (codes "WIDTH") (pos p.width)
+  inputs : Defines text p.name (codes "INPUTS") (pos p.inputs)
+  states : Defines text p.name (codes "STATES") (pos p.states)
+  outputs : Defines text p.name (codes "OUTPUTS") (pos p.outputs)
 
-counts_say : (title : List ℕ) (n inputs states outputs : ℕ) → n ≤ 4000 → inputs ≤ 4000 → states ≤ 4000 → outputs ≤ 4000
-    → SaysCounts title n inputs states outputs (count_macros title n inputs states outputs)
-counts_say title n inputs states outputs n_few inputs_few states_few outputs_few =
+counts_say : (p : Program) → IsLawfulProgram p →
+    SaysCounts p (count_macros p.name p.width p.inputs p.states p.outputs)
+counts_say p lawful =
     let comment = codes "/* bits of a word w, which stands for w / 2^POINT, and elements of the arrays */\n" in
-    let a = macro_text title (codes "WIDTH") (pos n) in let b = macro_text title (codes "INPUTS") (pos inputs) in
-    let c = macro_text title (codes "STATES") (pos states) in let d = macro_text title (codes "OUTPUTS") (pos outputs) in
-    let text = count_macros title n inputs states outputs in
-    let at_a = rest comment (a ++ (b ++ (c ++ d))) (alone comment record {
+    let first : IsLine comment = record {
       front = codes "/* bits of a word w, which stands for w / 2^POINT, and elements of the arrays */";
       is = refl;
-    }) in
-    let at_b = within text (a ++ (b ++ (c ++ d))) (b ++ (c ++ d)) at_a
-    (rest a (b ++ (c ++ d)) (macro_is title (codes "WIDTH") (pos n))) in
-    let at_c = within text (b ++ (c ++ d)) (c ++ d) at_b (rest b (c ++ d) (macro_is title (codes "INPUTS") (pos inputs))) in
-    let at_d = within text (c ++ d) d at_c (rest c d (macro_is title (codes "STATES") (pos states))) in
+    } in
+    let a = macro_text p.name (codes "WIDTH") (pos p.width) in
+    let b = macro_text p.name (codes "INPUTS") (pos p.inputs) in
+    let c = macro_text p.name (codes "STATES") (pos p.states) in
+    let d = macro_text p.name (codes "OUTPUTS") (pos p.outputs) in
+    let text = count_macros p.name p.width p.inputs p.states p.outputs in
+    let from_c = c ++ d in let from_b = b ++ from_c in let from_a = a ++ from_b in
+    let at_a = rest comment from_a (alone comment first) in
+    let at_b = within text from_a from_b at_a (rest a from_b (macro_is p.name (codes "WIDTH") (pos p.width))) in
+    let at_c = within text from_b from_c at_b (rest b from_c (macro_is p.name (codes "INPUTS") (pos p.inputs))) in
+    let at_d = within text from_c d at_c (rest c d (macro_is p.name (codes "STATES") (pos p.states))) in
+    let counts = lawful.counts in let width = width_of p.width lawful.width in
     record {
-      width = macro_in text title (codes "WIDTH") (pos n) (within text (a ++ (b ++ (c ++ d))) a at_a
-          (front a (b ++ (c ++ d)))) (count_fits n n_few);
-      inputs_too = macro_in text title (codes "INPUTS") (pos inputs) (within text (b ++ (c ++ d)) b at_b
-          (front b (c ++ d))) (count_fits inputs inputs_few);
-      states_too = macro_in text title (codes "STATES") (pos states) (within text (c ++ d) c at_c (front c d))
-          (count_fits states states_few);
-      outputs_too = macro_in text title (codes "OUTPUTS") (pos outputs) at_d (count_fits outputs outputs_few);
+      width = macro_in text p.name (codes "WIDTH") (pos p.width) (within text from_a a at_a (front a from_b))
+          (count_fits p.width (omega (arith, width.most)));
+      inputs = macro_in text p.name (codes "INPUTS") (pos p.inputs) (within text from_b b at_b (front b from_c))
+          (count_fits p.inputs (omega (arith, counts.inputs)));
+      states = macro_in text p.name (codes "STATES") (pos p.states) (within text from_c c at_c (front c d))
+          (count_fits p.states (omega (arith, counts.states)));
+      outputs = macro_in text p.name (codes "OUTPUTS") (pos p.outputs) at_d
+          (count_fits p.outputs (omega (arith, counts.outputs)));
     }
 
 -- ---- the declarations
@@ -121,18 +126,15 @@ output_group_says p cert j lt says =
 
 pub header_says : StartLaw → StepLaw → HeaderLaw
 header_says start step rewrite fn p cert c inputs =
-    let lawful = c.program in let counts = lawful.counts in let w = width_of p.width lawful.width in
-    let text = c_header_of fn p cert in let bounds = bounds_of p cert in
-    let parts = pieces_of fn p bounds in
-    let counted = counts_say p.name p.width p.inputs p.states p.outputs (omega (arith, w.most))
-    (omega (arith, counts.inputs)) (omega (arith, counts.states)) (omega (arith, counts.outputs)) in
+    let lawful = c.program in let text = c_header_of fn p cert in let bounds = bounds_of p cert in
+    let parts = pieces_of fn p bounds in let counted = counts_say p lawful in
     let counts_text = count_macros p.name p.width p.inputs p.states p.outputs in
     let declarations = declarations_text p.name p.width p.states p.inputs p.outputs in
     record {
       width = defines_in text counts_text _ _ _ parts.counts_in counted.width;
-      inputs = defines_in text counts_text _ _ _ parts.counts_in counted.inputs_too;
-      states = defines_in text counts_text _ _ _ parts.counts_in counted.states_too;
-      outputs = defines_in text counts_text _ _ _ parts.counts_in counted.outputs_too;
+      inputs = defines_in text counts_text _ _ _ parts.counts_in counted.inputs;
+      states = defines_in text counts_text _ _ _ parts.counts_in counted.states;
+      outputs = defines_in text counts_text _ _ _ parts.counts_in counted.outputs;
       input = λ k lt. input_in fn p text (input_group fn p k) k
           (within text _ (input_group fn p k) parts.inputs_in
           (numbered_part (input_group fn p) (input_is fn p) p.inputs k lt))
