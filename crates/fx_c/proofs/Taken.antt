@@ -2,8 +2,7 @@
 use Rattle.std.proofs.Common.{◌≡◌, ℕ, zero, suc, ◌+◌, ◌-◌, ◌<◌, ℤ, pos, negsuc, nat_eq, Bool, true, false, List, [], ◌∷◌, ◌++◌, length, get_or, take, map, refl, sym, ap, ◌∙◌, codes}
 use Rattle.std.specs.Prelude.{◌||◌}
 use Rattle.std.specs.List.{flat_map, list_any, range_with_len}
-use Rattle.std.proofs.lemmas.List.{flat_map_more, length-map, map_more}
-use Rattle.std.proofs.lemmas.List.Folds.{list_any-append}
+use Rattle.std.proofs.lemmas.List.{flat_map_more, length-map}
 use Rattle.std.proofs.lemmas.List.FromFn.{length-range_with_len}
 use Rattle.fx_model.specs.Machine.{Round, Floor, Nearest, Code, Program, Const, Neg, Add, Sub, Mul, Div, Copy, first_copy}
 use Rattle.fx_model.specs.Machine as machine
@@ -53,13 +52,6 @@ pub any_takes_is : (m n k : ℕ) (ns : List ℕ) (cs : List Code)
 any_takes_is m n k ns [] = refl
 any_takes_is m n k ns (c ∷ cs) =
     λ i. let_takes_is m n k (at 0 ns k) c i || any_takes_is m n (k + 1) ns cs i
-
--- one more code that may take a name
-pub any_code_more : {X : Type 0} (test : Code → Bool) (f : X → Code) (xs : List X) (k : ℕ) (d : X) → k < length xs →
-    list_any test (map f (take (k + 1) xs)) ≡ (list_any test (map f (take k xs)) || test (f (get_or xs k d)))
-any_code_more test f xs k d lt =
-    ap (list_any test) (map_more f xs k d lt) ∙ list_any-append test (map f (take k xs)) (f (get_or xs k d) ∷ [])
-    ∙ ap (λ (b : Bool). list_any test (map f (take k xs)) || b) (or_false (test (f (get_or xs k d))))
 
 -- one more name that may stand unread
 pub unread_more : {X : Type 0} (f : X → Code) (ls : List Let) (first n : ℕ) (ns : List ℕ) (xs : List X) (k : ℕ) (d : X)

@@ -38,7 +38,7 @@ fn put_named_comment(
     Ok(())
 }
 
-/// The width, and the elements of the arrays.
+/// The macros of the width and of the arrays.
 pub fn put_count_macros(
     out: &mut Vec<u8>,
     title: &[u8],
@@ -60,7 +60,7 @@ pub fn put_count_macros(
     Ok(())
 }
 
-/// Those of input `k`, of this name and at point `f`.
+/// The macros of input `k`, of this name and at point `f`.
 pub fn put_input_macros(
     out: &mut Vec<u8>,
     title: &[u8],
@@ -85,7 +85,7 @@ pub fn put_input_macros(
     Ok(())
 }
 
-/// Those of state `k`, of this name and at point `f`.
+/// The macros of state `k`, of this name and at point `f`.
 pub fn put_state_macros(
     out: &mut Vec<u8>,
     title: &[u8],
@@ -120,7 +120,7 @@ fn put_output_comment(out: &mut Vec<u8>, j: u32) -> Result<(), AllocError>
     Ok(())
 }
 
-/// Those of output `j`, at point `f`.
+/// The macros of output `j`, at point `f`.
 pub fn put_output_macros(
     out: &mut Vec<u8>,
     title: &[u8],

@@ -17,7 +17,7 @@ fn put_state(out: &mut Vec<u8>, width: u32, states: u32) -> Result<(), AllocErro
     put(out, b"]")
 }
 
-// It, if there is any.
+// `int16_t state[2], `, and nothing where there is no state.
 fn put_state_parameter(out: &mut Vec<u8>, width: u32, states: u32) -> Result<(), AllocError>
     ensures { OnOk result (out.new.items ≡ out.old.items ++ state_parameter width states) }
 {

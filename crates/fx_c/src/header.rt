@@ -50,7 +50,7 @@ fn put_input(
     Ok(())
 }
 
-// Those of all inputs.
+// The macros of all inputs.
 fn put_inputs(out: &mut Vec<u8>, function: &Function, program: &Program) -> Result<(), AllocError>
     ensures { OnOk result (out.new.items ≡ out.old.items
         ++ numbered_lines (input_group function.now program.now) 0 program.now.inputs) }
@@ -86,7 +86,7 @@ fn put_state(
     Ok(())
 }
 
-// Those of all states.
+// The macros of all states.
 fn put_states(
     out: &mut Vec<u8>,
     function: &Function,
@@ -125,7 +125,7 @@ fn put_output(
     Ok(())
 }
 
-// Those of all outputs.
+// The macros of all outputs.
 fn put_outputs(out: &mut Vec<u8>, program: &Program, bounds: &[Dyadic]) -> Result<(), AllocError>
     ensures { OnOk result (out.new.items ≡ out.old.items
         ++ numbered_lines (output_group program.now bounds.now) 0 program.now.outputs) }

@@ -96,7 +96,7 @@ fn put_floor_call(out: &mut Vec<u8>, bits: u32) -> Result<(), AllocError>
     Ok(())
 }
 
-// The same, with what it gives.
+// `static inline int32_t fixd_floor32(int32_t x, uint32_t s)`, below a comment.
 fn put_floor_head(out: &mut Vec<u8>, bits: u32) -> Result<(), AllocError>
     ensures { OnOk result (out.new.items ≡ out.old.items ++ floor_head bits) }
 {
@@ -119,7 +119,7 @@ fn put_floor(out: &mut Vec<u8>, bits: u32) -> Result<(), AllocError>
     Ok(())
 }
 
-// It, if any statement calls it.
+// The function for `x / 2^s`, if any statement calls it.
 fn put_floor_if(out: &mut Vec<u8>, called: bool, bits: u32) -> Result<(), AllocError>
     ensures { OnOk result (out.new.items ≡ out.old.items ++ (if called then floor_text bits else [])) }
 {

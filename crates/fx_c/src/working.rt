@@ -20,14 +20,14 @@ pub enum Sign {
     Minus,
 }
 
-/// Those for words.
+/// The bits that words are computed in.
 pub fn plain_bits(width: u32) -> u32
     ensures { result ≡ plain_bits width }
 {
     if width <= 32 { 32 } else { 64 }
 }
 
-/// Those for double words.
+/// The bits that double words are computed in.
 pub fn double_bits(width: u32) -> u32
     ensures { result ≡ double_bits width }
 {
@@ -51,7 +51,7 @@ pub fn few(width: u32, s: u64) -> u64
     }
 }
 
-// Those of two shifted operands.
+// The bits for two shifted operands.
 fn operand_bits(width: u32, sa: i32, sb: i32) -> u32
     ensures { result ≡ sum_bits width sa sb }
 {
@@ -62,7 +62,7 @@ fn operand_bits(width: u32, sa: i32, sb: i32) -> u32
     }
 }
 
-/// Those of a sum, or a difference, of two shifted operands.
+/// The bits for a sum, or a difference, of two shifted operands.
 pub fn sum_bits(width: u32, sign: Sign, a: u32, sa: i32, b: u32, sb: i32) -> u32
     ensures { result ≡ working_bits width
         (Two (operator_of sign) (c_operand width machine.Floor a sa) (c_operand width machine.Floor b sb)) }
@@ -70,14 +70,14 @@ pub fn sum_bits(width: u32, sign: Sign, a: u32, sa: i32, b: u32, sb: i32) -> u32
     operand_bits(width, sa, sb)
 }
 
-// Those of an operand that is rounded down.
+// The bits for an operand that is rounded down.
 fn lowered_bits(width: u32, a: u32, s: u64) -> u32
     ensures { result ≡ working_bits width (c_operand width machine.Floor a (pos s)) }
 {
     plain_bits(width)
 }
 
-/// Those of a copy.
+/// The bits for a copy.
 pub fn copy_bits(width: u32, r: Round, a: u32, s: i64) -> u32
     ensures { result ≡ working_bits width (c_operand width (round_of r) a s) }
 {
