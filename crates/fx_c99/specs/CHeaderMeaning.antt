@@ -34,7 +34,8 @@ pub record HasLine (text line : List ℕ) : Type 0 where
   pub below : List ℕ
   pub is : text ≡ flat_map (λ l. l ++ codes "\n") above ++ (line ++ (codes "\n" ++ below))
 
--- `#define FIXD_NAME_WHAT NUMBER`, with a number that C reads as v
+-- `#define FIXD_NAME_WHAT NUMBER`, with a number that C reads as v; with a second line for this name that has another
+-- number nothing compiles (6.10.3 p2)
 pub record Defines (text title what : List ℕ) (v : ℤ) : Type 0 where
   pub number : List ℕ
   pub read : IsCNumber number v
