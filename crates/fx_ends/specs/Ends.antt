@@ -56,29 +56,34 @@ abbrev pub outside_text : Outside → List (List ℕ)
 outside_text (Node node) = codes "node " ∷ decimal node ∷ []
 outside_text (Demand output) = codes "output " ∷ decimal output ∷ []
 
--- what the line says behind `fixd: `, piece by piece
-abbrev pub reason : End → Option (List (List ℕ))
-reason Done = None
-reason (Rejected fault) =
+-- what the line says behind the program's name, piece by piece; a program has its own usage
+abbrev pub reason : List ℕ → End → Option (List (List ℕ))
+reason usage Done = None
+reason usage (Rejected fault) =
     Some (codes "rejected: " ∷ condition_text fault.kind ∷ codes " at " ∷ part_name fault.part ∷ codes " "
     ∷ decimal fault.index ∷ [])
-reason Usage = Some (codes "usage: synth, check, run, show or demo" ∷ [])
-reason (Misread fault) = Some (codes "source: " ∷ source_text fault.kind ∷ codes " at byte " ∷ decimal fault.at ∷ [])
-reason (BadBundle fault) =
+reason usage Usage = Some (usage ∷ [])
+reason usage (Misread fault) =
+    Some (codes "source: " ∷ source_text fault.kind ∷ codes " at byte " ∷ decimal fault.at ∷ [])
+reason usage (BadBundle fault) =
     Some (codes "bundle: " ∷ bundle_kind_text fault.kind ∷ codes " at line " ∷ decimal fault.line ∷ [])
-reason (BadRow inputs line fault) =
+reason usage (BadRow inputs line fault) =
     Some (row_reason (row_text fault.kind) line (column_text inputs fault.input fault.kind))
-reason (BadUnit line kind) = Some (row_reason (unit_text kind) line [])
-reason (NotFound outside) = Some (codes "not found: " ∷ outside_text outside)
-reason ReadFault = Some (codes "read fault" ∷ [])
-reason WriteFault = Some (codes "write fault" ∷ [])
-reason NoMemory = Some (codes "out of memory" ∷ [])
-reason OverLimit = Some (codes "over the limit" ∷ [])
+reason usage (BadUnit line kind) = Some (row_reason (unit_text kind) line [])
+reason usage (NotFound outside) = Some (codes "not found: " ∷ outside_text outside)
+reason usage ReadFault = Some (codes "read fault" ∷ [])
+reason usage WriteFault = Some (codes "write fault" ∷ [])
+reason usage NoMemory = Some (codes "out of memory" ∷ [])
+reason usage OverLimit = Some (codes "over the limit" ∷ [])
 
--- the whole line
-abbrev pub note_text : List (List ℕ) → List ℕ
-note_text why = concat (codes "fixd: " ∷ why ++ (codes "\n" ∷ []))
+-- the whole line of a program of this name
+abbrev pub note_text : List ℕ → List (List ℕ) → List ℕ
+note_text program why = concat (program ∷ codes ": " ∷ why ++ (codes "\n" ∷ []))
 
 -- where there is one
+abbrev pub line_of : (program usage : List ℕ) → End → Option (List ℕ)
+line_of program usage end = option_map (note_text program) (reason usage end)
+
+-- the line of `fixd`
 abbrev pub end_line : End → Option (List ℕ)
-end_line end = option_map note_text (reason end)
+end_line end = line_of (codes "fixd") (codes "usage: synth, check, run, show or demo") end

@@ -11,7 +11,7 @@ ghost use Rattle.fx_judging.specs.FaultView as conditions;
 ghost use Rattle.std.specs.Fmt.{decimal};
 ghost use Rattle.fx_weight.specs.OutsideView.{outside_view};
 ghost use Rattle.fx_ends.specs.Ends as ends;
-ghost use Rattle.fx_ends.specs.Ends.{end_line, status_of};
+ghost use Rattle.fx_ends.specs.Ends.{end_line, line_of, status_of};
 ghost use Rattle.fx_ends.specs.EndView.{end_of};
 ghost use Rattle.fx_ends.specs.Notes.{AreNotes};
 
@@ -72,14 +72,15 @@ fn name_of(inputs: &[Input], input: u32) -> &str
     }
 }
 
-fn note_rejected<N: Sink>(fault: ConditionFault, notes: &mut N)
+fn note_rejected<N: Sink>(program: &str, fault: ConditionFault, notes: &mut N)
     ensures { AreNotes (N.seen notes.old) (N.seen notes.new)
-        (end_line (ends.Rejected (conditions.condition_fault_of fault))) }
+        (line_of program.now [] (ends.Rejected (conditions.condition_fault_of fault))) }
 {
     let mut digits = Buffer::new();
     note_line(
         &[
-            "fixd: ",
+            program,
+            ": ",
             "rejected: ",
             condition_text(fault.kind),
             " at ",
@@ -92,13 +93,14 @@ fn note_rejected<N: Sink>(fault: ConditionFault, notes: &mut N)
     );
 }
 
-fn note_misread<N: Sink>(fault: SourceFault, notes: &mut N)
-    ensures { AreNotes (N.seen notes.old) (N.seen notes.new) (end_line (ends.Misread fault)) }
+fn note_misread<N: Sink>(program: &str, fault: SourceFault, notes: &mut N)
+    ensures { AreNotes (N.seen notes.old) (N.seen notes.new) (line_of program.now [] (ends.Misread fault)) }
 {
     let mut digits = Buffer::new();
     note_line(
         &[
-            "fixd: ",
+            program,
+            ": ",
             "source: ",
             source_text(fault.kind),
             " at byte ",
@@ -109,13 +111,14 @@ fn note_misread<N: Sink>(fault: SourceFault, notes: &mut N)
     );
 }
 
-fn note_bundle<N: Sink>(fault: TextFault, notes: &mut N)
-    ensures { AreNotes (N.seen notes.old) (N.seen notes.new) (end_line (ends.BadBundle fault)) }
+fn note_bundle<N: Sink>(program: &str, fault: TextFault, notes: &mut N)
+    ensures { AreNotes (N.seen notes.old) (N.seen notes.new) (line_of program.now [] (ends.BadBundle fault)) }
 {
     let mut digits = Buffer::new();
     note_line(
         &[
-            "fixd: ",
+            program,
+            ": ",
             "bundle: ",
             bundle_text(fault.kind),
             " at line ",
@@ -127,14 +130,15 @@ fn note_bundle<N: Sink>(fault: TextFault, notes: &mut N)
 }
 
 // Of a fault of a line as a whole, or of its unit.
-fn note_whole_line<N: Sink>(kind: &str, line: u64, notes: &mut N)
+fn note_whole_line<N: Sink>(program: &str, kind: &str, line: u64, notes: &mut N)
     ensures { AreNotes (N.seen notes.old) (N.seen notes.new)
-        (Some (ends.note_text (ends.row_reason kind.now line []))) }
+        (Some (ends.note_text program.now (ends.row_reason kind.now line []))) }
 {
     let mut digits = Buffer::new();
     note_line(
         &[
-            "fixd: ",
+            program,
+            ": ",
             "row: ",
             kind,
             " at line ",
@@ -146,14 +150,15 @@ fn note_whole_line<N: Sink>(kind: &str, line: u64, notes: &mut N)
 }
 
 // Of a fault at the column of this name.
-fn note_column<N: Sink>(kind: &str, line: u64, name: &str, notes: &mut N)
+fn note_column<N: Sink>(program: &str, kind: &str, line: u64, name: &str, notes: &mut N)
     ensures { AreNotes (N.seen notes.old) (N.seen notes.new)
-        (Some (ends.note_text (ends.row_reason kind.now line (codes " column " ∷ name.now ∷ [])))) }
+        (Some (ends.note_text program.now (ends.row_reason kind.now line (codes " column " ∷ name.now ∷ [])))) }
 {
     let mut digits = Buffer::new();
     note_line(
         &[
-            "fixd: ",
+            program,
+            ": ",
             "row: ",
             kind,
             " at line ",
@@ -166,42 +171,50 @@ fn note_column<N: Sink>(kind: &str, line: u64, name: &str, notes: &mut N)
     );
 }
 
-fn note_place<N: Sink>(part: &str, place: u32, notes: &mut N)
+fn note_place<N: Sink>(program: &str, part: &str, place: u32, notes: &mut N)
     ensures { AreNotes (N.seen notes.old) (N.seen notes.new)
-        (Some (ends.note_text (codes "not found: " ∷ part.now ∷ decimal place ∷ []))) }
+        (Some (ends.note_text program.now (codes "not found: " ∷ part.now ∷ decimal place ∷ []))) }
 {
     let mut digits = Buffer::new();
     note_line(
-        &["fixd: ", "not found: ", part, digits.format(place), "\n"],
+        &[
+            program,
+            ": ",
+            "not found: ",
+            part,
+            digits.format(place),
+            "\n",
+        ],
         notes,
     );
 }
 
-fn note_outside<N: Sink>(outside: Outside, notes: &mut N)
-    ensures { AreNotes (N.seen notes.old) (N.seen notes.new) (end_line (ends.NotFound (outside_view outside))) }
+fn note_outside<N: Sink>(program: &str, outside: Outside, notes: &mut N)
+    ensures { AreNotes (N.seen notes.old) (N.seen notes.new)
+        (line_of program.now [] (ends.NotFound (outside_view outside))) }
 {
     match outside {
-        Outside::Node { node } => note_place("node ", node, notes),
-        Outside::Demand { output } => note_place("output ", output, notes),
+        Outside::Node { node } => note_place(program, "node ", node, notes),
+        Outside::Demand { output } => note_place(program, "output ", output, notes),
     }
 }
 
-fn note_row<N: Sink>(inputs: &[Input], line: u64, fault: RowFault, notes: &mut N)
+fn note_row<N: Sink>(program: &str, inputs: &[Input], line: u64, fault: RowFault, notes: &mut N)
     ensures { AreNotes (N.seen notes.old) (N.seen notes.new)
-        (end_line (ends.BadRow (map input_of inputs.now) line (rows.row_fault_of fault))) }
+        (line_of program.now [] (ends.BadRow (map input_of inputs.now) line (rows.row_fault_of fault))) }
 {
     let kind = row_text(fault.kind);
     match fault.kind {
-        RowKind::LineTooLong => note_whole_line(kind, line, notes),
-        RowKind::StrayReturn => note_whole_line(kind, line, notes),
-        _ => note_column(kind, line, name_of(inputs, fault.input), notes),
+        RowKind::LineTooLong => note_whole_line(program, kind, line, notes),
+        RowKind::StrayReturn => note_whole_line(program, kind, line, notes),
+        _ => note_column(program, kind, line, name_of(inputs, fault.input), notes),
     }
 }
 
-fn note_reason<N: Sink>(reason: &str, notes: &mut N)
-    ensures { AreNotes (N.seen notes.old) (N.seen notes.new) (Some (ends.note_text (reason.now ∷ []))) }
+fn note_reason<N: Sink>(program: &str, reason: &str, notes: &mut N)
+    ensures { AreNotes (N.seen notes.old) (N.seen notes.new) (Some (ends.note_text program.now (reason.now ∷ []))) }
 {
-    note_line(&["fixd: ", reason, "\n"], notes);
+    note_line(&[program, ": ", reason, "\n"], notes);
 }
 
 impl<'a> End<'a> {
@@ -229,23 +242,33 @@ impl<'a> End<'a> {
     pub fn note<N: Sink>(&self, notes: &mut N)
         ensures { AreNotes (N.seen notes.old) (N.seen notes.new) (end_line (end_of self.now)) }
     {
+        self.note_as("fixd", "usage: synth, check, run, show or demo", notes);
+    }
+
+    /// Writes its line as that of a program of this name and usage, likewise.
+    pub fn note_as<N: Sink>(&self, program: &str, usage: &str, notes: &mut N)
+        ensures { AreNotes (N.seen notes.old) (N.seen notes.new)
+            (line_of program.now usage.now (end_of self.now)) }
+    {
         match self {
             End::Done => {}
-            End::Usage => note_reason("usage: synth, check, run, show or demo", notes),
-            End::ReadFault => note_reason("read fault", notes),
-            End::WriteFault => note_reason("write fault", notes),
-            End::NoMemory => note_reason("out of memory", notes),
-            End::OverLimit => note_reason("over the limit", notes),
-            End::Rejected(fault) => note_rejected(*fault, notes),
-            End::Misread(fault) => note_misread(*fault, notes),
-            End::BadBundle(fault) => note_bundle(*fault, notes),
-            End::NotFound(outside) => note_outside(*outside, notes),
+            End::Usage => note_reason(program, usage, notes),
+            End::ReadFault => note_reason(program, "read fault", notes),
+            End::WriteFault => note_reason(program, "write fault", notes),
+            End::NoMemory => note_reason(program, "out of memory", notes),
+            End::OverLimit => note_reason(program, "over the limit", notes),
+            End::Rejected(fault) => note_rejected(program, *fault, notes),
+            End::Misread(fault) => note_misread(program, *fault, notes),
+            End::BadBundle(fault) => note_bundle(program, *fault, notes),
+            End::NotFound(outside) => note_outside(program, *outside, notes),
             End::BadRow {
                 inputs,
                 line,
                 fault,
-            } => note_row(inputs, *line, *fault, notes),
-            End::BadUnit { line, kind } => note_whole_line(unit_text(*kind), *line, notes),
+            } => note_row(program, inputs, *line, *fault, notes),
+            End::BadUnit { line, kind } => {
+                note_whole_line(program, unit_text(*kind), *line, notes)
+            }
         }
     }
 

@@ -6,7 +6,7 @@
 //! is made anew at each turn, so that no error adds up: directions that nearly cancel need all digits.
 
 use crate::budget::Budget;
-use crate::inverse::{at, inverse};
+use crate::inverse::{entry_of, inverse};
 use fx_cert::Share;
 use fx_num::Memory;
 use fx_reach::{
@@ -205,7 +205,7 @@ impl Basis {
     ) -> Result<Vec<f64>, Memory> {
         let mut row = Vec::new(alloc);
         for (i, sign) in &self.templates {
-            row.push(at(templates.template(*i), j) * *sign)?;
+            row.push(entry_of(templates.template(*i), j) * *sign)?;
         }
         for k in 0..self.templates.len() {
             row.push(if k == j { 1.0 } else { 0.0 })?;
@@ -343,7 +343,7 @@ fn shares_of(
 ) -> Result<Vec<Share>, Memory> {
     let mut shares = Vec::new(alloc);
     for ((i, sign), time) in basis.templates.iter().zip(times) {
-        let part = at(&templates.costs, *i) / cost;
+        let part = entry_of(&templates.costs, *i) / cost;
         if let Some(share) = share_of(templates, *i, *time * *sign / part, part) {
             insert(&mut shares, share)?;
         }

@@ -8,8 +8,8 @@ use std::mem::replace;
 /// A pivot below this is none.
 const LEAST_PIVOT: f64 = 1.0e-13;
 
-/// An entry of a row.
-pub fn at(row: &[f64], i: usize) -> f64 {
+/// An entry of a row, 0 where it has none.
+pub fn entry_of(row: &[f64], i: usize) -> f64 {
     match row.get(i) {
         Some(x) => *x,
         None => 0.0,
@@ -19,7 +19,7 @@ pub fn at(row: &[f64], i: usize) -> f64 {
 /// An entry of a matrix.
 fn entry(rows: &[Vec<f64>], row: usize, column: usize) -> f64 {
     match rows.get(row) {
-        Some(row) => at(row, column),
+        Some(row) => entry_of(row, column),
         None => 0.0,
     }
 }
@@ -51,7 +51,7 @@ fn divide(row: &mut Vec<f64>, divisor: f64) {
 }
 
 /// Takes so many times a row from another.
-pub fn take(own: &mut [f64], other: &[f64], factor: f64) {
+pub fn take_row(own: &mut [f64], other: &[f64], factor: f64) {
     for (x, y) in own.iter_mut().zip(other) {
         *x = *x - factor * *y;
     }
@@ -60,9 +60,9 @@ pub fn take(own: &mut [f64], other: &[f64], factor: f64) {
 /// Takes a row from all others, so that their entries in its column are 0.
 fn take_from_others(rows: &mut Vec<Vec<f64>>, own: &[f64], column: usize) {
     for (i, row) in rows.iter_mut().enumerate() {
-        let factor = at(row, column);
+        let factor = entry_of(row, column);
         if i != column && factor != 0.0 {
-            take(row, own, factor);
+            take_row(row, own, factor);
         }
     }
 }
@@ -79,10 +79,10 @@ fn clear_column(alloc: Global, rows: &mut Vec<Vec<f64>>, column: usize) -> Resul
     take_from_others(rows, &own, column);
     let other = exchange_row(rows, column, own);
     if best != column {
-        let factor = at(&other, column);
+        let factor = entry_of(&other, column);
         let mut other = other;
         if let Some(own) = rows.get(column) {
-            take(&mut other, own, factor);
+            take_row(&mut other, own, factor);
         }
         let _empty = exchange_row(rows, best, other);
     }

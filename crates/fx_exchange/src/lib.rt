@@ -16,3 +16,4 @@ mod inverse;
 pub use apart::{Apart, Combination, pool_of, take_apart};
 pub use basis::{Exchanged, ScaledTemplates, exchange};
 pub use budget::Budget;
+pub use inverse::{entry_of, take_row};

@@ -179,8 +179,7 @@ fn needs(alloc: Global, nodes: &[Node], points: &[i32]) -> Result<Vec<i32>, Memo
 }
 
 /// The greatest point that a node needs where this is the finest that is asked for: products, literals and inputs may
-/// be
-/// as coarse as what they go into; a sum only nearly, since its operands are rounded one by one.
+/// be as coarse as what they go into; a sum only nearly, since its operands are rounded one by one.
 fn needed(node: &Node, need: i32) -> i32 {
     match node {
         Node::Mul { .. } => need,

@@ -57,7 +57,7 @@ fn cap_of(lengths: &[usize], places: usize) -> usize {
 }
 
 /// How many chains don't begin with a unit template.
-fn free_chains(chains: &[Chain]) -> usize {
+pub fn free_chains(chains: &[Chain]) -> usize {
     let mut count: usize = 0;
     for chain in chains {
         if chain.state.is_none() {
@@ -68,7 +68,7 @@ fn free_chains(chains: &[Chain]) -> usize {
 }
 
 /// One share, taken once.
-fn once(template: usize) -> Share {
+pub fn once(template: usize) -> Share {
     Share {
         template: u32::try_from(template).unwrap_or(u32::MAX),
         times: Dyadic { m: 1, e: 0 },

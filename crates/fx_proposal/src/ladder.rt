@@ -3,10 +3,11 @@
 //! A chain is followed only until what is left of it costs, on all templates that are there, at most its reach and its
 //! room: then an exchange takes the end apart. What a later chain closes on are the templates of the earlier ones too.
 
+use crate::build::{free_chains, once};
 use crate::rungs::Rung;
 use fx_cert::Share;
 use fx_exchange::{Budget, ScaledTemplates, exchange};
-use fx_num::{Dyadic, Memory, TEMPLATE_LIMIT};
+use fx_num::{Memory, TEMPLATE_LIMIT};
 use fx_reach::{Ahead, Chain, Linear, PLACES, Pool, Templates, room_part, unit_cost};
 use std::alloc::Global;
 
@@ -40,25 +41,6 @@ pub struct Building<'a> {
     factors: Vec<i128>,
     /// How many templates still have a place.
     left: usize,
-}
-
-/// One share, taken once.
-fn once(template: usize) -> Share {
-    Share {
-        template: u32::try_from(template).unwrap_or(u32::MAX),
-        times: Dyadic { m: 1, e: 0 },
-    }
-}
-
-/// How many chains don't begin with a unit template.
-fn free_chains(chains: &[Chain]) -> usize {
-    let mut count: usize = 0;
-    for chain in chains {
-        if chain.state.is_none() {
-            count = count.saturating_add(1);
-        }
-    }
-    count
 }
 
 impl<'a> Building<'a> {

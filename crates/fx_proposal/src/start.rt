@@ -5,6 +5,7 @@
 //! next to nothing.
 
 use crate::left::Left;
+use fx_exchange::{entry_of, take_row};
 use fx_num::Memory;
 use std::alloc::Global;
 use std::mem::replace;
@@ -20,21 +21,6 @@ const LEAST_PIVOT: f64 = 1.0e-9;
 struct Equations {
     rows: Vec<Vec<f64>>,
     drives: Vec<f64>,
-}
-
-/// An entry of a row.
-fn at(row: &[f64], i: usize) -> f64 {
-    match row.get(i) {
-        Some(x) => *x,
-        None => 0.0,
-    }
-}
-
-/// Takes so many times a row from another.
-fn take(own: &mut [f64], other: &[f64], factor: f64) {
-    for (x, y) in own.iter_mut().zip(other) {
-        *x = *x - factor * *y;
-    }
 }
 
 /// A row over its pivot, and only what stands before that.
@@ -69,7 +55,7 @@ impl Equations {
             let slack = if is_signed {
                 0.0
             } else {
-                at(widths, i) * SLACK
+                entry_of(widths, i) * SLACK
             };
             equations.drives.push(left.driven(is_signed) + slack)?;
         }
@@ -82,16 +68,16 @@ impl Equations {
             return false;
         };
         let row = replace(slot, Vec::new(alloc));
-        let pivot = at(&row, i);
+        let pivot = entry_of(&row, i);
         if !(pivot > LEAST_PIVOT) {
             return false;
         }
         let row = divided(row, i, pivot);
-        let drive = at(&self.drives, i) / pivot;
+        let drive = entry_of(&self.drives, i) / pivot;
         for (other, own) in self.rows.iter_mut().zip(self.drives.iter_mut()).take(i) {
-            let factor = at(other, i);
+            let factor = entry_of(other, i);
             if factor != 0.0 {
-                take(other, &row, factor);
+                take_row(other, &row, factor);
                 *own = *own - factor * drive;
             }
         }

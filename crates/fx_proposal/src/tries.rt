@@ -235,7 +235,13 @@ impl<'a> Ladder<'a> {
     /// The templates of a step without the ends, if they find their place.
     fn placed(self, rung: Rung, budget: &mut Budget) -> Result<Option<Building<'a>>, Memory> {
         let part = to_float(rung.part) / 100.0;
-        match pole_templates(self.alloc, self.linear, self.poles, part, self.widest)? {
+        match pole_templates(
+            self.alloc,
+            self.linear.states,
+            self.poles,
+            part,
+            self.widest,
+        )? {
             Some(planes) => place(self.alloc, self.chains, self.linear, rung, &planes, budget),
             None => Ok(None),
         }

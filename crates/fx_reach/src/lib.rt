@@ -6,8 +6,9 @@
 //! kept.
 //!
 //! Nothing is promised of these numbers, and nothing rests on them: templates made of them are tested by who takes
-//! them. All are whole numbers of 128 bits, and one that leaves them drops what asked for it. The trap: sizes are whole
-//! at one power of two for all, coefficients at another, bounds at one for each template.
+//! them. Chains are made of whole numbers of 128 bits, and one that leaves them drops what asked for it; poles and their
+//! planes are worked out in floating point. The trap: sizes are whole at one power of two for all, coefficients at
+//! another, bounds at one for each template.
 #![tactic(auto)]
 
 mod ahead;

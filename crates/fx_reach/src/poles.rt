@@ -37,6 +37,8 @@ pub struct Pole {
     size: f64,
     angle: f64,
     vector: Vec<Complex>,
+    /// What drives its plane.
+    drives: Driven,
 }
 
 /// The matrix whose vectors are the left eigenvectors, in coordinates in which each state is about as wide.
@@ -89,8 +91,16 @@ fn unscaled(alloc: Global, vector: &[Complex], widths: &[f64]) -> Result<Vec<Com
 }
 
 /// A pole of this value.
-fn pole_at(alloc: Global, matrix: &Matrix, widths: &[f64], value: Complex) -> Result<Pole, Memory> {
-    let vector = eigenvector(alloc, matrix, value)?;
+fn pole_at(
+    alloc: Global,
+    linear: &Linear,
+    matrix: &Matrix,
+    widths: &[f64],
+    value: Complex,
+) -> Result<Pole, Memory> {
+    let scaled = eigenvector(alloc, matrix, value)?;
+    let vector = unscaled(alloc, &scaled, widths)?;
+    let drives = collect_drives(alloc, linear, value, &vector)?;
     let angle = if value.im > 1.0e-10 {
         angle_of(value)
     } else {
@@ -100,7 +110,8 @@ fn pole_at(alloc: Global, matrix: &Matrix, widths: &[f64], value: Complex) -> Re
         value,
         size: value.size(),
         angle,
-        vector: unscaled(alloc, &vector, widths)?,
+        vector,
+        drives,
     })
 }
 
@@ -113,7 +124,7 @@ pub fn poles_of(alloc: Global, linear: &Linear, widths: &[i128]) -> Result<Vec<P
         let value = *value;
         let size = value.size();
         if value.im >= -1.0e-10 && size >= LEAST && size < 1.0 && !is_near(value, &poles) {
-            poles.push(pole_at(alloc, &matrix, &widths, value)?)?;
+            poles.push(pole_at(alloc, linear, &matrix, &widths, value)?)?;
         }
     }
     Ok(poles)
@@ -163,13 +174,13 @@ impl Driven {
     }
 
     /// Adds all that comes of a drive over the times.
-    fn add_times(&mut self, pole: &Pole, drive: Complex) {
+    fn add_times(&mut self, pole: Complex, drive: Complex) {
         let mut now = drive;
         let least = drive.length() * 1.0e-9;
         for _step in 0..STEPS {
             if now.length() > least {
                 self.add(now);
-                now = now.times(pole.value);
+                now = now.times(pole);
             }
         }
     }
@@ -193,20 +204,25 @@ fn driven_by(vector: &[Complex], coefs: &[i128]) -> Complex {
     total
 }
 
-/// All that drives a pole's plane.
-fn collect_drives(alloc: Global, linear: &Linear, pole: &Pole) -> Result<Driven, Memory> {
+/// All that drives the plane of a pole with this eigenvector.
+fn collect_drives(
+    alloc: Global,
+    linear: &Linear,
+    pole: Complex,
+    vector: &[Complex],
+) -> Result<Driven, Memory> {
     let mut all = Driven {
         bins: vec![in alloc; Complex { re: 0.0, im: 0.0 }; BINS]?,
         middle: Complex::real(0.0),
     };
     for drive in linear.drives() {
-        let own = driven_by(&pole.vector, &drive.coefs);
+        let own = driven_by(vector, &drive.coefs);
         let lo = to_float(drive.lo);
         let hi = to_float(drive.hi);
         all.middle = all.middle.plus(own.scaled((lo + hi) * 0.5));
         all.add_times(pole, own.scaled((hi - lo) * 0.5));
     }
-    let left = Complex::real(1.0).minus(pole.value);
+    let left = Complex::real(1.0).minus(pole);
     all.middle = all.middle.over(left);
     Ok(all)
 }
@@ -229,12 +245,11 @@ fn scale_of(widest: f64, width: f64) -> f64 {
 fn push_direction(
     templates: &mut Templates,
     pole: &Pole,
-    drives: &Driven,
     turn: Complex,
     widest: f64,
 ) -> Result<Option<()>, Memory> {
-    let half = drives.reach(turn);
-    let middle = turn.times(drives.middle).re;
+    let half = pole.drives.reach(turn);
+    let middle = turn.times(pole.drives.middle).re;
     if !(half > 0.0) {
         return Ok(None);
     }
@@ -259,18 +274,15 @@ fn push_direction(
 
 /// Puts the templates of a pole behind the others.
 fn push_plane(
-    alloc: Global,
     templates: &mut Templates,
-    linear: &Linear,
     pole: &Pole,
     count: usize,
     widest: f64,
 ) -> Result<Option<()>, Memory> {
-    let drives = collect_drives(alloc, linear, pole)?;
     let step = turn_by(HALF_TURN / count_to_float(count));
     let mut turn = Complex::real(1.0);
     for _direction in 0..count {
-        if push_direction(templates, pole, &drives, turn, widest)?.is_none() {
+        if push_direction(templates, pole, turn, widest)?.is_none() {
             return Ok(None);
         }
         turn = turn.times(step);
@@ -278,22 +290,22 @@ fn push_plane(
     Ok(Some(()))
 }
 
-/// The templates of all poles, so many that a step loses at most such a part of what it shrinks by, each about as wide
+/// The templates over so many states of all poles, so many that a step loses at most such a part of what it shrinks by, each about as wide
 /// as the widest state; none where a plane would need too many.
 pub fn pole_templates(
     alloc: Global,
-    linear: &Linear,
+    states: usize,
     poles: &[Pole],
     part: f64,
     widest: i128,
 ) -> Result<Option<Templates>, Memory> {
-    let mut templates = Templates::new(alloc, linear.states);
+    let mut templates = Templates::new(alloc, states);
     for pole in poles {
         let Some(count) = pole.directions(part) else {
             return Ok(None);
         };
         let widest = to_float(widest);
-        if push_plane(alloc, &mut templates, linear, pole, count, widest)?.is_none() {
+        if push_plane(&mut templates, pole, count, widest)?.is_none() {
             return Ok(None);
         }
     }

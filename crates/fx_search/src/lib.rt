@@ -8,14 +8,11 @@
 //! - The first try is the function as it stands. Each further try looks at some drafts. The first of these begin at it
 //!   too: cleaned, with common factors taken out at random, and in directed forms.
 //! - Then it climbs (`climb`), by random moves from the current draft. A draft that costs up to a tenth more may be
-//!   taken up
-//! too, and after forty drafts without gain one of the five best is (`front`). Where there is no plan, the draft that
-//! fails
-//!   further on is the cheaper one.
+//!   taken up too, and after forty drafts without gain one of the five best is (`front`). Where there is no plan, the
+//!   draft that fails further on is the cheaper one.
 //! - After 1, 2, 5, 10, 20, .. tries the best are polished (`polish`), each point, each word and the centres of each
 //!   product moved by a little, and written. Where the checker or a text refuses it, its numbers left 128 bits, and it
-//! is
-//!   made again on coarser grids (`certify`).
+//!   is made again on coarser grids (`certify`).
 //! What is certified stays until it is bettered, and no try depends on how many follow, so more tries give no worse
 //! answer.
 //!
