@@ -1,13 +1,13 @@
 -- How a command ends that reads FILE and prints a text.
 use Rattle.std.proofs.Common.{◌≡◌, ℕ, List, take, refl, sym, subst}
 use Rattle.fx_base.specs.Requests.{AsksInOrder}
-use Rattle.fx_base.specs.Views.{SourceView, SinkView, ShelfView}
+use Rattle.fx_base.specs.Views.{SinkView, ShelfView}
 use Rattle.fx_checker.specs.CertifiedView.{Accepted}
 use Rattle.fx_stream.specs.Promise.{Grows}
 use Rattle.fx_stream.proofs.Grown.{none_grown}
 use Rattle.fx_ends.specs.Ends.{End}
 use Rattle.fx_bundle_commands.specs.declared.commands.sheet.Sheet.{Sheet}
-use Rattle.fx_bundle_commands.specs.Contracts.{PrintsFile}
+use Rattle.fx_bundle_commands.specs.Calls.{PrintsFile}
 use Rattle.fx_bundle_commands.specs.Opening.{OpeningEnds, unopened, opened}
 use Rattle.fx_bundle_commands.specs.OpeningView.{IsOpened, IsSilent, with_source}
 use Rattle.fx_bundle_commands.specs.Tasks.{BundleEnds, Prints}

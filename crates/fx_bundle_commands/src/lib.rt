@@ -6,7 +6,7 @@
 #![tactic(auto)]
 
 mod commands;
-mod migrated;
+mod migration;
 mod open;
 mod printing;
 mod report;

@@ -18,7 +18,7 @@ use Rattle.fx_arguments.specs.Command.{Command, command_of, texts}
 use Rattle.fx_ends.specs.Ends.{End, NoMemory}
 use Rattle.fx_bundle_commands.specs.declared.commands.run.Rows.{Rows}
 use Rattle.fx_bundle_commands.specs.declared.commands.run.Rows.TheVariants.{Alike, Apart, Units}
-use Rattle.fx_bundle_commands.specs.Contracts.{RunsFile}
+use Rattle.fx_bundle_commands.specs.Calls.{RunsFile}
 use Rattle.fx_bundle_commands.specs.Outside.{Outside, World, IsUntouched}
 use Rattle.fx_bundle_commands.specs.Opening as opening
 use Rattle.fx_bundle_commands.specs.Opening.{IsOpen, OpeningEnds}

@@ -4,7 +4,7 @@
 //! of what was opened, so its line goes out before that is dropped.
 ghost use Rattle.fx_ends.specs.EndView.{end_of};
 ghost use Rattle.fx_stream.specs.Ending.{streams};
-ghost use Rattle.fx_bundle_commands.specs.Contracts.{RunsFile, RunsInput};
+ghost use Rattle.fx_bundle_commands.specs.Calls.{RunsFile, RunsInput};
 ghost use Rattle.fx_bundle_commands.specs.Outside.{world};
 ghost use Rattle.fx_bundle_commands.specs.RowsView.{AreFew, rows_task};
 

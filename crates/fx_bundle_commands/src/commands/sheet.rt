@@ -5,13 +5,13 @@
 ghost use Rattle.std.specs.Prelude.{◌≡◌};
 ghost use Rattle.fx_cert.specs.BundleView.{IsLawfulBundle};
 ghost use Rattle.fx_ends.specs.EndView.{end_of};
-ghost use Rattle.fx_bundle_commands.specs.Contracts.{PrintsFile, desk};
+ghost use Rattle.fx_bundle_commands.specs.Calls.{PrintsFile, desk};
 ghost use Rattle.fx_bundle_commands.specs.Opening.{IsAcceptedAs};
 ghost use Rattle.fx_bundle_commands.specs.OpeningView.{IsSilent, with_source};
 ghost use Rattle.fx_bundle_commands.specs.Tasks.{BundleEnds, Prints};
 ghost use Rattle.fx_bundle_commands.specs.commands.Sheets.{PrintsSheet};
 
-use crate::migrated::migrated_text;
+use crate::migration::{migrated_text, migration_law};
 use crate::open::{Opened, open};
 use crate::printing::print_text;
 use crate::report::print_report;
@@ -54,7 +54,10 @@ fn print_sheet<K: Sink>(
     match sheet {
         Sheet::Bounds => print_report(&opened.certified, output),
         Sheet::Table => print_table(alloc, &opened.certified, output),
-        Sheet::SecondVersion => print_text(migrated_text(alloc, opened), output),
+        Sheet::SecondVersion => {
+            migration_law(opened);
+            print_text(migrated_text(alloc, opened), output)
+        }
         Sheet::Widths => print_text(widths_text(alloc, &opened.certified), output),
         Sheet::Rust => {
             text_law(&opened.certified);

@@ -4,5 +4,5 @@ use Rattle.fx_bundle_commands.proofs.report.print_report.Goals as goal
 pub returns-in-Ok-clause-ended : goal.returns-in-Ok-clause-ended
 returns-in-Ok-clause-ended g c = written c.in-Ok.ensures.all
 
-pub returns-clause-ended : goal.returns-clause-ended
-returns-clause-ended g c = unwritten c.in-Err.ensures.cause.failed c.in-Err.ensures.front
+pub returns-in-Err-clause-ended : goal.returns-in-Err-clause-ended
+returns-in-Err-clause-ended g c = unwritten c.in-Err.ensures.cause.failed c.in-Err.ensures.front
