@@ -16,11 +16,16 @@ use Rattle.fx_stream.specs.Promise.{Grows}
 use Rattle.fx_stream.proofs.Grown.{none_grown}
 use Rattle.fx_arguments.specs.Command.{Command, command_of, texts}
 use Rattle.fx_ends.specs.Ends.{End, NoMemory}
+use Rattle.fx_bundle_commands.specs.declared.commands.run.Rows.{Rows}
+use Rattle.fx_bundle_commands.specs.declared.commands.run.Rows.TheVariants.{Alike, Apart, Units}
+use Rattle.fx_bundle_commands.specs.declared.commands.sheet.Sheet.{Sheet}
+use Rattle.fx_bundle_commands.specs.Calls.{RunsFile}
 use Rattle.fx_bundle_commands.specs.Outside.{Outside, World, IsUntouched}
 use Rattle.fx_bundle_commands.specs.Opening as opening
 use Rattle.fx_bundle_commands.specs.Opening.{IsOpen, OpeningEnds}
 use Rattle.fx_bundle_commands.specs.OpeningView.{IsSilent}
-use Rattle.fx_bundle_commands.specs.Tasks.{Task, IsPromptAt, IsAnswer, RunsFile}
+use Rattle.fx_bundle_commands.specs.RowsView.{rows_task}
+use Rattle.fx_bundle_commands.specs.Tasks.{Task, Prints, BundleEnds, IsPromptAt, IsAnswer}
 use Rattle.fx_command.specs.Source as source
 use Rattle.fx_command.specs.commands.Synth as synth
 use Rattle.fx_command.specs.commands.Demo as demo
@@ -86,10 +91,16 @@ module _ {S K : Type 0} {old new : World S K} {status : ℕ} (rows : RowsInRange
 one_bundle : (t t' : Task) (n n' : List ℕ) → Some (OnBundle t n) ≡ Some (OnBundle t' n') → (t ≡ t') × (n ≡ n')
 one_bundle t t' n n' e = (cc, cc)
 
+-- however its lines are run
+rows_read : (rows : Rows) (file : List ℕ) → leaves_input (OnBundle (rows_task rows) file) ≡ false
+rows_read Alike file = refl
+rows_read Apart file = refl
+rows_read (Units units) file = refl
+
 module _ {S K : Type 0} (task : Task) (old new : World S K) (name : List ℕ) (status : ℕ) where
-  pub ran : ((file : List ℕ) → leaves_input (OnBundle task file) ≡ false) → RunsFile task old new name status →
+  did : ((file : List ℕ) → leaves_input (OnBundle task file) ≡ false) → RunsFile task old new name status →
       Acts (Some (OnBundle task name)) old new status
-  ran reads r = record {
+  did reads r = record {
     ended = record { end = r.end; answer = r.answer; cause = r.ends };
     prompt = λ t n e. let same = one_bundle task t name n e in
         subst (λ (x : Task). HoldsEachTime (IsPromptAt x old.seen.shelf.files n old.seen.streams)
@@ -112,6 +123,12 @@ module _ {S K : Type 0} (task : Task) (old new : World S K) (name : List ℕ) (s
       never d e leaves =
           let is : OnBundle task name ≡ d = cc in
           let z = sym (reads name) ∙ ap leaves_input is ∙ leaves in absurd cc
+
+pub ran : {S K : Type 0} (rows : Rows) (task : Task) → rows_task rows ≡ task → (old new : World S K) (name : List ℕ)
+    (status : ℕ) → RunsFile (rows_task rows) old new name status → Acts (Some (OnBundle task name)) old new status
+ran rows task is old new name status r =
+    subst (λ t. Acts (Some (OnBundle t name)) old new status) is
+    (did (rows_task rows) old new name status (rows_read rows) r)
 
 -- ---- a command that leaves the input alone
 -- nothing was asked of the shelf, whatever file is named
@@ -176,6 +193,17 @@ module _ {S K : Type 0} (deed : Option Deed) (old new : World S K) (status : ℕ
       none_taken : (left : Option (List ℕ)) → (taken : List ℕ) × Consumes left left taken
       none_taken None = ([], tt)
       none_taken (Some bytes) = ([], refl)
+
+-- a text of the bundle in FILE was printed
+module _ {S K : Type 0} (sheet : Sheet) (task : Task) (is : Prints sheet ≡ task) (old new : World S K)
+    (name : List ℕ) (status : ℕ) (end : End) where
+  pub printed : Stays old new → IsAnswer old new status end → BundleEnds (Prints sheet) old.seen new.seen name end →
+      AsksInOrder name old.seen.shelf.asked new.seen.shelf.asked →
+      Grows old.seen.streams.sink.taken new.seen.streams.sink.taken → (IsSilent end → new.output ≡ old.output) →
+      Acts (Some (OnBundle task name)) old new status
+  printed stays answer cause asked grown quiet =
+      subst (λ t. Acts (Some (OnBundle t name)) old new status) is
+      (acted (Some (OnBundle (Prints sheet) name)) old new status end stays answer cause asked grown quiet)
 
 -- ---- the words weren't read for want of memory
 unread : (old new : Outside) → new.streams.source.left ≡ old.streams.source.left →
