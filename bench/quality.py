@@ -3,7 +3,7 @@
 
 For each function without state of examples/daisy and of bench/functions.fixd: the certified bound after so many tries over that of the
 program as it is written, which 0 tries give at floor (of several outputs the mean of their quotients). It prints two tables, as they stand in
-docs/quality.md: the median and the worst of the functions at each width, and each function at 32 bits. `-` stands where nothing is found. With
+docs/quality.md: median, geometric mean and worst of the functions at each width, and each function at 32 bits. `-` stands where nothing is found. With
 --seconds it says on the error stream what each call took. Outside the gate; it takes some minutes.
 """
 import argparse
@@ -72,9 +72,9 @@ class Measuring:
 
 
 def summed(column):
-    """The median and the worst."""
+    """The median, the geometric mean and the worst."""
     values = [value for value in column if value is not None]
-    return f"{statistics.median(values):.3f}, {max(values):.3f}" if values else "-"
+    return f"{statistics.median(values):.3f}, {statistics.geometric_mean(values):.3f}, {max(values):.3f}" if values else "-"
 
 
 def main():
