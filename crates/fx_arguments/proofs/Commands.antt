@@ -1,25 +1,26 @@
 -- The first word is a command's name, and what `clap` does behind it.
-use Rattle.std.proofs.Common.{zero, suc, ◌≢◌, ◌≡◌, ℕ, Bool, true, false, ◌||◌, List, [], ◌∷◌, ◌++◌, length, drop, Option, Some, None, option_map, codes, refl, ap, ap₂, ◌∙◌, sym, subst, inl, inr}
+use Rattle.std.proofs.Common.{zero, suc, ◌≢◌, ◌≡◌, ℕ, Bool, true, false, ◌||◌, List, [], ◌∷◌, ◌++◌, map, length, drop, Option, Some, None, option_map, codes, refl, ap, ap₂, ◌∙◌, sym, subst, inl, inr}
 use Rattle.std.specs.Prelude.{if◌then◌else◌, find, fold, slice_get, is_some, ◌⊎◌}
 use Rattle.std.specs.Option.{option_map_or}
 use Rattle.std.specs.Str.{bytes_eq, chars}
 use Rattle.std.proofs.lemmas.Slice.Eq.{bytes_eq-Decides}
-use Rattle.clap.proofs.WalkLemmas.{walk_stopped}
+use Rattle.clap.proofs.WalkLemmas.{find-map, walk_stopped}
 use Rattle.clap.specs.Lexer.{long_of}
-use Rattle.clap.specs.Walk.{walk_from, subcommand_met, word_met, subcommand_or_other, long_or_other, short_or_plain, trailing, settled, finished, Walk, Names, answers_to, idle, walked, nothing_held, rows_after}
-use Rattle.clap.specs.Simple.{Shape, built, entered, names_of, subcommand_of}
+use Rattle.clap.specs.Walk.{Held, Step, after_step, walk_from, subcommand_met, word_met, subcommand_or_other, long_or_other, short_or_plain, trailing, settled, finished, Walk, Names, answers_to, idle, walked, nothing_held, rows_after}
+use Rattle.clap.specs.Simple.{Shape, built, entered, label_of, names_of, rows_at, subcommand_of}
 use Rattle.clap.specs.Kinds.{Kinds, or_else}
-use Rattle.clap.specs.Faults.{fault_of, walk_fault, turn_fault, step_fault, word_fault, other_fault, flag_word_fault, flags_fault, bundle_fault, bundle_step_fault, settle_fault, check_fault, defaults_fault, entered_fault}
+use Rattle.clap.specs.Faults.{fault_of, level_fault, walk_fault, turn_fault, step_fault, word_fault, other_fault, flag_word_fault, flags_fault, bundle_fault, bundle_step_fault, settle_fault, check_fault, defaults_fault, entered_fault}
+use Rattle.clap.specs.declared.error.kind.ErrorKind.TheVariants as kind
 use Rattle.fx_arguments.specs.App.{fixd_app}
-use Rattle.fx_arguments.specs.Command as words
-use Rattle.fx_arguments.specs.Command.{Command, command_given, demo_given, on_file, options_of}
+use Rattle.fx_arguments.specs.Command.{OnFile, command_given, demo_given, file_commands, on_file, options_of}
+use Rattle.fx_arguments.specs.declared.command.FileCommand.{FileCommand}
 use Rattle.fx_arguments.specs.Grammar.{Bytes, Entry, ends_options, is_dashed, value_named}
-use Rattle.fx_arguments.proofs.Booleans.{and-true}
-use Rattle.fx_arguments.proofs.Pending.{faults_from, has_required, is_nil, nil-or_else, settled_now, walk_at}
+use Rattle.fx_arguments.proofs.Booleans.{and-true, never-both}
+use Rattle.fx_arguments.proofs.Pending.{faults_from, has_required, is_nil, leaf_shape, nil-or_else, settled_now, walk_at}
 use Rattle.fx_arguments.proofs.OneWord.{HasFirstFlag, nil-first, no-nil, plain-met, short-met}
-use Rattle.fx_arguments.proofs.Options.{AreApart, option_names, options_rules}
+use Rattle.fx_arguments.proofs.Options.{AreApart, node_takes, option_names, options_rules, synth_takes}
 use Rattle.fx_arguments.proofs.Missing.{no-file, no-node, no-synthesis}
-use Rattle.fx_arguments.proofs.OnFile.{made-of-file, no-options}
+use Rattle.fx_arguments.proofs.OnFile.{made-of-file, no-options, takes-no-options}
 
 -- ---- the top
 
@@ -60,19 +61,57 @@ pub record IsCommand (name : Bytes) : Type 0 where
 abbrev stopped_at : Bytes → List Bytes → Walk
 stopped_at name seen = record (walk_from nothing_held) { stopped = Some (name, seen) }
 
--- a command is one where the walk stops at its name, and what is entered there is made of its options and FILE
+-- what building makes of a command of this name with these options and FILE
+abbrev leaf_of : Bytes → List (Bytes × Bool) → Shape
+leaf_of name options = leaf_shape name (options_rules options)
+
+-- the one of this name among the commands
+abbrev shape_named : Bytes → List Shape → Option Shape
+shape_named name shapes = find (λ s. answers_to name (label_of s)) shapes
+
+-- a walk meets the name of what is found so
+met-by-name : (word : Bytes) (o : Option Shape) → shape_named word (built fixd_app).subs ≡ o →
+    subcommand_met commands idle word ≡ option_map (λ p. p.0) (option_map label_of o)
+met-by-name word o is =
+    ap (option_map (λ (p : Bytes × List Bytes). p.0)) (sym (find-map (answers_to word) label_of (built fixd_app).subs)
+    ∙ ap (option_map label_of) is)
+
+-- what is found under a name is a command: the walk stops there, and its options and FILE are read
 module _ (name : Bytes) (options : List (Bytes × Bool))
-    (starts : (rest : List Bytes) → is_nil (fault_of fixd_app (name ∷ rest))
-    ≡ by_walk (walk_fault top commands (stopped_at name []) rest) (fold (walked [] commands) (stopped_at name []) rest))
-    (enters : (rest : List Bytes) → by_walk [] (stopped_at name rest)
-    ≡ is_nil (or_else (faults_from name (options_rules options) (walk_at [] settled_now 1 false) rest) []))
-    (stops : (rest : List Bytes) →
-    subcommand_of fixd_app (name ∷ rest)
-    ≡ entered (built fixd_app) (fold (walked [] commands) (stopped_at name []) rest).stopped)
-    (finds : (rest : List Bytes) →
-    entered (built fixd_app) (Some (name, rest)) ≡ Some (name, rows_after (options_rules options) [] rest)) where
-  after-name : (rest : List Bytes) → fold (walked [] commands) (stopped_at name []) rest ≡ stopped_at name rest
-  after-name rest = sym (walk_stopped [] commands (walk_from nothing_held) name [] rest)
+    (found : shape_named name (built fixd_app).subs ≡ Some (leaf_of name options)) where
+  met : subcommand_met commands idle name ≡ Some name
+  met = met-by-name name (Some (leaf_of name options)) found
+
+  abbrev met_as : Option Bytes → Held × Step
+  met_as o = subcommand_or_other [] o idle 1 name nothing_held
+
+  first-turn : turn_fault top commands (walk_from nothing_held) name ≡ []
+  first-turn =
+      ap (λ o. or_else (other_fault top o name nothing_held) (step_fault top 1 (met_as o).0 (met_as o).1)) met
+      ∙ ap (λ k. or_else k []) (never-both (bytes_eq name (codes "help"))
+      (kind.DisplayHelp ∷ kind.InvalidSubcommand ∷ []) [])
+
+  first-walked : walked [] commands (walk_from nothing_held) name ≡ stopped_at name []
+  unfolding walked
+  first-walked = ap (λ o. after_step [] name (walk_from nothing_held) (met_as o).0 (met_as o).1) met
+
+  no-fault : (rest : List Bytes) → walk_fault top commands (walk_from nothing_held) (name ∷ rest) ≡ []
+  unfolding walk_fault
+  no-fault rest =
+      ap₂ (λ t w. or_else t (walk_fault top commands w rest)) first-turn first-walked
+      ∙ stopped-walk (walk_from nothing_held) name [] rest
+
+  stops : (rest : List Bytes) → fold (walked [] commands) (walk_from nothing_held) (name ∷ rest) ≡ stopped_at name rest
+  stops rest =
+      ap (λ w. fold (walked [] commands) w rest) first-walked
+      ∙ sym (walk_stopped [] commands (walk_from nothing_held) name [] rest)
+
+  enters : (rest : List Bytes) → by_walk [] (stopped_at name rest)
+      ≡ is_nil (or_else (faults_from name (options_rules options) (walk_at [] settled_now 1 false) rest) [])
+  unfolding defaults_fault
+  enters rest =
+      ap (λ o. is_nil (or_else (option_map_or (λ s. level_fault s [] nothing_held rest false []) o [])
+      (check_fault top [] (is_some (option_map (λ s. rows_at s rest) o))))) found
 
   is-one : AreApart options → options_of name ≡ Some (option_names options)
       → ((ps : List Entry) → has_required (options_rules options) ps ≡ false →
@@ -81,81 +120,66 @@ module _ (name : Bytes) (options : List (Bytes × Bool))
     options = options;
     apart = apart;
     known = known;
-    faults = λ rest. starts rest ∙ ap₂ by_walk (stopped-walk (walk_from nothing_held) name [] rest) (after-name rest)
-        ∙ enters rest
+    faults = λ rest. ap₂ by_walk (no-fault rest) (stops rest) ∙ enters rest
         ∙ nil-or_else (faults_from name (options_rules options) (walk_at [] settled_now 1 false) rest) [] ∙ and-true _;
-    rows = λ rest. stops rest ∙ ap (λ (w : Walk). entered (built fixd_app) w.stopped) (after-name rest) ∙ finds rest;
+    rows = λ rest. ap (λ (w : Walk). entered (built fixd_app) w.stopped) (stops rest)
+        ∙ ap (option_map (λ s. rows_at s rest)) found;
     wants = wants;
   }
 
+-- ---- the commands that take FILE alone, and the others
+
+-- those that have options, and `demo`
+abbrev others : List Shape
+others = leaf_of (codes "node") node_takes ∷ leaf_of (codes "synth") synth_takes ∷ leaf_of (codes "demo") [] ∷ []
+
+-- a word is sought among the names of these commands that take FILE alone, and then among the others
+by-file : (word : Bytes) (rows : List (Bytes × FileCommand)) →
+    shape_named word (map (λ row. leaf_of row.0 []) rows ++ others)
+    ≡ option_map_or (λ command. Some (leaf_of word []))
+    (option_map (λ row. row.1) (find (λ row. bytes_eq row.0 word) rows)) (shape_named word others)
+by-file word [] = refl
+by-file word (row ∷ rows) = by_name (bytes_eq row.0 word) refl (by-file word rows) where
+  by_name : (b : Bool) → bytes_eq row.0 word ≡ b
+      → shape_named word (map (λ r. leaf_of r.0 []) rows ++ others)
+      ≡ option_map_or (λ command. Some (leaf_of word []))
+      (option_map (λ (r : Bytes × FileCommand). r.1) (find (λ r. bytes_eq r.0 word) rows)) (shape_named word others)
+      → (if b || false then Some (leaf_of row.0 []) else shape_named word (map (λ r. leaf_of r.0 []) rows ++ others))
+      ≡ option_map_or (λ command. Some (leaf_of word []))
+      (option_map (λ (r : Bytes × FileCommand). r.1) (if b then Some row else find (λ r. bytes_eq r.0 word) rows))
+      (shape_named word others)
+  by_name true e ih = ap (λ n. Some (leaf_of n [])) ((bytes_eq-Decides row.0 word).0 e)
+  by_name false e ih = ih
+
+-- so the commands are found by the table of those that take FILE alone
+by-table : (word : Bytes) (o : Option FileCommand) → on_file word ≡ o → shape_named word (built fixd_app).subs
+    ≡ option_map_or (λ command. Some (leaf_of word [])) o (shape_named word others)
+by-table word o is =
+    by-file word file_commands
+    ∙ ap (λ p. option_map_or (λ (command : FileCommand). Some (leaf_of word [])) p (shape_named word others)) is
+
 -- without FILE there is none that takes it alone
-wants-file : (name : Bytes) (made : Bytes → Command) → on_file name ≡ Some made → (ps : List Entry)
+wants-file : (name : Bytes) (command : FileCommand) → on_file name ≡ Some command → (ps : List Entry)
     → has_required (options_rules []) ps ≡ false → command_given name (value_named ps) ≡ None
-wants-file name made is ps e = made-of-file name made is (value_named ps) ∙ ap (option_map made) (no-file ps e)
+wants-file name command is ps e =
+    made-of-file name command is (value_named ps) ∙ ap (option_map (OnFile command)) (no-file ps e)
 
-run-is-one : IsCommand (codes "run")
-unfolding walk_fault walked defaults_fault
-run-is-one =
-    is-one (codes "run") [] (λ rest. refl) (λ rest. refl) (λ rest. refl) (λ rest. refl) tt refl
-    (wants-file (codes "run") words.Run refl)
-
-check-is-one : IsCommand (codes "check")
-unfolding walk_fault walked defaults_fault
-check-is-one =
-    is-one (codes "check") [] (λ rest. refl) (λ rest. refl) (λ rest. refl) (λ rest. refl) tt refl
-    (wants-file (codes "check") words.Check refl)
-
-show-is-one : IsCommand (codes "show")
-unfolding walk_fault walked defaults_fault
-show-is-one =
-    is-one (codes "show") [] (λ rest. refl) (λ rest. refl) (λ rest. refl) (λ rest. refl) tt refl
-    (wants-file (codes "show") words.Show refl)
-
-migrate-is-one : IsCommand (codes "migrate")
-unfolding walk_fault walked defaults_fault
-migrate-is-one =
-    is-one (codes "migrate") [] (λ rest. refl) (λ rest. refl) (λ rest. refl) (λ rest. refl) tt refl
-    (wants-file (codes "migrate") words.Migrate refl)
-
-mixed-is-one : IsCommand (codes "mixed")
-unfolding walk_fault walked defaults_fault
-mixed-is-one =
-    is-one (codes "mixed") [] (λ rest. refl) (λ rest. refl) (λ rest. refl) (λ rest. refl) tt refl
-    (wants-file (codes "mixed") words.Mixed refl)
-
-widths-is-one : IsCommand (codes "widths")
-unfolding walk_fault walked defaults_fault
-widths-is-one =
-    is-one (codes "widths") [] (λ rest. refl) (λ rest. refl) (λ rest. refl) (λ rest. refl) tt refl
-    (wants-file (codes "widths") words.Widths refl)
-
-rust-is-one : IsCommand (codes "rust")
-unfolding walk_fault walked defaults_fault
-rust-is-one =
-    is-one (codes "rust") [] (λ rest. refl) (λ rest. refl) (λ rest. refl) (λ rest. refl) tt refl
-    (wants-file (codes "rust") words.Rust refl)
+file-is-one : (name : Bytes) (command : FileCommand) → on_file name ≡ Some command → IsCommand name
+file-is-one name command is =
+    is-one name [] (by-table name (Some command) is) tt (takes-no-options name command is) (wants-file name command is)
 
 node-is-one : IsCommand (codes "node")
-unfolding walk_fault walked defaults_fault
-node-is-one =
-    is-one (codes "node") ((codes "units", true) ∷ []) (λ rest. refl) (λ rest. refl) (λ rest. refl) (λ rest. refl)
-    (refl, tt) refl no-node
+node-is-one = is-one (codes "node") node_takes refl (refl, tt) refl no-node
 
 synth-is-one : IsCommand (codes "synth")
-unfolding walk_fault walked defaults_fault
 synth-is-one =
-    is-one (codes "synth") ((codes "width", true) ∷ (codes "function", false) ∷ (codes "seed", false)
-    ∷ (codes "tries", false) ∷ (codes "round", false) ∷ [])
-    (λ rest. refl) (λ rest. refl) (λ rest. refl) (λ rest. refl) (
+    is-one (codes "synth") synth_takes refl (
       refl,
       (refl, (refl, (refl, (refl, tt)))),
     ) refl no-synthesis
 
 demo-is-one : IsCommand (codes "demo")
-unfolding walk_fault walked defaults_fault
-demo-is-one =
-    is-one (codes "demo") [] (λ rest. refl) (λ rest. refl) (λ rest. refl) (λ rest. refl) tt refl
-    (λ ps e. ap demo_given (no-file ps e))
+demo-is-one = is-one (codes "demo") [] refl tt refl (λ ps e. ap demo_given (no-file ps e))
 
 -- ---- a first word that is none
 
@@ -246,37 +270,16 @@ or-another word name is otherwise = by_name (bytes_eq word name) refl where
   by_name false e = otherwise (e, ap (λ b. b || false) (other-way word name e))
 
 pub which-command : (word : Bytes) → IsCommand word ⊎ IsNone word
-which-command word =
-    or-another word (codes "run") run-is-one (λ no_run.
-    or-another word (codes "check") check-is-one (λ no_check.
-    or-another word (codes "show") show-is-one (λ no_show.
-    or-another word (codes "migrate") migrate-is-one (λ no_migrate.
-    or-another word (codes "mixed") mixed-is-one (λ no_mixed.
-    or-another word (codes "widths") widths-is-one (λ no_widths.
-    or-another word (codes "rust") rust-is-one (λ no_rust.
-    or-another word (codes "node") node-is-one (λ no_node.
-    or-another word (codes "synth") synth-is-one (λ no_synth.
-    or-another word (codes "demo") demo-is-one (λ no_demo.
-    let unmet : find (answers_to word) commands ≡ None =
-    not-first _ _ _ _ no_run.1 (
-    not-first _ _ _ _ no_check.1 (
-    not-first _ _ _ _ no_show.1 (
-    not-first _ _ _ _ no_migrate.1 (
-    not-first _ _ _ _ no_mixed.1 (
-    not-first _ _ _ _ no_widths.1 (
-    not-first _ _ _ _ no_rust.1 (
-    not-first _ _ _ _ no_node.1 (
-    not-first _ _ _ _ no_synth.1 (
-    not-first _ _ _ _ no_demo.1 refl))))))))) in
-    let not_on_file : on_file word ≡ None =
-    not-first _ _ _ _ no_run.0 (
-    not-first _ _ _ _ no_check.0 (
-    not-first _ _ _ _ no_show.0 (
-    not-first _ _ _ _ no_migrate.0 (
-    not-first _ _ _ _ no_mixed.0 (
-    not-first _ _ _ _ no_widths.0 (
-    not-first _ _ _ _ no_rust.0 refl)))))) in
-    inr (record {
-      met = ap (option_map (λ (p : Bytes × List Bytes). p.0)) unmet;
-      unknown = no-options word no_node.0 no_synth.0 no_demo.0 ∙ ap (option_map (λ made. [])) not_on_file;
-    })))))))))))
+which-command word = by_command (on_file word) refl where
+  by_command : (o : Option FileCommand) → on_file word ≡ o → IsCommand word ⊎ IsNone word
+  by_command (Some command) is = inl (file-is-one word command is)
+  by_command None is =
+      or-another word (codes "node") node-is-one (λ no_node.
+      or-another word (codes "synth") synth-is-one (λ no_synth.
+      or-another word (codes "demo") demo-is-one (λ no_demo.
+      let unmet : shape_named word others ≡ None =
+      not-first _ _ _ _ no_node.1 (not-first _ _ _ _ no_synth.1 (not-first _ _ _ _ no_demo.1 refl)) in
+      inr (record {
+        met = met-by-name word None (by-table word None is ∙ unmet);
+        unknown = no-options word no_node.0 no_synth.0 no_demo.0 ∙ ap (option_map (λ command. [])) is;
+      }))))

@@ -9,7 +9,7 @@ use Rattle.fx_arguments.specs.Grammar.{Bytes, Entry, has_entry, value_named}
 use Rattle.fx_arguments.specs.Numbers.{number_or, units_given, width_given}
 use Rattle.fx_arguments.specs.Rounding.{round_given}
 use Rattle.fx_arguments.proofs.Pending.{has_required}
-use Rattle.fx_arguments.proofs.Options.{options_rules}
+use Rattle.fx_arguments.proofs.Options.{node_takes, options_rules, synth_takes}
 
 value-is-none : (name : Bytes) (ps : List Entry) → has_entry name ps ≡ false → value_named ps name ≡ None
 value-is-none name [] e = refl
@@ -29,7 +29,7 @@ no-units : (units : Option ℕ) → node_of units None ≡ None
 no-units None = refl
 no-units (Some units) = refl
 
-pub no-node : (ps : List Entry) → has_required (options_rules ((codes "units", true) ∷ [])) ps ≡ false →
+pub no-node : (ps : List Entry) → has_required (options_rules node_takes) ps ≡ false →
     command_given (codes "node") (value_named ps) ≡ None
 no-node ps e = by_names (has_entry (codes "units") ps) refl (has_entry (codes "file") ps) refl e where
   by_names : (u : Bool) → has_entry (codes "units") ps ≡ u → (f : Bool) → has_entry (codes "file") ps ≡ f →
@@ -46,11 +46,8 @@ without-file None f s = refl
 without-file (Some w) f None = refl
 without-file (Some w) f (Some s) = refl
 
-pub no-synthesis : (ps : List Entry) →
-    has_required (options_rules
-    ((codes "width", true) ∷ (codes "function", false) ∷ (codes "seed", false) ∷ (codes "tries", false)
-    ∷ (codes "round", false) ∷ [])) ps ≡ false
-    → command_given (codes "synth") (value_named ps) ≡ None
+pub no-synthesis : (ps : List Entry) → has_required (options_rules synth_takes) ps ≡ false →
+    command_given (codes "synth") (value_named ps) ≡ None
 no-synthesis ps e = by_names (has_entry (codes "width") ps) refl (has_entry (codes "file") ps) refl e where
   seed : Option ℕ
   seed = number_or 0 18446744073709551615 (value_named ps (codes "seed"))

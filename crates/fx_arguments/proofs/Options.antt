@@ -1,5 +1,5 @@
 -- The rules of options and FILE are those of a command that takes entries.
-use Rattle.std.proofs.Common.{◌≡◌, ℕ, Bool, true, false, ◌||◌, List, [], ◌∷◌, map, Some, None, refl, ap, ◌∙◌, subst}
+use Rattle.std.proofs.Common.{◌≡◌, ℕ, Bool, true, false, ◌||◌, List, [], ◌∷◌, map, Some, None, codes, refl, ap, ◌∙◌, subst}
 use Rattle.std.specs.Prelude.{if◌then◌else◌}
 use Rattle.std.specs.Str.{bytes_eq}
 use Rattle.std.proofs.lemmas.Slice.Eq.{bytes_eq-Decides}
@@ -20,6 +20,15 @@ option_names os = map (λ o. o.0) os
 abbrev pub AreApart : List (Bytes × Bool) → Type 0
 AreApart [] = Unit {0}
 AreApart (o ∷ os) = (bytes_eq o.0 file_id ≡ false) × AreApart os
+
+-- the options of `node` and of `synth`, and whether they are required
+abbrev pub node_takes : List (Bytes × Bool)
+node_takes = (codes "units", true) ∷ []
+
+abbrev pub synth_takes : List (Bytes × Bool)
+synth_takes =
+    (codes "width", true) ∷ (codes "function", false) ∷ (codes "seed", false) ∷ (codes "tries", false)
+    ∷ (codes "round", false) ∷ []
 
 no-defaults : (os : List (Bytes × Bool)) → HasNoDefaults (options_rules os)
 no-defaults [] = refl

@@ -1,7 +1,8 @@
 -- Without options the entries are files.
 use Rattle.std.proofs.Common.{◌≡◌, ◌∙◌, Bool, true, false, List, [], ◌∷◌, map, Option, Some, None, option_map, codes, refl, ap}
 use Rattle.std.specs.Prelude.{IfSome, if◌then◌else◌, option_and_then}
-use Rattle.fx_arguments.specs.Command.{Command, command_of, lawful_command, on_file}
+use Rattle.fx_arguments.specs.Command.{Command, OnFile, command_of, lawful_command, on_file}
+use Rattle.fx_arguments.specs.declared.command.FileCommand.{FileCommand}
 use Rattle.fx_arguments.specs.Grammar.{Bytes, Entry, after_option, ends_options, entries_in, file_entry, is_dashed, once, option_parts, stand_once, value_named, with_entry}
 use Rattle.fx_arguments.specs.Plain.{files_among, one_file}
 use Rattle.fx_arguments.proofs.OnFile.{made-of-file, takes-no-options}
@@ -50,21 +51,22 @@ taken made words =
     (entries-are-files words) ∙ file-given made (files_among words)
 
 -- a command of this name
-takes-one-file : (name : Bytes) (made : Bytes → Command) → on_file name ≡ Some made → (words : List Bytes)
-    → command_of (name ∷ words) ≡ option_map made (one_file (files_among words))
-takes-one-file name made is words =
+takes-one-file : (name : Bytes) (command : FileCommand) → on_file name ≡ Some command → (words : List Bytes)
+    → command_of (name ∷ words) ≡ option_map (OnFile command) (one_file (files_among words))
+takes-one-file name command is words =
     ap (λ o. option_and_then
     (λ options. option_and_then (λ entries. lawful_command name options (value_named entries))
-    (once (entries_in options words None))) o) (takes-no-options name made is)
+    (once (entries_in options words None))) o) (takes-no-options name command is)
     ∙ ap (λ (f : List Entry → Option Command). option_and_then f (once (entries_in [] words None)))
-    (λ i entries. made-of-file name made is (value_named entries) i)
-    ∙ taken made words
+    (λ i entries. made-of-file name command is (value_named entries) i)
+    ∙ taken (OnFile command) words
 
 -- so of each name that is one's
 pub each-takes-one-file : (name : Bytes) (words : List Bytes)
-    → IfSome (on_file name) (λ made. command_of (name ∷ words) ≡ option_map made (one_file (files_among words)))
+    → IfSome (on_file name)
+    (λ command. command_of (name ∷ words) ≡ option_map (OnFile command) (one_file (files_among words)))
 each-takes-one-file name words = by_name (on_file name) refl where
-  by_name : (o : Option (Bytes → Command)) → on_file name ≡ o →
-      IfSome o (λ made. command_of (name ∷ words) ≡ option_map made (one_file (files_among words)))
+  by_name : (o : Option FileCommand) → on_file name ≡ o →
+      IfSome o (λ command. command_of (name ∷ words) ≡ option_map (OnFile command) (one_file (files_among words)))
   by_name None is = tt
-  by_name (Some made) is = takes-one-file name made is words
+  by_name (Some command) is = takes-one-file name command is words

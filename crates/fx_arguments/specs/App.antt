@@ -1,9 +1,10 @@
 -- The command line as `clap` is told to read it: one level of commands, and no help.
-use Rattle.std.specs.Prelude.{Some, true, codes}
+use Rattle.std.specs.Prelude.{Some, true, codes, fold}
 use Rattle.clap.specs.Walk.{Rule}
 use Rattle.clap.specs.Simple.{App, new_app, new_rule, with_rule, with_subcommand}
 use Rattle.clap.specs.declared.builder.action.ArgAction.TheVariants.{Set}
 use Rattle.fx_arguments.specs.Grammar.{Bytes}
+use Rattle.fx_arguments.specs.Command.{file_commands}
 
 -- `--name VALUE`, which may be left out
 abbrev pub option_rule : Bytes → Rule
@@ -42,16 +43,11 @@ top_app = record (new_app (codes "fixd")) {
   };
 }
 
--- those of a bundle in FILE
+-- the line with the commands that take FILE alone
 abbrev pub bundles_app : App
-bundles_app =
-    with_subcommand (with_subcommand
-    (with_subcommand (with_subcommand
-    (with_subcommand (with_subcommand (with_subcommand top_app (file_app (codes "run")).top)
-    (file_app (codes "check")).top) (file_app (codes "show")).top) (file_app (codes "migrate")).top)
-    (file_app (codes "mixed")).top) (file_app (codes "widths")).top) (file_app (codes "rust")).top
+bundles_app = fold (λ app row. with_subcommand app (file_app row.0).top) top_app file_commands
 
--- and `node`
+-- the line with `node` too
 abbrev pub rows_app : App
 rows_app = with_subcommand bundles_app node_app.top
 

@@ -1,5 +1,5 @@
 -- The command that the words are.
-use Rattle.std.specs.Prelude.{ℕ, ◌-◌, ◌^◌, ◌≤◌, List, [], ◌∷◌, map, codes, string_bytes, String, Option, Some, None, option_map, option_and_then, if◌then◌else◌}
+use Rattle.std.specs.Prelude.{ℕ, ◌-◌, ◌^◌, ◌≤◌, List, [], ◌∷◌, map, find, codes, string_bytes, String, Option, Some, None, option_map, option_and_then, if◌then◌else◌}
 use Rattle.std.specs.Str.{bytes_eq}
 use Rattle.std.specs.declared.alloc.Global.{Global}
 use Rattle.fx_program.specs.declared.code.Round.{Round}
@@ -8,6 +8,14 @@ use Rattle.fx_wanted.specs.declared.wanted.Wanted.{Wanted}
 use Rattle.fx_arguments.specs.Grammar.{Bytes, entries_in, once, value_named, have_values}
 use Rattle.fx_arguments.specs.Numbers.{demo_number, number_or, units_given, width_given}
 use Rattle.fx_arguments.specs.Rounding.{round_given}
+use Rattle.fx_arguments.specs.declared.command.FileCommand.{FileCommand}
+use Rattle.fx_arguments.specs.declared.command.FileCommand.TheVariants.{Run, Check, Show, Migrate, Mixed, Widths, Rust}
+
+-- the commands that take FILE alone, by their names
+abbrev pub file_commands : List (Bytes × FileCommand)
+file_commands =
+    (codes "run", Run) ∷ (codes "check", Check) ∷ (codes "show", Show) ∷ (codes "migrate", Migrate)
+    ∷ (codes "mixed", Mixed) ∷ (codes "widths", Widths) ∷ (codes "rust", Rust) ∷ []
 
 -- what a synthesis is asked for
 pub record Synthesis : Type 0 where
@@ -18,13 +26,7 @@ pub record Synthesis : Type 0 where
 
 -- what is to be done
 pub data Command : Type 0 where
-  Run : (file : Bytes) → Command
-  Check : (file : Bytes) → Command
-  Show : (file : Bytes) → Command
-  Migrate : (file : Bytes) → Command
-  Mixed : (file : Bytes) → Command
-  Widths : (file : Bytes) → Command
-  Rust : (file : Bytes) → Command
+  OnFile : FileCommand → (file : Bytes) → Command
   Node : (units : ℕ) (file : Bytes) → Command
   Synth : Synthesis → Command
   Demo : (n : ℕ) → Command
@@ -74,16 +76,12 @@ abbrev pub demo_given : Option Bytes → Option Command
 demo_given text = option_map Demo (option_and_then demo_number text)
 
 -- the command of this name that takes FILE alone
-abbrev pub on_file : Bytes → Option (Bytes → Command)
-on_file word =
-    if bytes_eq word (codes "run") then Some Run
-    else if bytes_eq word (codes "check") then Some Check
-    else if bytes_eq word (codes "show") then Some Show
-    else if bytes_eq word (codes "migrate") then Some Migrate
-    else if bytes_eq word (codes "mixed") then Some Mixed
-    else if bytes_eq word (codes "widths") then Some Widths
-    else if bytes_eq word (codes "rust") then Some Rust
-    else None
+abbrev pub on_file : Bytes → Option FileCommand
+on_file word = option_map (λ row. row.1) (find (λ row. bytes_eq row.0 word) file_commands)
+
+-- the command of this name on this FILE, where both are there
+abbrev pub file_command_given : Bytes → Option Bytes → Option Command
+file_command_given word file = option_and_then (λ command. option_map (OnFile command) file) (on_file word)
 
 -- the options of the command of this name
 abbrev pub options_of : Bytes → Option (List Bytes)
@@ -91,7 +89,7 @@ options_of word =
     if bytes_eq word (codes "node") then Some node_options
     else if bytes_eq word (codes "synth") then Some synth_options
     else if bytes_eq word (codes "demo") then Some []
-    else option_map (λ made. []) (on_file word)
+    else option_map (λ command. []) (on_file word)
 
 -- the command of this name, from what is given under each name of an option and under `file`, where the number of
 -- `demo` stands too
@@ -100,7 +98,7 @@ command_given word given =
     if bytes_eq word (codes "node") then node_given given
     else if bytes_eq word (codes "synth") then synthesis_given given
     else if bytes_eq word (codes "demo") then demo_given (given (codes "file"))
-    else option_and_then (λ made. option_map made (given (codes "file"))) (on_file word)
+    else file_command_given word (given (codes "file"))
 
 -- the same, where the value of each of these options is one
 abbrev pub lawful_command : Bytes → List Bytes → (Bytes → Option Bytes) → Option Command

@@ -5,7 +5,7 @@ use Rattle.clap.specs.Walk.{Row, first_of}
 use Rattle.fx_arguments.specs.Grammar.{Bytes}
 use Rattle.fx_arguments.specs.Command as words
 use Rattle.fx_arguments.specs.declared.command.Command.{Command}
-use Rattle.fx_arguments.specs.declared.command.Command.TheVariants.{Run, Check, Show, Migrate, Mixed, Widths, Rust, Node, Synth, Demo}
+use Rattle.fx_arguments.specs.declared.command.Command.TheVariants.{OnFile, Node, Synth, Demo}
 use Rattle.fx_arguments.specs.declared.command.Synthesis.{Synthesis}
 use Rattle.fx_arguments.specs.declared.command.WordFault.{WordFault}
 use Rattle.fx_arguments.specs.declared.command.WordFault.TheVariants.{Usage, Memory}
@@ -15,13 +15,7 @@ synthesis_view s = record { wanted = s.wanted; function = option_copied s.functi
 
 -- the command that the words are
 abbrev pub command_view : Command → words.Command
-command_view (Run file) = words.Run file.now
-command_view (Check file) = words.Check file.now
-command_view (Show file) = words.Show file.now
-command_view (Migrate file) = words.Migrate file.now
-command_view (Mixed file) = words.Mixed file.now
-command_view (Widths file) = words.Widths file.now
-command_view (Rust file) = words.Rust file.now
+command_view (OnFile command file) = words.OnFile command file.now
 command_view (Node units file) = words.Node units file.now
 command_view (Synth s) = words.Synth (synthesis_view s)
 command_view (Demo n) = words.Demo n

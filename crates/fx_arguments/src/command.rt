@@ -12,23 +12,46 @@ use clap::error::ErrorKind;
 use fx_wanted::Wanted;
 use std::alloc::Global;
 
+/// A command that takes FILE alone.
+#[derive(Clone, Copy, Debug, PartialEq, Eq)]
+pub enum FileCommand {
+    /// Runs the rows of the input.
+    Run,
+    /// Prints the bounds of the bundle.
+    Check,
+    /// Prints the codes of the bundle with their intervals, and the bounds.
+    Show,
+    /// Writes the bundle as one of the second version.
+    Migrate,
+    /// Runs the rows of the input, each word in its own width.
+    Mixed,
+    /// Prints the least width of each code.
+    Widths,
+    /// Prints the program as Rust text.
+    Rust,
+}
+
+/// The commands that take FILE alone, by their names.
+pub const FILE_COMMANDS: [(&str, FileCommand); 7] = [
+    ("run", FileCommand::Run),
+    ("check", FileCommand::Check),
+    ("show", FileCommand::Show),
+    ("migrate", FileCommand::Migrate),
+    ("mixed", FileCommand::Mixed),
+    ("widths", FileCommand::Widths),
+    ("rust", FileCommand::Rust),
+];
+
 /// What is to be done, with the name of FILE or the number of a demonstration.
 #[derive(Clone, Copy, Debug, PartialEq, Eq)]
 pub enum Command<'a> {
-    /// Runs the rows of the input.
-    Run(&'a str),
-    /// Prints the bounds of the bundle.
-    Check(&'a str),
-    /// Prints the codes of the bundle with their intervals, and the bounds.
-    Show(&'a str),
-    /// Writes the bundle as one of the second version.
-    Migrate(&'a str),
-    /// Runs the rows of the input, each word in its own width.
-    Mixed(&'a str),
-    /// Prints the least width of each code.
-    Widths(&'a str),
-    /// Prints the program as Rust text.
-    Rust(&'a str),
+    /// One that takes FILE alone.
+    OnFile {
+        /// Which of them.
+        command: FileCommand,
+        /// The name of FILE.
+        file: &'a str,
+    },
     /// Runs the rows of so many units.
     Node {
         /// How many.

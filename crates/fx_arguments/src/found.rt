@@ -3,11 +3,11 @@ ghost use Rattle.std.specs.Prelude.{◌≡◌, IfSome, option_map, codes, true};
 ghost use Rattle.std.specs.Option.{option_copied, option_map_or};
 ghost use Rattle.clap.specs.Words.{first_of, found_of, rows_of, subcommand_rows_of};
 ghost use Rattle.fx_wanted.specs.Asked.{IsLawfulWanted};
-ghost use Rattle.fx_arguments.specs.Command.{IsLawfulCommand, demo_given, lawful_command, node_options, on_file, synth_options, wanted_given};
+ghost use Rattle.fx_arguments.specs.Command.{IsLawfulCommand, demo_given, file_command_given, lawful_command, node_options, on_file, synth_options, wanted_given};
 ghost use Rattle.fx_arguments.specs.CommandView.{command_found, command_view};
 ghost use Rattle.fx_arguments.specs.Grammar.{is_value, have_values};
 
-use crate::command::{Command, Synthesis};
+use crate::command::{Command, FILE_COMMANDS, FileCommand, Synthesis};
 use crate::number::{demo_number, is_value, number_or, units_given, width_given};
 use crate::round::round_given;
 use clap::ArgMatches;
@@ -42,20 +42,23 @@ fn have_values(matches: &ArgMatches) -> bool
 }
 
 // The command of this name that takes FILE alone.
-fn on_file<'a>(name: &str, file: &'a str) -> Option<Command<'a>>
-    ensures command { option_map command_view result ≡ option_map (λ made. made file.now) (on_file name.now) }
+fn on_file(name: &str) -> Option<FileCommand>
+    ensures { result ≡ on_file name.now }
+{
+    FILE_COMMANDS
+        .iter()
+        .find(|(known, _)| *known == name)
+        .map(|(_, command)| *command)
+}
+
+fn file_command_in<'a>(name: &str, matches: &ArgMatches<'a>) -> Option<Command<'a>>
+    ensures command { option_map command_view result
+        ≡ file_command_given name.now (first_of (codes "file") (rows_of (found_of matches.now))) }
     ensures lawful { IfSome result (λ c. IsLawfulCommand (command_view c)) }
 {
-    match name {
-        "run" => Some(Command::Run(file)),
-        "check" => Some(Command::Check(file)),
-        "show" => Some(Command::Show(file)),
-        "migrate" => Some(Command::Migrate(file)),
-        "mixed" => Some(Command::Mixed(file)),
-        "widths" => Some(Command::Widths(file)),
-        "rust" => Some(Command::Rust(file)),
-        _ => None,
-    }
+    let command = on_file(name)?;
+    let file = text_of(matches, "file")?;
+    Some(Command::OnFile { command, file })
 }
 
 fn node_in<'a>(matches: &ArgMatches<'a>) -> Option<Command<'a>>
@@ -125,6 +128,6 @@ pub fn command_in<'a>(matches: &ArgMatches<'a>) -> Option<Command<'a>>
         "node" => node_in(found),
         "synth" => synth_in(found),
         "demo" => demo_in(found),
-        _ => on_file(name, text_of(found, "file")?),
+        _ => file_command_in(name, found),
     }
 }

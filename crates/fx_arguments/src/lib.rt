@@ -3,10 +3,11 @@
 //! A command's name comes first, and then its options and FILE, or the number of `demo`. `specs/Grammar.antt` says
 //! which words are such, without `clap`, and `specs/Command.antt` which command they are; `read_words` lets `clap` read
 //! them, and answers the same. The trap: `clap` takes an empty value, and one behind `=` that begins with a minus, and
-//! knows none of our numbers; so values are tested when a command is made of them. To add a command, give it a variant
-//! of `Command`, its settings in `settings.rt` and `specs/App.antt`, a line in `on_file` of `specs/Command.antt` and of
-//! `found.rt` where it takes FILE alone, else one in `options_of`, in `command_given` and in `command_in`, and a proof
-//! of `IsCommand` with its lines in `which-command` of `proofs/Commands.antt`.
+//! knows none of our numbers; so values are tested when a command is made of them. To add a command that takes FILE
+//! alone, give it a variant of `FileCommand`, and a row in `FILE_COMMANDS` and in `file_commands` of
+//! `specs/Command.antt`. Give any other a variant of `Command`, its settings in `settings.rt` and `specs/App.antt`, a
+//! line in `options_of`, in `command_given` and in `command_in`, and a proof of `IsCommand` with its lines in
+//! `which-command` of `proofs/Commands.antt`.
 #![tactic(auto)]
 
 mod command;
@@ -16,5 +17,5 @@ mod number;
 mod round;
 mod settings;
 
-pub use command::{Command, Synthesis, WordFault, read_words};
+pub use command::{Command, FileCommand, Synthesis, WordFault, read_words};
 pub use law::one_file_law;

@@ -5,6 +5,7 @@ ghost use Rattle.clap.specs.declared.builder.command.Command.TheViews.{out-Comma
 ghost use Rattle.clap.specs.Simple.{with_rule, with_subcommand};
 ghost use Rattle.fx_arguments.specs.App.{file_rule, option_rule, required_option_rule, file_app, node_app, synth_app, top_app, bundles_app, rows_app, fixd_app};
 
+use crate::command::FILE_COMMANDS;
 use clap::{Arg, ArgAction, Command as Parser};
 use std::alloc::{AllocError, Global};
 
@@ -105,20 +106,18 @@ fn with_file_command<'a>(
     with_command(line, command)
 }
 
-// The command line of the commands on a bundle.
+// The command line of the commands that take FILE alone.
 fn on_bundles<'a>(alloc: Global) -> Result<Parser<'a>, AllocError>
     ensures { IfOk result (λ c. app_of c ≡ bundles_app) }
 {
-    let line = with_file_command(alloc, top(alloc), "run")?;
-    let line = with_file_command(alloc, line, "check")?;
-    let line = with_file_command(alloc, line, "show")?;
-    let line = with_file_command(alloc, line, "migrate")?;
-    let line = with_file_command(alloc, line, "mixed")?;
-    let line = with_file_command(alloc, line, "widths")?;
-    with_file_command(alloc, line, "rust")
+    let mut line = top(alloc);
+    for (name, _) in &FILE_COMMANDS {
+        line = with_file_command(alloc, line, name)?;
+    }
+    Ok(line)
 }
 
-// The same, and the rows of many units.
+// The command line with the rows of many units too.
 fn on_rows<'a>(alloc: Global) -> Result<Parser<'a>, AllocError>
     ensures { IfOk result (λ c. app_of c ≡ rows_app) }
 {
