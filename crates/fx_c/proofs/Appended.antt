@@ -1,10 +1,10 @@
 -- What was written piece by piece.
-use Rattle.std.proofs.Common.{◌≡◌, ℕ, zero, suc, ◌+◌, ◌<◌, ◌≤◌, ℤ, Bool, true, false, cond, List, [], ◌∷◌, ◌++◌, length, get_or, take, map, refl, sym, ap, ◌∙◌, arith, codes}
+use Rattle.std.proofs.Common.{◌≡◌, ℕ, zero, suc, ◌+◌, ◌<◌, ℤ, pos, Bool, true, false, cond, List, [], ◌∷◌, ◌++◌, length, get_or, take, map, refl, sym, ap, ◌∙◌, arith, codes}
 use Rattle.std.specs.Prelude.{◌||◌}
 use Rattle.std.specs.Fmt.{decimal}
 use Rattle.std.specs.List.{flat_map, list_any, range_with_len}
-use Rattle.std.proofs.Common.{append_assoc, length-append}
-use Rattle.std.proofs.lemmas.List.{append-nil, flat_map_more, map_more, length-map, length-take}
+use Rattle.std.proofs.Common.{append_assoc}
+use Rattle.std.proofs.lemmas.List.{append-nil, flat_map_more, map_more, take_more, length-map, length-take}
 use Rattle.std.proofs.lemmas.List.Folds.{list_any-append}
 use Rattle.std.proofs.lemmas.List.FromFn.{map-range_with_len_more}
 use Rattle.fx_model.specs.Machine.{Round, Floor, Nearest, Code, starts_of, start_words}
@@ -116,7 +116,7 @@ starts_push k (w ∷ ws) us = let a : (k + 1) + length ws ≡ k + suc (length ws
     ∙ sym (append_assoc (start_text k w) (starts_text (k + 1) ws) (starts_text (k + suc (length ws)) us))
 
 -- one code more
-start_more : {X : Type 0} (f : X → Code) (xs : List X) (k : ℕ) (d : X) → k < length xs →
+pub start_more : {X : Type 0} (f : X → Code) (xs : List X) (k : ℕ) (d : X) → k < length xs →
     start_words (map f (take (k + 1) xs)) ≡ start_words (map f (take k xs)) ++ starts_of (f (get_or xs k d))
 start_more f [] k d lt = absurd (omega arith)
 start_more f (x ∷ xs) zero d lt = append-nil (starts_of (f x))
@@ -124,6 +124,19 @@ start_more f (x ∷ xs) (suc k) d lt =
     let e : suc k + 1 ≡ suc (k + 1) = omega arith in
     rw e (ap (λ ws. starts_of (f x) ++ ws) (start_more f xs k d (omega arith))
     ∙ sym (append_assoc (starts_of (f x)) (start_words (map f (take k xs))) (starts_of (f (get_or xs k d)))))
+
+pub starts_more : (ws : List ℤ) (k : ℕ) (old out new : List ℕ) → k < length ws →
+    out ≡ old ++ starts_text 0 (take k ws) → new ≡ out ++ start_text k (get_or ws k (pos 0))
+    → new ≡ old ++ starts_text 0 (take (k + 1) ws)
+starts_more ws k old out new lt p q =
+    let w = get_or ws k (pos 0) in
+    let many : 0 + length (take k ws) ≡ k = omega (arith, length-take k ws) in
+    let one : start_text k w ++ [] ≡ start_text k w = append-nil (start_text k w) in
+    q ∙ ap (λ o. o ++ start_text k w) p ∙ append_assoc old (starts_text 0 (take k ws)) (start_text k w)
+    ∙ ap (λ t. old ++ (starts_text 0 (take k ws) ++ t)) (sym one)
+    ∙ ap (λ (j : ℕ). old ++ (starts_text 0 (take k ws) ++ starts_text j (w ∷ []))) (sym many)
+    ∙ ap (λ t. old ++ t) (sym (starts_push 0 (take k ws) (w ∷ [])))
+    ∙ ap (λ us. old ++ starts_text 0 us) (sym (take_more ws k (pos 0) lt))
 
 pub output_more : (array : List ℕ) (n c m : ℕ) (old out new : List ℕ) →
     out ≡ old ++ flat_map (assignment_text array n) (placed 0 (range_with_len c m)) →
@@ -133,40 +146,6 @@ output_more array n c m old out new p q =
     store_more array n c m old out new
     (p ∙ ap (λ ts. old ++ flat_map (assignment_text array n) ts) (sym (placed_stores c m))) q
     ∙ ap (λ ts. old ++ flat_map (assignment_text array n) ts) (placed_stores c (m + 1))
-
-pub record Started {X : Type 0} (f : X → Code) (xs : List X) (k place : ℕ) (old out : List ℕ) : Type 0 where
-  pub places : place ≡ length (start_words (map f (take k xs)))
-  pub most : place ≤ k
-  pub text : out ≡ old ++ starts_text 0 (start_words (map f (take k xs)))
-
-pub started_more : {X : Type 0} (f : X → Code) (xs : List X) (k : ℕ) (d : X) (place next : ℕ) (old out new : List ℕ) →
-    k < length xs → Started f xs k place old out → next ≡ place + length (starts_of (f (get_or xs k d))) →
-    next ≤ place + 1 → new ≡ out ++ starts_text place (starts_of (f (get_or xs k d)))
-    → Started f xs (k + 1) next old new
-started_more f xs k d place next old out new lt s p most q =
-    let ws = start_words (map f (take k xs)) in let us = starts_of (f (get_or xs k d)) in
-    let more = start_more f xs k d lt in
-    let le = s.most in
-    let none : length ws ≡ 0 + length ws = omega arith in
-    record {
-      places = p ∙ ap (λ (j : ℕ). j + length us) s.places ∙ sym (length-append ws us) ∙ ap length (sym more);
-      most = omega arith;
-      text = q ∙ ap (λ o. o ++ starts_text place us) s.text
-          ∙ ap (λ (j : ℕ). (old ++ starts_text 0 ws) ++ starts_text j us) (s.places ∙ none)
-          ∙ append_assoc old (starts_text 0 ws) (starts_text (0 + length ws) us)
-          ∙ ap (λ t. old ++ t) (sym (starts_push 0 ws us))
-          ∙ ap (λ us. old ++ starts_text 0 us) (sym more);
-    }
-
--- ---- a sum, in its type
-pub summed : (n bits : ℕ) (operator : Operator) (e f : Wide) (old new : List ℕ) →
-    bits ≡ working_bits n (Two operator e f) →
-    new ≡ old ++ codes "(" ++ c_wide_text bits e ++ operator_text operator ++ c_wide_text bits f ++ codes ")"
-    → new ≡ old ++ working_wide_text n (Two operator e f)
-summed n bits operator e f old new p q =
-    let joined : old ++ codes "(" ++ c_wide_text bits e ++ operator_text operator ++ c_wide_text bits f ++ codes ")"
-    ≡ old ++ c_wide_text bits (Two operator e f) = simp append_assoc in
-    q ∙ joined ∙ ap (λ (b : ℕ). old ++ c_wide_text b (Two operator e f)) p
 
 -- ---- an assignment
 pub assigned : (array : List ℕ) (n place name : ℕ) (old a b c new : List ℕ) →
@@ -180,11 +159,16 @@ assigned array n place name old a b c new p q r s =
     s ∙ ap (λ t. t ++ codes ";\n") (r ∙ ap (λ t. t ++ codes "w" ++ decimal name)
     (q ∙ ap (λ t. t ++ c_cast_text (least_size n)) p)) ∙ joined
 
--- ---- a cast expression
-pub cast_behind : (n : ℕ) (size : Size) (e : Wide) (old a new : List ℕ) → a ≡ old ++ c_cast_text size →
-    new ≡ a ++ working_wide_text n e → new ≡ old ++ c_value_text n size (Narrowed e)
-cast_behind n size e old a new p q =
-    q ∙ ap (λ t. t ++ working_wide_text n e) p ∙ append_assoc old (c_cast_text size) (working_wide_text n e)
+-- ---- a sum, in its type, and cast
+pub cast_sum : (n bits : ℕ) (size : Size) (operator : Operator) (e f : Wide) (old a new : List ℕ) →
+    bits ≡ working_bits n (Two operator e f) → a ≡ old ++ c_cast_text size →
+    new ≡ a ++ codes "(" ++ c_wide_text bits e ++ operator_text operator ++ c_wide_text bits f ++ codes ")"
+    → new ≡ old ++ c_value_text n size (Narrowed (Two operator e f))
+cast_sum n bits size operator e f old a new b p q =
+    let joined : a ++ codes "(" ++ c_wide_text bits e ++ operator_text operator ++ c_wide_text bits f ++ codes ")"
+    ≡ a ++ c_wide_text bits (Two operator e f) = simp append_assoc in
+    q ∙ joined ∙ (λ i. p i ++ c_wide_text (b i) (Two operator e f))
+    ∙ append_assoc old (c_cast_text size) (working_wide_text n (Two operator e f))
 
 -- ---- what stands above the functions
 pub helped : (n : ℕ) (ls : List Let) (w x y z : Bool) (old a b c new : List ℕ) → w ≡ list_any (computes_in n 128) ls →
@@ -208,3 +192,11 @@ pub four_pieces : (d e f g old a b c new : List ℕ) → a ≡ old ++ d → b �
 four_pieces d e f g old a b c new p q r s =
     let joined : ((old ++ d) ++ e) ++ f ++ g ≡ old ++ (d ++ (e ++ (f ++ g))) = simp append_assoc in
     s ∙ ap (λ t. t ++ g) (r ∙ ap (λ t. t ++ f) (q ∙ ap (λ t. t ++ e) p)) ∙ joined
+
+-- ---- any five pieces
+pub five_pieces : (d e f g h old a b c k new : List ℕ) → a ≡ old ++ d → b ≡ a ++ e → c ≡ b ++ f → k ≡ c ++ g →
+    new ≡ k ++ h
+    → new ≡ old ++ (d ++ (e ++ (f ++ (g ++ h))))
+five_pieces d e f g h old a b c k new p q r s t =
+    four_pieces e f g h a b c k new q r s t ∙ ap (λ o. o ++ (e ++ (f ++ (g ++ h)))) p
+    ∙ append_assoc old d (e ++ (f ++ (g ++ h)))

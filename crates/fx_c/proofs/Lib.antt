@@ -1,3 +1,4 @@
 mod Appended
 mod Taken
 mod Whole
+mod HeaderPieces

@@ -1,8 +1,9 @@
 -- The names that a statement takes are the operands of its code, and how many names aren't copies.
 use Rattle.std.proofs.Common.{◌≡◌, ℕ, zero, suc, ◌+◌, ◌-◌, ◌<◌, ℤ, pos, negsuc, nat_eq, Bool, true, false, List, [], ◌∷◌, ◌++◌, length, get_or, take, map, refl, sym, ap, ◌∙◌, codes}
 use Rattle.std.specs.Prelude.{◌||◌}
-use Rattle.std.specs.List.{flat_map, range_with_len}
-use Rattle.std.proofs.lemmas.List.{flat_map_more, length-map}
+use Rattle.std.specs.List.{flat_map, list_any, range_with_len}
+use Rattle.std.proofs.lemmas.List.{flat_map_more, length-map, map_more}
+use Rattle.std.proofs.lemmas.List.Folds.{list_any-append}
 use Rattle.std.proofs.lemmas.List.FromFn.{length-range_with_len}
 use Rattle.fx_model.specs.Machine.{Round, Floor, Nearest, Code, Program, Const, Neg, Add, Sub, Mul, Div, Copy, first_copy}
 use Rattle.fx_model.specs.Machine as machine
@@ -46,10 +47,19 @@ let_takes_is m n k w (Mul r a b s) = rounded_takes m r (product a b) s
 let_takes_is m n k w (Div a b s) = ap (λ (x : Bool). x || nat_eq b m) (or_false (nat_eq a m))
 let_takes_is m n k w (Copy r a s) = operand_takes m n r a s
 
--- what a code takes, its statement takes
-pub taken : {X : Type 0} (f : X → Code) (m n k w : ℕ) (x : X) (now : Bool) → now ≡ code_takes m (f x) →
-    now ≡ let_takes m (c_let_of n k w (f x))
-taken f m n k w x now e = e ∙ sym (let_takes_is m n k w (f x))
+-- what any code takes, any statement takes
+pub any_takes_is : (m n k : ℕ) (ns : List ℕ) (cs : List Code)
+    → list_any (let_takes m) (c_lets_from n k ns cs) ≡ list_any (code_takes m) cs
+any_takes_is m n k ns [] = refl
+any_takes_is m n k ns (c ∷ cs) =
+    λ i. let_takes_is m n k (at 0 ns k) c i || any_takes_is m n (k + 1) ns cs i
+
+-- one more code that may take a name
+pub any_code_more : {X : Type 0} (test : Code → Bool) (f : X → Code) (xs : List X) (k : ℕ) (d : X) → k < length xs →
+    list_any test (map f (take (k + 1) xs)) ≡ (list_any test (map f (take k xs)) || test (f (get_or xs k d)))
+any_code_more test f xs k d lt =
+    ap (list_any test) (map_more f xs k d lt) ∙ list_any-append test (map f (take k xs)) (f (get_or xs k d) ∷ [])
+    ∙ ap (λ (b : Bool). list_any test (map f (take k xs)) || b) (or_false (test (f (get_or xs k d))))
 
 -- one more name that may stand unread
 pub unread_more : {X : Type 0} (f : X → Code) (ls : List Let) (first n : ℕ) (ns : List ℕ) (xs : List X) (k : ℕ) (d : X)

@@ -1,5 +1,5 @@
 -- The whole text, of its pieces.
-use Rattle.std.proofs.Common.{◌≡◌, ℕ, List, [], ◌++◌, map, sym, ap, ◌∙◌, codes, append_assoc}
+use Rattle.std.proofs.Common.{◌≡◌, ℕ, ℤ, List, [], ◌++◌, map, sym, ap, ◌∙◌, codes, append_assoc}
 use Rattle.fx_model.specs.Machine.{Program, start_words}
 use Rattle.fx_program.specs.ProgramView.{program_with}
 use Rattle.fx_program.specs.CodeView.{code_of}
@@ -7,24 +7,24 @@ use Rattle.fx_program.specs.declared.code.Code as program
 use Rattle.fx_c99.specs.CText.{helpers_text, reset_text, step_head, body_text, step_text, top_text, front_text}
 use Rattle.fx_c99.specs.OfProgram.{c_lets_from, c_routine_of, c_text_of}
 
-three_pieces : (d e f old a b new : List ℕ) → a ≡ old ++ d → b ≡ a ++ e → new ≡ b ++ f → new ≡ old ++ (d ++ (e ++ f))
+pub three_pieces : (d e f old a b new : List ℕ) → a ≡ old ++ d → b ≡ a ++ e → new ≡ b ++ f → new ≡ old ++ (d ++ (e ++ f))
 three_pieces d e f old a b new p q r =
     let joined : ((old ++ d) ++ e) ++ f ≡ old ++ (d ++ (e ++ f)) = simp append_assoc in
     r ∙ ap (λ t. t ++ f) (q ∙ ap (λ t. t ++ e) p) ∙ joined
 
 -- what stands above the step, of a program with this inside
 pub front_is : (q : Program) (version width inputs states outputs : ℕ) (name : List ℕ) (cs : List program.Code)
-    (ns title : List ℕ) (old a b new : List ℕ) →
+    (ns title : List ℕ) (starts : List ℤ) (old a b new : List ℕ) →
     program_with version width name inputs states outputs cs ≡ q → title ≡ name →
     a ≡ old ++ top_text title width → b ≡ a ++ helpers_text width (c_lets_from width 0 ns (map code_of cs)) →
-    new ≡ b ++ reset_text title width states (start_words (map code_of cs))
-    → new ≡ old ++ front_text (c_routine_of q ns) (start_words q.codes)
-front_is q version width inputs states outputs name cs ns title old a b new view titled pa pb pn =
+    new ≡ b ++ reset_text title width states starts
+    → new ≡ old ++ front_text (c_routine_of q ns) starts
+front_is q version width inputs states outputs name cs ns title starts old a b new view titled pa pb pn =
     let helpers = helpers_text width (c_lets_from width 0 ns (map code_of cs)) in
-    let reset : List ℕ → List ℕ = λ t. reset_text t width states (start_words (map code_of cs)) in
+    let reset : List ℕ → List ℕ = λ t. reset_text t width states starts in
     three_pieces (top_text title width) helpers (reset title) old a b new pa pb pn
     ∙ ap (λ (t : List ℕ). old ++ (top_text t width ++ (helpers ++ reset t))) titled
-    ∙ ap (λ (r : Program). old ++ front_text (c_routine_of r ns) (start_words r.codes)) view
+    ∙ ap (λ (r : Program). old ++ front_text (c_routine_of r ns) starts) view
 
 six_pieces : (u v w x y z old a b c d e new : List ℕ) → a ≡ old ++ u → b ≡ a ++ v → c ≡ b ++ w → d ≡ c ++ x →
     e ≡ d ++ y → new ≡ e ++ z
@@ -54,10 +54,14 @@ step_is q version width inputs states outputs name cs ns title old a b c d e new
     ∙ ap (λ (r : Program). old ++ step_text (c_routine_of r ns)) view
 
 -- both, one behind the other, from nothing on
-pub whole_is : (q : Program) (ns above below start a new : List ℕ) → above ≡ ns → below ≡ ns → start ≡ [] →
-    a ≡ start ++ front_text (c_routine_of q above) (start_words q.codes) → new ≡ a ++ step_text (c_routine_of q below)
+pub whole_is : (q : Program) (cs ds : List program.Code) (ns above below start a new : List ℕ) (starts words : List ℤ) →
+    map code_of cs ≡ q.codes → ds ≡ cs → above ≡ ns → below ≡ ns → start ≡ [] → words ≡ start_words (map code_of ds) →
+    starts ≡ words →
+    a ≡ start ++ front_text (c_routine_of q above) starts → new ≡ a ++ step_text (c_routine_of q below)
     → new ≡ c_text_of q ns
-whole_is q ns above below start a new f s e p r =
+whole_is q cs ds ns above below start a new starts words view d f s e w same p r =
+    let began : starts ≡ start_words q.codes =
+    same ∙ w ∙ ap (λ (es : List program.Code). start_words (map code_of es)) d ∙ ap start_words view in
     r ∙ ap (λ (ws : List ℕ). a ++ step_text (c_routine_of q ws)) s
     ∙ ap (λ (t : List ℕ). t ++ step_text (c_routine_of q ns))
-    (p ∙ (λ i. e i ++ front_text (c_routine_of q (f i)) (start_words q.codes)))
+    (p ∙ (λ i. e i ++ front_text (c_routine_of q (f i)) (began i)))

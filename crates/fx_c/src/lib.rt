@@ -1,14 +1,22 @@
-//! A program as C99 text, for a device: a function that does a step and one that writes the start words.
+//! A program as C99 text, for a device: a function that does a step, one that writes the start words, and a header.
 //!
-//! What the text is and does, `fx_c99` says. Each function here appends a piece of it, and its clause says which. The
-//! trap: what a failed call has appended isn't told, so the text is dropped where any fails.
+//! What the texts are, do and say, `fx_c99` says. Each function here appends a piece of one, and its clause says which.
+//! The trap: what a failed call has appended isn't told, so the text is dropped where any fails.
 #![tactic(auto)]
 
+mod groups;
+mod head;
+mod header;
+mod lookup;
+mod macros;
 mod piece;
 mod rounding;
+mod start;
 mod statement;
 mod text;
+mod unread;
 mod value;
 mod working;
 
+pub use header::c_header;
 pub use text::c_text;

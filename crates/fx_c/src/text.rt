@@ -4,22 +4,24 @@
 
 ghost use Rattle.std.specs.Prelude.{◌≡◌, ◌++◌, ◌||◌, [], ◌+◌, ◌≤◌, ◌<◌, ◌^◌, length, map, codes, decimal, if◌then◌else◌, OnOk, IfOk};
 ghost use Rattle.std.specs.List.{flat_map, list_any, range_with_len};
-ghost use Rattle.fx_model.specs.Machine.{starts_of, start_words};
 ghost use Rattle.fx_program.specs.CodeView.{code_of};
 ghost use Rattle.fx_statements.specs.OfProgram.{stores_of};
-ghost use Rattle.fx_statements.specs.RustText.{name_text};
 ghost use Rattle.fx_statements.specs.Widths.{AreWidths};
-ghost use Rattle.fx_c99.specs.CText.{c_let_text, let_takes, unread_text, unreads_text, assignment_text, placed, starts_text, computes_in, rounds_in, wide_type_text, floor_call, floor_head, floor_text, if_any, helpers_text, state_text, state_parameter, arrays_text, step_head, reset_head, reset_text, body_text, step_text, top_text, front_text};
+ghost use Rattle.fx_c99.specs.CText.{c_let_text, assignment_text, placed, wide_type_text, floor_call, floor_head, floor_text, helpers_text, reset_text, body_text, step_text, top_text, front_text};
 ghost use Rattle.fx_c99.specs.OfProgram.{c_lets_from, c_routine_of, c_text_of};
 ghost use Rattle.fx_c99.specs.Runs.{DoesSteps};
+ghost use Rattle.fx_c.specs.Choices.{passes};
 
-use crate::piece::{put_floor_name, put_type, put_working};
-use crate::statement::{put_assignment, put_let, put_start};
-use crate::working::{code_computes_in, code_rounds_in, code_takes};
+use crate::head::{put_reset_head, put_step_head};
+use crate::piece::{put_floor_name, put_working};
+use crate::start::{put_starts, start_words};
+use crate::statement::{put_assignment, put_let};
+use crate::unread::put_unreads;
+use crate::working::{Test, passes};
 use fx_c99::text_law;
 use fx_num::Memory;
 use fx_program::{Code, Program};
-use fx_rust::{put, put_digits, put_name};
+use fx_rust::{put, put_digits};
 use std::alloc::{AllocError, Global};
 
 // A line for each code.
@@ -63,34 +65,6 @@ fn put_outputs(
     Ok(())
 }
 
-// The start word of a code, if it has one: how many places are taken then.
-fn put_start_of(out: &mut Vec<u8>, place: usize, code: Code) -> Result<usize, AllocError>
-    requires { place < 2 ^ 32 }
-    ensures places { IfOk result (λ p. p ≡ place + length (starts_of (code_of code))) }
-    ensures most { IfOk result (λ p. p ≤ place + 1) }
-    ensures text { OnOk result (out.new.items ≡ out.old.items ++ starts_text place (starts_of (code_of code))) }
-{
-    match code {
-        Code::State { w, .. } => {
-            put_start(out, place, w)?;
-            Ok(place + 1)
-        }
-        _ => Ok(place),
-    }
-}
-
-// The start words of the states among the codes.
-fn put_starts(out: &mut Vec<u8>, codes: &[Code]) -> Result<(), AllocError>
-    requires { length codes.now < 2 ^ 32 }
-    ensures { OnOk result (out.new.items ≡ out.old.items ++ starts_text 0 (start_words (map code_of codes.now))) }
-{
-    let mut place = 0;
-    for n in 0..codes.len() {
-        place = put_start_of(out, place, codes[n])?;
-    }
-    Ok(())
-}
-
 // Whether one of two holds.
 fn either(a: bool, b: bool) -> bool
     ensures { result ≡ (a || b) }
@@ -98,92 +72,17 @@ fn either(a: bool, b: bool) -> bool
     a || b
 }
 
-// Whether any code's statement computes in so many bits.
-fn any_computes(width: u32, bits: u32, codes: &[Code], widths: &[u32]) -> bool
+// Whether any code's statement passes a test.
+fn any_passes(test: Test, width: u32, codes: &[Code], widths: &[u32]) -> bool
     requires { length codes.now ≤ length widths.now }
-    ensures { result ≡ list_any (computes_in width bits) (c_lets_from width 0 widths.now (map code_of codes.now)) }
+    ensures { result ≡ list_any (passes test width) (c_lets_from width 0 widths.now (map code_of codes.now)) }
 {
     let mut found = false;
     for n in 0..codes.len() {
-        let here = code_computes_in(n, width, widths[n], bits, codes[n]);
+        let here = passes(test, n, width, widths[n], codes[n]);
         found = either(found, here);
     }
     found
-}
-
-// Whether any code's statement rounds down, and computes in so many bits.
-fn any_rounds(width: u32, bits: u32, codes: &[Code], widths: &[u32]) -> bool
-    requires { length codes.now ≤ length widths.now }
-    ensures { result ≡ list_any (rounds_in width bits) (c_lets_from width 0 widths.now (map code_of codes.now)) }
-{
-    let mut found = false;
-    for n in 0..codes.len() {
-        let here = code_rounds_in(n, width, widths[n], bits, codes[n]);
-        found = either(found, here);
-    }
-    found
-}
-
-// Whether any code's statement takes the name `m`.
-fn any_takes(m: usize, width: u32, codes: &[Code], widths: &[u32]) -> bool
-    requires { length codes.now ≤ length widths.now }
-    ensures { result ≡ list_any (let_takes m) (c_lets_from width 0 widths.now (map code_of codes.now)) }
-{
-    let mut found = false;
-    for n in 0..codes.len() {
-        let here = code_takes(m, codes[n]);
-        found = either(found, here);
-    }
-    found
-}
-
-// `    (void)w3;`.
-fn put_void(out: &mut Vec<u8>, name: usize) -> Result<(), AllocError>
-    ensures { OnOk result (out.new.items ≡ out.old.items ++ (codes "    (void)" ++ (name_text name ++ codes ";\n"))) }
-{
-    put(out, b"    (void)")?;
-    put_name(out, name)?;
-    put(out, b";\n")
-}
-
-// It, if no statement takes the name, and it is one of the first.
-fn put_unread(
-    out: &mut Vec<u8>,
-    name: usize,
-    first: usize,
-    width: u32,
-    codes: &[Code],
-    widths: &[u32],
-) -> Result<(), AllocError>
-    requires { length codes.now ≤ length widths.now }
-    ensures { OnOk result (out.new.items ≡ out.old.items
-        ++ unread_text (c_lets_from width 0 widths.now (map code_of codes.now)) first name) }
-{
-    let taken = any_takes(name, width, codes, widths);
-    if name < first && !taken {
-        put_void(out, name)
-    } else {
-        Ok(())
-    }
-}
-
-// So of all names.
-fn put_unreads(
-    out: &mut Vec<u8>,
-    first: usize,
-    width: u32,
-    codes: &[Code],
-    widths: &[u32],
-) -> Result<(), AllocError>
-    requires { length codes.now ≤ length widths.now }
-    ensures { OnOk result (out.new.items ≡ out.old.items
-        ++ unreads_text (c_lets_from width 0 widths.now (map code_of codes.now)) first
-        (c_lets_from width 0 widths.now (map code_of codes.now))) }
-{
-    for n in 0..codes.len() {
-        put_unread(out, n, first, width, codes, widths)?;
-    }
-    Ok(())
 }
 
 // `fixd_floor32(int32_t x, uint32_t s)`.
@@ -253,87 +152,14 @@ fn put_helpers(
     ensures { OnOk result (out.new.items ≡ out.old.items
         ++ helpers_text width (c_lets_from width 0 widths.now (map code_of codes.now))) }
 {
-    let wide = any_computes(width, 128, codes, widths);
+    let wide = any_passes(Test::Computes(128), width, codes, widths);
     put_wide_if(out, wide)?;
-    let first = any_rounds(width, 32, codes, widths);
+    let first = any_passes(Test::Rounds(32), width, codes, widths);
     put_floor_if(out, first, 32)?;
-    let second = any_rounds(width, 64, codes, widths);
+    let second = any_passes(Test::Rounds(64), width, codes, widths);
     put_floor_if(out, second, 64)?;
-    let third = any_rounds(width, 128, codes, widths);
+    let third = any_passes(Test::Rounds(128), width, codes, widths);
     put_floor_if(out, third, 128)?;
-    Ok(())
-}
-
-// `int16_t state[2]`.
-fn put_state(out: &mut Vec<u8>, width: u32, states: u32) -> Result<(), AllocError>
-    ensures { OnOk result (out.new.items ≡ out.old.items ++ state_text width states) }
-{
-    put_type(out, width)?;
-    put(out, b" state[")?;
-    put_digits(out, states)?;
-    put(out, b"]")
-}
-
-// It, if there is any.
-fn put_state_parameter(out: &mut Vec<u8>, width: u32, states: u32) -> Result<(), AllocError>
-    ensures { OnOk result (out.new.items ≡ out.old.items ++ state_parameter width states) }
-{
-    if states == 0 {
-        return Ok(());
-    }
-    put_state(out, width, states)?;
-    put(out, b", ")
-}
-
-// The arrays that a step reads and writes.
-fn put_arrays(out: &mut Vec<u8>, width: u32, inputs: u32, outputs: u32) -> Result<(), AllocError>
-    ensures { OnOk result (out.new.items ≡ out.old.items ++ arrays_text width inputs outputs) }
-{
-    put(out, b"const ")?;
-    put_type(out, width)?;
-    put(out, b" input[")?;
-    put_digits(out, inputs)?;
-    put(out, b"], ")?;
-    put_type(out, width)?;
-    put(out, b" output[")?;
-    put_digits(out, outputs)?;
-    put(out, b"])")?;
-    Ok(())
-}
-
-// The head of the step.
-fn put_step_head(
-    out: &mut Vec<u8>,
-    title: &[u8],
-    width: u32,
-    states: u32,
-    inputs: u32,
-    outputs: u32,
-) -> Result<(), AllocError>
-    ensures { OnOk result (out.new.items ≡ out.old.items ++ step_head title.now width states inputs outputs) }
-{
-    put(out, b"void fixd_")?;
-    put(out, title)?;
-    put(out, b"_step(")?;
-    put_state_parameter(out, width, states)?;
-    put_arrays(out, width, inputs, outputs)?;
-    Ok(())
-}
-
-// The head of the reset.
-fn put_reset_head(
-    out: &mut Vec<u8>,
-    title: &[u8],
-    width: u32,
-    states: u32,
-) -> Result<(), AllocError>
-    ensures { OnOk result (out.new.items ≡ out.old.items ++ reset_head title.now width states) }
-{
-    put(out, b"void fixd_")?;
-    put(out, title)?;
-    put(out, b"_reset(")?;
-    put_state(out, width, states)?;
-    put(out, b")")?;
     Ok(())
 }
 
@@ -343,11 +169,9 @@ fn put_reset(
     title: &[u8],
     width: u32,
     states: u32,
-    codes: &[Code],
+    starts: &[i64],
 ) -> Result<(), AllocError>
-    requires { length codes.now < 2 ^ 32 }
-    ensures { OnOk result (out.new.items ≡ out.old.items
-        ++ reset_text title.now width states (start_words (map code_of codes.now))) }
+    ensures { OnOk result (out.new.items ≡ out.old.items ++ reset_text title.now width states starts.now) }
 {
     if states == 0 {
         return Ok(());
@@ -356,7 +180,7 @@ fn put_reset(
     put(out, b";\n\n")?;
     put_reset_head(out, title, width, states)?;
     put(out, b" {\n")?;
-    put_starts(out, codes)?;
+    put_starts(out, starts)?;
     put(out, b"}\n\n")
 }
 
@@ -373,7 +197,12 @@ fn put_top(out: &mut Vec<u8>, title: &[u8], width: u32) -> Result<(), AllocError
 }
 
 // The statements.
-fn put_body(out: &mut Vec<u8>, program: &Program, widths: &[u32]) -> Result<(), AllocError>
+fn put_body(
+    alloc: Global,
+    out: &mut Vec<u8>,
+    program: &Program,
+    widths: &[u32],
+) -> Result<(), AllocError>
     requires { AreWidths program.now widths.now }
     ensures { OnOk result (out.new.items ≡ out.old.items ++ body_text (c_routine_of program.now widths.now)) }
 {
@@ -385,12 +214,17 @@ fn put_body(out: &mut Vec<u8>, program: &Program, widths: &[u32]) -> Result<(), 
     put_lets(out, width, &program.codes, widths)?;
     put_stores(out, width, first + outputs, states)?;
     put_outputs(out, width, first, outputs)?;
-    put_unreads(out, first, width, &program.codes, widths)?;
+    put_unreads(alloc, out, first, &program.codes)?;
     Ok(())
 }
 
 // The step.
-fn put_step(out: &mut Vec<u8>, program: &Program, widths: &[u32]) -> Result<(), AllocError>
+fn put_step(
+    alloc: Global,
+    out: &mut Vec<u8>,
+    program: &Program,
+    widths: &[u32],
+) -> Result<(), AllocError>
     requires { AreWidths program.now widths.now }
     ensures { OnOk result (out.new.items ≡ out.old.items ++ step_text (c_routine_of program.now widths.now)) }
 {
@@ -413,22 +247,27 @@ fn put_step(out: &mut Vec<u8>, program: &Program, widths: &[u32]) -> Result<(), 
         program.outputs,
     )?;
     put(out, b" {\n")?;
-    put_body(out, program, widths)?;
+    put_body(alloc, out, program, widths)?;
     put(out, b"}\n")?;
     Ok(())
 }
 
 // What stands above the step.
-fn put_front(out: &mut Vec<u8>, program: &Program, widths: &[u32]) -> Result<(), AllocError>
+fn put_front(
+    out: &mut Vec<u8>,
+    program: &Program,
+    widths: &[u32],
+    starts: &[i64],
+) -> Result<(), AllocError>
     requires { AreWidths program.now widths.now }
-    ensures { OnOk result (out.new.items ≡ out.old.items ++ front_text (c_routine_of program.now widths.now)
-        (start_words program.now.codes)) }
+    ensures { OnOk result (out.new.items ≡ out.old.items
+        ++ front_text (c_routine_of program.now widths.now) starts.now) }
 {
     program.keeps();
     let title = program.name.as_str().as_bytes();
     put_top(out, title, program.width)?;
     put_helpers(out, program.width, &program.codes, widths)?;
-    put_reset(out, title, program.width, program.states, &program.codes)?;
+    put_reset(out, title, program.width, program.states, starts)?;
     Ok(())
 }
 
@@ -440,8 +279,9 @@ pub fn c_text(alloc: Global, program: &Program, widths: &Vec<u32>) -> Result<Vec
 {
     program.keeps();
     text_law();
+    let starts = start_words(alloc, &program.codes)?;
     let mut out = Vec::new(alloc);
-    put_front(&mut out, program, widths.as_slice())?;
-    put_step(&mut out, program, widths.as_slice())?;
+    put_front(&mut out, program, widths.as_slice(), starts.as_slice())?;
+    put_step(alloc, &mut out, program, widths.as_slice())?;
     Ok(out)
 }

@@ -5,14 +5,16 @@
 ghost use Rattle.std.specs.Prelude.{◌≡◌, ◌++◌, codes, decimal, OnOk};
 ghost use Rattle.fx_model.specs.Machine as machine;
 ghost use Rattle.fx_program.specs.CodeView.{round_of, kind_of};
-ghost use Rattle.fx_statements.specs.Statements.{Plus, Minus, Over, Widened, Negated, Two, Narrowed};
+ghost use Rattle.fx_statements.specs.Statements.{Over, Widened, Negated, Two, Narrowed};
+ghost use Rattle.fx_statements.specs.RustText.{operator_text};
 ghost use Rattle.fx_statements.specs.OfProgram.{least_size, product};
-ghost use Rattle.fx_c99.specs.CText.{c_wide_text, working_wide_text, c_value_text};
+ghost use Rattle.fx_c99.specs.CText.{c_wide_text, c_value_text};
 ghost use Rattle.fx_c99.specs.OfProgram.{raised, c_rounded, c_operand, c_value_for};
+ghost use Rattle.fx_c.specs.Choices.{operator_of};
 
 use crate::piece::{put_cast, put_literal, put_power, put_working};
 use crate::rounding::{close_rounded, open_rounded};
-use crate::working::{copy_bits, double_bits, few, plain_bits, sum_bits};
+use crate::working::{Sign, copy_bits, double_bits, few, plain_bits, sum_bits};
 use fx_program::{Kind, Round};
 use fx_rust::{put, put_digits, put_name};
 use std::alloc::AllocError;
@@ -77,60 +79,36 @@ fn put_copy(
     }
 }
 
-// A sum, or a difference, of two shifted operands, as the text between them says.
+// What stands between two operands.
+fn put_sign(out: &mut Vec<u8>, sign: Sign) -> Result<(), AllocError>
+    ensures { OnOk result (out.new.items ≡ out.old.items ++ operator_text (operator_of sign)) }
+{
+    match sign {
+        Sign::Plus => put(out, b" + "),
+        Sign::Minus => put(out, b" - "),
+    }
+}
+
+// A sum, or a difference, of two shifted operands, in so many bits.
 fn put_sum(
     out: &mut Vec<u8>,
     width: u32,
     bits: u32,
+    sign: Sign,
     a: u32,
     sa: i32,
-    operator: &[u8],
     b: u32,
     sb: i32,
 ) -> Result<(), AllocError>
     ensures { OnOk result (out.new.items ≡ out.old.items ++ codes "("
-        ++ c_wide_text bits (c_operand width machine.Floor a sa)
-        ++ operator.now ++ c_wide_text bits (c_operand width machine.Floor b sb) ++ codes ")") }
+        ++ c_wide_text bits (c_operand width machine.Floor a sa) ++ operator_text (operator_of sign)
+        ++ c_wide_text bits (c_operand width machine.Floor b sb) ++ codes ")") }
 {
     put(out, b"(")?;
     put_operand(out, width, bits, a, i64::from(sa))?;
-    put(out, operator)?;
+    put_sign(out, sign)?;
     put_operand(out, width, bits, b, i64::from(sb))?;
     put(out, b")")
-}
-
-// A sum, in its type.
-fn put_addition(
-    out: &mut Vec<u8>,
-    width: u32,
-    a: u32,
-    sa: i32,
-    b: u32,
-    sb: i32,
-) -> Result<(), AllocError>
-    ensures { OnOk result (out.new.items ≡ out.old.items ++ working_wide_text width
-        (Two Plus (c_operand width machine.Floor a sa) (c_operand width machine.Floor b sb))) }
-{
-    let bits = sum_bits(width, a, sa, b, sb);
-    put_sum(out, width, bits, a, sa, b" + ", b, sb)?;
-    Ok(())
-}
-
-// A difference, in its type.
-fn put_difference(
-    out: &mut Vec<u8>,
-    width: u32,
-    a: u32,
-    sa: i32,
-    b: u32,
-    sb: i32,
-) -> Result<(), AllocError>
-    ensures { OnOk result (out.new.items ≡ out.old.items ++ working_wide_text width
-        (Two Minus (c_operand width machine.Floor a sa) (c_operand width machine.Floor b sb))) }
-{
-    let bits = sum_bits(width, a, sa, b, sb);
-    put_sum(out, width, bits, a, sa, b" - ", b, sb)?;
-    Ok(())
 }
 
 // A product of two words.
@@ -191,39 +169,23 @@ fn put_element(out: &mut Vec<u8>, array: &[u8], k: u32) -> Result<(), AllocError
     put(out, b"]")
 }
 
-// A sum, cast.
-fn put_cast_addition(
+// A sum, or a difference, in the type that it is computed in, and cast.
+fn put_cast_sum(
     out: &mut Vec<u8>,
     width: u32,
     own: u32,
+    sign: Sign,
     a: u32,
     sa: i32,
     b: u32,
     sb: i32,
 ) -> Result<(), AllocError>
     ensures { OnOk result (out.new.items ≡ out.old.items ++ c_value_text width (least_size own) (Narrowed
-        (Two Plus (c_operand width machine.Floor a sa) (c_operand width machine.Floor b sb)))) }
+        (Two (operator_of sign) (c_operand width machine.Floor a sa) (c_operand width machine.Floor b sb)))) }
 {
+    let bits = sum_bits(width, sign, a, sa, b, sb);
     put_cast(out, own)?;
-    put_addition(out, width, a, sa, b, sb)?;
-    Ok(())
-}
-
-// A difference, cast.
-fn put_cast_difference(
-    out: &mut Vec<u8>,
-    width: u32,
-    own: u32,
-    a: u32,
-    sa: i32,
-    b: u32,
-    sb: i32,
-) -> Result<(), AllocError>
-    ensures { OnOk result (out.new.items ≡ out.old.items ++ c_value_text width (least_size own) (Narrowed
-        (Two Minus (c_operand width machine.Floor a sa) (c_operand width machine.Floor b sb)))) }
-{
-    put_cast(out, own)?;
-    put_difference(out, width, a, sa, b, sb)?;
+    put_sum(out, width, bits, sign, a, sa, b, sb)?;
     Ok(())
 }
 
@@ -246,8 +208,8 @@ pub fn put_value(out: &mut Vec<u8>, width: u32, own: u32, kind: Kind) -> Result<
             put_cast(out, own)?;
             put_negation(out, plain_bits(width), a)
         }
-        Kind::Add { a, b, sa, sb } => { put_cast_addition(out, width, own, a, sa, b, sb) }
-        Kind::Sub { a, b, sa, sb } => { put_cast_difference(out, width, own, a, sa, b, sb) }
+        Kind::Add { a, b, sa, sb } => put_cast_sum(out, width, own, Sign::Plus, a, sa, b, sb),
+        Kind::Sub { a, b, sa, sb } => put_cast_sum(out, width, own, Sign::Minus, a, sa, b, sb),
         Kind::Mul { r, a, b, s } => {
             put_cast(out, own)?;
             put_rounded_product(out, double_bits(width), r, a, b, u64::from(s))

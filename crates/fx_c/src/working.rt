@@ -1,15 +1,24 @@
 //! In how many bits a code's statement computes, and whether it rounds down there.
 
-ghost use Rattle.std.specs.Prelude.{◌≡◌, pos};
+ghost use Rattle.std.specs.Prelude.{◌≡◌, ◌&&◌, nat_eq, pos};
 ghost use Rattle.fx_model.specs.Machine as machine;
 ghost use Rattle.fx_program.specs.CodeView.{round_of, kind_of, code_of};
-ghost use Rattle.fx_statements.specs.Statements.{Plus, Minus, Widened, Two};
+ghost use Rattle.fx_statements.specs.Statements.{Widened, Two};
 ghost use Rattle.fx_c99.specs.Working.{plain_bits, double_bits, sum_bits, working_bits, rounds_down};
 ghost use Rattle.fx_c99.specs.CText.{computes_in, rounds_in};
-ghost use Rattle.fx_c.specs.Around.{code_takes};
 ghost use Rattle.fx_c99.specs.OfProgram.{few, c_rounded, c_operand, c_let_of};
+ghost use Rattle.fx_c.specs.Choices.{operator_of, passes};
 
 use fx_program::{Code, Kind, Round};
+
+/// Whether two operands are added or subtracted.
+#[derive(Clone, Copy)]
+pub enum Sign {
+    /// They are added.
+    Plus,
+    /// The second is subtracted.
+    Minus,
+}
 
 /// Those for words.
 pub fn plain_bits(width: u32) -> u32
@@ -53,12 +62,10 @@ fn operand_bits(width: u32, sa: i32, sb: i32) -> u32
     }
 }
 
-/// Those of a sum and of a difference of two shifted operands.
-pub fn sum_bits(width: u32, a: u32, sa: i32, b: u32, sb: i32) -> u32
-    ensures sum { result
-        ≡ working_bits width (Two Plus (c_operand width machine.Floor a sa) (c_operand width machine.Floor b sb)) }
-    ensures difference { result
-        ≡ working_bits width (Two Minus (c_operand width machine.Floor a sa) (c_operand width machine.Floor b sb)) }
+/// Those of a sum, or a difference, of two shifted operands.
+pub fn sum_bits(width: u32, sign: Sign, a: u32, sa: i32, b: u32, sb: i32) -> u32
+    ensures { result ≡ working_bits width
+        (Two (operator_of sign) (c_operand width machine.Floor a sa) (c_operand width machine.Floor b sb)) }
 {
     operand_bits(width, sa, sb)
 }
@@ -102,19 +109,29 @@ fn operand_rounds(width: u32, a: u32, s: i64) -> bool
     }
 }
 
-/// Whether the statement of a code computes in so many bits.
-pub fn computes_in(n: usize, width: u32, own: u32, bits: u32, kind: Kind) -> bool
+// Whether the statement of a code computes in so many bits.
+fn computes_in(n: usize, width: u32, own: u32, bits: u32, kind: Kind) -> bool
     ensures { result ≡ computes_in width bits (c_let_of width n own (kind_of kind)) }
 {
     match kind {
         Kind::Input { .. } | Kind::State { .. } | Kind::Const { .. } => false,
         Kind::Neg { .. } => plain_bits(width) == bits,
-        Kind::Add { a, b, sa, sb } => sum_bits(width, a, sa, b, sb) == bits,
-        Kind::Sub { a, b, sa, sb } => sum_bits(width, a, sa, b, sb) == bits,
+        Kind::Add { a, b, sa, sb } => sum_bits(width, Sign::Plus, a, sa, b, sb) == bits,
+        Kind::Sub { a, b, sa, sb } => sum_bits(width, Sign::Minus, a, sa, b, sb) == bits,
         Kind::Mul { .. } => double_bits(width) == bits,
         Kind::Div { .. } => double_bits(width) == bits,
         Kind::Copy { r, a, s } => copy_bits(width, r, a, s) == bits,
     }
+}
+
+// Whether a sum, or a difference, is rounded down, and computed in so many bits.
+fn sum_rounds(width: u32, bits: u32, sign: Sign, a: u32, sa: i32, b: u32, sb: i32) -> bool
+    ensures { let e = Two (operator_of sign) (c_operand width machine.Floor a sa)
+        (c_operand width machine.Floor b sb) in
+        result ≡ (nat_eq (working_bits width e) bits && rounds_down e) }
+{
+    sum_bits(width, sign, a, sa, b, sb) == bits
+        && (operand_rounds(width, a, i64::from(sa)) || operand_rounds(width, b, i64::from(sb)))
 }
 
 // Whether a copy is rounded down.
@@ -127,61 +144,36 @@ fn copy_rounds(width: u32, r: Round, a: u32, s: i64) -> bool
     }
 }
 
-/// Whether the statement of a code rounds down, and computes in so many bits.
-pub fn rounds_in(n: usize, width: u32, own: u32, bits: u32, kind: Kind) -> bool
+// Whether the statement of a code rounds down, and computes in so many bits.
+fn rounds_in(n: usize, width: u32, own: u32, bits: u32, kind: Kind) -> bool
     ensures { result ≡ rounds_in width bits (c_let_of width n own (kind_of kind)) }
 {
     match kind {
         Kind::Input { .. } | Kind::State { .. } | Kind::Const { .. } => false,
         Kind::Neg { .. } => false,
-        Kind::Add { a, b, sa, sb } => {
-            sum_bits(width, a, sa, b, sb) == bits
-                && (operand_rounds(width, a, i64::from(sa))
-                    || operand_rounds(width, b, i64::from(sb)))
-        }
-        Kind::Sub { a, b, sa, sb } => {
-            sum_bits(width, a, sa, b, sb) == bits
-                && (operand_rounds(width, a, i64::from(sa))
-                    || operand_rounds(width, b, i64::from(sb)))
-        }
+        Kind::Add { a, b, sa, sb } => sum_rounds(width, bits, Sign::Plus, a, sa, b, sb),
+        Kind::Sub { a, b, sa, sb } => sum_rounds(width, bits, Sign::Minus, a, sa, b, sb),
         Kind::Mul { s, .. } => double_bits(width) == bits && s > 0,
         Kind::Div { .. } => false,
         Kind::Copy { r, a, s } => copy_bits(width, r, a, s) == bits && copy_rounds(width, r, a, s),
     }
 }
 
-/// Whether a code's statement computes in so many bits.
-pub fn code_computes_in(n: usize, width: u32, own: u32, bits: u32, code: Code) -> bool
-    ensures { result ≡ computes_in width bits (c_let_of width n own (code_of code)) }
-{
-    computes_in(n, width, own, bits, code.kind())
+/// What is asked of a statement.
+#[derive(Clone, Copy)]
+pub enum Test {
+    /// It computes in so many bits.
+    Computes(u32),
+    /// It rounds down, and computes in so many bits.
+    Rounds(u32),
 }
 
-/// Whether a code's statement rounds down, and computes in so many bits.
-pub fn code_rounds_in(n: usize, width: u32, own: u32, bits: u32, code: Code) -> bool
-    ensures { result ≡ rounds_in width bits (c_let_of width n own (code_of code)) }
+/// Whether a code's statement passes a test.
+pub fn passes(test: Test, n: usize, width: u32, own: u32, code: Code) -> bool
+    ensures { result ≡ passes test width (c_let_of width n own (code_of code)) }
 {
-    rounds_in(n, width, own, bits, code.kind())
-}
-
-// Whether code `m` is an operand.
-fn takes(m: usize, kind: Kind) -> bool
-    ensures { result ≡ code_takes m (kind_of kind) }
-{
-    match kind {
-        Kind::Input { .. } | Kind::State { .. } | Kind::Const { .. } => false,
-        Kind::Neg { a } => a as usize == m,
-        Kind::Add { a, b, .. } => a as usize == m || b as usize == m,
-        Kind::Sub { a, b, .. } => a as usize == m || b as usize == m,
-        Kind::Mul { a, b, .. } => a as usize == m || b as usize == m,
-        Kind::Div { a, b, .. } => a as usize == m || b as usize == m,
-        Kind::Copy { a, .. } => a as usize == m,
+    match test {
+        Test::Computes(bits) => computes_in(n, width, own, bits, code.kind()),
+        Test::Rounds(bits) => rounds_in(n, width, own, bits, code.kind()),
     }
-}
-
-/// Whether code `m` is an operand of a code.
-pub fn code_takes(m: usize, code: Code) -> bool
-    ensures { result ≡ code_takes m (code_of code) }
-{
-    takes(m, code.kind())
 }

@@ -9,3 +9,10 @@ mod Words
 mod CExpressions
 mod CStatements
 mod COneText
+mod HeaderLines
+mod HeaderNumbers
+pub mod HeaderWords
+mod Headers
+mod Says
+mod InputRanges
+mod HeaderSamples

@@ -1,10 +1,11 @@
 -- The laws of the C text: it can be read in one way, it does what the machine does, and nothing in it is undefined or
--- left to the compiler.
-use Rattle.std.specs.Prelude.{◌≡◌, ℕ, ◌<◌, ◌^◌, ℤ, List, length, Option, Some}
-use Rattle.fx_rational.specs.Rational.{Rational, floor_div}
-use Rattle.fx_model.specs.Function.{Function, Step, Run}
+-- left to the compiler; and those of its header.
+use Rattle.std.specs.Prelude.{◌≡◌, ◌↔◌, ℕ, ◌<◌, ◌^◌, ℤ, pos, ◌≤ℤ◌, List, length, Option, Some}
+use Rattle.fx_rational.specs.Rational.{Rational, AtMost, floor_div}
+use Rattle.fx_model.specs.Tree.{at, value_at}
+use Rattle.fx_model.specs.Function.{Function, Input, Step, Run}
 use Rattle.fx_model.specs.Names.{IsName}
-use Rattle.fx_model.specs.Rows.{AreTrueOf}
+use Rattle.fx_model.specs.Rows.{AreTrueOf, IsInput, AreInputs}
 use Rattle.fx_model.specs.Machine.{Program, IsWord, words_of, machine_step, machine_run, start_words}
 use Rattle.fx_model.specs.LawfulProgram.{IsLawfulProgram}
 use Rattle.fx_inequalities.specs.Certificate.{Certificate}
@@ -18,6 +19,8 @@ use Rattle.fx_c99.specs.CMeaning.{floored, c_step, c_reset}
 use Rattle.fx_c99.specs.OfProgram.{c_routine_of, c_text_of}
 use Rattle.fx_c99.specs.CText.{c_text}
 use Rattle.fx_c99.specs.CWritable.{IsCWritable}
+use Rattle.fx_c99.specs.CHeader.{point, input_word, c_header_of}
+use Rattle.fx_c99.specs.CHeaderMeaning.{SaysHeader}
 use Rattle.fx_c99.specs.Runs.{c_text_run, Does, DoesSteps}
 
 -- the helping function rounds down, below 0 too
@@ -69,3 +72,20 @@ DoesOnceLaw = (text : List ℕ) (s x a b : List ℤ) (d e : Option (Step ℤ)) �
 abbrev pub TextLaw : Type 0
 TextLaw = (p : Program) (ns : List ℕ) → IsLawfulProgram p → IsName p.name → AreWidths p ns →
     DoesSteps p ns (c_text_of p ns)
+
+-- ---- the header
+-- that of what is certified says its numbers
+abbrev pub HeaderLaw : Type 0
+HeaderLaw = (rewrite : Rewrites) (fn : Function) (p : Program) (cert : Certificate) →
+    IsCertified rewrite fn p cert → AreInputs fn.inputs → SaysHeader fn p cert (c_header_of fn p cert)
+
+-- the words that a step is given are its inputs' words
+abbrev pub InputWordLaw : Type 0
+InputWordLaw = (p : Program) (g : List Rational) (k : ℕ) → IsLawfulProgram p → k < p.inputs →
+    at (pos 0) (input_words p.codes g) k ≡ input_word (value_at g k) (point p k)
+
+-- the words from LEAST to GREATEST are those of the values in the range
+abbrev pub RangeLaw : Type 0
+RangeLaw = (i : Input) (f w : ℤ) → IsInput i →
+    ((input_word i.lo f ≤ℤ w) × (w ≤ℤ input_word i.hi f)) ↔
+    ((x : Rational) × AtMost i.lo x × AtMost x i.hi × (input_word x f ≡ w))

@@ -4,4 +4,6 @@ pub mod CMeaning
 pub mod CWritable
 pub mod OfProgram
 pub mod Runs
+pub mod CHeader
+pub mod CHeaderMeaning
 pub mod Laws

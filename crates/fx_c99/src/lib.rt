@@ -2,13 +2,15 @@
 //!
 //! `specs/` has the definitions: `Working` says in how many bits a statement computes, `CText` how it is written, and
 //! `CMeaning` what it does, which is nothing wherever C99 leaves it undefined or to the compiler. The statements are
-//! those of `fx_statements`; `OfProgram` says which a program has. Nothing here runs: the functions below have empty
-//! bodies, and each carries a law, of which `Laws` has the words. The trap: a shift to the left is no form of C here,
-//! since C leaves it undefined below 0, so a word is multiplied by a power of two.
+//! those of `fx_statements`; `OfProgram` says which a program has. `CHeader` has the text of the header beside it, and
+//! `CHeaderMeaning` what that says. Nothing here runs: the functions below have empty bodies, and each carries a law,
+//! of which `Laws` has the words. The trap: a shift to the left is no form of C here, since C leaves it undefined below
+//! 0, so a word is multiplied by a power of two.
 #![tactic(auto)]
 
-ghost use Rattle.fx_c99.specs.Laws.{FlooredLaw, ResetLaw, StepLaw, RunLaw, CertifiedLaw, OneReadingLaw, DoesOnceLaw, TextLaw};
+ghost use Rattle.fx_c99.specs.Laws.{FlooredLaw, ResetLaw, StepLaw, RunLaw, CertifiedLaw, OneReadingLaw, DoesOnceLaw, TextLaw, HeaderLaw, InputWordLaw, RangeLaw};
 
+use fx_sound::start_law;
 use fx_widths::{least_law, own_width_law};
 
 /// One text has one list of statements and one of start words, so that what a text does is well said.
@@ -53,4 +55,22 @@ pub fn certified_c_law()
 /// A lawful program's C text does the machine's steps, wherever each word lies in its width.
 pub fn text_law()
     ensures { TextLaw }
+{}
+
+/// The header of what is certified says its points, words and bounds.
+pub fn header_law()
+    ensures { HeaderLaw }
+{
+    start_law();
+    fx_sound::step_law();
+}
+
+/// The words that a step is given are those of its inputs' values.
+pub fn input_word_law()
+    ensures { InputWordLaw }
+{}
+
+/// A word lies between those of a range's ends exactly where a value of the range has it.
+pub fn range_law()
+    ensures { RangeLaw }
 {}

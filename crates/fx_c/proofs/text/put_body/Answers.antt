@@ -19,6 +19,6 @@ returns c =
     (c.in_ok-put_lets.ensures ∙ ap (λ (cs : List program.Code). c.args.out.now.items
     ++ flat_map (c_let_text p.width) (c_lets_from p.width 0 ns (map code_of cs))) c.deref.ensures.value)
     c.in_ok-put_stores.ensures c.in_ok-put_outputs.ensures
-    (c.in_ok-put_unreads.ensures ∙ ap (λ (cs : List program.Code). c.put_outputs.new.out.items
+    (c.in_ok-put_unreads.ensures p.width ns ∙ ap (λ (cs : List program.Code). c.put_outputs.new.out.items
     ++ unreads_text (c_lets_from p.width 0 ns (map code_of cs)) first (c_lets_from p.width 0 ns (map code_of cs)))
     c.deref-2.ensures.value)

@@ -14,9 +14,9 @@ returns-in-Add c =
     let b_again : to_z w32 (of_z w32 b) ≡ b = to_z-of_z w32 b (search rules) in
     let text : ℤ → ℤ → List ℕ = λ x y. c.args.out.now.items ++ c_value_text c.args.width (least_size c.args.own)
     (c_value_for c.args.width (machine.Add c.in-Add.a c.in-Add.b x y)) in
-    let r = c.put_cast_addition.result in let new = c.put_cast_addition.new.out.items in
+    let r = c.put_cast_sum.result in let new = c.put_cast_sum.new.out.items in
     rw c.in-Add.is (subst (λ (x : ℤ). OnOk r (new ≡ text x b)) a_again
-    (subst (λ (y : ℤ). OnOk r (new ≡ text (to_z w32 (of_z w32 a)) y)) b_again c.put_cast_addition.ensures))
+    (subst (λ (y : ℤ). OnOk r (new ≡ text (to_z w32 (of_z w32 a)) y)) b_again c.put_cast_sum.ensures))
 
 pub returns-in-Sub : goal.returns-in-Sub
 returns-in-Sub c =
@@ -25,6 +25,6 @@ returns-in-Sub c =
     let b_again : to_z w32 (of_z w32 b) ≡ b = to_z-of_z w32 b (search rules) in
     let text : ℤ → ℤ → List ℕ = λ x y. c.args.out.now.items ++ c_value_text c.args.width (least_size c.args.own)
     (c_value_for c.args.width (machine.Sub c.in-Sub.a c.in-Sub.b x y)) in
-    let r = c.put_cast_difference.result in let new = c.put_cast_difference.new.out.items in
+    let r = c.put_cast_sum-in-Sub.result in let new = c.put_cast_sum-in-Sub.new.out.items in
     rw c.in-Sub.is (subst (λ (x : ℤ). OnOk r (new ≡ text x b)) a_again
-    (subst (λ (y : ℤ). OnOk r (new ≡ text (to_z w32 (of_z w32 a)) y)) b_again c.put_cast_difference.ensures))
+    (subst (λ (y : ℤ). OnOk r (new ≡ text (to_z w32 (of_z w32 a)) y)) b_again c.put_cast_sum-in-Sub.ensures))
