@@ -78,9 +78,8 @@ fn note_rejected<N: Sink>(program: &str, fault: ConditionFault, notes: &mut N)
 {
     let mut digits = Buffer::new();
     note_line(
+        program,
         &[
-            program,
-            ": ",
             "rejected: ",
             condition_text(fault.kind),
             " at ",
@@ -98,9 +97,8 @@ fn note_misread<N: Sink>(program: &str, fault: SourceFault, notes: &mut N)
 {
     let mut digits = Buffer::new();
     note_line(
+        program,
         &[
-            program,
-            ": ",
             "source: ",
             source_text(fault.kind),
             " at byte ",
@@ -116,9 +114,8 @@ fn note_bundle<N: Sink>(program: &str, fault: TextFault, notes: &mut N)
 {
     let mut digits = Buffer::new();
     note_line(
+        program,
         &[
-            program,
-            ": ",
             "bundle: ",
             bundle_text(fault.kind),
             " at line ",
@@ -136,15 +133,8 @@ fn note_whole_line<N: Sink>(program: &str, kind: &str, line: u64, notes: &mut N)
 {
     let mut digits = Buffer::new();
     note_line(
-        &[
-            program,
-            ": ",
-            "row: ",
-            kind,
-            " at line ",
-            digits.format(line),
-            "\n",
-        ],
+        program,
+        &["row: ", kind, " at line ", digits.format(line), "\n"],
         notes,
     );
 }
@@ -156,9 +146,8 @@ fn note_column<N: Sink>(program: &str, kind: &str, line: u64, name: &str, notes:
 {
     let mut digits = Buffer::new();
     note_line(
+        program,
         &[
-            program,
-            ": ",
             "row: ",
             kind,
             " at line ",
@@ -177,14 +166,8 @@ fn note_place<N: Sink>(program: &str, part: &str, place: u32, notes: &mut N)
 {
     let mut digits = Buffer::new();
     note_line(
-        &[
-            program,
-            ": ",
-            "not found: ",
-            part,
-            digits.format(place),
-            "\n",
-        ],
+        program,
+        &["not found: ", part, digits.format(place), "\n"],
         notes,
     );
 }
@@ -214,7 +197,7 @@ fn note_row<N: Sink>(program: &str, inputs: &[Input], line: u64, fault: RowFault
 fn note_reason<N: Sink>(program: &str, reason: &str, notes: &mut N)
     ensures { AreNotes (N.seen notes.old) (N.seen notes.new) (Some (ends.note_text program.now (reason.now ∷ []))) }
 {
-    note_line(&[program, ": ", reason, "\n"], notes);
+    note_line(program, &[reason, "\n"], notes);
 }
 
 impl<'a> End<'a> {

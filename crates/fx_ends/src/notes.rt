@@ -2,7 +2,7 @@
 //!
 //! It goes out in pieces that end at the first failure, and no memory is taken for it.
 //! The trap: a line is written when the status is decided already, and one that fails changes nothing.
-ghost use Rattle.std.specs.Prelude.{map, OnOk, OnErr};
+ghost use Rattle.std.specs.Prelude.{◌∷◌, codes, map, OnOk, OnErr};
 ghost use Rattle.std.specs.List.{concat};
 ghost use Rattle.std.specs.Io.KnownBytes.{Appends};
 ghost use Rattle.fx_base.specs.Causes.{HasCause};
@@ -25,10 +25,24 @@ pub fn put_pieces<N: Sink>(pieces: &[&str], notes: &mut N) -> Result<(), Failed>
     Ok(())
 }
 
-/// Writes the line of these pieces, or a front of it where the notes fail.
-#[tactic(auto, using(crate::proofs::Noted::noted))]
-pub fn note_line<N: Sink>(pieces: &[&str], notes: &mut N)
-    ensures { IsNoted (N.seen notes.old) (N.seen notes.new) (concat (map (λ p. p.now) pieces.now)) }
+// Writes the program's name with a colon, and these pieces behind it.
+fn put_note<N: Sink>(program: &str, pieces: &[&str], notes: &mut N) -> Result<(), Failed>
+    ensures all { OnOk result (Appends (N.seen notes.old).taken (N.seen notes.new).taken
+        (concat (program.now ∷ codes ": " ∷ map (λ p. p.now) pieces.now))) }
+    ensures front { OnErr result (AppendsFront (N.seen notes.old).taken (N.seen notes.new).taken
+        (concat (program.now ∷ codes ": " ∷ map (λ p. p.now) pieces.now))) }
+    ensures cause { HasCause (N.seen notes.old).faults (N.seen notes.new).faults result }
 {
-    let _ = put_pieces(pieces, notes);
+    put_all(notes, program.as_bytes())?;
+    put_all(notes, b": ")?;
+    put_pieces(pieces, notes)
+}
+
+/// Writes the line of a program of this name, or a front of it where the notes fail.
+#[tactic(auto, using(crate::proofs::Noted::noted))]
+pub fn note_line<N: Sink>(program: &str, pieces: &[&str], notes: &mut N)
+    ensures { IsNoted (N.seen notes.old) (N.seen notes.new)
+        (concat (program.now ∷ codes ": " ∷ map (λ p. p.now) pieces.now)) }
+{
+    let _ = put_note(program, pieces, notes);
 }
