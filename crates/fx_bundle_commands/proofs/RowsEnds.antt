@@ -12,8 +12,9 @@ use Rattle.fx_stream.specs.declared.fault.RunFault.TheVariants as run
 use Rattle.fx_stream.specs.Ending.{EndsRun, Streams}
 use Rattle.fx_ends.specs.Ends as ends
 use Rattle.fx_ends.specs.Ends.{End}
+use Rattle.fx_bundle_commands.specs.Calls.{RunsInput}
 use Rattle.fx_bundle_commands.specs.OpeningView.{IsQuiet, with_source}
-use Rattle.fx_bundle_commands.specs.Tasks.{Task, Does, HasAnswered, RunsInput}
+use Rattle.fx_bundle_commands.specs.Tasks.{Task, Does, HasAnswered}
 use Rattle.fx_bundle_commands.specs.commands.Rows.{RowsEnd, RunsLines, Takes, bad_line, long, no_memory, unread, unwritten}
 
 -- what was taken, where this end and the fault of too many bytes come together

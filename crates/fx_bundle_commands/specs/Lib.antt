@@ -4,4 +4,5 @@ pub mod OpeningView
 pub mod Exact
 pub mod commands
 pub mod Tasks
+pub mod Calls
 pub mod RowsView

@@ -1,4 +1,5 @@
--- What the steps of opening FILE say to one another. No clause of a public call rests on this.
+-- What the steps of opening FILE say to one another, and what the contracts of calls below `fixd` are written in. No
+-- clause of `fixd` rests on this.
 use Rattle.std.specs.Prelude.{◌≡◌, ℕ, List, Option, Some, Ok, Err}
 use Rattle.fx_base.specs.Shelf.{Files}
 use Rattle.fx_base.specs.declared.answers.InFault.{InFault}

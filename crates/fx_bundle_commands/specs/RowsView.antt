@@ -5,10 +5,10 @@ use Rattle.fx_bundle_commands.specs.declared.commands.run.Rows.TheVariants.{Alik
 use Rattle.fx_bundle_commands.specs.Tasks.{Task, RunRows, RunUnits}
 
 -- what is done with them
-abbrev pub task_of : Rows → Task
-task_of Alike = RunRows
-task_of Apart = RunRows
-task_of (Units units) = RunUnits units
+abbrev pub rows_task : Rows → Task
+rows_task Alike = RunRows
+rows_task Apart = RunRows
+rows_task (Units units) = RunUnits units
 
 -- of as many units as there may be
 abbrev pub AreFew : Rows → Type 0

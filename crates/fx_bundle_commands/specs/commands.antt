@@ -1,9 +1,9 @@
 pub mod Rows
 pub mod Run
 pub mod Node
-pub mod Texts
 pub mod Check
 pub mod Show
 pub mod Migrate
 pub mod Widths
 pub mod Rust
+pub mod Sheets

@@ -1,17 +1,9 @@
-//! The commands, one a file.
+//! What the commands do: they run the lines of the input, or print a text.
 
-mod check;
-mod migrate;
 mod node;
 mod page;
 mod run;
-mod rust;
-mod show;
-mod widths;
+mod sheet;
 
-pub use check::check_file;
-pub use migrate::migrate_file;
 pub use run::{Rows, run_file};
-pub use rust::rust_file;
-pub use show::show_file;
-pub use widths::widths_file;
+pub use sheet::{Sheet, print_file};

@@ -1,9 +1,8 @@
 //! One text, written where there was memory for it.
 ghost use Rattle.std.specs.Prelude.{◌≡◌, ℕ, List, IfOk};
-ghost use Rattle.fx_stream.specs.Promise.{Grows};
 ghost use Rattle.fx_ends.specs.EndView.{end_of};
 ghost use Rattle.fx_bundle_commands.specs.OpeningView.{IsSilent};
-ghost use Rattle.fx_bundle_commands.specs.commands.Texts.{TextEnds};
+ghost use Rattle.fx_bundle_commands.specs.commands.Sheets.{TextEnds};
 
 use fx_base::{Sink, put_all};
 use fx_ends::End;
@@ -13,7 +12,6 @@ use fx_num::Memory;
 pub(crate) fn print_text<K: Sink>(made: Result<Vec<u8>, Memory>, output: &mut K) -> End<'static>
     ensures ended { (text : List ℕ) → IfOk made (λ t. t.items ≡ text) →
         TextEnds text (K.seen output.old) (K.seen output.new) (end_of result) }
-    ensures appended { Grows (K.seen output.old).taken (K.seen output.new).taken }
     ensures quiet { IsSilent (end_of result) → output.new ≡ output.old }
 {
     let Ok(text) = made else {

@@ -1,16 +1,20 @@
 //! What `check FILE` prints: that a bundle is accepted, and the bound of each output.
 //!
 //! The lines go out in pieces, without memory.
-ghost use Rattle.std.specs.Prelude.{◌≡◌, ◌<◌, ◌≤◌, OnOk, OnErr};
+ghost use Rattle.std.specs.Prelude.{◌≡◌, ◌≢◌, ◌<◌, ◌≤◌, OnOk, OnErr};
 ghost use Rattle.std.specs.Io.KnownBytes.{Appends};
 ghost use Rattle.fx_base.specs.Causes.{HasCause};
 ghost use Rattle.fx_inequalities.specs.Accepted.{bound_dyadic};
 ghost use Rattle.fx_base.specs.Calls.{AppendsFront};
+ghost use Rattle.fx_ends.specs.Ends as ends;
+ghost use Rattle.fx_ends.specs.EndView.{end_of};
+ghost use Rattle.fx_bundle_commands.specs.OpeningView.{IsSilent};
 ghost use Rattle.fx_bundle_commands.specs.commands.Check.{bound_line, bound_lines, report};
+ghost use Rattle.fx_bundle_commands.specs.commands.Sheets.{TextEnds};
 
 use fx_base::{Failed, Sink};
 use fx_checker::Certified;
-use fx_ends::put_pieces;
+use fx_ends::{End, put_pieces};
 use fx_num::Dyadic;
 use itoa::Buffer;
 
@@ -85,8 +89,8 @@ pub fn put_bounds<K: Sink>(certified: &Certified, sink: &mut K) -> Result<(), Fa
     Ok(())
 }
 
-/// Writes that the bundle is accepted, and the bound of each output.
-pub fn put_report<K: Sink>(certified: &Certified, sink: &mut K) -> Result<(), Failed>
+// Writes that the bundle is accepted, and the bound of each output.
+fn put_report<K: Sink>(certified: &Certified, sink: &mut K) -> Result<(), Failed>
     ensures all { OnOk result
         (Appends (K.seen sink.old).taken (K.seen sink.new).taken
         (report certified.now.program certified.now.certificate)) }
@@ -97,4 +101,17 @@ pub fn put_report<K: Sink>(certified: &Certified, sink: &mut K) -> Result<(), Fa
 {
     put_pieces(&["accepted\n"], sink)?;
     put_bounds(certified, sink)
+}
+
+/// Prints that the bundle is accepted, and the bound of each output.
+pub(crate) fn print_report<K: Sink>(certified: &Certified, output: &mut K) -> End<'static>
+    ensures ended { TextEnds (report certified.now.program certified.now.certificate)
+        (K.seen output.old) (K.seen output.new) (end_of result) }
+    ensures light { end_of result ≢ ends.NoMemory }
+    ensures quiet { IsSilent (end_of result) → output.new ≡ output.old }
+{
+    match put_report(certified, output) {
+        Ok(()) => End::Done,
+        Err(_) => End::WriteFault,
+    }
 }

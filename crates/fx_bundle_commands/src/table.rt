@@ -1,9 +1,12 @@
-//! The lines that `show FILE` prints of an accepted bundle's codes.
+//! What `show FILE` prints: the codes of an accepted bundle with what is certified of them, and the bounds.
 //!
 //! A line has the code's number, its instruction and its point, and the ends of its range and of its error.
 //! The trap: a value prints as `m` alone where it has no binary places, as a bound does.
-ghost use Rattle.std.specs.Prelude.{◌≡◌, ◌++◌, ◌∷◌, [], ◌<◌, ◌≤◌, pos, length, map, OnOk, IfOk};
+ghost use Rattle.std.specs.Prelude.{◌≡◌, ◌++◌, ◌∷◌, [], ◌<◌, ◌≤◌, pos, length, map, OnOk, OnErr, IfOk};
 ghost use Rattle.std.specs.Fmt.{decimal, signed_decimal};
+ghost use Rattle.std.specs.Io.KnownBytes.{Appends};
+ghost use Rattle.fx_base.specs.Calls.{AppendsFront};
+ghost use Rattle.fx_base.specs.Causes.{HasCause};
 ghost use Rattle.fx_model.specs.LineText.{line_text, numbered_lines};
 ghost use Rattle.fx_model.specs.LawfulProgram.{IsLawfulProgram};
 ghost use Rattle.fx_model.specs.ProgramText.{instruction_name};
@@ -11,10 +14,16 @@ ghost use Rattle.fx_model.specs.Tree.{at};
 ghost use Rattle.fx_inequalities.specs.Certificate.{no_line};
 ghost use Rattle.fx_program.specs.CodeView.{code_of};
 ghost use Rattle.fx_cert.specs.CertificateView.{line_view, lines_view};
-ghost use Rattle.fx_bundle_commands.specs.commands.Show.{value_text, shown_fields, shown_line};
+ghost use Rattle.fx_ends.specs.EndView.{end_of};
+ghost use Rattle.fx_bundle_commands.specs.OpeningView.{IsSilent};
+ghost use Rattle.fx_bundle_commands.specs.commands.Sheets.{TextEnds};
+ghost use Rattle.fx_bundle_commands.specs.commands.Show.{value_text, shown_fields, shown_line, table};
 
+use crate::report::put_bounds;
+use fx_base::{Failed, Sink, put_all};
 use fx_cert::NodeLine;
 use fx_checker::Certified;
+use fx_ends::End;
 use fx_interval::Interval;
 use fx_num::{Dyadic, Memory};
 use fx_program::{Code, Program};
@@ -133,8 +142,8 @@ fn put_codes(out: &mut Vec<u8>, certified: &Certified) -> Result<(), AllocError>
     Ok(())
 }
 
-/// The lines of all codes, as a text.
-pub fn codes_text(alloc: Global, certified: &Certified) -> Result<Vec<u8>, Memory>
+// The lines of all codes, as a text.
+fn codes_text(alloc: Global, certified: &Certified) -> Result<Vec<u8>, Memory>
     ensures { IfOk result (λ text. text.items
         ≡ numbered_lines (shown_line certified.now.program certified.now.certificate) 0
         (length certified.now.program.codes)) }
@@ -143,5 +152,40 @@ pub fn codes_text(alloc: Global, certified: &Certified) -> Result<Vec<u8>, Memor
     match put_codes(&mut out, certified) {
         Ok(()) => Ok(out),
         Err(_) => Err(Memory),
+    }
+}
+
+// Writes the lines of the codes, which are this text, and those of the outputs.
+fn put_table<K: Sink>(text: &[u8], certified: &Certified, output: &mut K) -> Result<(), Failed>
+    requires { text.now ≡ numbered_lines (shown_line certified.now.program certified.now.certificate) 0
+        (length certified.now.program.codes) }
+    ensures all { OnOk result
+        (Appends (K.seen output.old).taken (K.seen output.new).taken
+        (table certified.now.program certified.now.certificate)) }
+    ensures front { OnErr result
+        (AppendsFront (K.seen output.old).taken (K.seen output.new).taken
+        (table certified.now.program certified.now.certificate)) }
+    ensures cause { HasCause (K.seen output.old).faults (K.seen output.new).faults result }
+{
+    put_all(output, text)?;
+    put_bounds(certified, output)
+}
+
+/// Prints a line for each code, and the bound of each output.
+pub(crate) fn print_table<K: Sink>(
+    alloc: Global,
+    certified: &Certified,
+    output: &mut K,
+) -> End<'static>
+    ensures ended { TextEnds (table certified.now.program certified.now.certificate)
+        (K.seen output.old) (K.seen output.new) (end_of result) }
+    ensures quiet { IsSilent (end_of result) → output.new ≡ output.old }
+{
+    let Ok(text) = codes_text(alloc, certified) else {
+        return End::NoMemory;
+    };
+    match put_table(text.as_slice(), certified, output) {
+        Ok(()) => End::Done,
+        Err(_) => End::WriteFault,
     }
 }

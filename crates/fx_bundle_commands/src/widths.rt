@@ -1,5 +1,4 @@
-//! The lines that `widths FILE` prints of an accepted bundle: the least width of each code, and how many bytes all
-//! take.
+//! What `widths FILE` prints: the least width of each code of an accepted bundle, and how many bytes all take.
 ghost use Rattle.std.specs.Prelude.{◌≡◌, ◌++◌, ◌∷◌, [], ◌<◌, length, OnOk, IfOk};
 ghost use Rattle.std.specs.Fmt.{decimal};
 ghost use Rattle.fx_model.specs.LineText.{line_text, numbered_lines};

@@ -16,11 +16,15 @@ use Rattle.fx_stream.specs.Promise.{Grows}
 use Rattle.fx_stream.proofs.Grown.{none_grown}
 use Rattle.fx_arguments.specs.Command.{Command, command_of, texts}
 use Rattle.fx_ends.specs.Ends.{End, NoMemory}
+use Rattle.fx_bundle_commands.specs.declared.commands.run.Rows.{Rows}
+use Rattle.fx_bundle_commands.specs.declared.commands.run.Rows.TheVariants.{Alike, Apart, Units}
+use Rattle.fx_bundle_commands.specs.Calls.{RunsFile}
 use Rattle.fx_bundle_commands.specs.Outside.{Outside, World, IsUntouched}
 use Rattle.fx_bundle_commands.specs.Opening as opening
 use Rattle.fx_bundle_commands.specs.Opening.{IsOpen, OpeningEnds}
 use Rattle.fx_bundle_commands.specs.OpeningView.{IsSilent}
-use Rattle.fx_bundle_commands.specs.Tasks.{Task, IsPromptAt, IsAnswer, RunsFile}
+use Rattle.fx_bundle_commands.specs.RowsView.{rows_task}
+use Rattle.fx_bundle_commands.specs.Tasks.{Task, IsPromptAt, IsAnswer}
 use Rattle.fx_command.specs.Source as source
 use Rattle.fx_command.specs.commands.Synth as synth
 use Rattle.fx_command.specs.commands.Demo as demo
@@ -112,6 +116,12 @@ module _ {S K : Type 0} (task : Task) (old new : World S K) (name : List ℕ) (s
       never d e leaves =
           let is : OnBundle task name ≡ d = cc in
           let z = sym (reads name) ∙ ap leaves_input is ∙ leaves in absurd cc
+
+-- however its lines are run
+pub rows_read : (rows : Rows) (file : List ℕ) → leaves_input (OnBundle (rows_task rows) file) ≡ false
+rows_read Alike file = refl
+rows_read Apart file = refl
+rows_read (Units units) file = refl
 
 -- ---- a command that leaves the input alone
 -- nothing was asked of the shelf, whatever file is named

@@ -1,18 +1,11 @@
--- What `check FILE` does: it prints the bounds of an accepted bundle.
+-- What `check FILE` prints: the bounds of an accepted bundle.
 use Rattle.std.specs.Prelude.{ℕ, ◌+◌, ◌==◌, List, [], ◌∷◌, ◌++◌, codes, if◌then◌else◌}
 use Rattle.std.specs.Fmt.{decimal, signed_decimal}
 use Rattle.std.specs.List.{concat}
-use Rattle.std.specs.Io.KnownBytes.{Appends}
-use Rattle.fx_base.specs.Calls.{AppendsFront}
-use Rattle.fx_base.specs.Causes.{Rose}
-use Rattle.fx_base.specs.Views.{SinkView}
 use Rattle.fx_rational.specs.Dyadic.{Dyadic}
-use Rattle.fx_model.specs.Function.{Function}
 use Rattle.fx_model.specs.Machine.{Program}
 use Rattle.fx_inequalities.specs.Certificate.{Certificate}
 use Rattle.fx_inequalities.specs.Accepted.{bound_dyadic}
-use Rattle.fx_cert.specs.BundleView.{Parts}
-use Rattle.fx_ends.specs.Ends.{End, Done, WriteFault}
 use Rattle.fx_model.specs.LineText.{numbered_lines}
 
 -- m, or m/2^e, piece by piece; what a certificate writes is in lowest terms
@@ -30,9 +23,3 @@ bound_lines p c = numbered_lines (λ j. bound_line j (bound_dyadic p c j))
 -- what is printed of an accepted bundle
 abbrev pub report : Program → Certificate → List ℕ
 report p c = codes "accepted\n" ++ bound_lines p c 0 p.outputs
-
--- how the printing ends
-pub data ReportEnds (old new : SinkView) (b : Parts) (fn : Function) : End → Type 0 where
-  reported : Appends old.taken new.taken (report b.program b.certificate) → ReportEnds old new b fn Done
-  unwritten : Rose old.faults new.faults →
-      AppendsFront old.taken new.taken (report b.program b.certificate) → ReportEnds old new b fn WriteFault

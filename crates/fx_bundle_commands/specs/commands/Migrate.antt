@@ -1,15 +1,12 @@
--- What `migrate FILE` does: it writes an accepted bundle as one of the second version.
+-- What `migrate FILE` prints: an accepted bundle as one of the second version.
 use Rattle.std.specs.Prelude.{◌≡◌, ℕ, List}
-use Rattle.fx_base.specs.Views.{SinkView}
 use Rattle.fx_rational.specs.Rational.{Rational}
 use Rattle.fx_model.specs.Function.{Function}
 use Rattle.fx_model.specs.Machine.{machine_run}
 use Rattle.fx_model.specs.Versions.{second_version}
 use Rattle.fx_inequalities.specs.Accepted.{certified_bound}
-use Rattle.fx_cert.specs.BundleView.{Parts, IsLawfulBundle, text_of}
-use Rattle.fx_ends.specs.Ends.{End}
+use Rattle.fx_cert.specs.BundleView.{Parts, IsLawfulBundle}
 use Rattle.fx_bundle_commands.specs.Opening.{IsAcceptedAs}
-use Rattle.fx_bundle_commands.specs.commands.Texts.{PrintsText}
 
 -- the bundle with the second version of its program, and all else as it is
 abbrev pub migrated : Parts → Parts
@@ -24,7 +21,3 @@ pub record IsMigrated (b : Parts) (fn : Function) : Type 0 where
   pub bound : (j : ℕ) → certified_bound (migrated b).program (migrated b).certificate j
       ≡ certified_bound b.program b.certificate j
   pub itself : b.program.version ≡ 2 → migrated b ≡ b
-
--- how the writing ends
-abbrev pub WritesMigrated : SinkView → SinkView → Parts → Function → End → Type 0
-WritesMigrated old new b fn = PrintsText (IsMigrated b fn) (text_of (migrated b)) old new

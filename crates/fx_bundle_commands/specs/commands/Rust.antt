@@ -1,6 +1,5 @@
--- What `rust FILE` does: it prints the program of an accepted bundle as Rust text.
+-- What `rust FILE` prints: the program of an accepted bundle as Rust text.
 use Rattle.std.specs.Prelude.{ℕ, List}
-use Rattle.fx_base.specs.Views.{SinkView}
 use Rattle.fx_model.specs.Function.{Function}
 use Rattle.fx_model.specs.Machine.{Program}
 use Rattle.fx_inequalities.specs.Certificate.{Certificate}
@@ -10,8 +9,6 @@ use Rattle.fx_statements.specs.Runs.{DoesSteps}
 use Rattle.fx_statements.specs.RustText.{rust_text}
 use Rattle.fx_widths.specs.LeastWidths.{least_widths}
 use Rattle.fx_mixed.specs.TextRuns.{TextRunsLaw}
-use Rattle.fx_ends.specs.Ends.{End}
-use Rattle.fx_bundle_commands.specs.commands.Texts.{PrintsText}
 
 -- the one text, in which the name of each code has the least type that its least width fits
 abbrev pub rust_of : Program → Certificate → List ℕ
@@ -22,7 +19,3 @@ rust_of p c = rust_text (routine_of p (least_widths p c))
 pub record IsRustFor (b : Parts) (fn : Function) : Type 0 where
   pub steps : DoesSteps b.program (least_widths b.program b.certificate) (rust_of b.program b.certificate)
   pub runs : TextRunsLaw fn.inputs b.program b.certificate
-
--- how the printing ends
-abbrev pub PrintsRust : SinkView → SinkView → Parts → Function → End → Type 0
-PrintsRust old new b fn = PrintsText (IsRustFor b fn) (rust_of b.program b.certificate) old new

@@ -1,20 +1,14 @@
--- What `show FILE` does: it prints the codes of an accepted bundle with what its certificate says of them, and its
--- bounds.
+-- What `show FILE` prints: the codes of an accepted bundle with what its certificate says of them, and its bounds.
 use Rattle.std.specs.Prelude.{ℕ, ℤ, pos, List, [], ◌∷◌, ◌++◌, length, map}
 use Rattle.std.specs.Fmt.{decimal, signed_decimal}
 use Rattle.std.specs.List.{concat}
-use Rattle.fx_base.specs.Views.{SinkView}
 use Rattle.fx_rational.specs.Dyadic.{Dyadic}
-use Rattle.fx_model.specs.Function.{Function}
 use Rattle.fx_model.specs.LineText.{line_text, numbered_lines}
 use Rattle.fx_model.specs.Machine.{Program, points_of}
 use Rattle.fx_model.specs.ProgramText.{instruction_name}
 use Rattle.fx_model.specs.Tree.{at}
 use Rattle.fx_inequalities.specs.Certificate.{Certificate, NodeLine, no_line}
-use Rattle.fx_cert.specs.BundleView.{Parts}
-use Rattle.fx_ends.specs.Ends.{End}
 use Rattle.fx_bundle_commands.specs.commands.Check.{bound_pieces, bound_lines}
-use Rattle.fx_bundle_commands.specs.commands.Texts.{TextEnds}
 
 -- m, or m/2^e
 abbrev pub value_text : Dyadic → List ℕ
@@ -35,7 +29,3 @@ shown_line p c n =
 -- what is printed of an accepted bundle
 abbrev pub table : Program → Certificate → List ℕ
 table p c = numbered_lines (shown_line p c) 0 (length p.codes) ++ bound_lines p c 0 p.outputs
-
--- how the printing ends
-abbrev pub PrintsTable : SinkView → SinkView → Parts → Function → End → Type 0
-PrintsTable old new b fn = TextEnds (table b.program b.certificate) old new

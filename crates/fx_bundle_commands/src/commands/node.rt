@@ -5,7 +5,8 @@ ghost use Rattle.fx_node.specs.Faults.{flaw_of};
 ghost use Rattle.fx_ends.specs.EndView.{end_of};
 ghost use Rattle.fx_bundle_commands.specs.OpeningView.{IsQuiet};
 ghost use Rattle.fx_stream.specs.Ending.{streams};
-ghost use Rattle.fx_bundle_commands.specs.Tasks.{RunUnits, RunsInput};
+ghost use Rattle.fx_bundle_commands.specs.Calls.{RunsInput};
+ghost use Rattle.fx_bundle_commands.specs.Tasks.{RunUnits};
 ghost use Rattle.fx_bundle_commands.specs.commands.Node.{bad_end};
 
 use crate::commands::page::{ROWS_LIMIT, inputs_of};

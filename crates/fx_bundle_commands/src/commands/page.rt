@@ -8,7 +8,8 @@ ghost use Rattle.fx_stream.specs.declared.fault.RunFault.TheVariants.{ReadFault,
 ghost use Rattle.fx_run.specs.Printed.{RowsLaw, run_outcome};
 ghost use Rattle.fx_ends.specs.EndView.{end_of};
 ghost use Rattle.fx_stream.specs.Ending.{EndsRun, streams};
-ghost use Rattle.fx_bundle_commands.specs.Tasks.{RunRows, RunsInput};
+ghost use Rattle.fx_bundle_commands.specs.Calls.{RunsInput};
+ghost use Rattle.fx_bundle_commands.specs.Tasks.{RunRows};
 
 use fx_base::{Sink, Source};
 use fx_checker::Certified;

@@ -4,9 +4,9 @@
 //! of what was opened, so its line goes out before that is dropped.
 ghost use Rattle.fx_ends.specs.EndView.{end_of};
 ghost use Rattle.fx_stream.specs.Ending.{streams};
+ghost use Rattle.fx_bundle_commands.specs.Calls.{RunsFile, RunsInput};
 ghost use Rattle.fx_bundle_commands.specs.Outside.{world};
-ghost use Rattle.fx_bundle_commands.specs.RowsView.{AreFew, task_of};
-ghost use Rattle.fx_bundle_commands.specs.Tasks.{RunsFile, RunsInput};
+ghost use Rattle.fx_bundle_commands.specs.RowsView.{AreFew, rows_task};
 
 use crate::commands::node::run_units;
 use crate::commands::page::{Storage, run_page};
@@ -37,7 +37,7 @@ fn run_input<'a, S: Source<K>, K: Sink>(
 ) -> End<'a>
     requires few { AreFew rows }
     ensures { let at = streams S.seen K.seen in
-        RunsInput (task_of rows) certified.now (at input.old output.old) (at input.new output.new) (end_of result) }
+        RunsInput (rows_task rows) certified.now (at input.old output.old) (at input.new output.new) (end_of result) }
 {
     match rows {
         Rows::Alike => run_page(alloc, certified, Storage::Alike, input, output),
@@ -58,7 +58,7 @@ pub fn run_file<H: Shelf, S: Source<K>, K: Sink, N: Sink>(
 ) -> Status
     requires few { AreFew rows }
     ensures { let at = world H.seen S.seen K.seen N.seen in
-        RunsFile (task_of rows) (at shelf.old input.old output.old notes.old)
+        RunsFile (rows_task rows) (at shelf.old input.old output.old notes.old)
         (at shelf.new input.new output.new notes.new) name.now result }
 {
     match open(alloc, shelf, name) {

@@ -1,7 +1,7 @@
 use Rattle.std.proofs.Common.{◌≡◌, ◌∙◌, refl, subst}
 use Rattle.std.specs.Io.KnownBytes.{Appends}
 use Rattle.fx_base.specs.Calls.{AppendsFront}
-use Rattle.fx_bundle_commands.specs.commands.Texts.{written, unwritten, no_memory}
+use Rattle.fx_bundle_commands.specs.commands.Sheets.{written, unwritten, no_memory}
 use Rattle.fx_bundle_commands.proofs.printing.print_text.Goals as goal
 
 pub returns-in_default-clause-ended : goal.returns-in_default-clause-ended

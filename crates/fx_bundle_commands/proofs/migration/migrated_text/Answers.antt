@@ -3,7 +3,7 @@ use Rattle.std.proofs.lemmas.Result.{IfOk-weaker}
 use Rattle.fx_model.specs.Versions.{second_version}
 use Rattle.fx_inequalities.specs.CertificateText.{bundle_text}
 use Rattle.fx_inequalities.specs.LawfulCertificate.{IsLawfulCertificate}
-use Rattle.fx_bundle_commands.proofs.commands.migrate.migrated_text.Goals as goal
+use Rattle.fx_bundle_commands.proofs.migration.migrated_text.Goals as goal
 
 pub returns : goal.returns
 returns c =

@@ -1,7 +1,7 @@
 use Rattle.std.proofs.Common.{subst}
 use Rattle.std.specs.Io.KnownBytes.{Appends}
 use Rattle.fx_ends.proofs.Noted.{front_behind, err_more}
-use Rattle.fx_bundle_commands.proofs.commands.show.put_table.Goals as goal
+use Rattle.fx_bundle_commands.proofs.table.put_table.Goals as goal
 
 pub returns-clause-front : goal.returns-clause-front
 returns-clause-front g c =
