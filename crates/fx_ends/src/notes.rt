@@ -2,7 +2,7 @@
 //!
 //! It goes out in pieces that end at the first failure, and no memory is taken for it.
 //! The trap: a line is written when the status is decided already, and one that fails changes nothing.
-ghost use Rattle.std.specs.Prelude.{◌∷◌, codes, map, OnOk, OnErr};
+ghost use Rattle.std.specs.Prelude.{◌∷◌, map, codes, OnOk, OnErr};
 ghost use Rattle.std.specs.List.{concat};
 ghost use Rattle.std.specs.Io.KnownBytes.{Appends};
 ghost use Rattle.fx_base.specs.Causes.{HasCause};
@@ -25,8 +25,8 @@ pub fn put_pieces<N: Sink>(pieces: &[&str], notes: &mut N) -> Result<(), Failed>
     Ok(())
 }
 
-// Writes the program's name with a colon, and these pieces behind it.
-fn put_note<N: Sink>(program: &str, pieces: &[&str], notes: &mut N) -> Result<(), Failed>
+// Writes the line that a program of this name has of these pieces.
+fn put_line<N: Sink>(program: &str, pieces: &[&str], notes: &mut N) -> Result<(), Failed>
     ensures all { OnOk result (Appends (N.seen notes.old).taken (N.seen notes.new).taken
         (concat (program.now ∷ codes ": " ∷ map (λ p. p.now) pieces.now))) }
     ensures front { OnErr result (AppendsFront (N.seen notes.old).taken (N.seen notes.new).taken
@@ -38,11 +38,11 @@ fn put_note<N: Sink>(program: &str, pieces: &[&str], notes: &mut N) -> Result<()
     put_pieces(pieces, notes)
 }
 
-/// Writes the line of a program of this name, or a front of it where the notes fail.
+/// Writes the line that a program of this name has of these pieces, or a front of it where the notes fail.
 #[tactic(auto, using(crate::proofs::Noted::noted))]
 pub fn note_line<N: Sink>(program: &str, pieces: &[&str], notes: &mut N)
     ensures { IsNoted (N.seen notes.old) (N.seen notes.new)
         (concat (program.now ∷ codes ": " ∷ map (λ p. p.now) pieces.now)) }
 {
-    let _ = put_note(program, pieces, notes);
+    let _ = put_line(program, pieces, notes);
 }
