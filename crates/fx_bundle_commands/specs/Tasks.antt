@@ -1,5 +1,5 @@
 -- What the commands do that take a bundle: how a call of each ends, and what decides it.
-use Rattle.std.specs.Prelude.{◌≡◌, ℕ, List, Option}
+use Rattle.std.specs.Prelude.{◌≡◌, ◌⊎◌, ◌==◌, ◌||◌, Bool, not, ℕ, List, Option}
 use Rattle.fx_base.specs.Causes.{Rose}
 use Rattle.fx_base.specs.Moments.{Moment}
 use Rattle.fx_base.specs.Shelf.{Files}
