@@ -1,5 +1,5 @@
 -- A call did what the words ask for, and its line is written: the promise follows.
-use Rattle.std.proofs.Common.{◌≡◌, ◌⊎◌, ℕ, List, Option, Some, None, refl, subst, inl, inr}
+use Rattle.std.proofs.Common.{◌≡◌, ◌⊎◌, ℕ, Option, Some, None, refl, subst, inl, inr}
 use Rattle.std.specs.Prelude.{⊤}
 use Rattle.fx_base.specs.Causes.{Rose}
 use Rattle.fx_base.specs.Views.{SinkView}
@@ -10,9 +10,9 @@ use Rattle.fx_stream.proofs.Grown.{none_grown}
 use Rattle.fx_ends.specs.Ends.{End, Done, Usage, NoMemory, status_of}
 use Rattle.fx_ends.specs.Notes.{AreNotes}
 use Rattle.fx_bundle_commands.specs.Calls.{Desk, beside}
-use Rattle.fx_bundle_commands.specs.Outside.{Outside, World}
+use Rattle.fx_bundle_commands.specs.Outside.{World}
 use Rattle.fx_bundle_commands.specs.Opening.{OpensThen}
-use Rattle.fx_bundle_commands.specs.Exact.{IsReady, OrNoMemory}
+use Rattle.fx_bundle_commands.specs.Exact.{OrNoMemory}
 use Rattle.fx_bundle_commands.proofs.FileEnds.{text_decides}
 use Rattle.fx_bundle_commands.proofs.Missing.{missing_bundle}
 use Rattle.fx_bundle_commands.proofs.SameEnd.{either}
@@ -32,6 +32,12 @@ no_printing d = record {
   asked = refl;
   appended = none_grown d.sink.taken;
 }
+
+-- a request may be told in another way
+pub printing_as : {K : Type 0} {asks told : Option TextRequest} {old new : Desk K} {end : End} → asks ≡ told →
+    Printing asks old new end → Printing told old new end
+printing_as {old = old} {new = new} {end = end} is printing =
+    subst (λ (asks : Option TextRequest). Printing asks old new end) is printing
 
 -- the outside of a call, with the notes
 abbrev world_of : {K : Type 0} → Desk K → SinkView → World ⊤ K

@@ -1,5 +1,4 @@
 -- The C text of what is certified, over rows in range.
-use Rattle.std.proofs.Common.{List}
 use Rattle.fx_model.specs.Function.{Function}
 use Rattle.fx_model.specs.Machine.{Program}
 use Rattle.fx_model.specs.Rows.{AreInputs, InRangeLaw}

@@ -1,5 +1,5 @@
 -- What the words of `fixd-c` ask for.
-use Rattle.std.specs.Prelude.{◌&&◌, List, [], ◌∷◌, Option, Some, None, codes, if◌then◌else◌}
+use Rattle.std.specs.Prelude.{◌&&◌, Bool, List, [], ◌∷◌, Option, Some, None, codes, if◌then◌else◌}
 use Rattle.std.specs.Str.{bytes_eq}
 use Rattle.fx_arguments.specs.Grammar.{Bytes, is_dashed, ends_options}
 use Rattle.fx_c_command.specs.declared.words.Text.{Text}

@@ -22,9 +22,9 @@ returns-in-Ok g c =
     let b = with_source o.certified o.source in
     let printed = c.print_text.ensures.ended _ c.printed_text.ensures in record {
       ended = opened _ b o.certified.function file.is_bundle file.accepted (record {
-            ends = printed;
-            holds = c.text_law.ensures;
-          });
+        ends = printed;
+        holds = c.text_law.ensures;
+      });
       quiet = c.print_text.ensures.quiet;
       unopened = λ r is. let same : request_view c.args.request.now ≡ r = cc in
           inl (subst (λ (r : TextRequest). IsOpen (g.H.Shelf.seen c.args.shelf.now).files r.file) same
