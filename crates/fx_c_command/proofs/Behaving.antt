@@ -20,7 +20,7 @@ use Rattle.fx_bundle_commands.proofs.Silent.{silent_is_silent}
 use Rattle.fx_bundle_commands.proofs.Verdict.{completed, exact_opening}
 use Rattle.fx_c_command.specs.Words.{TextRequest}
 use Rattle.fx_c_command.specs.Printed.{PrintsC}
-use Rattle.fx_c_command.specs.Promise.{CBehaves, CEnds, IsCAnswer, c_line, no_input}
+use Rattle.fx_c_command.specs.Promise.{CBehaves, CEnds, IsCAnswer, c_line, empty_input}
 use Rattle.fx_c_command.specs.Calls.{Printing}
 
 -- words that ask for nothing touch nothing
@@ -41,7 +41,7 @@ printing_as {old = old} {new = new} {end = end} is printing =
 
 -- the outside of a call, with the notes
 abbrev world_of : {K : Type 0} → Desk K → SinkView → World ⊤ K
-world_of d noted = record { seen = beside no_input d; notes = noted; input = tt; output = d.output }
+world_of d noted = record { seen = beside empty_input d; notes = noted; input = tt; output = d.output }
 
 module _ {K : Type 0} (again : BundleAgain) (asks : Option TextRequest) (old new : Desk K) (noted now : SinkView)
     (end : End) (status : ℕ) (printing : Printing asks old new end) (status_is : status ≡ status_of end)
@@ -53,8 +53,8 @@ module _ {K : Type 0} (again : BundleAgain) (asks : Option TextRequest) (old new
   answer = record { status_is = status_is; line = line }
 
   opens : (r : TextRequest) → asks ≡ Some r →
-      OpensThen (beside no_input old) (beside no_input new) r.file (PrintsC r.text old.sink new.sink) end
-  opens r is = subst (λ (x : Option TextRequest). CEnds (beside no_input old) (beside no_input new) x end) is
+      OpensThen (beside empty_input old) (beside empty_input new) r.file (PrintsC r.text old.sink new.sink) end
+  opens r is = subst (λ (x : Option TextRequest). CEnds (beside empty_input old) (beside empty_input new) x end) is
       printing.ended
 
   finished : (r : TextRequest) (b : Parts) (fn : Function) →
@@ -67,15 +67,15 @@ module _ {K : Type 0} (again : BundleAgain) (asks : Option TextRequest) (old new
   pub behaves : CBehaves asks (world_of old noted) (world_of new now) status
   behaves = record {
     ended = record { end = end; answer = answer; cause = printing.ended };
-    exact = λ r is file found e other cause. exact_opening again (beside no_input old) (beside no_input new) r.file file
+    exact = λ r is file found e other cause. exact_opening again (beside empty_input old) (beside empty_input new) r.file file
         found IsEnd end e answer (opens r is) other cause;
     complete = λ r is b fn ready writes. finished r b fn writes
-        (completed again (beside no_input old) (beside no_input new) r.file ready.file ready.found
+        (completed again (beside empty_input old) (beside empty_input new) r.file ready.file ready.found
         (PrintsC r.text old.sink new.sink) b fn end ready.is_bundle ready.accepted (opens r is));
     silent = λ silent. printing.quiet (silent_is_silent end status status_is silent);
     unopened = printing.unopened;
     asked = printing.asked;
-    missing = λ r is missing. missing_bundle (beside no_input old) (beside no_input new) r.file _ end status status_is
+    missing = λ r is missing. missing_bundle (beside empty_input old) (beside empty_input new) r.file _ end status status_is
         missing (opens r is);
     appended = printing.appended;
   }

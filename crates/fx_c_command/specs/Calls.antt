@@ -7,11 +7,11 @@ use Rattle.fx_bundle_commands.specs.Opening.{IsOpen}
 use Rattle.fx_bundle_commands.specs.OpeningView.{IsSilent}
 use Rattle.fx_bundle_commands.specs.Outside.{Asks}
 use Rattle.fx_c_command.specs.Words.{TextRequest}
-use Rattle.fx_c_command.specs.Promise.{CEnds, no_input}
+use Rattle.fx_c_command.specs.Promise.{CEnds, empty_input}
 
 -- the call has come to this end, whose line isn't written yet
 pub record Printing {K : Type 0} (asks : Option TextRequest) (old new : Desk K) (end : End) : Type 0 where
-  pub ended : CEnds (beside no_input old) (beside no_input new) asks end
+  pub ended : CEnds (beside empty_input old) (beside empty_input new) asks end
   pub quiet : IsSilent end → new.output ≡ old.output
   pub unopened : (r : TextRequest) → asks ≡ Some r → IsOpen old.shelf.files r.file ⊎ (new.output ≡ old.output)
   pub asked : Asks (option_map (λ r. r.file) asks) old.shelf.asked new.shelf.asked

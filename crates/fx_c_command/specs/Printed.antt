@@ -18,12 +18,12 @@ use Rattle.fx_c_command.specs.declared.words.Text.{Text}
 use Rattle.fx_c_command.specs.declared.words.Text.TheVariants.{Source, Header}
 
 -- the one C text, in which the name of each code has the least type that its least width fits
-abbrev pub source_of : Program → Certificate → List ℕ
-source_of p cert = c_text_of p (least_widths p cert)
+abbrev pub c_source_of : Program → Certificate → List ℕ
+c_source_of p cert = c_text_of p (least_widths p cert)
 
 -- the bytes of each text
 abbrev pub printed_text : Text → Parts → Function → List ℕ
-printed_text Source b fn = source_of b.program b.certificate
+printed_text Source b fn = c_source_of b.program b.certificate
 printed_text Header b fn = c_header_of fn b.program b.certificate
 
 -- the machine isn't stuck on these rows, and the C text gives its run, whatever stood in the states before the reset
@@ -39,7 +39,7 @@ CRunsLaw inputs p cert = (gs : List (List Rational)) → All (IsInRange inputs) 
 -- the C text does the machine's step wherever that isn't stuck and each word lies in its width; so over all rows in
 -- range it gives the machine's run. Nothing in it is undefined or left to the compiler
 pub record IsCFor (fn : Function) (p : Program) (cert : Certificate) : Type 0 where
-  pub steps : DoesSteps p (least_widths p cert) (source_of p cert)
+  pub steps : DoesSteps p (least_widths p cert) (c_source_of p cert)
   pub runs : CRunsLaw fn.inputs p cert
 
 -- what holds of each text: the source does what the program does, and the header says what is certified

@@ -16,13 +16,13 @@ use Rattle.fx_c_command.specs.Words.{TextRequest}
 use Rattle.fx_c_command.specs.Printed.{PrintsC}
 
 -- ---- the outside
--- the program gets no input: what stands in its place holds nothing
-abbrev pub no_input : SourceView
-no_input = record { left = Some []; asked = []; faults = 0 }
+-- the program gets no input: an empty one stands in its place
+abbrev pub empty_input : SourceView
+empty_input = record { left = Some []; asked = []; faults = 0 }
 
 -- the outside at one time: what shelf, output and notes tell, and the output itself
 abbrev pub c_world : {H K N : Type 0} → (H → ShelfView) → (K → SinkView) → (N → SinkView) → H → K → N → World ⊤ K
-c_world shelf sink noted h k n = world shelf (λ _. no_input) sink noted h tt k n
+c_world shelf sink noted h k n = world shelf (λ _. empty_input) sink noted h tt k n
 
 -- ---- how a call ends
 -- its line on the notes, where there is one

@@ -5,7 +5,7 @@ ghost use Rattle.std.specs.Prelude.{◌≡◌, ◌<◌, ◌≤◌, IfOk};
 ghost use Rattle.fx_inequalities.specs.Accepted.{bound_dyadic};
 ghost use Rattle.fx_c99.specs.CHeader.{bounds_of, c_header_of};
 ghost use Rattle.fx_c99.specs.CHeaderMeaning.{SaysHeader};
-ghost use Rattle.fx_c_command.specs.Printed.{IsCFor, TextHolds, printed_text, source_of};
+ghost use Rattle.fx_c_command.specs.Printed.{IsCFor, TextHolds, printed_text, c_source_of};
 ghost use Rattle.fx_bundle_commands.specs.OpeningView.{with_source};
 
 use crate::words::Text;
@@ -50,7 +50,7 @@ pub fn text_law(certified: &Certified, text: Text)
 
 // The one C text at the least widths.
 fn source_text(alloc: Global, certified: &Certified) -> Result<Vec<u8>, Memory>
-    ensures { IfOk result (λ t. t.items ≡ source_of certified.now.program certified.now.certificate) }
+    ensures { IfOk result (λ t. t.items ≡ c_source_of certified.now.program certified.now.certificate) }
 {
     match least_widths(alloc, certified) {
         Ok(widths) => c_text(alloc, certified.program(), &widths),
