@@ -2,6 +2,7 @@
 .PHONY: try run install test wrong-bodies
 
 PROGRAM := build/fixd
+C_PROGRAM := build/fixd-c
 SOURCES := $(shell git ls-files crates crates.txt)
 PREFIX ?= /usr/local
 
@@ -26,11 +27,21 @@ $(PROGRAM): $(SOURCES)
 	  || { cat build/build.log >&2; exit 1; }
 	@cp crates/fx_cli/out/fx_cli $(PROGRAM)
 
-# puts the program, its companion and their manual pages where a system expects them; the companion gets the program's sum, so that it knows it again
+# proves and builds the second program, which prints C: what it stands on of the first is proved once
+$(C_PROGRAM): $(SOURCES)
+	@echo "proving and building $(C_PROGRAM): ten minutes after $(PROGRAM)" >&2
+	@mkdir -p build
+	@tools/prove fx_c_cli
+	@(cd crates/fx_c_cli && rt run -- ../../examples/half/half.bundle) > build/build-c.log 2>&1 || { cat build/build-c.log >&2; exit 1; }
+	@cp crates/fx_c_cli/out/fx_c_cli $(C_PROGRAM)
+
+# puts both programs, the companion and their manual pages where a system expects them; the companion gets the sum of fixd, so that it knows it again
 COMPANION = $(DESTDIR)$(PREFIX)/lib/fixd/companion
-install: $(PROGRAM)
+install: $(PROGRAM) $(C_PROGRAM)
 	install -D -m 755 $(PROGRAM) $(DESTDIR)$(PREFIX)/bin/fixd
+	install -D -m 755 $(C_PROGRAM) $(DESTDIR)$(PREFIX)/bin/fixd-c
 	install -D -m 644 docs/fixd.1 $(DESTDIR)$(PREFIX)/share/man/man1/fixd.1
+	install -D -m 644 docs/fixd-c.1 $(DESTDIR)$(PREFIX)/share/man/man1/fixd-c.1
 	install -d $(COMPANION)
 	install -m 644 companion/*.py $(COMPANION)
 	install -m 755 companion/fixd-tools $(COMPANION)

@@ -96,7 +96,7 @@ def crates_alone(crates):
 def table(why, inside, direct):
     """Returns a group's sentence, and for each of its crates what it stands on directly."""
     rows = [f"| `{it}` | {', '.join(f'`{low}`' for low in direct[it]) or 'none of ours'} |" for it in inside]
-    return [*textwrap.wrap(why, 130), "", "| crate | stands directly on |", "|---|---|", *rows]
+    return [*textwrap.wrap(why, 120), "", "| crate | stands directly on |", "|---|---|", *rows]
 
 
 def parts():

@@ -1,11 +1,12 @@
 -- How a command ends that reads FILE and prints a text.
-use Rattle.std.proofs.Common.{◌≡◌, ℕ, List, take, refl, sym, subst}
+use Rattle.std.proofs.Common.{◌≡◌, ◌⊎◌, ℕ, List, take, refl, sym, subst, inl, inr}
+use Rattle.fx_base.specs.Causes.{Rose}
 use Rattle.fx_base.specs.Requests.{AsksInOrder}
 use Rattle.fx_base.specs.Views.{SinkView, ShelfView}
 use Rattle.fx_checker.specs.CertifiedView.{Accepted}
 use Rattle.fx_stream.specs.Promise.{Grows}
 use Rattle.fx_stream.proofs.Grown.{none_grown}
-use Rattle.fx_ends.specs.Ends.{End}
+use Rattle.fx_ends.specs.Ends.{End, Done, NoMemory}
 use Rattle.fx_bundle_commands.specs.declared.commands.sheet.Sheet.{Sheet}
 use Rattle.fx_bundle_commands.specs.Calls.{PrintsFile}
 use Rattle.fx_bundle_commands.specs.Opening.{OpeningEnds, unopened, opened}
@@ -14,10 +15,17 @@ use Rattle.fx_bundle_commands.specs.Tasks.{BundleEnds, Prints}
 use Rattle.fx_bundle_commands.specs.commands.Sheets.{PrintsSheet, TextEnds, written, unwritten, no_memory}
 
 -- what the output held stands before a text, or before a front of it
-text_grows : (text : List ℕ) (old new : SinkView) (end : End) → TextEnds text old new end → Grows old.taken new.taken
+pub text_grows : (text : List ℕ) (old new : SinkView) (end : End) → TextEnds text old new end → Grows old.taken new.taken
 text_grows text old new end (written put) = (text, put)
 text_grows text old new end (unwritten rose put) = (take put.0 text, put.2)
 text_grows text old new end (no_memory same) = subst (Grows old.taken) (sym same) (none_grown old.taken)
+
+-- where no write fails, the printing of a text is done, or memory lacked
+pub text_decides : (text : List ℕ) (old new : SinkView) (end : End) → ¬ Rose old.faults new.faults →
+    TextEnds text old new end → (end ≡ Done) ⊎ (end ≡ NoMemory)
+text_decides text old new end writes (written put) = inl refl
+text_decides text old new end writes (unwritten rose put) = absurd (writes rose)
+text_decides text old new end writes (no_memory same) = inr refl
 
 module _ {K : Type 0} (sheet : Sheet) (name : List ℕ) (old new : ShelfView) (end : End)
     (asked : AsksInOrder name old.asked new.asked) where

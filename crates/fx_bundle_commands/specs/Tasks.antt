@@ -1,5 +1,5 @@
 -- What the commands do that take a bundle: how a call of each ends, and what decides it.
-use Rattle.std.specs.Prelude.{◌≡◌, ℕ, List, Option}
+use Rattle.std.specs.Prelude.{◌≡◌, ◌⊎◌, ◌==◌, ◌||◌, Bool, not, ℕ, List, Option}
 use Rattle.fx_base.specs.Causes.{Rose}
 use Rattle.fx_base.specs.Moments.{Moment}
 use Rattle.fx_base.specs.Shelf.{Files}
@@ -16,7 +16,7 @@ use Rattle.fx_node.specs.NodePage.{node_outcome}
 use Rattle.fx_ends.specs.Ends.{End, Done, BadRow, status_of, end_line}
 use Rattle.fx_ends.specs.Notes.{AreNotes}
 use Rattle.fx_bundle_commands.specs.declared.commands.sheet.Sheet.{Sheet}
-use Rattle.fx_bundle_commands.specs.Outside.{Outside, World}
+use Rattle.fx_bundle_commands.specs.Outside.{Outside, World, AreUntouched}
 use Rattle.fx_bundle_commands.specs.Opening.{IsBundle, IsAcceptedAs, OpensThen}
 use Rattle.fx_bundle_commands.specs.Exact.{IsReady, OrNoMemory}
 use Rattle.fx_bundle_commands.specs.commands.Rows.{IsReadable, rows_end}
@@ -76,3 +76,12 @@ pub record IsPromptAt (task : Task) (files : Option Files) (name : List ℕ) (ol
 pub record IsAnswer {S K : Type 0} (old new : World S K) (status : ℕ) (end : End) : Type 0 where
   pub status_is : status ≡ status_of end
   pub line : AreNotes old.notes new.notes (end_line end)
+
+-- any status but 0 and 7: a command that reads no rows has printed nothing
+abbrev pub is_silent : ℕ → Bool
+is_silent status = not ((status == 0) || (status == 7))
+
+-- the status of a read fault, or of no memory, and both streams tell what they told before
+pub record IsUnopened (old new : Streams) (status : ℕ) : Type 0 where
+  pub failed : (status ≡ 6) ⊎ (status ≡ 8)
+  pub untouched : AreUntouched old new

@@ -7,12 +7,13 @@
 
 mod commands;
 mod migration;
-mod open;
+mod opening;
 mod printing;
 mod report;
 mod table;
 mod widths;
 
 pub use commands::{Rows, Sheet, print_file, run_file};
-pub use open::{end_of_read, end_of_source};
+pub use opening::{Opened, end_of_read, end_of_source, open};
+pub use printing::print_text;
 pub use table::put_value;

@@ -8,7 +8,7 @@ ghost use Rattle.fx_bundle_commands.specs.Opening.{IsAcceptedAs};
 ghost use Rattle.fx_bundle_commands.specs.OpeningView.{with_source};
 ghost use Rattle.fx_bundle_commands.specs.commands.Migrate.{IsMigrated, migrated};
 
-use crate::open::Opened;
+use crate::opening::Opened;
 use fx_cert::print_bundle;
 use fx_num::Memory;
 use std::alloc::Global;

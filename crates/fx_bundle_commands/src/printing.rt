@@ -9,7 +9,7 @@ use fx_ends::End;
 use fx_num::Memory;
 
 /// Writes a text. Where memory lacked for it, nothing is written.
-pub(crate) fn print_text<K: Sink>(made: Result<Vec<u8>, Memory>, output: &mut K) -> End<'static>
+pub fn print_text<K: Sink>(made: Result<Vec<u8>, Memory>, output: &mut K) -> End<'static>
     ensures ended { (text : List ℕ) → IfOk made (λ t. t.items ≡ text) →
         TextEnds text (K.seen output.old) (K.seen output.new) (end_of result) }
     ensures quiet { IsSilent (end_of result) → output.new ≡ output.old }

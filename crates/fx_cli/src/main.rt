@@ -4,11 +4,9 @@
 //! the words can't even be taken.
 #![tactic(auto)]
 
-mod outside;
-
 use fx_base::Status;
 use fx_command::{End, fixd};
-use outside::{Files, StdErr, StdIn, StdOut};
+use fx_outside::{Files, StdErr, StdIn, StdOut};
 use std::env;
 use std::io::ErrorKind;
 use std::process::ExitCode;

@@ -20,17 +20,18 @@ use Rattle.fx_bundle_commands.specs.declared.commands.run.Rows.{Rows}
 use Rattle.fx_bundle_commands.specs.declared.commands.run.Rows.TheVariants.{Alike, Apart, Units}
 use Rattle.fx_bundle_commands.specs.declared.commands.sheet.Sheet.{Sheet}
 use Rattle.fx_bundle_commands.specs.Calls.{RunsFile}
-use Rattle.fx_bundle_commands.specs.Outside.{Outside, World, IsUntouched}
+use Rattle.fx_bundle_commands.specs.Outside.{Outside, World, IsUntouched, Asks}
 use Rattle.fx_bundle_commands.specs.Opening as opening
 use Rattle.fx_bundle_commands.specs.Opening.{IsOpen, OpeningEnds}
 use Rattle.fx_bundle_commands.specs.OpeningView.{IsSilent}
 use Rattle.fx_bundle_commands.specs.RowsView.{rows_task}
-use Rattle.fx_bundle_commands.specs.Tasks.{Task, Prints, BundleEnds, IsPromptAt, IsAnswer}
+use Rattle.fx_bundle_commands.specs.Tasks.{Task, Prints, BundleEnds, IsPromptAt, IsAnswer, is_silent}
+use Rattle.fx_bundle_commands.proofs.Silent.{silent_is_silent}
 use Rattle.fx_command.specs.Source as source
 use Rattle.fx_command.specs.commands.Synth as synth
 use Rattle.fx_command.specs.commands.Demo as demo
-use Rattle.fx_command.specs.Promise.{Deed, OnBundle, Synthesises, Demonstrates, Asks, Behaves, CallEnds, file_of, HasEnded, deed_of, is_early, is_silent, leaves_input}
-use Rattle.fx_command.proofs.Early.{early_is_quiet, silent_is_silent, quiet_is_silent}
+use Rattle.fx_command.specs.Promise.{Deed, OnBundle, Synthesises, Demonstrates, Behaves, CallEnds, file_of, HasEnded, deed_of, is_early, leaves_input}
+use Rattle.fx_command.proofs.Early.{early_is_quiet, quiet_is_silent}
 use Rattle.fx_command.proofs.Exact.{complete, exact}
 use Rattle.fx_command.proofs.Honest.{honest, honest_node}
 use Rattle.fx_command.proofs.Missing.{missing_file}

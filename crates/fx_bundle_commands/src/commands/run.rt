@@ -10,7 +10,7 @@ ghost use Rattle.fx_bundle_commands.specs.RowsView.{AreFew, rows_task};
 
 use crate::commands::node::run_units;
 use crate::commands::page::{Storage, run_page};
-use crate::open::open;
+use crate::opening::open;
 use fx_base::{Shelf, Sink, Source, Status};
 use fx_checker::Certified;
 use fx_ends::End;

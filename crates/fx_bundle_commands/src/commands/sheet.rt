@@ -12,7 +12,7 @@ ghost use Rattle.fx_bundle_commands.specs.Tasks.{BundleEnds, Prints};
 ghost use Rattle.fx_bundle_commands.specs.commands.Sheets.{PrintsSheet};
 
 use crate::migration::{migrated_text, migration_law};
-use crate::open::{Opened, open};
+use crate::opening::{Opened, open};
 use crate::printing::print_text;
 use crate::report::print_report;
 use crate::table::print_table;

@@ -2,7 +2,7 @@ use Rattle.std.proofs.Common.{◌≤◌, length, Err, ap, sym, subst, arith}
 use Rattle.fx_model.specs.Limits.{bundle_limit}
 use Rattle.fx_bundle_commands.specs.Opening.{OpeningEnds}
 use Rattle.fx_bundle_commands.proofs.Accepting.{read_ends, is_opened, opening_ends, if_ok, if_err}
-use Rattle.fx_bundle_commands.proofs.open.open.Goals as goal
+use Rattle.fx_bundle_commands.proofs.opening.open.Goals as goal
 
 pub returns-in-Err-clause-failed : goal.returns-in-Err-clause-failed
 returns-in-Err-clause-failed g c =

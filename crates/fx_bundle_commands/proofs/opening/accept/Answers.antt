@@ -3,7 +3,7 @@ use Rattle.fx_lexer.specs.Faults as source
 use Rattle.fx_cert.specs.BundleView.{bundle_of}
 use Rattle.fx_bundle_commands.specs.OpeningView.{IsReadAs}
 use Rattle.fx_bundle_commands.proofs.Accepting.{text_ends, source_ends, check_ends, meant}
-use Rattle.fx_bundle_commands.proofs.open.accept.Goals as goal
+use Rattle.fx_bundle_commands.proofs.opening.accept.Goals as goal
 
 pub returns-in-Err-clause-failed : goal.returns-in-Err-clause-failed
 returns-in-Err-clause-failed c =

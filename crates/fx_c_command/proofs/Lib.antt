@@ -1,0 +1,2 @@
+mod CRuns
+mod Behaving

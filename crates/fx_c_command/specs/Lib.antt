@@ -1,0 +1,5 @@
+pub mod Words
+pub mod WordsView
+pub mod Printed
+pub mod Promise
+pub mod Calls
