@@ -33,12 +33,12 @@ good_tree i k m None h n p e = let apart : (h ≡ 201) → ⊥ = search (rules, 
 good_tree i k m (Some t) h n p e = (p.0, omega (arith, p.1, p.2), p.3)
 
 pub record IsBody (b : Body) : Type 0 where
-  names : length b.names ≡ b.inputs + b.states + length b.temps
-  temps : length b.temps ≤ 1000
-  back : ReferBack b.inputs b.states 0 b.temps
-  low : All (λ t. IsLow t.tree) b.temps
-  named : All (λ t. IsName t.name) b.temps
-  nodes : b.nodes ≡ counted_nodes (temp_nodes b.temps)
+  pub names : length b.names ≡ b.inputs + b.states + length b.temps
+  pub temps : length b.temps ≤ 1000
+  pub back : ReferBack b.inputs b.states 0 b.temps
+  pub low : All (λ t. IsLow t.tree) b.temps
+  pub named : All (λ t. IsName t.name) b.temps
+  pub nodes : b.nodes ≡ counted_nodes (temp_nodes b.temps)
 
 read_ok : (end : ℕ) (b : Body) (outside : Bool) (ts : Tokens) (x : Operand × Tokens) → IsBody b → AreSound ts →
     expr_at (known_of end b) outside 200 ts ≡ Ok x
@@ -120,10 +120,10 @@ vals_ok end b ts x p s e = repeat_ok (λ c. IsBody c × Same b c) (stands_next h
     ((r.0.0, (r.0.1.0 ∙ p.1.0, r.0.1.1 ∙ p.1.1)), r.1))
     (suc (length ts)) b ts x (p, (refl, refl)) s e
 
-record AreResults (b : Body) (r : Results) : Type 0 where
-  below : AllReferBelow b.inputs b.states (length b.temps) r.trees
-  low : All IsLow r.trees
-  nodes : r.nodes ≡ counted_nodes (temp_nodes b.temps + all_tree_nodes r.trees)
+pub record AreResults (b : Body) (r : Results) : Type 0 where
+  pub below : AllReferBelow b.inputs b.states (length b.temps) r.trees
+  pub low : All IsLow r.trees
+  pub nodes : r.nodes ≡ counted_nodes (temp_nodes b.temps + all_tree_nodes r.trees)
 
 single_ok : (end word : ℕ) (b : Body) (ts : Tokens) (x : Results × Tokens) → IsBody b → AreSound ts →
     single_at end word b ts ≡ Ok x → ((length x.0.trees ≡ 1) × AreResults b x.0) × AreSound x.1
