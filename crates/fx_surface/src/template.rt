@@ -85,7 +85,9 @@ fn plan(alloc: Global) -> Result<PlannedNodes, Fail> {
 /// Whether a template of one state holds this interval, and not much more.
 fn is_near(template: &Template, lo: i128, hi: i128) -> bool {
     let bound = template.bound;
-    dle(bound.lo, parts(lo)) && dle(parts(hi), bound.hi) && dle(parts(lo.saturating_sub(1)), bound.lo)
+    dle(bound.lo, parts(lo))
+        && dle(parts(hi), bound.hi)
+        && dle(parts(lo.saturating_sub(1)), bound.lo)
 }
 
 /// Whether the first templates are the least that any step keeps, or nearly: the state comes as near to -1 and 1 as one
