@@ -48,14 +48,13 @@ last-line-of page end before last over other =
     ∙ sym all) (last-line page end before last (omega (arith, over)) other)
 
 -- ---- two lines
--- where the line feeds of the last two lines stand
+-- where both line feeds stand, the other at the end
 record Feeds (text : List ℕ) : Type 0 where
   first : ℕ
   last : ℕ
   order : first < last
   end : length text ≡ last + 1
   at_first : is_byte 10 (get_or text first 0) ≡ true
-  at_last : is_byte 10 (get_or text last 0) ≡ true
 
 feeds : (text : List ℕ) → HasTwoLines text → Feeds text
 feeds text two =
@@ -67,21 +66,7 @@ feeds text two =
       end = ap length two.parts ∙ length-append front (10 ∷ []);
       at_first = ap (λ t. is_byte 10 (get_or t (length b) 0)) two.parts
           ∙ ap (is_byte 10) (get_or_append_left front (10 ∷ []) 0 (length b) order ∙ get_or-append_seam b 10 m 0);
-      at_last = ap (λ t. is_byte 10 (get_or t (length front) 0)) two.parts
-          ∙ ap (is_byte 10) (get_or-append_seam front 10 [] 0);
     }
-
--- none stands at all
-pub no-feed : (page : List ℕ) → IsLastByte (is_byte 10) page None → ¬ HasTwoLines page
-no-feed page none two =
-    let f = feeds page two in none f.last (omega arith) (omega (arith, f.end)) f.at_last
-
--- the last one stands before the end
-pub no-feed-behind : (page : List ℕ) (end : ℕ) → IsLastByte (is_byte 10) page (Some end) → end + 1 < length page →
-    ¬ HasTwoLines page
-no-feed-behind page end last over two =
-    let f = feeds page two in
-    last.0.after f.last (omega (arith, over, f.end)) (omega (arith, f.end)) f.at_last
 
 -- none stands before the last
 pub no-feed-before : (page : List ℕ) (end : ℕ) → end < length page → length page ≤ end + 1 →
