@@ -2,17 +2,18 @@
 use Rattle.std.proofs.Common.{◌≡◌, ℕ, suc, Bool, true, false, not, ◌&&◌, if◌then◌else◌, nat_lt, List, [], ◌∷◌, length, map, Option, Some, None, Result, Ok, Err, codes, refl, ap, sym, subst, ◌∙◌, drop}
 use Rattle.std.specs.Option.{is_some}
 use Rattle.std.specs.List.{list_all, list_any}
+use Rattle.std.specs.Fmt.{digits}
 use Rattle.fx_rational.specs.Decimal.{Decimal}
 use Rattle.fx_model.specs.Function.{Function}
 use Rattle.fx_model.specs.Limits.{line_limit}
 use Rattle.fx_base.specs.Text.{lines_in}
-use Rattle.fx_fields.specs.Line.{has_mark, is_return, is_special, line_fields}
+use Rattle.fx_fields.specs.Line.{has_mark, is_return, is_special, line_fields, pieces}
 use Rattle.fx_fields.proofs.PlainLines.{unmarked_plain_line}
 use Rattle.fx_rows.specs.Blanks.{without_blanks}
-use Rattle.fx_rows.specs.Faults.{RowFlaw, at_input}
-use Rattle.fx_rows.specs.Header.{column_names, columns_from, header_of, with_columns}
+use Rattle.fx_rows.specs.Faults.{RowFlaw}
+use Rattle.fx_rows.specs.Header.{column_names, columns_from, header_of, header_of_fields, with_columns}
 use Rattle.fx_rows.specs.ReadRows.{Given, Read, after_header, after_row, after_values, lines_read, moved_down, rows_from}
-use Rattle.fx_rows.specs.Values.{Values, row_of, row_of_fields, stopped}
+use Rattle.fx_rows.specs.Values.{Values, row_of, row_of_fields}
 use Rattle.fx_listing.specs.Rows.{demo_rows}
 
 -- ---- a line
@@ -89,9 +90,11 @@ record AreRows (ls : List (List ℕ)) (n : ℕ) : Type 0 where
   plain : list_all is_plain others ≡ true
   count : length others ≡ n
 
-header_is : (f : Function) → header_of f (codes "x,y")
-    ≡ with_columns (columns_from 0 (column_names f) (map without_blanks (codes "x" ∷ codes "y" ∷ [])))
-header_is f = refl
+abbrev columns_of : Function → Result (List ℕ) RowFlaw
+columns_of f = columns_from 0 (column_names f) (map without_blanks (pieces (codes "x,y")))
+
+header_is : (f : Function) → header_of f (codes "x,y") ≡ with_columns (columns_of f)
+header_is f = ap (header_of_fields (column_names f)) (unmarked_plain_line (codes "x,y") refl refl)
 
 behind_columns : (f : Function) (found : Result (List ℕ) RowFlaw) (ls : List (List ℕ)) (more : Read) →
     list_all is_plain ls ≡ true → (after_header f (with_columns found) ls more).given.bad ≡ None →
@@ -101,13 +104,12 @@ behind_columns f (Ok columns) ls more plain good =
 behind_columns f (Err fault) ls more plain good = absurd cc
 
 behind_header : (f : Function) (header : Result (Option (List ℕ)) RowFlaw) (ls : List (List ℕ)) (more : Read) →
-    header ≡ with_columns (columns_from 0 (column_names f) (map without_blanks (codes "x" ∷ codes "y" ∷ []))) →
-    list_all is_plain ls ≡ true → (after_header f header ls more).given.bad ≡ None →
+    header ≡ with_columns (columns_of f) → list_all is_plain ls ≡ true → (after_header f header ls more).given.bad ≡ None →
     length (after_header f header ls more).given.rows ≡ length ls
 behind_header f header ls more is plain =
     subst (λ (h : Result (Option (List ℕ)) RowFlaw). (after_header f h ls more).given.bad ≡ None →
     length (after_header f h ls more).given.rows ≡ length ls) (sym is)
-    (behind_columns f (columns_from 0 (column_names f) (map without_blanks (codes "x" ∷ codes "y" ∷ []))) ls more plain)
+    (behind_columns f (columns_of f) ls more plain)
 
 rows_of : (f : Function) (ls : List (List ℕ)) (n : ℕ) → AreRows ls n → (lines_read f ls).given.bad ≡ None →
     length (lines_read f ls).given.rows ≡ n
@@ -119,6 +121,7 @@ rows_of f ls n r =
 
 -- the thousand
 demo_lines : AreRows (lines_in demo_rows) 1000
+unfolding digits
 demo_lines = record { others = drop 1 (lines_in demo_rows); parts = refl; plain = refl; count = refl }
 
 pub thousand : (f : Function) → (lines_read f (lines_in demo_rows)).given.bad ≡ None →

@@ -1,6 +1,6 @@
 -- The page of a run that read all rows.
-use Rattle.std.proofs.Common.{◌≡◌, ◌∙◌, ◌≤◌, ℕ, Bool, true, subst, if◌then◌else◌, List, [], ◌∷◌, length, map, Option, Some, None, Result, Ok, Err, refl, ap, sym, arith}
-use Rattle.std.proofs.lemmas.List.{length-map}
+use Rattle.std.proofs.Common.{◌≡◌, ◌∙◌, ◌≤◌, ◌<◌, ◌++◌, ℕ, Bool, true, subst, if◌then◌else◌, List, [], ◌∷◌, length, map, Option, Some, None, Result, Ok, Err, refl, ap, sym, arith}
+use Rattle.std.proofs.lemmas.List.{length-append, length-map}
 use Rattle.fx_base.specs.Text.{lines_in}
 use Rattle.fx_rational.specs.Decimal.{decimal_value}
 use Rattle.fx_model.specs.Function.{Function}
@@ -29,6 +29,12 @@ headed : (f : Function) (ls : List (List ℕ)) → (lines_read f ls).given.bad �
 headed f [] good = absurd cc
 headed f (l ∷ ls) good = headed-by f (header_of f l) ls (lines_read f ls) (headed f ls) good
 
+-- no more is taken than there is
+pub not_over : (all taken left : List ℕ) (limit : ℕ) → all ≡ taken ++ left → limit < length taken →
+    length all ≤ limit → ⊥
+not_over all taken left limit parts over within =
+    omega (arith, over, within, ap length parts, length-append taken left)
+
 -- all is printed, behind nothing
 pub whole-run : (a : Accepted) (held before text : List ℕ) (count : ℕ) → held ≡ demo_rows → before ≡ [] →
     RowsLaw a.function a.program a.certificate
@@ -52,7 +58,7 @@ whole-run a held before text count is none law done =
 pub paged : (a : Accepted) (text : List ℕ) → IsRun a text → HasTwoLines text
 paged a text run =
     let rows = (given a.function).rows in
-    let some : 1 ≤ length (given_values rows) = omega (arith, run.count, length-map (map decimal_value) rows) in
+    let some : 1 ≤ length (given_values rows) = omega (arith, run.count, length-map rows (map decimal_value)) in
     subst HasTwoLines (sym run.printed)
     (two_lines a.program run.run.run.outputs
     (run_outputs (machine_step a.program) (given_values rows) (start_words a.program.codes) run.run.run some run.run.own))

@@ -59,11 +59,11 @@ fn page_of(alloc: Global, certified: &Certified) -> Result<BytesOut, Memory>
     match run_rows(alloc, certified, &mut rows, &mut page, limit) {
         Ok(_) => Ok(page),
         Err(RunFault::Memory) => Err(Memory),
-        // a page in memory takes all that there is memory for
+        // a page in memory refuses a write where memory is wanting
         Err(RunFault::WriteFault) => Err(Memory),
-        // each row is good, as `.ci/checks/demos` shows: what a source's ranges are is known once it is read, and not here
+        // every row is good, as `.ci/checks/demos` shows of each number: no proof says which ranges its source has
         Err(RunFault::Row { .. }) => Err(Memory),
-        // the rows lie in memory, and are the whole of what may be read
+        // rows in memory never fail to come, and the limit is all of them
         Err(RunFault::ReadFault) => unreachable!(),
         Err(RunFault::TooLong) => unreachable!(),
     }
