@@ -40,10 +40,10 @@ CEnds old new None end = end ≡ Usage
 CEnds old new (Some r) end = OpensThen old new r.file (PrintsC r.text old.streams.sink new.streams.sink) end
 
 -- the call answers with one end, whose cause holds
-pub record HasCEnded {K : Type 0} (asked : Option TextRequest) (old new : World ⊤ K) (status : ℕ) : Type 0 where
+pub record HasCEnded {K : Type 0} (asks : Option TextRequest) (old new : World ⊤ K) (status : ℕ) : Type 0 where
   pub end : End
   pub answer : IsCAnswer old new status end
-  pub cause : CEnds old.seen new.seen asked end
+  pub cause : CEnds old.seen new.seen asks end
 
 -- ---- the promise
 -- a call of words that ask for this found the outside as `old`, left it as `new`, and answered this status
