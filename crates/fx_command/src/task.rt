@@ -7,7 +7,7 @@ use fx_arguments::FileCommand;
 use fx_bundle_commands::{Rows, Sheet};
 
 /// What is done with the bundle in FILE.
-#[derive(Clone, Copy, Debug, PartialEq, Eq)]
+#[derive(Clone, Copy)]
 pub(crate) enum Task {
     /// The lines of the input are run through it.
     Run(Rows),

@@ -1,1 +1,3 @@
+mod Rows
+mod Pages
 mod Running

@@ -4,20 +4,17 @@ ghost use Rattle.fx_grammar.specs.Sources.{parsed};
 ghost use Rattle.fx_weight.specs.PlainClass.{outside_of};
 ghost use Rattle.fx_listing.specs.Source.{demo_source};
 ghost use Rattle.fx_demo.specs.Demonstration.{IsDemonstration, IsProgram, IsRun};
-ghost use Rattle.fx_listing.specs.LastLine.{IsLastLine};
+ghost use Rattle.fx_listing.specs.LastLine.{HasTwoLines, IsLastLine};
 
 use fx_base::{BytesOut, CleanIn};
 use fx_checker::Certified;
 use fx_expr::Function;
-use fx_listing::{ROWS, function_of, last_line, rows_text};
+use fx_listing::{function_of, last_line, rows_text};
 use fx_num::Memory;
-use fx_run::run_rows;
-use fx_synth::{Round, synthesise};
+use fx_run::{RunFault, run_rows};
+use fx_synth::{Round, SynthFault, synthesise};
 use fx_weight::find_outside;
 use std::alloc::Global;
-
-// In bytes: more than the rows of a demonstration have.
-const ROWS_LIMIT: u64 = 1 << 20;
 
 // The function of the source of number `n`, which the plain plan serves at 32 bits.
 fn served_function(alloc: Global, n: u32) -> Result<Function, Memory>
@@ -45,8 +42,9 @@ fn program_of(alloc: Global, n: u32) -> Result<Certified, Memory>
             certified.certified();
             Ok(certified)
         }
-        // where the plan serves, only memory was wanting
-        Err(_) => Err(Memory),
+        Err(SynthFault::Memory) => Err(Memory),
+        // the plain plan serves the function
+        Err(SynthFault::NotFound { .. }) => unreachable!(),
     }
 }
 
@@ -54,26 +52,34 @@ fn program_of(alloc: Global, n: u32) -> Result<Certified, Memory>
 fn page_of(alloc: Global, certified: &Certified) -> Result<BytesOut, Memory>
     ensures { IfOk result (λ sink. IsRun certified.now sink.taken) }
 {
-    let mut rows = CleanIn::new(rows_text(alloc)?);
+    let text = rows_text(alloc)?;
+    let limit = text.len() as u64;
+    let mut rows = CleanIn::new(text);
     let mut page = BytesOut::new(Vec::new(alloc));
-    match run_rows(alloc, certified, &mut rows, &mut page, ROWS_LIMIT) {
-        Ok(count) if count == u64::from(ROWS) => Ok(page),
-        // every row is good: all numbers have the same, and a test of `fx_cli` runs them; so only memory was wanting
-        _ => Err(Memory),
+    match run_rows(alloc, certified, &mut rows, &mut page, limit) {
+        Ok(_) => Ok(page),
+        Err(RunFault::Memory) => Err(Memory),
+        // a page in memory refuses a write where memory is wanting
+        Err(RunFault::WriteFault) => Err(Memory),
+        // every row is good, as `.ci/checks/demos` shows of each number: no proof says which ranges its source has
+        Err(RunFault::Row { .. }) => Err(Memory),
+        // rows in memory never fail to come, and the limit is all of them
+        Err(RunFault::ReadFault) => unreachable!(),
+        Err(RunFault::TooLong) => unreachable!(),
     }
 }
 
 // The last line of a page, as a text of its own.
 fn last_of(alloc: Global, page: &[u8]) -> Result<Vec<u8>, Memory>
+    requires { HasTwoLines page.now }
     ensures { IfOk result (λ line. IsLastLine page.now line.items) }
 {
-    let Some(line) = last_line(page) else {
-        // a page has a header and its rows
-        return Err(Memory);
-    };
-    match line.to_vec(alloc) {
-        Ok(line) => Ok(line),
-        Err(_) => Err(Memory),
+    match last_line(page) {
+        Some(line) => match line.to_vec(alloc) {
+            Ok(line) => Ok(line),
+            Err(_) => Err(Memory),
+        },
+        None => unreachable!(),
     }
 }
 

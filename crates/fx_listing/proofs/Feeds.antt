@@ -1,10 +1,10 @@
 -- Line feeds, and the last line.
-use Rattle.std.proofs.Common.{◌≡◌, ◌∙◌, ◌<◌, ◌≤◌, ◌+◌, ◌-◌, ◌++◌, ℕ, suc, true, List, [], ◌∷◌, length, take, drop, get_or, Some, ap, sym, subst, arith}
+use Rattle.std.proofs.Common.{◌≡◌, ◌∙◌, ◌<◌, ◌≤◌, ◌+◌, ◌-◌, ◌++◌, ℕ, suc, true, List, [], ◌∷◌, length, take, drop, get_or, Some, None, ap, sym, subst, arith}
 use Rattle.std.proofs.lemmas.Grind.{common_steps}
-use Rattle.std.proofs.Math.Seq.{drop-cons}
-use Rattle.std.proofs.lemmas.List.{take-append-drop, take_all, drop_all, length-drop, get_or-drop, get_or_default}
+use Rattle.std.proofs.Math.Seq.{drop-cons, get_or-append_seam}
+use Rattle.std.proofs.lemmas.List.{take-append-drop, take_all, drop_all, length-append, length-drop, length-take, get_or-drop, get_or-take, get_or_append_left, get_or_default}
 use Rattle.memchr.specs.Find.{IsLastByte, is_byte}
-use Rattle.fx_listing.specs.LastLine.{IsLastLine}
+use Rattle.fx_listing.specs.LastLine.{HasTwoLines, IsLastLine}
 
 -- the bytes before a line feed, and those behind it
 at-feed : (bytes : List ℕ) (end : ℕ) → end < length bytes → is_byte 10 (get_or bytes end 0) ≡ true →
@@ -46,3 +46,32 @@ last-line-of page end before last over other =
     (omega (arith, length-drop (before + 1) lines)) in
     subst (IsLastLine page) (ap (λ n. drop n lines) next
     ∙ sym all) (last-line page end before last (omega (arith, over)) other)
+
+-- ---- two lines
+-- where both line feeds stand, the other at the end
+record Feeds (text : List ℕ) : Type 0 where
+  first : ℕ
+  last : ℕ
+  order : first < last
+  end : length text ≡ last + 1
+  at_first : is_byte 10 (get_or text first 0) ≡ true
+
+feeds : (text : List ℕ) → HasTwoLines text → Feeds text
+feeds text two =
+    let b = two.before in let m = two.more in let front = b ++ 10 ∷ m in
+    let order : length b < length front = omega (arith, length-append b (10 ∷ m)) in record {
+      first = length b;
+      last = length front;
+      order = order;
+      end = ap length two.parts ∙ length-append front (10 ∷ []);
+      at_first = ap (λ t. is_byte 10 (get_or t (length b) 0)) two.parts
+          ∙ ap (is_byte 10) (get_or_append_left front (10 ∷ []) 0 (length b) order ∙ get_or-append_seam b 10 m 0);
+    }
+
+-- none stands before the last
+pub no-feed-before : (page : List ℕ) (end : ℕ) → end < length page → length page ≤ end + 1 →
+    IsLastByte (is_byte 10) (take end page) None → ¬ HasTwoLines page
+no-feed-before page end within over none two =
+    let f = feeds page two in let before : f.first < end = omega (arith, over, f.end, f.order) in
+    none f.first (omega arith) (omega (arith, within, before, length-take end page))
+    (ap (is_byte 10) (get_or-take end page f.first 0 before) ∙ f.at_first)

@@ -10,5 +10,5 @@ mod rows;
 mod source;
 
 pub use last::last_line;
-pub use rows::{ROWS, rows_text};
+pub use rows::rows_text;
 pub use source::function_of;

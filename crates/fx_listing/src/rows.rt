@@ -7,8 +7,8 @@ use fx_num::Memory;
 use itoa::Buffer;
 use std::alloc::{AllocError, Global};
 
-/// How many rows there are.
-pub const ROWS: u32 = 1_000;
+// How many rows there are.
+const ROWS: u32 = 1_000;
 
 // How many hundredths stand for this number.
 fn hundredths(k: u32) -> i32

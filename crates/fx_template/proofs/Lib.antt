@@ -4,3 +4,4 @@ pub mod UnitTemplates
 pub mod Rounds
 pub mod Hulls
 pub mod Counted
+mod ShortLists

@@ -10,6 +10,7 @@
 
 mod find;
 mod format;
+mod modest;
 mod planned;
 mod round;
 mod stand;
@@ -19,6 +20,8 @@ mod unit;
 ghost use Rattle.fx_template.specs.Templates.{WrittenLaw};
 
 pub use find::{find_templates, templates_over};
+pub use modest::is_modest;
+pub use planned::step_by_plan;
 pub use template::{FoundTemplates, TemplateFault};
 
 /// Counted templates whose bounds can be spelled are templates that a certificate may have.

@@ -1,6 +1,13 @@
-use Rattle.std.proofs.Common.{subst}
+use Rattle.std.proofs.Common.{subst, sym}
 use Rattle.fx_listing.specs.LastLine.{IsLastLine}
+use Rattle.fx_listing.specs.LastLine.{HasTwoLines}
+use Rattle.fx_demo.proofs.Running.{paged}
 use Rattle.fx_demo.proofs.demo.demonstrate.Goals as goal
+
+pub last_of-requires : goal.last_of-requires
+last_of-requires c =
+    subst HasTwoLines (sym c.bytes.ensures)
+    (paged c.in_ok-certified.certified c.in_ok-page.page.taken c.in_ok-page.ensures)
 
 pub returns : goal.returns
 returns c = record {
