@@ -123,11 +123,22 @@ def pages(case, folder):
 
 FINDING = re.compile(r"^(\d+) (\S+)$", re.M)
 FLOOR = "    return (x >= 0) ? (x >> s) : (-1 - ((-1 - x) >> s));"
+# what cppcheck finds: a shift of a signed value; of a type that it doesn't know it forgets the parentheses, and its own
+# INT64_MIN is an unsigned constant
+FINDINGS = {("misra-c2012-10.1", "where it is rounded down"),
+            ("misra-c2012-12.1", "where it is rounded down in 128 bits"), ("misra-c2012-7.2", "at INT64_MIN")}
+
+
+def place_of(lines, at):
+    """Returns what stands in a line where something may be found."""
+    if lines[at] == FLOOR:
+        return "where it is rounded down" + (" in 128 bits" if "fixd_wide" in lines[at - 1] else "")
+    return "at INT64_MIN" if "= INT64_MIN;" in lines[at] else f"in '{lines[at].strip()}'"
 
 
 def findings(case, folder):
-    """Returns what cppcheck and its MISRA addon find in the source: rules, and whether at the line that rounds down."""
+    """Returns what cppcheck and its MISRA addon find in the source: each rule with its place."""
     command = ["cppcheck", "--std=c99", "--enable=style", "--addon=misra", "--quiet", "--template={line} {id}"]
     done = subprocess.run([*command, "step.c"], cwd=folder, capture_output=True, text=True, check=False)
     lines = case.source.split("\n")
-    return [(rule, lines[int(line) - 1] == FLOOR) for line, rule in FINDING.findall(done.stderr)]
+    return [(rule, place_of(lines, int(line) - 1)) for line, rule in FINDING.findall(done.stderr)]
