@@ -148,7 +148,7 @@ def tell(count, most):
         print(", ".join(f"{count[name]} {name}" for name in kind))
     lacking = shifts.lacking(count)
     told = f"{len(lacking)} weren't, as {lacking[0]}" if lacking else "all were"
-    print(f"of shifts by 0, 1, N-1, N, 2N-2 and below 0, of each code, at each width and in both versions, {told} tried")
+    print(f"of shifts by 0, 1, N-1, N, 2N-2 and below 0, of each code, at each width, in both versions, {told} tried")
 
 
 def main():
