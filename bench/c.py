@@ -10,12 +10,12 @@ random_bundles.py makes, of all widths and both versions in turn. Of each, a tho
   -Wsign-conversion, and the header as C++ by g++ too;
 - under -fsanitize=undefined, and with -O2, the step gives the words of `fixd run`, from the reset on;
 - each macro of the header is, in `#if`, what bundle and source say;
-- the MISRA addon of cppcheck finds nothing but rule 10.1 at the one line of each helping function, and what it says of
-  two things that it doesn't know (c_programs.py).
+- the MISRA addon of cppcheck, which takes a second a text and is asked of one in 7, finds nothing but rule 10.1 at the
+  one line of each helping function, and what it says of two things that it doesn't know (c_programs.py).
 
 A difference ends the script with 1 and leaves its folder there. Last it counts what was tried, and which shifts.
---no-synth leaves out what `synth` makes, --no-cases the stored cases, --no-misra cppcheck. Outside the gate: it needs
-both programs, gcc, g++, clang and cppcheck.
+--no-synth leaves out what `synth` makes, --no-cases the stored cases; --misra N asks cppcheck of one text in N, 0 of
+none. Outside the gate: it needs both programs, gcc, g++, clang and cppcheck.
 """
 import argparse
 import concurrent.futures
@@ -55,8 +55,8 @@ def c_case(given, path):
                  header=printed(given.fixd_c, "--header", path))
 
 
-def compared(given, path, folder):
-    """Compiles and compares a bundle's texts. Returns what was counted, and its sizes."""
+def compared(given, path, number, folder):
+    """Compiles and compares the texts of the bundle of this number. Returns what was counted, and its sizes."""
     case, room = c_case(given, path), tempfile.mkdtemp(dir=folder)
     pages = c_programs.pages(case, room)
     first = pages["gcc"]
@@ -65,12 +65,14 @@ def compared(given, path, folder):
             raise Failed(f"{what} and gcc give other words of {path}, in {room}")
     if list(texts.page_of(case, first)) != case.page:
         raise Failed(f"the program and run print other pages of {path}, in {room}")
-    found = [] if given.no_misra else c_programs.findings(case, room)
+    is_asked = given.misra > 0 and number % given.misra == 0
+    found = c_programs.findings(case, room) if is_asked else []
     if not set(found) <= c_programs.FINDINGS:
         raise Failed(f"cppcheck finds {found} in the text of {path}, in {room}")
     shutil.rmtree(room)
     bundle = case.bundle
-    return counted(case, found), (bundle.inputs, bundle.states, bundle.outputs, len(bundle.codes))
+    asked = case.source.count(c_programs.FLOOR) if is_asked else 0
+    return counted(case, found) + Counter({"helping functions": asked}), (bundle.inputs, bundle.states, bundle.outputs, len(bundle.codes))
 
 
 def counted(case, found):
@@ -82,7 +84,6 @@ def counted(case, found):
     count["unread"] += case.source.count("(void)")
     for finding in found:
         count[finding] += 1
-    count["helping functions"] += case.source.count(c_programs.FLOOR)
     for code, bits in zip(bundle.codes, case.widths):
         count[code.word] += 1
         count[f"in {bits} bits"] += 1
@@ -111,7 +112,7 @@ def words_given():
     parser.add_argument("--seed", type=int, default=0, help="where the draws of the random bundles begin")
     parser.add_argument("--no-synth", action="store_true")
     parser.add_argument("--no-cases", action="store_true")
-    parser.add_argument("--no-misra", action="store_true")
+    parser.add_argument("--misra", type=int, default=7, metavar="N", help="ask cppcheck of one text in N")
     parser.add_argument("--jobs", type=int, default=os.cpu_count(), help="so many bundles at once")
     given = parser.parse_args()
     texts.take_programs(parser, given)
@@ -123,7 +124,8 @@ def tried(given, folder):
     count, most = Counter(), (0, 0, 0, 0)
     with concurrent.futures.ThreadPoolExecutor(given.jobs) as pool:
         try:
-            for found, sizes in pool.map(lambda path: compared(given, path, folder), paths_of(given, folder)):
+            tasks = enumerate(paths_of(given, folder))
+            for found, sizes in pool.map(lambda it: compared(given, it[1], it[0], folder), tasks):
                 count += found
                 most = tuple(map(max, most, sizes))
                 if count["bundles"] % 50 == 0:
