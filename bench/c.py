@@ -70,9 +70,9 @@ def compared(given, path, number, folder):
     if not set(found) <= c_programs.FINDINGS:
         raise Failed(f"cppcheck finds {found} in the text of {path}, in {room}")
     shutil.rmtree(room)
-    bundle = case.bundle
-    asked = case.source.count(c_programs.FLOOR) if is_asked else 0
-    return counted(case, found) + Counter({"helping functions": asked}), (bundle.inputs, bundle.states, bundle.outputs, len(bundle.codes))
+    count, bundle = counted(case, found), case.bundle
+    count["helping functions"] = case.source.count(c_programs.FLOOR) if is_asked else 0
+    return count, (bundle.inputs, bundle.states, bundle.outputs, len(bundle.codes))
 
 
 def counted(case, found):
