@@ -121,7 +121,7 @@ def pages(case, folder):
     return {what: ended([path], input=case.words).stdout for what, path in programs(folder)}
 
 
-FINDING = re.compile(r"^(\d+) (\S+)$", re.M)
+FINDING = re.compile(r"^(\d+) (misra-\S+)$", re.M)
 FLOOR = "    return (x >= 0) ? (x >> s) : (-1 - ((-1 - x) >> s));"
 # what cppcheck finds: a shift of a signed value; of a type that it doesn't know it forgets the parentheses, and its own
 # INT64_MIN is an unsigned constant
