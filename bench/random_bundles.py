@@ -8,10 +8,9 @@ comes to nothing; what it gives is judged by `check` like any other, and not all
 from dataclasses import dataclass
 from fractions import Fraction
 
-from c_text import decimal
+from companion.exact import as_decimal as decimal
 
 ZERO = (Fraction(0), Fraction(0))
-MOST = Fraction(2) ** 24
 
 
 class Draw(Exception):
@@ -69,7 +68,9 @@ def line(kind, *spans):
 
 
 class Maker:
-    """One draw. `nodes` are the codes before the copies; `temps` the source's. While `is_near`, points aren't lowered at will."""
+    """One draw. `nodes` are the codes before the copies; `temps` the source's. While `is_near`, points aren't lowered at
+    will. No value and no error is greater than `most`."""
+    most = Fraction(2) ** 24
 
     def __init__(self, draw, width, version):
         self.draw, self.width, self.version = draw, width, version
@@ -81,7 +82,7 @@ class Maker:
         point = 62
         while point >= -64 and not (-2 ** (self.width - 1) <= lo * unit(-point) and hi * unit(-point) <= 2 ** (self.width - 1) - 1):
             point -= 1
-        if point < -64 or max(abs(lo), abs(hi)) > MOST:
+        if point < -64 or max(abs(lo), abs(hi)) > self.most:
             raise Draw
         return point
 
@@ -261,10 +262,15 @@ def source_of(maker, sizes, require, starts, copies):
 def bundle(draw, width, version):
     """Returns a bundle's text, or None."""
     try:
-        maker, sizes, require, starts, copies = made(draw, width, version)
+        return text_of(*made(draw, width, version))
     except Draw:
         return None
+
+
+def text_of(maker, sizes, require, starts, copies):
+    """Returns the text of what was made: starts are pairs of a number and by how much its word is off."""
     source, nodes = source_of(maker, sizes, require, starts, copies), maker.nodes + copies
+    width, version = maker.width, maker.version
     inputs, states, outputs = sizes
     boxes = maker.nodes[inputs:inputs + states]
     parts = [f"fixd bundle {version}", f"source {len(source)}", source, "program", f"fixd program {version}", f"width {width}", "name f"]

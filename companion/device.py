@@ -36,7 +36,8 @@ def add_to(parser) -> None:
                         help="the converter before an input: reading 0 is the value LOW, reading STEPS is HIGH "
                              "(default: the input's range in 4096 steps)")
     parser.add_argument("--fixd-c", metavar="PROGRAM",
-                        help="the program that prints C (default: fixd-c beside fixd, else on PATH)")
+                        help="the program that prints C (default: the one that FIXD_C names, else fixd-c beside fixd, "
+                             "else on PATH)")
 
 
 # what rows may take of an emulated processor's memory, in bytes
@@ -200,12 +201,13 @@ def folder(path: str) -> Path:
 
 def c_program(named: str, fixd: Fixd) -> str:
     """Returns the program that prints C."""
+    named = named or os.environ.get("FIXD_C", "")
     beside = os.path.join(os.path.dirname(fixd.path), "fixd-c")
     for path in ([named] if named else [beside, shutil.which("fixd-c") or ""]):
         if path and os.path.isfile(path) and os.access(path, os.X_OK):
             return os.path.abspath(path)
-    raise Trouble(f"no program 'fixd-c' was found{f' at {named}' if named else ' beside fixd or on PATH'}: 'make run' "
-                  "in the repository builds it; name it by --fixd-c PROGRAM")
+    raise Trouble(f"no program 'fixd-c' was found{f' at {named}' if named else ' beside fixd or on PATH'}: "
+                  "'make build/fixd-c' in the repository builds it; name it by --fixd-c PROGRAM or in the variable FIXD_C")
 
 
 def c_texts(program: str, bundle: str) -> tuple:
