@@ -44,7 +44,8 @@ class Template:
 
 @dataclass
 class Form:
-    """A form: the centres of a product's operands, a coefficient for each variable, the rests, and shares or None of each."""
+    """A form: the centres of a product's operands, a coefficient for each variable, the rests, and shares or None of
+    each."""
     centres: tuple
     coefficients: list
     rest: tuple

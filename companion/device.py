@@ -9,6 +9,7 @@ import stat
 import subprocess
 from dataclasses import dataclass
 from fractions import Fraction
+from math import lcm
 from pathlib import Path
 
 from . import device_c, device_rust
@@ -17,9 +18,11 @@ from .fixd import Fixd, Trouble, find, progress, readable
 from .show import accepted
 
 HELP = "a crate without std, or a pair of C files, for a device, with a test"
-DESCRIPTION = """Writes into DIR the program of an accepted bundle as Rust ('fixd rust') or as C ('fixd-c'), and around it: points, start words, ranges and bounds as constants, functions
-that make a word of a converter's reading or of a decimal and hold it to the range, reset and step over one struct, rows with the answers of 'fixd run' as a test on this machine and,
-by a script, on an emulated Cortex-M0 and M4, and a page that says what is proved of it and what isn't."""
+DESCRIPTION = """Writes into DIR the program of an accepted bundle as Rust ('fixd rust') or as C ('fixd-c'), and
+around it: points, start words, ranges and bounds as constants, functions that make a word of a converter's reading or
+of a decimal and hold it to the range, reset and step over one struct, rows with the answers of 'fixd run' as a test
+on this machine and, by a script, on an emulated Cortex-M0 and M4, and a page that says what is proved of it and what
+isn't."""
 
 
 def add_to(parser) -> None:
@@ -59,12 +62,14 @@ class Input:
 
     def reading(self) -> tuple:
         """Returns whole numbers a, b and d: the word of a reading r is the floor of (a + b * r) / d."""
-        base, slope = self.low * Fraction(2) ** self.point, (self.high - self.low) / self.steps * Fraction(2) ** self.point
-        d = base.denominator * slope.denominator // _gcd(base.denominator, slope.denominator)
+        unit = Fraction(2) ** self.point
+        base, slope = self.low * unit, (self.high - self.low) / self.steps * unit
+        d = lcm(base.denominator, slope.denominator)
         return int(base * d), int(slope * d), d
 
     def readings(self) -> list:
-        """Returns some readings, the converter's ends and some beyond among them, each with the word that it has to give."""
+        """Returns some readings, the converter's ends and some beyond among them, each with the word that it has to
+        give."""
         found = []
         for k in range(-2, 43):
             reading = self.steps * k // 40
@@ -72,12 +77,6 @@ class Input:
             if abs(reading) < 2 ** 15:
                 found.append((reading, min(max(value, self.least), self.greatest)))
         return found
-
-
-def _gcd(a, b):
-    while b:
-        a, b = b, a % b
-    return a
 
 
 @dataclass
@@ -143,7 +142,8 @@ def plan_of(fixd: Fixd, words) -> Plan:
     values = values_of(csv, inputs)
     given_words = [[floor_at(value, it.point) for value, it in zip(row, inputs)] for row in values]
     if len(values) > most:
-        progress(f"{len(values)} rows are too many for the memory of an emulated processor: the first {most} are tested")
+        progress(f"{len(values)} rows are too many for the memory of an emulated processor: the first {most} are "
+                 "tested")
     rows = [(given, [int(Fraction(text) * Fraction(2) ** out.point) for text, out in zip(line.split(","), outputs)])
             for given, line in list(zip(given_words, answers.decode().splitlines()[1:]))[:most]]
     return Plan(bundle.name, bundle.width, inputs, states, outputs, rows, values,

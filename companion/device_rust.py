@@ -6,8 +6,9 @@ import re
 from .device_emulated import LINKER, emulated_script
 from .device_page import decimal_of, page
 
-PROVED = "`src/filter.rs` is what `fixd rust` prints, byte for byte. That it gives the words of `fixd run`, over all rows in range, is proved by the\n" \
-         "meaning that the definitions of `fixd` give to its few forms (docs/guarantees.md of its repository)."
+PROVED = ("`src/filter.rs` is what `fixd rust` prints, byte for byte. That it gives the words of `fixd run`, over all\n"
+          "rows in range, is proved by the meaning that the definitions of `fixd` give to its few forms\n"
+          "(docs/guarantees.md of its repository).")
 
 
 def small(name: str) -> str:
@@ -121,7 +122,8 @@ def filter_struct(plan) -> list:
             "impl Default for Filter {", "    fn default() -> Self {", "        Self::new()", "    }", "}", "", ""]
 
 
-DECIMAL = """/// The floor of `digits / 10^places * 2^point`. What lies below `low` or above `high`, whole numbers about the range, is `least` or `greatest`.
+DECIMAL = """/// The floor of `digits / 10^places * 2^point`. What lies below `low` or above `high`, whole numbers about
+/// the range, is `least` or `greatest`.
 const fn floor_of_decimal(digits: i64, places: u32, point: i32, low: i64, high: i64, least: i64, greatest: i64) -> i64 {
     let ten = 10i64.pow(if places > 18 { 18 } else { places });
     let mut word = digits.div_euclid(ten);
@@ -154,7 +156,9 @@ def rows_data(plan) -> str:
     """Returns the rows as a constant."""
     rows = "\n".join(f"    ([{', '.join(map(str, given))}], [{', '.join(map(str, answers))}]),"
                      for given, answers in plan.rows)
-    return f"// the words of rows.csv, and those of what `fixd run` printed of them\npub const ROWS: [([i{plan.word}; {len(plan.inputs)}], [i{plan.word}; {len(plan.outputs)}]); {len(plan.rows)}] = [\n{rows}\n];\n"
+    kind = f"([i{plan.word}; {len(plan.inputs)}], [i{plan.word}; {len(plan.outputs)}])"
+    return ("// the words of rows.csv, and those of what `fixd run` printed of them\n"
+            f"pub const ROWS: [{kind}; {len(plan.rows)}] = [\n{rows}\n];\n")
 
 
 def host_test(plan, crate: str) -> str:
@@ -236,7 +240,10 @@ pub static VECTORS: Vectors = Vectors(0x2000_4000, start);
 
 
 def rust_build(crate: str) -> str:
-    return """  case $1 in cortex-m0) target=thumbv6m-none-eabi ;; *) target=thumbv7em-none-eabi ;; esac
-  ${RUSTC:-rustc} --edition 2021 --crate-name """ + crate + """ --crate-type rlib --target $target -O -C panic=abort --out-dir build/$1 src/lib.rs &&
-  ${RUSTC:-rustc} --edition 2021 --extern """ + crate + """=build/$1/lib""" + crate + """.rlib --crate-name emulated --crate-type bin --target $target -O -C panic=abort -C linker=${ARM_LD:-rust-lld} -C linker-flavor=ld.lld \\
-    -C link-arg=-Temulated/link.ld -o build/$1.elf emulated/main.rs"""
+    """Returns the commands that build the test for a processor."""
+    return f"""  case $1 in cortex-m0) target=thumbv6m-none-eabi ;; *) target=thumbv7em-none-eabi ;; esac
+  rust="${{RUSTC:-rustc}} --edition 2021 --target $target -O -C panic=abort"
+  $rust --crate-name {crate} --crate-type rlib --out-dir build/$1 src/lib.rs &&
+  $rust --crate-name emulated --crate-type bin --extern {crate}=build/$1/lib{crate}.rlib \\
+    -C linker=${{ARM_LD:-rust-lld}} -C linker-flavor=ld.lld -C link-arg=-Temulated/link.ld \\
+    -o build/$1.elf emulated/main.rs"""

@@ -1,4 +1,5 @@
-"""fixd-tools explain WORDS..: runs `fixd WORDS`, passes output and status on, and tells the line on the notes as a compiler would."""
+"""fixd-tools explain WORDS..: runs `fixd WORDS`, passes output and status on, and tells the line on the notes as a
+compiler would."""
 from __future__ import annotations
 
 import json
@@ -19,8 +20,9 @@ from .sources import function_of
 from .told import Told
 
 HELP = "run 'fixd WORDS', and explain how it ends"
-DESCRIPTION = """Runs 'fixd WORDS' with this input and output, and ends with its status. Its line on the error stream is told with the place in the file, what was
-expected there and how it is mended. Of 'not found' it searches on: without the demands, with the other rounding and in wider words."""
+DESCRIPTION = """Runs 'fixd WORDS' with this input and output, and ends with its status. Its line on the error stream
+is told with the place in the file, what was expected there and how it is mended. Of 'not found' it searches on:
+without the demands, with the other rounding and in wider words."""
 SHAPES = {
     1: r"rejected: (?P<kind>\w+) at (?P<part>\w+) (?P<index>\d+)", 3: r"source: (?P<kind>\w+) at byte (?P<at>\d+)",
     4: r"bundle: (?P<kind>\w+) at line (?P<line>\d+)",
@@ -101,7 +103,8 @@ def run_with_rows(fixd: Fixd, words: list, kept: Kept):
 
 
 def run_on_file(fixd: Fixd, words: list, kept: Kept):
-    """Runs a call whose rows are a plain file: it reads the file itself, and the file is looked at behind it, up to the bad line."""
+    """Runs a call whose rows are a plain file: it reads the file itself, and the file is looked at behind it, up to the
+    bad line."""
     begin = os.lseek(0, 0, os.SEEK_CUR)
     ran = subprocess.run([fixd.path, *words], stdin=0, stderr=subprocess.PIPE, check=False)
     notes, offset, lines = ran.stderr.decode("utf-8", "replace"), begin, 0
@@ -243,7 +246,8 @@ def row_told(call, said: dict, kept: Kept) -> Told:
 
 
 def surplus(call, kept: Kept, before: int = 1 << 62) -> list:
-    """Returns a warning where rows before a line have more fields than the header, by the lines that are kept: `fixd` takes such rows."""
+    """Returns a warning where rows before a line have more fields than the header, by the lines that are kept: `fixd`
+    takes such rows."""
     first = kept.first()
     if not first:
         return []

@@ -1,4 +1,5 @@
-"""Tells where a file that is no bundle departs from one, and which condition a rejected bundle fails, with both sides."""
+"""Tells where a file that is no bundle departs from one, and which condition a rejected bundle fails, with both
+sides."""
 from __future__ import annotations
 
 from .bundles import is_bundle, parsed
@@ -69,7 +70,8 @@ def term_of(judge: Judge, source: bytes, n: int) -> str:
 
 def of_rejected(path: str, data: bytes, kind: str, part: str, index: int) -> Told:
     """Returns what there is to say of a bundle that isn't accepted."""
-    head = f"the condition {kind} at {part} {index} fails: the certificate doesn't hold, which doesn't say that the program is unsafe"
+    head = (f"the condition {kind} at {part} {index} fails: the certificate doesn't hold, which doesn't say that the "
+            "program is unsafe")
     made = Told(head, path, hints=["a bundle that 'fixd synth' wrote is never rejected: make it anew from its source, "
                                   "or look at docs/inequalities.md for what the condition asks and at docs/messages.md "
                                   "for what to change"])

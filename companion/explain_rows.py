@@ -10,7 +10,8 @@ from .told import Told, counted
 
 MISSING_MARKS = {"", "nan", "na", "n/a", "null", "none", "inf", "-inf", "+inf", "infinity", "-infinity", "-", "--", "?",
                  "missing", "undefined"}
-DROP = "where the sensor has no value, drop such rows before the run (docs/recipes.md, 'Rows that may be bad'): nothing is certified of them"
+DROP = ("where the sensor has no value, drop such rows before the run (docs/recipes.md, 'Rows that may be bad'): "
+        "nothing is certified of them")
 COMMA = "a decimal comma? the decimal point is a point, and commas part the fields: "
 
 
@@ -57,7 +58,8 @@ def field_at(line: str, at: int):
 
 @dataclass
 class Rows:
-    """What is known of the rows of a call: the names of the inputs with their ranges, the header's line and the bad one."""
+    """What is known of the rows of a call: the names of the inputs with their ranges, the header's line and the bad
+    one."""
     inputs: list
     where: str
     command: str = "run"
@@ -104,11 +106,13 @@ def of_missing(rows: Rows, name: str) -> Told:
     elif separated:
         hints = [separated]
     elif all(read_decimal(text) is not None for text in shown):
-        hints = [f"the first line holds numbers: a header has to stand before them, as: sed '1i {','.join(names)}' ROWS"]
+        hints = [f"the first line holds numbers: a header has to stand before them, as: sed '1i {','.join(names)}' "
+                 "ROWS"]
     else:
         like = [text for text in shown if text.lower() == name.lower()] or difflib.get_close_matches(name, shown, 1,
             0.6)
-        hints = [f"is '{like[0]}' meant? capitals count: sed '1s/\\b{like[0]}\\b/{name}/' ROWS"] if like else [f"name the column of this input '{name}'"]
+        hints = ([f"is '{like[0]}' meant? capitals count: sed '1s/\\b{like[0]}\\b/{name}/' ROWS"] if like
+                 else [f"name the column of this input '{name}'"])
         quoted = [text for text in shown if '"' in text]
         hints += ["a quote counts as such only where the field begins with it"] if quoted else []
     return Told(head, "", rows.number, 1, line, max(1, len(line)), notes=notes, hints=hints)
@@ -117,9 +121,11 @@ def of_missing(rows: Rows, name: str) -> Told:
 def separator_of(line: str, names: list):
     """Returns a hint where other marks than commas part the fields."""
     if ";" in line:
-        return "semicolons part these fields, and commas have to: tr ';' ',' < ROWS; with decimal commas: sed 's/,/./g; s/;/,/g' ROWS"
+        return ("semicolons part these fields, and commas have to: tr ';' ',' < ROWS; with decimal commas: sed "
+                "'s/,/./g; s/;/,/g' ROWS")
     if "\t" in line:
-        return "tabs part these fields, and commas have to: tr '\\t' ',' < ROWS; with decimal commas: sed 's/,/./g; s/\\t/,/g' ROWS"
+        return ("tabs part these fields, and commas have to: tr '\\t' ',' < ROWS; with decimal commas: sed 's/,/./g; "
+                "s/\\t/,/g' ROWS")
     if "," not in line and re.search(r"\S[ |]+\S", line):
         return "blanks or bars part these fields, and commas have to: sed 's/[ |][ |]*/,/g' ROWS"
     return None
@@ -213,7 +219,8 @@ def of_range(rows: Rows, name: str) -> Told:
     text = fields[column].text if column < len(fields) else ""
     value = read_decimal(text)
     low, high = one.lo - one.off, one.hi + one.off
-    widened = f" ({as_decimal(one.lo if value < low else one.hi)} widened by the error, {as_decimal(one.off)})" if one.off else ""
+    widened = (f" ({as_decimal(one.lo if value < low else one.hi)} widened by the error, {as_decimal(one.off)})"
+               if one.off else "")
     side, end, by = ("below the least", low, low - value) if value < low else ("above the greatest", high, value - high)
     hints = ["nothing is certified of such a value: hold readings to the range before the run, or give the input what "
              "its sensor can give in 'require', "
@@ -221,7 +228,8 @@ def of_range(rows: Rows, name: str) -> Told:
     if abs(value) >= 99 and set(re.sub(r"\D", "", text)) == {"9"}:
         hints.insert(0, "this looks like a mark for a missing value: drop such rows")
     if len(fields) > len(fields_of(rows.header or "")):
-        hints.insert(0, COMMA + f"this row has {len(fields)} fields, and the header {len(fields_of(rows.header or ''))}")
+        columns = len(fields_of(rows.header or ""))
+        hints.insert(0, COMMA + f"this row has {len(fields)} fields, and the header {columns}")
     return at_field(rows, name, column, f"{text} is {side} value, {as_decimal(end)}{widened}, by {as_decimal(by)}",
                     *hints)
 

@@ -1,4 +1,5 @@
-"""Tells why nothing was found: which node or output, what is reached without the demands, and where a bundle is found."""
+"""Tells why nothing was found: which node or output, what is reached without the demands, and where a bundle is
+found."""
 from __future__ import annotations
 
 from fractions import Fraction
@@ -80,7 +81,8 @@ def say_node(out: Told, data: bytes, made: Function, index: int) -> None:
 
 
 def spans_of(made: Function, nodes: list):
-    """Returns the interval of each node by plain interval arithmetic, or None behind a divisor that may be zero; states are unknown."""
+    """Returns the interval of each node by plain interval arithmetic, or None behind a divisor that may be zero; states
+    are unknown."""
     spans = []
     for k, node in enumerate(nodes):
         given = [spans[j] for j in node.operands]
@@ -178,7 +180,8 @@ def say_reached(out: Told, tries, data: bytes, made: Function, width: int, round
         line = bundle.lines[bundle.first_output + j]
         low, high = plus(line.range, line.error)
         if it.error is not None:
-            missed = "demanded and kept" if bound <= it.error else f"demanded, and missed by {shown(bound - it.error, 2, True)}"
+            missed = ("demanded and kept" if bound <= it.error
+                      else f"demanded, and missed by {shown(bound - it.error, 2, True)}")
             out.notes.append(f"without demands {it.name} is within {at_most(bound)}; {shown(it.error)} is {missed}")
         for end, got, side, sign in ((it.lo, low, "least", -1), (it.hi, high, "greatest", 1)):
             if end is not None:

@@ -18,9 +18,11 @@ from .told import counted
 from .width import function_in
 
 HELP = "a filter in other forms, with the bound of each"
-DESCRIPTION = """Writes a linear function with states in other forms, says how far the answers of each can be from those of the given one (a proved bound, in exact
-arithmetic, for all rows in range), and what bound and time each comes to. 'expanded' has outputs and vals multiplied out of the next states; 'cascade' and 'parallel' have
-blocks in a row or side by side, a shrinking rotation for each pair of poles; 'balanced' and 'direct' are what they are called. Standard library only."""
+DESCRIPTION = """Writes a linear function with states in other forms, says how far the answers of each can be from
+those of the given one (a proved bound, in exact arithmetic, for all rows in range), and what bound and time each
+comes to. 'expanded' has outputs and vals multiplied out of the next states; 'cascade' and 'parallel' have blocks in a
+row or side by side, a shrinking rotation for each pair of poles; 'balanced' and 'direct' are what they are called.
+Standard library only."""
 
 
 def add_to(parser) -> None:
@@ -53,7 +55,8 @@ class Row:
 
 
 def distances(made, system, source: str) -> list:
-    """Returns for each output how far the answers of a form's source can be from the given one's, over all rows in range."""
+    """Returns for each output how far the answers of a form's source can be from the given one's, over all rows in
+    range."""
     other = function_of(source.encode())
     theirs = linear_of(other)
     pulses = [it.start for it in made.states], [it.start for it in other.states]
@@ -93,8 +96,8 @@ def told_apart(made, row: Row) -> str:
     """Returns a form's distance in words."""
     if not any(row.apart):
         return "exactly the given function"
-    return "at most " + ", ".join(f"{at_most(x)} of {it.name}"
-                                  for x, it in zip(row.apart, made.outputs)) + " from the given function's answers, over all rows in range"
+    each = ", ".join(f"{at_most(x)} of {it.name}" for x, it in zip(row.apart, made.outputs))
+    return f"at most {each} from the given function's answers, over all rows in range"
 
 
 def run(words) -> int:
@@ -165,8 +168,8 @@ def print_table(made, rows: list, words) -> None:
         if row.why:
             continue
         count = len(function_of(row.source.encode(), made.name).states)
-        bound = "not searched" if row.found is None else ", ".join(map(at_most,
-            row.found.bounds())) if row.found.is_found else row.found.why
+        bound = ("not searched" if row.found is None else ", ".join(map(at_most, row.found.bounds()))
+                 if row.found.is_found else row.found.why)
         lines.append([row.name, str(count), bound, ", ".join(at_most(x) for x in row.apart),
                       f"{row.found.seconds:.2f}" if row.found else ""])
     broad = [max(len(line[k]) for line in [head, *lines]) for k in range(len(head))]
@@ -195,7 +198,8 @@ def say_best(rows: list, words) -> None:
 
 
 def total_of(row: Row):
-    """Returns what rows are sorted by: how far a printed value can be from the given function's exact one, those that aren't found last."""
+    """Returns what rows are sorted by: how far a printed value can be from the given function's exact one, those that
+    aren't found last."""
     if row.found is None or not row.found.is_found:
         return (1, 0.0)
     return (0, max(float(a + b) for a, b in zip(row.found.bounds(), row.apart)))

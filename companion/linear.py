@@ -14,7 +14,8 @@ ONE = 1 << BITS
 
 @dataclass
 class Linear:
-    """Next states `A x + B u`, outputs `C x + D u`; the last column of B and D is what stands alone, an input that is always 1."""
+    """Next states `A x + B u`, outputs `C x + D u`; the last column of B and D is what stands alone, an input that is
+    always 1."""
     A: list
     B: list
     C: list
@@ -71,7 +72,8 @@ def linear_of(made: Function):
 
 
 def states_part(made: Function):
-    """Returns the matrix A of a function whose next states are linear in its states, products of states with inputs left out, or None."""
+    """Returns the matrix A of a function whose next states are linear in its states, products of states with inputs
+    left out, or None."""
     found = linear_of(made)
     return found.A if found else None
 
@@ -158,7 +160,8 @@ def derivative(poly: list) -> list:
 
 
 def roots_of(poly: list) -> list:
-    """Returns the roots of a polynomial as pairs of a Root and how often it is one: exact in how often, and to some 50 digits in where."""
+    """Returns the roots of a polynomial as pairs of a Root and how often it is one: exact in how often, and to some 50
+    digits in where."""
     poly, found = trimmed(poly), []
     zeros = 0
     while len(poly) > 1 and poly[-1] == 0:
@@ -277,7 +280,8 @@ def whole(x: Fraction) -> int:
 
 @dataclass
 class Sums:
-    """A sum of an impulse response: of its positive parts, of its negative parts, how many steps were summed, and whether it settled."""
+    """A sum of an impulse response: of its positive parts, of its negative parts, how many steps were summed, and
+    whether it settled."""
     up: Fraction
     down: Fraction
     steps: int

@@ -1,4 +1,5 @@
-"""fixd-tools plot BUNDLE [ROWS]: errors between the lines of the bound; of filters the step and the frequency response."""
+"""fixd-tools plot BUNDLE [ROWS]: errors between the lines of the bound; of filters the step and the frequency
+response."""
 from __future__ import annotations
 
 import cmath
@@ -20,8 +21,9 @@ from .functions import evaluate, Function
 from .svg import Panel, picture
 
 HELP = "a picture: errors between the lines of the bound, and a filter's responses"
-DESCRIPTION = """Prints an SVG: by how much printed values differ from exact ones, between the lines of the certified bound, over the rows of ROWS, or else over rows at random and over
-rows that are driven to the worst; of a filter its step and, where it is linear, its frequency response, exact and as the integer program gives it."""
+DESCRIPTION = """Prints an SVG: by how much printed values differ from exact ones, between the lines of the certified
+bound, over the rows of ROWS, or else over rows at random and over rows that are driven to the worst; of a filter its
+step and, where it is linear, its frequency response, exact and as the integer program gives it."""
 PLACES = 9
 
 
@@ -88,7 +90,8 @@ def rows_of(path: str, made: Function) -> list:
 
 
 def driven(shown: Plotted, count: int) -> list:
-    """Returns rows whose errors are greater than at random: of a filter an input that follows its impulse response, else a climb from row to row."""
+    """Returns rows whose errors are greater than at random: of a filter an input that follows its impulse response,
+    else a climb from row to row."""
     source = random.Random(1)
     system = linear_of(shown.made) if shown.made.states else None
     if shown.made.states:
@@ -107,7 +110,8 @@ def driven(shown: Plotted, count: int) -> list:
 
 
 def follow(shown: Plotted, system, count: int) -> list:
-    """Returns an input from end to end that drives the output as far as it goes at the last row, in blocks of a settled response."""
+    """Returns an input from end to end that drives the output as far as it goes at the last row, in blocks of a settled
+    response."""
     made, kernel = shown.made, []
     image = [float(x) for x in system.C[shown.output]]
     A = [[float(x) for x in row] for row in system.A]
@@ -145,7 +149,8 @@ def step_panel(shown: Plotted, count: int = 120) -> Panel:
 
 
 def frequency_panel(shown: Plotted, system) -> Panel:
-    """Returns the panel of the frequency response of the first input: exact by the matrices, and of the integer program by sines through it."""
+    """Returns the panel of the frequency response of the first input: exact by the matrices, and of the integer program
+    by sines through it."""
     one = shown.made.inputs[0]
     A, b, c = ([[float(x) for x in row] for row in system.A], [float(row[0]) for row in system.B],
                [float(x) for x in system.C[shown.output]])

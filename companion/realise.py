@@ -47,7 +47,8 @@ def rounded(value: Fraction) -> Fraction:
 
 
 def cleaned(form: Form, terms: dict, alone=Fraction(0)) -> Sum:
-    """Returns a sum with coefficients that a source may have; those that are next to nothing beside the others are dropped and counted."""
+    """Returns a sum with coefficients that a source may have; those that are next to nothing beside the others are
+    dropped and counted."""
     most = max([abs(x) for x in terms.values()], default=Fraction(0))
     kept = {}
     for name, x in terms.items():
@@ -104,7 +105,8 @@ def block_scale(root: Root) -> Fraction:
 
 
 def parallel_system(made: Function, system: Linear):
-    """Returns matrices of blocks side by side, one for each real pole and one rotation for each pair, with the starts."""
+    """Returns matrices of blocks side by side, one for each real pole and one rotation for each pair, with the
+    starts."""
     starts = [it.start for it in made.states]
     columns = [[row[i] for row in system.B] for i in range(len(made.inputs) + 1)]
     kept = [i for i, column in enumerate(columns) if any(column)]
@@ -197,7 +199,8 @@ def poly_of(group: list) -> list:
 
 
 def sections_of(top: list, below: list) -> list:
-    """Returns sections whose product is top over bottom: poles nearest the circle take the nearest zeros, and stand last."""
+    """Returns sections whose product is top over bottom: poles nearest the circle take the nearest zeros, and stand
+    last."""
     gain = trimmed(top)[0]
     groups = sorted(grouped(roots_of(below)), key=lambda group: -group[0].size())
     zeros = grouped(roots_of(top))

@@ -47,7 +47,8 @@ def columns_of(text: str) -> int:
 
 
 def marked(number: int, text: str, column: int, width: int) -> str:
-    """Returns a line of a text with its number, and carets under `width` characters from a column on. Tabs count as one blank."""
+    """Returns a line of a text with its number, and carets under `width` characters from a column on. Tabs count as one
+    blank."""
     text = "".join(one if one.isprintable() else " " for one in text.replace("\t", " "))
     begin = max(0, min(column - 1 - MOST // 2, len(text) - MOST)) if len(text) > MOST else 0
     part, front = text[begin:begin + MOST], f"{number:5} | "

@@ -1,4 +1,5 @@
-"""Transfer functions of linear systems in fractions, their parts by poles, and how far two systems' answers can be apart, as a proved bound."""
+"""Transfer functions of linear systems in fractions, their parts by poles, and how far two systems' answers can be
+apart, as a proved bound."""
 from __future__ import annotations
 
 from dataclasses import dataclass
@@ -12,7 +13,8 @@ UNIT = 1 << DEEP
 
 @dataclass
 class Transfer:
-    """What comes through: for output j and column i the polynomial `tops[j][i]` over `below`, and what comes through at once."""
+    """What comes through: for output j and column i the polynomial `tops[j][i]` over `below`, and what comes through at
+    once."""
     tops: list
     below: list
     direct: list
@@ -23,7 +25,8 @@ class Transfer:
 
 
 def transfer_of(system: Linear, columns: list) -> Transfer:
-    """Returns C (zI - A)^-1 b for each column b, in lowest terms over all of them; `columns` stand as lists over the states."""
+    """Returns C (zI - A)^-1 b for each column b, in lowest terms over all of them; `columns` stand as lists over the
+    states."""
     size, below = system.states, characteristic(system.A)
     tops = [[[] for _ in columns] for _ in system.C]
     images = [list(column) for column in columns]
@@ -121,7 +124,8 @@ def sum_of_sizes(A: list, row: list, column: list) -> Fraction:
     push = [(x.numerator << DEEP) // x.denominator for x in column]
     image = [(x.numerator << DEEP) // x.denominator for x in row]
     widest = max([abs(x) for x in column], default=Fraction(0)) + 1
-    # what an image is off in all: each step rounds each entry by less than size + 1 units, and that comes through by `total`
+    # what an image is off in all: each step rounds each entry by less than size + 1 units, and that comes through by
+    # `total`
     off = Fraction(size * (size + 2), UNIT) * total * (sum(abs(x) for x in row) + 1)
     found, steps = 0, 0
     while steps < 1 << 16:
@@ -147,7 +151,8 @@ def is_same(first: Linear, second: Linear, pulses: tuple) -> bool:
 
 
 def difference(first: Linear, second: Linear, pulses: tuple, j: int, i: int) -> Fraction:
-    """Returns a bound of the sum over t of how far two impulse responses are apart, of output j and input i; i of -1 are the starts in `pulses`."""
+    """Returns a bound of the sum over t of how far two impulse responses are apart, of output j and input i; i of -1
+    are the starts in `pulses`."""
     a, b = first.states, second.states
     joined = [row + [Fraction(0)] * b for row in first.A] + [[Fraction(0)] * a + row for row in second.A]
     row = first.C[j] + [-x for x in second.C[j]]

@@ -13,9 +13,10 @@ from .reader import Fault
 from .sources import function_of
 
 HELP = "a table of the widths: found or not, bounds, bytes"
-DESCRIPTION = """Searches a bundle at each width and with each rounding, and prints a table: each output's certified bound as a decimal, the binary places that are right
-(the bound is at most 2^-places), the bound as a part of the output's certified range, and the bytes of all words, each in its own least width. '*' marks the least
-width that keeps the demands."""
+DESCRIPTION = """Searches a bundle at each width and with each rounding, and prints a table: each output's certified
+bound as a decimal, the binary places that are right (the bound is at most 2^-places), the bound as a part of the
+output's certified range, and the bytes of all words, each in its own least width. '*' marks the least width that
+keeps the demands."""
 
 
 def add_to(parser) -> None:
@@ -48,7 +49,8 @@ def widths_of(text: str) -> list:
 
 
 def places(bound: Fraction):
-    """Returns how many binary places are right: the greatest p such that a bound is at most 2^-p, with one digit behind the point."""
+    """Returns how many binary places are right: the greatest p such that a bound is at most 2^-p, with one digit behind
+    the point."""
     return None if bound == 0 else int(-log2(bound) * 10 // 1) / 10
 
 
@@ -115,7 +117,8 @@ def print_table(made, rows) -> None:
     kept = [found.width for found, _ in rows if found.is_found and not found.free]
     lines = [head]
     for found, size in rows:
-        mark = "*" if kept and found.width == min(kept) and found.is_found and not found.free else "-" if found.free else ""
+        mark = ("*" if kept and found.width == min(kept) and found.is_found and not found.free else "-" if found.free
+                else "")
         lines.append([f"{found.width}{mark}", found.rounding,
                       *[cell for part in cells(made, found, size) for cell in part], str(size or "")])
     broad = [max(len(line[k]) for line in lines if k >= len(line) - 1 or not line[2].startswith("not found"))

@@ -9,7 +9,8 @@ BUILT = ["crates/fx_cli/out/fx_cli", "build/fixd"]
 
 
 def program_of():
-    """Returns the path of the program: the one that FIXD names, else the one that the gate proved and built, else build/fixd; or None."""
+    """Returns the path of the program: the one that FIXD names, else the one that the gate proved and built, else
+    build/fixd; or None."""
     named = os.environ.get("FIXD")
     if named:
         return os.path.abspath(named) if os.access(named, os.X_OK) else None
