@@ -14,6 +14,7 @@ from pathlib import Path
 
 from . import device_c, device_rust
 from .exact import as_decimal, dyadic, floor_at
+from .explain_rows import values_of
 from .fixd import Fixd, Trouble, find, progress, readable
 from .show import accepted
 
@@ -129,8 +130,8 @@ def plan_of(fixd: Fixd, words) -> Plan:
     for it, code in zip(made.inputs, bundle.input_codes()):
         low, high, steps = named.get(it.name, (it.lo, it.hi, 4096))
         ends = it.lo - it.off, it.hi + it.off
-        text = f"{as_decimal(it.lo)} to {as_decimal(it.hi)}" + (f", given to within {as_decimal(it.off)}" if it.off
-            else "")
+        text = (f"{as_decimal(it.lo)} to {as_decimal(it.hi)}"
+                + (f", given to within {as_decimal(it.off)}" if it.off else ""))
         inputs.append(Input(it.name, code.point, *(floor_at(end, code.point) for end in ends), text, low, high, steps,
                             ends))
     most = ROOM // ((len(inputs) + bundle.outputs) * 8)
@@ -139,7 +140,7 @@ def plan_of(fixd: Fixd, words) -> Plan:
     label_all([*inputs, *outputs])
     csv = readable(words.rows) if words.rows else random_rows(inputs, words.count)
     answers = fixd.printed("run", words.bundle, rows=csv)
-    values = values_of(csv, inputs)
+    values = values_of(csv, made.inputs)
     given_words = [[floor_at(value, it.point) for value, it in zip(row, inputs)] for row in values]
     if len(values) > most:
         progress(f"{len(values)} rows are too many for the memory of an emulated processor: the first {most} are "
@@ -167,23 +168,14 @@ def random_rows(inputs: list, count: int) -> bytes:
     for k in range(count):
         fields = []
         for it in inputs:
-            low, high = it.ends
-            low, high = -(-low * 10 ** 9 // 1), high * 10 ** 9 // 1
-            value = (low, high)[k // 2 % 2] if k % 7 < 2 and low <= high else chance.randint(int(low),
-                int(high)) if low <= high else 0
-            fields.append(as_decimal(Fraction(int(value), 10 ** 9)) if low <= high else as_decimal(it.ends[0]))
+            low, high = int(-(-it.ends[0] * 10 ** 9 // 1)), int(it.ends[1] * 10 ** 9 // 1)
+            if low > high:
+                fields.append(as_decimal(it.ends[0]))
+                continue
+            value = (low, high)[k // 2 % 2] if k % 7 < 2 else chance.randint(low, high)
+            fields.append(as_decimal(Fraction(value, 10 ** 9)))
         lines.append(",".join(fields))
     return ("\n".join(lines) + "\n").encode()
-
-
-def values_of(csv: bytes, inputs: list) -> list:
-    """Returns the values of each row of a file that `fixd run` has taken whole."""
-    from .explain_rows import fields_of
-    lines = [line.rstrip(b"\r").decode("utf-8", "replace") for line in csv.removeprefix(b"\xef\xbb\xbf").split(b"\n")]
-    lines = [line for line in lines if line]
-    names = [field.text for field in fields_of(lines[0])]
-    places = [names.index(it.name) for it in inputs]
-    return [[Fraction(fields_of(line)[place].text) for place in places] for line in lines[1:]]
 
 
 def folder(path: str) -> Path:

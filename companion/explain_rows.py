@@ -4,6 +4,7 @@ from __future__ import annotations
 import difflib
 import re
 from dataclasses import dataclass
+from fractions import Fraction
 
 from .exact import as_decimal, fits_a_literal, places_of, read_decimal
 from .told import Told, counted
@@ -54,6 +55,16 @@ def field_at(line: str, at: int):
         else:
             text, at = text + line[at], at + 1
     return text, len(line), True
+
+
+def values_of(csv: bytes, inputs: list) -> list:
+    """Returns the inputs' values of each row of a file that `fixd run` takes. Of another file it raises ValueError,
+    IndexError or ZeroDivisionError."""
+    lines = [line.rstrip(b"\r").decode("utf-8", "replace") for line in csv.removeprefix(b"\xef\xbb\xbf").split(b"\n")]
+    lines = [line for line in lines if line]
+    names = [field.text for field in fields_of(lines[0])]
+    places = [names.index(it.name) for it in inputs]
+    return [[Fraction(fields_of(line)[place].text) for place in places] for line in lines[1:]]
 
 
 @dataclass
@@ -109,8 +120,8 @@ def of_missing(rows: Rows, name: str) -> Told:
         hints = [f"the first line holds numbers: a header has to stand before them, as: sed '1i {','.join(names)}' "
                  "ROWS"]
     else:
-        like = [text for text in shown if text.lower() == name.lower()] or difflib.get_close_matches(name, shown, 1,
-            0.6)
+        like = ([text for text in shown if text.lower() == name.lower()]
+                or difflib.get_close_matches(name, shown, 1, 0.6))
         hints = ([f"is '{like[0]}' meant? capitals count: sed '1s/\\b{like[0]}\\b/{name}/' ROWS"] if like
                  else [f"name the column of this input '{name}'"])
         quoted = [text for text in shown if '"' in text]

@@ -125,8 +125,8 @@ def say_option(call: Call, name: str, mine: list) -> None:
         owner = next(command for command, options in OPTIONS.items() if name in options)
         call.add(f"{call.command} has no option {name}", f"{name} is one of {owner}: leave it out here")
     else:
-        like = LETTERS.get(name) if LETTERS.get(name) in mine else next(iter(difflib.get_close_matches(name, mine, 1,
-            0.5)), None)
+        near = [LETTERS[name]] if LETTERS.get(name) in mine else difflib.get_close_matches(name, mine, 1, 0.5)
+        like = next(iter(near), None)
         call.meant.append(like)
         call.add(f"no option is called '{name}'", *([f"is '{like}' meant?"] if like else []),
                  f"options of {call.command}: {', '.join(mine)}" if mine

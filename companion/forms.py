@@ -4,12 +4,15 @@ from __future__ import annotations
 import json
 import os
 import sys
-from dataclasses import dataclass
+import textwrap
+from dataclasses import dataclass, replace
 from fractions import Fraction
 
 from . import realise
+from .centred import centred
 from .exact import at_most, dyadic, greatest
 from .fixd import WIDTHS, Trouble, find, progress, readable
+from .form import Impossible, source_of
 from .linear import linear_of, poles_of
 from .search import Found, search
 from .sources import function_of
@@ -24,6 +27,9 @@ comes to. 'expanded' has outputs and vals multiplied out of the next states; 'ca
 row or side by side, a shrinking rotation for each pair of poles; 'balanced' and 'direct' are what they are called.
 Standard library only."""
 
+CENTRED = {"centred": "each result and val that is a sum is rounded by '1 * (..)'",
+           "partial": "each sum is rounded by '1 * (..)'"}
+
 
 def add_to(parser) -> None:
     """Adds this subcommand's words."""
@@ -37,8 +43,8 @@ def add_to(parser) -> None:
                         help="how long each search may take (default: 120)")
     parser.add_argument("--no-search", action="store_true", help="the distances alone, without bundles")
     parser.add_argument("--write", metavar="FORM",
-                        help="print the source of this form (with '+centred' behind it: with '1 * (..)'), and nothing "
-                             "else")
+                        help="print the source of this form, and nothing else; with '+centred' behind it results stand "
+                             "in '1 * (..)', with '+partial' all sums")
     parser.add_argument("--json", action="store_true", help="print the table as JSON")
 
 
@@ -76,20 +82,33 @@ def distances(made, system, source: str) -> list:
     return out
 
 
-def row_of(made, system, name: str, centred: bool = False) -> Row:
+def row_of(made, system, name: str) -> Row:
     """Returns a form's row, without its bundle."""
     try:
         form = realise.FORMS[name](made, system)
-    except (realise.Impossible, ZeroDivisionError, OverflowError) as fault:
+    except (Impossible, ZeroDivisionError, OverflowError) as fault:
         return Row(name, "", why=str(fault) or "its numbers leave what can be computed")
-    form.centred = centred
-    label = name + ("+centred" if centred else "")
-    row = Row(label, form.what + (", each sum rounded by '1 * (..)'" if centred else ""), dropped=form.dropped)
-    row.source = realise.source_of(made, form, [])
+    row = Row(name, form.what, source_of(made, form), dropped=form.dropped)
     row.apart = distances(made, system, row.source)
     if None in row.apart:
         row.why = "how far it is from the given one can't be bounded"
     return row
+
+
+def centred_row(made, row: Row, how: str) -> Row:
+    """Returns a form with results or all sums in `1 * (..)`, which changes no exact value."""
+    data = row.source.encode()
+    source = centred(data, function_of(data, made.name), how == "partial").decode()
+    return replace(row, name=f"{row.name}+{how}", what=f"{row.what}; {CENTRED[how]}", source=source)
+
+
+def centred_rows(made, row: Row) -> list:
+    """Returns a form with its sums in `1 * (..)`, in each way that differs."""
+    found = {row.source: row}
+    for how in CENTRED:
+        made_so = centred_row(made, row, how)
+        found.setdefault(made_so.source, made_so)
+    return list(found.values())[1:]
 
 
 def told_apart(made, row: Row) -> str:
@@ -119,7 +138,7 @@ def run(words) -> int:
     rows = [Row("given", "the source as it is", data.decode(), [Fraction(0)] * made.count)]
     rows += [row_of(made, system, name) for name in realise.FORMS]
     if words.round == "nearest":
-        rows += [row_of(made, system, row.name, True) for row in list(rows[1:]) if not row.why]
+        rows += [it for row in list(rows) if not row.why for it in centred_rows(made, row)]
     if not words.no_search:
         fixd = find(words.fixd)
         for k, row in enumerate(rows, 1):
@@ -133,19 +152,21 @@ def run(words) -> int:
 
 def write(made, system, words) -> int:
     """Prints the source of a form."""
-    name, _, centred = words.write.partition("+")
-    if name not in realise.FORMS or centred not in ("", "centred"):
+    name, _, how = words.write.partition("+")
+    if name not in realise.FORMS or how and how not in CENTRED:
         raise Trouble(f"no form is called '{words.write}': forms are {', '.join(realise.FORMS)}, each with '+centred' "
-                      "behind it if you like")
-    row = row_of(made, system, name, bool(centred))
+                      "or '+partial' behind it if you like")
+    row = row_of(made, system, name)
     if row.why:
         raise Trouble(f"'{made.name}' has no form '{name}': {row.why}")
+    row = centred_row(made, row, how) if how else row
     kept = [f"{made.name} of {os.path.basename(words.file)} in another form, by fixd-tools forms --write "
             f"{words.write}: {row.what};", told_apart(made, row)]
     if row.dropped:
         kept.append(f"{counted(row.dropped, 'coefficient')} below 1e-10 of their neighbours dropped; the distance "
                     "counts that")
-    sys.stdout.write("\n".join(f"// {it}" for it in kept) + "\n" + row.source)
+    lines = [line for it in kept for line in textwrap.wrap(it, 117, break_on_hyphens=False)]
+    sys.stdout.write("".join(f"// {line}\n" for line in lines) + row.source)
     return 0
 
 

@@ -55,6 +55,12 @@ class Output:
     hi: Fraction = None
 
 
+    def demanded(self) -> list:
+        """Returns what is demanded, in words."""
+        said = (("within", self.error), ("at least", self.lo), ("at most", self.hi))
+        return [f"{word} {as_decimal(value)}" for word, value in said if value is not None]
+
+
 @dataclass
 class Function:
     """A function of a source."""
@@ -74,7 +80,7 @@ class Function:
 
     def demands(self) -> bool:
         """Returns whether `ensuring` demands anything."""
-        return any(it.error is not None or it.lo is not None or it.hi is not None for it in self.outputs)
+        return any(it.demanded() for it in self.outputs)
 
 
 def node_count(made: Function) -> int:

@@ -54,6 +54,12 @@ def number(value: Fraction) -> str:
             else f"{text} ({dyadic(value)})")
 
 
+def quotient(first, second):
+    """Returns the quotient of two intervals; a divisor that may be zero makes it endless."""
+    low, high = second
+    return times(first, (1 / high, 1 / low)) if low * high > 0 else (-ENDLESS, ENDLESS)
+
+
 def loss(code) -> list:
     """Returns for each shift of a code what it may lose."""
     if code.word in ("mulr", "copyr"):
@@ -151,8 +157,7 @@ class Judge:
             return node.tree.value, node.tree.value
         given = [self.ranges(k) for k in node.operands]
         if node.op == "/":
-            low, high = given[1]
-            return times(given[0], (1 / high, 1 / low)) if low * high > 0 else (-ENDLESS, ENDLESS)
+            return quotient(*given)
         if node.op in JOINED:
             return JOINED[node.op](*given)
         return scaled(-1, given[0]) if node.op == "neg" else given[0]
@@ -185,15 +190,13 @@ class Judge:
             return plus(plus(plus(times(g[0], h[1]), times(g[1], h[0])), times(*h)), lost[0])
         if node.op == "/":
             top, below = minus(h[0], times(self.ranges(n), h[1])), plus(g[1], h[1])
-            spread = times(top, (1 / below[1], 1 / below[0])) if below[0] * below[1] > 0 else (Fraction(-10 ** 30),
-                Fraction(10 ** 30))
-            return plus(spread, (-unit, unit))
+            return plus(quotient(top, below), (-unit, unit))
         return scaled(-1, h[0]) if node.op == "neg" else plus(h[0], lost[0])
 
     def word_side(self, n):
         code, line = self.bundle.codes[n], self.bundle.lines[n]
-        ends = word_value(-2 ** (self.bundle.width - 1), code.point), word_value(2 ** (self.bundle.width - 1) - 1,
-            code.point)
+        most = 2 ** (self.bundle.width - 1)
+        ends = word_value(-most, code.point), word_value(most - 1, code.point)
         return Side(f"the word's value at point {code.point}", plus(line.range, line.error), ends)
 
     def divisor_sides(self, n):

@@ -71,13 +71,6 @@ def linear_of(made: Function):
     return Linear(of_states[count:], of_inputs[count:], of_states[:count], of_inputs[:count])
 
 
-def states_part(made: Function):
-    """Returns the matrix A of a function whose next states are linear in its states, products of states with inputs
-    left out, or None."""
-    found = linear_of(made)
-    return found.A if found else None
-
-
 # blocks: states that hang on one another
 
 

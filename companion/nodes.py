@@ -59,8 +59,8 @@ class Node:
 def nodes_of(made: Function) -> list:
     """Returns the nodes of a function: inputs, states, literals and operations each behind its operands, and a copy for
     each result."""
-    found = [Node("in", what=f"input {it.name}") for it in made.inputs] + [Node("st", what=f"state {it.name}")
-        for it in made.states]
+    found = [Node("in", what=f"input {it.name}") for it in made.inputs]
+    found += [Node("st", what=f"state {it.name}") for it in made.states]
     places = {it.name: k for k, it in enumerate([*made.inputs, *made.states])}
 
     def add(tree: Tree) -> int:
@@ -133,8 +133,8 @@ def match(rule: Tree, tree: Tree, found: dict) -> bool:
         if rule.name in "LK" and tree.op != "num":
             return False
         return same(found.setdefault(rule.name, tree), tree)
-    return rule.op == tree.op and len(rule.parts) == len(tree.parts) and all(match(*pair, found)
-        for pair in zip(rule.parts, tree.parts))
+    return (rule.op == tree.op and len(rule.parts) == len(tree.parts)
+            and all(match(*pair, found) for pair in zip(rule.parts, tree.parts)))
 
 
 def filled(rule: Tree, found: dict) -> Tree:

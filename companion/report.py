@@ -69,16 +69,9 @@ def page(fixd, words, bundle, bounds, judge) -> list:
              "| output | no printed value is further from the exact one than | that is at most | demanded |",
              "|---|---|---|---|"]
     for it, bound in zip(made.outputs, bounds):
-        lines.append(f"| {it.name} | {dyadic(bound)} | {at_most(bound)} | {demands_of(it)} |")
+        lines.append(f"| {it.name} | {dyadic(bound)} | {at_most(bound)} | {', '.join(it.demanded()) or 'nothing'} |")
     return [*lines, "", *worth(fixd), "", *budget_lines(bundle, judge, words.parts), *picture_lines(words),
             *sums(fixd, data, bundle, name)]
-
-
-def demands_of(it) -> str:
-    """Returns what is demanded of an output, in words."""
-    found = [f"within {as_decimal(it.error)}"] if it.error is not None else []
-    found += [f"at least {as_decimal(it.lo)}"] if it.lo is not None else []
-    return ", ".join(found + ([f"at most {as_decimal(it.hi)}"] if it.hi is not None else [])) or "nothing"
 
 
 def worth(fixd) -> list:

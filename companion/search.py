@@ -42,11 +42,6 @@ class Found:
         first = self.bundle.first_output
         return [line.range for line in self.bundle.lines[first:first + self.bundle.outputs]]
 
-    def printed_spans(self) -> list:
-        """Returns where the printed values of each output lie."""
-        first = self.bundle.first_output
-        return [plus(line.range, line.error) for line in self.bundle.lines[first:first + self.bundle.outputs]]
-
 
 def search(fixd: Fixd, data: bytes, name: str, width: int, rounding: str = "floor", tries: int = None,
            seconds: float = 600) -> Found:

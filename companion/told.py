@@ -33,6 +33,10 @@ class Told:
         for hint in self.hints:
             print(f"  to mend it: {hint}", file=file)
 
+    def stands_at(self, place, width: int) -> None:
+        """Sets the place: a line and column with the line's text, and how many characters are marked."""
+        self.line, self.column, self.text, self.width = place.line, place.column, place.text, max(1, width)
+
     def as_value(self) -> dict:
         """Returns it for a machine."""
         return {"head": self.head, "file": self.where, "line": self.line or None, "column": self.column or None,

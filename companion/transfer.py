@@ -5,7 +5,7 @@ from __future__ import annotations
 from dataclasses import dataclass
 from fractions import Fraction
 
-from .linear import BITS, ONE, Linear, Root, characteristic, common_divisor, divided, roots_of, trimmed
+from .linear import BITS, ONE, Linear, Root, characteristic, common_divisor, divided, roots_of, trimmed, whole
 
 DEEP = 400
 UNIT = 1 << DEEP
@@ -54,8 +54,7 @@ def valued(poly: list, root: Root):
     """Returns a polynomial's value at a root, as a pair of fractions rounded to 2^-BITS."""
     re, im = 0, 0
     for x in poly:
-        re, im = ((re * root.re - im * root.im) >> BITS) + (x.numerator << BITS) // x.denominator, (re * root.im
-            + im * root.re) >> BITS
+        re, im = ((re * root.re - im * root.im) >> BITS) + whole(x), (re * root.im + im * root.re) >> BITS
     return Fraction(re, ONE), Fraction(im, ONE)
 
 
@@ -140,14 +139,14 @@ def sum_of_sizes(A: list, row: list, column: list) -> Fraction:
 
 def is_same(first: Linear, second: Linear, pulses: tuple) -> bool:
     """Returns whether two systems give exactly the same answers to the same inputs."""
-    def whole(system, start):
+    def all_of(system, start):
+        if not system.states:
+            return [Fraction(1)], [[[]] * (len(system.D[0]) + 1) for _ in system.C], system.D
         columns = [[row[i] for row in system.B] for i in range(len(system.D[0]))]
-        found = transfer_of(system, [*columns,
-                                     start]) if system.states else Transfer([[[Fraction(0)]] * (len(columns) + 1)
-                                         for _ in system.C], [Fraction(1)], system.D)
+        found = transfer_of(system, [*columns, start])
         return found.below, [[trimmed(top) for top in row] for row in found.tops], system.D
 
-    return whole(first, list(pulses[0])) == whole(second, list(pulses[1]))
+    return all_of(first, list(pulses[0])) == all_of(second, list(pulses[1]))
 
 
 def difference(first: Linear, second: Linear, pulses: tuple, j: int, i: int) -> Fraction:
