@@ -17,7 +17,6 @@ from .linear import linear_of, poles_of
 from .search import Found, search
 from .sources import function_of
 from .transfer import difference, is_same
-from .told import counted
 from .width import function_in
 
 HELP = "a filter in other forms, with the bound of each"
@@ -119,6 +118,12 @@ def told_apart(made, row: Row) -> str:
     return f"at most {each} from the given function's answers, over all rows in range"
 
 
+def told_dropped(row: Row) -> str:
+    """Returns how many coefficients of a form are dropped, in words."""
+    return ("1 coefficient below 1e-10 of its neighbours is dropped" if row.dropped == 1
+            else f"{row.dropped} coefficients below 1e-10 of their neighbours are dropped") + "; the distance counts that"
+
+
 def run(words) -> int:
     """Runs the subcommand."""
     data = readable(words.file)
@@ -163,8 +168,7 @@ def write(made, system, words) -> int:
     kept = [f"{made.name} of {os.path.basename(words.file)} in another form, by fixd-tools forms --write "
             f"{words.write}: {row.what};", told_apart(made, row)]
     if row.dropped:
-        kept.append(f"{counted(row.dropped, 'coefficient')} below 1e-10 of their neighbours dropped; the distance "
-                    "counts that")
+        kept.append(told_dropped(row))
     lines = [line for it in kept for line in textwrap.wrap(it, 117, break_on_hyphens=False)]
     sys.stdout.write("".join(f"// {line}\n" for line in lines) + row.source)
     return 0
@@ -200,8 +204,7 @@ def print_table(made, rows: list, words) -> None:
         if row.why:
             print(f"{row.name}: can't be: {row.why}")
         if row.dropped:
-            print(f"{row.name}: {counted(row.dropped, 'coefficient')} below 1e-10 of their neighbours dropped; the "
-                  "distance counts that")
+            print(f"{row.name}: {told_dropped(row)}")
     if not words.no_search:
         print("bound and distance add up to how far a printed value can be from the given function's exact one")
     say_best(rows, words)

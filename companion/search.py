@@ -8,7 +8,6 @@ import time
 from dataclasses import dataclass
 
 from . import bundles
-from .exact import plus
 from .fixd import Fixd, NOT_FOUND, Trouble
 from .functions import Function
 

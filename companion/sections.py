@@ -122,9 +122,9 @@ def multiplied(a: list, b: list) -> list:
 
 
 def cascade(made: Function, system: Linear) -> Form:
-    """Sections in a row, each a shrinking rotation or a first order."""
+    """Sections in a row, each a shrinking rotation, two real poles or one."""
     sections = sections_of(*single(made, system))
-    form = Form("cascade", "sections in a row, each a shrinking rotation or a first order")
+    form = Form("cascade", "sections in a row, each a shrinking rotation, two real poles or one")
     now, names = made.inputs[0].name, names_for(made, sum(len(it.roots) for it in sections))
     outs = names_for(made, len(sections), "y")
     for k, section in enumerate(sections):
