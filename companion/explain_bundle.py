@@ -47,8 +47,10 @@ def of_other(path: str, data: bytes) -> Told:
     if looks_like_source(data):
         return Told(f"'{path}' is a source, not a bundle",
                     hints=[f"make its bundle first: fixd synth --width 16 {path} > {new}"])
-    return Told(f"'{path}' isn't a bundle: its first line isn't 'fixd bundle 1'",
-                hints=["a bundle is what 'fixd synth --width 16 FILE.fixd > FILE.bundle' writes"])
+    hints = ["a bundle is what 'fixd synth --width 16 FILE.fixd > FILE.bundle' writes"]
+    if path.endswith(".csv"):
+        hints.insert(0, f"rows come by the standard input: fixd run FILE.bundle < {path}")
+    return Told(f"'{path}' isn't a bundle: its first line isn't 'fixd bundle 1'", hints=hints)
 
 
 def looks_like_source(data: bytes) -> bool:

@@ -120,8 +120,9 @@ def told_apart(made, row: Row) -> str:
 
 def told_dropped(row: Row) -> str:
     """Returns how many coefficients of a form are dropped, in words."""
-    return ("1 coefficient below 1e-10 of its neighbours is dropped" if row.dropped == 1
-            else f"{row.dropped} coefficients below 1e-10 of their neighbours are dropped") + "; the distance counts that"
+    told = ("1 coefficient below 1e-10 of its neighbours is dropped" if row.dropped == 1
+            else f"{row.dropped} coefficients below 1e-10 of their neighbours are dropped")
+    return f"{told}; the distance counts that"
 
 
 def run(words) -> int:

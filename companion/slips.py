@@ -144,7 +144,8 @@ def slip_ensuring(it, text):
 
 def slip_equals(it, text):
     if text == "=" and it.where in ("require", "ensuring"):
-        return "ends are given by '<=' and '>=': a fixed value x is '0.5 <= x && x <= 0.5'"
+        name, value = it.near(-1), next((it.near(k) for k in (1, 2) if it.kind_near(k) == "number"), "0.5")
+        return f"ends are given by '<=' and '>=': a fixed value is '{value} <= {name} && {name} <= {value}'"
     if text == "=" and it.near(-1) in ("+", "-", "*", "/") and it.where == "body":
         return "values don't change: name the new one, as 'val next = ..'; what lasts from row to row is a state"
     if text == "=" and it.kind_near(-1) == "name":
