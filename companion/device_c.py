@@ -17,8 +17,10 @@ cc="${{CC:-cc}} -std=c99 -Wall -Wextra -O2"
 $cc -fsanitize=undefined -fno-sanitize-recover -o build/checked {name}_test.c {name}.c && build/checked &&
 $cc -o build/plain {name}_test.c {name}.c && build/plain
 """
-ARM = """  ${{ARM_CC:-arm-none-eabi-gcc}} ${{ARM_FLAGS-}} -std=gnu99 -mcpu=$1 -mthumb -Os -ffreestanding -nostdlib \\
-    -DEMULATED -Temulated/link.ld -o build/$1.elf emulated/start.c {name}_test.c {name}.c -lgcc"""
+ARM = """build() {{
+  ${{ARM_CC:-arm-none-eabi-gcc}} ${{ARM_FLAGS-}} -std=gnu99 -mcpu=$1 -mthumb -Os -ffreestanding -nostdlib \\
+    -DEMULATED -Temulated/link.ld -o build/$1.elf emulated/start.c {name}_test.c {name}.c -lgcc
+}}"""
 
 
 def files_of(plan, source: str, header: str) -> dict:

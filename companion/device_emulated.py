@@ -18,7 +18,8 @@ SECTIONS {
 
 
 def emulated_script(build: str, compiler: str, hint: str) -> str:
-    """Returns the script that builds the test for a Cortex-M0 and an M4 and runs it under qemu."""
+    """Returns the script that builds the test for a Cortex-M0 and an M4, by a function `build`, and runs it under
+    qemu."""
     return f"""#!/bin/sh
 # the rows on an emulated Cortex-M0 and M4; it says loudly what isn't there
 cd "$(dirname "$0")" || exit 1
@@ -32,9 +33,7 @@ lacking() {{
 
 command -v "$qemu" > /dev/null || lacking ": qemu-system-arm isn't there (Debian: qemu-system-arm)"
 
-build() {{
 {build}
-}}
 
 for kind in cortex-m0:microbit cortex-m4:mps2-an386; do
   cpu=${{kind%%:*}}
