@@ -270,7 +270,8 @@ build() {
     $link -C link-args=-Temulated/link.ld -o "build/$1.elf" emulated/main.rs
 }"""
 
-BUILTINS = """//! Stands for the compiler's own library where `core` is built from its sources: gcc's has what a step calls.
+BUILTINS = """//! Stands for the compiler's own library where `core` is built from its sources. What a step calls of it,
+//! gcc's has.
 #![feature(compiler_builtins)]
 #![compiler_builtins]
 #![no_std]

@@ -178,7 +178,7 @@ def write(made, system, words) -> int:
 def value_of(row: Row) -> dict:
     """Returns a row for a machine."""
     out = {"form": row.name, "what": row.what, "why_not": row.why or None, "dropped": row.dropped,
-           "apart": row.apart and [float(x) for x in row.apart]}
+           "apart": row.apart and [float(x) for x in row.apart], "source": row.source or None}
     if row.found is not None:
         out.update({"found": row.found.is_found, "seconds": round(row.found.seconds, 3),
                     "bounds": [dyadic(x) for x in row.found.bounds()] if row.found.is_found else None})
