@@ -11,8 +11,9 @@ from .told import Told, counted
 
 MISSING_MARKS = {"", "nan", "na", "n/a", "null", "none", "inf", "-inf", "+inf", "infinity", "-infinity", "-", "--", "?",
                  "missing", "undefined"}
-DROP = ("where the sensor has no value, drop such rows before the run (docs/recipes.md, 'Rows that may be bad'): "
-        "nothing is certified of them")
+DROP = "where the sensor has no value, drop such rows before the run: awk -F, '${column} != \"{text}\"' ROWS"
+NO_UNITS = ("a column '{name}' has to say which device a row is of, by a number from 0 on; of one device alone: "
+            "fixd run FILE < ROWS")
 COMMA = "a decimal comma? the decimal point is a point, and commas part the fields: "
 
 
@@ -123,7 +124,9 @@ def of_missing(rows: Rows, name: str) -> Told:
         like = ([text for text in shown if text.lower() == name.lower()]
                 or difflib.get_close_matches(name, shown, 1, 0.6))
         hints = ([f"is '{like[0]}' meant? capitals count: sed '1s/\\b{like[0]}\\b/{name}/' ROWS"] if like
-                 else [f"name the column of this input '{name}'"])
+                 else [NO_UNITS.format(name=name)] if name not in [it.name for it in rows.inputs]
+                 else [f"name the column of this input '{name}', as: sed '1s/\\b{shown[-1]}\\b/{name}/' ROWS, if it "
+                       f"is '{shown[-1]}'"])
         quoted = [text for text in shown if '"' in text]
         hints += ["a quote counts as such only where the field begins with it"] if quoted else []
     return Told(head, "", rows.number, 1, line, max(1, len(line)), notes=notes, hints=hints)
@@ -173,10 +176,10 @@ def of_number(rows: Rows, name: str) -> Told:
         return at_field(rows, name, column, f"a quote opens here and doesn't close, so that the field is '{text}'",
                         "close the quote or take it out")
     if not text:
-        return at_field(rows, name, column, "the field is empty", "fill it in; " + DROP)
+        return at_field(rows, name, column, "the field is empty", "fill it in; " + drop(text, column))
     if value is not None:
         return at_field(rows, name, column, *too_long(text, value))
-    return at_field(rows, name, column, f"'{text}' is no number", number_hint(text, rows))
+    return at_field(rows, name, column, f"'{text}' is no number", number_hint(text, rows, column))
 
 
 def too_long(text: str, value) -> tuple:
@@ -196,11 +199,16 @@ def round_to(value, places):
     return round(value * 10 ** places) / type(value)(10 ** places)
 
 
-def number_hint(text: str, rows: Rows) -> str:
+def drop(text: str, column: int) -> str:
+    """Returns how rows with a text in a column, counted from 0, are dropped."""
+    return DROP.format(column=column + 1, text=text.replace("'", "."))
+
+
+def number_hint(text: str, rows: Rows, column: int) -> str:
     if "\u2212" in text or "\u2013" in text:
         return "this is the typographic minus: write '-': sed 's/\u2212/-/g' ROWS"
     if text.lower() in MISSING_MARKS:
-        return DROP
+        return drop(text, column)
     if rows.header is not None and text in [field.text for field in fields_of(rows.header)]:
         return "this is the header once more: where files were put together, leave out all but the first one's"
     if text.startswith(("#", "//")):
@@ -215,12 +223,13 @@ def number_hint(text: str, rows: Rows) -> str:
     if re.fullmatch(r"\d{4}-\d\d-\d\d.*|\d\d?:\d\d.*", text):
         return "this looks like a date or a time: is the column's name the right one? other columns may hold it"
     if shape and re.fullmatch(r"\s*[A-Za-z%\u00b0/\u00b5\u03a9]+", text[shape.end():]):
-        return f"without its unit: {shape[0]}: the unit belongs to the column, not to the field"
+        part = f", or {as_decimal(read_decimal(shape[0]) / 100)}" if text.endswith("%") else ""
+        return f"without its unit: {shape[0]}{part}: the unit belongs to the column, not to the field"
     if text.lower() in ("true", "false", "on", "off", "yes", "no"):
         return "write 1 or 0"
     if ";" in text or "\t" in text:
         return separator_of(text, [])
-    return "a number is a decimal as -1.5 or 2e-3; " + DROP
+    return "a number is a decimal as -1.5 or 2e-3; " + drop(text, column)
 
 
 def of_range(rows: Rows, name: str) -> Told:
@@ -237,7 +246,7 @@ def of_range(rows: Rows, name: str) -> Told:
              "its sensor can give in 'require', "
              "and make the bundle anew"]
     if abs(value) >= 99 and set(re.sub(r"\D", "", text)) == {"9"}:
-        hints.insert(0, "this looks like a mark for a missing value: drop such rows")
+        hints.insert(0, "this looks like a mark for a missing value; " + drop(text, column))
     if len(fields) > len(fields_of(rows.header or "")):
         columns = len(fields_of(rows.header or ""))
         hints.insert(0, COMMA + f"this row has {len(fields)} fields, and the header {columns}")
