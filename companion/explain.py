@@ -205,7 +205,11 @@ def source_told(call, kind: str, at: int) -> Told:
                     hints=[f"its source is the lines behind the second: tail -n +3 {call.file} begins with it; "
                     f"count=$(sed -n '2s/source //p' {call.file}); tail -n +3 {call.file} | head -c $count > {name}"])
     if call.command == "synth":
-        return explain_source.told(data, kind, at, call.file, call.options.get("--function"))
+        found = explain_source.told(data, kind, at, call.file, call.options.get("--function"))
+        if call.file.endswith(".csv"):
+            found.hints.insert(0, "these look like rows: synth takes a source, as FILE.fixd, and 'fixd run' rows, by the "
+                                  "standard input")
+        return found
     count = int(data.split(b"\n", 2)[1].split()[1])
     return explain_source.told(data.split(b"\n", 2)[2][:count], kind, at, call.file, parsed(data).name, first_line=3)
 
