@@ -11,7 +11,7 @@ from fractions import Fraction
 sys.path.insert(0, os.path.join(os.path.dirname(os.path.abspath(__file__)), ".."))
 from companion import linear
 from companion.exact import NOTHING, plus, scaled
-from companion.linear import BITS, ONE, whole
+from companion.polynomials import BITS, ONE, whole
 from companion.sources import functions_of
 
 LONGEST = 1 << 21

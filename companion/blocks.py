@@ -6,7 +6,8 @@ from fractions import Fraction
 
 from .form import Form, Impossible, from_matrices, near_decimal
 from .functions import Function
-from .linear import Linear, Root, responses
+from .linear import Linear, responses
+from .polynomials import Root
 from .transfer import over, poles, residues, times, transfer_of
 
 # poles nearly coincide where they are apart by less than this part of their distance from the unit circle

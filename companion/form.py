@@ -19,21 +19,27 @@ class Impossible(Exception):
 
 @dataclass
 class Sum:
-    """A sum of names, each times a coefficient, with a number that stands alone: one line of a form."""
+    """A sum of names, each times a coefficient, with a number that stands alone: one line of a form. `small` has the
+    coefficients that are next to nothing beside the others."""
     terms: dict
+    small: dict
     alone: Fraction = Fraction(0)
 
 
 @dataclass
 class Form:
-    """A form: its states with starts, its `val`s, outputs and next states, each a sum, and what was dropped."""
+    """A form: its states with starts, its `val`s, outputs and next states, each a sum."""
     name: str
     what: str
     starts: list = field(default_factory=list)
     vals: list = field(default_factory=list)
     outputs: list = field(default_factory=list)
     nexts: list = field(default_factory=list)
-    dropped: int = 0
+
+    @property
+    def dropped(self) -> int:
+        """How many coefficients are next to nothing beside their neighbours."""
+        return sum(len(one.small) for one in [*(one for _, one in self.vals), *self.outputs, *self.nexts])
 
 
 def rounded(value: Fraction) -> Fraction:
@@ -45,19 +51,13 @@ def rounded(value: Fraction) -> Fraction:
     raise Impossible("a coefficient is too great for a source")
 
 
-def cleaned(form: Form, terms: dict, alone=Fraction(0)) -> Sum:
-    """Returns a sum with coefficients that a source may have; those that are next to nothing beside the others are
-    dropped and counted."""
-    most = max([abs(x) for x in terms.values()], default=Fraction(0))
-    kept = {}
+def cleaned(terms: dict, alone=Fraction(0)) -> Sum:
+    """Returns a sum with coefficients that a source may have."""
+    most, made = max([abs(x) for x in terms.values()], default=Fraction(0)), Sum({}, {}, rounded(alone))
     for name, x in terms.items():
-        if abs(x) < LOST:
-            continue
-        if abs(x) < most * SMALL or not rounded(x):
-            form.dropped += 1
-        else:
-            kept[name] = rounded(x)
-    return Sum(kept, rounded(alone))
+        if abs(x) >= LOST:
+            (made.small if abs(x) < most * SMALL or not rounded(x) else made.terms)[name] = rounded(x)
+    return made
 
 
 def near_decimal(value: Fraction, digits: int = 2) -> Fraction:
@@ -85,14 +85,16 @@ def from_matrices(made: Function, name: str, what: str, system: Linear, starts: 
     inputs = [it.name for it in made.inputs]
     for rows, into in ((zip(system.C, system.D), form.outputs), (zip(system.A, system.B), form.nexts)):
         for of_states, of_inputs in rows:
-            into.append(cleaned(form, {**dict(zip(inputs, of_inputs)), **dict(zip(states, of_states))}, of_inputs[-1]))
+            into.append(cleaned({**dict(zip(inputs, of_inputs)), **dict(zip(states, of_states))}, of_inputs[-1]))
     return form
 
 
-def sum_text(one: Sum) -> str:
-    """Returns a sum as a source writes it."""
+def sum_text(one: Sum, is_whole: bool) -> str:
+    """Returns a sum as a source writes it, with its small terms where it is to be whole."""
     out = ""
-    for name, x in one.terms.items():
+    for name, x in {**one.terms, **(one.small if is_whole else {})}.items():
+        if not x:
+            continue
         text = name if abs(x) == 1 else f"{as_decimal(abs(x))} * {name}"
         out += f" {'-' if x < 0 else '+'} {text}" if out else ("-" if x < 0 else "") + text
     if one.alone or not out:
@@ -100,8 +102,9 @@ def sum_text(one: Sum) -> str:
     return out
 
 
-def source_of(made: Function, form: Form) -> str:
-    """Returns the source of a form, with ranges, errors and demands as they were."""
+def source_of(made: Function, form: Form, is_whole: bool = False) -> str:
+    """Returns the source of a form, with ranges, errors and demands as they were; coefficients that are next to nothing
+    are left out, or kept where it is to be whole."""
     inputs = ", ".join(f"{it.name}: Real" for it in made.inputs)
     states = ", ".join(f"{name}: Real = {as_decimal(start)}" for name, start in form.starts)
     count = len(form.outputs) + len(form.nexts)
@@ -110,8 +113,8 @@ def source_of(made: Function, form: Form) -> str:
                   + (f" && {it.name} +/- {as_decimal(it.off)}" if it.off else "") for it in made.inputs]
     lines = [f"def {made.name}({inputs}){f'({states})' if states else ''}: {kind} = {{",
               f"  require({' && '.join(conditions)})"]
-    lines += [f"  val {name} = {sum_text(one)}" for name, one in form.vals]
-    results = [sum_text(one) for one in [*form.outputs, *form.nexts]]
+    lines += [f"  val {name} = {sum_text(one, is_whole)}" for name, one in form.vals]
+    results = [sum_text(one, is_whole) for one in [*form.outputs, *form.nexts]]
     lines += [f"  {results[0]}"] if count == 1 else ["  (" + ",\n   ".join(results) + ")"]
     demands = [text for it in made.outputs for text in demands_of(it)]
     names = made.outputs[0].name if made.count == 1 else f"({', '.join(it.name for it in made.outputs)})"

@@ -26,6 +26,8 @@ comes to. 'expanded' has outputs and vals multiplied out of the next states; 'ca
 row or side by side, a shrinking rotation for each pair of poles; 'balanced' and 'direct' are what they are called.
 Standard library only."""
 
+# what answers may be apart for coefficients that are left out, over the greatest input
+NOTHING = Fraction(1, 10 ** 13)
 CENTRED = {"centred": "each result and val that is a sum is rounded by '1 * (..)'",
            "partial": "each sum is rounded by '1 * (..)'"}
 
@@ -89,9 +91,21 @@ def row_of(made, system, name: str) -> Row:
         return Row(name, "", why=str(fault) or "its numbers leave what can be computed")
     row = Row(name, form.what, source_of(made, form), dropped=form.dropped)
     row.apart = distances(made, system, row.source)
+    if row.dropped:
+        whole = Row(name, form.what, source_of(made, form, True))
+        whole.apart = distances(made, system, whole.source)
+        row = row if counts_for_nothing(made, row, whole) else whole
     if None in row.apart:
         row.why = "how far it is from the given one can't be bounded"
     return row
+
+
+def counts_for_nothing(made, row: Row, whole: Row) -> bool:
+    """Returns whether what a form leaves out is next to nothing beside the inputs too."""
+    if None in row.apart or None in whole.apart:
+        return None in whole.apart
+    most = max(greatest((it.lo, it.hi)) for it in made.inputs)
+    return all(x <= y + most * NOTHING for x, y in zip(row.apart, whole.apart))
 
 
 def centred_row(made, row: Row, how: str) -> Row:

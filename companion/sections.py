@@ -7,7 +7,8 @@ from fractions import Fraction
 from .blocks import block_scale
 from .form import Form, Impossible, Sum, cleaned, from_matrices, names_for, near_decimal
 from .functions import Function
-from .linear import Linear, Root, responses, roots_of, trimmed
+from .linear import Linear, responses
+from .polynomials import Root, roots_of, trimmed
 from .transfer import transfer_of
 
 
@@ -64,6 +65,8 @@ def two_by_two(groups: list, many: int) -> list:
     alone = sorted((group for group in groups if len(group) == 1), key=lambda group: group[0].size())
     out = [group for group in groups if len(group) == 2]
     while len(out) < many:
+        if len(alone) < 2:
+            raise Impossible("its zeros can't be told apart")
         out.append([*alone.pop(), *alone.pop()])
     return sorted(out + alone, key=lambda group: -group[0].size())
 
@@ -144,11 +147,11 @@ def add_section(form: Form, section: Section, now: str, mine: list) -> Sum:
     root, scale = section.roots[0], block_scale(section.roots[0])
     first = section.top[1] - section.below[1] * section.top[0]
     if len(mine) == 1:
-        form.nexts.append(cleaned(form, {now: scale, mine[0]: root.real}))
-        return cleaned(form, {now: section.top[0], mine[0]: first / scale})
+        form.nexts.append(cleaned({now: scale, mine[0]: root.real}))
+        return cleaned({now: section.top[0], mine[0]: first / scale})
     rest, other = section.top[2] - section.below[2] * section.top[0], section.roots[1]
     back, on = (-root.imag, root.imag) if root.im else (Fraction(0), block_scale(other))
-    form.nexts.append(cleaned(form, {now: scale, mine[0]: root.real, mine[1]: back}))
-    form.nexts.append(cleaned(form, {mine[0]: on, mine[1]: other.real}))
+    form.nexts.append(cleaned({now: scale, mine[0]: root.real, mine[1]: back}))
+    form.nexts.append(cleaned({mine[0]: on, mine[1]: other.real}))
     second = (rest + other.real * first) / on
-    return cleaned(form, {now: section.top[0], mine[0]: first / scale, mine[1]: second / scale})
+    return cleaned({now: section.top[0], mine[0]: first / scale, mine[1]: second / scale})

@@ -5,7 +5,8 @@ from __future__ import annotations
 from dataclasses import dataclass
 from fractions import Fraction
 
-from .linear import BITS, ONE, Linear, Root, characteristic, common_divisor, divided, roots_of, trimmed, whole
+from .linear import Linear, characteristic
+from .polynomials import BITS, ONE, Root, common_divisor, divided, roots_of, trimmed, whole
 
 DEEP = 400
 UNIT = 1 << DEEP
