@@ -11,7 +11,7 @@ from .polynomials import Root
 from .transfer import over, poles, residues, times, transfer_of
 
 # poles nearly coincide where they are apart by less than this part of their distance from the unit circle
-NEAR = 0.1
+NEAR = 0.5
 DIGITS = 300
 
 

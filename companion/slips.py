@@ -181,7 +181,8 @@ def slip_brace(it, text):
     if it.known.get("outside") and it.near(-1) != "":
         return "behind a function only another 'def', or 'ensuring(..)', may stand" if it.kind_near(-1) else None
     if it.known.get("outside"):
-        return "a source begins with 'def', after 'import' lines and one 'object NAME {' if you like"
+        return ("a source begins with 'def', as 'def f(x: Real): Real = { require(0 <= x && x <= 1) 0.5 * x }', after "
+                "'import' lines and one 'object NAME {' if you like")
     if it.where == "require" and text != "require" and not it.known.get("condition"):
         return "in the braces 'require(..)' comes first" if it.near(-1) == "{" else None
 
