@@ -4,12 +4,15 @@ from __future__ import annotations
 
 from dataclasses import dataclass
 from fractions import Fraction
+from math import ceil
 
 from .linear import Linear, characteristic
 from .polynomials import BITS, ONE, Root, common_divisor, divided, roots_of, trimmed, whole
 
 DEEP = 400
 UNIT = 1 << DEEP
+# a response is summed until the rest is bounded by so little, in units of 2^-DEEP, or for so many steps
+FADED, LONGEST = UNIT // 10 ** 30, 1 << 19
 
 
 @dataclass
@@ -93,18 +96,18 @@ def norm(a, off=0):
 
 
 def growth(A: list):
-    """Returns a bound of the sum over t of the norm of A^t, as a fraction, or None where none is found.
+    """Returns a bound of the sum over t of the norm of A^t, a whole number, or None where none is found.
 
     A^(2^k) is squared in whole numbers, with what each entry may be off, until its norm is below 1/2.
     """
     size = len(A)
     power = [[(x.numerator << DEEP) // x.denominator for x in row] for row in A]
-    off, below, count = 1, Fraction(1), 1
+    off, total = 1, Fraction(1)
     for _ in range(40):
         now = Fraction(norm(power, off), UNIT)
         if now < Fraction(1, 2):
-            return below * count / (1 - now)
-        below, count = below * max(Fraction(1), now), count * 2
+            return ceil(total / (1 - now))
+        total *= 1 + now
         top = norm(power, off)
         if top >> (DEEP + 200):
             return None
@@ -123,16 +126,16 @@ def sum_of_sizes(A: list, row: list, column: list) -> Fraction:
               for j in range(size)]
     push = [(x.numerator << DEEP) // x.denominator for x in column]
     image = [(x.numerator << DEEP) // x.denominator for x in row]
-    widest = max([abs(x) for x in column], default=Fraction(0)) + 1
+    widest = ceil(max([abs(x) for x in column], default=Fraction(0))) + 1
     # what an image is off in all: each step rounds each entry by less than size + 1 units, and that comes through by
     # `total`
     off = Fraction(size * (size + 2), UNIT) * total * (sum(abs(x) for x in row) + 1)
     found, steps = 0, 0
-    while steps < 1 << 16:
+    while steps < LONGEST:
         found += abs(sum(x * y for x, y in zip(image, push)) >> DEEP) + 2
         image = [sum(image[k] * x for k, x in line) >> DEEP for line in turned]
         steps += 1
-        if steps % 16 == 0 and Fraction(sum(map(abs, image)), UNIT) * total * widest < Fraction(1, 10 ** 40):
+        if steps % 16 == 0 and sum(map(abs, image)) * total * widest < FADED:
             break
     tail = (Fraction(sum(map(abs, image)), UNIT) + size * off) * total * widest
     return Fraction(found, UNIT) + steps * size * off * widest + tail
