@@ -12,7 +12,7 @@ from .linear import Linear
 def balanced(made: Function, system: Linear) -> Form:
     """States that are driven and read alike, from the blocks side by side where these can be had."""
     try:
-        base, starts, _ = parallel_system(made, system)
+        base, starts = parallel_system(made, system)
     except Impossible:
         base, starts = system, [it.start for it in made.states]
     size = base.states

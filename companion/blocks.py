@@ -46,7 +46,7 @@ def clusters_of(found: list) -> list:
 
 
 def parallel_system(made: Function, system: Linear):
-    """Returns matrices of blocks side by side, the starts, and whether all poles are apart."""
+    """Returns matrices of blocks side by side, and the starts."""
     starts = [it.start for it in made.states]
     columns = [[row[i] for row in system.B] for i in range(len(made.inputs) + 1)]
     kept = [i for i, column in enumerate(columns) if any(column)]
@@ -54,12 +54,16 @@ def parallel_system(made: Function, system: Linear):
     if not driven:
         raise Impossible("nothing drives its states")
     transfer = transfer_of(system, driven)
-    clusters = clusters_of(poles(transfer))
+    found = poles(transfer)
+    clusters = clusters_of(found)
     are_apart = all(len(cluster) == 1 for cluster in clusters)
-    A, B, C = (apart([root for root, in clusters], transfer) if are_apart else in_rows(clusters, system, driven))
+    if are_apart or all(many == 1 for _, many in found) and min(len(driven), len(system.C)) > 1:
+        A, B, C = apart([root for cluster in clusters for root in cluster], transfer)
+    else:
+        A, B, C = in_rows(clusters, system, driven)
     begins = [row[len(kept)] if any(starts) else Fraction(0) for row in B]
     spread = [[row[kept.index(i)] if i in kept else Fraction(0) for i in range(len(columns))] for row in B]
-    return Linear(A, spread, C, system.D), begins, are_apart
+    return Linear(A, spread, C, system.D), begins
 
 
 def apart(roots: list, transfer):
@@ -95,7 +99,7 @@ def in_rows(clusters: list, system: Linear, driven: list):
     if len(system.C) == 1:
         B = [solved(A, column, answers(system, system.C[0], one, len(A))) for one in driven]
         return [list(row) for row in zip(*A)], [list(row) for row in zip(*B)], [column]
-    raise Impossible("poles nearly coincide: for several inputs and outputs these can't be had in a row")
+    raise Impossible("poles coincide: for several inputs and outputs these can't be had in a row")
 
 
 def rows_of(clusters: list):
@@ -154,7 +158,7 @@ def solved(A: list, column: list, wanted: list) -> list:
 
 def parallel(made: Function, system: Linear) -> Form:
     """Blocks side by side: a first order for each real pole, a rotation that shrinks for each pair."""
-    found, starts, are_apart = parallel_system(made, system)
-    what = "blocks side by side: a first order for each real pole, a shrinking rotation for each pair"
-    return from_matrices(made, "parallel", what + ("" if are_apart else "; poles that nearly coincide stand in a row"),
-                         found, starts)
+    found, starts = parallel_system(made, system)
+    what = ("blocks side by side: a first order for each real pole, a shrinking rotation for each pair; poles that "
+            "nearly coincide stand in a row")
+    return from_matrices(made, "parallel", what, found, starts)
