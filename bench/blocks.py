@@ -1,12 +1,12 @@
 #!/usr/bin/env python3
 """Runs rows of programs without state in blocks and alone, and compares: blocks.py [PROGRAM]
 
-`run` may carry out sixteen rows at once. Each row of a program is run by itself first, which goes one after the other. Then inputs of 1 to 35 of
-these rows go through in one read, in pieces of 1, 2 and 4,096 bytes and of random sizes, with a blank line, a quoted field, a missing last line feed, and
-with a bad row at each place: what is printed has to be the lines of the single rows, up to the bad one. Rows that are sent one at a time have
-to be answered before the next is sent. The programs: five bundles of the examples, and what `synth` finds for five sources of examples/ at all
-widths, rounding down and to the nearest.
-A difference ends the script with 1. Outside the gate: it needs a built program.
+`run` may carry out sixteen rows at once. Each row of a program is run by itself first, which goes one after the other.
+Then inputs of 1 to 35 of these rows go through in one read, in pieces of 1, 2 and 4,096 bytes and of random sizes, with
+a blank line, a quoted field, a missing last line feed, and with a bad row at each place: what is printed has to be the
+lines of the single rows, up to the bad one. Rows that are sent one at a time have to be answered before the next is
+sent. The programs: five bundles of the examples, and what `synth` finds for five sources of examples/ at all widths,
+rounding down and to the nearest. A difference ends the script with 1. Outside the gate: it needs a built program.
 """
 import glob
 import os
@@ -20,7 +20,8 @@ import tempfile
 HERE = os.path.dirname(os.path.abspath(__file__))
 EXAMPLES = os.path.join(HERE, "..", "examples")
 PROGRAM = os.path.abspath(sys.argv[1] if len(sys.argv) > 1 else os.path.join(HERE, "..", "build", "fixd"))
-SOURCES = ["daisy/kepler.fixd kepler1", "daisy/turbine.fixd turbine1", "daisy/bsplines.fixd bspline2", "fpbench/carbon_gas.fixd carbonGas", "smooth/smooth.fixd smooth"]
+SOURCES = ["daisy/kepler.fixd kepler1", "daisy/turbine.fixd turbine1", "daisy/bsplines.fixd bspline2",
+           "fpbench/carbon_gas.fixd carbonGas", "smooth/smooth.fixd smooth"]
 
 
 def ranges_of(source):
@@ -32,14 +33,16 @@ def ranges_of(source):
 
 def bundles(folder):
     """Yields the path of each bundle, with the inputs of its function."""
-    for path in ("half/half.bundle", "mix/mix.bundle", "balance/balance.bundle", "parallel/parallel.bundle", "nearest/nearest.bundle"):
+    for path in ("half/half.bundle", "mix/mix.bundle", "balance/balance.bundle", "parallel/parallel.bundle",
+                 "nearest/nearest.bundle"):
         yield os.path.join(EXAMPLES, path)
     for source in SOURCES:
         name, function = source.split()
         for width in (8, 16, 24, 32, 40, 48, 56, 64):
             for rounding in ("floor", "nearest"):
                 path = f"{folder}/{function}.{width}.{rounding}.bundle"
-                words = [PROGRAM, "synth", "--width", str(width), "--round", rounding, "--tries", "20", "--function", function, os.path.join(EXAMPLES, name)]
+                words = [PROGRAM, "synth", "--width", str(width), "--round", rounding, "--tries", "20", "--function",
+                         function, os.path.join(EXAMPLES, name)]
                 found = subprocess.run(words, capture_output=True)
                 if found.returncode == 0:
                     with open(path, "wb") as file:
@@ -58,7 +61,8 @@ def function_of(path):
 
 def run(path, text, size=0):
     """Runs an input, in pieces of this size where there is one. Gives status and output."""
-    child = subprocess.Popen([PROGRAM, "run", path], stdin=subprocess.PIPE, stdout=subprocess.PIPE, stderr=subprocess.DEVNULL)
+    child = subprocess.Popen([PROGRAM, "run", path], stdin=subprocess.PIPE, stdout=subprocess.PIPE,
+                             stderr=subprocess.DEVNULL)
     if not size:
         out, _ = child.communicate(text.encode())
         return child.returncode, out.decode()
@@ -97,7 +101,8 @@ def alone(path, head, rows, lines):
 def tried(path, draw):
     inputs = ranges_of(function_of(path))
     head = ",".join(name for name, _, _ in inputs) + "\n"
-    rows = [",".join(f"{low + (high - low) * draw.uniform(0.001, 0.999):.6f}" for _, low, high in inputs) + "\n" for _ in range(35)]
+    rows = [",".join(f"{low + (high - low) * draw.uniform(0.001, 0.999):.6f}" for _, low, high in inputs) + "\n"
+            for _ in range(35)]
     status, first = run(path, head)
     same("no row", path, status, 0)
     lines = []
@@ -115,9 +120,11 @@ def tried(path, draw):
         with_blank = head + "".join(rows[:place]) + "\r\n\n" + "".join(rows[place:count])
         same(f"a blank line before row {place} of {count}", path, run(path, with_blank), (0, page))
         quoted = '"' + rows[place].replace(",", '","')[:-1] + '"\n'
-        same(f"row {place} of {count} quoted", path, run(path, head + "".join(rows[:place]) + quoted + "".join(rows[place + 1:count])), (0, page))
+        same(f"row {place} of {count} quoted", path,
+             run(path, head + "".join(rows[:place]) + quoted + "".join(rows[place + 1:count])), (0, page))
         bad = head + "".join(rows[:place]) + "x\n" + "".join(rows[place:count])
-        same(f"a bad row at place {place} of {count}", path, run(path, bad, draw.choice([0, 5])), (5, first + "".join(lines[:place])))
+        same(f"a bad row at place {place} of {count}", path, run(path, bad, draw.choice([0, 5])),
+             (5, first + "".join(lines[:place])))
         calls += 7
     alone(path, head, rows[:20], [first] + lines)
     return calls

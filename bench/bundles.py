@@ -1,9 +1,10 @@
 #!/usr/bin/env python3
 """Writes a bundle that is accepted and long in one way, or one whose last line is wrong: bundles.py KIND > BUNDLE
 
-KIND is `columns` (a sum of 8 inputs), `plain` (4,000 nodes), `forms` (4,000 nodes, each operation with a form over 64 inputs and
-32 states), `rows` (512 templates and 512 error templates of 32 states, each with 64 shares), `steps` (10,000 steps on 2,000 nodes),
-`root` (10,000 steps at the root of a tree of 4,000 nodes) or `long` (16 MB of forms and shares; its last line is wrong, so that nothing but its reading is measured).
+KIND is `columns` (a sum of 8 inputs), `plain` (4,000 nodes), `forms` (4,000 nodes, each operation with a form over 64
+inputs and 32 states), `rows` (512 templates and 512 error templates of 32 states, each with 64 shares), `steps` (10,000
+steps on 2,000 nodes), `root` (10,000 steps at the root of a tree of 4,000 nodes) or `long` (16 MB of forms and shares;
+its last line is wrong, so that nothing but its reading is measured).
 """
 import random
 import sys
@@ -28,7 +29,8 @@ def shares_text(shares):
 def text(source, name, width, sizes, codes, lines, starts=(), rows=((), ()), steps=(), end="end"):
     """A bundle's text. Templates are given as coefficients, interval and shares."""
     inputs, states, outputs = sizes
-    parts = ["fixd bundle 1", f"source {len(source)}", source, "program", "fixd program 1", f"width {width}", f"name {name}"]
+    parts = ["fixd bundle 1", f"source {len(source)}", source, "program", "fixd program 1", f"width {width}",
+             f"name {name}"]
     parts += [words("sizes", inputs, states, outputs, len(codes)), *codes, "certificate", "fixd certificate 1"]
     parts += [words("sizes", inputs, states, len(codes)), words("steps", len(steps)), *steps, *starts]
     parts.append(words("rows", len(rows[0]), len(rows[1])))
@@ -50,7 +52,8 @@ def plain(low, high, error_low, error_high):
 def columns():
     """The sum of 8 inputs from -1 to 1."""
     names = [f"u{k}" for k in range(8)]
-    source = f"def total({', '.join(n + ': Real' for n in names)}): Real = {{ require({ranges(names)}) {' + '.join(names)} }}"
+    source = (f"def total({', '.join(n + ': Real' for n in names)}): Real = {{ require({ranges(names)}) "
+              f"{' + '.join(names)} }}")
     codes = [f"in {k} {POINT}" for k in range(8)]
     lines = [plain(-1, 1, -1, 0)] * 8
     for k in range(1, 8):
@@ -90,7 +93,8 @@ def variables(inputs, states):
 
 def form(low, high, error_low, error_high, coefficients, by="0 0"):
     """A form without rest, whose range and error are the bound of its coefficients."""
-    return words("form", dyadic(low), dyadic(high), dyadic(error_low, POINT), dyadic(error_high, POINT), "0:0 0:0", *coefficients,
+    return words("form", dyadic(low), dyadic(high), dyadic(error_low, POINT), dyadic(error_high, POINT), "0:0 0:0",
+                 *coefficients,
                  "0:0 0:0 0:0 0:0", by)
 
 
@@ -197,10 +201,13 @@ def long():
     lines = [plain(-1, 1, -1, 0)] * every
     for _ in range(nodes - every):
         lines.append(words("form", *(number() for _ in range(6 + every + 4)), some(26), some(26)))
-    group = [([number() for _ in range(states)], f"{number()} {number()}", [(row, number()) for row in range(0, 512, 8)]) for _ in range(count)]
-    return text(source, "f", 32, (inputs, states, 1), codes, lines, ["start 0:0 0:0 0:0 0:0"] * states, (group, group), end="fin")
+    group = [([number() for _ in range(states)], f"{number()} {number()}",
+              [(row, number()) for row in range(0, 512, 8)]) for _ in range(count)]
+    return text(source, "f", 32, (inputs, states, 1), codes, lines, ["start 0:0 0:0 0:0 0:0"] * states, (group, group),
+                end="fin")
 
 
-KINDS = {"columns": columns, "plain": plain_nodes, "forms": forms, "rows": rows, "steps": steps, "root": root, "long": long}
+KINDS = {"columns": columns, "plain": plain_nodes, "forms": forms, "rows": rows, "steps": steps, "root": root,
+         "long": long}
 if __name__ == "__main__":
     sys.stdout.write(KINDS[sys.argv[1]]())

@@ -19,15 +19,18 @@ class Fixd:
 
     def call(self, words, **options):
         """Returns what the program prints, or None where nothing is found; any other status ends the script."""
-        ran = subprocess.run([self.program, *words], stdout=subprocess.PIPE, stderr=subprocess.PIPE, text=True, **options)
+        ran = subprocess.run([self.program, *words], stdout=subprocess.PIPE, stderr=subprocess.PIPE, text=True,
+                             **options)
         if ran.returncode not in (0, 9):
             sys.exit(f"fixd {' '.join(words)}: {ran.stderr.strip()}")
         return ran.stdout if ran.returncode == 0 else None
 
     def synthesised(self, path, name, width, tries, rounding="floor", **options):
-        """Returns the bundle for the function of this name, or None where none is found, and the seconds that it took."""
+        """Returns the bundle for the function of this name, or None where none is found, and the seconds that it
+        took."""
         start = time.monotonic()
-        text = self.call(["synth", "--width", str(width), "--tries", str(tries), "--round", rounding, "--function", name, path], **options)
+        text = self.call(["synth", "--width", str(width), "--tries", str(tries), "--round", rounding, "--function",
+                          name, path], **options)
         return text, time.monotonic() - start
 
     def bounds_of(self, bundle):

@@ -7,7 +7,7 @@ import subprocess
 import tempfile
 from dataclasses import dataclass
 
-from linear import is_linear, linear_of
+from linear import linear_of
 from pages import put
 from sources import functions_of
 
@@ -42,8 +42,8 @@ def corpus(only=None):
             text = file.read()
         function = functions_of(text)[0]
         mark = text.removeprefix("// ").split(":")[0]
-        linear = linear_of(function) if is_linear(function) else None
-        found.append(Source(path, name, text, function, mark if mark in ("not found", "a limit") else "", linear))
+        found.append(Source(path, name, text, function, mark if mark in ("not found", "a limit") else "",
+                            linear_of(text)))
     return found
 
 
@@ -61,7 +61,8 @@ def bundle_kept(source, width, folder):
 
 
 def bundle_made(fixd, source, width, folder, limit, rounding="floor"):
-    """Puts the bundle of a source in the folder. Returns its file, or None where none is found in so many seconds, and the seconds."""
+    """Puts the bundle of a source in the folder. Returns its file, or None where none is found in so many seconds, and
+    the seconds."""
     path = bundle_path(folder, source, width, rounding)
     if os.path.exists(path):
         os.remove(path)
@@ -78,14 +79,16 @@ def bundle_made(fixd, source, width, folder, limit, rounding="floor"):
 
 def bundles_at(fixd, source, folder, options):
     """Returns for each width the file of the source's bundle, which is made where the folder hasn't it, or None."""
-    return [bundle_kept(source, width, folder) or bundle_made(fixd, source, width, folder, options.limit)[0] for width in options.widths]
+    return [bundle_kept(source, width, folder) or bundle_made(fixd, source, width, folder, options.limit)[0]
+            for width in options.widths]
 
 
 # ---- what the three scripts are called with, and hand out
 
 def parser_of(description):
-    """Returns a parser of the words that all of them take; the description's first line says what the script does."""
-    parser = argparse.ArgumentParser(description=description.splitlines()[0])
+    """Returns a parser of the words that all of them take; the description's first paragraph says what the script
+    does."""
+    parser = argparse.ArgumentParser(description=description.split("\n\n")[0])
     parser.add_argument("program", nargs="?", default=os.path.join(HERE, "../build/fixd"))
     parser.add_argument("--widths", type=lambda text: [int(w) for w in text.split(",")], default=[16, 24, 32])
     parser.add_argument("--only", type=lambda text: text.split(","))

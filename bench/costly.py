@@ -1,10 +1,11 @@
 #!/usr/bin/env python3
 """Writes an accepted bundle that is made to cost its checker as much as its text allows: costly.py KIND > BUNDLE
 
-KIND is `shares` (512 templates and 512 error templates of 32 states with 512 shares each, and a form over all variables with 512 shares for its
-range and as many for its error at each sum: some 43 MB), `rows` (those templates alone), `great` (forms whose coefficients are near 2^61, over 96
-variables, at 3,776 of 4,000 nodes), `quotients` (3,997 of them), `copies` (10,000 steps, each of which copies a tree of 1,990 operations or
-compares it with its copy), `name` (a function's name of half a megabyte) or `temps` (1,000 long names that differ at their ends).
+KIND is `shares` (512 templates and 512 error templates of 32 states with 512 shares each, and a form over all variables
+with 512 shares for its range and as many for its error at each sum: some 43 MB), `rows` (those templates alone),
+`great` (forms whose coefficients are near 2^61, over 96 variables, at 3,776 of 4,000 nodes), `quotients` (3,997 of
+them), `copies` (10,000 steps, each of which copies a tree of 1,990 operations or compares it with its copy), `name` (a
+function's name of half a megabyte) or `temps` (1,000 long names that differ at their ends).
 """
 import random
 import sys
@@ -24,7 +25,8 @@ def wide_rows(draw, states=32, count=512):
     """Templates and error templates with all shares; each is held with room where the next states are the input."""
     def group(interval):
         coefficients = [[dyadic(draw.randint(-64, 64), 11) for _ in range(states)] for _ in range(count)]
-        return [(row, interval, [(k, dyadic(draw.choice([-1, 1, 3]), 40)) for k in range(count)]) for row in coefficients]
+        return [(row, interval, [(k, dyadic(draw.choice([-1, 1, 3]), 40)) for k in range(count)])
+                for row in coefficients]
     return group(f"{dyadic(-4)} {dyadic(4)}"), group(f"{dyadic(-4, POINT)} {dyadic(4, POINT)}")
 
 
@@ -43,7 +45,8 @@ def sharing(count, shared):
         codes.append(f"add {0 if k == 0 else every + k - 1} {(k + 1) % every} 0 0")
         times[(k + 1) % every] += 1
         most = times[0] + 4 * sum(times[1:]) + 1
-        lines.append(form(-most, most, -most, most, [dyadic(t) for t in times], f"{some[k % 16]} {some[(k + 7) % 16]}" if shared else "0 0"))
+        lines.append(form(-most, most, -most, most, [dyadic(t) for t in times], f"{some[k % 16]} {some[(k + 7) % 16]}"
+                          if shared else "0 0"))
     codes += [f"copy {every + count - 1 if count else 0} 0"] + ["copy 0 0"] * states
     lines.append(lines[-1] if count else lines[0])
     lines += [form(-1, 1, -1, 0, [dyadic(int(j == 0)) for j in range(every)])] * states
@@ -52,7 +55,8 @@ def sharing(count, shared):
 
 def great_line(top, coefficients, error_low, error_high, rest=0, centres="0:0 0:0"):
     """A form with a range of so much to both sides, at point 0, and an error's rest from -rest to rest."""
-    return words("form", dyadic(-top), dyadic(top), dyadic(error_low), dyadic(error_high), centres, *coefficients, "0:0 0:0", dyadic(-rest),
+    return words("form", dyadic(-top), dyadic(top), dyadic(error_low), dyadic(error_high), centres, *coefficients,
+                 "0:0 0:0", dyadic(-rest),
                  dyadic(rest), "0 0")
 
 
@@ -63,11 +67,13 @@ def great():
     front, _, xs, ss = variables(inputs, states)
     count = 4000 - 3 * every - states - 1
     temps = "\n  ".join(f"val y{k} = {GREAT} * {name}" for k, name in enumerate(xs + ss))
-    chains = [f"val t{at} = {f't{at - 1}' if at else 'y0'}" + "".join(f" {'+-'[k % 2 if k >= every else 0]} y{k % every if k < every else 0}"
+    chains = [f"val t{at} = {f't{at - 1}' if at else 'y0'}"
+              + "".join(f" {'+-'[k % 2 if k >= every else 0]} y{k % every if k < every else 0}"
               for k in range(1 + 150 * at, 1 + min(150 * at + 150, count))) for at in range((count + 149) // 150)]
     lower = "\n  ".join(chains)
     results = ", ".join(["Real"] * (states + 1))
-    source = (f"def f{front}: ({results}) = {{\n  require({ranges(xs, '-0.0078125', '0.0078125')})\n  {temps}\n  {lower}\n"
+    source = (f"def f{front}: ({results}) = {{\n  require({ranges(xs, '-0.0078125', '0.0078125')})\n  {temps}\n  "
+              f"{lower}\n"
               f"  ({', '.join([f't{len(chains) - 1}', *xs[:states]])})\n}}")
     codes = [f"in {k} 62" for k in range(inputs)] + [f"st {k} 62 0" for k in range(states)]
     variable = words("plain", "-1:7 1:7 -1:62 0:0")
@@ -81,7 +87,8 @@ def great():
         other = k if k < every else 0
         sign = -1 if k >= every and k % 2 else 1
         has[other] += sign
-        codes.append(f"{'add' if sign > 0 else 'sub'} {3 * every + k - 2 if k > 1 else products[0]} {products[other]} 0 0")
+        codes.append(f"{'add' if sign > 0 else 'sub'} {3 * every + k - 2 if k > 1 else products[0]} {products[other]} "
+                     "0 0")
         lines.append(great_line((every + 1) * unit, [dyadic(GREAT * h) for h in has], -4 * k - 4, 4 * k + 4, k + 1))
     codes += [f"copy {3 * every + count - 1} 0"] + [f"copy {k} 0" for k in range(states)]
     lines += [lines[-1]] + [variable] * states
@@ -92,9 +99,11 @@ def great():
 def quotients():
     """x / y / y / .. for y = 1, at point 40; each error is a little greater than the one before."""
     count, point = 3997, 40
-    temps = [f"val t{at} = {f't{at - 1}' if at else 'x'}{' / y' * min(190, count - 190 * at)}" for at in range((count + 189) // 190)]
+    temps = [f"val t{at} = {f't{at - 1}' if at else 'x'}{' / y' * min(190, count - 190 * at)}"
+             for at in range((count + 189) // 190)]
     lower = "\n  ".join(temps)
-    source = f"def f(x: Real, y: Real): Real = {{\n  require(1 <= x && x <= 2 && 1 <= y && y <= 1)\n  {lower}\n  t{len(temps) - 1}\n}}"
+    source = (f"def f(x: Real, y: Real): Real = {{\n  require(1 <= x && x <= 2 && 1 <= y && y <= 1)\n  {lower}\n  "
+              f"t{len(temps) - 1}\n}}")
     codes, lines = [f"in 0 {point}", f"in 1 {point}"], [f"plain 1:0 1:0 -1:{point} 0:0"]
     lines.insert(0, f"plain 1:0 2:0 -1:{point} 0:0")
     for k in range(count):
@@ -151,7 +160,8 @@ def temps():
     return text(source, "f", 32, (1, 0, 1), [*codes, f"copy {place[-1]} 0"], [*lines, lines[-1]])
 
 
-KINDS = {"shares": lambda: sharing(3934, True), "rows": lambda: sharing(0, False), "great": great, "quotients": quotients, "copies": copies,
+KINDS = {"shares": lambda: sharing(3934, True), "rows": lambda: sharing(0, False), "great": great,
+         "quotients": quotients, "copies": copies,
          "name": name, "temps": temps}
 if __name__ == "__main__":
     sys.stdout.write(KINDS[sys.argv[1]]())

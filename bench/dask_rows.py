@@ -1,10 +1,11 @@
 #!/usr/bin/env python3
 """Runs rows on the workers of a Dask scheduler: dask_rows.py SCHEDULER BUNDLE ROWS .. [--block BYTES] > ANSWERS
 
-One file of ROWS is cut between rows into blocks, the header before each: right for a program without state, which this looks up in the
-bundle. Of a program with state, or where several files are given, each file is a run of its own and goes to one worker whole. The header of
-the answers stands once, first; behind it the answers of one file follow those of the other. `fixd` has to be on the workers' path, and bundle
-and rows where they can read them by the same names. A bad row ends the call with its file, its block and fixd's line.
+One file of ROWS is cut between rows into blocks, the header before each: right for a program without state, which this
+looks up in the bundle. Of a program with state, or where several files are given, each file is a run of its own and
+goes to one worker whole. The header of the answers stands once, first; behind it the answers of one file follow those
+of the other. `fixd` has to be on the workers' path, and bundle and rows where they can read them by the same names. A
+bad row ends the call with its file, its block and fixd's line.
 """
 import argparse
 import os
@@ -15,7 +16,8 @@ from distributed import Client
 
 
 def blocks(path, size):
-    """Returns from which byte to which each block goes, each to the end of a line, without the header: at least one block."""
+    """Returns from which byte to which each block goes, each to the end of a line, without the header: at least one
+    block."""
     with open(path, "rb") as file:
         at = len(file.readline())
         last = os.path.getsize(path)
@@ -36,7 +38,8 @@ def answers(bundle, path, start, end):
         rows = file.read(end - start)
     ran = subprocess.run(["fixd", "run", bundle], input=header + rows, capture_output=True)
     if ran.returncode:
-        raise ValueError(f"{path}, bytes {start} to {end}, lines counted with the header: {ran.stderr.decode().strip()}")
+        raise ValueError(f"{path}, bytes {start} to {end}, lines counted with the header: "
+                         f"{ran.stderr.decode().strip()}")
     return ran.stdout
 
 
@@ -57,7 +60,8 @@ def main():
     options = parser.parse_args()
     bundle, files = os.path.abspath(options.bundle), [os.path.abspath(path) for path in options.rows]
     is_whole = has_state(bundle) or len(files) > 1
-    work = [(path, *block) for path in files for block in blocks(path, os.path.getsize(path) if is_whole else options.block)]
+    work = [(path, *block) for path in files
+            for block in blocks(path, os.path.getsize(path) if is_whole else options.block)]
     with Client(options.scheduler) as client:
         futures = [client.submit(answers, bundle, *block) for block in work]
         for k, future in enumerate(futures):  # in order; what is written is let go

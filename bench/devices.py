@@ -1,12 +1,13 @@
 #!/usr/bin/env python3
 """Runs `fixd` against real devices that stall, fail, fill up, go away or change: devices.py [--long] [PROGRAM]
 
-Tested is what docs/messages.md and docs/formats.md say of a failed read or write, on pipes, files and devices of the system: which
-status and line come, and what stands on the output. A line of the table says what was done, what has to come, and what came. A fault is
-any other status, a line that isn't that status's, output that isn't what is due (or, where a front of it is due, no front), an
-answer that comes later than the row before it was whole, or a run that hangs. Where the page leaves several ends open, all are named. The
-script ends with 1 where there is a fault. With `--long` an input of 5 GiB comes too, some minutes. Outside the gate: it needs a built program and Linux; as root, it also reads a file
-as another user and fills a file system of 4 KiB.
+Tested is what docs/messages.md and docs/formats.md say of a failed read or write, on pipes, files and devices of the
+system: which status and line come, and what stands on the output. A line of the table says what was done, what has to
+come, and what came. A fault is any other status, a line that isn't that status's, output that isn't what is due (or,
+where a front of it is due, no front), an answer that comes later than the row before it was whole, or a run that hangs.
+Where the page leaves several ends open, all are named. The script ends with 1 where there is a fault. With `--long` an
+input of 5 GiB comes too, some minutes. Outside the gate: it needs a built program and Linux; as root, it also reads a
+file as another user and fills a file system of 4 KiB.
 """
 import contextlib
 import fcntl
@@ -76,10 +77,12 @@ class Table:
         return self.end(self.start(words, **given), data)
 
     def row(self, what, seen, ends, front=False, line=True):
-        """One line of the table. `ends` has the output that is due at each status; with `front`, any front of it will do."""
+        """One line of the table. `ends` has the output that is due at each status; with `front`, any front of it will
+        do."""
         status, output, note = seen
         due = ends.get(status)
-        right = due is not None and (output in due if isinstance(due, tuple) else due.startswith(output) if front else output == due)
+        right = (due is not None
+                 and (output in due if isinstance(due, tuple) else due.startswith(output) if front else output == due))
         if line and right and status in LINES:
             right = re.fullmatch(LINES[status], note) is not None
         self.faults += not right
@@ -115,11 +118,13 @@ def try_pieces(table, _):
                 page += line_within(child.stdout, 20)
         early = page
         status, output, note = table.end(child)
-        table.row(f"rows in pieces of {size}, each answer before the next piece", (status, early if not output else output, note), {0: PAGE})
+        table.row(f"rows in pieces of {size}, each answer before the next piece",
+                  (status, early if not output else output, note), {0: PAGE})
 
 
 def try_stalled_input(table, _):
-    """A pipe set non-blocking: a read that would wait is one that fails. What the whole lines before it give is printed."""
+    """A pipe set non-blocking: a read that would wait is one that fails. What the whole lines before it give is
+    printed."""
     for given, page in ((b"", b""), (b"u\n1", b"out1\n"), (b"u\n1\n1\n-.", b"out1\n0.5\n0.75\n")):
         source, sink = os.pipe()
         os.set_blocking(source, False)
@@ -129,12 +134,14 @@ def try_stalled_input(table, _):
 
 
 def try_signals(table, _):
-    """Signals while a read waits. A stop that is continued and an ignored signal change nothing; what ends a program ends it."""
+    """Signals while a read waits. A stop that is continued and an ignored signal change nothing; what ends a program
+    ends it."""
     pairs = [("stopped and continued", [signal.SIGSTOP, signal.SIGCONT], [], {0: PAGE}),
              ("window, child and urgent signals", [signal.SIGWINCH, signal.SIGCHLD, signal.SIGURG], [], {0: PAGE}),
              ("ignored signals", [signal.SIGHUP, signal.SIGINT, signal.SIGTERM, signal.SIGUSR1, signal.SIGALRM],
               [signal.SIGHUP, signal.SIGINT, signal.SIGTERM, signal.SIGUSR1, signal.SIGALRM], {0: PAGE}),
-             ("SIGTERM", [signal.SIGTERM], [], {-signal.SIGTERM: PAGE[:9]}), ("SIGINT", [signal.SIGINT], [], {-signal.SIGINT: PAGE[:9]})]
+             ("SIGTERM", [signal.SIGTERM], [], {-signal.SIGTERM: PAGE[:9]}),
+             ("SIGINT", [signal.SIGINT], [], {-signal.SIGINT: PAGE[:9]})]
     for name, sent, ignored, ends in pairs:
         def begin():
             # a shell in the background leaves SIGINT ignored
@@ -213,22 +220,26 @@ def many(folder):
 
 def commands():
     """A call of each command that prints."""
-    return [["check", AVERAGE], ["show", AVERAGE], ["run", AVERAGE], ["synth", "--width", "16", "--tries", "0", SOURCE], ["demo", "1"]]
+    return [["check", AVERAGE], ["show", AVERAGE], ["run", AVERAGE], ["synth", "--width", "16", "--tries", "0", SOURCE],
+            ["demo", "1"]]
 
 
 def full_system(table, rows, page):
     """A file system of one page of 4,096 bytes, which lives as long as the shell that mounts it."""
     if os.geteuid() != 0 or not shutil.which("unshare"):
         return table.skip("a file system of 4 KiB that fills up", "it takes root and unshare")
-    script = 'd=$(mktemp -d) && mount -t tmpfs -o size=4k none "$d" || exit 99; "$1" run "$2" < "$3" > "$d/page"; s=$?; cat "$d/page"; exit $s'
-    ran = subprocess.run(["unshare", "-m", "sh", "-c", script, "sh", table.program, AVERAGE, rows], capture_output=True, timeout=LONG)
+    script = ('d=$(mktemp -d) && mount -t tmpfs -o size=4k none "$d" || exit 99; "$1" run "$2" < "$3" > "$d/page"; '
+              's=$?; cat "$d/page"; exit $s')
+    ran = subprocess.run(["unshare", "-m", "sh", "-c", script, "sh", table.program, AVERAGE, rows], capture_output=True,
+                         timeout=LONG)
     if ran.returncode == 99:
         return table.skip("a file system of 4 KiB that fills up", "mount isn't allowed")
     return table.row("a file system of 4 KiB that fills up", (ran.returncode, ran.stdout, ran.stderr), {7: page[:4096]})
 
 
 def try_full(table, folder):
-    """A full device: at once, and in the middle of a block. What stands is a front of what is due, to the last byte that had room."""
+    """A full device: at once, and in the middle of a block. What stands is a front of what is due, to the last byte
+    that had room."""
     for words in commands():
         with open("/dev/full", "wb") as full:
             given = {"data": ROWS} if words[0] == "run" else {}
@@ -253,7 +264,8 @@ def try_readers(table, folder):
     rows, page = many(folder)
     for handler in (signal.SIG_DFL, signal.SIG_IGN):
         with open(rows, "rb") as source:
-            child = table.start(["run", AVERAGE], stdin=source, preexec_fn=lambda: signal.signal(signal.SIGPIPE, handler))
+            child = table.start(["run", AVERAGE], stdin=source,
+                                preexec_fn=lambda: signal.signal(signal.SIGPIPE, handler))
             got = line_within(child.stdout, 20)
             child.stdout.close()
             child.stdout = None
@@ -276,7 +288,8 @@ def try_readers(table, folder):
 
 
 def try_closed(table, _):
-    """Standard streams that are closed: the input matters to `run` alone, the output to whoever prints, the notes to no status."""
+    """Standard streams that are closed: the input matters to `run` alone, the output to whoever prints, the notes to no
+    status."""
     for count in (1, 2, 3):
         for closed in itertools.combinations(range(3), count):
             names = ", ".join(str(stream) for stream in closed)
@@ -284,7 +297,8 @@ def try_closed(table, _):
                 due = BOUND if words[0] == "check" else PAGE
                 status = 6 if words[0] == "run" and 0 in closed else 7 if 1 in closed else 0
                 seen = table.call(words, data=ROWS, preexec_fn=lambda: [os.close(stream) for stream in closed])
-                table.row(f"{words[0]}, closed: {names}", seen, {status: due if status == 0 else b""}, line=2 not in closed)
+                table.row(f"{words[0]}, closed: {names}", seen, {status: due if status == 0 else b""},
+                          line=2 not in closed)
     with open("/dev/null", "rb") as file:
         table.row("an output that is only read", table.call(["check", AVERAGE], stdout=file), {7: b""})
 
@@ -312,13 +326,16 @@ def try_notes(table, folder):
     for status, words, data in refused(folder):
         table.row(f"status {status}, the line can be written", table.call(words, data=data), {status: b""})
         with open("/dev/full", "wb") as full:
-            table.row(f"status {status}, the line into /dev/full", table.call(words, data=data, stderr=full), {status: b""}, line=False)
+            table.row(f"status {status}, the line into /dev/full", table.call(words, data=data, stderr=full),
+                      {status: b""}, line=False)
         source, sink = os.pipe()
         os.close(source)
-        table.row(f"status {status}, nobody reads the line", table.call(words, data=data, stderr=sink), {status: b""}, line=False)
+        table.row(f"status {status}, nobody reads the line", table.call(words, data=data, stderr=sink), {status: b""},
+                  line=False)
         os.close(sink)
     with open("/dev/full", "wb") as full:
-        table.row("status 7, output and line into /dev/full", table.call(["check", AVERAGE], stdout=full, stderr=full), {7: b""}, line=False)
+        table.row("status 7, output and line into /dev/full", table.call(["check", AVERAGE], stdout=full, stderr=full),
+                  {7: b""}, line=False)
 
 
 def padded(folder, path, size, byte):
@@ -332,15 +349,18 @@ def padded(folder, path, size, byte):
 
 
 def try_names(table, folder):
-    """Names that no file has, that can't be spelled or followed; and files just within the limit, and a byte above it."""
+    """Names that no file has, that can't be spelled or followed; and files just within the limit, and a byte above
+    it."""
     loop, shelf = os.path.join(folder, "loop"), socket.socket(socket.AF_UNIX)
     os.symlink(loop, loop)
     shelf.bind(os.path.join(folder, "socket"))
     for what, name, ends in [
         ("no FILE of this name", os.path.join(folder, "gone"), {6: b""}), ("an empty name", "", {6: b""}),
         ("a name that isn't UTF-8", b"\xff.bundle", {2: b""}), ("a name of 256 bytes", "n" * 256, {6: b""}),
-        ("a name of 5,000 bytes", "n/" * 2500, {6: b""}), ("a file as a folder", AVERAGE + "/x", {6: b""}), ("links in a ring", loop, {6: b""}),
-        ("a socket", shelf.getsockname(), {6: b""}), ("a directory", folder, {6: b""}), ("/dev/null", "/dev/null", {4: b""}),
+        ("a name of 5,000 bytes", "n/" * 2500, {6: b""}), ("a file as a folder", AVERAGE + "/x", {6: b""}),
+        ("links in a ring", loop, {6: b""}),
+        ("a socket", shelf.getsockname(), {6: b""}), ("a directory", folder, {6: b""}),
+        ("/dev/null", "/dev/null", {4: b""}),
         ("/dev/zero", "/dev/zero", {10: b""})]:
         table.row(f"FILE is {what}", table.call(["check", name]), ends)
     shelf.close()
@@ -349,7 +369,8 @@ def try_names(table, folder):
     with open(SOURCE, "rb") as file:
         start = b"fixd bundle 1\nsource 1048576\n" + file.read()
     for size, ends in ((1048576, {0: start}), (1048577, {10: b""})):
-        status, output, note = table.call(["synth", "--width", "16", "--tries", "0", padded(folder, SOURCE, size, b" ")])
+        status, output, note = table.call(["synth", "--width", "16", "--tries", "0",
+                                           padded(folder, SOURCE, size, b" ")])
         table.row(f"a source of {size:,} bytes", (status, output[: len(start)], note), ends)
 
 
@@ -365,7 +386,8 @@ def try_rights(table, folder):
 
 
 def try_pipes(table, folder):
-    """A FIFO can't be read at a place: 6. Without a writer the system makes whoever opens it wait, and so `fixd` waits."""
+    """A FIFO can't be read at a place: 6. Without a writer the system makes whoever opens it wait, and so `fixd`
+    waits."""
     path = os.path.join(folder, "fifo")
     os.mkfifo(path)
     child = table.start(["check", path])
@@ -443,8 +465,9 @@ class Change:
 
 
 def try_changes(table, folder):
-    """A FILE of a megabyte that shrinks, grows, is replaced, rewritten or removed over and over while it is read. What was read is judged,
-    whatever it is: accepted or not, nothing is printed but at status 0, and a file that is gone is 6."""
+    """A FILE of a megabyte that shrinks, grows, is replaced, rewritten or removed over and over while it is read. What
+    was read is judged, whatever it is: accepted or not, nothing is printed but at status 0, and a file that is gone is
+    6."""
     change = Change(folder)
     whole = []
     for text in change.texts[::-1]:
@@ -453,7 +476,8 @@ def try_changes(table, folder):
         whole.append(table.call(["check", change.path])[1])
     times = max(10, min(200, int(10 / (time.monotonic() - start))))
     mixed = {0: tuple(whole), 1: b"", 3: b"", 4: b""}
-    for name, act, ends in [("shrinks and is made whole", change.shrink, {0: (BOUND,), 4: b""}), ("is cut and grows", change.grow, {0: (BOUND,), 4: b""}),
+    for name, act, ends in [("shrinks and is made whole", change.shrink, {0: (BOUND,), 4: b""}),
+                            ("is cut and grows", change.grow, {0: (BOUND,), 4: b""}),
                             ("is replaced by rename", change.replace, mixed), ("is rewritten", change.rewrite, mixed),
                             ("is removed and made again", change.remove, {0: (BOUND,), 4: b"", 6: b""})]:
         seen = [change.check(table, act) for _ in range(times)]
@@ -476,7 +500,8 @@ def try_long(table, _):
 
 def main():
     words = sys.argv[1:]
-    parts = [try_pieces, try_stalled_input, try_signals, try_other_inputs, try_full, try_readers, try_closed, try_notes, try_names, try_rights,
+    parts = [try_pieces, try_stalled_input, try_signals, try_other_inputs, try_full, try_readers, try_closed, try_notes,
+             try_names, try_rights,
              try_pipes, try_changes]
     if words[:1] == ["--long"]:
         words, parts = words[1:], [*parts, try_long]

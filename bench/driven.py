@@ -1,21 +1,26 @@
 #!/usr/bin/env python3
-"""Drives the errors of linear functions with state near their bounds: driven.py [PROGRAM] [--widths 32] [--bundles FOLDER] [--write]
+"""Drives the errors of linear functions with state near their bounds: driven.py [PROGRAM] [--widths 32] [--bundles
+FOLDER] [--write]
 
-The error of an output at a row is a sum over this row and all before: what each rounding loses, times the response of the output to it;
-each input's error and what its reading loses, likewise; and the input itself, times what the literals' words make its response differ
-from the exact one. For each linear source of examples/states and each output, this script looks for inputs that make the sum great.
+The error of an output at a row is a sum over this row and all before: what each rounding loses, times the response of
+the output to it; each input's error and what its reading loses, likewise; and the input itself, times what the
+literals' words make its response differ from the exact one. For each linear source of examples/states and each output,
+this script looks for inputs that make the sum great.
 
-It goes forward from the start, for as many rows as the responses last, or --rows. At each row it draws inputs (--draws for all rows), half
-of them anywhere and half near the end that the literals favour, each with its error to the side that counts. It works out what
-the program loses in this row, and in later rows where that is settled by now, whatever follows: in a product with a state, say. The best
-is taken. The side, up or down, that could bring more goes first; the other is left out where all of it is less than what was reached.
+It goes forward from the start, for as many rows as the responses last, or --rows. At each row it draws inputs (--draws
+for all rows), half of them anywhere and half near the end that the literals favour, each with its error to the side
+that counts. It works out what the program loses in this row, and in later rows where that is settled by now, whatever
+follows: in a product with a state, say. The best is taken. The side, up or down, that could bring more goes first; the
+other is left out where all of it is less than what was reached.
 
-The chosen rows go through `fixd run`. The script ends with an error where a printed number isn't that of its own run of the codes, or is
-further from the exact output than its bound. The table has for each width:
+The chosen rows go through `fixd run`. The script ends with an error where a printed number isn't that of its own run of
+the codes, or is further from the exact output than its bound. The table has for each width:
 
-- *error seen / bound*: the greatest error over the certified bound; of a source with several outputs, where it is least;
-- *losses at most / bound*: what these rows' sum could be at most, were each rounding as great as its shift allows and each input at the end
-  that counts, whatever the others are. Inputs can't bring more than this, but for what starts and rows further back add.
+- *error seen / bound*: the greatest error over the certified bound; of a source with several outputs, where it is
+  least;
+- *losses at most / bound*: what these rows' sum could be at most, were each rounding as great as its shift allows and
+  each input at the end that counts, whatever the others are. Inputs can't bring more than this, but for what starts and
+  rows further back add.
 
 With --write the table goes to docs/measures.md. Outside the gate; it takes some minutes.
 """
@@ -66,7 +71,8 @@ def factors_of(codes):
 
 @dataclass
 class Loss:
-    """A shift to the right in a code, of `term` with the codes that `reads` names; one that is lost there adds `each` to the code."""
+    """A shift to the right in a code, of `term` with the codes that `reads` names; one that is lost there adds `each`
+    to the code."""
     code: int
     reads: list
     term: str
@@ -131,7 +137,8 @@ class Program:
         return found
 
     def settled(self):
-        """Returns for this row and later ones which codes are known whatever inputs follow, as long as any of them loses."""
+        """Returns for this row and later ones which codes are known whatever inputs follow, as long as any of them
+        loses."""
         found, states = [[True] * len(self.codes)], [True] * self.states
         while len(found) <= AHEAD:
             known = [False] * self.inputs + states
@@ -144,11 +151,13 @@ class Program:
         return found
 
     def wanted(self, settled):
-        """Returns for each row which of the settled codes are to be computed: all of the first row, and of others what is lost from."""
+        """Returns for each row which of the settled codes are to be computed: all of the first row, and of others what
+        is lost from."""
         found = [set() for _ in settled]
         found[0] = set(range(len(self.codes)))
         for row in range(len(settled) - 1, 0, -1):
-            found[row].update(at for loss in self.losses if all(settled[row][at] for at in loss.reads) for at in loss.reads)
+            found[row].update(at for loss in self.losses if all(settled[row][at] for at in loss.reads)
+                              for at in loss.reads)
             for k in range(len(self.codes) - 1, -1, -1):
                 if k in found[row]:
                     found[row].update(self.codes[k].operands)
@@ -157,7 +166,8 @@ class Program:
         return found
 
     def lines(self):
-        """Returns the lines of the step: from words and what counts in each row to what all losses bring, the outputs and next states."""
+        """Returns the lines of the step: from words and what counts in each row to what all losses bring, the outputs
+        and next states."""
         variables = [f"x0_{k}" for k in range(self.inputs + self.states)]
         lines, sums = QUOTIENT + [f"def step({', '.join(variables + ['counts'])}):"], []
         settled = self.settled()
@@ -182,7 +192,8 @@ class Program:
 
 @dataclass
 class Left:
-    """A row so many rows before the last: what one that is lost counts, and how often a word of an input counts, and the input itself."""
+    """A row so many rows before the last: what one that is lost counts, and how often a word of an input counts, and
+    the input itself."""
     losses: list
     words: list
     trues: list
@@ -210,7 +221,8 @@ def exact_responses(linear, output, inputs):
 
 
 def plan_of(program, source, output, most):
-    """Returns what counts in each row from the last one back, till hardly anything is left of what rows before may bring."""
+    """Returns what counts in each row from the last one back, till hardly anything is left of what rows before may
+    bring."""
     exact, found, states = exact_responses(source.linear, output, program.inputs), [], [0.0] * program.states
     ends = [float(k == output) for k in range(len(program.outputs))]
     while len(found) < most:
@@ -246,7 +258,8 @@ class Port:
         return self.word(self.span.lo + off), self.word(self.span.hi + off)
 
     def placed(self, word, up):
-        """Returns the true and the given value whose reading is this word: as far below it as may be, or as far above."""
+        """Returns the true and the given value whose reading is this word: as far below it as may be, or as far
+        above."""
         given = -(-word * self.size // self.parts) if up else -(-(word + 1) * self.size // self.parts) - 1
         off = self.span.err if up else -self.span.err
         true = min(max(given - off, self.span.lo), self.span.hi)
@@ -255,7 +268,8 @@ class Port:
 
 def ports_of(program, function, places):
     points = [code.point for code in program.codes[:program.inputs]]
-    return [Port(span, 10 ** places * 2 ** max(0, -point), 2 ** max(0, point)) for point, span in zip(points, spans_of(function, places))]
+    return [Port(span, 10 ** places * 2 ** max(0, -point), 2 ** max(0, point))
+            for point, span in zip(points, spans_of(function, places))]
 
 
 def fine_places(program, function):
@@ -285,14 +299,16 @@ def candidates(draw, ports, left, places, tries):
         pairs = [port.placed(word, up) for port, word, up in zip(ports, words, ups)]
         trues, givens = [pair[0] for pair in pairs], [pair[1] for pair in pairs]
         words = [port.word(given) for port, given in zip(ports, givens)]
-        brings = sum(x * word * port.size / port.parts / 10 ** places for x, word, port in zip(left.words, words, ports))
+        brings = sum(x * word * port.size / port.parts / 10 ** places
+                     for x, word, port in zip(left.words, words, ports))
         brings -= sum(x * true / 10 ** places for x, true in zip(left.trues, trues))
         found.append((brings, words, trues, givens))
     return found
 
 
 def driven_rows(program, ports, plan, places, tries):
-    """Returns rows for all of the plan, as the true and the given values; and the outputs' words that the program gives."""
+    """Returns rows for all of the plan, as the true and the given values; and the outputs' words that the program
+    gives."""
     draw, none = random.Random(1), [0.0] * len(program.losses)
     states, rows, words = program.starts, [], []
     for k in range(len(plan) - 1, -1, -1):
@@ -311,7 +327,8 @@ def driven_rows(program, ports, plan, places, tries):
 
 @dataclass
 class Case:
-    """A bundle's file, its program and bounds, how many decimal places its rows have, and what exact outputs may be off by."""
+    """A bundle's file, its program and bounds, how many decimal places its rows have, and what exact outputs may be off
+    by."""
     source: object
     bundle: str
     program: object
@@ -330,7 +347,8 @@ def printed_of(fixd, case, rows):
     with tempfile.NamedTemporaryFile("w", suffix=".csv") as file:
         write_rows(file.name, case.source, rows, case.places)
         with open(file.name, encoding="utf-8") as lines:
-            return [list(map(printed_value, line.split(","))) for line in fixd.call(["run", case.bundle], stdin=lines).splitlines()[1:]]
+            return [list(map(printed_value, line.split(",")))
+                    for line in fixd.call(["run", case.bundle], stdin=lines).splitlines()[1:]]
 
 
 def seen_of(fixd, case, rows, words):
@@ -387,25 +405,30 @@ def source_row(fixd, source, options, folder):
 
 def source_line(source, row):
     outputs = [output for output, _ in row]
-    return f"| `{source.name}` | {shown(at and at.error for at in outputs)} | {shown(at and at.most for at in outputs)} |"
+    return (f"| `{source.name}` | {shown(at and at.error for at in outputs)} | "
+            f"{shown(at and at.most for at in outputs)} |")
 
 
 def table(found, options):
-    lines = ["| width | bundles | error seen / bound: median, least | losses at most / bound: median, least | minutes |"]
+    lines = ["| width | bundles | error seen / bound: median, least | losses at most / bound: median, least | "
+             "minutes |"]
     lines.append("|---|---|---|---|---|")
     for k, width in enumerate(options.widths):
         at = [row[k][0] for _, row in found if row[k][0]]
         if at:
             errors, mosts = summed([x.error for x in at], min), summed([x.most for x in at], min)
-            lines.append(f"| {width} | {len(at)} | {errors} | {mosts} | {sum(row[k][1] for _, row in found) / 60:.1f} |")
-    lines += ["", f"| source | error seen / bound at {', '.join(map(str, options.widths))} | losses at most / bound |", "|---|---|---|"]
+            minutes = sum(row[k][1] for _, row in found) / 60
+            lines.append(f"| {width} | {len(at)} | {errors} | {mosts} | {minutes:.1f} |")
+    lines += ["", f"| source | error seen / bound at {', '.join(map(str, options.widths))} | losses at most / bound |",
+              "|---|---|---|"]
     return "\n".join(lines + [source_line(source, row) for source, row in found]) + "\n"
 
 
 def main():
     parser = parser_of(__doc__)
     parser.add_argument("--rows", type=int, default=3000, help="the most rows that are chosen for an output and a side")
-    parser.add_argument("--draws", type=int, default=60_000, help=f"inputs drawn for all of them, {LEAST_TRIES} to {MOST_TRIES} a row")
+    parser.add_argument("--draws", type=int, default=60_000,
+                        help=f"inputs drawn for all of them, {LEAST_TRIES} to {MOST_TRIES} a row")
     options = parser.parse_args()
     fixd, found = Fixd(os.path.abspath(options.program)), []
     with bundle_folder(options) as folder:
@@ -415,7 +438,8 @@ def main():
                 if not any(output for output, _ in row):
                     continue
                 found.append((source, row))
-                print(source_line(source, row), f"{sum(seconds for _, seconds in row):.1f} s", file=sys.stderr, flush=True)
+                print(source_line(source, row), f"{sum(seconds for _, seconds in row):.1f} s", file=sys.stderr,
+                      flush=True)
     hand_out(options, "driven", table(found, options))
 
 

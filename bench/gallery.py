@@ -1,13 +1,15 @@
 #!/usr/bin/env python3
-"""Makes docs/gallery.md and its pictures: what is certified and what is seen of each example without state at three widths, and of each filter that
-has a bundle.
+"""Makes docs/gallery.md and its pictures: what is certified and what is seen of each example without state at three
+widths, and of each filter that has a bundle.
 
-    bench/gallery.py PROGRAM [--rows 100000] [--widths 16,24,32] [--only NAME,..] [--out docs/gallery.md] [--gappa FOLDER]
+    bench/gallery.py PROGRAM [--rows 100000] [--widths 16,24,32] [--only NAME,..] [--out docs/gallery.md]
+                     [--gappa FOLDER]
 
-PROGRAM is `fixd` as built. Exact outputs come by Python's fractions (bench/sources.py), so the script knows nothing of `fixd`'s
-arithmetic but the numbers that it prints. A row's true inputs are random decimals or corners of the ranges, and where an input
-has an error, the given value differs from the true one by a random part of it, or by all of it. With --gappa the input of Gappa
-for each program as it is written goes to FOLDER, as NAME.WIDTH.g; where `gappa` is installed its bound stands in the table.
+PROGRAM is `fixd` as built. Exact outputs come by Python's fractions (bench/sources.py), so the script knows nothing of
+`fixd`'s arithmetic but the numbers that it prints. A row's true inputs are random decimals or corners of the ranges,
+and where an input has an error, the given value differs from the true one by a random part of it, or by all of it. With
+--gappa the input of Gappa for each program as it is written goes to FOLDER, as NAME.WIDTH.g; where `gappa` is installed
+its bound stands in the table.
 """
 import argparse
 import itertools
@@ -32,13 +34,16 @@ SHOWN_OF_A_FILTER = 400
 
 HEAD = """# Gallery
 
-Made by `bench/gallery.py` with {rows:,} rows a function, random ones and corners of the ranges, and at most {filter_rows:,} a filter; {when}. For each example without
-state, at three widths: how many nodes it has, the certified bound of the program as it is written (`--tries 0`) and of the one that `synth` finds
-(`--tries 200`), the greatest error seen of the latter, as a part of its bound, how long `synth` took, and of the former program the bound of
-[Gappa](https://gappa.gitlabpages.inria.fr), which knows nothing of errors that inputs are given with{gappa}. Of several outputs Gappa's bound is of the last, the
-picture of the first. Filters are shown where their bundle stands beside their source (*by hand*: bound and error are those of that bundle); [measures.md](measures.md) has the others.
-Errors are those of the outputs against exact values; each difference is taken exactly, and rounded to be shown. Below the table each function of it for which there is a program stands
-with its picture; [examples](../examples/README.md) says where the published ones come from.
+Made by `bench/gallery.py` with {rows:,} rows a function, random ones and corners of the ranges, and at most
+{filter_rows:,} a filter; {when}. For each example without state, at three widths: how many nodes it has, the certified
+bound of the program as it is written (`--tries 0`) and of the one that `synth` finds (`--tries 200`), the greatest
+error seen of the latter, as a part of its bound, how long `synth` took, and of the former program the bound of
+[Gappa](https://gappa.gitlabpages.inria.fr), which knows nothing of errors that inputs are given with{gappa}. Of several
+outputs Gappa's bound is of the last, the picture of the first. Filters are shown where their bundle stands beside their
+source (*by hand*: bound and error are those of that bundle); [measures.md](measures.md) has the others. Errors are
+those of the outputs against exact values; each difference is taken exactly, and rounded to be shown. Below the table
+each function of it for which there is a program stands with its picture; [examples](../examples/README.md) says where
+the published ones come from.
 
 | function | bits | nodes | bound as written | bound found | error seen | of the bound | seconds | Gappa |
 |---|---|---|---|---|---|---|---|---|
@@ -112,7 +117,8 @@ def errors_of(fixd, bundle, rows, exact):
     """Returns the error of each row's outputs, as floats of exact differences."""
     with open(rows, encoding="utf-8") as file:
         printed = fixd.call(["run", bundle], stdin=file).splitlines()[1:]
-    return [[float(Fraction(text) - value) for text, value in zip(line.split(","), values)] for line, values in zip(printed, exact)]
+    return [[float(Fraction(text) - value) for text, value in zip(line.split(","), values)]
+            for line, values in zip(printed, exact)]
 
 
 # ---- Gappa
@@ -127,7 +133,8 @@ def literals_of(tree):
 
 
 def gappa_input(bundle, function):
-    """Returns the input of Gappa for the bundle's program: each code rounded down to its point, beside the exact formula."""
+    """Returns the input of Gappa for the bundle's program: each code rounded down to its point, beside the exact
+    formula."""
     trees = [tree for _, tree in function.temps] + function.results
     literals = itertools.chain.from_iterable(map(literals_of, trees))
     lines = iter(bundle[bundle.index("\nprogram\n"):].splitlines()[6:])
@@ -147,10 +154,12 @@ def gappa_input(bundle, function):
             value, whole, point = operation(word, operands, shifts, points)
             points.append(point)
         way = "zr" if word == "div" else "dn"
-        rounded.append(f"r{n} = {value};" if word in ("const", "neg") else f"r{n} = fixed<{-points[n]},{way}>({value});")
+        rounded.append(f"r{n} = {value};" if word in ("const", "neg")
+                       else f"r{n} = fixed<{-points[n]},{way}>({value});")
         exact.append(f"e{n} = {whole};")
     last = len(codes) - 1
-    ranges = " /\\ ".join(f"m{k} in [{decimal(span['lo'])},{decimal(span['hi'])}]" for k, span in enumerate(function.inputs.values()))
+    ranges = " /\\ ".join(f"m{k} in [{decimal(span['lo'])},{decimal(span['hi'])}]"
+                          for k, span in enumerate(function.inputs.values()))
     head = f"# {function.name}: inputs {', '.join(names)}\n"
     return head + "\n".join(rounded + exact) + f"\n{{ {ranges} -> r{last} - e{last} in ? }}\n"
 
@@ -160,7 +169,8 @@ def operation(word, operands, shifts, points):
     sign = {"add": "+", "sub": "-", "mul": "*", "div": "/"}.get(word)
     f = [points[k] for k in operands]
     if sign:
-        point = {"+": f[0] - shifts[0], "-": f[0] - shifts[0], "*": sum(f) - shifts[0], "/": f[0] + shifts[0] - f[1]}[sign]
+        point = {"+": f[0] - shifts[0], "-": f[0] - shifts[0], "*": sum(f) - shifts[0],
+                 "/": f[0] + shifts[0] - f[1]}[sign]
         parts = [f"fixed<{-point},dn>(r{k})" for k in operands] if sign in "+-" else [f"r{k}" for k in operands]
         return f"{parts[0]} {sign} {parts[1]}", f"e{operands[0]} {sign} e{operands[1]}", point
     minus = "-" if word == "neg" else ""
@@ -177,9 +187,12 @@ def gappa_bound(text):
 
 # ---- an example with its picture
 
-OVER_INPUT = ("{name} at {width} bits, over its first input `{first}`. The lines above and below are the certified bound, {bound}; each stroke goes from the least to "
-              "the greatest error that was seen where the input had that value. In all {seen} was seen, {part} of the bound.")
-OVER_TIME = ("{name} at {width} bits, the first {shown} rows of {rows:,}. The lines above and below are the certified bound, {bound}, which holds forever; the error seen was at most {seen}, {part} of it.")
+OVER_INPUT = ("{name} at {width} bits, over its first input `{first}`. The lines above and below are the certified "
+              "bound, {bound}; each stroke goes from the least to "
+              "the greatest error that was seen where the input had that value. In all {seen} was seen, {part} of the "
+              "bound.")
+OVER_TIME = ("{name} at {width} bits, the first {shown} rows of {rows:,}. The lines above and below are the certified "
+             "bound, {bound}, which holds forever; the error seen was at most {seen}, {part} of it.")
 
 
 def shown_name(path, function):
@@ -188,7 +201,8 @@ def shown_name(path, function):
 
 
 def text_of(path, name):
-    """Returns a function's own lines in a source, with the comment that stands above it or, of a source in an object, above that."""
+    """Returns a function's own lines in a source, with the comment that stands above it or, of a source in an object,
+    above that."""
     with open(path, encoding="utf-8") as file:
         lines = file.read().splitlines()
     start = next(n for n, line in enumerate(lines) if re.match(rf"\s*def {name}\(", line))
@@ -207,7 +221,8 @@ def section(path, function, caption):
     """Returns the part of the page that shows an example: its text, its picture, and what the picture shows."""
     name, place = shown_name(path, function), os.path.relpath(path, ROOT)
     source = "\n".join("    " + line for line in text_of(path, function.name))
-    return f"## {name}\n\n[{place}](../{place}):\n\n{source}\n\n![The errors of {name} between its bounds](gallery/{name}.svg)\n\n*{caption}*\n"
+    return (f"## {name}\n\n[{place}](../{place}):\n\n{source}\n\n![The errors of {name} between its "
+            f"bounds](gallery/{name}.svg)\n\n*{caption}*\n")
 
 
 # ---- the table
@@ -249,7 +264,8 @@ class Gallery:
         return path
 
     def function(self, path, function):
-        """The rows of the table of a function without state, and its picture at the least width at which there is a program."""
+        """The rows of the table of a function without state, and its picture at the least width at which there is a
+        program."""
         name = shown_name(path, function)
         trues, givens = zip(*rows_of(function, self.options.rows))
         exact = exact_outputs(function, trues)
@@ -270,14 +286,17 @@ class Gallery:
             part = max(s / float(b) if b else 0.0 for s, b in zip(seen, bounds))
             nodes = int(re.search(r"^sizes \d+ \d+ \d+ (\d+)$", plain or found, re.M)[1])
             gappa = self.gappa(f"{function.name}.{width}", plain, function)
-            self.row(f"`{name}`", width, nodes, written, short(max(bounds)), short(max(seen)), f"{100 * part:.0f}%", f"{seconds:.2f}", gappa)
+            self.row(f"`{name}`", width, nodes, written, short(max(bounds)), short(max(seen)), f"{100 * part:.0f}%",
+                     f"{seconds:.2f}", gappa)
             if not is_drawn:
                 is_drawn = True
                 first = [float(row[0]) for row in trues]
                 title = f"{name}, {width} bits: error over {next(iter(function.inputs))}"
                 part = f"{100 * seen[0] / float(bounds[0]) if bounds[0] else 0:.0f}%"
-                caption = OVER_INPUT.format(name=name, width=width, first=next(iter(function.inputs)), bound=short(bounds[0]), seen=short(seen[0]), part=part)
-                self.picture(path, function, error_over_input(title, first, [row[0] for row in errors], float(bounds[0])), caption)
+                caption = OVER_INPUT.format(name=name, width=width, first=next(iter(function.inputs)),
+                                            bound=short(bounds[0]), seen=short(seen[0]), part=part)
+                self.picture(path, function,
+                             error_over_input(title, first, [row[0] for row in errors], float(bounds[0])), caption)
 
     def filter(self, path, bundle, function):
         """A filter's row, by the bundle that stands beside its source, and its picture over time."""
@@ -295,8 +314,10 @@ class Gallery:
         name, part = shown_name(path, function), f"{100 * seen / float(bound):.0f}%"
         self.row(f"`{name}`, by hand", width, nodes, short(bound), "", short(seen), part, "", "")
         shown = errors[:SHOWN_OF_A_FILTER]
-        caption = OVER_TIME.format(name=name, width=width, shown=len(shown), rows=len(errors), bound=short(bound), seen=short(seen), part=part)
-        self.picture(path, function, error_over_time(f"{name}, {width} bits: error over time", shown, float(bound)), caption)
+        caption = OVER_TIME.format(name=name, width=width, shown=len(shown), rows=len(errors), bound=short(bound),
+                                   seen=short(seen), part=part)
+        self.picture(path, function, error_over_time(f"{name}, {width} bits: error over time", shown, float(bound)),
+                     caption)
 
     def example(self, path):
         with open(path, encoding="utf-8") as file:
@@ -313,7 +334,8 @@ class Gallery:
 
     def write(self):
         gappa = "" if self.has_gappa else " (empty: `gappa` wasn't there)"
-        head = HEAD.format(rows=self.options.rows, filter_rows=RUN_OF_A_FILTER, when=time.strftime("%Y-%m-%d"), gappa=gappa)
+        head = HEAD.format(rows=self.options.rows, filter_rows=RUN_OF_A_FILTER, when=time.strftime("%Y-%m-%d"),
+                           gappa=gappa)
         with open(self.options.out, "w", encoding="utf-8") as file:
             file.write(head + "\n".join(self.lines) + "\n\n" + "\n".join(self.pictures))
 

@@ -1,4 +1,5 @@
-"""The pictures of the gallery, as SVG written plainly: errors that were seen, between the lines of the certified bound."""
+"""The pictures of the gallery, as SVG written plainly: errors that were seen, between the lines of the certified
+bound."""
 
 WIDTH, HEIGHT, LEFT, TOP = 480, 200, 70, 28
 BUCKETS = 160

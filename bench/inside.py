@@ -1,10 +1,11 @@
 #!/usr/bin/env python3
 """Measures calls inside `fixd` that no command shows alone: inside.py [PROGRAM]
 
-Printing a bundle, applying rewriting steps, listing single steps and plain attempts, by a program over the proved crates that makes each call
-many times. Without PROGRAM that program is written into a folder of its own beside copies of the crates, and `rt` proves and builds it, which takes as long as
-`make run` does the first time. Figures are seconds of the processor of the greater number of calls less those of the smaller one. Outside the
-gate: figures depend on the machine.
+Printing a bundle, applying rewriting steps, listing single steps and plain attempts, by a program over the proved
+crates that makes each call many times. Without PROGRAM that program is written into a folder of its own beside copies
+of the crates, and `rt` proves and builds it, which takes as long as `make run` does the first time. Figures are seconds
+of the processor of the greater number of calls less those of the smaller one. Outside the gate: figures depend on the
+machine.
 """
 import os
 import resource
@@ -17,7 +18,8 @@ HERE = os.path.dirname(os.path.abspath(__file__))
 ROOT = os.path.join(HERE, "..")
 
 BODY = """\
-//! Calls from inside `fixd`, many times over: `print FILE TIMES`, `rewrite FILE TIMES`, `steps FILE TIMES`, `attempt FILE TIMES`.
+//! Calls from inside `fixd`, many times over: `print FILE TIMES`, `rewrite FILE TIMES`, `steps FILE TIMES`,
+//! `attempt FILE TIMES`.
 #![tactic(auto)]
 
 use fx_analysis::plain_attempt;
@@ -177,7 +179,8 @@ def built(folder):
     crates = os.path.join(folder, "crates")
     os.makedirs(os.path.join(crates, "inside", "src"))
     for name in os.listdir(os.path.join(ROOT, "crates")):
-        shutil.copytree(os.path.join(ROOT, "crates", name), os.path.join(crates, name), ignore=shutil.ignore_patterns("out"))
+        shutil.copytree(os.path.join(ROOT, "crates", name), os.path.join(crates, name),
+                        ignore=shutil.ignore_patterns("out"))
     with open(os.path.join(ROOT, "crates.txt")) as file:
         lines = [line for line in file if not line.startswith("fx_cli:")]
     below = next(line for line in lines if line.startswith("fx_demo:")).split(":")[1].strip()
@@ -215,7 +218,8 @@ def source(nodes):
     """A function of about so many nodes: temps of eight operations each, and their sum."""
     count = max(1, (nodes - 3) // 9)
     temps = "".join(f"  val t{k} = (x * y + y * z) * (x - z) + 0.5 * x\n" for k in range(count))
-    return ("def f(x: Real, y: Real, z: Real): Real = {\n  require(0 <= x && x <= 1 && 0 <= y && y <= 1 && 0 <= z && z <= 1)\n"
+    return ("def f(x: Real, y: Real, z: Real): Real = {\n"
+            "  require(0 <= x && x <= 1 && 0 <= y && y <= 1 && 0 <= z && z <= 1)\n"
             f"{temps}  {balanced([f't{k}' for k in range(count)])}\n}}\n")
 
 

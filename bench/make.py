@@ -3,9 +3,10 @@
 
 chain.c is compiled for its one program; codes.c goes over a list of codes, as `fixd` does, and would do so with any.
 
-The chain is x - (x - (x - ..)), in words of 32 bits. Points go from 11 to 10 and back, so that each difference shifts both
-of its operands and no compiler can leave one out. The mixed program has sums, differences and negations in random order, at
-points of 10 or 11 at random, so that no processor foretells the next code. Errors are counted in units of 2^-12.
+The chain is x - (x - (x - ..)), in words of 32 bits. Points go from 11 to 10 and back, so that each difference shifts
+both of its operands and no compiler can leave one out. The mixed program has sums, differences and negations in random
+order, at points of 10 or 11 at random, so that no processor foretells the next code. Errors are counted in units of
+2^-12.
 """
 import random
 import sys
@@ -64,8 +65,10 @@ def bundle(operations):
     plain = [f"plain {dyadic(a, 0)} {dyadic(b, 0)} {dyadic(c, POINT)} {dyadic(d, POINT)}" for a, b, c, d in lines]
     return "\n".join(
         [
-            "fixd bundle 1", f"source {len(source)}", source, "program", "fixd program 1", f"width {WIDTH}", "name chain",
-            f"sizes 1 0 1 {len(codes)}", *codes, "certificate", "fixd certificate 1", f"sizes 1 0 {len(codes)}", "steps 0",
+            "fixd bundle 1", f"source {len(source)}", source, "program", "fixd program 1", f"width {WIDTH}",
+            "name chain",
+            f"sizes 1 0 1 {len(codes)}", *codes, "certificate", "fixd certificate 1", f"sizes 1 0 {len(codes)}",
+            "steps 0",
             "rows 0 0", *plain, "end", "",
         ]
     )
@@ -81,7 +84,8 @@ def compiled(operations):
     for i, (kind, _, shift_x, shift_before) in enumerate(operations):
         before = shifted(f"w[{i}]", shift_before)
         sign = "-" if kind == "sub" else "+"
-        words.append(f"        w[{i + 1}] = " + (f"-w[{i}];" if kind == "neg" else f"{shifted('w[0]', shift_x)} {sign} {before};"))
+        words.append(f"        w[{i + 1}] = "
+                     + (f"-w[{i}];" if kind == "neg" else f"{shifted('w[0]', shift_x)} {sign} {before};"))
     last = len(operations)
     return "", "\n".join([*words, f"        w[{last + 1}] = w[{last}];"])
 
@@ -90,7 +94,8 @@ def interpreted(operations):
     """The operations as a list of codes, and the loop over any such list."""
     lines = ["    {IN, 0, 0, 0, 0},"]
     for i, (kind, _, shift_x, shift_before) in enumerate(operations):
-        lines.append(f"    {{NEG, {i}, 0, 0, 0}}," if kind == "neg" else f"    {{{kind.upper()}, 0, {i}, {shift_x}, {shift_before}}},")
+        lines.append(f"    {{NEG, {i}, 0, 0, 0}}," if kind == "neg"
+                     else f"    {{{kind.upper()}, 0, {i}, {shift_x}, {shift_before}}},")
     lines.append(f"    {{COPY, {len(operations)}, 0, 0, 0}},")
     table = "\n".join(lines)
     above = f"""

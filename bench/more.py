@@ -1,10 +1,11 @@
 #!/usr/bin/env python3
-"""Measures `build/fixd` on long rows and long bundles beside the C programs of make.py and peers.py: more.py [--instructions] [PART ..]
+"""Measures `build/fixd` on long rows and long bundles beside the C programs of make.py and peers.py: more.py
+[--instructions] [PART ..]
 
-A part is `codes`, `filter`, `columns`, `check` or `read`; without one, all are measured. Each figure is the least of five runs, or of fifteen
-that take turns with the C program's, in seconds of the processor (of user and system), which other work on the machine disturbs less than seconds of the clock; with --instructions
-valgrind counts what is executed. Outputs and answers are compared with the C program's. Outside the gate: figures depend on
-the machine.
+A part is `codes`, `filter`, `columns`, `check` or `read`; without one, all are measured. Each figure is the least of
+five runs, or of fifteen that take turns with the C program's, in seconds of the processor (of user and system), which
+other work on the machine disturbs less than seconds of the clock; with --instructions valgrind counts what is executed.
+Outputs and answers are compared with the C program's. Outside the gate: figures depend on the machine.
 """
 import os
 import random
@@ -61,7 +62,8 @@ def piped(command, rows, out, times=5):
 def resident(command, rows, out):
     """The KiB that are resident at most."""
     with open(rows, "rb") as source, open(out, "wb") as sink:
-        ended = subprocess.run(["/usr/bin/time", "-f", "%M", *command], stdin=source, stdout=sink, stderr=subprocess.PIPE, text=True)
+        ended = subprocess.run(["/usr/bin/time", "-f", "%M", *command], stdin=source, stdout=sink,
+                               stderr=subprocess.PIPE, text=True)
     return int(ended.stderr.split()[-1])
 
 
@@ -90,10 +92,13 @@ def stream(name, ours, theirs, rows, count, folder):
     (a, clock), (b, other_clock) = beside(seconds, ours, theirs, rows, out, other)
     if not same(out, other):
         raise SystemExit(f"bench: the outputs differ at {name}")
-    print(f"{name}, {count} rows: fixd {a:.3f} s, {count / a:.0f} rows/s (clock {clock:.3f} s, {resident(ours, rows, out)} KiB resident); "
-          f"C {b:.3f} s, {count / b:.0f} rows/s (clock {other_clock:.3f} s, {resident(theirs, rows, other)} KiB); fixd / C {b / a:.2f}")
+    print(f"{name}, {count} rows: fixd {a:.3f} s, {count / a:.0f} rows/s (clock {clock:.3f} s, "
+          f"{resident(ours, rows, out)} KiB resident); "
+          f"C {b:.3f} s, {count / b:.0f} rows/s (clock {other_clock:.3f} s, {resident(theirs, rows, other)} KiB); fixd "
+          f"/ C {b / a:.2f}")
     a, b = beside(piped, ours, theirs, rows, out, other)
-    print(f"{name}, {count} rows from a pipe: fixd {a:.3f} s, {count / a:.0f} rows/s; C {b:.3f} s, {count / b:.0f} rows/s; fixd / C {b / a:.2f}")
+    print(f"{name}, {count} rows from a pipe: fixd {a:.3f} s, {count / a:.0f} rows/s; C {b:.3f} s, {count / b:.0f} "
+          f"rows/s; fixd / C {b / a:.2f}")
 
 
 def compiled(folder, *names):
@@ -102,14 +107,16 @@ def compiled(folder, *names):
 
 
 def measure_codes(folder):
-    """Chains of differences and mixed programs, beside a C program for the one program and one that goes over a list of codes."""
+    """Chains of differences and mixed programs, beside a C program for the one program and one that goes over a list of
+    codes."""
     count = 300000
     for kind in ("chain", "mixed"):
         for codes in ("10", "100", "1000"):
             subprocess.run([sys.executable, os.path.join(HERE, "make.py"), codes, str(count), folder, kind], check=True)
             compiled(folder, "chain", "codes")
             for peer, what in (("chain", "compiled"), ("codes", "over codes")):
-                stream(f"{kind} of {codes} codes, C {what}", [FIXD, "run", f"{folder}/chain.bundle"], [f"{folder}/{peer}"], f"{folder}/chain.csv", count, folder)
+                stream(f"{kind} of {codes} codes, C {what}", [FIXD, "run", f"{folder}/chain.bundle"],
+                       [f"{folder}/{peer}"], f"{folder}/chain.csv", count, folder)
 
 
 def number(draw):
@@ -133,7 +140,8 @@ def measure_columns(folder):
         file.write(",".join(order) + "\n")
         file.writelines(some[k % 10007] for k in range(count))
     bundle = written("columns", folder)
-    stream("8 of 10 columns, out of order", [FIXD, "run", bundle], [f"{folder}/columns"], f"{folder}/rows", count, folder)
+    stream("8 of 10 columns, out of order", [FIXD, "run", bundle], [f"{folder}/columns"], f"{folder}/rows", count,
+           folder)
 
 
 def written(kind, folder):
@@ -157,8 +165,10 @@ def bundle(kind, peer, folder, answer):
         raise SystemExit(f"bench: {kind} is answered {ended.stdout}{ended.stderr}and {peers.stdout}")
     (a, clock), (b, other_clock) = seconds(ours, os.devnull, out), seconds(theirs, os.devnull, other)
     size = os.path.getsize(path)
-    print(f"{kind}, {size} bytes: fixd {a:.3f} s (clock {clock:.3f} s), {size / a / 1e6:.0f} MB/s, {resident(ours, os.devnull, out)} KiB resident; "
-          f"{peer}.c {b:.3f} s (clock {other_clock:.3f} s), {size / b / 1e6:.0f} MB/s, {resident(theirs, os.devnull, other)} KiB; fixd / C {b / a:.2f}")
+    print(f"{kind}, {size} bytes: fixd {a:.3f} s (clock {clock:.3f} s), {size / a / 1e6:.0f} MB/s, "
+          f"{resident(ours, os.devnull, out)} KiB resident; "
+          f"{peer}.c {b:.3f} s (clock {other_clock:.3f} s), {size / b / 1e6:.0f} MB/s, "
+          f"{resident(theirs, os.devnull, other)} KiB; fixd / C {b / a:.2f}")
 
 
 def main():

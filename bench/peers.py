@@ -1,9 +1,10 @@
 #!/usr/bin/env python3
 """Writes the C programs that `bench/more.py` measures `fixd` beside: peers.py FOLDER
 
-filter.c runs the low-pass filter of examples/average, columns.c the sum of 8 inputs of bundles.py, both with the checks of rows that
-`fixd` makes; read.c reads a bundle's program and certificate, with the tests of each number's spelling and range; check.c also
-checks the inequalities of sums, copies, forms and rows, in 128 bits without a test for overflow, and parses no source.
+filter.c runs the low-pass filter of examples/average, columns.c the sum of 8 inputs of bundles.py, both with the checks
+of rows that `fixd` makes; read.c reads a bundle's program and certificate, with the tests of each number's spelling and
+range; check.c also checks the inequalities of sums, copies, forms and rows, in 128 bits without a test for overflow,
+and parses no source.
 """
 import sys
 
@@ -13,10 +14,15 @@ NUMBERS = r"""
 #include <stdlib.h>
 #include <string.h>
 
-static const int64_t TEN[19] = {1, 10, 100, 1000, 10000, 100000, 1000000, 10000000, 100000000, 1000000000, 10000000000, 100000000000,
-    1000000000000, 10000000000000, 100000000000000, 1000000000000000, 10000000000000000, 100000000000000000, 1000000000000000000};
+static const int64_t TEN[19] = {1, 10, 100, 1000, 10000, 100000, 1000000, 10000000, 100000000, 1000000000, 10000000000,
+    100000000000, 1000000000000, 10000000000000, 100000000000000, 1000000000000000, 10000000000000000,
+    100000000000000000, 1000000000000000000};
 
-static void bad(const char *kind, long line) { fflush(stdout); fprintf(stderr, "row: %s at line %ld\n", kind, line); exit(5); }
+static void bad(const char *kind, long line) {
+    fflush(stdout);
+    fprintf(stderr, "row: %s at line %ld\n", kind, line);
+    exit(5);
+}
 
 /* a sign, digits with at most one point, maybe a power of ten: a / 10^k in lowest terms */
 static int decimal(const char *s, const char *e, int64_t *a, int *k) {
@@ -178,7 +184,12 @@ typedef struct { Dyadic lo, hi; } Interval;
 typedef struct { int row; Dyadic times; } Share;
 typedef struct { int count; Share *list; } Shares;
 typedef struct { Dyadic *c; Interval bound; Shares shares; } Row;
-typedef struct { int is_form, by_range, by_error; Interval g, h, p, q; Dyadic ma, mb, *c; Shares range_by, error_by; } Line;
+typedef struct {
+    int is_form, by_range, by_error;
+    Interval g, h, p, q;
+    Dyadic ma, mb, *c;
+    Shares range_by, error_by;
+} Line;
 typedef struct { char op; int a, b, sa, sb, f; int64_t w; } Code;
 
 static char *at, *stop;
@@ -211,7 +222,8 @@ static int64_t whole(int64_t lo, int64_t hi) {
         else v = v * 10 + (uint64_t)(*at - '0');
         at++;
     }
-    if (at == s || (*s == '0' && (at - s > 1 || minus)) || (at < stop && *at != ' ' && *at != '\n' && *at != ':')) fault("BadNumber");
+    if (at == s || (*s == '0' && (at - s > 1 || minus))) fault("BadNumber");
+    if (at < stop && *at != ' ' && *at != '\n' && *at != ':') fault("BadNumber");
     int64_t w = minus ? -(int64_t)v : (int64_t)v;
     if (far || w < lo || w > hi) fault("OutOfRange");
     return w;
@@ -268,12 +280,16 @@ static void read_program(void) {
     for (int n = 0; n < N; n++) {
         Code *c = codes + n;
         if (is("in")) { c->op = 'i'; c->a = (int)field(0, I - 1); c->f = (int)field(-64, 62); }
-        else if (is("st")) { c->op = 's'; c->a = (int)field(0, K - 1); c->f = (int)field(-64, 62); c->w = field(-(INT64_C(1) << 62), INT64_C(1) << 62); }
-        else if (is("add")) {
-            c->op = 'a'; c->a = (int)field(0, n - 1); c->b = (int)field(0, n - 1); c->sa = (int)field(-width, 64); c->sb = (int)field(-width, 64);
+        else if (is("st")) {
+            c->op = 's'; c->a = (int)field(0, K - 1); c->f = (int)field(-64, 62);
+            c->w = field(-(INT64_C(1) << 62), INT64_C(1) << 62);
+        } else if (is("add")) {
+            c->op = 'a'; c->a = (int)field(0, n - 1); c->b = (int)field(0, n - 1);
+            c->sa = (int)field(-width, 64); c->sb = (int)field(-width, 64);
             c->f = codes[c->a].f - c->sa;
-        } else if (is("copy")) { c->op = 'c'; c->a = (int)field(0, n - 1); c->sa = (int)field(-width, 64); c->f = codes[c->a].f - c->sa; }
-        else fault("BadLine");
+        } else if (is("copy")) {
+            c->op = 'c'; c->a = (int)field(0, n - 1); c->sa = (int)field(-width, 64); c->f = codes[c->a].f - c->sa;
+        } else fault("BadLine");
         if (c->f < -64 || c->f > 62) fault("OutOfRange");
         end_of_line();
     }
@@ -408,7 +424,10 @@ static Dy unit(int f) { Dy r = {f >= 0 ? 1 : (Int)1 << -f, f >= 0 ? f : 0}; retu
 static In rounding(int s, int f) { In r = ZERO; if (s > 0) r.lo = opposite(unit(f)); return r; }
 static Dy value(Int w, int f) { Dy r = {f >= 0 ? w : w << -f, f >= 0 ? f : 0}; return r; }
 
-static void refused(const char *kind, const char *part, int index) { printf("%s at %s %d\n", kind, part, index); exit(1); }
+static void refused(const char *kind, const char *part, int index) {
+    printf("%s at %s %d\n", kind, part, index);
+    exit(1);
+}
 
 static Dy coefficient(int n, int k) {
     Dy r = {0, 0};
@@ -428,7 +447,10 @@ static In bound(const Dy *c, In z, int error, Shares by) {
     for (int s = 0; s < by.count; s++) z = add(z, scale(of(by.list[s].times), span(rows[error][by.list[s].row].bound)));
     for (int k = 0; k < K; k++) {
         Dy r = c[I + k];
-        for (int s = 0; s < by.count; s++) r = plus(r, opposite(times(of(by.list[s].times), of(rows[error][by.list[s].row].c[k]))));
+        for (int s = 0; s < by.count; s++) {
+            Share share = by.list[s];
+            r = plus(r, opposite(times(of(share.times), of(rows[error][share.row].c[k]))));
+        }
         z = add(z, scale(r, span(rows[error][k].bound)));
     }
     return z;
@@ -440,8 +462,10 @@ static void check_node(int n) {
     In g = span(l->g), h = span(l->h);
     if (l->is_form) {
         In p = rest(c->a, 0), q = rest(c->a, 1);
-        if (c->op == 'a') { p = add(p, rest(c->b, 0)); q = add(add(add(q, rest(c->b, 1)), rounding(c->sa, c->f)), rounding(c->sb, c->f)); }
-        else q = add(q, rounding(c->sa, c->f));
+        if (c->op == 'a') {
+            p = add(p, rest(c->b, 0));
+            q = add(add(add(q, rest(c->b, 1)), rounding(c->sa, c->f)), rounding(c->sb, c->f));
+        } else q = add(q, rounding(c->sa, c->f));
         for (int k = 0; k < I + K; k++) {
             Dy d = coefficient(c->a, k);
             if (c->op == 'a') d = plus(d, coefficient(c->b, k));
@@ -461,11 +485,15 @@ static void check_node(int n) {
     if (!inside(range, g)) refused("Range", "node", n);
     if (l->by_error) error = bound(all, span(l->q), 1, l->error_by);
     else if (c->op == 's') error = span(rows[1][c->a].bound);
-    else if (c->op == 'a') error = add(add(add(of_node(c->a, 1), of_node(c->b, 1)), rounding(c->sa, c->f)), rounding(c->sb, c->f));
+    else if (c->op == 'a') {
+        error = add(of_node(c->a, 1), of_node(c->b, 1));
+        error = add(add(error, rounding(c->sa, c->f)), rounding(c->sb, c->f));
+    }
     else if (c->op == 'c') error = add(of_node(c->a, 1), rounding(c->sa, c->f));
     else if (c->op == 'i') error.lo = opposite(unit(c->f));
     if (!inside(error, h)) refused("Error", "node", n);
-    if (!below(value(-((Int)1 << (width - 1)), c->f), plus(g.lo, h.lo)) || !below(plus(g.hi, h.hi), value(((Int)1 << (width - 1)) - 1, c->f)))
+    const Int end = (Int)1 << (width - 1);
+    if (!below(value(-end, c->f), plus(g.lo, h.lo)) || !below(plus(g.hi, h.hi), value(end - 1, c->f)))
         refused("WordTooSmall", "node", n);
 }
 
@@ -482,7 +510,8 @@ static void check_row(int error, int i) {
         start = add(start, scale(of(r->c[k]), span(starts[k][error])));
     }
     if (!inside(start, span(r->bound))) refused("Start", error ? "errorrow" : "row", i);
-    if (!inside(bound(g, z, error, r->shares), span(r->bound))) refused(error ? "ErrorRow" : "Row", error ? "errorrow" : "row", i);
+    if (!inside(bound(g, z, error, r->shares), span(r->bound)))
+        refused(error ? "ErrorRow" : "Row", error ? "errorrow" : "row", i);
 }
 
 int main(int argc, char **argv) {

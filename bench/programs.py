@@ -4,22 +4,24 @@ For bench/states.py and driven.py, which takes the codes alone.
 
 The model is that of the certificate, with each rounding as a source of its own:
 
-- reading an input gives an error from `-err - u` to `err`, where `u` is the unit of the code's point and `err` the input's own error;
-- a product, a copy, and each operand of a sum or difference, that is shifted to the right loses from 0 to `u`; a quotient's error
-  is from `-u` to `u`;
-- a literal's word differs from it by a fixed `d`: of a sum it is a fixed error, and of a product with `y` a source from the least to the
-  greatest of `d * y`, over the exact limits of `y`. The word, not the literal, then carries errors on. A code of literals alone has a
-  word that is known, and is taken like a literal;
+- reading an input gives an error from `-err - u` to `err`, where `u` is the unit of the code's point and `err` the
+  input's own error;
+- a product, a copy, and each operand of a sum or difference, that is shifted to the right loses from 0 to `u`; a
+  quotient's error is from `-u` to `u`;
+- a literal's word differs from it by a fixed `d`: of a sum it is a fixed error, and of a product with `y` a source from
+  the least to the greatest of `d * y`, over the exact limits of `y`. The word, not the literal, then carries errors on.
+  A code of literals alone has a word that is known, and is taken like a literal;
 - a state's word starts at its declared start, rounded.
 
-Each source lies anew in its interval at each step, whatever the others do; the one rounding that enters several next states or outputs is
-one source. The worst case is the sum over all steps before. A literal is the one of the source, or its negative, that the code's certified
-range holds; where rewriting made another one, its word is taken to be off by the middle of the code's certified error.
+Each source lies anew in its interval at each step, whatever the others do; the one rounding that enters several next
+states or outputs is one source. The worst case is the sum over all steps before. A literal is the one of the source, or
+its negative, that the code's certified range holds; where rewriting made another one, its word is taken to be off by
+the middle of the code's certified error.
 """
 from dataclasses import dataclass, field
 from fractions import Fraction
 
-from linear import direct, plus, reach, times
+from linear import direct, plus, reach, scaled
 
 OPERANDS = {"in": 0, "st": 0, "const": 0, "neg": 1, "copy": 1, "add": 2, "sub": 2, "mul": 2, "div": 2}
 ONE = -1
@@ -92,7 +94,8 @@ def combined(first, factor, second, other):
 
 @dataclass
 class Node:
-    """The exact value of a code as a form of variables, its error as a form of sources, and the word where it is known."""
+    """The exact value of a code as a form of variables, its error as a form of sources, and the word where it is
+    known."""
     exact: dict
     error: dict = field(default_factory=dict)
     word: int = None
@@ -140,7 +143,8 @@ class Roundings:
             return Node({self.inputs + code.numbers[0]: Fraction(1)}, {code.numbers[0]: Fraction(1)})
         if code.word == "const":
             literal = literal_in(ends, self.literals)
-            return self.known({ONE: code.numbers[0] * u - sum(off) / 2 if literal is None else literal}, code.numbers[0], u)
+            return self.known({ONE: code.numbers[0] * u - sum(off) / 2 if literal is None else literal},
+                              code.numbers[0], u)
         parts = [self.nodes[k] for k in code.operands]
         exact = self.exact(code.word, parts)
         if all(part.word is not None for part in parts):
@@ -205,7 +209,7 @@ class Roundings:
 
     def off_by(self, factor, exact):
         """The source of a factor that is off, times what it is multiplied with."""
-        return self.source(*times(factor, self.span(exact))) if factor else {}
+        return self.source(*scaled(factor, self.span(exact))) if factor else {}
 
     def limits(self):
         """Returns the least interval that holds the error of each output at all times, or None where there is none."""
@@ -213,14 +217,16 @@ class Roundings:
         count = len(self.linear.C)
         following = [node.error for node in self.nodes[first:]]
         A = [[form.get(k, Fraction(0)) for k in range(self.states)] for form in following]
-        drives = [([form.get(s, Fraction(0)) for form in following], self.sources[s]) for s in range(self.states, len(self.sources))]
+        drives = [([form.get(s, Fraction(0)) for form in following], self.sources[s])
+                  for s in range(self.states, len(self.sources))]
         start = []
         for code, value in zip(self.codes[self.inputs:], self.linear.start):
             start.append(code.numbers[2] * unit(code.point) - value)
         limits = []
         for node in self.nodes[first - count:first]:
             row = [node.error.get(k, Fraction(0)) for k in range(self.states)]
-            own = direct([node.error.get(s, Fraction(0)) for s in range(self.states, len(self.sources))], self.sources[self.states:])
+            own = direct([node.error.get(s, Fraction(0)) for s in range(self.states, len(self.sources))],
+                         self.sources[self.states:])
             ends = reach(row, A, drives, start)
             limits.append(ends and plus(ends, own))
         return limits

@@ -1,10 +1,12 @@
 #!/usr/bin/env python3
-"""Measures how good the programs that `synth` finds are: quality.py [PROGRAM] [--widths 8,16,..] [--tries 20,200,..] [--rounds floor,nearest] [--seconds]
+"""Measures how good the programs that `synth` finds are: quality.py [PROGRAM] [--widths 8,16,..] [--tries 20,200,..]
+[--rounds floor,nearest] [--seconds]
 
-For each function without state of examples/daisy and of bench/functions.fixd: the certified bound after so many tries over that of the
-program as it is written, which 0 tries give at floor (of several outputs the mean of their quotients). It prints two tables, as they stand in
-docs/quality.md: median, geometric mean and worst of the functions at each width, and each function at 32 bits. `-` stands where nothing is found. With
---seconds it says on the error stream what each call took. Outside the gate; it takes some minutes.
+For each function without state of examples/daisy and of bench/functions.fixd: the certified bound after so many tries
+over that of the program as it is written, which 0 tries give at floor (of several outputs the mean of their quotients).
+It prints two tables, as they stand in docs/quality.md: median, geometric mean and worst of the functions at each width,
+and each function at 32 bits. `-` stands where nothing is found. With --seconds it says on the error stream what each
+call took. Outside the gate; it takes some minutes.
 """
 import argparse
 import glob
@@ -47,7 +49,8 @@ class Measuring:
 
     def __init__(self, words):
         self.fixd = Fixd(os.path.abspath(words.program))
-        self.columns = [(rounding, int(tries)) for rounding in words.rounds.split(",") for tries in words.tries.split(",")]
+        self.columns = [(rounding, int(tries)) for rounding in words.rounds.split(",")
+                        for tries in words.tries.split(",")]
         self.tells = words.seconds
 
     def bounds(self, path, name, width, rounding, tries):
@@ -74,11 +77,12 @@ class Measuring:
 def summed(column):
     """The median, the geometric mean and the worst."""
     values = [value for value in column if value is not None]
-    return f"{statistics.median(values):.3f}, {statistics.geometric_mean(values):.3f}, {max(values):.3f}" if values else "-"
+    return (f"{statistics.median(values):.3f}, {statistics.geometric_mean(values):.3f}, {max(values):.3f}" if values
+            else "-")
 
 
 def main():
-    parser = argparse.ArgumentParser(description=__doc__.splitlines()[0])
+    parser = argparse.ArgumentParser(description=__doc__.split("\n\n")[0])
     parser.add_argument("program", nargs="?", default=os.path.join(HERE, "../build/fixd"))
     parser.add_argument("--widths", default="8,16,24,32,48,64")
     parser.add_argument("--tries", default="1,20,200,800")
@@ -92,7 +96,8 @@ def main():
     kept = []
     for width in widths:
         rows = [(name, measuring.row(path, name, width)) for path, name in each]
-        print(f"| {width} | " + " | ".join(summed(column) for column in zip(*(row for _, row in rows))) + " |", flush=True)
+        print(f"| {width} | " + " | ".join(summed(column) for column in zip(*(row for _, row in rows))) + " |",
+              flush=True)
         kept = rows if width == SHOWN_WIDTH else kept
     print(f"\n| function | {measuring.heads()} |")
     print("|---" * (1 + len(measuring.columns)) + "|")

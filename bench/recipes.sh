@@ -1,7 +1,7 @@
 #!/usr/bin/env bash
-# Tries the recipes of docs/recipes.md with build/fixd, in a folder of its own. GNU parallel, Dask, cargo and gcc are left out where they
-# aren't installed.
-# Outside the gate, which builds no program at a fixed place. bench/recipes.sh [PROGRAM]
+# Tries the recipes of docs/recipes.md with build/fixd, in a folder of its own. GNU parallel, Dask, cargo and gcc are
+# left out where they aren't installed. Outside the gate, which builds no program at a fixed place.
+# bench/recipes.sh [PROGRAM]
 set -euo pipefail
 cd "$(dirname "$0")/.."
 
@@ -20,10 +20,11 @@ cd "$folder"
 mkdir bin && ln -s "$program" bin/fixd && PATH="$folder/bin:$PATH"
 
 wrong() { echo "recipes: not so: $1" >&2; exit 1; }
-same() { cmp "$2" "$3" && echo "$1: as it should be" || wrong "$1"; }
+right() { echo "$1: as it should be"; }
+same() { cmp "$2" "$3" && right "$1" || wrong "$1"; }
 
 fixd synth --width 16 smooth.fixd > smooth.bundle
-[ "$(fixd check smooth.bundle | head -1)" = accepted ] && echo "synth and check: as they should be" || wrong "synth and check: as they should be"
+[ "$(fixd check smooth.bundle | head -1)" = accepted ] && right "synth and check" || wrong "synth and check"
 
 fixd migrate smooth.bundle > second.bundle
 fixd check second.bundle | same "migrate" - <(fixd check smooth.bundle)
@@ -42,7 +43,8 @@ fixd node --units 2 average.bundle < motors.csv > motors.out
 printf 'unit,out1\n0,0.5\n1,0.5\n0,0.75\n1,0.25\n' | same "many units" - motors.out
 printf 'name,u\nleft,1\nright,1\nleft,1\nright,0\n' > named.csv
 awk -F, -v OFS=, 'NR == 1 { print "unit,u"; next }
-    !($1 in unit) { unit[$1] = count++; print unit[$1], $1 > "units.csv" } { print unit[$1], $2; fflush() }' named.csv | same "units by names" - motors.csv
+    !($1 in unit) { unit[$1] = count++; print unit[$1], $1 > "units.csv" } { print unit[$1], $2; fflush() }' named.csv |
+  same "units by names" - motors.csv
 printf '0,left\n1,right\n' | same "the table of names" - units.csv
 
 # parts by split
@@ -53,7 +55,8 @@ cat part.??.out > split.out
 same "parts by split" whole.out split.out
 
 if command -v parallel > /dev/null; then
-  parallel --will-cite --pipepart --header : --block 10k -a all.csv -k 'fixd run smooth.bundle | tail -n +2' > parallel.out
+  parallel --will-cite --pipepart --header : --block 10k -a all.csv -k 'fixd run smooth.bundle | tail -n +2' \
+    > parallel.out
   same "parts by parallel" whole.out parallel.out
   mkdir logs && cp all.csv logs/a.csv && cp smooth.csv logs/b.csv
   parallel --will-cite 'fixd run smooth.bundle < {} > {.}.out' ::: logs/*.csv
@@ -70,21 +73,25 @@ awk -v ranges='now:-1:1 last:-1:1 older:-1:1' -f good.awk log.csv 2> dropped.lin
 printf 'now,last,older\n0.5,0.25,0.5\n-0.5,1,1e-1\n' | fixd run smooth.bundle | same "rows that are good" - good.out
 [ "$(cat dropped.line)" = "3 rows dropped" ] && echo "rows that are bad: counted" || wrong "rows that are bad: counted"
 
-printf 'now;last;older\n0,5;0,25;0,5\n' | sed 's/,/./g; s/;/,/g' | fixd run smooth.bundle | same "a decimal comma" - <(head -2 good.out)
+printf 'now;last;older\n0,5;0,25;0,5\n' | sed 's/,/./g; s/;/,/g' | fixd run smooth.bundle |
+  same "a decimal comma" - <(head -2 good.out)
 
 printf 'now,last,older\r\n0.5,0.25,0.5\r\n\r\n1,1,1\r\n' > log.csv
 sed 's/\r$//; /^$/d' log.csv > rows.csv
 fixd run smooth.bundle < rows.csv > out.csv && paste -d, rows.csv out.csv > both.csv
-[ "$(head -1 both.csv)" = now,last,older,out1 ] && [ "$(wc -l < both.csv)" = 3 ] && echo "answers beside rows: as they should be" || wrong "answers beside rows: as they should be"
+[ "$(head -1 both.csv)" = now,last,older,out1 ] && [ "$(wc -l < both.csv)" = 3 ] &&
+  right "answers beside rows" || wrong "answers beside rows"
 
 # numbers of other tools
 printf 'x\n1.2345678901234568e-05\n-0.12345678901234567\n12.345678901234567\n0.5\n' > floats.csv
-printf 'def f(x: Real): Real = {\n  require(-20 <= x && x <= 20 && x +/- 0.00000000000000005)\n  x + 0.5\n}\n' > floats.fixd
+printf 'def f(x: Real): Real = {\n  require(-20 <= x && x <= 20 && x +/- 0.00000000000000005)\n  x + 0.5\n}\n' \
+  > floats.fixd
 fixd synth --width 32 floats.fixd > floats.bundle
 status=0; fixd run floats.bundle < floats.csv > /dev/null 2>&1 || status=$?
 [ "$status" = 5 ] && echo "long numbers: refused as they are" || wrong "long numbers: refused as they are"
 shown "    awk -F, -v OFS=, 'NR > 1 { for" "floats.csv\$" > cut.sh
-bash cut.sh > short.csv && fixd run floats.bundle < short.csv > floats.out && [ "$(wc -l < floats.out)" = 5 ] && echo "long numbers: cut" || wrong "long numbers: cut"
+bash cut.sh > short.csv && fixd run floats.bundle < short.csv > floats.out && [ "$(wc -l < floats.out)" = 5 ] &&
+  right "long numbers, cut" || wrong "long numbers, cut"
 
 # a function in two
 printf 'def divisor(x: Real): Real = { require(-5 <= x && x <= 5) 1 + x * x }\n' > first.fixd
@@ -93,37 +100,45 @@ fixd synth --width 24 first.fixd > first.bundle
 fixd synth --width 24 second.fixd > second.bundle
 printf 'x\r\n0.1\r\n\r\n-2.25\r\n4.3123457\r\n' > rows.csv
 shown "    sed 's.*rows.csv > whole.csv" "second.bundle\$" | tail -2 > split.sh && bash split.sh > split.out
-[ "$(wc -l < split.out)" = 4 ] && awk 'NR == 2 { if ($1 < 0.989 || $1 > 0.991) exit 1 }' split.out && echo "a function in two: as it should be" || wrong "a function in two: as it should be"
+[ "$(wc -l < split.out)" = 4 ] && awk 'NR == 2 { if ($1 < 0.989 || $1 > 0.991) exit 1 }' split.out &&
+  right "a function in two" || wrong "a function in two"
 
 # a demand that isn't met, and what was reached
-printf 'def f(x: Real): Real = {\n  require(0 <= x && x <= 1)\n  0.3 * x\n} ensuring(out => out +/- 0.0000001)\n' > tight.fixd
+printf 'def f(x: Real): Real = {\n  require(0 <= x && x <= 1)\n  0.3 * x\n} ensuring(out => out +/- 0.0000001)\n' \
+  > tight.fixd
 status=0; fixd synth --width 16 tight.fixd > /dev/null 2> bad.line || status=$?
 [ "$status" = 9 ] && [ "$(cat bad.line)" = "fixd: not found: output 1" ] || wrong "a demand that isn't met"
 sed 's/ensuring *(.*)//' tight.fixd > free.fixd
-fixd synth --width 16 free.fixd > free.bundle && fixd check free.bundle | grep -q '^out1 [0-9]' && echo "what was reached: shown" || wrong "what was reached: shown"
+fixd synth --width 16 free.fixd > free.bundle && fixd check free.bundle | grep -q '^out1 [0-9]' &&
+  right "what was reached" || wrong "what was reached"
 
 # a bound that is useless
 printf 'def ratio(z: Real): Real = { require(0 <= z && z <= 999) z / (z + 1) }\n' > ratio.fixd
 fixd synth --width 16 ratio.fixd > ratio.bundle
-[ "$(fixd check ratio.bundle | tail -1)" = "out1 501/2^4" ] && echo "a useless bound: as it should be" || wrong "a useless bound"
+[ "$(fixd check ratio.bundle | tail -1)" = "out1 501/2^4" ] && right "a useless bound" || wrong "a useless bound"
 sed -i 's:z / (z + 1):1 - 1 / (z + 1):' ratio.fixd && fixd synth --width 16 ratio.fixd > ratio.bundle
-[ "$(fixd check ratio.bundle | tail -1)" = "out1 1087555/2^26" ] && echo "a useless bound: mended" || wrong "a useless bound: mended"
+[ "$(fixd check ratio.bundle | tail -1)" = "out1 1087555/2^26" ] &&
+  right "a bound mended" || wrong "a bound mended"
 
 # a page of evidence
-"$companion/fixd-tools" --fixd "$program" report smooth.bundle > smooth.md && grep -q '^| out | 3/2^14 | 0.0001832 | within 0.001 |$' smooth.md \
-  && echo "a page of evidence: as it should be" || wrong "a page of evidence: as it should be"
+"$companion/fixd-tools" --fixd "$program" report smooth.bundle > smooth.md
+grep -q '^| out | 3/2^14 | 0.0001832 | within 0.001 |$' smooth.md &&
+  right "a page of evidence" || wrong "a page of evidence"
 
 # a controller with an integral, as the page has it
 shown "    def pi(setpoint" "^    }\$" > pi.fixd
 fixd synth --width 32 pi.fixd > pi.bundle
-fixd check pi.bundle | awk -F'[ /^]' '/^out1/ { exit !($2 / 2^$4 < 0.0000013) }' && echo "an integral outside: as it should be" || wrong "an integral outside"
+fixd check pi.bundle | awk -F'[ /^]' '/^out1/ { exit !($2 / 2^$4 < 0.0000013) }' &&
+  right "an integral outside" || wrong "an integral outside"
 
 # a scheduler and two workers
 python=/usr/bin/python3
 if command -v dask-scheduler > /dev/null && "$python" -c 'import distributed' 2> /dev/null; then
   address=tcp://127.0.0.1:8786
   dask-scheduler --host 127.0.0.1 --port 8786 --no-dashboard > scheduler.log 2>&1 & started+=($!)
-  for worker in 1 2; do dask-worker "$address" --nthreads 1 --no-nanny --no-dashboard > "worker$worker.log" 2>&1 & started+=($!); done
+  for worker in 1 2; do
+    dask-worker "$address" --nthreads 1 --no-nanny --no-dashboard > "worker$worker.log" 2>&1 & started+=($!)
+  done
   "$python" "$bench/dask_rows.py" "$address" smooth.bundle all.csv --block 10000 > dask.out
   same "rows by Dask" whole.out dask.out
   { echo u; for n in $(seq 1 300); do echo "0.$((n % 7))"; done; } > monday.csv
@@ -148,13 +163,14 @@ fixd run average.bundle < "$device/tests/rows.csv" | same "the device's page" - 
 fixd synth --width 24 "$average/average.fixd" > other.bundle
 if command -v cargo > /dev/null; then
   "$companion/fixd-tools" --fixd "$program" device other.bundle --to device_rust > device.log
-  device_rust/test-here.sh > cargo.log 2>&1 && echo "a crate: as it should be" || wrong "a crate"
+  device_rust/test-here.sh > cargo.log 2>&1 && right "a crate" || wrong "a crate"
   device_rust/test-emulated.sh || [ $? = 77 ] || wrong "a crate on an emulated processor"
 else
   echo "cargo isn't installed: left out"
 fi
-if command -v cc > /dev/null && "$companion/fixd-tools" --fixd "$program" device other.bundle --to device_c --language c > device.log; then
-  device_c/test-here.sh > cc.log 2>&1 && echo "in C: as it should be" || wrong "in C"
+if command -v cc > /dev/null &&
+  "$companion/fixd-tools" --fixd "$program" device other.bundle --to device_c --language c > device.log; then
+  device_c/test-here.sh > cc.log 2>&1 && right "in C" || wrong "in C"
   device_c/test-emulated.sh || [ $? = 77 ] || wrong "C on an emulated processor"
 else
   echo "cc or fixd-c isn't there: left out"
@@ -162,12 +178,13 @@ fi
 
 # statuses
 status=0; printf 'now,last,older\n0,0,0\n2,0,0\n' | fixd run smooth.bundle > bad.out 2> bad.line || status=$?
-[ "$status" = 5 ] && [ "$(cat bad.line)" = "fixd: row: OutOfRange at line 3 column now" ] && echo "a bad row: as it should be" || wrong "a bad row: as it should be"
+[ "$status" = 5 ] && [ "$(cat bad.line)" = "fixd: row: OutOfRange at line 3 column now" ] &&
+  right "a bad row" || wrong "a bad row"
 status=0; echo 'def f(x: Real, y: Real): Real = { require(1 <= x && x <= 2 && -1 <= y && y <= 1) x / y }' > q.fixd
 fixd synth --width 16 q.fixd 2> bad.line || status=$?
-[ "$status" = 9 ] && [ "$(cat bad.line)" = "fixd: not found: node 2" ] && echo "nothing found: as it should be" || wrong "nothing found: as it should be"
+[ "$status" = 9 ] && [ "$(cat bad.line)" = "fixd: not found: node 2" ] && right "nothing found" || wrong "nothing found"
 
 # where a fault stands
 printf 'def f(x: Real): Real = {\n  require(0 <= x && x <= 1)\n  x + y\n}\n' > f.fixd
 "$companion/fixd-tools" --fixd "$program" explain synth --width 16 f.fixd 2> told || true
-grep -q "^f.fixd:3:7: nothing above is called 'y'\$" told && echo "a caret: as it should be" || wrong "a caret: as it should be"
+grep -q "^f.fixd:3:7: nothing above is called 'y'\$" told && right "a caret" || wrong "a caret"

@@ -1,20 +1,21 @@
 #!/usr/bin/env python3
 """Refuses each request for memory of a few runs in turn: refused.py [--most N] [PROGRAM [RUN ..]]
 
-Tested is what docs/messages.md says of status 8, and that no refusal is lost or half said. Each run is made once in full; then once more for
-each of its requests, which `refuse.c` refuses, and again with all behind it refused too. Where a run has more than N requests (3,000
-without it), a sample spread over all of them is refused, and the table says so. Each must end
+Tested is what docs/messages.md says of status 8, and that no refusal is lost or half said. Each run is made once in
+full; then once more for each of its requests, which `refuse.c` refuses, and again with all behind it refused too. Where
+a run has more than N requests (3,000 without it), a sample spread over all of them is refused, and the table says so.
+Each must end
 
 - `whole`: with status, output and line of the run in which nothing is refused; or
 - with 8 and `fixd: out of memory`, and a front of that run's output; or
 - where the standard library met the refusal while it read or wrote, with 6 or 7 and its line, and such a front.
 
-`limits` is `check` of a bundle of 2 MB under limits on all memory (RLIMIT_AS) from 3,000 to 40,000 KiB, which ends in the first or the second of these
-ways, once there is enough for the program to begin.
+`limits` is `check` of a bundle of 2 MB under limits on all memory (RLIMIT_AS) from 3,000 to 40,000 KiB, which ends in
+the first or the second of these ways, once there is enough for the program to begin.
 
-Anything else is a fault: a signal, another status or line, other output, or one that isn't over after ten minutes. It is shown with the command that
-repeats it, and the script ends with 1. A RUN is one of the names in the table, or `limits`; without one, all are made. Outside the gate: it
-needs a built program, `cc`, and the GNU C library.
+Anything else is a fault: a signal, another status or line, other output, or one that isn't over after ten minutes. It
+is shown with the command that repeats it, and the script ends with 1. A RUN is one of the names in the table, or
+`limits`; without one, all are made. Outside the gate: it needs a built program, `cc`, and the GNU C library.
 """
 import os
 import resource
@@ -74,7 +75,8 @@ class Refuser:
     def __init__(self, program, folder):
         self.program, self.count = program, os.path.join(folder, "count")
         self.library = os.path.join(folder, "refuse.so")
-        subprocess.run(["cc", "-shared", "-fPIC", "-O1", "-o", self.library, os.path.join(HERE, "refuse.c")], check=True)
+        subprocess.run(["cc", "-shared", "-fPIC", "-O1", "-o", self.library, os.path.join(HERE, "refuse.c")],
+                       check=True)
 
     def settings(self, at, behind):
         """The environment in which the request of this number is refused, or none where it is 0."""
@@ -86,7 +88,8 @@ class Refuser:
         settings = {"ASAN_OPTIONS": "verify_asan_link_order=0", **os.environ, **self.settings(at, behind)}
         with open(rows, "rb") as source:
             try:
-                ran = subprocess.run([self.program, *words], stdin=source, capture_output=True, env=settings, timeout=600)
+                ran = subprocess.run([self.program, *words], stdin=source, capture_output=True, env=settings,
+                                     timeout=600)
             except subprocess.TimeoutExpired:
                 return None, b"", b""
         return ran.returncode, ran.stdout, ran.stderr
@@ -134,7 +137,8 @@ def refuse(refuser, name, words, rows, most):
             ends[end] += 1
             if end is None:
                 faults += 1
-                print(f"FAULT: status {seen[0]}, {seen[1][:200]!r}, {seen[2][:400]!r}: {refuser.repeat(words, rows, at, behind)}")
+                print(f"FAULT: status {seen[0]}, {seen[1][:200]!r}, {seen[2][:400]!r}: "
+                      f"{refuser.repeat(words, rows, at, behind)}")
     part = "each" if len(tried) == count else f"{len(tried):,} of them"
     told = " | ".join(f"{ends[end]:,}" for end in ("8", "6", "7", "whole", None))
     print(f"| {name} | {whole[0]} | {count:,} | {part} | {told} |", flush=True)
@@ -142,7 +146,8 @@ def refuse(refuser, name, words, rows, most):
 
 
 def limited(program, path, limit):
-    """Status, output and line of `check` where all memory is limited to so many KiB; status 127 where the program can't begin."""
+    """Status, output and line of `check` where all memory is limited to so many KiB; status 127 where the program can't
+    begin."""
     def narrow():
         resource.setrlimit(resource.RLIMIT_AS, (limit * 1024, limit * 1024))
     try:
@@ -180,7 +185,8 @@ def main():
     faults = 0
     with tempfile.TemporaryDirectory() as folder:
         refuser = Refuser(os.path.abspath(program), folder)
-        print("| run | status | requests | refused | 8 | 6 | 7 | whole | faults |\n|---|---|---|---|---|---|---|---|---|")
+        print("| run | status | requests | refused | 8 | 6 | 7 | whole | faults "
+              "|\n|---|---|---|---|---|---|---|---|---|")
         for name, called, rows in runs(folder):
             if not words[1:] or name in words[1:]:
                 faults += refuse(refuser, name, called, rows, most)

@@ -1,9 +1,10 @@
 #!/usr/bin/env python3
 """Measures how fast `synth` searches: search.py [PROGRAM]
 
-Seconds of the processor (the least of three runs) and resident memory of `synth` on functions of 20, 40, 150 and 1,500 nodes, sums of products of
-four inputs, at 0, 200, 2,000 and 4,000 tries, and of doppler at 200 tries. Tries after which every single step was looked at are the search's
-alone: the attempts a second are those between the last two. Outside the gate: figures depend on the machine.
+Seconds of the processor (the least of three runs) and resident memory of `synth` on functions of 20, 40, 150 and 1,500
+nodes, sums of products of four inputs, at 0, 200, 2,000 and 4,000 tries, and of doppler at 200 tries. Tries after which
+every single step was looked at are the search's alone: the attempts a second are those between the last two. Outside
+the gate: figures depend on the machine.
 """
 import os
 import resource

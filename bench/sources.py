@@ -8,8 +8,8 @@ TOKEN = re.compile(r"\s+|//[^\n]*|/\*.*?\*/|(\d+(?:\.\d+)?(?:[eE][+-]?\d+)?|[A-Z
 
 @dataclass
 class Function:
-    """A function of a source: its inputs by name with both ends and the error, its trees, and its outputs that `ensuring` names with
-    what is demanded of them."""
+    """A function of a source: its inputs by name with both ends and the error, its trees, and its outputs that
+    `ensuring` names with what is demanded of them."""
     name: str
     inputs: dict = field(default_factory=dict)
     states: dict = field(default_factory=dict)

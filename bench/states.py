@@ -1,20 +1,23 @@
 #!/usr/bin/env python3
-"""Measures what `synth` finds for functions with state: states.py [PROGRAM] [--widths 16,24,..] [--bundles FOLDER] [--write]
+"""Measures what `synth` finds for functions with state: states.py [PROGRAM] [--widths 16,24,..] [--bundles FOLDER]
+[--write]
 
-For each source of examples/states and each width: whether a bundle is found and in how many seconds, and, where the source is linear,
-how far its certificate is from the least that holds:
+For each source of examples/states and each width: whether a bundle is found and in how many seconds, and, where the
+source is linear, how far its certificate is from the least that holds:
 
-- *range / limit*: the width of the certified range of a state or output over that of the least interval that holds its exact value at
-  all times, for any inputs in range: sums of absolute impulse responses, and the way back from the start. The worst state or output.
-- *error / limit*: the certified bound of an output over the worst error that the roundings of this very program can add up to, each
-  rounding taken as a source of its own (bench/programs.py says exactly what is counted). The worst output.
+- *range / limit*: the width of the certified range of a state or output over that of the least interval that holds its
+  exact value at all times, for any inputs in range: sums of absolute impulse responses, and the way back from the
+  start. The worst state or output.
+- *error / limit*: the certified bound of an output over the worst error that the roundings of this very program can add
+  up to, each rounding taken as a source of its own (bench/programs.py says exactly what is counted). The worst output.
 
-- *nearest*: whether a bundle that rounds to the nearest is found, and its bounds over those of the one that rounds down, their mean.
+- *nearest*: whether a bundle that rounds to the nearest is found, and its bounds over those of the one that rounds
+  down, their mean.
 
-1 means that no certificate of that program can be narrower, if roundings are looked at one by one. Of a nonlinear source no limits are
-known. A source whose comment begins with `not found` has no bound and must end so; all others count. With --bundles the bundles are
-kept as NAME.WIDTH.bundle, and with --write the tables go to docs/measures.md. Outside the gate: it takes some minutes, and seconds depend
-on the machine.
+1 means that no certificate of that program can be narrower, if roundings are looked at one by one. Of a nonlinear
+source no limits are known. A source whose comment begins with `not found` has no bound and must end so; all others
+count. With --bundles the bundles are kept as NAME.WIDTH.bundle, and with --write the tables go to docs/measures.md.
+Outside the gate: it takes some minutes, and seconds depend on the machine.
 """
 import os
 import sys
@@ -46,7 +49,8 @@ def width_of(ends):
 
 def holds(certified, limit):
     """Says whether an interval holds a limit, but for what its sum lost on the way."""
-    return limit is not None and certified[0] <= limit[0] + LOST * width_of(limit) and limit[1] - LOST * width_of(limit) <= certified[1]
+    return (limit is not None and certified[0] <= limit[0] + LOST * width_of(limit)
+            and limit[1] - LOST * width_of(limit) <= certified[1])
 
 
 def told(ends):
@@ -65,7 +69,8 @@ def unit_row(k, count):
 def limits_of(linear):
     """Returns the least intervals of the states and of the outputs."""
     states, none = len(linear.A), [0] * len(linear.ranges)
-    return [linear.span(unit_row(k, states), none) for k in range(states)] + [linear.span(c, d) for c, d in zip(linear.C, linear.D)]
+    return ([linear.span(unit_row(k, states), none) for k in range(states)]
+            + [linear.span(c, d) for c, d in zip(linear.C, linear.D)])
 
 
 def certified_of(source, ranges):
@@ -76,7 +81,8 @@ def certified_of(source, ranges):
 
 
 def ratios(fixd, source, path):
-    """Returns both ratios of a linear source's bundle; ends the script where what is certified doesn't hold its limit."""
+    """Returns both ratios of a linear source's bundle; ends the script where what is certified doesn't hold its
+    limit."""
     intervals, limits = fixd.intervals_of(path), limits_of(source.linear)
     with open(path, encoding="utf-8") as file:
         codes = codes_of(file.read())
@@ -112,7 +118,8 @@ def source_line(source, row, widths):
     found = " ".join(str(width) for width, at in zip(widths, row) if at.found) or "no"
     kind = source.kind() + (f", {source.mark}" if source.mark == "a limit" else "")
     seconds = max(at.seconds for at in row)
-    fields = [f"`{source.name}`", kind if source.mark != "not found" else "unbounded", len(source.function.states), found]
+    fields = [f"`{source.name}`", kind if source.mark != "not found" else "unbounded", len(source.function.states),
+              found]
     is_measured = source.linear and found != "no"
     fields += [shown(at.range_ratio for at in row), shown(at.error_ratio for at in row)] if is_measured else ["", ""]
     return "| " + " | ".join(map(str, [*fields, f"{seconds:.2f}"])) + " |"
@@ -126,16 +133,19 @@ def width_line(width, column):
     nearest = [at.nearest_ratio for at in column if at.nearest_ratio is not None]
     count = sum(at.found_nearest for at in column)
     seconds = summed([at.seconds for at in column], max, 2)
-    return f"| {width} | {len(found)} of {len(column)} | {summed(ranges, max)} | {summed(errors, max)} | {seconds} | {count} | {summed(nearest, max)} |"
+    return (f"| {width} | {len(found)} of {len(column)} | {summed(ranges, max)} | {summed(errors, max)} | {seconds} | "
+            f"{count} | {summed(nearest, max)} |")
 
 
 def tables(rows, widths):
     """Returns the table of widths and that of sources."""
     bounded = [row for source, row in rows if source.mark != "not found"]
-    lines = ["| width | found | range / limit: median, worst | error / limit: median, worst | seconds: median, worst | nearest: found | bound / that at floor: median, worst |"]
+    lines = ["| width | found | range / limit: median, worst | error / limit: median, worst | seconds: median, worst | "
+             "nearest: found | bound / that at floor: median, worst |"]
     lines += ["|---|---|---|---|---|---|---|"]
     lines += [width_line(width, [row[k] for row in bounded]) for k, width in enumerate(widths)] if bounded else []
-    lines += ["", f"| source | kind | states | found at | range / limit at {', '.join(map(str, widths))} | error / limit | longest, s |"]
+    lines += ["", f"| source | kind | states | found at | range / limit at {', '.join(map(str, widths))} | error / "
+                  "limit | longest, s |"]
     lines += ["|---|---|---|---|---|---|---|"] + [source_line(source, row, widths) for source, row in rows]
     return "\n".join(lines) + "\n"
 

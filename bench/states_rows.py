@@ -1,25 +1,29 @@
 #!/usr/bin/env python3
-"""Runs the bundles of functions with state on long inputs: states_rows.py [PROGRAM] [--rows 100000] [--bundles FOLDER] [--write]
+"""Runs the bundles of functions with state on long inputs: states_rows.py [PROGRAM] [--rows 100000] [--bundles FOLDER]
+[--write]
 
-For each source of examples/states, one run of so many rows through the bundle of each width that `synth` finds; with --bundles those that
-bench/states.py kept there are taken. In this order, and without a new start between them:
+For each source of examples/states, one run of so many rows through the bundle of each width that `synth` finds; with
+--bundles those that bench/states.py kept there are taken. In this order, and without a new start between them:
 
-- of a linear source, at most a third of the rows: for each output the input that drives it furthest up, and then furthest down, which
-  are the signs of its impulse response from the last row back. Inputs with an error are off by all of it, to the same side;
+- of a linear source, at most a third of the rows: for each output the input that drives it furthest up, and then
+  furthest down, which are the signs of its impulse response from the last row back. Inputs with an error are off by all
+  of it, to the same side;
 - steps: inputs that are held at an end or anywhere between, for 1 to 2,000 rows;
-- random rows. Here and in steps, where an input has an error, the given value differs from the true one by a random part of it or all.
+- random rows. Here and in steps, where an input has an error, the given value differs from the true one by a random
+  part of it or all.
 
-Each printed number is compared with the exact output of the true inputs. The numbers of an exact run grow with each row, so that it is
-done in whole numbers at 2^-200, and what that loses has to be below 2^-60 of the bound:
+Each printed number is compared with the exact output of the true inputs. The numbers of an exact run grow with each
+row, so that it is done in whole numbers at 2^-200, and what that loses has to be below 2^-60 of the bound:
 
-- of a linear source by its exact matrices, with one rounding down for each next state and output. What is lost is then below 2^-200 times
-  one more than twice the sum of the output's absolute impulse responses from each state; twice that is allowed for;
-- of a nonlinear source by its formulas, once at 2^-200 and once at 2^-264. What is lost is taken as the greatest difference of both, which
-  is a test and no proof.
+- of a linear source by its exact matrices, with one rounding down for each next state and output. What is lost is then
+  below 2^-200 times one more than twice the sum of the output's absolute impulse responses from each state; twice that
+  is allowed for;
+- of a nonlinear source by its formulas, once at 2^-200 and once at 2^-264. What is lost is taken as the greatest
+  difference of both, which is a test and no proof.
 
-The script ends with an error where a number is further off than its bound. Its table has, for each width, the greatest error seen over
-the bound, and the width of the exact outputs that were seen over that of the certified range; the worst output. With --write it goes to
-docs/measures.md. Outside the gate; it takes some minutes.
+The script ends with an error where a number is further off than its bound. Its table has, for each width, the greatest
+error seen over the bound, and the width of the exact outputs that were seen over that of the certified range; the worst
+output. With --write it goes to docs/measures.md. Outside the gate; it takes some minutes.
 """
 import math
 import os
@@ -58,15 +62,18 @@ def places_of(function):
 
 
 def spans_of(function, places):
-    return [Span(*(int(span[name] * 10 ** places) for name in ("lo", "hi", "err"))) for span in function.inputs.values()]
+    return [Span(*(int(span[name] * 10 ** places) for name in ("lo", "hi", "err")))
+            for span in function.inputs.values()]
 
 
 def responses(linear, output, most):
-    """Returns what a unit of each input adds to an output 0, 1, 2, .. rows later, till it is small beside the greatest; as floats."""
+    """Returns what a unit of each input adds to an output 0, 1, 2, .. rows later, till it is small beside the greatest;
+    as floats."""
     inputs = len(linear.ranges) - 1
     A, B = ([[float(x) for x in row] for row in matrix] for matrix in (linear.A, linear.B))
     sizes = [float(hi - lo) for lo, hi in linear.ranges[:inputs]]
-    image, found, top, quiet = [float(x) for x in linear.C[output]], [[float(x) for x in linear.D[output][:inputs]]], 0.0, 0
+    image, found, top, quiet = [float(x)
+                                for x in linear.C[output]], [[float(x) for x in linear.D[output][:inputs]]], 0.0, 0
     while len(found) < most and quiet <= len(A):
         found.append([sum(x * row[i] for x, row in zip(image, B)) for i in range(inputs)])
         image = [sum(x * row[j] for x, row in zip(image, A)) for j in range(len(A))]
@@ -88,7 +95,8 @@ def furthest_rows(linear, spans, count):
 
 
 def given_row(draw, trues, spans):
-    return [true + draw.choice((-span.err, span.err, draw.randint(-span.err, span.err))) for true, span in zip(trues, spans)]
+    return [true + draw.choice((-span.err, span.err, draw.randint(-span.err, span.err)))
+            for true, span in zip(trues, spans)]
 
 
 def step_rows(draw, spans, count):
@@ -215,14 +223,16 @@ def printed_value(text):
 
 @dataclass
 class Seen:
-    """The greatest error over its bound, and the part of its certified range that an output took: of the worst output each."""
+    """The greatest error over its bound, and the part of its certified range that an output took: of the worst output
+    each."""
     error: float
     range: float
 
 
 def compared(fixd, source, bundle, rows_file, exact, lost):
     with open(rows_file, encoding="utf-8") as file:
-        printed = [list(map(printed_value, line.split(","))) for line in fixd.call(["run", bundle], stdin=file).splitlines()[1:]]
+        printed = [list(map(printed_value, line.split(",")))
+                   for line in fixd.call(["run", bundle], stdin=file).splitlines()[1:]]
     if len(printed) != len(exact):
         sys.exit(f"{source.name}: {len(printed)} rows are printed, and {len(exact)} are due")
     ranges, first = fixd.intervals_of(bundle)[0], -len(source.function.states) - len(exact[0])
@@ -259,14 +269,16 @@ def source_row(fixd, source, options, folder):
 # ---- the table
 
 def source_line(source, row):
-    fields = [f"`{source.name}`", source.kind(), shown(at and at.error for at in row), shown(at and at.range for at in row)]
+    fields = [f"`{source.name}`", source.kind(), shown(at and at.error for at in row),
+              shown(at and at.range for at in row)]
     return "| " + " | ".join(fields) + " |"
 
 
 def table(found, options):
     widths = ", ".join(map(str, options.widths))
     lines = [f"{options.rows:,} rows a bundle; the ranges of the first table are those of linear sources.", ""]
-    lines += ["| width | bundles | error seen / bound: median, greatest | range seen / certified: median, least |", "|---|---|---|---|"]
+    lines += ["| width | bundles | error seen / bound: median, greatest | range seen / certified: median, least |",
+              "|---|---|---|---|"]
     for k, width in enumerate(options.widths):
         at = [(source, row[k]) for source, row in found if row[k]]
         ranges = [seen.range for source, seen in at if source.linear]

@@ -1,10 +1,11 @@
 #!/usr/bin/env python3
 """Runs `fixd node` beside `fixd run`: units.py [--interleavings N] [PROGRAM]
 
-With --interleavings N it tests: N inputs, each of rows of three units in a random order, and of each unit the lines of `node` are those of
-`run` on its rows alone; a difference ends the script with 1. Without, it measures: rows a second of `node` with 1, 32 and 1,024 units in a
-random order, and of `run` on the same rows, where the column of units is one that it doesn't need: the least of nine runs that take turns, in seconds of
-the processor. Outside the gate: it needs a built program, and figures depend on the machine.
+With --interleavings N it tests: N inputs, each of rows of three units in a random order, and of each unit the lines of
+`node` are those of `run` on its rows alone; a difference ends the script with 1. Without, it measures: rows a second of
+`node` with 1, 32 and 1,024 units in a random order, and of `run` on the same rows, where the column of units is one
+that it doesn't need: the least of nine runs that take turns, in seconds of the processor. Outside the gate: it needs a
+built program, and figures depend on the machine.
 """
 import argparse
 import os
@@ -32,7 +33,8 @@ def interleaved(program, count, draw):
     """Compares the lines of three units with those of each one's run."""
     for turn in range(count):
         events = [(draw.randrange(3), number(draw)) for _ in range(draw.randrange(1, 40))]
-        lines = page([program, "node", "--units", "3", AVERAGE], "".join(["u,unit\n"] + [f"{value},{unit}\n" for unit, value in events]))[1:]
+        lines = page([program, "node", "--units", "3", AVERAGE],
+                     "".join(["u,unit\n"] + [f"{value},{unit}\n" for unit, value in events]))[1:]
         for unit in range(3):
             rows = [value + "\n" for whose, value in events if whose == unit]
             alone = page([program, "run", AVERAGE], "".join(["u\n"] + rows))[1:]
@@ -59,13 +61,15 @@ def measured(program, draw):
             with open(rows, "w", encoding="utf-8") as file:
                 file.write("unit,u\n")
                 file.writelines(some[k % 100003] for k in range(ROWS))
-            pairs = [(seconds([program, "node", "--units", str(units), AVERAGE], rows, out), seconds([program, "run", AVERAGE], rows, out)) for _ in range(9)]
+            pairs = [(seconds([program, "node", "--units", str(units), AVERAGE], rows, out),
+                      seconds([program, "run", AVERAGE], rows, out)) for _ in range(9)]
             node, run = min(a for a, _ in pairs), min(b for _, b in pairs)
-            print(f"{units} units: node {ROWS / node:.0f} rows/s, run {ROWS / run:.0f} rows/s, node / run {run / node:.2f}")
+            print(f"{units} units: node {ROWS / node:.0f} rows/s, run {ROWS / run:.0f} rows/s, node / run "
+                  f"{run / node:.2f}")
 
 
 def main():
-    options = argparse.ArgumentParser(description=__doc__.split("\n")[0])
+    options = argparse.ArgumentParser(description=__doc__.split("\n\n")[0])
     options.add_argument("--interleavings", type=int, default=0)
     options.add_argument("program", nargs="?", default=os.path.join(HERE, "..", "build", "fixd"))
     given = options.parse_args()

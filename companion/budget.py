@@ -1,8 +1,10 @@
-"""Where a certified bound comes from: what each reading, literal and rounding adds to an output's error, and what the analysis adds.
+"""Where a certified bound comes from: what each reading, literal and rounding adds to an output's error, and what the
+analysis adds.
 
-The error of an output is exactly a sum: of each place where the program departs from the exact function, times how that place comes through. How it comes
-through is a number where the function is linear there, else an interval; of a filter it is the impulse response. So the parts add up to a bound of their
-own, and what the certified one has beside it is the analysis.
+The error of an output is exactly a sum: of each place where the program departs from the exact function, times how that
+place comes through. How it comes through is a number where the function is linear there, else an interval; of a filter
+it is the impulse response. So the parts add up to a bound of their own, and what the certified one has beside it is the
+analysis.
 """
 from __future__ import annotations
 
@@ -49,7 +51,8 @@ class Budget:
         return max(self.certified[1], -self.certified[0])
 
     def sizes(self) -> list:
-        """Returns each part's label with what it adds at the bound's end, the greatest first, and last what the analysis adds."""
+        """Returns each part's label with what it adds at the bound's end, the greatest first, and last what the
+        analysis adds."""
         merged = {}
         for part in self.parts:
             merged[part.label] = merged.get(part.label, 0) + (part.ends[1] if self.side > 0 else -part.ends[0])
@@ -151,7 +154,8 @@ def slopes_of(bundle: Bundle, judge: Judge, top: int) -> list:
 
 
 def filter_parts(bundle, judge, pushes, direct, j):
-    """Returns the parts of an output of a filter by impulse responses, or None where these don't settle or it isn't linear."""
+    """Returns the parts of an output of a filter by impulse responses, or None where these don't settle or it isn't
+    linear."""
     system = linear_of(judge.made)
     if system is None:
         return None
@@ -188,7 +192,8 @@ def budgets_of(bundle: Bundle, judge: Judge) -> list:
         if parts is None:
             parts = [Part(push.label, times(direct[push.node], push.ends)) for push in pushes]
             if bundle.states:
-                how = "of one row, with what the states are off before it as parts of their own: it isn't linear in its states"
+                how = ("of one row, with what the states are off before it as parts of their own: it isn't linear in "
+                       "its states")
                 parts += [Part(f"what {it.name} is off before",
                                times(direct[bundle.inputs + k], bundle.lines[bundle.inputs + k].error))
                           for k, it in enumerate(judge.made.states)]

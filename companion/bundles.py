@@ -44,7 +44,8 @@ class Template:
 
 @dataclass
 class Form:
-    """A form: the centres of a product's operands, a coefficient for each variable, the rests, and shares or None of each."""
+    """A form: the centres of a product's operands, a coefficient for each variable, the rests, and shares or None of
+    each."""
     centres: tuple
     coefficients: list
     rest: tuple
@@ -152,8 +153,8 @@ def code_of(text: str, before: list) -> Code:
 
 def template_of(fields: Fields, state: int, states: int) -> Template:
     """Returns the template of a line `box` or `row`."""
-    coefficients = [Fraction(int(k == state)) for k in range(states)] if fields.word() == "box" else [fields.number()
-        for _ in range(states)]
+    is_box = fields.word() == "box"
+    coefficients = [Fraction(int(k == state)) if is_box else fields.number() for k in range(states)]
     return Template(coefficients, fields.ends(), fields.shares())
 
 
@@ -216,8 +217,3 @@ def read_certificate(made: Bundle, lines: list) -> None:
     while lines[at] != "end":
         made.lines.append(line_of(Fields(lines[at]), variables))
         at += 1
-
-
-def source_line(data: bytes) -> int:
-    """Returns the line of a bundle at which its source begins."""
-    return 3

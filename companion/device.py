@@ -9,17 +9,21 @@ import stat
 import subprocess
 from dataclasses import dataclass
 from fractions import Fraction
+from math import lcm
 from pathlib import Path
 
 from . import device_c, device_rust
 from .exact import as_decimal, dyadic, floor_at
+from .explain_rows import values_of
 from .fixd import Fixd, Trouble, find, progress, readable
 from .show import accepted
 
 HELP = "a crate without std, or a pair of C files, for a device, with a test"
-DESCRIPTION = """Writes into DIR the program of an accepted bundle as Rust ('fixd rust') or as C ('fixd-c'), and around it: points, start words, ranges and bounds as constants, functions
-that make a word of a converter's reading or of a decimal and hold it to the range, reset and step over one struct, rows with the answers of 'fixd run' as a test on this machine and,
-by a script, on an emulated Cortex-M0 and M4, and a page that says what is proved of it and what isn't."""
+DESCRIPTION = """Writes into DIR the program of an accepted bundle as Rust ('fixd rust') or as C ('fixd-c'), and
+around it: points, start words, ranges and bounds as constants, functions that make a word of a converter's reading or
+of a decimal and hold it to the range, reset and step over one struct, rows with the answers of 'fixd run' as a test
+on this machine and, by a script, on an emulated Cortex-M0 and M4, and a page that says what is proved of it and what
+isn't."""
 
 
 def add_to(parser) -> None:
@@ -60,12 +64,14 @@ class Input:
 
     def reading(self) -> tuple:
         """Returns whole numbers a, b and d: the word of a reading r is the floor of (a + b * r) / d."""
-        base, slope = self.low * Fraction(2) ** self.point, (self.high - self.low) / self.steps * Fraction(2) ** self.point
-        d = base.denominator * slope.denominator // _gcd(base.denominator, slope.denominator)
+        unit = Fraction(2) ** self.point
+        base, slope = self.low * unit, (self.high - self.low) / self.steps * unit
+        d = lcm(base.denominator, slope.denominator)
         return int(base * d), int(slope * d), d
 
     def readings(self) -> list:
-        """Returns some readings, the converter's ends and some beyond among them, each with the word that it has to give."""
+        """Returns some readings, the converter's ends and some beyond among them, each with the word that it has to
+        give."""
         found = []
         for k in range(-2, 43):
             reading = self.steps * k // 40
@@ -73,12 +79,6 @@ class Input:
             if abs(reading) < 2 ** 15:
                 found.append((reading, min(max(value, self.least), self.greatest)))
         return found
-
-
-def _gcd(a, b):
-    while b:
-        a, b = b, a % b
-    return a
 
 
 @dataclass
@@ -131,8 +131,8 @@ def plan_of(fixd: Fixd, words) -> Plan:
     for it, code in zip(made.inputs, bundle.input_codes()):
         low, high, steps = named.get(it.name, (it.lo, it.hi, 4096))
         ends = it.lo - it.off, it.hi + it.off
-        text = f"{as_decimal(it.lo)} to {as_decimal(it.hi)}" + (f", given to within {as_decimal(it.off)}" if it.off
-            else "")
+        text = (f"{as_decimal(it.lo)} to {as_decimal(it.hi)}"
+                + (f", given to within {as_decimal(it.off)}" if it.off else ""))
         inputs.append(Input(it.name, code.point, *(floor_at(end, code.point) for end in ends), text, low, high, steps,
                             ends))
     most = ROOM // ((len(inputs) + bundle.outputs) * 8)
@@ -141,10 +141,11 @@ def plan_of(fixd: Fixd, words) -> Plan:
     label_all([*inputs, *outputs])
     csv = readable(words.rows) if words.rows else random_rows(inputs, words.count)
     answers = fixd.printed("run", words.bundle, rows=csv)
-    values = values_of(csv, inputs)
+    values = values_of(csv, made.inputs)
     given_words = [[floor_at(value, it.point) for value, it in zip(row, inputs)] for row in values]
     if len(values) > most:
-        progress(f"{len(values)} rows are too many for the memory of an emulated processor: the first {most} are tested")
+        progress(f"{len(values)} rows are too many for the memory of an emulated processor: the first {most} are "
+                 "tested")
     rows = [(given, [int(Fraction(text) * Fraction(2) ** out.point) for text, out in zip(line.split(","), outputs)])
             for given, line in list(zip(given_words, answers.decode().splitlines()[1:]))[:most]]
     return Plan(bundle.name, bundle.width, inputs, states, outputs, rows, values,
@@ -168,23 +169,14 @@ def random_rows(inputs: list, count: int) -> bytes:
     for k in range(count):
         fields = []
         for it in inputs:
-            low, high = it.ends
-            low, high = -(-low * 10 ** 9 // 1), high * 10 ** 9 // 1
-            value = (low, high)[k // 2 % 2] if k % 7 < 2 and low <= high else chance.randint(int(low),
-                int(high)) if low <= high else 0
-            fields.append(as_decimal(Fraction(int(value), 10 ** 9)) if low <= high else as_decimal(it.ends[0]))
+            low, high = int(-(-it.ends[0] * 10 ** 9 // 1)), int(it.ends[1] * 10 ** 9 // 1)
+            if low > high:
+                fields.append(as_decimal(it.ends[0]))
+                continue
+            value = (low, high)[k // 2 % 2] if k % 7 < 2 else chance.randint(low, high)
+            fields.append(as_decimal(Fraction(value, 10 ** 9)))
         lines.append(",".join(fields))
     return ("\n".join(lines) + "\n").encode()
-
-
-def values_of(csv: bytes, inputs: list) -> list:
-    """Returns the values of each row of a file that `fixd run` has taken whole."""
-    from .explain_rows import fields_of
-    lines = [line.rstrip(b"\r").decode("utf-8", "replace") for line in csv.removeprefix(b"\xef\xbb\xbf").split(b"\n")]
-    lines = [line for line in lines if line]
-    names = [field.text for field in fields_of(lines[0])]
-    places = [names.index(it.name) for it in inputs]
-    return [[Fraction(fields_of(line)[place].text) for place in places] for line in lines[1:]]
 
 
 def folder(path: str) -> Path:

@@ -7,24 +7,32 @@ from .device_emulated import LINKER, emulated_script
 from .device_page import decimal_of, page
 from .fixd import Trouble
 
-PROVED = "`{name}.c` and `{name}.h` are what `fixd-c` prints, byte for byte; what is proved of its text,\ndocs/guarantees.md of `fixd`'s repository says."
+PROVED = ("`{name}.c` and `{name}.h` are what `fixd-c` prints, byte for byte; what is proved of its text,\n"
+          "docs/guarantees.md of `fixd`'s repository says.")
+
+HERE = """#!/bin/sh
+# the rows on this machine, with what C leaves open trapped where the compiler can
+cd "$(dirname "$0")" && mkdir -p build || exit 1
+cc="${{CC:-cc}} -std=c99 -Wall -Wextra -O2"
+$cc -fsanitize=undefined -fno-sanitize-recover -o build/checked {name}_test.c {name}.c && build/checked &&
+$cc -o build/plain {name}_test.c {name}.c && build/plain
+"""
+ARM = """build() {{
+  ${{ARM_CC:-arm-none-eabi-gcc}} ${{ARM_FLAGS-}} -std=gnu99 -mcpu=$1 -mthumb -Os -ffreestanding -nostdlib \\
+    -DEMULATED -Temulated/link.ld -o build/$1.elf emulated/start.c {name}_test.c {name}.c -lgcc
+}}"""
 
 
 def files_of(plan, source: str, header: str) -> dict:
     """Returns the files of the folder."""
     name = plan.name
     return {
-        f"{name}.c": source, f"{name}.h": header, f"{name}_device.h": device_header(plan, header), f"{name}_test.c": test(plan),
+        f"{name}.c": source, f"{name}.h": header, f"{name}_device.h": device_header(plan, header),
+        f"{name}_test.c": test(plan),
         f"{name}_rows.h": rows(plan),
         "emulated/start.c": START, "emulated/link.ld": LINKER,
-        "test-here.sh": f"""#!/bin/sh
-# the rows on this machine, with what C leaves open trapped where the compiler can
-cd "$(dirname "$0")" && mkdir -p build || exit 1
-${{CC:-cc}} -std=c99 -Wall -Wextra -O2 -fsanitize=undefined -fno-sanitize-recover -o build/checked {name}_test.c {name}.c && build/checked &&
-${{CC:-cc}} -std=c99 -Wall -Wextra -O2 -o build/plain {name}_test.c {name}.c && build/plain
-""",
-        "test-emulated.sh": emulated_script(f"""  ${{ARM_CC:-arm-none-eabi-gcc}} ${{ARM_FLAGS-}} -std=gnu99 -mcpu=$1 -mthumb -Os -ffreestanding -nostdlib -DEMULATED -Temulated/link.ld \\
-    -o build/$1.elf emulated/start.c {name}_test.c {name}.c -lgcc""", "arm-none-eabi-gcc", "Debian: gcc-arm-none-eabi"),
+        "test-here.sh": HERE.format(name=name),
+        "test-emulated.sh": emulated_script(ARM.format(name=name), "arm-none-eabi-gcc", "Debian: gcc-arm-none-eabi"),
         "README.md": page(plan, "c", PROVED.format(name=name), use_of(plan)),
     }
 
@@ -95,7 +103,8 @@ def input_functions(name: str, big: str, k: int, it) -> list:
     top = -(-it.ends[1].numerator // it.ends[1].denominator)
     low = it.ends[0].numerator // it.ends[0].denominator
     least, greatest = literal(it.least), literal(it.greatest)
-    shift = f"    return {name}_hold_{it.name}(word);" if it.point >= 0 else f"    return {name}_hold_{it.name}(word >= 0 ? word >> {-it.point} : -1 - ((-1 - word) >> {-it.point}));"
+    word = "word" if it.point >= 0 else f"word >= 0 ? word >> {-it.point} : -1 - ((-1 - word) >> {-it.point})"
+    shift = f"    return {name}_hold_{it.name}({word});"
     return [f"/* holds a word of {it.name}, {it.text}, to the range */",
             f"static inline {name}_word {name}_hold_{it.name}(int64_t word) {{",
             f"    return ({name}_word)(word < {least} ? {least} : word > {greatest} ? {greatest} : word);", "}", "",
@@ -121,11 +130,14 @@ def has_readings(it) -> bool:
 def rows(plan) -> str:
     """Returns the rows as a table."""
     lines = "\n".join(f"    {{{', '.join(map(c_word, [*given, *answers]))}}}," for given, answers in plan.rows)
-    return f"/* the words of rows.csv, and those of what 'fixd run' printed of them */\n#define ROWS {len(plan.rows)}\nstatic const {plan.name}_word rows[ROWS][{len(plan.inputs) + len(plan.outputs)}] = {{\n{lines}\n}};\n"
+    return ("/* the words of rows.csv, and those of what 'fixd run' printed of them */\n"
+            f"#define ROWS {len(plan.rows)}\n"
+            f"static const {plan.name}_word rows[ROWS][{len(plan.inputs) + len(plan.outputs)}] = {{\n{lines}\n}};\n")
 
 
 def c_word(word: int) -> str:
-    return "INT64_MIN" if word == -2 ** 63 else f"{word}LL" if abs(word) >= 2 ** 31 else "(-2147483647 - 1)" if word == -2 ** 31 else str(word)
+    return ("INT64_MIN" if word == -2 ** 63 else f"{word}LL" if abs(word) >= 2 ** 31 else "(-2147483647 - 1)"
+            if word == -2 ** 31 else str(word))
 
 
 def test(plan) -> str:

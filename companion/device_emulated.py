@@ -18,21 +18,28 @@ SECTIONS {
 
 
 def emulated_script(build: str, compiler: str, hint: str) -> str:
-    """Returns the script that builds the test for a Cortex-M0 and an M4 and runs it under qemu."""
+    """Returns the script that builds the test for a Cortex-M0 and an M4, by a function `build`, and runs it under
+    qemu."""
     return f"""#!/bin/sh
 # the rows on an emulated Cortex-M0 and M4; it says loudly what isn't there
 cd "$(dirname "$0")" || exit 1
 mkdir -p build
-command -v ${{QEMU:-qemu-system-arm}} > /dev/null || {{ echo "test-emulated.sh: NOT RUN: qemu-system-arm isn't there (Debian: qemu-system-arm)" >&2; exit 77; }}
+qemu=${{QEMU:-qemu-system-arm}}
 
-build() {{
-{build}
+lacking() {{
+  echo "test-emulated.sh: NOT RUN$1" >&2
+  exit 77
 }}
+
+command -v "$qemu" > /dev/null || lacking ": qemu-system-arm isn't there (Debian: qemu-system-arm)"
+
+{build}
 
 for kind in cortex-m0:microbit cortex-m4:mps2-an386; do
   cpu=${{kind%%:*}}
-  build $cpu || {{ echo "test-emulated.sh: NOT RUN on $cpu: it isn't built; is {compiler} there for it? {hint}" >&2; exit 77; }}
+  build $cpu || lacking " on $cpu: it isn't built; is {compiler} there for it? {hint}"
   printf '%s: ' "$cpu"
-  timeout 60 ${{QEMU:-qemu-system-arm}} ${{QEMU_FLAGS-}} -M "${{kind##*:}}" -nographic -monitor none -serial none -semihosting-config enable=on,target=native -kernel build/$cpu.elf 2>&1 || exit 1
+  timeout 60 "$qemu" ${{QEMU_FLAGS-}} -M "${{kind##*:}}" -nographic -monitor none -serial none \\
+    -semihosting-config enable=on,target=native -kernel build/$cpu.elf 2>&1 || exit 1
 done
 """

@@ -14,8 +14,9 @@ def decimal_of(value: Fraction) -> tuple:
 
 def page(plan, language: str, text: str, rest: list) -> str:
     """Returns the page that says what is proved."""
-    known = f"The `fixd` that judged the bundle and printed the text: {plan.program}." if plan.program else \
-        "The `fixd` that judged the bundle and printed the text isn't one that `fixd-tools` knows: whether it is the proved program can't be said here."
+    known = (f"The `fixd` that judged the bundle and printed the text: {plan.program}." if plan.program
+             else "The `fixd` that judged the bundle and printed the text isn't one that `fixd-tools` knows: whether "
+                  "it is the proved program can't be said here.")
     lines = [f"# {plan.header}, for a device", "",
              f"Written by `fixd-tools device --language {language}` from `{plan.name}.bundle`, which `fixd check` "
              "accepts.", "",

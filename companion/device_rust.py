@@ -6,8 +6,11 @@ import re
 from .device_emulated import LINKER, emulated_script
 from .device_page import decimal_of, page
 
-PROVED = "`src/filter.rs` is what `fixd rust` prints, byte for byte. That it gives the words of `fixd run`, over all rows in range, is proved by the\n" \
-         "meaning that the definitions of `fixd` give to its few forms (docs/guarantees.md of its repository)."
+PROVED = ("`src/filter.rs` is what `fixd rust` prints, byte for byte. That it gives the words of `fixd run`, over all\n"
+          "rows in range, is proved by the meaning that the definitions of `fixd` give to its few forms\n"
+          "(docs/guarantees.md of its repository).")
+
+HINT = "rustup target add thumbv6m-none-eabi thumbv7em-none-eabi; Debian: rustc, rust-src and gcc-arm-none-eabi"
 
 
 def small(name: str) -> str:
@@ -23,11 +26,10 @@ def files_of(plan, text: str) -> dict:
                       'false\n\n[lib]\npath = "src/lib.rs"\n\n[workspace]\n',
         "src/filter.rs": text, "src/lib.rs": library(plan), "tests/rows.rs": host_test(plan, crate),
         "tests/rows_data.rs": rows_data(plan),
-        "emulated/main.rs": emulated(plan, crate), "emulated/link.ld": LINKER,
+        "emulated/main.rs": emulated(plan, crate), "emulated/link.ld": LINKER, "emulated/builtins.rs": BUILTINS,
         "test-here.sh": "#!/bin/sh\n# the rows on this machine, overflow checks on and off\ncd \"$(dirname \"$0\")\" "
                         "&& cargo test --offline && cargo test --offline --release\n",
-        "test-emulated.sh": emulated_script(rust_build(crate), "rustc",
-                                            f"rustup target add thumbv6m-none-eabi thumbv7em-none-eabi"),
+        "test-emulated.sh": emulated_script(BUILD.replace("CRATE", crate), "rustc", HINT),
         "README.md": page(plan, "rust", PROVED, use_of(plan, crate)),
     }
 
@@ -121,7 +123,8 @@ def filter_struct(plan) -> list:
             "impl Default for Filter {", "    fn default() -> Self {", "        Self::new()", "    }", "}", "", ""]
 
 
-DECIMAL = """/// The floor of `digits / 10^places * 2^point`. What lies below `low` or above `high`, whole numbers about the range, is `least` or `greatest`.
+DECIMAL = """/// The floor of `digits / 10^places * 2^point`. What lies below `low` or above `high`, whole numbers about
+/// the range, is `least` or `greatest`.
 const fn floor_of_decimal(digits: i64, places: u32, point: i32, low: i64, high: i64, least: i64, greatest: i64) -> i64 {
     let ten = 10i64.pow(if places > 18 { 18 } else { places });
     let mut word = digits.div_euclid(ten);
@@ -154,7 +157,9 @@ def rows_data(plan) -> str:
     """Returns the rows as a constant."""
     rows = "\n".join(f"    ([{', '.join(map(str, given))}], [{', '.join(map(str, answers))}]),"
                      for given, answers in plan.rows)
-    return f"// the words of rows.csv, and those of what `fixd run` printed of them\npub const ROWS: [([i{plan.word}; {len(plan.inputs)}], [i{plan.word}; {len(plan.outputs)}]); {len(plan.rows)}] = [\n{rows}\n];\n"
+    kind = f"([i{plan.word}; {len(plan.inputs)}], [i{plan.word}; {len(plan.outputs)}])"
+    return ("// the words of rows.csv, and those of what `fixd run` printed of them\n"
+            f"pub const ROWS: [{kind}; {len(plan.rows)}] = [\n{rows}\n];\n")
 
 
 def host_test(plan, crate: str) -> str:
@@ -235,8 +240,40 @@ pub static VECTORS: Vectors = Vectors(0x2000_4000, start);
 """
 
 
-def rust_build(crate: str) -> str:
-    return """  case $1 in cortex-m0) target=thumbv6m-none-eabi ;; *) target=thumbv7em-none-eabi ;; esac
-  ${RUSTC:-rustc} --edition 2021 --crate-name """ + crate + """ --crate-type rlib --target $target -O -C panic=abort --out-dir build/$1 src/lib.rs &&
-  ${RUSTC:-rustc} --edition 2021 --extern """ + crate + """=build/$1/lib""" + crate + """.rlib --crate-name emulated --crate-type bin --target $target -O -C panic=abort -C linker=${ARM_LD:-rust-lld} -C linker-flavor=ld.lld \\
-    -C link-arg=-Temulated/link.ld -o build/$1.elf emulated/main.rs"""
+# builds the test for a processor, by the target of rustc, or else by `core` from rustc's sources and gcc's linker
+BUILD = r"""# `core` from the sources of rustc (Debian: rust-src), for a target that isn't installed
+core() {
+  library=$root/src/rust/library/core
+  [ -f "$library/src/lib.rs" ] || return 1
+  edition=$(sed -n 's/^edition = "\(.*\)"/\1/p' "$library/Cargo.toml")
+  made=build/core-$target
+  unstable="env RUSTC_BOOTSTRAP=1 $rustc --edition $edition --crate-type rlib --cap-lints allow $flags"
+  mkdir -p "$made"
+  [ -f "$made/libcore.rlib" ] || $unstable --crate-name core -Z force-unstable-if-unmarked \
+    -o "$made/libcore.rlib" "$library/src/lib.rs" || return 1
+  $unstable --crate-name compiler_builtins -L "$made" -o "$made/libcompiler_builtins.rlib" \
+    emulated/builtins.rs || return 1
+  flags="$flags -L $made"
+  link="-C linker=${ARM_CC:-arm-none-eabi-gcc} -C linker-flavor=gcc -C link-args=-mcpu=$1 -C link-args=-mthumb"
+  link="$link -C link-args=-nostdlib -C link-args=-lgcc"
+}
+
+build() {
+  case $1 in cortex-m0) target=thumbv6m-none-eabi ;; *) target=thumbv7em-none-eabi ;; esac
+  rustc=${RUSTC:-rustc}
+  flags="--target $target -O -C panic=abort"
+  link="-C linker=${ARM_LD:-rust-lld} -C linker-flavor=ld.lld"
+  root=$($rustc --print sysroot)/lib/rustlib
+  [ -d "$root/$target/lib" ] || core "$1" || return 1
+  $rustc --edition 2021 $flags --crate-name CRATE --crate-type rlib --out-dir "build/$1" src/lib.rs &&
+  $rustc --edition 2021 $flags --crate-name emulated --crate-type bin --extern CRATE="build/$1/libCRATE.rlib" \
+    $link -C link-args=-Temulated/link.ld -o "build/$1.elf" emulated/main.rs
+}"""
+
+BUILTINS = """//! Stands for the compiler's own library where `core` is built from its sources. What a step calls of it,
+//! gcc's has.
+#![feature(compiler_builtins)]
+#![compiler_builtins]
+#![no_std]
+#![no_builtins]
+"""

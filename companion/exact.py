@@ -10,7 +10,8 @@ MOST_PLACES = 18
 
 
 def read_decimal(text: str):
-    """Returns the number that a field of a row or a literal spells, or None where it spells none. Limits aren't looked at."""
+    """Returns the number that a field of a row or a literal spells, or None where it spells none. Limits aren't looked
+    at."""
     shape = DECIMAL.fullmatch(text)
     if not shape:
         return None
@@ -35,7 +36,8 @@ def places_of(value: Fraction):
 
 
 def fits_a_literal(value: Fraction) -> bool:
-    """Returns whether a number is one that a source or a row may have: at most 18 places, and below 2^62 without its point."""
+    """Returns whether a number is one that a source or a row may have: at most 18 places, and below 2^62 without its
+    point."""
     places = places_of(value)
     return places is not None and places <= MOST_PLACES and abs(value) * 10 ** places < MOST_DIGITS
 
@@ -50,7 +52,8 @@ def as_decimal(value: Fraction) -> str:
 
 
 def shown(value: Fraction, digits: int = 4, up=None) -> str:
-    """Returns a number to so many digits, for a reader. `up` rounds away from zero (True), toward it (False), or to the nearest (None)."""
+    """Returns a number to so many digits, for a reader. `up` rounds away from zero (True), toward it (False), or to the
+    nearest (None)."""
     if value == 0:
         return "0"
     size, power = abs(value), 0

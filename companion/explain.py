@@ -1,4 +1,5 @@
-"""fixd-tools explain WORDS..: runs `fixd WORDS`, passes output and status on, and tells the line on the notes as a compiler would."""
+"""fixd-tools explain WORDS..: runs `fixd WORDS`, passes output and status on, and tells the line on the notes as a
+compiler would."""
 from __future__ import annotations
 
 import json
@@ -19,8 +20,9 @@ from .sources import function_of
 from .told import Told
 
 HELP = "run 'fixd WORDS', and explain how it ends"
-DESCRIPTION = """Runs 'fixd WORDS' with this input and output, and ends with its status. Its line on the error stream is told with the place in the file, what was
-expected there and how it is mended. Of 'not found' it searches on: without the demands, with the other rounding and in wider words."""
+DESCRIPTION = """Runs 'fixd WORDS' with this input and output, and ends with its status. Its line on the error stream
+is told with the place in the file, what was expected there and how it is mended. Of 'not found' it searches on:
+without the demands, with the other rounding and in wider words."""
 SHAPES = {
     1: r"rejected: (?P<kind>\w+) at (?P<part>\w+) (?P<index>\d+)", 3: r"source: (?P<kind>\w+) at byte (?P<at>\d+)",
     4: r"bundle: (?P<kind>\w+) at line (?P<line>\d+)",
@@ -101,7 +103,8 @@ def run_with_rows(fixd: Fixd, words: list, kept: Kept):
 
 
 def run_on_file(fixd: Fixd, words: list, kept: Kept):
-    """Runs a call whose rows are a plain file: it reads the file itself, and the file is looked at behind it, up to the bad line."""
+    """Runs a call whose rows are a plain file: it reads the file itself, and the file is looked at behind it, up to the
+    bad line."""
     begin = os.lseek(0, 0, os.SEEK_CUR)
     ran = subprocess.run([fixd.path, *words], stdin=0, stderr=subprocess.PIPE, check=False)
     notes, offset, lines = ran.stderr.decode("utf-8", "replace"), begin, 0
@@ -202,7 +205,11 @@ def source_told(call, kind: str, at: int) -> Told:
                     hints=[f"its source is the lines behind the second: tail -n +3 {call.file} begins with it; "
                     f"count=$(sed -n '2s/source //p' {call.file}); tail -n +3 {call.file} | head -c $count > {name}"])
     if call.command == "synth":
-        return explain_source.told(data, kind, at, call.file, call.options.get("--function"))
+        found = explain_source.told(data, kind, at, call.file, call.options.get("--function"))
+        if call.file.endswith(".csv"):
+            found.hints.insert(0, "these look like rows: synth takes a source, as FILE.fixd, and 'fixd run' rows, by the "
+                                  "standard input")
+        return found
     count = int(data.split(b"\n", 2)[1].split()[1])
     return explain_source.told(data.split(b"\n", 2)[2][:count], kind, at, call.file, parsed(data).name, first_line=3)
 
@@ -243,7 +250,8 @@ def row_told(call, said: dict, kept: Kept) -> Told:
 
 
 def surplus(call, kept: Kept, before: int = 1 << 62) -> list:
-    """Returns a warning where rows before a line have more fields than the header, by the lines that are kept: `fixd` takes such rows."""
+    """Returns a warning where rows before a line have more fields than the header, by the lines that are kept: `fixd`
+    takes such rows."""
     first = kept.first()
     if not first:
         return []

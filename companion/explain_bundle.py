@@ -1,4 +1,5 @@
-"""Tells where a file that is no bundle departs from one, and which condition a rejected bundle fails, with both sides."""
+"""Tells where a file that is no bundle departs from one, and which condition a rejected bundle fails, with both
+sides."""
 from __future__ import annotations
 
 from .bundles import is_bundle, parsed
@@ -46,8 +47,10 @@ def of_other(path: str, data: bytes) -> Told:
     if looks_like_source(data):
         return Told(f"'{path}' is a source, not a bundle",
                     hints=[f"make its bundle first: fixd synth --width 16 {path} > {new}"])
-    return Told(f"'{path}' isn't a bundle: its first line isn't 'fixd bundle 1'",
-                hints=["a bundle is what 'fixd synth --width 16 FILE.fixd > FILE.bundle' writes"])
+    hints = ["a bundle is what 'fixd synth --width 16 FILE.fixd > FILE.bundle' writes"]
+    if path.endswith(".csv"):
+        hints.insert(0, f"rows come by the standard input: fixd run FILE.bundle < {path}")
+    return Told(f"'{path}' isn't a bundle: its first line isn't 'fixd bundle 1'", hints=hints)
 
 
 def looks_like_source(data: bytes) -> bool:
@@ -69,7 +72,8 @@ def term_of(judge: Judge, source: bytes, n: int) -> str:
 
 def of_rejected(path: str, data: bytes, kind: str, part: str, index: int) -> Told:
     """Returns what there is to say of a bundle that isn't accepted."""
-    head = f"the condition {kind} at {part} {index} fails: the certificate doesn't hold, which doesn't say that the program is unsafe"
+    head = (f"the condition {kind} at {part} {index} fails: the certificate doesn't hold, which doesn't say that the "
+            "program is unsafe")
     made = Told(head, path, hints=["a bundle that 'fixd synth' wrote is never rejected: make it anew from its source, "
                                   "or look at docs/inequalities.md for what the condition asks and at docs/messages.md "
                                   "for what to change"])

@@ -4,13 +4,16 @@ from __future__ import annotations
 import difflib
 import re
 from dataclasses import dataclass
+from fractions import Fraction
 
 from .exact import as_decimal, fits_a_literal, places_of, read_decimal
 from .told import Told, counted
 
 MISSING_MARKS = {"", "nan", "na", "n/a", "null", "none", "inf", "-inf", "+inf", "infinity", "-infinity", "-", "--", "?",
                  "missing", "undefined"}
-DROP = "where the sensor has no value, drop such rows before the run (docs/recipes.md, 'Rows that may be bad'): nothing is certified of them"
+DROP = "where the sensor has no value, drop such rows before the run: awk -F, '${column} != \"{text}\"' ROWS"
+NO_UNITS = ("a column '{name}' has to say which device a row is of, by a number from 0 on; of one device alone: "
+            "fixd run FILE < ROWS")
 COMMA = "a decimal comma? the decimal point is a point, and commas part the fields: "
 
 
@@ -55,9 +58,20 @@ def field_at(line: str, at: int):
     return text, len(line), True
 
 
+def values_of(csv: bytes, inputs: list) -> list:
+    """Returns the inputs' values of each row of a file that `fixd run` takes. Of another file it raises ValueError,
+    IndexError or ZeroDivisionError."""
+    lines = [line.rstrip(b"\r").decode("utf-8", "replace") for line in csv.removeprefix(b"\xef\xbb\xbf").split(b"\n")]
+    lines = [line for line in lines if line]
+    names = [field.text for field in fields_of(lines[0])]
+    places = [names.index(it.name) for it in inputs]
+    return [[Fraction(fields_of(line)[place].text) for place in places] for line in lines[1:]]
+
+
 @dataclass
 class Rows:
-    """What is known of the rows of a call: the names of the inputs with their ranges, the header's line and the bad one."""
+    """What is known of the rows of a call: the names of the inputs with their ranges, the header's line and the bad
+    one."""
     inputs: list
     where: str
     command: str = "run"
@@ -104,11 +118,15 @@ def of_missing(rows: Rows, name: str) -> Told:
     elif separated:
         hints = [separated]
     elif all(read_decimal(text) is not None for text in shown):
-        hints = [f"the first line holds numbers: a header has to stand before them, as: sed '1i {','.join(names)}' ROWS"]
+        hints = [f"the first line holds numbers: a header has to stand before them, as: sed '1i {','.join(names)}' "
+                 "ROWS"]
     else:
-        like = [text for text in shown if text.lower() == name.lower()] or difflib.get_close_matches(name, shown, 1,
-            0.6)
-        hints = [f"is '{like[0]}' meant? capitals count: sed '1s/\\b{like[0]}\\b/{name}/' ROWS"] if like else [f"name the column of this input '{name}'"]
+        like = ([text for text in shown if text.lower() == name.lower()]
+                or difflib.get_close_matches(name, shown, 1, 0.6))
+        hints = ([f"is '{like[0]}' meant? capitals count: sed '1s/\\b{like[0]}\\b/{name}/' ROWS"] if like
+                 else [NO_UNITS.format(name=name)] if name not in [it.name for it in rows.inputs]
+                 else [f"name the column of this input '{name}', as: sed '1s/\\b{shown[-1]}\\b/{name}/' ROWS, if it "
+                       f"is '{shown[-1]}'"])
         quoted = [text for text in shown if '"' in text]
         hints += ["a quote counts as such only where the field begins with it"] if quoted else []
     return Told(head, "", rows.number, 1, line, max(1, len(line)), notes=notes, hints=hints)
@@ -117,9 +135,11 @@ def of_missing(rows: Rows, name: str) -> Told:
 def separator_of(line: str, names: list):
     """Returns a hint where other marks than commas part the fields."""
     if ";" in line:
-        return "semicolons part these fields, and commas have to: tr ';' ',' < ROWS; with decimal commas: sed 's/,/./g; s/;/,/g' ROWS"
+        return ("semicolons part these fields, and commas have to: tr ';' ',' < ROWS; with decimal commas: sed "
+                "'s/,/./g; s/;/,/g' ROWS")
     if "\t" in line:
-        return "tabs part these fields, and commas have to: tr '\\t' ',' < ROWS; with decimal commas: sed 's/,/./g; s/\\t/,/g' ROWS"
+        return ("tabs part these fields, and commas have to: tr '\\t' ',' < ROWS; with decimal commas: sed 's/,/./g; "
+                "s/\\t/,/g' ROWS")
     if "," not in line and re.search(r"\S[ |]+\S", line):
         return "blanks or bars part these fields, and commas have to: sed 's/[ |][ |]*/,/g' ROWS"
     return None
@@ -156,10 +176,10 @@ def of_number(rows: Rows, name: str) -> Told:
         return at_field(rows, name, column, f"a quote opens here and doesn't close, so that the field is '{text}'",
                         "close the quote or take it out")
     if not text:
-        return at_field(rows, name, column, "the field is empty", "fill it in; " + DROP)
+        return at_field(rows, name, column, "the field is empty", "fill it in; " + drop(text, column))
     if value is not None:
         return at_field(rows, name, column, *too_long(text, value))
-    return at_field(rows, name, column, f"'{text}' is no number", number_hint(text, rows))
+    return at_field(rows, name, column, f"'{text}' is no number", number_hint(text, rows, column))
 
 
 def too_long(text: str, value) -> tuple:
@@ -179,11 +199,16 @@ def round_to(value, places):
     return round(value * 10 ** places) / type(value)(10 ** places)
 
 
-def number_hint(text: str, rows: Rows) -> str:
+def drop(text: str, column: int) -> str:
+    """Returns how rows with a text in a column, counted from 0, are dropped."""
+    return DROP.format(column=column + 1, text=text.replace("'", "."))
+
+
+def number_hint(text: str, rows: Rows, column: int) -> str:
     if "\u2212" in text or "\u2013" in text:
         return "this is the typographic minus: write '-': sed 's/\u2212/-/g' ROWS"
     if text.lower() in MISSING_MARKS:
-        return DROP
+        return drop(text, column)
     if rows.header is not None and text in [field.text for field in fields_of(rows.header)]:
         return "this is the header once more: where files were put together, leave out all but the first one's"
     if text.startswith(("#", "//")):
@@ -198,12 +223,13 @@ def number_hint(text: str, rows: Rows) -> str:
     if re.fullmatch(r"\d{4}-\d\d-\d\d.*|\d\d?:\d\d.*", text):
         return "this looks like a date or a time: is the column's name the right one? other columns may hold it"
     if shape and re.fullmatch(r"\s*[A-Za-z%\u00b0/\u00b5\u03a9]+", text[shape.end():]):
-        return f"without its unit: {shape[0]}: the unit belongs to the column, not to the field"
+        part = f", or {as_decimal(read_decimal(shape[0]) / 100)}" if text.endswith("%") else ""
+        return f"without its unit: {shape[0]}{part}: the unit belongs to the column, not to the field"
     if text.lower() in ("true", "false", "on", "off", "yes", "no"):
         return "write 1 or 0"
     if ";" in text or "\t" in text:
         return separator_of(text, [])
-    return "a number is a decimal as -1.5 or 2e-3; " + DROP
+    return "a number is a decimal as -1.5 or 2e-3; " + drop(text, column)
 
 
 def of_range(rows: Rows, name: str) -> Told:
@@ -213,15 +239,17 @@ def of_range(rows: Rows, name: str) -> Told:
     text = fields[column].text if column < len(fields) else ""
     value = read_decimal(text)
     low, high = one.lo - one.off, one.hi + one.off
-    widened = f" ({as_decimal(one.lo if value < low else one.hi)} widened by the error, {as_decimal(one.off)})" if one.off else ""
+    widened = (f" ({as_decimal(one.lo if value < low else one.hi)} widened by the error, {as_decimal(one.off)})"
+               if one.off else "")
     side, end, by = ("below the least", low, low - value) if value < low else ("above the greatest", high, value - high)
     hints = ["nothing is certified of such a value: hold readings to the range before the run, or give the input what "
              "its sensor can give in 'require', "
              "and make the bundle anew"]
     if abs(value) >= 99 and set(re.sub(r"\D", "", text)) == {"9"}:
-        hints.insert(0, "this looks like a mark for a missing value: drop such rows")
+        hints.insert(0, "this looks like a mark for a missing value; " + drop(text, column))
     if len(fields) > len(fields_of(rows.header or "")):
-        hints.insert(0, COMMA + f"this row has {len(fields)} fields, and the header {len(fields_of(rows.header or ''))}")
+        columns = len(fields_of(rows.header or ""))
+        hints.insert(0, COMMA + f"this row has {len(fields)} fields, and the header {columns}")
     return at_field(rows, name, column, f"{text} is {side} value, {as_decimal(end)}{widened}, by {as_decimal(by)}",
                     *hints)
 

@@ -1,19 +1,24 @@
-"""Tells why nothing was found: which node or output, what is reached without the demands, and where a bundle is found."""
+"""Tells why nothing was found: which node or output, what is reached without the demands, and where a bundle is
+found."""
 from __future__ import annotations
 
 from fractions import Fraction
 
-from .exact import at_most, greatest, plus, shown, times
+from .exact import at_most, greatest, plus, scaled, shown, times
 from .fixd import WIDTHS, Fixd, progress, readable
+from .forms import row_of
+from .inequalities import JOINED
 from .linear import linear_of, poles_of
 from .nodes import nodes_of
 from .search import free_of_demands, search
 from .functions import Function
 from .sources import function_of, place_of
-from .told import Told, counted
+from .told import Told, counted, listed
 
 SECONDS = 120
 HEAVY = 40
+# the forms that are tried where nothing is found, those first that are found most often
+FORMS = ("parallel", "cascade", "expanded", "balanced")
 
 
 def told(fixd: Fixd, path: str, call, what: str, index: int) -> Told:
@@ -33,6 +38,7 @@ def told(fixd: Fixd, path: str, call, what: str, index: int) -> Told:
     reached = say_reached(out, tries, data, made, width, rounding) if made.demands() else None
     if not (made.states and is_unstable(made)):
         say_elsewhere(out, tries, data, made, width, rounding)
+        say_forms(out, tries, made, width, rounding)
     if made.demands() and reached is not None:
         out.hints.insert(0, "the demand is the cause: demand a little more than what is reached, take a width at which "
                             "it is kept, or make the errors of the inputs smaller")
@@ -51,13 +57,10 @@ def say_node(out: Told, data: bytes, made: Function, index: int) -> None:
     term = node.term + (f", the value of '{node.val}'" if node.val else "")
     out.notes.append(f"node {index} is {term}")
     if node.tree is not None and node.tree.end:
-        place = place_of(data, node.tree.at)
-        out.line, out.column, out.text, out.width = place.line, place.column, place.text, max(1,
-            node.tree.end - node.tree.at)
+        out.stands_at(place_of(data, node.tree.at), node.tree.end - node.tree.at)
     elif node.op in ("in", "st"):
         one = (made.inputs + made.states)[index]
-        place = place_of(data, one.at)
-        out.line, out.column, out.text, out.width = place.line, place.column, place.text, len(one.name)
+        out.stands_at(place_of(data, one.at), len(one.name))
     if made.states and node.op != "/":
         return
     if node.op == "/":
@@ -80,7 +83,8 @@ def say_node(out: Told, data: bytes, made: Function, index: int) -> None:
 
 
 def spans_of(made: Function, nodes: list):
-    """Returns the interval of each node by plain interval arithmetic, or None behind a divisor that may be zero; states are unknown."""
+    """Returns the interval of each node by plain interval arithmetic, or None behind a divisor that may be zero; states
+    are unknown."""
     spans = []
     for k, node in enumerate(nodes):
         given = [spans[j] for j in node.operands]
@@ -94,10 +98,8 @@ def spans_of(made: Function, nodes: list):
             low, high = given[1]
             spans.append(None if low <= 0 <= high else times(given[0], (1 / high, 1 / low)))
         else:
-            first = given[0]
-            spans.append(plus(first, given[1]) if node.op == "+" else plus(first, (-given[1][1], -given[1][0]))
-                         if node.op == "-" else times(first, given[1])
-                         if node.op == "*" else (-first[1], -first[0]) if node.op == "neg" else first)
+            spans.append(JOINED[node.op](*given) if node.op in JOINED
+                         else scaled(-1, given[0]) if node.op == "neg" else given[0])
     return spans
 
 
@@ -158,9 +160,23 @@ def say_poles(out: Told, made: Function) -> None:
                      f"{slowest.size():.6f}: a rounding of each row adds up to "
                      f"some {shown(reach, 2)} of itself at worst in a first order, and to more in a pair of poles in "
                      "direct form")
-    pair = any(pole.im and pole.size() > 0.9 for pole in poles)
-    out.hints.append("look which form is found: fixd-tools forms FILE --width N"
-                     + ("; the coupled form suits slow pairs of poles" if pair else ""))
+
+
+def say_forms(out: Told, tries, made: Function, width: int, rounding: str) -> None:
+    """Says which other form of a linear filter is found."""
+    system = linear_of(made) if made.states else None
+    if system is None:
+        return
+    known = [row for row in (row_of(made, system, name) for name in FORMS) if not row.why]
+    for row in known:
+        progress(f"searching {width} bits in form '{row.name}'")
+        bundle = tries(row.source.encode(), width, rounding)
+        if bundle:
+            out.notes.append(f"{width} bits, in form '{row.name}': found: {bounds_told(made, bundle)}")
+            out.hints.append(f"fixd-tools forms {out.where} --width {width} --write {row.name} > NEW.fixd")
+            return
+    if known:
+        out.notes.append(f"{width} bits, in form {listed(repr(row.name) for row in known)}: nothing is found")
 
 
 def bounds_told(made: Function, bundle) -> str:
@@ -178,7 +194,8 @@ def say_reached(out: Told, tries, data: bytes, made: Function, width: int, round
         line = bundle.lines[bundle.first_output + j]
         low, high = plus(line.range, line.error)
         if it.error is not None:
-            missed = "demanded and kept" if bound <= it.error else f"demanded, and missed by {shown(bound - it.error, 2, True)}"
+            missed = ("demanded and kept" if bound <= it.error
+                      else f"demanded, and missed by {shown(bound - it.error, 2, True)}")
             out.notes.append(f"without demands {it.name} is within {at_most(bound)}; {shown(it.error)} is {missed}")
         for end, got, side, sign in ((it.lo, low, "least", -1), (it.hi, high, "greatest", 1)):
             if end is not None:

@@ -10,13 +10,25 @@ from .sources import function_of, place_of
 from .slips import CHARACTERS, SLIPS, nearest_literal
 from .told import Told, counted, listed
 
-POLYNOMIAL = "take a polynomial in its place, over the range of what stands in it, and add what the polynomial is off to the certified bound"
-CLAMP = "limits are set outside: hold the input to its range before the call, and demand ends of the output by 'ensuring(out => 0 <= out && out <= 1)'"
-CALLS = {"sqrt": POLYNOMIAL, "sin": POLYNOMIAL, "cos": POLYNOMIAL, "tan": POLYNOMIAL, "exp": POLYNOMIAL,
-         "log": POLYNOMIAL, "atan": POLYNOMIAL, "tanh": POLYNOMIAL,
-         "asin": POLYNOMIAL, "acos": POLYNOMIAL, "ln": POLYNOMIAL, "min": CLAMP, "max": CLAMP, "abs": CLAMP,
-         "clamp": CLAMP, "saturate": CLAMP, "round": CLAMP,
-         "floor": CLAMP, "pow": "write the product, 'x * x' for 'pow(x, 2)'"}
+POLYNOMIAL = ("take a polynomial in its place, over the range of what stands in it, and add what it is off to the "
+              "certified bound")
+CLAMP = ("limits are set outside: hold the input to its range before the call, and demand ends of the output by "
+         "'ensuring(out => 0 <= out && out <= 1)'")
+# for each call a polynomial, what it stands for, how far it is off at most, and how far from 0
+POLYNOMIALS = {
+    "sin": ("x - x*x*x/6 + x*x*x*x*x/120", "sin(x)", "0.0002", "1"),
+    "cos": ("1 - x*x/2 + x*x*x*x/24", "cos(x)", "0.0014", "1"),
+    "tan": ("x + x*x*x/3", "tan(x)", "0.0047", "0.5"), "atan": ("x - x*x*x/3", "atan(x)", "0.0054", "0.5"),
+    "tanh": ("x - x*x*x/3", "tanh(x)", "0.0038", "0.5"), "asin": ("x + x*x*x/6", "asin(x)", "0.0028", "0.5"),
+    "acos": ("1.570796327 - x - x*x*x/6", "acos(x)", "0.0028", "0.5"),
+    "exp": ("1 + x + x*x/2 + x*x*x/6", "exp(x)", "0.0029", "0.5"),
+    "log": ("x - x*x/2 + x*x*x/3", "log(1 + x)", "0.0005", "0.2"),
+    "ln": ("x - x*x/2 + x*x*x/3", "ln(1 + x)", "0.0005", "0.2"),
+    "sqrt": ("1 + x/2 - x*x/8", "sqrt(1 + x)", "0.0006", "0.2")}
+CALLS = {**dict.fromkeys(("min", "max", "abs", "clamp", "saturate", "round", "floor"), CLAMP),
+         **{name: f"{POLYNOMIAL}: '{text}' is within {off} of {of} for x from -{end} to {end}"
+            for name, (text, of, off, end) in POLYNOMIALS.items()},
+         "pow": "write the product, 'x * x' for 'pow(x, 2)'"}
 WORDS = {
     "if": "there is no choice: write a function for each case and choose outside, or make the choice an input with its "
           "range, as a factor from 0 to 1",
@@ -35,7 +47,8 @@ CONSTANTS = {"pi": "3.14159265358979324", "PI": "3.14159265358979324", "Pi": "3.
 
 
 def told(data: bytes, kind: str, at: int, where: str, function: str = None, first_line: int = 1) -> Told:
-    """Returns what there is to say of a fault that `fixd` found in a source. `first_line` is the source's first line in the file."""
+    """Returns what there is to say of a fault that `fixd` found in a source. `first_line` is the source's first line in
+    the file."""
     known = found_here(data, kind, at, function)
     maker = MAKERS.get(kind, of_unexpected)
     made = maker(Context(data, kind, at, known))
@@ -102,7 +115,8 @@ class Saying:
     """A head with its hints; `at` moves the mark, `hides` leaves out what was expected."""
 
     def __init__(self, head, hints=(), notes=(), width=1, at=None, hides=False):
-        self.head, self.hints, self.notes, self.width, self.at, self.hides = head, list(hints), list(notes), width, at, hides
+        self.head, self.hints, self.notes = head, list(hints), list(notes)
+        self.width, self.at, self.hides = width, at, hides
 
 
 def of_utf8(it: Context) -> Saying:
@@ -118,8 +132,8 @@ def of_character(it: Context) -> Saying:
     name = f"'{text}'" if text.isprintable() and not text.isspace() else f"the character U+{ord(text):04X}"
     hint = CHARACTERS.get(text)
     if re.match(rb"\|\s*\w+\s*\|", it.data[it.at:]):
-        name = it.data[it.at:].split(b"|")[1].strip().decode("utf-8", "replace")
-        hint = f"there is no absolute value: write both ends, as '-1 <= {name} && {name} <= 1'"
+        inner = it.data[it.at:].split(b"|")[1].strip().decode("utf-8", "replace")
+        name, hint = f"'|{inner}|'", f"there is no absolute value: write both ends, as '-1 <= {inner} && {inner} <= 1'"
     if hint is None and text.isalpha():
         hint = "a name has the letters A to Z and a to z, digits and '_': write it with these"
     return Saying(f"{name} can't stand in a source", [hint or "take it out"])
@@ -149,7 +163,8 @@ def of_long_number(it: Context) -> Saying:
     if value is None:
         return Saying("a number is out of its limits", ["18 decimal places at most, and below 2^62 without its point"])
     places, limit = places_of(value), 2 ** 62
-    why = f"it has {places} decimal places, and 18 are the most" if places > 18 else f"without its point it isn't below 2^62, {limit}"
+    why = (f"it has {places} decimal places, and 18 are the most" if places > 18
+           else f"without its point it isn't below 2^62, {limit}")
     best = nearest_literal(value)
     hints = [f"write {as_decimal(best)}, which is {shown(abs(best - value), 2, True)} off at most: that times what it "
              "is multiplied by comes to the bound"
@@ -172,7 +187,8 @@ def of_end(it: Context) -> Saying:
             open_now.pop()
     notes = [f"'{token.text}' of {it.line_at(token.at)} isn't closed" for token in open_now]
     closing = "".join({"(": ")", "{": "}"}[token.text] for token in reversed(open_now))
-    hints = [f"what is open wants {listed([repr(one) for one in closing], 'and then')}"] if closing else ["write what is expected here"]
+    hints = ([f"what is open wants {listed([repr(one) for one in closing], 'and then')}"] if closing
+             else ["write what is expected here"])
     return Saying("the text ends too early", hints, notes)
 
 
@@ -306,7 +322,8 @@ def of_arity(it: Context) -> Saying:
                       ["write as many as the type has: the outputs, and then the next states"], hides=True)
     if "named" in known:
         return Saying(f"'ensuring' names {counted(known['named'], 'output')} of {known['outputs']}",
-                      ["name the outputs, all of them and no next state: '(a, b) => ..'; one alone needs no parentheses"], hides=True)
+                      ["name the outputs, all of them and no next state: '(a, b) => ..'; one alone needs no "
+                       "parentheses"], hides=True)
     return Saying("counts don't agree", ["type and results have the outputs and then a next state for each state"],
                   hides=True)
 

@@ -125,8 +125,8 @@ def say_option(call: Call, name: str, mine: list) -> None:
         owner = next(command for command, options in OPTIONS.items() if name in options)
         call.add(f"{call.command} has no option {name}", f"{name} is one of {owner}: leave it out here")
     else:
-        like = LETTERS.get(name) if LETTERS.get(name) in mine else next(iter(difflib.get_close_matches(name, mine, 1,
-            0.5)), None)
+        near = [LETTERS[name]] if LETTERS.get(name) in mine else difflib.get_close_matches(name, mine, 1, 0.5)
+        like = next(iter(near), None)
         call.meant.append(like)
         call.add(f"no option is called '{name}'", *([f"is '{like}' meant?"] if like else []),
                  f"options of {call.command}: {', '.join(mine)}" if mine
@@ -146,7 +146,7 @@ def look_at_options(call: Call) -> None:
             continue
         if name == "--round":
             if value not in ("floor", "nearest"):
-                call.add(f"'{value}' is no rounding", "write --round floor or nearest")
+                call.add(f"'{value}' is no rounding", "write --round floor, or --round nearest")
         elif not re.fullmatch(r"[0-9]{1,20}", value):
             digits = re.sub(r"\D", "", value)
             call.add(f"{name}: '{value}' is no number",
@@ -182,7 +182,7 @@ def look_at_files(call: Call) -> None:
                  f"fixd {call.command} {call.file} < {call.files[1]}")
     elif len(call.files) > 1:
         call.add(f"{call.command} takes one FILE alone, and here are {len(call.files)}: {', '.join(call.files)}",
-                 f"call it once for each: {use_of(call.command)}")
+                 f"call it once for each: {use_of(call.command).replace('FILE', call.file)}")
 
 
 def of_words(words: list) -> list:
@@ -199,7 +199,8 @@ def of_words(words: list) -> list:
 def of_file(path: str) -> Told:
     """Returns what there is to say of a file that can't be read."""
     if os.path.isdir(path):
-        inside = sorted(it for it in os.listdir(path) if it.endswith((".fixd", ".bundle")))[:5]
+        inside = sorted(it for it in os.listdir(path)
+                        if it.endswith((".fixd", ".bundle")) and os.path.getsize(os.path.join(path, it)))
         return Told(f"'{path}' is a folder",
                     hints=["name a file" + (f" in it, as {os.path.join(path, inside[0])}" if inside else "")])
     if not os.path.exists(path):

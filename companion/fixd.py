@@ -46,11 +46,13 @@ class Fixd:
         try:
             ran = subprocess.run([self.path, *map(str, words)], input=rows, capture_output=True, check=False)
         except OSError as fault:
-            raise Trouble(f"{self.path} can't be run: {fault.strerror}. Name a program that can by --fixd PROGRAM") from None
+            raise Trouble(f"{self.path} can't be run: {fault.strerror}. "
+                          "Name a program that can by --fixd PROGRAM") from None
         return Ran(ran.returncode, ran.stdout, ran.stderr.decode("utf-8", "replace"))
 
     def printed(self, *words, rows: bytes = b"") -> bytes:
-        """Returns what `fixd WORDS` prints; where it doesn't end with 0, its line is told and how to have it explained."""
+        """Returns what `fixd WORDS` prints; where it doesn't end with 0, its line is told and how to have it
+        explained."""
         ran = self.call(*words, rows=rows)
         if ran.status:
             shown = " ".join(map(str, words))
@@ -72,34 +74,36 @@ class Fixd:
 
     def sum(self) -> str:
         """Returns the SHA-256 of the program's bytes."""
-        return sum_of(self.path)
+        return sum_of(readable(self.path))
 
     def standing(self) -> str:
         """Returns what this companion knows of the program, as a clause."""
         made = self.sum()
-        for name, path in {**built(), **installed()}.items():
-            if path == made:
+        for name, known in {**built(), **installed()}.items():
+            if known == made:
                 return f"it is byte for byte {name}"
         return ""
 
 
-def sum_of(path) -> str:
-    """Returns the SHA-256 of a file."""
-    with open(path, "rb") as file:
-        return hashlib.sha256(file.read()).hexdigest()
+def sum_of(data: bytes) -> str:
+    """Returns the SHA-256 of some bytes."""
+    return hashlib.sha256(data).hexdigest()
 
 
 def built() -> dict:
     """Returns the sums of what `make run` built in the checkout that this companion stands in, if it stands in one."""
     top = HERE.parent
     path = top / "build" / "fixd"
-    return {"the file at which `make run` of this checkout leaves its program, build/fixd": sum_of(path)} if (top / "crates.txt").exists() and path.exists() else {}
+    if not (top / "crates.txt").exists() or not path.exists():
+        return {}
+    return {"the file at which `make run` of this checkout leaves its program, build/fixd": sum_of(path.read_bytes())}
 
 
 def installed() -> dict:
     """Returns the sum that `make install` wrote down when it installed the program and this companion."""
     path = HERE / "installed.sum"
-    return {"the program that `make install` put in place together with this companion": path.read_text().split()[0]} if path.exists() else {}
+    return ({"the program that `make install` put in place together with this companion": path.read_text().split()[0]}
+            if path.exists() else {})
 
 
 def candidates(named: str = None):

@@ -4,23 +4,32 @@ from __future__ import annotations
 import json
 import os
 import sys
-from dataclasses import dataclass
+import textwrap
+from dataclasses import dataclass, replace
 from fractions import Fraction
 
 from . import realise
+from .centred import centred
 from .exact import at_most, dyadic, greatest
 from .fixd import WIDTHS, Trouble, find, progress, readable
+from .form import Impossible, source_of
 from .linear import linear_of, poles_of
 from .search import Found, search
 from .sources import function_of
 from .transfer import difference, is_same
-from .told import counted
 from .width import function_in
 
 HELP = "a filter in other forms, with the bound of each"
-DESCRIPTION = """Writes a linear function with states in other forms, says how far the answers of each can be from those of the given one (a proved bound, in exact
-arithmetic, for all rows in range), and what bound and time each comes to. 'expanded' has outputs and vals multiplied out of the next states; 'cascade' and 'parallel' have
-blocks in a row or side by side, a shrinking rotation for each pair of poles; 'balanced' and 'direct' are what they are called. Standard library only."""
+DESCRIPTION = """Writes a linear function with states in other forms, says how far the answers of each can be from
+those of the given one (a proved bound, in exact arithmetic, for all rows in range), and what bound and time each
+comes to. 'expanded' has outputs and vals multiplied out of the next states; 'cascade' and 'parallel' have blocks in a
+row or side by side, a shrinking rotation for each pair of poles; 'balanced' and 'direct' are what they are called.
+Standard library only."""
+
+# what answers may be apart for coefficients that are left out, over the greatest input
+NOTHING = Fraction(1, 10 ** 13)
+CENTRED = {"centred": "each result and val that is a sum is rounded by '1 * (..)'",
+           "partial": "each sum is rounded by '1 * (..)'"}
 
 
 def add_to(parser) -> None:
@@ -35,8 +44,8 @@ def add_to(parser) -> None:
                         help="how long each search may take (default: 120)")
     parser.add_argument("--no-search", action="store_true", help="the distances alone, without bundles")
     parser.add_argument("--write", metavar="FORM",
-                        help="print the source of this form (with '+centred' behind it: with '1 * (..)'), and nothing "
-                             "else")
+                        help="print the source of this form, and nothing else; with '+centred' behind it results stand "
+                             "in '1 * (..)', with '+partial' all sums")
     parser.add_argument("--json", action="store_true", help="print the table as JSON")
 
 
@@ -53,7 +62,8 @@ class Row:
 
 
 def distances(made, system, source: str) -> list:
-    """Returns for each output how far the answers of a form's source can be from the given one's, over all rows in range."""
+    """Returns for each output how far the answers of a form's source can be from the given one's, over all rows in
+    range."""
     other = function_of(source.encode())
     theirs = linear_of(other)
     pulses = [it.start for it in made.states], [it.start for it in other.states]
@@ -73,28 +83,60 @@ def distances(made, system, source: str) -> list:
     return out
 
 
-def row_of(made, system, name: str, centred: bool = False) -> Row:
+def row_of(made, system, name: str) -> Row:
     """Returns a form's row, without its bundle."""
     try:
         form = realise.FORMS[name](made, system)
-    except (realise.Impossible, ZeroDivisionError, OverflowError) as fault:
+    except (Impossible, ZeroDivisionError, OverflowError) as fault:
         return Row(name, "", why=str(fault) or "its numbers leave what can be computed")
-    form.centred = centred
-    label = name + ("+centred" if centred else "")
-    row = Row(label, form.what + (", each sum rounded by '1 * (..)'" if centred else ""), dropped=form.dropped)
-    row.source = realise.source_of(made, form, [])
+    row = Row(name, form.what, source_of(made, form), dropped=form.dropped)
     row.apart = distances(made, system, row.source)
+    if row.dropped:
+        whole = Row(name, form.what, source_of(made, form, True))
+        whole.apart = distances(made, system, whole.source)
+        row = row if counts_for_nothing(made, row, whole) else whole
     if None in row.apart:
         row.why = "how far it is from the given one can't be bounded"
     return row
+
+
+def counts_for_nothing(made, row: Row, whole: Row) -> bool:
+    """Returns whether what a form leaves out is next to nothing beside the inputs too."""
+    if None in row.apart or None in whole.apart:
+        return None in whole.apart
+    most = max(greatest((it.lo, it.hi)) for it in made.inputs)
+    return all(x <= y + most * NOTHING for x, y in zip(row.apart, whole.apart))
+
+
+def centred_row(made, row: Row, how: str) -> Row:
+    """Returns a form with results or all sums in `1 * (..)`, which changes no exact value."""
+    data = row.source.encode()
+    source = centred(data, function_of(data, made.name), how == "partial").decode()
+    return replace(row, name=f"{row.name}+{how}", what=f"{row.what}; {CENTRED[how]}", source=source)
+
+
+def centred_rows(made, row: Row) -> list:
+    """Returns a form with its sums in `1 * (..)`, in each way that differs."""
+    found = {row.source: row}
+    for how in CENTRED:
+        made_so = centred_row(made, row, how)
+        found.setdefault(made_so.source, made_so)
+    return list(found.values())[1:]
 
 
 def told_apart(made, row: Row) -> str:
     """Returns a form's distance in words."""
     if not any(row.apart):
         return "exactly the given function"
-    return "at most " + ", ".join(f"{at_most(x)} of {it.name}"
-                                  for x, it in zip(row.apart, made.outputs)) + " from the given function's answers, over all rows in range"
+    each = ", ".join(f"{at_most(x)} of {it.name}" for x, it in zip(row.apart, made.outputs))
+    return f"at most {each} from the given function's answers, over all rows in range"
+
+
+def told_dropped(row: Row) -> str:
+    """Returns how many coefficients of a form are dropped, in words."""
+    told = ("1 coefficient below 1e-10 of its neighbours is dropped" if row.dropped == 1
+            else f"{row.dropped} coefficients below 1e-10 of their neighbours are dropped")
+    return f"{told}; the distance counts that"
 
 
 def run(words) -> int:
@@ -116,7 +158,7 @@ def run(words) -> int:
     rows = [Row("given", "the source as it is", data.decode(), [Fraction(0)] * made.count)]
     rows += [row_of(made, system, name) for name in realise.FORMS]
     if words.round == "nearest":
-        rows += [row_of(made, system, row.name, True) for row in list(rows[1:]) if not row.why]
+        rows += [it for row in list(rows) if not row.why for it in centred_rows(made, row)]
     if not words.no_search:
         fixd = find(words.fixd)
         for k, row in enumerate(rows, 1):
@@ -130,26 +172,27 @@ def run(words) -> int:
 
 def write(made, system, words) -> int:
     """Prints the source of a form."""
-    name, _, centred = words.write.partition("+")
-    if name not in realise.FORMS or centred not in ("", "centred"):
+    name, _, how = words.write.partition("+")
+    if name not in realise.FORMS or how and how not in CENTRED:
         raise Trouble(f"no form is called '{words.write}': forms are {', '.join(realise.FORMS)}, each with '+centred' "
-                      "behind it if you like")
-    row = row_of(made, system, name, bool(centred))
+                      "or '+partial' behind it if you like")
+    row = row_of(made, system, name)
     if row.why:
         raise Trouble(f"'{made.name}' has no form '{name}': {row.why}")
+    row = centred_row(made, row, how) if how else row
     kept = [f"{made.name} of {os.path.basename(words.file)} in another form, by fixd-tools forms --write "
             f"{words.write}: {row.what};", told_apart(made, row)]
     if row.dropped:
-        kept.append(f"{counted(row.dropped, 'coefficient')} below 1e-10 of their neighbours dropped; the distance "
-                    "counts that")
-    sys.stdout.write("\n".join(f"// {it}" for it in kept) + "\n" + row.source)
+        kept.append(told_dropped(row))
+    lines = [line for it in kept for line in textwrap.wrap(it, 117, break_on_hyphens=False)]
+    sys.stdout.write("".join(f"// {line}\n" for line in lines) + row.source)
     return 0
 
 
 def value_of(row: Row) -> dict:
     """Returns a row for a machine."""
     out = {"form": row.name, "what": row.what, "why_not": row.why or None, "dropped": row.dropped,
-           "apart": row.apart and [float(x) for x in row.apart]}
+           "apart": row.apart and [float(x) for x in row.apart], "source": row.source or None}
     if row.found is not None:
         out.update({"found": row.found.is_found, "seconds": round(row.found.seconds, 3),
                     "bounds": [dyadic(x) for x in row.found.bounds()] if row.found.is_found else None})
@@ -165,8 +208,8 @@ def print_table(made, rows: list, words) -> None:
         if row.why:
             continue
         count = len(function_of(row.source.encode(), made.name).states)
-        bound = "not searched" if row.found is None else ", ".join(map(at_most,
-            row.found.bounds())) if row.found.is_found else row.found.why
+        bound = ("not searched" if row.found is None else ", ".join(map(at_most, row.found.bounds()))
+                 if row.found.is_found else row.found.why)
         lines.append([row.name, str(count), bound, ", ".join(at_most(x) for x in row.apart),
                       f"{row.found.seconds:.2f}" if row.found else ""])
     broad = [max(len(line[k]) for line in [head, *lines]) for k in range(len(head))]
@@ -176,8 +219,7 @@ def print_table(made, rows: list, words) -> None:
         if row.why:
             print(f"{row.name}: can't be: {row.why}")
         if row.dropped:
-            print(f"{row.name}: {counted(row.dropped, 'coefficient')} below 1e-10 of their neighbours dropped; the "
-                  "distance counts that")
+            print(f"{row.name}: {told_dropped(row)}")
     if not words.no_search:
         print("bound and distance add up to how far a printed value can be from the given function's exact one")
     say_best(rows, words)
@@ -195,7 +237,8 @@ def say_best(rows: list, words) -> None:
 
 
 def total_of(row: Row):
-    """Returns what rows are sorted by: how far a printed value can be from the given function's exact one, those that aren't found last."""
+    """Returns what rows are sorted by: how far a printed value can be from the given function's exact one, those that
+    aren't found last."""
     if row.found is None or not row.found.is_found:
         return (1, 0.0)
     return (0, max(float(a + b) for a, b in zip(row.found.bounds(), row.apart)))

@@ -3,13 +3,17 @@ from __future__ import annotations
 
 from dataclasses import dataclass, field
 from fractions import Fraction
+from operator import add, mul, sub, truediv
 
 from .exact import as_decimal
+
+OPERATIONS = {"+": add, "-": sub, "*": mul, "/": truediv}
 
 
 @dataclass(frozen=True)
 class Tree:
-    """An expression: `num` with a value, `name` with a name, `neg` of one part, or `+`, `-`, `*`, `/` of two; and its bytes in the source."""
+    """An expression: `num` with a value, `name` with a name, `neg` of one part, or `+`, `-`, `*`, `/` of two; and its
+    bytes in the source."""
     op: str
     parts: tuple = ()
     value: Fraction = Fraction(0)
@@ -51,6 +55,12 @@ class Output:
     hi: Fraction = None
 
 
+    def demanded(self) -> list:
+        """Returns what is demanded, in words."""
+        said = (("within", self.error), ("at least", self.lo), ("at most", self.hi))
+        return [f"{word} {as_decimal(value)}" for word, value in said if value is not None]
+
+
 @dataclass
 class Function:
     """A function of a source."""
@@ -70,12 +80,14 @@ class Function:
 
     def demands(self) -> bool:
         """Returns whether `ensuring` demands anything."""
-        return any(it.error is not None or it.lo is not None or it.hi is not None for it in self.outputs)
+        return any(it.demanded() for it in self.outputs)
 
 
 def node_count(made: Function) -> int:
-    """Returns how many nodes a function has: inputs, states, literals and operations as often as written, and a copy of each result."""
-    waiting, count = [tree for _, tree in made.temps] + list(made.results), len(made.inputs) + len(made.states) + len(made.results)
+    """Returns how many nodes a function has: inputs, states, literals and operations as often as written, and a copy of
+    each result."""
+    waiting = [tree for _, tree in made.temps] + list(made.results)
+    count = len(made.inputs) + len(made.states) + len(made.results)
     while waiting:
         tree = waiting.pop()
         count += tree.op != "name"
@@ -115,4 +127,4 @@ def value_of(tree: Tree, known: dict):
     if tree.op == "neg":
         return -value_of(tree.parts[0], known)
     first, second = (value_of(part, known) for part in tree.parts)
-    return first + second if tree.op == "+" else first - second if tree.op == "-" else first * second if tree.op == "*" else first / second
+    return OPERATIONS[tree.op](first, second)

@@ -14,6 +14,8 @@ from .functions import Function
 
 OPS = {"+": ("add",), "-": ("sub",), "*": ("mul", "mulr"), "/": ("div",), "neg": ("neg",), "in": ("in",), "st": ("st",),
        "const": ("const",), "copy": ("copy", "copyr")}
+JOINED = {"+": plus, "-": minus, "*": times}
+ENDLESS = Fraction(10 ** 30)
 
 
 @dataclass
@@ -31,11 +33,12 @@ class Side:
     def told(self) -> str:
         """Returns it as a sentence with decimals."""
         if None in self.written:
-            end, side, got = (self.written[1], "above", self.comes[1]) if self.written[0] is None else (self.written[0],
-                "below", self.comes[0])
+            end, side, got = ((self.written[1], "above", self.comes[1]) if self.written[0] is None
+                              else (self.written[0], "below", self.comes[0]))
             relation = "it is not" if self.holds else "it is"
             return f"{self.what}: {number(got)} may not be {side} {number(end)}; {relation}"
-        text = f"{self.what} comes to [{number(self.comes[0])}, {number(self.comes[1])}] and has to lie in [{number(self.written[0])}, {number(self.written[1])}]"
+        text = (f"{self.what} comes to [{number(self.comes[0])}, {number(self.comes[1])}] and has to lie in "
+                f"[{number(self.written[0])}, {number(self.written[1])}]")
         faults = []
         if self.comes[0] < self.written[0]:
             faults.append(f"it leaves the lower end by {shown(self.written[0] - self.comes[0], 3)}")
@@ -47,7 +50,14 @@ class Side:
 def number(value: Fraction) -> str:
     """Returns a decimal, and where that isn't the whole number, the dyadic too."""
     text = shown(value, 7)
-    return text if Fraction(text) == value or value.denominator & (value.denominator - 1) else f"{text} ({dyadic(value)})"
+    return (text if Fraction(text) == value or value.denominator & (value.denominator - 1)
+            else f"{text} ({dyadic(value)})")
+
+
+def quotient(first, second):
+    """Returns the quotient of two intervals; a divisor that may be zero makes it endless."""
+    low, high = second
+    return times(first, (1 / high, 1 / low)) if low * high > 0 else (-ENDLESS, ENDLESS)
 
 
 def loss(code) -> list:
@@ -147,10 +157,10 @@ class Judge:
             return node.tree.value, node.tree.value
         given = [self.ranges(k) for k in node.operands]
         if node.op == "/":
-            return times(given[0], (1 / given[1][1],
-                                    1 / given[1][0])) if given[1][0] * given[1][1] > 0 else (Fraction(-10 ** 30),
-                                        Fraction(10 ** 30))
-        return plus(*given) if node.op == "+" else minus(*given) if node.op == "-" else times(*given) if node.op == "*" else scaled(-1, given[0]) if node.op == "neg" else given[0]
+            return quotient(*given)
+        if node.op in JOINED:
+            return JOINED[node.op](*given)
+        return scaled(-1, given[0]) if node.op == "neg" else given[0]
 
     def error_side(self, n):
         node, line = self.nodes[n], self.bundle.lines[n]
@@ -180,15 +190,13 @@ class Judge:
             return plus(plus(plus(times(g[0], h[1]), times(g[1], h[0])), times(*h)), lost[0])
         if node.op == "/":
             top, below = minus(h[0], times(self.ranges(n), h[1])), plus(g[1], h[1])
-            spread = times(top, (1 / below[1], 1 / below[0])) if below[0] * below[1] > 0 else (Fraction(-10 ** 30),
-                Fraction(10 ** 30))
-            return plus(spread, (-unit, unit))
+            return plus(quotient(top, below), (-unit, unit))
         return scaled(-1, h[0]) if node.op == "neg" else plus(h[0], lost[0])
 
     def word_side(self, n):
         code, line = self.bundle.codes[n], self.bundle.lines[n]
-        ends = word_value(-2 ** (self.bundle.width - 1), code.point), word_value(2 ** (self.bundle.width - 1) - 1,
-            code.point)
+        most = 2 ** (self.bundle.width - 1)
+        ends = word_value(-most, code.point), word_value(most - 1, code.point)
         return Side(f"the word's value at point {code.point}", plus(line.range, line.error), ends)
 
     def divisor_sides(self, n):

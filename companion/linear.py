@@ -1,20 +1,18 @@
 """Linear functions: what is linear in a source, its matrices, its poles, and sums of its impulse responses."""
 from __future__ import annotations
 
-from cmath import rect
 from dataclasses import dataclass
 from fractions import Fraction
-from math import gcd, pi
+from math import lcm
 
 from .functions import Function, Tree
-
-BITS = 200
-ONE = 1 << BITS
+from .polynomials import BITS, ONE, roots_of, whole
 
 
 @dataclass
 class Linear:
-    """Next states `A x + B u`, outputs `C x + D u`; the last column of B and D is what stands alone, an input that is always 1."""
+    """Next states `A x + B u`, outputs `C x + D u`; the last column of B and D is what stands alone, an input that is
+    always 1."""
     A: list
     B: list
     C: list
@@ -70,12 +68,6 @@ def linear_of(made: Function):
     return Linear(of_states[count:], of_inputs[count:], of_states[:count], of_inputs[:count])
 
 
-def states_part(made: Function):
-    """Returns the matrix A of a function whose next states are linear in its states, products of states with inputs left out, or None."""
-    found = linear_of(made)
-    return found.A if found else None
-
-
 # blocks: states that hang on one another
 
 
@@ -113,150 +105,15 @@ def blocks_of(A: list) -> list:
 def characteristic(A: list) -> list:
     """Returns the coefficients of det(zI - A), from that of the highest power down."""
     size = len(A)
-    common = 1
-    for row in A:
-        for x in row:
-            common = common * x.denominator // gcd(common, x.denominator)
-    whole = [[int(x * common) for x in row] for row in A]
+    common = lcm(1, *(x.denominator for row in A for x in row))
+    rows = [[int(x * common) for x in row] for row in A]
     made, coefficients = [[0] * size for _ in range(size)], [1]
     for k in range(1, size + 1):
         for i in range(size):
             made[i][i] += coefficients[-1]
-        made = [[sum(x * made[j][c] for j, x in enumerate(row) if x) for c in range(size)] for row in whole]
+        made = [[sum(x * made[j][c] for j, x in enumerate(row) if x) for c in range(size)] for row in rows]
         coefficients.append(-sum(made[i][i] for i in range(size)) // k)
     return [Fraction(c, common ** k) for k, c in enumerate(coefficients)]
-
-
-# polynomials, by their coefficients from the highest power down
-
-
-def trimmed(poly: list) -> list:
-    k = next((k for k, x in enumerate(poly) if x), len(poly))
-    return poly[k:]
-
-
-def divided(top: list, below: list):
-    """Returns quotient and rest of polynomials."""
-    rest, found = list(top), []
-    while len(rest) >= len(below):
-        factor = rest[0] / below[0]
-        found.append(factor)
-        rest = [x - factor * (below[k] if k < len(below) else 0) for k, x in enumerate(rest)][1:]
-    return found, trimmed(rest)
-
-
-def common_divisor(first: list, second: list) -> list:
-    while second:
-        first, second = second, divided(first, second)[1]
-        second = [x / second[0] for x in second] if second else second
-    return [x / first[0] for x in first]
-
-
-def derivative(poly: list) -> list:
-    size = len(poly) - 1
-    return [x * (size - k) for k, x in enumerate(poly[:-1])]
-
-
-def roots_of(poly: list) -> list:
-    """Returns the roots of a polynomial as pairs of a Root and how often it is one: exact in how often, and to some 50 digits in where."""
-    poly, found = trimmed(poly), []
-    zeros = 0
-    while len(poly) > 1 and poly[-1] == 0:
-        poly, zeros = poly[:-1], zeros + 1
-    if zeros:
-        found.append((Root(0, 0), zeros))
-    if len(poly) < 2:
-        return found
-    many, shared = 1, common_divisor(poly, derivative(poly)) if len(poly) > 2 else [Fraction(1)]
-    plain = divided(poly, shared)[0]
-    while len(plain) > 1:
-        both = common_divisor(plain, shared) if len(shared) > 1 else [Fraction(1)]
-        alone = divided(plain, both)[0]
-        found += [(root, many) for root in simple_roots(alone)]
-        plain, many = both, many + 1
-        shared = divided(shared, both)[0]
-    return found
-
-
-@dataclass(frozen=True)
-class Root:
-    """A complex number in units of 2^-BITS."""
-    re: int
-    im: int
-
-    @property
-    def real(self) -> Fraction:
-        return Fraction(self.re, ONE)
-
-    @property
-    def imag(self) -> Fraction:
-        return Fraction(self.im, ONE)
-
-    def size(self) -> float:
-        return float(Fraction(self.re * self.re + self.im * self.im, ONE * ONE)) ** 0.5
-
-    def below_one(self) -> Fraction:
-        """Returns 1 less the square of the size."""
-        return 1 - Fraction(self.re * self.re + self.im * self.im, ONE * ONE)
-
-
-def times(a, b):
-    return (a[0] * b[0] - a[1] * b[1]) >> BITS, (a[0] * b[1] + a[1] * b[0]) >> BITS
-
-
-def over(a, b):
-    size = b[0] * b[0] + b[1] * b[1]
-    return ((a[0] * b[0] + a[1] * b[1]) << BITS) // size, ((a[1] * b[0] - a[0] * b[1]) << BITS) // size
-
-
-def simple_roots(poly: list) -> list:
-    """Returns the roots of a polynomial without double ones, by Aberth's iteration in whole numbers at 2^-BITS."""
-    size = len(poly) - 1
-    poly = [x / poly[0] for x in poly]
-    if size == 0:
-        return []
-    if size == 1:
-        return [Root(int(-poly[1] * ONE), 0)]
-    whole = [(int(x * ONE), 0) for x in poly]
-    slopes = [(int(x * ONE), 0) for x in derivative(poly)]
-    points = [rect(0.8, 2 * pi * k / size + 0.4) for k in range(size)]
-    now = [(int(p.real * 2 ** 50) << (BITS - 50), int(p.imag * 2 ** 50) << (BITS - 50)) for p in points]
-    for _ in range(200):
-        moved = 0
-        for k, z in enumerate(now):
-            value, slope = valued(whole, z), valued(slopes, z)
-            if not any(value) or not any(slope):
-                continue
-            newton, pull = over(value, slope), (0, 0)
-            for j, other in enumerate(now):
-                apart = z[0] - other[0], z[1] - other[1]
-                if j != k and any(apart):
-                    one = over((ONE, 0), apart)
-                    pull = pull[0] + one[0], pull[1] + one[1]
-            below = times(newton, pull)
-            below = ONE - below[0], -below[1]
-            step = over(newton, below) if any(below) else newton
-            now[k] = z[0] - step[0], z[1] - step[1]
-            moved = max(moved, abs(step[0]), abs(step[1]))
-        if moved >> (BITS - 170) == 0:
-            break
-    return paired([Root(*z) for z in now])
-
-
-def valued(poly: list, z):
-    total = (0, 0)
-    for x in poly:
-        total = times(total, z)
-        total = total[0] + x[0], total[1] + x[1]
-    return total
-
-
-def paired(found: list) -> list:
-    """Returns the roots with those that are real made so, and pairs made exact mirrors of each other."""
-    near = ONE >> 60
-    out = [Root(z.re, 0) if abs(z.im) < near else z for z in found]
-    upper = [z for z in out if z.im > 0]
-    return [z for z in out if z.im == 0] + [w for z in upper for w in (z, Root(z.re, -z.im))]
 
 
 def poles_of(A: list) -> list:
@@ -271,13 +128,10 @@ def poles_of(A: list) -> list:
 # impulse responses in whole numbers
 
 
-def whole(x: Fraction) -> int:
-    return (x.numerator << BITS) // x.denominator
-
-
 @dataclass
 class Sums:
-    """A sum of an impulse response: of its positive parts, of its negative parts, how many steps were summed, and whether it settled."""
+    """A sum of an impulse response: of its positive parts, of its negative parts, how many steps were summed, and
+    whether it settled."""
     up: Fraction
     down: Fraction
     steps: int

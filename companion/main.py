@@ -8,12 +8,14 @@ import sys
 from .fixd import Trouble
 
 SUBCOMMANDS = ["explain", "width", "show", "plot", "report", "forms", "device"]
-ABOUT = """What is needed around a bundle of 'fixd': calls explained, widths compared, where a bound comes from, pictures, a page of evidence, other forms of a filter,
-and what a device needs. It is outside what is proved: 'fixd check' alone judges a bundle."""
+ABOUT = """What is needed around a bundle of 'fixd': calls explained, widths compared, where a bound comes from,
+pictures, a page of evidence, other forms of a filter, and what a device needs. It is outside what is proved: 'fixd
+check' alone judges a bundle."""
 
 
 def words_of(only=None):
-    """Returns the reader of the command's words; where `only` is a subcommand, of that one alone, so that no other is read in."""
+    """Returns the reader of the command's words; where `only` is a subcommand, of that one alone, so that no other is
+    read in."""
     parser = argparse.ArgumentParser(prog="fixd-tools", description=ABOUT,
                                      epilog="docs/companion.md has a section and an example for each subcommand.")
     parser.add_argument("--fixd", metavar="PROGRAM",

@@ -3,9 +3,8 @@ from __future__ import annotations
 
 import re
 from dataclasses import dataclass, replace
-from fractions import Fraction
 
-from .functions import Function, Tree, written
+from .functions import Function, Tree, value_of, written
 
 RULES = """
 A + B -> B + A
@@ -43,7 +42,8 @@ L / K -> [L / K]
 
 @dataclass(frozen=True)
 class Node:
-    """A node: its operation, the nodes that it reads, its tree in the source or None, what it is in words, and a `val` that it is the value of."""
+    """A node: its operation, the nodes that it reads, its tree in the source or None, what it is in words, and a `val`
+    that it is the value of."""
     op: str
     operands: tuple = ()
     tree: Tree = None
@@ -57,9 +57,10 @@ class Node:
 
 
 def nodes_of(made: Function) -> list:
-    """Returns the nodes of a function: inputs, states, literals and operations each behind its operands, and a copy for each result."""
-    found = [Node("in", what=f"input {it.name}") for it in made.inputs] + [Node("st", what=f"state {it.name}")
-        for it in made.states]
+    """Returns the nodes of a function: inputs, states, literals and operations each behind its operands, and a copy for
+    each result."""
+    found = [Node("in", what=f"input {it.name}") for it in made.inputs]
+    found += [Node("st", what=f"state {it.name}") for it in made.states]
     places = {it.name: k for k, it in enumerate([*made.inputs, *made.states])}
 
     def add(tree: Tree) -> int:
@@ -84,7 +85,8 @@ def nodes_of(made: Function) -> list:
 
 
 def read_rule(text: str) -> Tree:
-    """Returns a side of a rule as a tree, in which a name stands for anything and `lit` for one literal that is worked out."""
+    """Returns a side of a rule as a tree, in which a name stands for anything and `lit` for one literal that is worked
+    out."""
     words = re.findall(r"[A-Z]|\d+|[-+*/()\[\]]", text)
     at = 0
 
@@ -121,8 +123,8 @@ def read_rule(text: str) -> Tree:
 
 def same(first: Tree, second: Tree) -> bool:
     """Returns whether two trees are the same expression, wherever they stand."""
-    return first.op == second.op and first.name == second.name and first.value == second.value and len(first.parts) == len(second.parts) \
-        and all(map(same, first.parts, second.parts))
+    return ((first.op, first.name, first.value, len(first.parts)) ==
+            (second.op, second.name, second.value, len(second.parts)) and all(map(same, first.parts, second.parts)))
 
 
 def match(rule: Tree, tree: Tree, found: dict) -> bool:
@@ -131,8 +133,8 @@ def match(rule: Tree, tree: Tree, found: dict) -> bool:
         if rule.name in "LK" and tree.op != "num":
             return False
         return same(found.setdefault(rule.name, tree), tree)
-    return rule.op == tree.op and len(rule.parts) == len(tree.parts) and all(match(*pair, found)
-        for pair in zip(rule.parts, tree.parts))
+    return (rule.op == tree.op and len(rule.parts) == len(tree.parts)
+            and all(match(*pair, found) for pair in zip(rule.parts, tree.parts)))
 
 
 def filled(rule: Tree, found: dict) -> Tree:
@@ -140,19 +142,8 @@ def filled(rule: Tree, found: dict) -> Tree:
     if rule.op == "name":
         return found[rule.name]
     if rule.op == "lit":
-        return Tree("num", value=worked_out(filled(rule.parts[0], found)))
+        return Tree("num", value=value_of(filled(rule.parts[0], found), {}))
     return replace(rule, parts=tuple(filled(part, found) for part in rule.parts))
-
-
-def worked_out(tree: Tree) -> Fraction:
-    """Returns the value of an expression of literals."""
-    if tree.op == "num":
-        return tree.value
-    values = [worked_out(part) for part in tree.parts]
-    if tree.op == "neg":
-        return -values[0]
-    first, second = values
-    return first + second if tree.op == "+" else first - second if tree.op == "-" else first * second if tree.op == "*" else first / second
 
 
 def replaced(tree: Tree, path: str, change) -> Tree:

@@ -1,4 +1,5 @@
-"""fixd-tools plot BUNDLE [ROWS]: errors between the lines of the bound; of filters the step and the frequency response."""
+"""fixd-tools plot BUNDLE [ROWS]: errors between the lines of the bound; of filters the step and the frequency
+response."""
 from __future__ import annotations
 
 import cmath
@@ -11,7 +12,7 @@ from math import pi
 
 from .bundles import Bundle
 from .exact import as_decimal, at_most
-from .explain_rows import fields_of
+from .explain_rows import values_of
 from .fixd import Fixd, Trouble, find, progress, readable
 from .linear import linear_of
 from .show import accepted
@@ -20,8 +21,9 @@ from .functions import evaluate, Function
 from .svg import Panel, picture
 
 HELP = "a picture: errors between the lines of the bound, and a filter's responses"
-DESCRIPTION = """Prints an SVG: by how much printed values differ from exact ones, between the lines of the certified bound, over the rows of ROWS, or else over rows at random and over
-rows that are driven to the worst; of a filter its step and, where it is linear, its frequency response, exact and as the integer program gives it."""
+DESCRIPTION = """Prints an SVG: by how much printed values differ from exact ones, between the lines of the certified
+bound, over the rows of ROWS, or else over rows at random and over rows that are driven to the worst; of a filter its
+step and, where it is linear, its frequency response, exact and as the integer program gives it."""
 PLACES = 9
 
 
@@ -45,8 +47,8 @@ class Plotted:
 
     def errors(self, rows: list) -> list:
         """Returns by how much the printed value of each row differs from the exact one, and the exact ones."""
-        csv = ",".join(it.name for it in self.made.inputs) + "\n" + "".join(",".join(map(as_decimal, row)) + "\n"
-            for row in rows)
+        lines = [[it.name for it in self.made.inputs], *(map(as_decimal, row) for row in rows)]
+        csv = "".join(",".join(line) + "\n" for line in lines)
         printed = self.fixd.printed("run", self.path, rows=csv.encode()).decode().splitlines()[1:]
         states, exact = [it.start for it in self.made.states], []
         for row in rows:
@@ -63,8 +65,9 @@ class Plotted:
 
 def shortened(value: Fraction) -> Fraction:
     """Returns a number to 2^-200: what is lost is far below what is shown."""
-    return value if value.denominator.bit_length() < 260 else Fraction((value.numerator << 200) // value.denominator,
-        1 << 200)
+    if value.denominator.bit_length() < 260:
+        return value
+    return Fraction((value.numerator << 200) // value.denominator, 1 << 200)
 
 
 def limited(it, value: Fraction) -> Fraction:
@@ -73,41 +76,41 @@ def limited(it, value: Fraction) -> Fraction:
 
 def rows_of(path: str, made: Function) -> list:
     """Returns the values of a file of rows."""
-    lines = [line.rstrip(b"\r").decode("utf-8", "replace")
-             for line in readable(path).removeprefix(b"\xef\xbb\xbf").split(b"\n")]
-    lines = [line for line in lines if line]
-    names = [field.text for field in fields_of(lines[0])] if lines else []
-    if any(it.name not in names for it in made.inputs):
-        raise Trouble(f"{path} has no column for each input ({', '.join(it.name for it in made.inputs)}): fixd-tools "
-                      f"explain run BUNDLE < {path}")
-    places = [names.index(it.name) for it in made.inputs]
     try:
-        return [[Fraction(fields_of(line)[place].text) for place in places] for line in lines[1:]]
+        return values_of(readable(path), made.inputs)
     except (ValueError, IndexError, ZeroDivisionError):
-        raise Trouble(f"{path} has a bad row: fixd-tools explain run BUNDLE < {path}") from None
+        names = ", ".join(it.name for it in made.inputs)
+        raise Trouble(f"{path} has a bad row, or no column for each input ({names}): fixd-tools explain run BUNDLE < "
+                      f"{path}") from None
 
 
 def driven(shown: Plotted, count: int) -> list:
-    """Returns rows whose errors are greater than at random: of a filter an input that follows its impulse response, else a climb from row to row."""
+    """Returns rows whose errors are greater than at random: of a filter an input that follows its impulse response,
+    else a climb from row to row."""
     source = random.Random(1)
     system = linear_of(shown.made) if shown.made.states else None
     if shown.made.states:
-        return follow(shown, system, count) if system else [[(it.lo, it.hi)[source.randint(0, 1)]
-            for it in shown.made.inputs] for _ in range(count)]
+        return (follow(shown, system, count) if system
+                else [[(it.lo, it.hi)[source.randint(0, 1)] for it in shown.made.inputs] for _ in range(count)])
     rows = [shown.chance(source) for _ in range(count)]
     for turn in range(4):
         errors, _ = shown.errors(rows)
         best = [row for _, row in sorted(zip(errors, rows), key=lambda pair: -abs(pair[0]))][:max(1, count // 20)]
-        rows = best + [[limited(it, x + Fraction(source.randint(-10 ** 9, 10 ** 9),
-                                                 10 ** 9) * (it.hi - it.lo) / 4 ** (turn + 2)) if source.random() < 0.7
-                                                 else x
-                        for it, x in zip(shown.made.inputs, source.choice(best))] for _ in range(count - len(best))]
-        rows = [[Fraction(round(x * 10 ** PLACES), 10 ** PLACES) for x in row] for row in rows]
+        rows = best + [[moved(source, it, x, 4 ** (turn + 2)) for it, x in zip(shown.made.inputs, source.choice(best))]
+                       for _ in range(count - len(best))]
     return rows
 
 
+def moved(source: random.Random, it, value: Fraction, part: int) -> Fraction:
+    """Returns a value of an input, mostly one that is off by a part of its range at most."""
+    if source.random() < 0.7:
+        value = limited(it, value + Fraction(source.randint(-10 ** 9, 10 ** 9), 10 ** 9) * (it.hi - it.lo) / part)
+    return Fraction(round(value * 10 ** PLACES), 10 ** PLACES)
+
+
 def follow(shown: Plotted, system, count: int) -> list:
-    """Returns an input from end to end that drives the output as far as it goes at the last row, in blocks of a settled response."""
+    """Returns an input from end to end that drives the output as far as it goes at the last row, in blocks of a settled
+    response."""
     made, kernel = shown.made, []
     image = [float(x) for x in system.C[shown.output]]
     A = [[float(x) for x in row] for row in system.A]
@@ -145,7 +148,8 @@ def step_panel(shown: Plotted, count: int = 120) -> Panel:
 
 
 def frequency_panel(shown: Plotted, system) -> Panel:
-    """Returns the panel of the frequency response of the first input: exact by the matrices, and of the integer program by sines through it."""
+    """Returns the panel of the frequency response of the first input: exact by the matrices, and of the integer program
+    by sines through it."""
     one = shown.made.inputs[0]
     A, b, c = ([[float(x) for x in row] for row in system.A], [float(row[0]) for row in system.B],
                [float(x) for x in system.C[shown.output]])

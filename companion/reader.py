@@ -14,13 +14,15 @@ KINDS = ["BadUtf8", "BadCharacter", "BadNumber", "NumberTooLong", "EndOfText", "
 GRAMMAR_WORDS = {"import", "object", "def", "val", "require", "ensuring"}
 OTHER_WORDS = {"if", "else", "while", "for", "match", "var", "return", "true", "false", "new"}
 RELATIONS = ("<", "<=", ">", ">=")
-TOKEN = re.compile(rb"([A-Za-z_][A-Za-z0-9_]*)|([0-9]+(?:\.[0-9]+)?(?:[eE][+-]?[0-9]+)?)|(\+/-|=>|<=|>=|&&|[(){}:,.;=<>+\-*/])")
+TOKEN = re.compile(rb"([A-Za-z_][A-Za-z0-9_]*)|([0-9]+(?:\.[0-9]+)?(?:[eE][+-]?[0-9]+)?)"
+                   rb"|(\+/-|=>|<=|>=|&&|[(){}:,.;=<>+\-*/])")
 MOST_INPUTS, MOST_STATES, MOST_OUTPUTS, MOST_TEMPS, MOST_NODES, MOST_HEIGHT = 64, 32, 64, 1000, 4000, 200
 
 
 @dataclass(frozen=True)
 class Token:
-    """A token: its kind (word, name, number, sign), its text, its bytes from `at` to `end`, and whether it is the first of its line."""
+    """A token: its kind (word, name, number, sign), its text, its bytes from `at` to `end`, and whether it is the first
+    of its line."""
     kind: str
     text: str
     at: int
@@ -29,7 +31,8 @@ class Token:
 
 
 class Fault(Exception):
-    """The first fault of a source: its kind and byte, what could have stood at the token `found`, and what else is known of it."""
+    """The first fault of a source: its kind and byte, what could have stood at the token `found`, and what else is
+    known of it."""
 
     def __init__(self, kind, at, expected=(), found=None, known=None):
         super().__init__(f"{kind} at byte {at}")
@@ -99,7 +102,8 @@ class Reader:
     # faults
 
     def note(self, fault, place, found, **known):
-        """Notes a fault that the token number `found` completes; a later row of the table may still take its place at that token."""
+        """Notes a fault that the token number `found` completes; a later row of the table may still take its place at
+        that token."""
         self.late.append((found, KINDS.index(fault), place, known))
 
     def fail(self, fault, place, found, **known):
@@ -170,7 +174,8 @@ class Reader:
     def real(self):
         self.want("'Real'")
         token = self.peek()
-        return self.take() if token is not None and token.kind == "name" and token.text == "Real" else self.stop(real=True)
+        return (self.take() if token is not None and token.kind == "name" and token.text == "Real"
+                else self.stop(real=True))
 
     def number(self):
         if not self.sees_kind("number", what="a number"):
@@ -492,4 +497,5 @@ class Reader:
 
 def ends_lacking(it: Input) -> str:
     """Returns which ends of an input aren't given."""
-    return "neither end" if it.lo is None and it.hi is None else "no least value" if it.lo is None else "no greatest value"
+    return ("neither end" if it.lo is None and it.hi is None else "no least value" if it.lo is None
+            else "no greatest value")

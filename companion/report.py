@@ -1,21 +1,21 @@
 """fixd-tools report BUNDLE: the page of evidence for a reviewer."""
 from __future__ import annotations
 
-import hashlib
 import os
 import subprocess
 
 from .budget import budgets_of
 from .exact import as_decimal, at_most, dyadic, shown
-from .fixd import HERE, find, progress, readable
+from .fixd import HERE, find, progress, readable, sum_of
 from .plot import panels_of, plotted
 from .show import accepted, cut
 from .svg import picture
 from .told import counted
 
 HELP = "the page of evidence for a reviewer"
-DESCRIPTION = """Has 'fixd check' judge the bundle, and prints one page for whoever reviews it: the function with its ranges, errors and demands, width, certified bounds, where they come
-from, what acceptance is worth, a picture, and the sums of bundle, source and program. Of a bundle that isn't accepted there is no page."""
+DESCRIPTION = """Has 'fixd check' judge the bundle, and prints one page for whoever reviews it: the function with its
+ranges, errors and demands, width, certified bounds, where they come from, what acceptance is worth, a picture, and
+the sums of bundle, source and program. Of a bundle that isn't accepted there is no page."""
 
 
 def add_to(parser) -> None:
@@ -27,10 +27,6 @@ def add_to(parser) -> None:
                         help="how many rows the picture has (default: 1000)")
     parser.add_argument("--parts", type=int, default=8, metavar="N",
                         help="how many parts of a bound are listed (default: 8)")
-
-
-def sum_of(data: bytes) -> str:
-    return hashlib.sha256(data).hexdigest()
 
 
 def commit() -> str:
@@ -73,16 +69,9 @@ def page(fixd, words, bundle, bounds, judge) -> list:
              "| output | no printed value is further from the exact one than | that is at most | demanded |",
              "|---|---|---|---|"]
     for it, bound in zip(made.outputs, bounds):
-        lines.append(f"| {it.name} | {dyadic(bound)} | {at_most(bound)} | {demands_of(it)} |")
+        lines.append(f"| {it.name} | {dyadic(bound)} | {at_most(bound)} | {', '.join(it.demanded()) or 'nothing'} |")
     return [*lines, "", *worth(fixd), "", *budget_lines(bundle, judge, words.parts), *picture_lines(words),
             *sums(fixd, data, bundle, name)]
-
-
-def demands_of(it) -> str:
-    """Returns what is demanded of an output, in words."""
-    found = [f"within {as_decimal(it.error)}"] if it.error is not None else []
-    found += [f"at least {as_decimal(it.lo)}"] if it.lo is not None else []
-    return ", ".join(found + ([f"at most {as_decimal(it.hi)}"] if it.hi is not None else [])) or "nothing"
 
 
 def worth(fixd) -> list:

@@ -8,7 +8,6 @@ import time
 from dataclasses import dataclass
 
 from . import bundles
-from .exact import plus
 from .fixd import Fixd, NOT_FOUND, Trouble
 from .functions import Function
 
@@ -41,11 +40,6 @@ class Found:
         """Returns where the exact values of each output lie, as the certificate has it."""
         first = self.bundle.first_output
         return [line.range for line in self.bundle.lines[first:first + self.bundle.outputs]]
-
-    def printed_spans(self) -> list:
-        """Returns where the printed values of each output lie."""
-        first = self.bundle.first_output
-        return [plus(line.range, line.error) for line in self.bundle.lines[first:first + self.bundle.outputs]]
 
 
 def search(fixd: Fixd, data: bytes, name: str, width: int, rounding: str = "floor", tries: int = None,

@@ -12,8 +12,9 @@ from .reader import Fault
 from .sources import function_of
 
 HELP = "each code with decimals and its term, and where the bound comes from"
-DESCRIPTION = """Has 'fixd check' judge the bundle, and prints each code with its point, range and error as decimals and with its term in the source; then, for each output, what
-each reading, literal and rounding adds to the certified bound, the greatest first, and what the analysis itself adds."""
+DESCRIPTION = """Has 'fixd check' judge the bundle, and prints each code with its point, range and error as decimals
+and with its term in the source; then, for each output, what each reading, literal and rounding adds to the certified
+bound, the greatest first, and what the analysis itself adds."""
 
 
 def add_to(parser) -> None:
@@ -26,7 +27,8 @@ def add_to(parser) -> None:
 
 
 def accepted(fixd: Fixd, path: str) -> tuple:
-    """Returns an accepted bundle with the bounds that `check` printed and its judge; else it says why there is nothing to show."""
+    """Returns an accepted bundle with the bounds that `check` printed and its judge; else it says why there is nothing
+    to show."""
     ran = fixd.check(path)
     if ran.status == REJECTED:
         raise Trouble(f"{path} isn't accepted ({ran.line}), so nothing is certified of it\nto have that explained: "

@@ -1,4 +1,5 @@
-"""The usual slips in a source: each function returns a hint where the token at the fault, and those about it, look like its slip."""
+"""The usual slips in a source: each function returns a hint where the token at the fault, and those about it, look like
+its slip."""
 from __future__ import annotations
 
 from fractions import Fraction
@@ -29,7 +30,8 @@ CHARACTERS = {
 }
 TYPES = {"Float", "Double", "Int", "Integer", "float", "double", "int", "real", "f32", "f64", "Long", "Short", "Number",
          "i16", "i32", "Fixed"}
-NAME_FOR_ENSURING = "name the outputs first: 'ensuring(out => out +/- 0.001)', of several '(a, b) => a +/- 0.1 && b +/- 0.2'"
+NAME_FOR_ENSURING = ("name the outputs first: 'ensuring(out => out +/- 0.001)', of several '(a, b) => a +/- 0.1 && b "
+                     "+/- 0.2'")
 
 
 def nearest_literal(value: Fraction):
@@ -48,12 +50,14 @@ def slip_power(it, text):
 
 def slip_chain(it, text):
     if text in RELATIONS and it.where in ("require", "ensuring") and it.kind_near(-1) in ("name", "number"):
-        return f"comparisons don't chain: write '{it.near(-3)} {it.near(-2)} {it.near(-1)} && {it.near(-1)} {text} {it.near(1)}'"
+        return (f"comparisons don't chain: write '{it.near(-3)} {it.near(-2)} {it.near(-1)} && {it.near(-1)} {text} "
+                f"{it.near(1)}'")
 
 
 def slip_comparison(it, text):
     if text in RELATIONS and it.where == "body":
-        return "there are no comparisons in an expression, and no choice: choose outside, and make the choice an input with its range"
+        return ("there are no comparisons in an expression, and no choice: choose outside, and make the choice an "
+                "input with its range")
 
 
 def slip_comma_number(it, text):
@@ -74,12 +78,14 @@ def slip_fraction(it, text):
             value = first / second if text == "/" else first * second
             best = nearest_literal(value)
             exact = "" if best == value else f", which is {shown(abs(best - value), 2, True)} off"
-            return f"a number stands here, not an expression: write {as_decimal(best)}{exact}" if best is not None else None
+            return (f"a number stands here, not an expression: write {as_decimal(best)}{exact}" if best is not None
+                    else None)
 
 
 def slip_arithmetic(it, text):
     if text in ("+", "-", "*", "/") and it.where in ("require", "ensuring", "states"):
-        return "a condition has one name and one number, no expressions: work the number out, or make the expression an input of its own"
+        return ("a condition has one name and one number, no expressions: work the number out, or make the expression "
+                "an input of its own")
 
 
 def slip_point(it, text):
@@ -98,8 +104,10 @@ def slip_plus(it, text):
 
 def slip_type(it, text):
     if it.known.get("real"):
-        return f"the type is always 'Real', an exact number: write it for '{text}'; the width of the words is chosen by --width" if text in TYPES or it.kind_near(0) == "name" \
-            else "a type is missing: ': Real'"
+        if text in TYPES or it.kind_near(0) == "name":
+            return (f"the type is always 'Real', an exact number: write it for '{text}'; the width of the words is "
+                    "chosen by --width")
+        return "a type is missing: ': Real'"
 
 
 def slip_no_type(it, text):
@@ -136,7 +144,8 @@ def slip_ensuring(it, text):
 
 def slip_equals(it, text):
     if text == "=" and it.where in ("require", "ensuring"):
-        return "ends are given by '<=' and '>=': a fixed value x is '0.5 <= x && x <= 0.5'"
+        name, value = it.near(-1), next((it.near(k) for k in (1, 2) if it.kind_near(k) == "number"), "0.5")
+        return f"ends are given by '<=' and '>=': a fixed value is '{value} <= {name} && {name} <= {value}'"
     if text == "=" and it.near(-1) in ("+", "-", "*", "/") and it.where == "body":
         return "values don't change: name the new one, as 'val next = ..'; what lasts from row to row is a state"
     if text == "=" and it.kind_near(-1) == "name":
@@ -148,14 +157,16 @@ def slip_minus(it, text):
         return "a line that begins with '-' begins a new expression: put the '-' at the end of the line before"
     previous = next((k for k in range(it.index - 1, max(it.index - 40, -1), -1) if it.tokens[k].first), None)
     if previous is not None and it.tokens[previous].text == "-" and it.where == "body":
-        return f"the line that begins with '-' ({it.line_at(it.tokens[previous].at)}) began a new expression: put that '-' at the end of the line before"
+        return (f"the line that begins with '-' ({it.line_at(it.tokens[previous].at)}) began a new expression: put "
+                "that '-' at the end of the line before")
 
 
 def slip_two_results(it, text):
     if text == "," and it.where == "body" and it.known.get("opened") is not None:
         return "several results want as many in the type: ': (Real, Real)'"
     if it.known.get("results"):
-        return f"the type has {it.known['results']} results: write them in parentheses, parted by commas: the outputs, then the next states"
+        return (f"the type has {it.known['results']} results: write them in parentheses, parted by commas: the "
+                "outputs, then the next states")
 
 
 def slip_parenthesis(it, text):
@@ -170,14 +181,16 @@ def slip_brace(it, text):
     if it.known.get("outside") and it.near(-1) != "":
         return "behind a function only another 'def', or 'ensuring(..)', may stand" if it.kind_near(-1) else None
     if it.known.get("outside"):
-        return "a source begins with 'def', after 'import' lines and one 'object NAME {' if you like"
+        return ("a source begins with 'def', as 'def f(x: Real): Real = { require(0 <= x && x <= 1) 0.5 * x }', after "
+                "'import' lines and one 'object NAME {' if you like")
     if it.where == "require" and text != "require" and not it.known.get("condition"):
         return "in the braces 'require(..)' comes first" if it.near(-1) == "{" else None
 
 
 def slip_late_val(it, text):
     if text == "val" and it.known.get("behind_result"):
-        return "a 'val' stands before the result: an expression alone ends the function; is a 'val NAME =' missing before it, or an operator?"
+        return ("a 'val' stands before the result: an expression alone ends the function; is a 'val NAME =' missing "
+                "before it, or an operator?")
     if text == "require":
         return "one 'require', first in the braces: join all conditions by '&&'"
 
@@ -211,7 +224,8 @@ def slip_separator(it, text):
         return "no ',' behind an expression: a line's end or ';' parts what follows"
 
 
-SLIPS = [slip_power, slip_word, slip_comma_number, slip_separator, slip_chain, slip_comparison, slip_fraction, slip_comma_conditions, slip_point,
+SLIPS = [slip_power, slip_word, slip_comma_number, slip_separator, slip_chain, slip_comparison, slip_fraction,
+         slip_comma_conditions, slip_point,
          slip_ensuring, slip_type, slip_start,
          slip_no_type, slip_no_input, slip_equals, slip_minus, slip_plus, slip_arithmetic, slip_two_results,
          slip_parenthesis, slip_late_val, slip_brace,

@@ -1,7 +1,7 @@
 """Reads a source: its tokens, its functions with exact numbers, and its first fault with what could have stood there.
 
-`fixd` alone says whether a source has a fault and which. This reader follows docs/formats.md, so that what it knows of the place can be told:
-where it and `fixd` don't name one fault, nothing of it is told.
+`fixd` alone says whether a source has a fault and which. This reader follows docs/formats.md, so that what it knows of
+the place can be told: where it and `fixd` don't name one fault, nothing of it is told.
 """
 from __future__ import annotations
 

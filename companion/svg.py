@@ -50,7 +50,8 @@ def panel_text(panel: Panel, top: int) -> list:
     wide, high = WIDE - LEFT - RIGHT, HIGH - TOP - BOTTOM
 
     def x_of(x):
-        part = (log10(x) - log10(low_x)) / (log10(high_x) - log10(low_x)) if panel.log_x else (x - low_x) / (high_x - low_x)
+        part = ((log10(x) - log10(low_x)) / (log10(high_x) - log10(low_x)) if panel.log_x
+                else (x - low_x) / (high_x - low_x))
         return LEFT + part * wide
 
     def y_of(y):

@@ -33,6 +33,10 @@ class Told:
         for hint in self.hints:
             print(f"  to mend it: {hint}", file=file)
 
+    def stands_at(self, place, width: int) -> None:
+        """Sets the place: a line and column with the line's text, and how many characters are marked."""
+        self.line, self.column, self.text, self.width = place.line, place.column, place.text, max(1, width)
+
     def as_value(self) -> dict:
         """Returns it for a machine."""
         return {"head": self.head, "file": self.where, "line": self.line or None, "column": self.column or None,
@@ -47,7 +51,8 @@ def columns_of(text: str) -> int:
 
 
 def marked(number: int, text: str, column: int, width: int) -> str:
-    """Returns a line of a text with its number, and carets under `width` characters from a column on. Tabs count as one blank."""
+    """Returns a line of a text with its number, and carets under `width` characters from a column on. Tabs count as one
+    blank."""
     text = "".join(one if one.isprintable() else " " for one in text.replace("\t", " "))
     begin = max(0, min(column - 1 - MOST // 2, len(text) - MOST)) if len(text) > MOST else 0
     part, front = text[begin:begin + MOST], f"{number:5} | "

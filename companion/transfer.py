@@ -1,18 +1,24 @@
-"""Transfer functions of linear systems in fractions, their parts by poles, and how far two systems' answers can be apart, as a proved bound."""
+"""Transfer functions of linear systems in fractions, their parts by poles, and how far two systems' answers can be
+apart, as a proved bound."""
 from __future__ import annotations
 
 from dataclasses import dataclass
 from fractions import Fraction
+from math import ceil
 
-from .linear import BITS, ONE, Linear, Root, characteristic, common_divisor, divided, roots_of, trimmed
+from .linear import Linear, characteristic
+from .polynomials import BITS, ONE, Root, common_divisor, divided, roots_of, trimmed, whole
 
 DEEP = 400
 UNIT = 1 << DEEP
+# a response is summed until the rest is bounded by so little, in units of 2^-DEEP, or for so many steps
+FADED, LONGEST = UNIT // 10 ** 30, 1 << 19
 
 
 @dataclass
 class Transfer:
-    """What comes through: for output j and column i the polynomial `tops[j][i]` over `below`, and what comes through at once."""
+    """What comes through: for output j and column i the polynomial `tops[j][i]` over `below`, and what comes through at
+    once."""
     tops: list
     below: list
     direct: list
@@ -23,7 +29,8 @@ class Transfer:
 
 
 def transfer_of(system: Linear, columns: list) -> Transfer:
-    """Returns C (zI - A)^-1 b for each column b, in lowest terms over all of them; `columns` stand as lists over the states."""
+    """Returns C (zI - A)^-1 b for each column b, in lowest terms over all of them; `columns` stand as lists over the
+    states."""
     size, below = system.states, characteristic(system.A)
     tops = [[[] for _ in columns] for _ in system.C]
     images = [list(column) for column in columns]
@@ -51,8 +58,7 @@ def valued(poly: list, root: Root):
     """Returns a polynomial's value at a root, as a pair of fractions rounded to 2^-BITS."""
     re, im = 0, 0
     for x in poly:
-        re, im = ((re * root.re - im * root.im) >> BITS) + (x.numerator << BITS) // x.denominator, (re * root.im
-            + im * root.re) >> BITS
+        re, im = ((re * root.re - im * root.im) >> BITS) + whole(x), (re * root.im + im * root.re) >> BITS
     return Fraction(re, ONE), Fraction(im, ONE)
 
 
@@ -90,18 +96,18 @@ def norm(a, off=0):
 
 
 def growth(A: list):
-    """Returns a bound of the sum over t of the norm of A^t, as a fraction, or None where none is found.
+    """Returns a bound of the sum over t of the norm of A^t, a whole number, or None where none is found.
 
     A^(2^k) is squared in whole numbers, with what each entry may be off, until its norm is below 1/2.
     """
     size = len(A)
     power = [[(x.numerator << DEEP) // x.denominator for x in row] for row in A]
-    off, below, count = 1, Fraction(1), 1
+    off, total = 1, Fraction(1)
     for _ in range(40):
         now = Fraction(norm(power, off), UNIT)
         if now < Fraction(1, 2):
-            return below * count / (1 - now)
-        below, count = below * max(Fraction(1), now), count * 2
+            return ceil(total / (1 - now))
+        total *= 1 + now
         top = norm(power, off)
         if top >> (DEEP + 200):
             return None
@@ -120,15 +126,16 @@ def sum_of_sizes(A: list, row: list, column: list) -> Fraction:
               for j in range(size)]
     push = [(x.numerator << DEEP) // x.denominator for x in column]
     image = [(x.numerator << DEEP) // x.denominator for x in row]
-    widest = max([abs(x) for x in column], default=Fraction(0)) + 1
-    # what an image is off in all: each step rounds each entry by less than size + 1 units, and that comes through by `total`
+    widest = ceil(max([abs(x) for x in column], default=Fraction(0))) + 1
+    # what an image is off in all: each step rounds each entry by less than size + 1 units, and that comes through by
+    # `total`
     off = Fraction(size * (size + 2), UNIT) * total * (sum(abs(x) for x in row) + 1)
     found, steps = 0, 0
-    while steps < 1 << 16:
+    while steps < LONGEST:
         found += abs(sum(x * y for x, y in zip(image, push)) >> DEEP) + 2
         image = [sum(image[k] * x for k, x in line) >> DEEP for line in turned]
         steps += 1
-        if steps % 16 == 0 and Fraction(sum(map(abs, image)), UNIT) * total * widest < Fraction(1, 10 ** 40):
+        if steps % 16 == 0 and sum(map(abs, image)) * total * widest < FADED:
             break
     tail = (Fraction(sum(map(abs, image)), UNIT) + size * off) * total * widest
     return Fraction(found, UNIT) + steps * size * off * widest + tail
@@ -136,18 +143,19 @@ def sum_of_sizes(A: list, row: list, column: list) -> Fraction:
 
 def is_same(first: Linear, second: Linear, pulses: tuple) -> bool:
     """Returns whether two systems give exactly the same answers to the same inputs."""
-    def whole(system, start):
+    def all_of(system, start):
+        if not system.states:
+            return [Fraction(1)], [[[]] * (len(system.D[0]) + 1) for _ in system.C], system.D
         columns = [[row[i] for row in system.B] for i in range(len(system.D[0]))]
-        found = transfer_of(system, [*columns,
-                                     start]) if system.states else Transfer([[[Fraction(0)]] * (len(columns) + 1)
-                                         for _ in system.C], [Fraction(1)], system.D)
+        found = transfer_of(system, [*columns, start])
         return found.below, [[trimmed(top) for top in row] for row in found.tops], system.D
 
-    return whole(first, list(pulses[0])) == whole(second, list(pulses[1]))
+    return all_of(first, list(pulses[0])) == all_of(second, list(pulses[1]))
 
 
 def difference(first: Linear, second: Linear, pulses: tuple, j: int, i: int) -> Fraction:
-    """Returns a bound of the sum over t of how far two impulse responses are apart, of output j and input i; i of -1 are the starts in `pulses`."""
+    """Returns a bound of the sum over t of how far two impulse responses are apart, of output j and input i; i of -1
+    are the starts in `pulses`."""
     a, b = first.states, second.states
     joined = [row + [Fraction(0)] * b for row in first.A] + [[Fraction(0)] * a + row for row in second.A]
     row = first.C[j] + [-x for x in second.C[j]]

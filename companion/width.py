@@ -6,16 +6,18 @@ import json
 from fractions import Fraction
 from math import log2
 
-from .exact import as_decimal, at_most, dyadic, shown
+from .centred import centred
+from .exact import at_most, dyadic, shown
 from .fixd import WIDTHS, Trouble, find, progress, readable
 from .search import bytes_of_words, free_of_demands, search
 from .reader import Fault
 from .sources import function_of
 
 HELP = "a table of the widths: found or not, bounds, bytes"
-DESCRIPTION = """Searches a bundle at each width and with each rounding, and prints a table: each output's certified bound as a decimal, the binary places that are right
-(the bound is at most 2^-places), the bound as a part of the output's certified range, and the bytes of all words, each in its own least width. '*' marks the least
-width that keeps the demands."""
+DESCRIPTION = """Searches a bundle at each width and with each rounding, and prints a table: each output's certified
+bound as a decimal, the binary places that are right (the bound is at most 2^-places), the bound as a part of the
+output's certified range, and the bytes of all words, each in its own least width. '*' marks the least width that
+keeps the demands."""
 
 
 def add_to(parser) -> None:
@@ -26,6 +28,8 @@ def add_to(parser) -> None:
                         help="the widths to look at (default: all eight)")
     parser.add_argument("--round", choices=["floor", "nearest", "both"], default="both",
                         help="the roundings to look at (default: both)")
+    parser.add_argument("--centred", action="store_true",
+                        help="at nearest, look also at the source with results and vals that are sums in '1 * (..)'")
     parser.add_argument("--tries", type=int, metavar="T", help="as of fixd synth")
     parser.add_argument("--jobs", type=int, default=2, metavar="J", help="how many searches run at a time (default: 2)")
     parser.add_argument("--json", action="store_true", help="print the table as JSON, with exact bounds")
@@ -48,7 +52,8 @@ def widths_of(text: str) -> list:
 
 
 def places(bound: Fraction):
-    """Returns how many binary places are right: the greatest p such that a bound is at most 2^-p, with one digit behind the point."""
+    """Returns how many binary places are right: the greatest p such that a bound is at most 2^-p, with one digit behind
+    the point."""
     return None if bound == 0 else int(-log2(bound) * 10 // 1) / 10
 
 
@@ -56,17 +61,22 @@ def run(words) -> int:
     """Runs the subcommand."""
     fixd, data = find(words.fixd), readable(words.file)
     made = function_in(data, words.file, words.function)
-    roundings = ["floor", "nearest"] if words.round == "both" else [words.round]
-    jobs = [(width, rounding) for width in widths_of(words.widths) for rounding in roundings]
+    texts = {rounding: data for rounding in (["floor", "nearest"] if words.round == "both" else [words.round])}
+    if words.centred and "nearest" in texts and centred(data, made) != data:
+        texts["nearest+"] = centred(data, made)
+    jobs = [(width, label) for width in widths_of(words.widths) for label in texts]
 
     def one(job):
-        found = search(fixd, data, made.name, *job, words.tries)
+        width, label = job
+        text, rounding = texts[label], label.rstrip("+")
+        found = search(fixd, text, made.name, width, rounding, words.tries)
         if not found.is_found and made.demands():
-            free = search(fixd, free_of_demands(data, made), made.name, *job, words.tries)
+            free = search(fixd, free_of_demands(text, function_of(text, made.name)), made.name, width, rounding,
+                          words.tries)
             free.free, free.why = True, found.why
             found = free if free.is_found else found
-        size = bytes_of_words(fixd, found) if found.is_found else None
-        return found, size
+        found.rounding = label
+        return found, bytes_of_words(fixd, found) if found.is_found else None
 
     rows = []
     with concurrent.futures.ThreadPoolExecutor(max(1, words.jobs)) as pool:
@@ -105,17 +115,15 @@ def cells(made, found, size) -> list:
 def print_table(made, rows) -> None:
     """Prints the table for a reader."""
     for it in made.outputs:
-        demands = ([f"within {as_decimal(it.error)}"] if it.error is not None else []) + ([f"from {as_decimal(it.lo)}"]
-            if it.lo is not None else []) \
-            + ([f"up to {as_decimal(it.hi)}"] if it.hi is not None else [])
-        if demands:
-            print(f"demanded of {it.name}: {', '.join(demands)}")
+        if it.demanded():
+            print(f"demanded of {it.name}: {', '.join(it.demanded())}")
     head = ["width", "round", *[f"{name} of {it.name}" if k == 0 else name for it in made.outputs
                                 for k, name in enumerate(("bound", "places", "of range"))], "bytes"]
     kept = [found.width for found, _ in rows if found.is_found and not found.free]
     lines = [head]
     for found, size in rows:
-        mark = "*" if kept and found.width == min(kept) and found.is_found and not found.free else "-" if found.free else ""
+        mark = ("*" if kept and found.width == min(kept) and found.is_found and not found.free else "-" if found.free
+                else "")
         lines.append([f"{found.width}{mark}", found.rounding,
                       *[cell for part in cells(made, found, size) for cell in part], str(size or "")])
     broad = [max(len(line[k]) for line in lines if k >= len(line) - 1 or not line[2].startswith("not found"))
@@ -124,5 +132,7 @@ def print_table(made, rows) -> None:
         print("  ".join(cell.ljust(size) for cell, size in zip(line, broad)).rstrip())
     if kept:
         print(f"* the least width at which a bundle is found{' that keeps the demands' if made.demands() else ''}")
+    if any(found.rounding == "nearest+" for found, _ in rows):
+        print("nearest+: with each result and val that is a sum in '1 * (..)'")
     if any(found.free for found, _ in rows):
         print("- found only without the demands, which these bounds don't keep")

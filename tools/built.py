@@ -18,7 +18,8 @@ def first_of(places):
 
 
 def program_of():
-    """Returns the path of the program: the one that FIXD names, else the one that the gate proved and built, else build/fixd; or None."""
+    """Returns the path of the program: the one that FIXD names, else the one that the gate proved and built, else
+    build/fixd; or None."""
     named = os.environ.get("FIXD")
     if named:
         return os.path.abspath(named) if is_program(named) else None

@@ -2,7 +2,8 @@
 
 
 def changes_of(path):
-    """Returns each file that a wrong body changes, with the texts that it takes away and those that take their place."""
+    """Returns each file that a wrong body changes, with the texts that it takes away and those that take their
+    place."""
     changes = []
     with open(path, encoding="utf-8") as lines:
         for line in lines:

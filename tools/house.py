@@ -1,10 +1,11 @@
 #!/usr/bin/env python3
 """Draws the picture of the house, docs/layers.md's first part, from crates.txt: house.py [--write | --check]
 
-crates.txt has its crates in groups: a comment `# NAME: WHY` begins one. A group stands on others where a crate of it does, and a crate on
-others as it names them; both are shown reduced, so that what follows by way of another isn't drawn. Without an option all is printed;
---write puts it into the page between its marks, and --check compares: the picture, each group's table, and the headings, which are the groups
-and one entry for each crate, in the order of crates.txt.
+crates.txt has its crates in groups: a comment `# NAME: WHY` begins one. A group stands on others where a crate of it
+does, and a crate on others as it names them; both are shown reduced, so that what follows by way of another isn't
+drawn. Without an option all is printed; --write puts it into the page between its marks, and --check compares: the
+picture, each group's table, and the headings, which are the groups and one entry for each crate, in the order of
+crates.txt.
 """
 import os
 import re
@@ -34,14 +35,17 @@ def groups():
 
 
 def reduced(below):
-    """Returns of what each stands on the part that doesn't follow from the rest, for a relation with all that follows."""
-    return {it: [one for one in those if not any(one in below[other] for other in those if other != one)] for it, those in below.items()}
+    """Returns of what each stands on the part that doesn't follow from the rest, for a relation with all that
+    follows."""
+    return {it: [one for one in those if not any(one in below[other] for other in those if other != one)]
+            for it, those in below.items()}
 
 
 def group_edges(houses, crates):
     """Returns for each group those that it stands on, in the order of the file."""
     home = {crate: name for name, (_, inside) in houses.items() for crate in inside}
-    return {name: [other for other in houses if other != name and any(home.get(low) == other for it in inside for low in crates[it])]
+    return {name: [other for other in houses if other != name
+                   and any(home.get(low) == other for it in inside for low in crates[it])]
             for name, (_, inside) in houses.items()}
 
 
@@ -61,7 +65,8 @@ def box(name, inside, wide):
             lines.append(line)
             line = ""
         line = f"{line} {word}".strip()
-    return [f"+{'-' * (wide - 2)}+", *(f"| {text.ljust(wide - 4)} |" for text in [*lines, line]), f"+{'-' * (wide - 2)}+"]
+    return [f"+{'-' * (wide - 2)}+", *(f"| {text.ljust(wide - 4)} |" for text in [*lines, line]),
+            f"+{'-' * (wide - 2)}+"]
 
 
 def picture(houses, edges):
@@ -85,7 +90,8 @@ def house(houses, crates, direct):
             assert plain[name] == lower, f"{name} doesn't stand on just the storey below it: the page has to say so"
     shown, all_lines = (sum(len(it) for it in below.values()) for below in (direct, crates_alone(crates)))
     return [*("    " + line for line in picture(houses, edges)), "",
-            f"{len(crates)} crates. Of the {all_lines:,} pairs of a crate and one below it, {shown} don't follow from others: each group's table has its own."]
+            f"{len(crates)} crates. Of the {all_lines:,} pairs of a crate and one below it, {shown} don't follow from "
+            "others: each group's table has its own."]
 
 
 def crates_alone(crates):
@@ -103,7 +109,8 @@ def parts():
     """Returns what this script writes into the page, by name: the house, and a part for each group."""
     crates, houses = closed(listed()), groups()
     direct = reduced(crates_alone(crates))
-    found = {"house": house(houses, crates, direct), **{name: table(why, inside, direct) for name, (why, inside) in houses.items()}}
+    found = {"house": house(houses, crates, direct),
+             **{name: table(why, inside, direct) for name, (why, inside) in houses.items()}}
     return {name: "\n".join(["", "", *lines, "", ""]) for name, lines in found.items()}
 
 
@@ -115,7 +122,8 @@ def filled(text):
 
 def wrong_in(text):
     """Returns what differs between the page and crates.txt."""
-    wrong = [] if filled(text) == text else ["the pictures or tables aren't those of crates.txt: tools/house.py --write"]
+    wrong = ([] if filled(text) == text
+             else ["the pictures or tables aren't those of crates.txt: tools/house.py --write"])
     wrong += [f"there is no part for {name}" for name in parts() if name not in [it[1] for it in PART.findall(text)]]
     wanted = [line for name, (_, inside) in groups().items() for line in [name, *inside]]
     heads = re.findall(r"^###? (.*)$", text, re.M)[1:]

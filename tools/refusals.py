@@ -13,7 +13,8 @@ class Trial:
     """Edits of one crate's definitions, and the crate, with those between, whose proof has to refuse each."""
 
     def __init__(self, crates, changed, proof, worked=()):
-        """`worked` names modules of worked examples in the changed crate, which are left out: they would refuse it first."""
+        """`worked` names modules of worked examples in the changed crate, which are left out: they would refuse it
+        first."""
         self.crates, self.changed, self.proof, self.worked = crates, changed, proof, worked
 
     def check(self, room):
@@ -74,6 +75,7 @@ class Trial:
             for n in range(1, count):
                 shutil.copytree(f"{top}/0", f"{top}/{n}")
             with ThreadPoolExecutor(count) as pool:
-                shares = pool.map(lambda n: [self.try_edit(f"{top}/{n}", path) for path in paths[n::count]], range(count))
+                shares = pool.map(lambda n: [self.try_edit(f"{top}/{n}", path) for path in paths[n::count]],
+                                  range(count))
                 tried = [one for share in shares for one in share]
         return all(refused for refused, _ in tried), "\n".join(text for _, text in tried)
