@@ -207,8 +207,8 @@ def source_told(call, kind: str, at: int) -> Told:
     if call.command == "synth":
         found = explain_source.told(data, kind, at, call.file, call.options.get("--function"))
         if call.file.endswith(".csv"):
-            found.hints.insert(0, "these look like rows: synth takes a source, as FILE.fixd, and 'fixd run' rows, by the "
-                                  "standard input")
+            found.hints.insert(0, "these look like rows: synth takes a source, as FILE.fixd, and 'fixd run' takes rows, "
+                                  "by the standard input")
         return found
     count = int(data.split(b"\n", 2)[1].split()[1])
     return explain_source.told(data.split(b"\n", 2)[2][:count], kind, at, call.file, parsed(data).name, first_line=3)
