@@ -3,7 +3,7 @@
 For bench/states.py, states_rows.py and driven.py. Matrices are exact fractions. A reach is summed in whole numbers at 2^-160, so that
 what is lost on the way stays far below the figures that are printed.
 """
-from dataclasses import dataclass
+from dataclasses import dataclass, field
 from fractions import Fraction
 
 from sources import evaluator
@@ -15,13 +15,17 @@ SETTLED = 30
 
 @dataclass
 class Linear:
-    """The next states are `A * states + B * inputs`, and the outputs `C * states + D * inputs`. The last input is always 1."""
+    """The next states are `A * states + B * inputs`, and the outputs `C * states + D * inputs`.
+
+    The last input is always 1. `spans` has those that were asked for.
+    """
     A: list
     B: list
     C: list
     D: list
     ranges: list
     start: list
+    spans: dict = field(default_factory=dict)
 
     def drives(self):
         """Returns what may push the states anew at each step: a column of B, and where its input lies."""
@@ -29,8 +33,11 @@ class Linear:
 
     def span(self, of_states, of_inputs):
         """Returns the least interval that holds this sum of states and inputs at all times, or None where there is none."""
-        ends = reach(of_states, self.A, self.drives(), self.start)
-        return ends and plus(ends, direct(of_inputs, self.ranges))
+        wanted = tuple(of_states), tuple(of_inputs)
+        if wanted not in self.spans:
+            ends = reach(of_states, self.A, self.drives(), self.start)
+            self.spans[wanted] = ends and plus(ends, direct(of_inputs, self.ranges))
+        return self.spans[wanted]
 
 
 def degree(tree, known):

@@ -12,9 +12,12 @@ The model is that of the certificate, with each rounding as a source of its own:
   word that is known, and is taken like a literal;
 - a state's word starts at its declared start, rounded.
 
-Each source lies anew in its interval at each step, whatever the others do; the one rounding that enters several next states or outputs is
-one source. The worst case is the sum over all steps before. A literal is the one of the source, or its negative, that the code's certified
-range holds; where rewriting made another one, its word is taken to be off by the middle of the code's certified error.
+Each source lies anew in its interval at each step, whatever the others do; the one rounding that enters several next
+states or outputs is one source. The worst case is the sum over all steps before. *Boxed*, what is new in a next state
+is an interval of its own: a rounding that enters two of them is another one in each, as a certificate counts it.
+
+A literal is the one of the source, or its negative, that the code's certified range holds; where rewriting made another
+one, its word is taken to be off by the middle of the code's certified error.
 """
 from dataclasses import dataclass, field
 from fractions import Fraction
@@ -90,6 +93,17 @@ def combined(first, factor, second, other):
     return {name: x for name, x in form.items() if x}
 
 
+def together(drives):
+    """Returns drives with those put together that push the same way: their columns differ by a factor."""
+    sums = {}
+    for column, ends in drives:
+        greatest = max(column, key=abs, default=0)
+        if greatest:
+            way = tuple(x / greatest for x in column)
+            sums[way] = plus(sums.get(way, (Fraction(0), Fraction(0))), times(greatest, ends))
+    return [(list(way), ends) for way, ends in sums.items()]
+
+
 @dataclass
 class Node:
     """The exact value of a code as a form of variables, its error as a form of sources, and the word where it is known."""
@@ -109,7 +123,6 @@ class Roundings:
         trees = [tree for _, tree in function.temps] + function.results
         found = {x for tree in trees for x in literals_of(tree)}
         self.literals = found | {-x for x in found}
-        self.spans = {}
         for code, ends, off in zip(codes, *intervals):
             self.nodes.append(self.node(code, ends, off))
 
@@ -123,12 +136,9 @@ class Roundings:
 
     def span(self, exact):
         """Returns the exact limits of a form of variables."""
-        key = tuple(sorted(exact.items()))
-        if key not in self.spans:
-            of_states = [exact.get(self.inputs + k, Fraction(0)) for k in range(self.states)]
-            of_inputs = [exact.get(i, Fraction(0)) for i in range(self.inputs)] + [exact.get(ONE, Fraction(0))]
-            self.spans[key] = self.linear.span(of_states, of_inputs)
-        return self.spans[key]
+        of_states = [exact.get(self.inputs + k, Fraction(0)) for k in range(self.states)]
+        of_inputs = [exact.get(i, Fraction(0)) for i in range(self.inputs)] + [exact.get(ONE, Fraction(0))]
+        return self.linear.span(of_states, of_inputs)
 
     def node(self, code, ends, off):
         """Returns the node of a code, of which this range and this error are certified."""
@@ -207,20 +217,36 @@ class Roundings:
         """The source of a factor that is off, times what it is multiplied with."""
         return self.source(*times(factor, self.span(exact))) if factor else {}
 
-    def limits(self):
+    def new(self):
+        """Returns the numbers of the sources that aren't errors of states."""
+        return range(self.states, len(self.sources))
+
+    def own(self, form):
+        """Returns the interval of what is new in a form."""
+        return direct([form.get(s, Fraction(0)) for s in self.new()], self.sources[self.states:])
+
+    def drives(self, following):
+        """Returns what pushes the errors of the states anew at each step: each source."""
+        return [([form.get(s, Fraction(0)) for form in following], self.sources[s]) for s in self.new()]
+
+    def boxes(self, following):
+        """Returns what pushes them where all that is new in a next state is one interval."""
+        units = [[Fraction(int(i == k)) for i in range(self.states)] for k in range(self.states)]
+        return [(column, self.own(form)) for column, form in zip(units, following)]
+
+    def limits(self, is_boxed=False):
         """Returns the least interval that holds the error of each output at all times, or None where there is none."""
         first = len(self.nodes) - self.states
         count = len(self.linear.C)
         following = [node.error for node in self.nodes[first:]]
         A = [[form.get(k, Fraction(0)) for k in range(self.states)] for form in following]
-        drives = [([form.get(s, Fraction(0)) for form in following], self.sources[s]) for s in range(self.states, len(self.sources))]
+        drives = together(self.boxes(following) if is_boxed else self.drives(following))
         start = []
         for code, value in zip(self.codes[self.inputs:], self.linear.start):
             start.append(code.numbers[2] * unit(code.point) - value)
         limits = []
         for node in self.nodes[first - count:first]:
             row = [node.error.get(k, Fraction(0)) for k in range(self.states)]
-            own = direct([node.error.get(s, Fraction(0)) for s in range(self.states, len(self.sources))], self.sources[self.states:])
             ends = reach(row, A, drives, start)
-            limits.append(ends and plus(ends, own))
+            limits.append(ends and plus(ends, self.own(node.error)))
         return limits
