@@ -24,7 +24,7 @@ from dataclasses import dataclass
 from fractions import Fraction
 
 from calls import Fixd
-from corpus import bundle_folder, bundle_made, corpus, hand_out, parser_of
+from corpus import bundle_folder, bundle_made, bundle_path, corpus, hand_out, parser_of
 from pages import shown, summed
 from programs import Roundings, codes_of
 
@@ -107,12 +107,23 @@ def nearest_over(fixd, nearest, floor):
 
 
 def measured(fixd, source, width, options, folder):
+    """Returns what comes of a source at a width, but for what is told of nearest."""
     path, seconds = bundle_made(fixd, source, width, folder, options.limit)
-    nearest, _ = bundle_made(fixd, source, width, folder, options.limit, "nearest")
-    if (path or nearest) and source.mark == "not found":
+    if path and source.mark == "not found":
         sys.exit(f"{source.name}: a bundle is found, and no state of it is bounded")
     of_limits = ratios(fixd, source, path) if path and source.linear else [None] * len(RATIOS)
-    return Measured(path is not None, seconds, *of_limits, nearest is not None, nearest_over(fixd, nearest, path))
+    return Measured(path is not None, seconds, *of_limits)
+
+
+def with_nearest(fixd, source, width, options, folder):
+    """Returns all that comes of a source at a width."""
+    known = measured(fixd, source, width, options, folder)
+    nearest, _ = bundle_made(fixd, source, width, folder, options.limit, "nearest")
+    if nearest and source.mark == "not found":
+        sys.exit(f"{source.name}: a bundle is found, and no state of it is bounded")
+    known.found_nearest = nearest is not None
+    known.nearest_ratio = nearest_over(fixd, nearest, bundle_path(folder, source, width) if known.found else None)
+    return known
 
 
 # ---- tables
@@ -158,7 +169,7 @@ def main():
     fixd, rows = Fixd(os.path.abspath(options.program)), []
     with bundle_folder(options) as folder:
         for source in corpus(options):
-            rows.append((source, [measured(fixd, source, width, options, folder) for width in options.widths]))
+            rows.append((source, [with_nearest(fixd, source, width, options, folder) for width in options.widths]))
             print(source_line(*rows[-1], options.widths), file=sys.stderr, flush=True)
     hand_out(options, "found", tables(rows, options.widths))
 
