@@ -14,7 +14,9 @@ The model is that of the certificate, with each rounding as a source of its own:
 
 Each source lies anew in its interval at each step, whatever the others do; the one rounding that enters several next
 states or outputs is one source. The worst case is the sum over all steps before. *Boxed*, what is new in a next state
-is an interval of its own: a rounding that enters two of them is another one in each, as a certificate counts it.
+is an interval of its own: a rounding that enters two of them is another one in each. *Counted*, it is another one on
+each way to a next state, too, so that the sizes of its ways add up where they would cancel in part: that is how a
+certificate counts, and what no templates can better.
 
 A literal is the one of the source, or its negative, that the code's certified range holds; where rewriting made another
 one, its word is taken to be off by the middle of the code's certified error.
@@ -106,10 +108,14 @@ def together(drives):
 
 @dataclass
 class Node:
-    """The exact value of a code as a form of variables, its error as a form of sources, and the word where it is known."""
+    """The exact value of a code as a form of variables, its error as a form of sources, and the word where it is known.
+
+    `rest` is where the roundings on all ways to it lie.
+    """
     exact: dict
     error: dict = field(default_factory=dict)
     word: int = None
+    rest: tuple = (Fraction(0), Fraction(0))
 
 
 class Roundings:
@@ -119,12 +125,19 @@ class Roundings:
         self.linear, self.codes, self.nodes = linear, codes, []
         self.inputs, self.states = len(function.inputs), len(function.states)
         self.errors = [span["err"] for span in function.inputs.values()]
-        self.sources = [None] * self.states
+        self.sources, self.readings = [None] * self.states, []
         trees = [tree for _, tree in function.temps] + function.results
         found = {x for tree in trees for x in literals_of(tree)}
         self.literals = found | {-x for x in found}
         for code, ends, off in zip(codes, *intervals):
-            self.nodes.append(self.node(code, ends, off))
+            before = len(self.sources)
+            node = self.node(code, ends, off)
+            new = range(before, len(self.sources))
+            if code.word == "in":
+                self.readings += new
+            else:
+                node.rest = self.rest(code, node, new)
+            self.nodes.append(node)
 
     def source(self, lo, hi):
         """Returns the form of a new source with this interval."""
@@ -213,6 +226,23 @@ class Roundings:
         lost = combined(self.loss(shifts[0], code.point), 1, self.loss(shifts[1], code.point), sign)
         return combined(combined(parts[0].error, 1, parts[1].error, sign), 1, lost, 1)
 
+    def factors(self, code):
+        """Returns how often the errors of a code's operands count in it; a known word's doesn't."""
+        parts = [self.nodes[k] for k in code.operands]
+        if code.word == "mul":
+            return [0 if part.word is not None else self.value(k)[0] for part, k in zip(parts, reversed(code.operands))]
+        if code.word == "div":
+            return [1 / self.value(code.operands[1])[0], 0]
+        return [-1 if code.word == "neg" else 1, -1 if code.word == "sub" else 1]
+
+    def rest(self, code, node, new):
+        """Returns where the roundings on all ways to a code lie, with these that it adds itself."""
+        total = self.own(node.error, new)
+        if node.word is None:
+            for k, factor in zip(code.operands, self.factors(code)):
+                total = plus(total, times(factor, self.nodes[k].rest))
+        return total
+
     def off_by(self, factor, exact):
         """The source of a factor that is off, times what it is multiplied with."""
         return self.source(*times(factor, self.span(exact))) if factor else {}
@@ -221,26 +251,33 @@ class Roundings:
         """Returns the numbers of the sources that aren't errors of states."""
         return range(self.states, len(self.sources))
 
-    def own(self, form):
-        """Returns the interval of what is new in a form."""
-        return direct([form.get(s, Fraction(0)) for s in self.new()], self.sources[self.states:])
+    def own(self, form, sources):
+        """Returns the interval of these sources in a form."""
+        return direct([form.get(s, Fraction(0)) for s in sources], [self.sources[s] for s in sources])
 
-    def drives(self, following):
-        """Returns what pushes the errors of the states anew at each step: each source."""
-        return [([form.get(s, Fraction(0)) for form in following], self.sources[s]) for s in self.new()]
+    def added(self, node, counting):
+        """Returns the interval of all that is new in a node."""
+        if counting == "counted":
+            return plus(node.rest, self.own(node.error, self.readings))
+        return self.own(node.error, self.new())
 
-    def boxes(self, following):
-        """Returns what pushes them where all that is new in a next state is one interval."""
+    def drives(self, following, counting):
+        """Returns what pushes the errors of the states anew at each step."""
+        if counting == "each":
+            return [([node.error.get(s, Fraction(0)) for node in following], self.sources[s]) for s in self.new()]
         units = [[Fraction(int(i == k)) for i in range(self.states)] for k in range(self.states)]
-        return [(column, self.own(form)) for column, form in zip(units, following)]
+        return [(column, self.added(node, counting)) for column, node in zip(units, following)]
 
-    def limits(self, is_boxed=False):
-        """Returns the least interval that holds the error of each output at all times, or None where there is none."""
+    def limits(self, counting="each"):
+        """Returns the least interval that holds the error of each output at all times, or None where there is none.
+
+        Roundings are counted each for itself, `boxed` or as they are `counted` by a certificate.
+        """
         first = len(self.nodes) - self.states
         count = len(self.linear.C)
-        following = [node.error for node in self.nodes[first:]]
-        A = [[form.get(k, Fraction(0)) for k in range(self.states)] for form in following]
-        drives = together(self.boxes(following) if is_boxed else self.drives(following))
+        following = self.nodes[first:]
+        A = [[node.error.get(k, Fraction(0)) for k in range(self.states)] for node in following]
+        drives = together(self.drives(following, counting))
         start = []
         for code, value in zip(self.codes[self.inputs:], self.linear.start):
             start.append(code.numbers[2] * unit(code.point) - value)
@@ -248,5 +285,5 @@ class Roundings:
         for node in self.nodes[first - count:first]:
             row = [node.error.get(k, Fraction(0)) for k in range(self.states)]
             ends = reach(row, A, drives, start)
-            limits.append(ends and plus(ends, self.own(node.error)))
+            limits.append(ends and plus(ends, self.added(node, counting)))
         return limits

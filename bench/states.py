@@ -8,8 +8,9 @@ how far its certificate is from the least that holds:
   all times, for any inputs in range: sums of absolute impulse responses, and the way back from the start. The worst state or output.
 - *error / limit*: the certified bound of an output over the worst error that the roundings of this very program can add up to, each
   rounding taken as a source of its own (bench/programs.py says exactly what is counted). The worst output.
-- *error / boxed*: likewise, but a rounding that enters several next states is another one in each, as a certificate
-  counts it.
+- *error / boxed*: likewise, but a rounding that enters several next states is another one in each.
+- *error / counted*: likewise, and a rounding that comes to a next state by several ways is another one on each, as a
+  certificate counts it. So 1 is what templates can reach.
 
 - *nearest*: whether a bundle that rounds to the nearest is found, and its bounds over those of the one that rounds down, their mean.
 
@@ -29,7 +30,8 @@ from pages import shown, summed
 from programs import Roundings, codes_of
 
 LOST = Fraction(1, 2 ** 80)
-RATIOS = {"range_ratio": "range / limit", "error_ratio": "error / limit", "boxed_ratio": "error / boxed"}
+RATIOS = {"range_ratio": "range / limit", "error_ratio": "error / limit", "boxed_ratio": "error / boxed",
+          "counted_ratio": "error / counted"}
 
 
 @dataclass
@@ -40,6 +42,7 @@ class Measured:
     range_ratio: float = None
     error_ratio: float = None
     boxed_ratio: float = None
+    counted_ratio: float = None
     found_nearest: bool = False
     nearest_ratio: float = None
 
@@ -95,7 +98,7 @@ def ratios(fixd, source, path):
         if not holds(certified, limit):
             sys.exit(f"{source.name}: {told(certified)} is certified, and the limit is {told(limit)}")
     return (worst((width_of(certified), width_of(limit)) for certified, limit in ranges),
-            worst_error(errors), worst_error(zip(bounds, roundings.limits(is_boxed=True))))
+            worst_error(errors), *(worst_error(zip(bounds, roundings.limits(name))) for name in ("boxed", "counted")))
 
 
 def nearest_over(fixd, nearest, floor):
@@ -156,10 +159,10 @@ def tables(rows, widths):
     bounded = [row for source, row in rows if source.mark != "not found"]
     names, ends = list(RATIOS.values()), ": median, worst | "
     lines = [f"| width | found | {ends.join(names)}{ends}seconds{ends}nearest: found | bound / that at floor" + ends.rstrip()]
-    lines.append("|---" * 8 + "|")
+    lines.append("|---" * 9 + "|")
     lines += [width_line(width, [row[k] for row in bounded]) for k, width in enumerate(widths)] if bounded else []
     names[0] += f" at {', '.join(map(str, widths))}"
-    lines += ["", f"| source | kind | states | found at | {' | '.join(names)} | longest, s |", "|---" * 8 + "|"]
+    lines += ["", f"| source | kind | states | found at | {' | '.join(names)} | longest, s |", "|---" * 9 + "|"]
     lines += [source_line(source, row, widths) for source, row in rows]
     return "\n".join(lines) + "\n"
 

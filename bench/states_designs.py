@@ -60,7 +60,7 @@ def table(rows, widths, key, head):
             groups.setdefault(key(source), []).append(row)
     names = sorted(groups, key=lambda name: (not name.startswith("classical"), "cascades" not in name, len(name), name))
     ratios = " | ".join(f"{name}: median, worst" for name in RATIOS.values())
-    lines = [f"| {head} | width | found | {ratios} | seconds: median, worst |", "|---" * 7 + "|"]
+    lines = [f"| {head} | width | found | {ratios} | seconds: median, worst |", "|---" * 8 + "|"]
     each = [(name, k) for name in names for k in range(len(widths))]
     return lines + [line(name, widths[k], [row[k] for row in groups[name]]) for name, k in each]
 
