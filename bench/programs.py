@@ -14,9 +14,9 @@ The model is that of the certificate, with each rounding as a source of its own:
 
 Each source lies anew in its interval at each step, whatever the others do; the one rounding that enters several next
 states or outputs is one source. The worst case is the sum over all steps before. *Boxed*, what is new in a next state
-is an interval of its own: a rounding that enters two of them is another one in each. *Counted*, it is another one on
-each way to a next state, too, so that the sizes of its ways add up where they would cancel in part: that is how a
-certificate counts, and what no templates can better.
+is an interval of its own, but for what is read: a rounding that enters two of them is another one in each. *Counted*,
+it is another one on each way to a next state, too, so that the sizes of its ways add up where they would cancel in
+part: that is how a certificate counts, and what no templates can better.
 
 A literal is the one of the source, or its negative, that the code's certified range holds; where rewriting made another
 one, its word is taken to be off by the middle of the code's certified error.
@@ -125,7 +125,7 @@ class Roundings:
         self.linear, self.codes, self.nodes = linear, codes, []
         self.inputs, self.states = len(function.inputs), len(function.states)
         self.errors = [span["err"] for span in function.inputs.values()]
-        self.sources, self.readings = [None] * self.states, []
+        self.sources, self.readings, self.roundings = [None] * self.states, [], []
         trees = [tree for _, tree in function.temps] + function.results
         found = {x for tree in trees for x in literals_of(tree)}
         self.literals = found | {-x for x in found}
@@ -136,6 +136,7 @@ class Roundings:
             if code.word == "in":
                 self.readings += new
             else:
+                self.roundings += new
                 node.rest = self.rest(code, node, new)
             self.nodes.append(node)
 
@@ -247,26 +248,22 @@ class Roundings:
         """The source of a factor that is off, times what it is multiplied with."""
         return self.source(*times(factor, self.span(exact))) if factor else {}
 
-    def new(self):
-        """Returns the numbers of the sources that aren't errors of states."""
-        return range(self.states, len(self.sources))
-
     def own(self, form, sources):
         """Returns the interval of these sources in a form."""
         return direct([form.get(s, Fraction(0)) for s in sources], [self.sources[s] for s in sources])
 
-    def added(self, node, counting):
-        """Returns the interval of all that is new in a node."""
-        if counting == "counted":
-            return plus(node.rest, self.own(node.error, self.readings))
-        return self.own(node.error, self.new())
+    def rounded(self, node, counting):
+        """Returns the interval of the new roundings in a node."""
+        return node.rest if counting == "counted" else self.own(node.error, self.roundings)
 
     def drives(self, following, counting):
         """Returns what pushes the errors of the states anew at each step."""
+        alone = self.readings + (self.roundings if counting == "each" else [])
+        drives = [([node.error.get(s, Fraction(0)) for node in following], self.sources[s]) for s in alone]
         if counting == "each":
-            return [([node.error.get(s, Fraction(0)) for node in following], self.sources[s]) for s in self.new()]
+            return drives
         units = [[Fraction(int(i == k)) for i in range(self.states)] for k in range(self.states)]
-        return [(column, self.added(node, counting)) for column, node in zip(units, following)]
+        return drives + [(column, self.rounded(node, counting)) for column, node in zip(units, following)]
 
     def limits(self, counting="each"):
         """Returns the least interval that holds the error of each output at all times, or None where there is none.
@@ -285,5 +282,6 @@ class Roundings:
         for node in self.nodes[first - count:first]:
             row = [node.error.get(k, Fraction(0)) for k in range(self.states)]
             ends = reach(row, A, drives, start)
-            limits.append(ends and plus(ends, self.added(node, counting)))
+            own = plus(self.own(node.error, self.readings), self.rounded(node, counting))
+            limits.append(ends and plus(ends, own))
         return limits
