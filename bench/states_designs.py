@@ -10,6 +10,7 @@ the processor. Below the tables stand the designs that aren't found, and those f
 import os
 import re
 import sys
+import textwrap
 
 from calls import Fixd
 from corpus import DESIGNS, bundle_folder, corpus, hand_out, parser_of
@@ -83,7 +84,8 @@ def text_of(rows, widths):
     lines = table(rows, widths, group_of, "designs") + [""]
     lines += table(rows, widths, family_of, "classical cascades of order 4 to 8")
     ends = "; ".join(furthest(rows, ratio) for ratio in RATIOS)
-    return "\n".join([*lines, "", missing(rows, widths), "", f"Furthest from 1 at {widths[-1]} bits. {ends}."]) + "\n"
+    told = [missing(rows, widths), f"Furthest from 1 at {widths[-1]} bits. {ends}."]
+    return "\n".join(lines) + "".join("\n\n" + textwrap.fill(text, 120) for text in told) + "\n"
 
 
 def main():
