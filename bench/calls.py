@@ -1,7 +1,7 @@
 """Calls of a built `fixd` that more than one script makes."""
+import resource
 import subprocess
 import sys
-import time
 from fractions import Fraction
 
 
@@ -9,6 +9,12 @@ def bound_of(text):
     """Returns the number of `m` or `m/2^e`."""
     top, _, places = text.partition("/2^")
     return Fraction(int(top), 2 ** int(places or 0))
+
+
+def spent():
+    """Returns the processors' seconds of all calls that have ended. Other work on the machine hardly changes them."""
+    used = resource.getrusage(resource.RUSAGE_CHILDREN)
+    return used.ru_utime + used.ru_stime
 
 
 class Fixd:
@@ -26,12 +32,11 @@ class Fixd:
         return ran.stdout if ran.returncode == 0 else None
 
     def synthesised(self, path, name, width, tries, rounding="floor", **options):
-        """Returns the bundle for the function of this name, or None where none is found, and the seconds that it
-        took."""
-        start = time.monotonic()
+        """Returns the bundle for the function of this name, or None if none is found, and the processor's seconds."""
+        before = spent()
         text = self.call(["synth", "--width", str(width), "--tries", str(tries), "--round", rounding, "--function",
                           name, path], **options)
-        return text, time.monotonic() - start
+        return text, spent() - before
 
     def bounds_of(self, bundle):
         """Returns the certified bounds of the bundle in this file."""

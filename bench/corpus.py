@@ -1,4 +1,7 @@
-"""The functions with state of examples/states, and their bundles. For bench/states.py, states_rows.py and driven.py."""
+"""The functions with state of examples/states or bench/designs, and their bundles.
+
+For bench/states.py, states_designs.py, states_rows.py and driven.py.
+"""
 import argparse
 import contextlib
 import glob
@@ -13,6 +16,7 @@ from sources import functions_of
 
 HERE = os.path.dirname(os.path.abspath(__file__))
 FOLDER = os.path.join(HERE, "../examples/states")
+DESIGNS = os.path.join(HERE, "designs")
 PAGE = os.path.join(HERE, "../docs/measures.md")
 TRIES = 200
 
@@ -31,12 +35,12 @@ class Source:
         return "linear" if self.linear else "nonlinear"
 
 
-def corpus(only=None):
-    """Returns the sources in the order of their names."""
+def corpus(options):
+    """Returns the sources that the options name, in the order of their names."""
     found = []
-    for path in sorted(glob.glob(os.path.join(FOLDER, "*.fixd"))):
+    for path in sorted(glob.glob(os.path.join(options.sources, "*.fixd"))):
         name = os.path.basename(path).removesuffix(".fixd")
-        if only and name not in only:
+        if options.only and name not in options.only:
             continue
         with open(path, encoding="utf-8") as file:
             text = file.read()
@@ -83,15 +87,15 @@ def bundles_at(fixd, source, folder, options):
             for width in options.widths]
 
 
-# ---- what the three scripts are called with, and hand out
+# ---- what the scripts are called with, and hand out
 
-def parser_of(description):
-    """Returns a parser of the words that all of them take; the description's first paragraph says what the script
-    does."""
-    parser = argparse.ArgumentParser(description=description.split("\n\n")[0])
+def parser_of(description, sources=FOLDER):
+    """Returns a parser of the words that all of them take; the description's first line says what the script does."""
+    parser = argparse.ArgumentParser(description=description.splitlines()[0])
     parser.add_argument("program", nargs="?", default=os.path.join(HERE, "../build/fixd"))
     parser.add_argument("--widths", type=lambda text: [int(w) for w in text.split(",")], default=[16, 24, 32])
     parser.add_argument("--only", type=lambda text: text.split(","))
+    parser.add_argument("--sources", default=sources, help="another folder of sources")
     parser.add_argument("--bundles", help="a folder in which the bundles are kept")
     parser.add_argument("--limit", type=float, default=600, help="the seconds after which a search counts as not found")
     parser.add_argument("--write", action="store_true", help="put what is printed into docs/measures.md")

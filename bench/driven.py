@@ -432,7 +432,7 @@ def main():
     options = parser.parse_args()
     fixd, found = Fixd(os.path.abspath(options.program)), []
     with bundle_folder(options) as folder:
-        for source in corpus(options.only):
+        for source in corpus(options):
             if source.linear and source.mark != "not found":
                 row = source_row(fixd, source, options, folder)
                 if not any(output for output, _ in row):

@@ -20,6 +20,7 @@ import shutil
 import subprocess
 import sys
 import tempfile
+import textwrap
 import time
 from fractions import Fraction
 
@@ -32,22 +33,25 @@ CODE_ENDS = {"add": 2, "sub": 2, "mul": 2, "div": 2, "neg": 1, "copy": 1}
 RUN_OF_A_FILTER = 2000
 SHOWN_OF_A_FILTER = 400
 
-HEAD = """# Gallery
+HEAD = """Made by `bench/gallery.py` with {rows:,} rows a function, random ones and corners of the ranges, and at most
+{filter_rows:,} a filter; {when}. For each example without state, at three widths: how many nodes it has, the
+certified bound of the program as it is written (`--tries 0`) and of the one that `synth` finds (`--tries 200`), the
+greatest error seen of the latter, as a part of its bound, how many seconds of the processor `synth` took, and of the
+former program the bound of [Gappa](https://gappa.gitlabpages.inria.fr), which knows nothing of errors that inputs are
+given with{gappa}. Of several outputs Gappa's bound is of the last, the picture of the first. Filters are shown where
+their bundle stands beside their source (*by hand*: bound and error are those of that bundle);
+[measures.md](measures.md) has the others. Errors are those of the outputs against exact values; each difference is
+taken exactly, and rounded to be shown. Below the table each function of it for which there is a program stands with
+its picture; [examples](../examples/README.md) says where the published ones come from."""
 
-Made by `bench/gallery.py` with {rows:,} rows a function, random ones and corners of the ranges, and at most
-{filter_rows:,} a filter; {when}. For each example without state, at three widths: how many nodes it has, the certified
-bound of the program as it is written (`--tries 0`) and of the one that `synth` finds (`--tries 200`), the greatest
-error seen of the latter, as a part of its bound, how long `synth` took, and of the former program the bound of
-[Gappa](https://gappa.gitlabpages.inria.fr), which knows nothing of errors that inputs are given with{gappa}. Of several
-outputs Gappa's bound is of the last, the picture of the first. Filters are shown where their bundle stands beside their
-source (*by hand*: bound and error are those of that bundle); [measures.md](measures.md) has the others. Errors are
-those of the outputs against exact values; each difference is taken exactly, and rounded to be shown. Below the table
-each function of it for which there is a program stands with its picture; [examples](../examples/README.md) says where
-the published ones come from.
-
-| function | bits | nodes | bound as written | bound found | error seen | of the bound | seconds | Gappa |
+COLUMNS = """| function | bits | nodes | bound as written | bound found | error seen | of the bound | seconds | Gappa |
 |---|---|---|---|---|---|---|---|---|
 """
+
+
+def broken(text):
+    """Returns a paragraph in lines of at most 120 characters."""
+    return textwrap.fill(" ".join(text.split()), 120, break_long_words=False, break_on_hyphens=False)
 
 
 def short(number):
@@ -221,8 +225,8 @@ def section(path, function, caption):
     """Returns the part of the page that shows an example: its text, its picture, and what the picture shows."""
     name, place = shown_name(path, function), os.path.relpath(path, ROOT)
     source = "\n".join("    " + line for line in text_of(path, function.name))
-    return (f"## {name}\n\n[{place}](../{place}):\n\n{source}\n\n![The errors of {name} between its "
-            f"bounds](gallery/{name}.svg)\n\n*{caption}*\n")
+    picture = f"![The errors of {name} between its bounds](gallery/{name}.svg)"
+    return f"## {name}\n\n[{place}](../{place}):\n\n{source}\n\n{picture}\n\n{broken(f'*{caption}*')}\n"
 
 
 # ---- the table
@@ -334,10 +338,10 @@ class Gallery:
 
     def write(self):
         gappa = "" if self.has_gappa else " (empty: `gappa` wasn't there)"
-        head = HEAD.format(rows=self.options.rows, filter_rows=RUN_OF_A_FILTER, when=time.strftime("%Y-%m-%d"),
-                           gappa=gappa)
+        when = time.strftime("%Y-%m-%d")
+        head = broken(HEAD.format(rows=self.options.rows, filter_rows=RUN_OF_A_FILTER, when=when, gappa=gappa))
         with open(self.options.out, "w", encoding="utf-8") as file:
-            file.write(head + "\n".join(self.lines) + "\n\n" + "\n".join(self.pictures))
+            file.write(f"# Gallery\n\n{head}\n\n{COLUMNS}" + "\n".join(self.lines) + "\n\n" + "\n".join(self.pictures))
 
 
 def main():

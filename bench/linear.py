@@ -5,7 +5,7 @@ what is lost on the way stays far below the figures that are printed.
 """
 import os
 import sys
-from dataclasses import dataclass
+from dataclasses import dataclass, field
 from fractions import Fraction
 
 sys.path.insert(0, os.path.join(os.path.dirname(os.path.abspath(__file__)), ".."))
@@ -24,6 +24,7 @@ class Linear(linear.Linear):
     states."""
     ranges: list
     start: list
+    spans: dict = field(default_factory=dict)
 
     def drives(self):
         """Returns what may push the states anew at each step: a column of B, and where its input lies."""
@@ -32,8 +33,11 @@ class Linear(linear.Linear):
     def span(self, of_states, of_inputs):
         """Returns the least interval that holds this sum of states and inputs at all times, or None where there is
         none."""
-        ends = reach(of_states, self.A, self.drives(), self.start)
-        return ends and plus(ends, direct(of_inputs, self.ranges))
+        wanted = tuple(of_states), tuple(of_inputs)
+        if wanted not in self.spans:
+            ends = reach(of_states, self.A, self.drives(), self.start)
+            self.spans[wanted] = ends and plus(ends, direct(of_inputs, self.ranges))
+        return self.spans[wanted]
 
 
 def linear_of(text):

@@ -14,9 +14,13 @@ The model is that of the certificate, with each rounding as a source of its own:
 - a state's word starts at its declared start, rounded.
 
 Each source lies anew in its interval at each step, whatever the others do; the one rounding that enters several next
-states or outputs is one source. The worst case is the sum over all steps before. A literal is the one of the source, or
-its negative, that the code's certified range holds; where rewriting made another one, its word is taken to be off by
-the middle of the code's certified error.
+states or outputs is one source. The worst case is the sum over all steps before. *Boxed*, what is new in a next state
+is an interval of its own, but for what is read: a rounding that enters two of them is another one in each. *Counted*,
+it is another one on each way to a next state, too, so that the sizes of its ways add up where they would cancel in
+part: that is how a certificate counts, and what no templates can better.
+
+A literal is the one of the source, or its negative, that the code's certified range holds; where rewriting made another
+one, its word is taken to be off by the middle of the code's certified error.
 """
 from dataclasses import dataclass, field
 from fractions import Fraction
@@ -92,13 +96,27 @@ def combined(first, factor, second, other):
     return {name: x for name, x in form.items() if x}
 
 
+def together(drives):
+    """Returns drives with those put together that push the same way: their columns differ by a factor."""
+    sums = {}
+    for column, ends in drives:
+        greatest = max(column, key=abs, default=0)
+        if greatest:
+            way = tuple(x / greatest for x in column)
+            sums[way] = plus(sums.get(way, (Fraction(0), Fraction(0))), scaled(greatest, ends))
+    return [(list(way), ends) for way, ends in sums.items()]
+
+
 @dataclass
 class Node:
-    """The exact value of a code as a form of variables, its error as a form of sources, and the word where it is
-    known."""
+    """The exact value of a code as a form of variables, its error as a form of sources, and the word where it is known.
+
+    `rest` is where the roundings on all ways to it lie.
+    """
     exact: dict
     error: dict = field(default_factory=dict)
     word: int = None
+    rest: tuple = (Fraction(0), Fraction(0))
 
 
 class Roundings:
@@ -108,13 +126,20 @@ class Roundings:
         self.linear, self.codes, self.nodes = linear, codes, []
         self.inputs, self.states = len(function.inputs), len(function.states)
         self.errors = [span["err"] for span in function.inputs.values()]
-        self.sources = [None] * self.states
+        self.sources, self.readings, self.roundings = [None] * self.states, [], []
         trees = [tree for _, tree in function.temps] + function.results
         found = {x for tree in trees for x in literals_of(tree)}
         self.literals = found | {-x for x in found}
-        self.spans = {}
         for code, ends, off in zip(codes, *intervals):
-            self.nodes.append(self.node(code, ends, off))
+            before = len(self.sources)
+            node = self.node(code, ends, off)
+            new = range(before, len(self.sources))
+            if code.word == "in":
+                self.readings += new
+            else:
+                self.roundings += new
+                node.rest = self.rest(code, node, new)
+            self.nodes.append(node)
 
     def source(self, lo, hi):
         """Returns the form of a new source with this interval."""
@@ -126,12 +151,9 @@ class Roundings:
 
     def span(self, exact):
         """Returns the exact limits of a form of variables."""
-        key = tuple(sorted(exact.items()))
-        if key not in self.spans:
-            of_states = [exact.get(self.inputs + k, Fraction(0)) for k in range(self.states)]
-            of_inputs = [exact.get(i, Fraction(0)) for i in range(self.inputs)] + [exact.get(ONE, Fraction(0))]
-            self.spans[key] = self.linear.span(of_states, of_inputs)
-        return self.spans[key]
+        of_states = [exact.get(self.inputs + k, Fraction(0)) for k in range(self.states)]
+        of_inputs = [exact.get(i, Fraction(0)) for i in range(self.inputs)] + [exact.get(ONE, Fraction(0))]
+        return self.linear.span(of_states, of_inputs)
 
     def node(self, code, ends, off):
         """Returns the node of a code, of which this range and this error are certified."""
@@ -207,26 +229,61 @@ class Roundings:
         lost = combined(self.loss(shifts[0], code.point), 1, self.loss(shifts[1], code.point), sign)
         return combined(combined(parts[0].error, 1, parts[1].error, sign), 1, lost, 1)
 
+    def factors(self, code):
+        """Returns how often the errors of a code's operands count in it; a known word's doesn't."""
+        parts = [self.nodes[k] for k in code.operands]
+        if code.word == "mul":
+            return [0 if part.word is not None else self.value(k)[0] for part, k in zip(parts, reversed(code.operands))]
+        if code.word == "div":
+            return [1 / self.value(code.operands[1])[0], 0]
+        return [-1 if code.word == "neg" else 1, -1 if code.word == "sub" else 1]
+
+    def rest(self, code, node, new):
+        """Returns where the roundings on all ways to a code lie, with these that it adds itself."""
+        total = self.own(node.error, new)
+        if node.word is None:
+            for k, factor in zip(code.operands, self.factors(code)):
+                total = plus(total, scaled(factor, self.nodes[k].rest))
+        return total
+
     def off_by(self, factor, exact):
         """The source of a factor that is off, times what it is multiplied with."""
         return self.source(*scaled(factor, self.span(exact))) if factor else {}
 
-    def limits(self):
-        """Returns the least interval that holds the error of each output at all times, or None where there is none."""
+    def own(self, form, sources):
+        """Returns the interval of these sources in a form."""
+        return direct([form.get(s, Fraction(0)) for s in sources], [self.sources[s] for s in sources])
+
+    def rounded(self, node, counting):
+        """Returns the interval of the new roundings in a node."""
+        return node.rest if counting == "counted" else self.own(node.error, self.roundings)
+
+    def drives(self, following, counting):
+        """Returns what pushes the errors of the states anew at each step."""
+        alone = self.readings + (self.roundings if counting == "each" else [])
+        drives = [([node.error.get(s, Fraction(0)) for node in following], self.sources[s]) for s in alone]
+        if counting == "each":
+            return drives
+        units = [[Fraction(int(i == k)) for i in range(self.states)] for k in range(self.states)]
+        return drives + [(column, self.rounded(node, counting)) for column, node in zip(units, following)]
+
+    def limits(self, counting="each"):
+        """Returns the least interval that holds the error of each output at all times, or None where there is none.
+
+        Roundings are counted each for itself, `boxed` or as they are `counted` by a certificate.
+        """
         first = len(self.nodes) - self.states
         count = len(self.linear.C)
-        following = [node.error for node in self.nodes[first:]]
-        A = [[form.get(k, Fraction(0)) for k in range(self.states)] for form in following]
-        drives = [([form.get(s, Fraction(0)) for form in following], self.sources[s])
-                  for s in range(self.states, len(self.sources))]
+        following = self.nodes[first:]
+        A = [[node.error.get(k, Fraction(0)) for k in range(self.states)] for node in following]
+        drives = together(self.drives(following, counting))
         start = []
         for code, value in zip(self.codes[self.inputs:], self.linear.start):
             start.append(code.numbers[2] * unit(code.point) - value)
         limits = []
         for node in self.nodes[first - count:first]:
             row = [node.error.get(k, Fraction(0)) for k in range(self.states)]
-            own = direct([node.error.get(s, Fraction(0)) for s in range(self.states, len(self.sources))],
-                         self.sources[self.states:])
             ends = reach(row, A, drives, start)
+            own = plus(self.own(node.error, self.readings), self.rounded(node, counting))
             limits.append(ends and plus(ends, own))
         return limits

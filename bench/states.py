@@ -10,6 +10,9 @@ source is linear, how far its certificate is from the least that holds:
   start. The worst state or output.
 - *error / limit*: the certified bound of an output over the worst error that the roundings of this very program can add
   up to, each rounding taken as a source of its own (bench/programs.py says exactly what is counted). The worst output.
+- *error / boxed*: likewise, but a rounding that enters several next states is another one in each.
+- *error / counted*: likewise, and a rounding that comes to a next state by several ways is another one on each, as a
+  certificate counts it. So 1 is what templates can reach.
 
 - *nearest*: whether a bundle that rounds to the nearest is found, and its bounds over those of the one that rounds
   down, their mean.
@@ -25,11 +28,13 @@ from dataclasses import dataclass
 from fractions import Fraction
 
 from calls import Fixd
-from corpus import bundle_folder, bundle_made, corpus, hand_out, parser_of
+from corpus import bundle_folder, bundle_made, bundle_path, corpus, hand_out, parser_of
 from pages import shown, summed
 from programs import Roundings, codes_of
 
 LOST = Fraction(1, 2 ** 80)
+RATIOS = {"range_ratio": "range / limit", "error_ratio": "error / limit", "boxed_ratio": "error / boxed",
+          "counted_ratio": "error / counted"}
 
 
 @dataclass
@@ -39,6 +44,8 @@ class Measured:
     seconds: float
     range_ratio: float = None
     error_ratio: float = None
+    boxed_ratio: float = None
+    counted_ratio: float = None
     found_nearest: bool = False
     nearest_ratio: float = None
 
@@ -62,6 +69,11 @@ def worst(pairs):
     return max((float(certified / limit) for certified, limit in pairs if limit), default=None)
 
 
+def worst_error(pairs):
+    """Returns the greatest quotient of a bound and the greater end of its limit."""
+    return worst((bound, max(-limit[0], limit[1])) for bound, limit in pairs)
+
+
 def unit_row(k, count):
     return [int(i == k) for i in range(count)]
 
@@ -81,18 +93,17 @@ def certified_of(source, ranges):
 
 
 def ratios(fixd, source, path):
-    """Returns both ratios of a linear source's bundle; ends the script where what is certified doesn't hold its
-    limit."""
-    intervals, limits = fixd.intervals_of(path), limits_of(source.linear)
+    """Returns the ratios of a linear source's bundle; ends the script where a limit isn't within what is certified."""
+    intervals, bounds = fixd.intervals_of(path), fixd.bounds_of(path)
     with open(path, encoding="utf-8") as file:
-        codes = codes_of(file.read())
-    pairs = list(zip(certified_of(source, intervals[0]), limits))
-    errors = list(zip(fixd.bounds_of(path), Roundings(source.function, source.linear, codes, intervals).limits()))
-    for certified, limit in pairs + [((-bound, bound), limit) for bound, limit in errors]:
+        roundings = Roundings(source.function, source.linear, codes_of(file.read()), intervals)
+    ranges = list(zip(certified_of(source, intervals[0]), limits_of(source.linear)))
+    errors = list(zip(bounds, roundings.limits()))
+    for certified, limit in ranges + [((-bound, bound), limit) for bound, limit in errors]:
         if not holds(certified, limit):
             sys.exit(f"{source.name}: {told(certified)} is certified, and the limit is {told(limit)}")
-    return (worst((width_of(certified), width_of(limit)) for certified, limit in pairs),
-            worst((bound, max(-limit[0], limit[1])) for bound, limit in errors))
+    return (worst((width_of(certified), width_of(limit)) for certified, limit in ranges),
+            worst_error(errors), *(worst_error(zip(bounds, roundings.limits(name))) for name in ("boxed", "counted")))
 
 
 def nearest_over(fixd, nearest, floor):
@@ -104,12 +115,23 @@ def nearest_over(fixd, nearest, floor):
 
 
 def measured(fixd, source, width, options, folder):
+    """Returns what comes of a source at a width, but for what is told of nearest."""
     path, seconds = bundle_made(fixd, source, width, folder, options.limit)
-    nearest, _ = bundle_made(fixd, source, width, folder, options.limit, "nearest")
-    if (path or nearest) and source.mark == "not found":
+    if path and source.mark == "not found":
         sys.exit(f"{source.name}: a bundle is found, and no state of it is bounded")
-    known = ratios(fixd, source, path) if path and source.linear else (None, None)
-    return Measured(path is not None, seconds, *known, nearest is not None, nearest_over(fixd, nearest, path))
+    of_limits = ratios(fixd, source, path) if path and source.linear else [None] * len(RATIOS)
+    return Measured(path is not None, seconds, *of_limits)
+
+
+def with_nearest(fixd, source, width, options, folder):
+    """Returns all that comes of a source at a width."""
+    known = measured(fixd, source, width, options, folder)
+    nearest, _ = bundle_made(fixd, source, width, folder, options.limit, "nearest")
+    if nearest and source.mark == "not found":
+        sys.exit(f"{source.name}: a bundle is found, and no state of it is bounded")
+    known.found_nearest = nearest is not None
+    known.nearest_ratio = nearest_over(fixd, nearest, bundle_path(folder, source, width) if known.found else None)
+    return known
 
 
 # ---- tables
@@ -121,32 +143,33 @@ def source_line(source, row, widths):
     fields = [f"`{source.name}`", kind if source.mark != "not found" else "unbounded", len(source.function.states),
               found]
     is_measured = source.linear and found != "no"
-    fields += [shown(at.range_ratio for at in row), shown(at.error_ratio for at in row)] if is_measured else ["", ""]
+    fields += [shown(getattr(at, name) for at in row) if is_measured else "" for name in RATIOS]
     return "| " + " | ".join(map(str, [*fields, f"{seconds:.2f}"])) + " |"
+
+
+def known(column, name):
+    """Returns the figures of this name that are known."""
+    return [getattr(at, name) for at in column if getattr(at, name) is not None]
 
 
 def width_line(width, column):
     """The figures of one width, of the sources that have a bound."""
-    found = [at for at in column if at.found]
-    ranges = [at.range_ratio for at in found if at.range_ratio is not None]
-    errors = [at.error_ratio for at in found if at.error_ratio is not None]
-    nearest = [at.nearest_ratio for at in column if at.nearest_ratio is not None]
-    count = sum(at.found_nearest for at in column)
-    seconds = summed([at.seconds for at in column], max, 2)
-    return (f"| {width} | {len(found)} of {len(column)} | {summed(ranges, max)} | {summed(errors, max)} | {seconds} | "
-            f"{count} | {summed(nearest, max)} |")
+    found, nearest = sum(at.found for at in column), sum(at.found_nearest for at in column)
+    fields = [width, f"{found} of {len(column)}", *(summed(known(column, name), max) for name in RATIOS)]
+    fields += [summed(known(column, "seconds"), max, 2), nearest, summed(known(column, "nearest_ratio"), max)]
+    return "| " + " | ".join(map(str, fields)) + " |"
 
 
 def tables(rows, widths):
     """Returns the table of widths and that of sources."""
     bounded = [row for source, row in rows if source.mark != "not found"]
-    lines = ["| width | found | range / limit: median, worst | error / limit: median, worst | seconds: median, worst | "
-             "nearest: found | bound / that at floor: median, worst |"]
-    lines += ["|---|---|---|---|---|---|---|"]
+    names, ends = list(RATIOS.values()), ": median, worst | "
+    lines = [f"| width | found | {ends.join(names)}{ends}seconds{ends}nearest: found | bound / that at floor" + ends.rstrip()]
+    lines.append("|---" * 9 + "|")
     lines += [width_line(width, [row[k] for row in bounded]) for k, width in enumerate(widths)] if bounded else []
-    lines += ["", f"| source | kind | states | found at | range / limit at {', '.join(map(str, widths))} | error / "
-                  "limit | longest, s |"]
-    lines += ["|---|---|---|---|---|---|---|"] + [source_line(source, row, widths) for source, row in rows]
+    names[0] += f" at {', '.join(map(str, widths))}"
+    lines += ["", f"| source | kind | states | found at | {' | '.join(names)} | longest, s |", "|---" * 9 + "|"]
+    lines += [source_line(source, row, widths) for source, row in rows]
     return "\n".join(lines) + "\n"
 
 
@@ -154,8 +177,8 @@ def main():
     options = parser_of(__doc__).parse_args()
     fixd, rows = Fixd(os.path.abspath(options.program)), []
     with bundle_folder(options) as folder:
-        for source in corpus(options.only):
-            rows.append((source, [measured(fixd, source, width, options, folder) for width in options.widths]))
+        for source in corpus(options):
+            rows.append((source, [with_nearest(fixd, source, width, options, folder) for width in options.widths]))
             print(source_line(*rows[-1], options.widths), file=sys.stderr, flush=True)
     hand_out(options, "found", tables(rows, options.widths))
 

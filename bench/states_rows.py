@@ -293,7 +293,7 @@ def main():
     options = parser.parse_args()
     fixd, found = Fixd(os.path.abspath(options.program)), []
     with bundle_folder(options) as folder:
-        for source in corpus(options.only):
+        for source in corpus(options):
             row = source_row(fixd, source, options, folder)
             if any(row):
                 found.append((source, row))
