@@ -24,10 +24,11 @@ class Fixd:
             sys.exit(f"fixd {' '.join(words)}: {ran.stderr.strip()}")
         return ran.stdout if ran.returncode == 0 else None
 
-    def synthesised(self, path, name, width, tries, rounding="floor", **options):
+    def synthesised(self, path, name, width, tries, rounding="floor", seed=0, **options):
         """Returns the bundle for the function of this name, or None where none is found, and the seconds that it took."""
         start = time.monotonic()
-        text = self.call(["synth", "--width", str(width), "--tries", str(tries), "--round", rounding, "--function", name, path], **options)
+        words = ["--width", str(width), "--tries", str(tries), "--round", rounding, "--seed", str(seed), "--function", name]
+        text = self.call(["synth", *words, path], **options)
         return text, time.monotonic() - start
 
     def bounds_of(self, bundle):
