@@ -31,11 +31,11 @@ class Fixd:
             sys.exit(f"fixd {' '.join(words)}: {ran.stderr.strip()}")
         return ran.stdout if ran.returncode == 0 else None
 
-    def synthesised(self, path, name, width, tries, rounding="floor", **options):
+    def synthesised(self, path, name, width, tries, rounding="floor", seed=0, **options):
         """Returns the bundle for the function of this name, or None if none is found, and the processor's seconds."""
         before = spent()
-        text = self.call(["synth", "--width", str(width), "--tries", str(tries), "--round", rounding, "--function",
-                          name, path], **options)
+        words = ["--width", str(width), "--tries", str(tries), "--round", rounding, "--seed", str(seed)]
+        text = self.call(["synth", *words, "--function", name, path], **options)
         return text, spent() - before
 
     def bounds_of(self, bundle):

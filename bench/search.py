@@ -1,10 +1,11 @@
 #!/usr/bin/env python3
-"""Measures how fast `synth` searches: search.py [PROGRAM]
+"""Measures how fast `synth` searches: search.py [PROGRAM] [RUNS]
 
-Seconds of the processor (the least of three runs) and resident memory of `synth` on functions of 20, 40, 150 and 1,500
-nodes, sums of products of four inputs, at 0, 200, 2,000 and 4,000 tries, and of doppler at 200 tries. Tries after which
-every single step was looked at are the search's alone: the attempts a second are those between the last two. Outside
-the gate: figures depend on the machine.
+Seconds of the processor (the least of so many runs, three without it) and resident memory of `synth` on functions of
+20, 40, 150 and 1,500 nodes, sums of products of four inputs, at 0, 200, 2,000 and 4,000 tries, and of doppler at 200
+tries. Tries after which every single step was looked at are the search's alone: the tries a second are those between
+the last two. A try looks at eight drafts, at fewer in a function of more than 250 nodes. Last it says the load, as it
+was at the beginning. Outside the gate: figures depend on the machine.
 """
 import os
 import resource
@@ -14,6 +15,7 @@ import tempfile
 
 HERE = os.path.dirname(os.path.abspath(__file__))
 PROGRAM = sys.argv[1] if len(sys.argv) > 1 else os.path.join(HERE, "../build/fixd")
+RUNS = int(sys.argv[2]) if len(sys.argv) > 2 else 3
 TRIES = (0, 200, 2000, 4000)
 
 
@@ -36,7 +38,7 @@ def source(nodes):
 def used(words):
     """Seconds of the processor, KiB resident and the output of a run."""
     best = None
-    for _ in range(3):
+    for _ in range(RUNS):
         before = resource.getrusage(resource.RUSAGE_CHILDREN)
         run = subprocess.run(["/usr/bin/env", "time", "-f", "%M", PROGRAM, *words], capture_output=True, text=True)
         after = resource.getrusage(resource.RUSAGE_CHILDREN)
@@ -48,6 +50,7 @@ def used(words):
 
 
 def main():
+    load = os.getloadavg()[0]
     with tempfile.TemporaryDirectory() as folder:
         path = os.path.join(folder, "f.fixd")
         for nodes in (20, 40, 150, 1500):
@@ -64,10 +67,10 @@ def main():
             between = figures[TRIES[-1]] - figures[TRIES[-2]]
             # the search gives functions of more nodes fewer attempts
             if between > 0 and count <= 500:
-                print(f"{count} nodes: {(TRIES[-1] - TRIES[-2]) / between:.0f} attempts a second", flush=True)
+                print(f"{count} nodes: {(TRIES[-1] - TRIES[-2]) / between:.0f} tries a second", flush=True)
         doppler = os.path.join(HERE, "../examples/daisy/doppler.fixd")
         seconds, memory, _ = used(["synth", "--width", "32", doppler])
-        print(f"doppler, 200 tries: {seconds:.3f} s, {memory} KiB")
+        print(f"doppler, 200 tries: {seconds:.3f} s, {memory} KiB; load {load:.1f}")
 
 
 if __name__ == "__main__":
