@@ -6,23 +6,17 @@
 The functions are those of bench/quality.py. For each width, rounding and seed: the geometric mean of NEW's certified
 bounds over OLD's, and which functions have a bound that is greater by more than 2 % (of several outputs the mean of
 their quotients); last which of them have one at every seed. With --growing: where more tries give NEW a greater bound
-of any output. Of NEW's calls at --tries the seconds of user time, median and greatest. Outside the gate; it takes some
+of any output. Of NEW's calls at --tries the processor's seconds, median and greatest. Outside the gate; it takes some
 minutes.
 """
 import argparse
 import os
-import resource
 import statistics
-import tempfile
 
 from calls import Fixd
 from quality import functions, quotient
 
 WORSE = 1.02
-
-
-def user_seconds():
-    return resource.getrusage(resource.RUSAGE_CHILDREN).ru_utime
 
 
 class Found:
@@ -37,17 +31,9 @@ class Found:
         """The bounds of what is found, or None."""
         key = (name, width, rounding, tries, seed)
         if key not in self.kept:
-            before = user_seconds()
-            text, _ = self.fixd.synthesised(path, name, width, tries, rounding, seed)
-            self.seconds[key] = user_seconds() - before
-            self.kept[key] = None if text is None else self.checked(text)
+            text, self.seconds[key] = self.fixd.synthesised(path, name, width, tries, rounding, seed)
+            self.kept[key] = None if text is None else self.fixd.bounds_in(text)
         return self.kept[key]
-
-    def checked(self, text):
-        with tempfile.NamedTemporaryFile("w", encoding="utf-8") as file:
-            file.write(text)
-            file.flush()
-            return self.fixd.bounds_of(file.name)
 
 
 def compared(old, new, each, *key):
@@ -69,7 +55,7 @@ def lay_beside(old, new, each, width, rounding, words):
         quotients, lost = compared(old, new, each, width, rounding, words.tries, seed)
         above = [name for name, value in quotients.items() if value > WORSE]
         worse.append({*above, *lost})
-        told = ", ".join([*(f"{name} {quotients[name]:.3f}" for name in above), *(f"{name} not found" for name in lost)])
+        told = ", ".join([f"{name} {quotients[name]:.3f}" for name in above] + [f"{name} not found" for name in lost])
         mean = statistics.geometric_mean(quotients.values())
         print(f"{width} bits, {rounding}, seed {seed}: geometric mean {mean:.4f}, worse: {told or 'none'}", flush=True)
     always = ", ".join(sorted(set.intersection(*worse)))
@@ -112,7 +98,7 @@ def main():
             tell_growing(new, each, width, rounding, words) if words.growing else None
     seconds = [value for key, value in new.seconds.items() if key[3] == words.tries]
     told = f"median {statistics.median(seconds):.3f}, greatest {max(seconds):.3f}"
-    print(f"seconds of user time at {words.tries} tries: {told}")
+    print(f"seconds of the processor at {words.tries} tries: {told}")
 
 
 if __name__ == "__main__":

@@ -2,6 +2,7 @@
 import resource
 import subprocess
 import sys
+import tempfile
 from fractions import Fraction
 
 
@@ -37,6 +38,13 @@ class Fixd:
         words = ["--width", str(width), "--tries", str(tries), "--round", rounding, "--seed", str(seed)]
         text = self.call(["synth", *words, "--function", name, path], **options)
         return text, spent() - before
+
+    def bounds_in(self, text):
+        """Returns the certified bounds of the bundle with this text."""
+        with tempfile.NamedTemporaryFile("w", encoding="utf-8") as file:
+            file.write(text)
+            file.flush()
+            return self.bounds_of(file.name)
 
     def bounds_of(self, bundle):
         """Returns the certified bounds of the bundle in this file."""

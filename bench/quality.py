@@ -16,7 +16,6 @@ import glob
 import os
 import statistics
 import sys
-import tempfile
 from fractions import Fraction
 
 from calls import Fixd
@@ -64,12 +63,7 @@ class Measuring:
         text, seconds = self.fixd.synthesised(path, name, width, tries, rounding, self.seed)
         if self.tells:
             print(f"{name} {width} {rounding} {tries}: {seconds:.3f} s", file=sys.stderr)
-        if text is None:
-            return None
-        with tempfile.NamedTemporaryFile("w", encoding="utf-8") as file:
-            file.write(text)
-            file.flush()
-            return self.fixd.bounds_of(file.name)
+        return None if text is None else self.fixd.bounds_in(text)
 
     def row(self, path, function, width):
         """The quotients of one function, a column each."""

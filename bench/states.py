@@ -164,8 +164,8 @@ def tables(rows, widths):
     """Returns the table of widths and that of sources."""
     bounded = [row for source, row in rows if source.mark != "not found"]
     names, ends = list(RATIOS.values()), ": median, worst | "
-    lines = [f"| width | found | {ends.join(names)}{ends}seconds{ends}nearest: found | bound / that at floor" + ends.rstrip()]
-    lines.append("|---" * 9 + "|")
+    lines = [f"| width | found | {ends.join(names)}{ends}seconds{ends}nearest: found | bound / that at floor"
+             + ends.rstrip(), "|---" * 9 + "|"]
     lines += [width_line(width, [row[k] for row in bounded]) for k, width in enumerate(widths)] if bounded else []
     names[0] += f" at {', '.join(map(str, widths))}"
     lines += ["", f"| source | kind | states | found at | {' | '.join(names)} | longest, s |", "|---" * 9 + "|"]

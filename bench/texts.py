@@ -4,8 +4,6 @@ For bench/rust.py, bench/c.py, bench/sizes.py and bench/device.py. The rows are 
 declared errors, are among them, and stretches of one row that drive a state as far as it goes.
 """
 import glob
-import importlib.machinery
-import importlib.util
 import os
 import random
 import subprocess
@@ -23,6 +21,7 @@ from companion.exact import floor_at
 from companion.fixd import NOT_FOUND, WIDTHS, Fixd, Trouble
 from companion.functions import Function
 from companion.sources import function_of, functions_of
+from stored import stored_cases
 
 EXAMPLES = os.path.join(TOP, "examples")
 ROWS = 1000
@@ -169,19 +168,15 @@ def example_bundles():
 
 def case_bundles(fixd, folder):
     """Yields the bundles of cases/ that are accepted, each once."""
-    loader = importlib.machinery.SourceFileLoader("cases", os.path.join(TOP, ".ci", "checks", "cases"))
-    cases = importlib.util.module_from_spec(importlib.util.spec_from_loader("cases", loader))
-    loader.exec_module(cases)
     seen = set()
-    for path in sorted(glob.glob(os.path.join(TOP, "cases", "**", "*.case"), recursive=True)):
-        for case in cases.Reader(os.path.relpath(path, TOP)).read():
-            for data in case.files.values():
-                if data in seen or not bundles.is_bundle(data):
-                    continue
-                seen.add(data)
-                at = put(folder, f"stored{len(seen)}", data)
-                if fixd.check(at).status == 0:
-                    yield at
+    for case in stored_cases():
+        for data in case.files.values():
+            if data in seen or not bundles.is_bundle(data):
+                continue
+            seen.add(data)
+            at = put(folder, f"stored{len(seen)}", data)
+            if fixd.check(at).status == 0:
+                yield at
 
 
 def found_bundles(fixd, folder):

@@ -27,8 +27,8 @@ def program_of():
 
 
 def c_program_of(program):
-    """Returns the path of `fixd-c`: the one that FIXD_C names, else of a built `fixd` the one that the gate proved and built, or else
-    build/fixd-c, and of any other the one beside it; or None."""
+    """Returns the path of `fixd-c`: the one that FIXD_C names, else of a built `fixd` the one that the gate proved and
+    built, or else build/fixd-c, and of any other the one beside it; or None."""
     named, program = os.environ.get("FIXD_C"), os.path.abspath(program)
     if named:
         return os.path.abspath(named) if is_program(named) else None

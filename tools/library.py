@@ -2,8 +2,8 @@
 """Proves and builds the library in the current folder, over the built ones below it: library.py JOBS
 
 As `rt ci` does, and unlike `rt lib`, it keeps the library's statements and not the bodies of its proofs, which no crate
-above can unfold: the checks above load a tenth of it. Its stamp is that of `rt`, so that `rt check` and `rt run` take
-the library as it is.
+above can unfold: a check of fx_command loads 2,800 modules of libraries in place of 51,000. Its stamp is that of `rt`,
+so that `rt check` and `rt run` take the library as it is.
 """
 import functools
 import os
