@@ -6,7 +6,7 @@ use Rattle.fx_rational.specs.Rational.{AtMost}
 use Rattle.fx_rational.specs.Dyadic.{dyadic_value}
 use Rattle.fx_model.specs.Function.{Function, outputs}
 use Rattle.fx_weight.specs.PlainClass.{Outside, outside_of, output_power}
-use Rattle.fx_calm_numbers.specs.Calm.{is_calm, numbers_of, IsCalm}
+use Rattle.fx_plan_laws.specs.Calm.{is_calm, numbers_of, IsCalm}
 use Rattle.fx_model.specs.Machine.{Program}
 use Rattle.fx_inequalities.specs.Certificate.{Certificate}
 use Rattle.fx_inequalities.specs.Condition.{Fault}
@@ -15,12 +15,12 @@ use Rattle.fx_rules.specs.Steps.{rewrite}
 use Rattle.fx_judging.specs.declared.condition.ConditionFault.{ConditionFault}
 use Rattle.fx_checker.specs.declared.fault.CheckFault.TheVariants.{Condition}
 use Rattle.fx_checker.specs.Refusal.{IsRefusal}
-use Rattle.fx_sizes.specs.Powers.{power_dyadic, power_value}
+use Rattle.fx_plan_laws.specs.Powers.{power_dyadic, power_value}
 use Rattle.fx_weight.specs.PlainPlan.{plain_program, plain_certificate}
 use Rattle.fx_wanted.specs.Asked.{rounding_of}
 use Rattle.fx_wanted.specs.declared.wanted.Wanted.{Wanted}
-use Rattle.fx_calm_plan.specs.CalmPlan.{calm_program, calm_certificate}
-use Rattle.fx_calm_plan.specs.Laws.{IsCalmPlan}
+use Rattle.fx_plan_laws.specs.CalmPlan.{calm_program, calm_certificate}
+use Rattle.fx_plan_laws.specs.CalmLaw.{IsCalmPlan}
 use Rattle.fx_checker.specs.Answers.{IsAnswerFor}
 use Rattle.fx_checker.specs.CertifiedView.{Accepted}
 use Rattle.fx_attempts.specs.Bounds.{powers_by, promised_powers, AreWithinPowers}

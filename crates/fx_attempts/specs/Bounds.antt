@@ -7,9 +7,9 @@ use Rattle.fx_inequalities.specs.Certificate.{Certificate}
 use Rattle.fx_inequalities.specs.Accepted.{certified_bound}
 use Rattle.fx_analysis.specs.PlainAttempt.{Attempt}
 use Rattle.fx_checker.specs.CertifiedView.{Accepted}
-use Rattle.fx_sizes.specs.Powers.{power_value}
+use Rattle.fx_plan_laws.specs.Powers.{power_value}
 use Rattle.fx_weight.specs.PlainClass.{Outside, outside_of, output_power}
-use Rattle.fx_calm_numbers.specs.Calm.{is_calm, numbers_of}
+use Rattle.fx_plan_laws.specs.Calm.{is_calm, numbers_of}
 
 -- program and certificate of what is accepted
 abbrev pub attempted : Accepted → Attempt

@@ -7,7 +7,7 @@ ghost use Rattle.fx_model.specs.LawfulProgram.{widths};
 ghost use Rattle.fx_weight.specs.Laws.{IsInClass};
 ghost use Rattle.fx_weight.specs.OutsideView.{outside_view};
 ghost use Rattle.fx_weight.specs.PlainClass.{outside_of, output_power};
-ghost use Rattle.fx_calm_numbers.specs.Calm.{numbers_of, IsCalm};
+ghost use Rattle.fx_plan_laws.specs.Calm.{numbers_of, IsCalm};
 ghost use Rattle.fx_attempts.specs.Bounds.{AreWithinPowers};
 ghost use Rattle.fx_attempts.specs.Turns.{SuitsIfAny};
 ghost use Rattle.fx_checker.specs.Answers.{IsAnswerFor};
@@ -17,7 +17,7 @@ ghost use Rattle.fx_rules.specs.Steps.{rewrite};
 ghost use Rattle.fx_cert.specs.CertificateView.{certificate_of};
 
 use fx_calm::{CalmFault, calm_plan};
-use fx_calm_plan::calm_law;
+use fx_plan_laws::calm_law;
 use fx_cert::Certificate;
 use fx_checker::{Certified, CheckFault, check};
 use fx_expr::Function;

@@ -12,21 +12,21 @@ use Rattle.fx_model.specs.Nodes.{Node, Input, State, Const, Neg, Add, Sub, Mul, 
 use Rattle.fx_model.proofs.Widths.{width_of}
 use Rattle.fx_inequalities.specs.Accepted.{start_of}
 use Rattle.fx_lowering.specs.OfFunction.{program_for}
-use Rattle.fx_sizes.specs.Powers.{magnitude}
-use Rattle.fx_sizes.proofs.Powers.{power_more}
-use Rattle.fx_sizes.proofs.Values.{magnitude_nonneg}
+use Rattle.fx_plan_laws.specs.Powers.{magnitude}
+use Rattle.fx_plan_laws.proofs.Powers.{power_more}
+use Rattle.fx_plan_laws.proofs.Values.{magnitude_nonneg}
 use Rattle.fx_flat.proofs.Pairs.{ArePairs}
-use Rattle.fx_calm_numbers.specs.Calm.{Numbers, numbers_of, IsCalm}
-use Rattle.fx_calm_numbers.specs.Bounds.{Bound, no_bound, units_up, const_bound}
-use Rattle.fx_calm_numbers.proofs.Calmness.{room}
-use Rattle.fx_calm_numbers.proofs.Rounded.{units_above}
-use Rattle.fx_calm_plan.specs.CalmPlan.{bounds_of, calm_code, calm_program}
-use Rattle.fx_calm_plan.specs.Laws.{IsNarrowFunction}
-use Rattle.fx_calm_plan.proofs.Folded.{IsNodeBound}
-use Rattle.fx_calm_plan.proofs.Limited.{limited}
-use Rattle.fx_calm_plan.proofs.Planned.{plan_is}
-use Rattle.fx_calm_plan.proofs.Values.{word_up_to}
-use Rattle.fx_calm_plan.proofs.Whole.{pairs, start_limited}
+use Rattle.fx_plan_laws.specs.Calm.{Numbers, numbers_of, IsCalm}
+use Rattle.fx_plan_laws.specs.Bounds.{Bound, no_bound, units_up, const_bound}
+use Rattle.fx_plan_laws.proofs.Calmness.{room}
+use Rattle.fx_plan_laws.proofs.Rounded.{units_above}
+use Rattle.fx_plan_laws.specs.CalmPlan.{bounds_of, calm_code, calm_program}
+use Rattle.fx_plan_laws.specs.CalmLaw.{IsNarrowFunction}
+use Rattle.fx_plan_laws.proofs.Folded.{IsNodeBound}
+use Rattle.fx_plan_laws.proofs.Limited.{limited}
+use Rattle.fx_plan_laws.proofs.Planned.{plan_is}
+use Rattle.fx_plan_laws.proofs.PlanValues.{word_up_to}
+use Rattle.fx_plan_laws.proofs.Whole.{pairs, start_limited}
 use Rattle.fx_calm.specs.BoundOf.{IsShort, HasPlace, HasWord, HaveShortStarts}
 
 -- what is at most 2^61 units has a word

@@ -6,7 +6,7 @@ use Rattle.fx_inequalities.specs.Certificate as model
 use Rattle.fx_inequalities.specs.LawfulCertificate.{unit_vector}
 use Rattle.fx_cert.specs.CertificateView.{template_view, templates_in}
 use Rattle.fx_cert.specs.declared.certificate.Template.{Template}
-use Rattle.fx_calm_plan.specs.CalmPlan.{unit_templates}
+use Rattle.fx_plan_laws.specs.CalmPlan.{unit_templates}
 
 -- template i of so many states
 abbrev pub unit_template : ℕ → Interval → ℕ → model.Template

@@ -4,9 +4,9 @@ use Rattle.std.proofs.lemmas.Int.{ints}
 use Rattle.fx_rational.specs.Rational.{Rational, bottom, over, ceil_div}
 use Rattle.fx_rational.proofs.Floors.{ceiling_is}
 use Rattle.fx_rational.proofs.Lowest.{suc_pred}
-use Rattle.fx_sizes.specs.Powers.{magnitude}
-use Rattle.fx_sizes.specs.Narrow.{IsNarrowNumber}
-use Rattle.fx_calm_numbers.specs.Bounds.{shifted_up}
+use Rattle.fx_plan_laws.specs.Powers.{magnitude}
+use Rattle.fx_plan_laws.specs.Narrow.{IsNarrowNumber}
+use Rattle.fx_plan_laws.specs.Bounds.{shifted_up}
 
 -- a whole number is its own ceiling
 pub ceil_one : (z : ℤ) → ceil_div z 1 ≡ z

@@ -5,9 +5,9 @@ use Rattle.std.proofs.Math.Seq.{drop-cons, get_or-append_seam}
 use Rattle.std.proofs.lemmas.List.{append-nil, get_or_append_left}
 use Rattle.fx_model.specs.Function as function
 use Rattle.fx_model.specs.Nodes.{Node}
-use Rattle.fx_calm_numbers.specs.Calm.{Numbers}
-use Rattle.fx_calm_numbers.specs.Bounds.{Bound, no_bound}
-use Rattle.fx_calm_plan.specs.CalmPlan.{node_bound, bounds_after}
+use Rattle.fx_plan_laws.specs.Calm.{Numbers}
+use Rattle.fx_plan_laws.specs.Bounds.{Bound, no_bound}
+use Rattle.fx_plan_laws.specs.CalmPlan.{node_bound, bounds_after}
 use Rattle.fx_calm.specs.BoundOf.{IsShort}
 
 -- the bounds in front stay

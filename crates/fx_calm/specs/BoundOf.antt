@@ -5,12 +5,12 @@ use Rattle.fx_rational.specs.Rational.{floor, scaled}
 use Rattle.fx_model.specs.Function.{Function}
 use Rattle.fx_model.specs.Nodes.{Node, Const, State}
 use Rattle.fx_inequalities.specs.Accepted.{start_of}
-use Rattle.fx_sizes.specs.Powers.{magnitude}
-use Rattle.fx_calm_numbers.specs.Bounds as model
-use Rattle.fx_calm_numbers.specs.Bounds.{units_up, state_bound}
+use Rattle.fx_plan_laws.specs.Powers.{magnitude}
+use Rattle.fx_plan_laws.specs.Bounds as model
+use Rattle.fx_plan_laws.specs.Bounds.{units_up, state_bound}
 use Rattle.fx_inequalities.specs.Certificate.{Certificate}
-use Rattle.fx_calm_plan.specs.CalmPlan.{units, calm_line, calm_start, unit_templates, bounds_of}
-use Rattle.fx_calm_numbers.specs.Calm as numbers
+use Rattle.fx_plan_laws.specs.CalmPlan.{units, calm_line, calm_start, unit_templates, bounds_of}
+use Rattle.fx_plan_laws.specs.Calm as numbers
 use Rattle.fx_calm.specs.declared.bound.Bound.{Bound}
 
 -- as the definition has it

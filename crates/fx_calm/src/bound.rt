@@ -4,11 +4,12 @@ ghost use Rattle.std.specs.Prelude.{◌≡◌, ◌+◌, ◌*◌, ◌^◌, ◌≤
 ghost use Rattle.fx_rational.specs.Rational.{whole, AtMost};
 ghost use Rattle.fx_rational.specs.Decimal.{decimal_value};
 ghost use Rattle.fx_expr.specs.Parts.{input_of};
-ghost use Rattle.fx_calm_numbers.specs.Bounds.{error_box, state_bound, input_bound, const_bound, sum_bound, product_bound, shifted_up};
-ghost use Rattle.fx_calmness.specs.NumbersOf.{numbers_view};
+ghost use Rattle.fx_plan_laws.specs.Bounds.{error_box, state_bound, input_bound, const_bound, sum_bound, product_bound, shifted_up};
+ghost use Rattle.fx_calm.specs.NumbersOf.{numbers_view};
 ghost use Rattle.fx_calm.specs.BoundOf.{bound_of, IsShort, HasPlace};
 
-use fx_calmness::{Numbers, magnitude_of, magnitude_of_decimal, reach, units};
+use crate::magnitude::{magnitude_of, magnitude_of_decimal, reach, units};
+use crate::numbers::Numbers;
 use fx_expr::Input;
 use fx_fraction::Fraction;
 use fx_num::two_to;

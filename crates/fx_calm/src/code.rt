@@ -8,7 +8,7 @@ ghost use Rattle.fx_inequalities.specs.Accepted.{start_of};
 ghost use Rattle.fx_model.specs.Machine as machine;
 ghost use Rattle.fx_flat.specs.NodeOf.{node_of, nodes_in};
 ghost use Rattle.fx_program.specs.CodeView.{round_of, code_of};
-ghost use Rattle.fx_calm_plan.specs.CalmPlan.{calm_code};
+ghost use Rattle.fx_plan_laws.specs.CalmPlan.{calm_code};
 ghost use Rattle.fx_calm.specs.BoundOf.{HasWord};
 
 use fx_expr::Function;

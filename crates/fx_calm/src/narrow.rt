@@ -5,10 +5,11 @@ ghost use Rattle.fx_rational.specs.Decimal.{decimal_value};
 ghost use Rattle.fx_model.specs.Nodes.{nodes_of};
 ghost use Rattle.fx_expr.specs.Parts.{demand_of};
 ghost use Rattle.fx_flat.specs.NodeOf.{node_of, nodes_in};
-ghost use Rattle.fx_sizes.specs.Narrow.{IsNarrowNumber, IsNarrowState, IsNarrowNode, IsNarrowDemand};
-ghost use Rattle.fx_calm_plan.specs.Laws.{IsNarrowFunction};
+ghost use Rattle.fx_plan_laws.specs.Narrow.{IsNarrowNumber, IsNarrowState, IsNarrowNode, IsNarrowDemand};
+ghost use Rattle.fx_plan_laws.specs.CalmLaw.{IsNarrowFunction};
 
-use fx_calmness::{magnitude_of, magnitude_of_decimal, start_at};
+use crate::limit::start_at;
+use crate::magnitude::{magnitude_of, magnitude_of_decimal};
 use fx_expr::{Demand, Function};
 use fx_flat::Node;
 use fx_fraction::Decimal;

@@ -6,13 +6,13 @@ ghost use Rattle.fx_model.specs.Nodes.{nodes_of};
 ghost use Rattle.fx_inequalities.specs.NodeConditions.{no_input};
 ghost use Rattle.fx_flat.specs.NodeOf.{node_of, nodes_in};
 ghost use Rattle.fx_flat.specs.InPlace.{IsInPlace};
-ghost use Rattle.fx_calm_numbers.specs.Bounds.{no_bound, input_bound};
-ghost use Rattle.fx_calm_plan.specs.CalmPlan.{node_bound, bounds_of};
-ghost use Rattle.fx_calmness.specs.NumbersOf.{numbers_view};
+ghost use Rattle.fx_plan_laws.specs.Bounds.{no_bound, input_bound};
+ghost use Rattle.fx_plan_laws.specs.CalmPlan.{node_bound, bounds_of};
+ghost use Rattle.fx_calm.specs.NumbersOf.{numbers_view};
 ghost use Rattle.fx_calm.specs.BoundOf.{bound_of, bounds_in, IsShort, HasPlace};
 
 use crate::bound::{Bound, input_of, literal_of, product_of, state_of, sum_of};
-use fx_calmness::Numbers;
+use crate::numbers::Numbers;
 use fx_expr::Function;
 use fx_flat::Node;
 use fx_num::Memory;

@@ -5,8 +5,8 @@ use Rattle.fx_rational.specs.Dyadic.{dyadic_value}
 use Rattle.fx_model.specs.Tree as tree
 use Rattle.fx_model.specs.Tree.{Tree}
 use Rattle.fx_model.specs.Function.{Function, Temp, free}
-use Rattle.fx_sizes.specs.Powers.{power_value}
-use Rattle.fx_calm_numbers.specs.Calm.{first_from, numbers_of, is_calm, is_short, is_contracting}
+use Rattle.fx_plan_laws.specs.Powers.{power_value}
+use Rattle.fx_plan_laws.specs.Calm.{first_from, numbers_of, is_calm, is_short, is_contracting}
 
 -- of an input from -1 to 1 with this error, a state with this start, and this next value; the output is the state
 abbrev filter : Rational → Rational → List Temp → Tree → Function

@@ -1,5 +1,5 @@
 use Rattle.std.proofs.Common.{◌+◌, ◌^◌, ◌≤◌, sym, subst}
-use Rattle.fx_sizes.proofs.Powers.{power_more}
+use Rattle.fx_plan_laws.proofs.Powers.{power_more}
 use Rattle.fx_calm.proofs.bound.state_of.Goals as goal
 
 pub returns-clause-short : goal.returns-clause-short

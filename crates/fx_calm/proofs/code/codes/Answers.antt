@@ -2,7 +2,7 @@ use Rattle.std.proofs.Common.{refl, subst}
 use Rattle.fx_model.proofs.Lists.{seen_at}
 use Rattle.fx_flat.specs.NodeOf.{node_of, nodes_in}
 use Rattle.fx_program.specs.CodeView.{round_of, code_of}
-use Rattle.fx_calm_plan.specs.CalmPlan.{calm_code}
+use Rattle.fx_plan_laws.specs.CalmPlan.{calm_code}
 use Rattle.fx_calm.specs.BoundOf.{HasWord}
 use Rattle.fx_calm.proofs.Templates.{pushed}
 use Rattle.fx_calm.proofs.code.codes.Goals as goal

@@ -1,7 +1,7 @@
 use Rattle.std.proofs.Common.{◌≡◌, map, take}
 use Rattle.fx_flat.specs.NodeOf.{nodes_in}
 use Rattle.fx_program.specs.CodeView.{round_of, code_of}
-use Rattle.fx_calm_plan.specs.CalmPlan.{calm_code}
+use Rattle.fx_plan_laws.specs.CalmPlan.{calm_code}
 use Rattle.fx_calm.proofs.code.codes.Given as goal
 
 abbrev pub invariant-loop-i : goal.invariant-loop-i

@@ -1,7 +1,7 @@
 use Rattle.std.proofs.Common.{◌∙◌, ap}
 use Rattle.fx_model.specs.Machine as machine
 use Rattle.fx_program.specs.CodeView.{round_of}
-use Rattle.fx_calm_plan.proofs.Roundings.{product_so}
+use Rattle.fx_plan_laws.proofs.Roundings.{product_so}
 use Rattle.fx_calm.proofs.code.product.Goals as goal
 
 pub returns : goal.returns

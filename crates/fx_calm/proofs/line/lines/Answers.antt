@@ -1,7 +1,7 @@
 use Rattle.std.proofs.Common.{get_or}
 use Rattle.std.proofs.lemmas.List.{length-map, get_or-map}
 use Rattle.fx_cert.specs.CertificateView.{line_view}
-use Rattle.fx_calm_plan.specs.CalmPlan.{calm_line}
+use Rattle.fx_plan_laws.specs.CalmPlan.{calm_line}
 use Rattle.fx_calm.specs.BoundOf.{bound_of, bounds_in}
 use Rattle.fx_calm.specs.declared.bound.Bound.{Bound}
 use Rattle.fx_calm.proofs.Templates.{pushed}

@@ -1,6 +1,6 @@
 use Rattle.std.proofs.Common.{◌≡◌, map, take}
 use Rattle.fx_cert.specs.CertificateView.{line_view}
-use Rattle.fx_calm_plan.specs.CalmPlan.{calm_line}
+use Rattle.fx_plan_laws.specs.CalmPlan.{calm_line}
 use Rattle.fx_calm.specs.BoundOf.{bounds_in}
 use Rattle.fx_calm.proofs.line.lines.Given as goal
 

@@ -1,6 +1,6 @@
 use Rattle.std.proofs.Common.{◌≡◌, map, take}
 use Rattle.fx_cert.specs.CertificateView.{boxes_in}
-use Rattle.fx_calm_plan.specs.CalmPlan.{calm_start}
+use Rattle.fx_plan_laws.specs.CalmPlan.{calm_start}
 use Rattle.fx_calm.proofs.line.starts.Given as goal
 
 abbrev pub invariant-loop-k : goal.invariant-loop-k

@@ -2,7 +2,7 @@ use Rattle.std.proofs.Common.{sym, subst}
 use Rattle.std.specs.Prelude.{IfSome}
 use Rattle.std.specs.Option.{option_map}
 use Rattle.fx_rational.specs.Decimal.{decimal_value}
-use Rattle.fx_sizes.specs.Narrow.{IsNarrowNumber}
+use Rattle.fx_plan_laws.specs.Narrow.{IsNarrowNumber}
 use Rattle.fx_calm.proofs.Units.{narrow_size}
 use Rattle.fx_calm.proofs.narrow.narrow_error.Goals as goal
 

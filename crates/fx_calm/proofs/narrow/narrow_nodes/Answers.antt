@@ -2,7 +2,7 @@ use Rattle.std.proofs.Common.{subst}
 use Rattle.std.specs.Prelude.{All}
 use Rattle.std.proofs.lemmas.List.{length-map, take_all}
 use Rattle.fx_flat.specs.NodeOf.{node_of, nodes_in}
-use Rattle.fx_sizes.specs.Narrow.{IsNarrowNode}
+use Rattle.fx_plan_laws.specs.Narrow.{IsNarrowNode}
 use Rattle.fx_weight.proofs.NarrowNodes.{narrow_more}
 use Rattle.fx_calm.proofs.narrow.narrow_nodes.Goals as goal
 

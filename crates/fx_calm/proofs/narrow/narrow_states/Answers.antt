@@ -1,7 +1,7 @@
 use Rattle.fx_inequalities.specs.Accepted.{start_of}
-use Rattle.fx_sizes.specs.Narrow.{IsNarrowNumber}
+use Rattle.fx_plan_laws.specs.Narrow.{IsNarrowNumber}
 use Rattle.fx_calm.proofs.Units.{narrow_size}
-use Rattle.fx_calmness.proofs.Leasts.{one_more}
+use Rattle.fx_calm.proofs.Leasts.{one_more}
 use Rattle.fx_calm.proofs.narrow.narrow_states.Goals as goal
 
 pub loop-k-preserved : goal.loop-k-preserved

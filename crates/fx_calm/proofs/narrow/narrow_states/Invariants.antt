@@ -1,6 +1,6 @@
 use Rattle.std.proofs.Common.{ℕ, ◌<◌}
 use Rattle.fx_inequalities.specs.Accepted.{start_of}
-use Rattle.fx_sizes.specs.Narrow.{IsNarrowNumber}
+use Rattle.fx_plan_laws.specs.Narrow.{IsNarrowNumber}
 use Rattle.fx_calm.proofs.narrow.narrow_states.Given as goal
 
 abbrev pub invariant-loop-k : goal.invariant-loop-k

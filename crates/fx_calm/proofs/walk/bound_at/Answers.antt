@@ -1,6 +1,6 @@
 use Rattle.std.proofs.Common.{subst}
 use Rattle.std.proofs.lemmas.List.{length-map, get_or-map}
-use Rattle.fx_calm_numbers.specs.Bounds.{no_bound}
+use Rattle.fx_plan_laws.specs.Bounds.{no_bound}
 use Rattle.fx_calm.specs.BoundOf.{bound_of, IsShort}
 use Rattle.fx_calm.proofs.walk.bound_at.Goals as goal
 

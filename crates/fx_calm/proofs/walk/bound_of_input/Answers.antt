@@ -2,7 +2,7 @@ use Rattle.std.proofs.Common.{pos, ap, sym, subst}
 use Rattle.fx_rational.specs.Rational.{Rational, whole, AtMost}
 use Rattle.fx_model.specs.Function as function
 use Rattle.fx_inequalities.specs.NodeConditions.{no_input}
-use Rattle.fx_sizes.proofs.Inputs.{error_nonnegative}
+use Rattle.fx_plan_laws.proofs.Inputs.{error_nonnegative}
 use Rattle.fx_calm.proofs.walk.bound_of_input.Goals as goal
 
 pub input_of-requires-clause-error : goal.input_of-requires-clause-error

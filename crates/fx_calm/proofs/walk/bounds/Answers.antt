@@ -6,8 +6,8 @@ use Rattle.fx_model.proofs.Lists.{seen_at}
 use Rattle.fx_flat.specs.NodeOf.{node_of}
 use Rattle.fx_flat.specs.InPlace.{IsInPlace}
 use Rattle.fx_flat.proofs.Ordered.{node_list, ordered_at}
-use Rattle.fx_calm_plan.specs.CalmPlan.{node_bound, bounds_of}
-use Rattle.fx_calmness.specs.NumbersOf.{numbers_view}
+use Rattle.fx_plan_laws.specs.CalmPlan.{node_bound, bounds_of}
+use Rattle.fx_calm.specs.NumbersOf.{numbers_view}
 use Rattle.fx_calm.specs.BoundOf.{bound_of, bounds_in, IsShort}
 use Rattle.fx_calm.specs.declared.bound.Bound.{Bound}
 use Rattle.fx_calm.proofs.Walked.{IsWalked, front_short, next_short, walk_on}

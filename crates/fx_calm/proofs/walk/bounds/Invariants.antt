@@ -1,6 +1,6 @@
 use Rattle.fx_model.specs.Nodes.{nodes_of}
-use Rattle.fx_calm_plan.specs.CalmPlan.{bounds_of}
-use Rattle.fx_calmness.specs.NumbersOf.{numbers_view}
+use Rattle.fx_plan_laws.specs.CalmPlan.{bounds_of}
+use Rattle.fx_calm.specs.NumbersOf.{numbers_view}
 use Rattle.fx_calm.specs.BoundOf.{bounds_in}
 use Rattle.fx_calm.proofs.Walked.{IsWalked}
 use Rattle.fx_calm.proofs.walk.bounds.Given as goal

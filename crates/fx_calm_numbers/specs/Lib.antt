@@ -1,4 +1,0 @@
-pub mod Linear
-pub mod Calm
-pub mod Bounds
-pub mod Laws

@@ -1,2 +1,0 @@
-pub mod CalmPlan
-pub mod Laws

@@ -1,5 +1,0 @@
-pub mod MagnitudeOf
-pub mod SumOf
-pub mod TermOf
-pub mod LimitOf
-pub mod NumbersOf

@@ -1,0 +1,32 @@
+pub mod Powers
+pub mod Values
+pub mod Sizes
+pub mod Claims
+pub mod Words
+pub mod Conditions
+pub mod Inputs
+pub mod Demands
+pub mod Searches
+mod WorkedNumbers
+pub mod TreeBound
+pub mod Bounding
+pub mod Rounded
+pub mod Factors
+pub mod Terms
+pub mod Totals
+pub mod Calmness
+pub mod Least
+mod WorkedPlan
+pub mod Units
+pub mod PlanValues
+pub mod Folded
+pub mod Flattened
+pub mod NodeClaims
+pub mod NodeFaults
+pub mod Templates
+pub mod Limited
+pub mod Points
+pub mod Whole
+pub mod Roundings
+pub mod Lawful
+pub mod Planned

@@ -1,0 +1,10 @@
+pub mod Powers
+pub mod Narrow
+pub mod Demands
+pub mod Searches
+pub mod Linear
+pub mod Calm
+pub mod Bounds
+pub mod CalmTest
+pub mod CalmPlan
+pub mod CalmLaw

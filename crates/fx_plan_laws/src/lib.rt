@@ -1,0 +1,41 @@
+//! What plans by rule rest on: how great the numbers of a plan get, which functions are calm, and that the calm plan
+//! of a calm function is accepted.
+//!
+//! A formula is small where all its mantissas fit and the last, at one exponent, is at most a whole number (`IsSmall`
+//! of `proofs/Sizes`): sums add these numbers and products multiply them, and they decide comparisons (`Claims`). The
+//! plain plan and the calm plan are counted so. The trap: a comparison beside a fraction fits only where its
+//! denominator is narrow (`specs/Narrow`).
+//!
+//! A function with states is calm where its results are short sums of literals times inputs and states, a step halves
+//! the states, and seven numbers leave room (`specs/Calm`). Then bounds that count units, rounded upward at each node
+//! (`specs/Bounds`), come to at most what the terms are worth and some units for each: a next state keeps its boxes,
+//! and no output leaves its own (`proofs/Totals`). Sizes are exact fractions, and only their sums are compared with
+//! powers of two.
+//!
+//! The calm plan is a program and a certificate for each calm function and each way to round. All words have one point,
+//! and two whole numbers a node say all that the certificate holds: the value lies within so many units of that point,
+//! and the error within so many (`specs/CalmPlan`). Templates are unit templates, each with the box that its state
+//! keeps. One certificate serves both ways to round.
+//!
+//! Nothing here runs. What a plan meets is said by a law over the definitions, so whoever makes it needs no check of it.
+#![tactic(auto)]
+
+ghost use Rattle.fx_plan_laws.specs.Searches.{FirstTrueLaw};
+ghost use Rattle.fx_plan_laws.specs.CalmTest.{CalmTestLaw};
+ghost use Rattle.fx_plan_laws.specs.CalmLaw.{CalmLaw};
+
+/// A search finds the first place at which its test is true.
+pub fn first_true_law()
+    ensures { FirstTrueLaw }
+{}
+
+/// The test is the definition, whose searches have no end.
+pub fn calm_test_law()
+    ensures { CalmTestLaw }
+{}
+
+/// The calm plan of a calm function is accepted, a text can spell it, it rounds as is wanted, and each output's bound
+/// is at most `2^z`.
+pub fn calm_law()
+    ensures { CalmLaw }
+{}

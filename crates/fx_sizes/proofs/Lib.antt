@@ -1,9 +1,0 @@
-pub mod Powers
-pub mod Values
-pub mod Sizes
-pub mod Claims
-pub mod Words
-pub mod Conditions
-pub mod Inputs
-pub mod Demands
-pub mod Searches

@@ -1,4 +1,0 @@
-pub mod Powers
-pub mod Narrow
-pub mod Demands
-pub mod Laws

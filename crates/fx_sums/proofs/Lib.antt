@@ -1,4 +1,0 @@
-pub mod Division
-pub mod Turned
-pub mod Decided
-mod Worked

@@ -1,6 +1,0 @@
-use Rattle.std.proofs.Common.{◌*◌, ◌^◌, ◌≤◌}
-use Rattle.fx_sums.proofs.Turned.{Turned}
-use Rattle.fx_sums.proofs.settle.turn.Given as goal
-
-abbrev pub invariant-loop-i : goal.invariant-loop-i
-invariant-loop-i l = Turned l.c l.i l.fn.summands l.summands l.s × (l.s ≤ l.i * 2 ^ 62)
