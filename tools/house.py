@@ -1,12 +1,13 @@
 #!/usr/bin/env python3
-"""Draws the picture of the house, docs/layers.md's first part, from crates.txt: house.py [--write | --check]
+"""Draws docs/layers.md from crates.txt and the heads of the crates: house.py [--write | --check]
 
 crates.txt has its crates in groups: a comment `# NAME: WHY` begins one. A group stands on others where a crate of it
 does, and a crate on others as it names them; both are shown reduced, so that what follows by way of another isn't
-drawn. Without an option all is printed; --write puts it into the page between its marks, and --check compares: the
-picture, each group's table, and the headings, which are the groups and one entry for each crate, in the order of
-crates.txt.
+drawn. Of a crate the page has the first paragraph of `lib.rt` (or `main.rt`), which is its purpose, and the section
+`# Contract` behind it. Without an option all is printed; --write puts it into the page between its marks, and --check
+compares: the picture, each group's table and crates, and that the headings are the groups in the order of crates.txt.
 """
+import itertools
 import os
 import re
 import sys
@@ -17,6 +18,7 @@ from crates import LIST, TOP, closed, listed
 PAGE = f"{TOP}/docs/layers.md"
 PART = re.compile(r"(<!-- drawn: ([^>]+) -->)(.*?)(<!-- end of drawn -->)", re.S)
 GROUP = re.compile(r"^# ([^:]+): (.+)$")
+LINK = re.compile(r"\bdocs/(\w+\.md)")
 WIDE, GAP = 66, 2
 
 
@@ -99,10 +101,41 @@ def crates_alone(crates):
     return {it: [low for low in below if low in crates] for it, below in crates.items()}
 
 
+def head_of(crate):
+    """Returns the paragraphs that a crate's root begins with, each with its lines."""
+    folder = f"{TOP}/crates/{crate}/src"
+    with open(f"{folder}/{'lib' if os.path.exists(f'{folder}/lib.rt') else 'main'}.rt", encoding="utf-8") as file:
+        lines = [line.rstrip()[4:] for line in itertools.takewhile(lambda it: it.startswith("//!"), file)]
+    return [list(some) for full, some in itertools.groupby(lines, bool) if full]
+
+
+def contract(head):
+    """Returns the paragraphs of the section Contract."""
+    behind = itertools.islice(itertools.dropwhile(lambda it: it != ["# Contract"], head), 1, None)
+    return list(itertools.takewhile(lambda it: not it[0].startswith("# "), behind))
+
+
+def wrapped(lines):
+    """Returns a paragraph's lines as the page has them: a list as it stands, other words up to 120 a line, and names of
+    pages as links."""
+    linked = [LINK.sub(r"[\1](\1)", line) for line in lines]
+    if lines[0].startswith("- "):
+        return linked
+    return textwrap.wrap(" ".join(linked), 120, break_long_words=False, break_on_hyphens=False)
+
+
+def entry(crate):
+    """Returns what the page has of a crate: its name, its purpose and its contract."""
+    head = head_of(crate)
+    parts = [wrapped(it) for it in [head[0], *contract(head)]]
+    return ["", f"### `{crate}`", *(line for part in parts for line in ["", *part])]
+
+
 def table(why, inside, direct):
-    """Returns a group's sentence, and for each of its crates what it stands on directly."""
+    """Returns a group's sentence, for each of its crates what it stands on directly, and each crate."""
     rows = [f"| `{it}` | {', '.join(f'`{low}`' for low in direct[it]) or 'none of ours'} |" for it in inside]
-    return [*textwrap.wrap(why, 120), "", "| crate | stands directly on |", "|---|---|", *rows]
+    entries = [line for it in inside for line in entry(it)]
+    return [*textwrap.wrap(why, 120), "", "| crate | stands directly on |", "|---|---|", *rows, *entries]
 
 
 def parts():
@@ -123,14 +156,12 @@ def filled(text):
 def wrong_in(text):
     """Returns what differs between the page and crates.txt."""
     wrong = ([] if filled(text) == text
-             else ["the pictures or tables aren't those of crates.txt: tools/house.py --write"])
+             else ["it isn't what crates.txt and the heads of crates say: tools/house.py --write"])
     wrong += [f"there is no part for {name}" for name in parts() if name not in [it[1] for it in PART.findall(text)]]
-    wanted = [line for name, (_, inside) in groups().items() for line in [name, *inside]]
-    heads = re.findall(r"^###? (.*)$", text, re.M)[1:]
-    told = [line for head in heads for line in re.findall(r"^`(fx_[a-z0-9_]+)`", head) or [head]]
-    for number, (one, other) in enumerate(zip([*wanted, "nothing"], [*told, "nothing"])):
-        if one != other:
-            return [*wrong, f"heading {number + 1} is that of {other}, where crates.txt has {one}"]
+    wanted, told = list(groups()), re.findall(r"^## (.*)$", text, re.M)[1:]
+    if wanted != told:
+        wrong.append(f"its groups are {', '.join(told)}, and those of crates.txt {', '.join(wanted)}")
+    wrong += [f"{crate} has no section Contract" for crate in listed() if not contract(head_of(crate))]
     return wrong
 
 

@@ -1,5 +1,14 @@
 //! The words of the command line.
 //!
+//! # Contract
+//!
+//! `read_words` has `clap` read them and answers exactly the command that the grammar gives (`command`, by `command_of`
+//! of `specs/Command.antt`), at a known width, with lawful tries and a lawful number (`lawful`), and `Usage` only where
+//! it gives none (`usage`). `one_file_law`: each command that takes FILE alone (`on_file`) takes exactly the one, and
+//! behind `--` any word is one.
+//!
+//! # Inside
+//!
 //! A command's name comes first, and then its options and FILE, or the number of `demo`. `specs/Grammar.antt` says
 //! which words are such, without `clap`, and `specs/Command.antt` which command they are; `read_words` lets `clap` read
 //! them, and answers the same. The trap: `clap` takes an empty value, and one behind `=` that begins with a minus, and

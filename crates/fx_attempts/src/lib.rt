@@ -1,5 +1,15 @@
 //! What needs no search: the plans by rule, the plain attempt, and those after one rewriting step.
 //!
+//! # Contract
+//!
+//! `first_answer` is the plain plan, certified, where it serves the function, else the calm plan where the function is
+//! calm. `tried` answers what is left of an answer, the plain attempt and the attempts after one of the first single
+//! steps (`IsBestAfter`): none that is accepted has smaller bounds at all outputs. `taken` lets a candidate take an
+//! answer's place where there is no answer, or where it is no worse at any output and better at some; what is taken is
+//! no worse at any output, and a candidate that isn't taken isn't better at all of them (`IsTaken`).
+//!
+//! # Inside
+//!
 //! Whatever is found has passed the checker. `first_answer` is the plan that serves the function, if one does; `tried`
 //! lets the attempts take its place, and `taken` decides of each, as of whatever else is found. The trap: a candidate
 //! takes the answer's place only where none of its bounds is greater, so that no answer is worse than one before it at

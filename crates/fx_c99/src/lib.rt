@@ -1,5 +1,21 @@
 //! The C99 text of a program: how its statements are written, and what they do.
 //!
+//! # Contract
+//!
+//! How the statements of `fx_statements` are written as C99, in how many bits each computes, and what C makes of them:
+//! nothing wherever C leaves it undefined or to the compiler, so that what has a meaning there panics, overflows and
+//! shifts nowhere else either. `one_reading_law`, `does_once_law`: one text has one list of statements and one of start
+//! words. `floored_law`: the helping function that divides by a power of two rounds down, below 0 too. `reset_law`,
+//! `step_law`, `run_law`: the reset writes the start words, and from there on the text gives the machine's step and run
+//! wherever each word lies in its width; `certified_c_law`: at the least widths, over all rows in range. Beside it
+//! stands its header: macros, which `#if` can use too, and the declarations. `header_law`: that of what is certified
+//! says each input's point and the words of the ends of its range, each state's point and start word, and each output's
+//! point and bound, in numbers that C reads as these. `input_word_law`: such words are those that a step is given;
+//! `range_law`: a word lies between those of the ends exactly where a value of the range has it. No program prints such
+//! texts yet.
+//!
+//! # Inside
+//!
 //! `specs/` has the definitions: `Working` says in how many bits a statement computes, `CText` how it is written, and
 //! `CMeaning` what it does, which is nothing wherever C99 leaves it undefined or to the compiler. The statements are
 //! those of `fx_statements`; `OfProgram` says which a program has. `CHeader` has the text of the header beside it, and

@@ -1,7 +1,13 @@
 //! The program `fixd-c`: the real output and files, the words, and the one call that does the rest.
 //!
-//! `fx_c_command::fixd_c` has every promise, over any shelf and sinks. Nothing is decided here but what to do where
-//! the words can't even be taken.
+//! # Contract
+//!
+//! `main` hands the words, the files, the output and the notes to `fixd_c`, and ends with its status, as `fx_cli` does.
+//!
+//! # Inside
+//!
+//! `fx_c_command::fixd_c` has every promise, over any shelf and sinks. Nothing is decided here but what to do where the
+//! words can't even be taken.
 #![tactic(auto)]
 
 use fx_base::Status;

@@ -1,5 +1,17 @@
 //! The calm plan: for a linear function whose states halve at each step, the program and the certificate by rule.
 //!
+//! # Contract
+//!
+//! `calm_plan` gives the program and the certificate of `fx_plan_laws` (`program`, `certificate`), and `NotCalm`
+//! exactly where the function isn't calm at the width (`calm`, `not_calm`); `narrow` is what else `calm_law` asks.
+//! Inside, `find_numbers` gives the numbers of a function that is calm, exactly as they are defined, and none of any
+//! other; each exponent that is looked for is raised thing by thing to the least that is enough (`IsLeast`).
+//! `adds_up_to` answers exactly whether up to 64 fractions, none below zero, each below 2^62, with denominators below
+//! 2^122 and numerators below 2^127, add up to at most a whole number, though their common denominator may have
+//! thousands of bits: all are divided at once, digit by digit, and without memory (`sum_law`: 2,605 digits decide).
+//!
+//! # Inside
+//!
 //! First it is found whether a function is calm at a width, and its numbers (`find_numbers`): each is the least
 //! exponent at which a list of things is within a limit: starts, inputs, literals, errors, and sums over the terms of
 //! results. Sums of sizes are fractions of different denominators, which have no common one of 128 bits: those of 64

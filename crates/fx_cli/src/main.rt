@@ -1,5 +1,13 @@
 //! The program `fixd`: the real streams and files, the words, and the one call that does the rest.
 //!
+//! # Contract
+//!
+//! `main` hands the words, the files and the three streams to `fixd`, and ends with its status; where the words can't
+//! be taken, it ends as for words that are no command's, or for want of memory. Here alone stand a stored run of the
+//! program and tests; other calls are cases, or stand in `.ci/checks/streams` and `demos`.
+//!
+//! # Inside
+//!
 //! `fx_command::fixd` has every promise, over any shelf, source and sinks. Nothing is decided here but what to do where
 //! the words can't even be taken.
 #![tactic(auto)]

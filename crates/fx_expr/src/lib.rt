@@ -1,5 +1,15 @@
 //! Functions of the source language: what a user's formula is once it is read.
 //!
+//! # Contract
+//!
+//! A `Function` is lawful by its type (`specs/LawfulFunction.antt`): its trees refer to what is there, its ranges
+//! aren't empty and its errors aren't negative, it has an input and an output, and it keeps the limits. Contracts see
+//! it as the record of `fx_model`, whose meaning is `exact`. `same` compares trees, `Expr::copy` and `Function::copy`
+//! give an equal value. A `Function` keeps the count of its nodes (`nodes`); `Function::new` makes it of lawful parts,
+//! and `replace` exchanges a subtree for another by place and path.
+//!
+//! # Inside
+//!
 //! A `Function` is valid by its type: its trees refer to inputs, states and earlier temps that are there, its ranges
 //! aren't empty, and it keeps the limits, so that whoever takes one asks for nothing. Contracts see it as the plain
 //! record of `fx_model`, whose meaning is `exact`. The trap: a tree keeps its operands in boxes, whose places `≡` would

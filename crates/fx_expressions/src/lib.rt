@@ -1,5 +1,11 @@
 //! Expressions, as they stand in a source: from tokens to trees, with their heights and nodes.
 //!
+//! # Contract
+//!
+//! `expression` gives the tree of an expression with its height and nodes; one that is too high is never built.
+//!
+//! # Inside
+//!
 //! `expression` gives exactly what the definition of `fx_grammar` gives, or that memory ran out. A tree that is too
 //! high is never built, and the recursion is that of at most 200 open parentheses.
 #![tactic(auto)]

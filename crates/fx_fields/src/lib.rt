@@ -1,5 +1,13 @@
 //! The fields of one line of rows: those of the one record that `csv` gives for the line's bytes alone.
 //!
+//! # Contract
+//!
+//! The fields of a line are those of the one record that `csv` gives for it; `plain_line_law`: where no quote and no
+//! line end is in it they stand between its commas, behind the byte order mark where the line begins with one, so
+//! nearly every line is read where it stands.
+//!
+//! # Inside
+//!
 //! A line without quotes, which is nearly every line, is cut at its commas where it stands: nothing is allocated, and
 //! `plain_line_law` says that `csv` would give the same fields. Any other line goes through `csv`.
 #![tactic(auto)]

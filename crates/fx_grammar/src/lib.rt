@@ -1,5 +1,13 @@
 //! What a source text means.
 //!
+//! # Contract
+//!
+//! One definition for each rule of the grammar says what tokens from left to right give: functions, or the first fault
+//! with its place (`source_of`; `parsed` is the function that is wanted of bytes). The readers below are proved against
+//! it.
+//!
+//! # Inside
+//!
 //! The definitions of `specs` say it, one for each rule of the grammar: each takes the tokens that are left and gives a
 //! value and the tokens behind it, or the first fault with its place. `specs/Sources.antt` ends with `parsed`, from
 //! bytes to the wanted function. Of code there is only `Head`, what the grammar sees of a token.

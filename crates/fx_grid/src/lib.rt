@@ -1,5 +1,24 @@
 //! Numbers and intervals on binary grids.
 //!
+//! # Contract
+//!
+//! Grid `e` are the dyadics with at most `e` binary places, in lowest terms. There are two halves. **To a grid**:
+//! `down` and `up` of a dyadic, `down_fraction` and `up_fraction`, and `down_quotient` and `up_quotient` of a quotient
+//! that counts units of the grid give exactly the greatest on the grid that isn't above, and the least that isn't
+//! below. `wide_down`, `wide_up` and `quotient_less` (down, and a unit of the point less), whose floors may have more
+//! than 128 bits, do so too, or None where the mantissa has more than 62 bits (`IsEnd`). `error_grid` is the grid of
+//! the errors at a point, `split` a point by its size, `is_small` whether a mantissa has at most 62 bits. **The
+//! narrowest interval**: `narrowest_round` (round what a formula comes to), `between` (two fractions),
+//! `range_quotient`, and `literal_error`, `input_error` and `quotient_error` on the grid of a point give exactly the
+//! narrowest interval that the definition `narrowest` has, or why there is none (`Why`), though what it is cut from may
+//! have more than 128 bits (`narrow_law`: it lies inside each other on the grid that holds the bounds). `floor_at` is
+//! the word of a literal; `plus` and `times` add and multiply intervals, by no test where mantissas are short and
+//! exponents near. Who uses it: `fx_analysis` makes the plain attempt of it, `fx_template` rounds the bounds of
+//! templates by it, and of the calm plan `fx_plan_laws` needs its lowest terms and `fx_calm` these, rounding up and the
+//! two numbers of a fraction.
+//!
+//! # Inside
+//!
 //! Grid `e` are the dyadics with at most `e` binary places, in lowest terms. `grid` to `wide` round down or up to it: a
 //! dyadic, a fraction, or a quotient whose floor may have more than 128 bits, of which the whole part and the binary
 //! places are kept apart. The others give the narrowest interval on a grid that meets some bounds, each end rounded

@@ -1,9 +1,18 @@
 //! Intervals with dyadic ends, and their exact operations.
 //!
+//! # Contract
+//!
+//! `iadd`, `isub` and `imul` give the sums of ends, their differences crosswise, and the least and the greatest of
+//! their four products, None exactly where a mantissa on the way leaves 128 bits; `inside` compares ends, `outward`
+//! rounds them apart, `least` and `greatest` are the lesser and the greater of two numbers, and `Interval::zero` is
+//! zero alone. No order of the ends is kept.
+//!
+//! # Inside
+//!
 //! What a certificate says of a range or an error is an interval, and each of its inequalities is one interval inside
 //! another. An operation holds the operation of any two members, and its ends are the very sums and products of ends,
-//! so that the mantissas' limits decide None and nothing is rounded but by `outward`.
-//! The trap: no order of the ends is kept. An interval whose lo is above its hi holds nothing, and is not refused.
+//! so that the mantissas' limits decide None and nothing is rounded but by `outward`. The trap: no order of the ends is
+//! kept. An interval whose lo is above its hi holds nothing, and is not refused.
 #![tactic(auto)]
 
 ghost use Rattle.std.specs.Prelude.{◌≡◌, ◌+◌, ◌≤◌, ◌^◌, IsTrue};

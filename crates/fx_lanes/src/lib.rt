@@ -1,5 +1,17 @@
 //! Rows side by side: the codes of a program without states carried out for sixteen rows at once.
 //!
+//! # Contract
+//!
+//! A program without states carries out each code for sixteen rows that lie one behind the other (`row_at`).
+//! `step_lanes` asks that it isn't stuck in any of them, and the words of row k are then the lane k of its
+//! `LaneRegisters` (`words`, by `lane`), without memory or refusal; `output` gives an output's word in a lane, and its
+//! point. `put_at` puts a row in its place (`put`) and leaves the others (`others`). The step is written and proved
+//! once, over any `SideBySide`: the operations of the machine on sixteen words. `NarrowLanes` has them in vectors of 32
+//! bits, for words of up to as many, and `WideLanes` in vectors of 64, for all widths; there products and quotients go
+//! lane by lane, by `Word`.
+//!
+//! # Inside
+//!
 //! The words of a code in sixteen rows stand in the lanes of vectors, so that a code is matched once for all of them.
 //! Lane by lane it is what the machine's step gives of that row. The trap: `B` doesn't choose what holds the words, so
 //! whoever calls does.

@@ -1,8 +1,18 @@
-//! The texts of a demonstration, which have a line for each number: its source and its rows. And the last line of its
-//! page.
+//! The texts of a demonstration, which have a line for each number: its source and its rows.
 //!
-//! Each text is a definition, byte by byte (`specs/Source.antt`, `specs/Rows.antt`).
-//! The trap: two runs of one number print the same, so nothing here may depend on anything else.
+//! # Contract
+//!
+//! `function_of` reads the source of a number (`specs/Source.antt`), `rows_text` gives a demonstration's thousand rows
+//! (`specs/Rows.antt`), and `last_line` the last line of a page of two lines or more (`line`, `none`). The lines of
+//! source and rows are `numbered_lines` of `fx_model/specs/LineText.antt`, as are those that `check`, `show` and
+//! `widths` print.
+//!
+//! # Inside
+//!
+//! And the last line of its page.
+//!
+//! Each text is a definition, byte by byte (`specs/Source.antt`, `specs/Rows.antt`). The trap: two runs of one number
+//! print the same, so nothing here may depend on anything else.
 #![tactic(auto)]
 
 mod last;

@@ -1,5 +1,15 @@
 //! Drafts of a function, and random moves from one to another.
 //!
+//! # Contract
+//!
+//! A `Draft` is a function after some rewriting steps; `mutate`, `factor_all`, `form` and `clean_all` change it by
+//! steps that `apply` makes, so it is lawful by its type, and nothing else is promised of it. It has room for 1,024
+//! steps, of which 64 are drawn at random from where it was taken up; its steps are a `Trail`, with all paths in one
+//! vector. `draw` is the generator's next word modulo the number of choices that it is given (`value`) and leaves the
+//! rest of its stream (`rest`); every choice goes through it.
+//!
+//! # Inside
+//!
 //! A draft is a function with the steps of `fx_rewrite` that led to it from its source. Rewriting changes nothing of
 //! what a function means over the rationals, and much of what its rounding costs, so a search looks for the best draft.
 //!

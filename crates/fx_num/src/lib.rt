@@ -1,5 +1,20 @@
 //! Exact whole numbers of 128 bits, and exact dyadics over them.
 //!
+//! # Contract
+//!
+//! A dyadic is `m / 2^e`, kept as it was formed but for zero, which is always `0/2^0`. `dadd`, `dsub` and `dmul` give
+//! Some exactly where each mantissa, after its alignment and in the result, fits 128 bits, and then the very dyadic of
+//! the definition (one clause each, over `sum_fits` and `dyadic_sum` and so on); `dle` always answers; `round_down` and
+//! `round_up` give the nearest on their side with at most `e` binary places; `floor_shift`, `ceil_shift` and
+//! `left_fits` are exact for every shift, `add_fits` and `mul_fits` for every pair (None where the result leaves 128
+//! bits); `two_to`, `signed_two_to` and `short_two_to` go to 2^126, 2^64 and 2^62, and `raised` shifts what is below
+//! 2^62 by at most 64 places. `Dyadic::zero` is zero. What these definitions are for stands in `fx_rational`'s
+//! `dyadic_laws`. For searches, `bits` counts a size's bits, `lowest` goes to lowest terms, of which no clause speaks,
+//! and `Dyadic::checked` refuses an exponent above 2^20. `limits.rt` has the limits of functions, programs and
+//! certificates, each once, as `fx_model/specs/Limits.antt` defines them.
+//!
+//! # Inside
+//!
 //! A certificate is a list of inequalities between numbers `m / 2^e`. All of its arithmetic is done here, exactly: a
 //! call gives the very value, or None where a mantissa leaves 128 bits, and nothing wraps or rounds unless its name
 //! says so. These calls run for every inequality of every certificate, so none allocates and none goes over bits one by

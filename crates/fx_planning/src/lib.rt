@@ -1,5 +1,12 @@
 //! Plans of a function at given points: words and errors, and what they cost.
 //!
+//! # Contract
+//!
+//! `find_plan` makes words and errors at given points, and what they cost. Nothing rests on what it finds: `fx_search`
+//! calls it at each choice of points, `fx_feedback` as `find_plan_in`, and `check` judges what is written of a plan.
+//!
+//! # Inside
+//!
 //! A search for small certified bounds tries many forms of a function. Each try is a few passes over its node list:
 //! first the ranges (`fx_ranges`), then a point for each node, which is another crate's, then what stands here. What is
 //! written of a plan is the business of `fx_writing`.

@@ -1,5 +1,13 @@
 //! A binary point for each node: where the bits of a word are best spent.
 //!
+//! # Contract
+//!
+//! `choose_points` gives a point for each node (`points`), or names a node of the list at which none is left
+//! (`blames`). It is the choice of `fx_search`, at each attempt: which points, no clause says, and nothing rests on it.
+//! Costs are rounded numbers of `fx_span`, so that the choice is the same on every machine.
+//!
+//! # Inside
+//!
 //! A floor at point `f` loses up to `2^-f`, but only where a shift is above zero. So a word is best nearly full, and a
 //! product is best floored at the point of the sum that it goes into. `choose_points` weighs both: from the inputs on
 //! it lists for each node the eight finest points that are worth a look, each with the least sum of losses that leads

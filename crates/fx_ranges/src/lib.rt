@@ -1,5 +1,12 @@
 //! What is known of a function's nodes before they have points: ranges, affine forms, and the codes that points allow.
 //!
+//! # Contract
+//!
+//! `find_ranges` finds ranges with affine forms, and `has_code` whether a node has a code at a point. Nothing rests on
+//! what it finds.
+//!
+//! # Inside
+//!
 //! A search for small certified bounds tries many forms of a function. Each try is a few passes over its node list.
 //! This crate has the first: `find_ranges` gives each node an interval, and an affine form over the inputs where an
 //! operand has one. A form keeps what plain intervals lose, that the same input stands in both operands; the narrower

@@ -1,5 +1,12 @@
 //! What a function says of its inputs and outputs: `require` and `ensuring`.
 //!
+//! # Contract
+//!
+//! What a function says of its inputs and outputs: `require` gives the inputs with their ranges, `maybe_ensuring` what
+//! is said of the outputs, and `demands_at` makes demands of that, or finds ends in the wrong order.
+//!
+//! # Inside
+//!
 //! Both speak of subjects, inputs or outputs by name, of which each learns a lower end, an upper end and an error at
 //! most once. `require` gives the inputs with their ranges, `maybe_ensuring` what is said of the outputs and
 //! `demands_at` the demands that it makes, exactly as the definitions of `fx_grammar` do, or that memory ran out.

@@ -1,5 +1,19 @@
 //! Rows of a line: columns by their names, and the values of the inputs.
 //!
+//! # Contract
+//!
+//! `read_header` gives each input its column (`columns`, `places`), `read_row` gives each input its value (`read`), or
+//! the first check that fails, in the order of `header_of` and `row_of`; a row of values is in range (`in_range`). A
+//! `RowReader` does it for many rows: it keeps the ranges of the inputs beside their columns (`serves`), and their
+//! order, each at least once or none at all (`IsOrder`): by it one walk over a line reads the number of each
+//! (`read_quick`: where it answers true, that is the row), and where anything is unusual the whole way begins anew, and
+//! only a line with a quote wants memory once there is room (`room`, `kept`). `read_rows` (`specs/ReadRows.antt`) says
+//! which rows an input gives, up to its first bad line; `rows_in_range_law`: each is in range. `find_column` finds a
+//! column by its name alone, and `read_unit` gives the unit (see `fx_node`) that a row names in such a column (`unit`),
+//! without memory where the line has no quote (`memory`).
+//!
+//! # Inside
+//!
 //! A header gives each input of a function its column; a row gives each a decimal in its range. The checks have one
 //! order, and the first that fails is the answer. Extra columns are ignored, and spaces and tabs round a field dropped.
 #![tactic(auto)]

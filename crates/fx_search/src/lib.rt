@@ -1,5 +1,13 @@
 //! The search for a small certified bound: many forms of a function are tried, and the best is certified.
 //!
+//! # Contract
+//!
+//! `search` tries as many forms of a function without states as it is asked for, fewer of one with more than 500 nodes,
+//! for a small bound: each a draft of `fx_moves`, with ranges of `fx_ranges`, points of `fx_points` and a plan of
+//! `fx_planning`. Its answer has the same clause as that of `fx_feedback`. How small its bounds are, no clause says.
+//!
+//! # Inside
+//!
 //! A draft (`fx_moves`) is the function after some rewriting steps; an attempt gives it ranges by `fx_ranges`, points
 //! by `fx_points` and errors by `fx_planning`, and its cost is one number to be lowered. All that is decided is drawn
 //! from one seeded generator by `draw`, and no number has a floating point, so that a seed gives one answer on every

@@ -1,6 +1,14 @@
 //! The numbers that a search counts with: intervals of two mantissas over one exponent, their grids, and rounded
 //! numbers.
 //!
+//! # Contract
+//!
+//! Intervals over one exponent (`Span`), grids with how many places a range or an error is kept, the words of literals,
+//! and rounded numbers that rank choices (`Real`). Nothing is promised but that each call returns. Numbers that leave
+//! 128 bits end an attempt and nothing else.
+//!
+//! # Inside
+//!
 //! A certificate's intervals have a dyadic for each end. Here both ends share an exponent (`Span`), since a search adds
 //! and compares more than it writes. `Grids` says with how many places a range or an error is kept. `Real` and
 //! `RealSpan` only rank choices. Fractions and decimals come onto grids (`range_between`), with the words of literals

@@ -1,8 +1,16 @@
 //! Rewriting steps as data, as a certificate lists them.
 //!
-//! A `Step` names a tree, a path in it and a rule. What a step does to a function is the work of `fx_rewrite`, which has
-//! the rules as code too: who only writes or keeps certificates doesn't need it. The trap: a step
-//! need not lead anywhere. Whether its place, its path and its rule are there, who applies it finds out.
+//! # Contract
+//!
+//! A `Step` is a tree's place, a path in it and a rule's number, as a certificate lists them; contracts see it as the
+//! record of the definitions (`step_view`). What it does to a function is `fx_rewrite`'s, and nothing here asks that it
+//! does anything.
+//!
+//! # Inside
+//!
+//! A `Step` names a tree, a path in it and a rule. What a step does to a function is the work of `fx_rewrite`, which
+//! has the rules as code too: who only writes or keeps certificates doesn't need it. The trap: a step need not lead
+//! anywhere. Whether its place, its path and its rule are there, who applies it finds out.
 #![tactic(auto)]
 
 mod step;

@@ -1,5 +1,13 @@
 //! Calls that take memory and that `fixd` doesn't make: where there is memory, they answer.
 //!
+//! # Contract
+//!
+//! It promises nothing: tests that call, where there is memory, what no command does, with values that were worked out
+//! by hand or in another language. Want of memory is a lawful answer of each such call, so that no clause shows that
+//! another is ever given. No crate stands on it.
+//!
+//! # Inside
+//!
 //! Want of memory is an answer of each call that allocates, and no clause can rule it out. So a body that always gives
 //! it would be proved, and the cases of `fixd` wouldn't show it where no command makes the call. Here each such call is
 //! made once, and gives what was worked out by hand or by a program in another language. Nothing runs but these tests,

@@ -1,5 +1,14 @@
 //! The grammar of the source language, as relations by cases, and what ties the reading of tokens to it.
 //!
+//! # Contract
+//!
+//! The same grammar as relations by cases, and the proof that both agree: `read_is_spelled` and `spelled_is_read` (what
+//! is read are exactly the sources of the grammar, with the functions that it gives them), `one_meaning` (a source has
+//! no second list of functions), `text_law` and `wanted_law` (the same of texts and of bytes with a wanted name).
+//! Nothing in it runs.
+//!
+//! # Inside
+//!
 //! `fx_grammar` says what tokens mean by reading them from left to right, with each fault and its place. Here `specs`
 //! says the same without faults: each rule of the grammar is a relation between the tokens from a place on, what they
 //! stand for and the tokens behind them. The limits, the names that must differ and the line breaks that matter are

@@ -1,5 +1,17 @@
 //! Synthesis: a certified program for a function, at a width.
 //!
+//! # Contract
+//!
+//! `synthesise` answers what is certified for this very function, of its name, at the width and with the rounding given
+//! (`found`, by `IsSynthesised`): with bounds as small as `promised_powers` says, of the plain plan where that serves
+//! the function, else of the calm plan; where neither does, no worse than an accepted plain attempt at any output; and
+//! no accepted attempt, plain or after one of the first single steps, has smaller bounds at all outputs. It answers so
+//! wherever one of the two plans serves or one of these attempts is accepted, and where a search finds something:
+//! `NotFound` says that neither plan serves and no attempt is accepted, and names what keeps the function out of the
+//! class (`not_found`, by `IsUnfound`). What is found has passed `check`.
+//!
+//! # Inside
+//!
 //! Whatever is found has passed the checker, so nothing rests on how it was found. For a function that the plain plan
 //! or the calm plan serves something is found always, with bounds of that plan; else where the plain attempt or one
 //! after a single step is accepted (`fx_attempts`), and often where a search finds more. The trap: both searches come

@@ -1,5 +1,18 @@
 //! Templates that one step keeps, for a plan of a program with states.
 //!
+//! # Contract
+//!
+//! `find_templates` answers templates and error templates for a plan: one step keeps each of them by the comparisons of
+//! the conditions Row and ErrorRow over the plan's forms, the unit templates come first, counts and shares are those of
+//! a certificate (`both`, by `IsInvariant`), and bounds can be spelled where those of the plan's states can (`written`;
+//! `written_law`). It answers NoTemplates with the number of a unit template, or unit error template, and only where
+//! that is the first that doesn't stand after the plain rounds of `specs/PlainRounds.antt` (`fallen`). `templates_over`
+//! says the same of any transition. Both ask for few variables and nodes, and for numbers of few binary places:
+//! `step_by_plan` makes the transition of a plan, and `is_modest` says whether it is such a one. No command calls any
+//! of these: `synth` has `fx_feedback`, which forms templates and plan together.
+//!
+//! # Inside
+//!
 //! The ranges of the states alone are seldom kept by a step: a filter's state is bounded because combinations of states
 //! are. A search proposes such templates, with shares that show each by others; whatever it proposes is tested by the
 //! very comparisons of the checker before it is handed out, so nothing rests on its numbers. Where nothing it proposes

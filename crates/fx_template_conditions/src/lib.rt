@@ -1,6 +1,14 @@
 //! The conditions of a certificate that go by templates: bounds by shares of templates, one step that keeps a template,
 //! and the start.
 //!
+//! # Contract
+//!
+//! `node_fault` is the first fault of a node's five conditions, with or without shares of templates;
+//! `template_judgement`, `start_judgement` and `start_template_judgement` are what the comparisons of Row, ErrorRow and
+//! Start come to. All other conditions are `fx_checker`'s.
+//!
+//! # Inside
+//!
 //! A combination of the variables begins with a rest and goes on with a coefficient times each; inputs stand by their
 //! own intervals, states by shares of templates and, for what the shares leave, by the states' own templates.
 //! `node_fault` is the first fault of a node's five conditions, with or without shares; `template_judgement`,

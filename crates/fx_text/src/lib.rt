@@ -1,5 +1,17 @@
 //! Lines, fields, whole numbers and dyadics of the project's texts: how each is read, and how it is printed.
 //!
+//! # Contract
+//!
+//! Each field reader gives what its definition (`number_at`, `place_at`, `count_at`, `dyadic_at` and so on) reads,
+//! value and rest or first fault, over numbers without bound; each printer appends exactly its field behind a space, or
+//! its line, but for want of memory. Each value has one spelling (`number_law` to `line_law`, as `IsOneSpelling`;
+//! `whole_law`, `integer_law` and `word_law` by two clauses, `takes` and `again`): what is read is what is printed of
+//! it and lies in its range, and that is read again. Lemmas on `many` and `line_by` carry this to so many values and to
+//! lines; `read_more_lines` has the loop over lines of one kind, for every `LineReader`. The readers of programs,
+//! certificates and bundles are built of these.
+//!
+//! # Inside
+//!
 //! A program, a certificate and a bundle are lines of fields. What all of them share stands here once, so that a reader
 //! of one more line is a chain of `?` and its proof a few lines. Each reader is tied to a definition of `specs/`, which
 //! is over numbers without bound: what the code cuts off at 64 bits is still told apart as a number that is out of

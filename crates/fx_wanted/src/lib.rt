@@ -1,5 +1,13 @@
 //! What is asked of a synthesis.
 //!
+//! # Contract
+//!
+//! `Wanted` has the width, the tries and the way to round, from the words of a call to what is promised of its answer;
+//! `IsLawfulWanted` says which may be asked for. One option more is one field more here, and one parameter more of
+//! `synthesise` of `fx_synth`.
+//!
+//! # Inside
+//!
 //! One record goes from the words of a call through the attempts and the search into what is promised of the answer, so
 //! that whatever else may be asked for is one field more. The trap: a search may be given fewer tries than were asked
 //! for, but what is promised of the attempts is promised of all of them.
