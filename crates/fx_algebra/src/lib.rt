@@ -2,14 +2,13 @@
 //!
 //! # Contract
 //!
-//! Laws of ℤ, the gcd, and a normaliser by which a polynomial identity is one line. `gcd_law`: Euclid's algorithm gives
-//! the gcd. `one_spelling_law`: equal fractions in lowest terms are spelled alike.
+//! `gcd_law`: Euclid's algorithm gives the gcd. `one_spelling_law`: equal fractions in lowest terms are spelled alike.
 //!
 //! # Inside
 //!
-//! All of it is for proofs, so that nothing here runs. What the outside may believe stands in the two laws below; the
-//! lemmas behind them, and those that the crates above cite, are the modules of `proofs/`: `Integers` (ring and order
-//! of ℤ), `Ring` and `Quote` (the normaliser, and how a term is quoted for it), `Order`, `Powers`, `LowestTerms`.
+//! All of it is for proofs; nothing here runs. The lemmas that crates above cite are the modules of `proofs/`:
+//! `Integers` (ring and order of ℤ), `Ring` and `Quote` (the normaliser, and how a term is quoted for it), `Order`,
+//! `Powers`, `LowestTerms`.
 #![tactic(auto)]
 
 ghost use Rattle.fx_algebra.specs.Gcd.{GcdLaw, OneSpellingLaw};

@@ -10,10 +10,8 @@
 //!
 //! # Inside
 //!
-//! Whatever is found has passed the checker. `first_answer` is the plan that serves the function, if one does; `tried`
-//! lets the attempts take its place, and `taken` decides of each, as of whatever else is found. The trap: a candidate
-//! takes the answer's place only where none of its bounds is greater, so that no answer is worse than one before it at
-//! any output.
+//! Whatever is found has passed the checker. The trap: a candidate takes the answer's place only where none of its
+//! bounds is greater, so that no answer is worse than one before it at any output.
 #![tactic(auto)]
 
 mod answer;

@@ -18,9 +18,7 @@
 //!
 //! # Inside
 //!
-//! Each opens FILE by `open`, which reads it whole and accepts the bundle in it, or says why not. Then `run_file` runs
-//! the lines of the input, as `Rows` says, or `print_file` prints a text of the bundle, which is a `Sheet`. The trap:
-//! nothing here knows of a search, so that it is proved beside all of them.
+//! The trap: nothing here knows of a search, so that it is proved beside all of them.
 #![tactic(auto)]
 
 mod commands;

@@ -9,8 +9,8 @@
 //!
 //! # Inside
 //!
-//! What the texts are, do and say, `fx_c99` says. Each function here appends a piece of one, and its clause says which.
-//! The trap: what a failed call has appended isn't told, so the text is dropped where any fails.
+//! Each function here appends a piece of one, and its clause says which. The trap: what a failed call has appended
+//! isn't told, so the text is dropped where any fails.
 #![tactic(auto)]
 
 mod groups;

@@ -11,17 +11,15 @@
 //! stands its header: macros, which `#if` can use too, and the declarations. `header_law`: that of what is certified
 //! says each input's point and the words of the ends of its range, each state's point and start word, and each output's
 //! point and bound, in numbers that C reads as these. `input_word_law`: such words are those that a step is given;
-//! `range_law`: a word lies between those of the ends exactly where a value of the range has it. No program prints such
-//! texts yet.
+//! `range_law`: a word lies between those of the ends exactly where a value of the range has it.
 //!
 //! # Inside
 //!
 //! `specs/` has the definitions: `Working` says in how many bits a statement computes, `CText` how it is written, and
-//! `CMeaning` what it does, which is nothing wherever C99 leaves it undefined or to the compiler. The statements are
-//! those of `fx_statements`; `OfProgram` says which a program has. `CHeader` has the text of the header beside it, and
-//! `CHeaderMeaning` what that says. Nothing here runs: the functions below have empty bodies, and each carries a law,
-//! of which `Laws` has the words. The trap: a shift to the left is no form of C here, since C leaves it undefined below
-//! 0, so a word is multiplied by a power of two.
+//! `CMeaning` what it does. The statements are those of `fx_statements`; `OfProgram` says which a program has.
+//! `CHeader` has the text of the header beside it, and `CHeaderMeaning` what that says. Nothing here runs: the
+//! functions below have empty bodies, and each carries a law, of which `Laws` has the words. The trap: a shift to the
+//! left is no form of C here, since C leaves it undefined below 0, so a word is multiplied by a power of two.
 #![tactic(auto)]
 
 ghost use Rattle.fx_c99.specs.Laws.{FlooredLaw, ResetLaw, StepLaw, RunLaw, CertifiedLaw, OneReadingLaw, DoesOnceLaw, TextLaw, HeaderLaw, InputWordLaw, RangeLaw};

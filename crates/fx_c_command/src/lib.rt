@@ -10,14 +10,13 @@
 //! accepted bundle (`unopened`) or is missing (`missing`); FILE alone is read (`asked`), and what the output held
 //! stands (`appended`). What is printed is the one text (`PrintsC` of `specs/Printed.antt`): of the source it holds
 //! besides that it does the machine's steps and, over all rows in range, its run, and of the header that it says the
-//! points, the words and the certified bounds. It gets no input, so it reads none. `fixd` stands on nothing of this.
+//! points, the words and the certified bounds. It gets no input, so it reads none.
 //!
 //! # Inside
 //!
-//! `fixd_c` is the one public call, and has every promise (`specs/Promise.antt`). A bundle is opened and judged as
-//! `fixd` does it (`fx_bundle_commands`), and ends have its statuses and its lines (`fx_ends`), with this program's
-//! name. The texts are those of `fx_c`; what they do and say, `fx_c99` says. The trap: `fixd` stands on nothing of C,
-//! so that whoever needs no C proves none.
+//! A bundle is opened and judged as `fixd` does it (`fx_bundle_commands`), and ends have its statuses and its lines
+//! (`fx_ends`), with this program's name. The trap: `fixd` stands on nothing of C, so that whoever needs no C proves
+//! none.
 #![tactic(auto)]
 
 mod call;

@@ -12,19 +12,15 @@
 //!
 //! # Inside
 //!
-//! First it is found whether a function is calm at a width, and its numbers (`find_numbers`): each is the least
-//! exponent at which a list of things is within a limit: starts, inputs, literals, errors, and sums over the terms of
-//! results. Sums of sizes are fractions of different denominators, which have no common one of 128 bits: those of 64
-//! may have 8,000. So they are compared by long division, all at once, digit by digit (`adds_up_to`). It ends as soon
-//! as the rests, which are below one each, can't change the comparison: mostly at the first digits. Sums of decimals
-//! that are the number itself end where no rest is left; of other fractions they take the 2,605 digits, since two
-//! different sums differ by a fraction of their denominators' product.
+//! First the numbers of a function are found, each the least exponent at which a list of things is within a limit:
+//! starts, inputs, literals, errors, and sums over the terms of results. Sums of sizes are fractions of different
+//! denominators, which have no common one of 128 bits: those of 64 may have 8,000. Their long division ends as soon as
+//! the rests, which are below one each, can't change the comparison: mostly at the first digits. Sums of decimals that
+//! are the number itself end where no rest is left; of other fractions they take the 2,605 digits, since two different
+//! sums differ by a fraction of their denominators' product.
 //!
-//! Then the plan is made of the numbers. All words have one point, and two whole numbers a node say all that the
-//! certificate holds: the value lies within so many units of that point, and the error within so many. Sums add them
-//! up, products multiply and round upward. What the plan meets is said by laws over the definitions
-//! (`fx_plan_laws::calm_law`), so a caller needs no check of it. Either way to round has the same certificate. The
-//! trap: bounds have 61 bits and words 64 in a calm function only, which its law says and no test here.
+//! Then the plan is made of the numbers: sums add up bounds that count units, and products multiply them and round
+//! upward. The trap: bounds have 61 bits and words 64 in a calm function only, which its law says and no test here.
 #![tactic(auto)]
 
 mod bound;

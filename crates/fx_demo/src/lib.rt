@@ -10,9 +10,7 @@
 //!
 //! # Inside
 //!
-//! `demonstrate` makes the source of a number as text, reads it, lets a program be synthesised for it, and runs the
-//! program over a thousand rows, all as the commands do with files. The texts are those of `fx_listing`. The trap: that
-//! a source is served and its rows are good is tested of each number, and not proved.
+//! Source and rows are texts, read as the commands read files; they are those of `fx_listing`.
 #![tactic(auto)]
 
 mod demo;

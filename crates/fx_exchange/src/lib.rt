@@ -2,11 +2,10 @@
 //!
 //! # Contract
 //!
-//! *What is the cheapest sum of templates that are there?* `exchange` takes a template apart by others, by the simplex
-//! step in floating point, with an inverse made anew at each turn, within a budget, and `take_apart` what a node takes
-//! of the states. It is given the templates, and looks no step ahead; `fx_proposal` asks it for ends and gaps of
-//! chains, `fx_feedback` for the shares of nodes. Nothing is promised of the shares: whoever takes them tests the bound
-//! that they show.
+//! `exchange` takes a template apart by others, by the simplex step in floating point, with an inverse made anew at
+//! each turn, within a budget, and `take_apart` what a node takes of the states. It is given the templates, and looks
+//! no step ahead; `fx_proposal` asks it for ends and gaps of chains, `fx_feedback` for the shares of nodes. Nothing is
+//! promised of the shares: whoever takes them tests the bound that they show.
 //!
 //! # Inside
 //!
@@ -14,8 +13,7 @@
 //! finds a cheap one: templates of a basis are exchanged one at a time, from the unit templates on, until no template
 //! makes the sum cheaper, or the budget of the synthesis is spent: a dense matrix of many states would take minutes.
 //!
-//! Nothing is promised of the shares: whoever takes them tests the bound that they show. Stopping at any time is
-//! lawful, since what the shares leave goes to the unit templates.
+//! Stopping at any time is lawful, since what the shares leave goes to the unit templates.
 #![tactic(auto)]
 
 mod apart;

@@ -10,10 +10,8 @@
 //!
 //! # Inside
 //!
-//! A `Function` is valid by its type: its trees refer to inputs, states and earlier temps that are there, its ranges
-//! aren't empty, and it keeps the limits, so that whoever takes one asks for nothing. Contracts see it as the plain
-//! record of `fx_model`, whose meaning is `exact`. The trap: a tree keeps its operands in boxes, whose places `≡` would
-//! compare; so every clause speaks of `tree e`, never of `e`.
+//! Whoever takes a `Function` asks for nothing more. The trap: a tree keeps its operands in boxes, whose places `≡`
+//! would compare; so every clause speaks of `tree e`, never of `e`.
 #![tactic(auto)]
 
 mod count;

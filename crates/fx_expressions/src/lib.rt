@@ -2,12 +2,12 @@
 //!
 //! # Contract
 //!
-//! `expression` gives the tree of an expression with its height and nodes; one that is too high is never built.
+//! `expression` gives the tree of an expression with its height and nodes, exactly as `fx_grammar` says, or Memory. A
+//! tree that is too high is never built.
 //!
 //! # Inside
 //!
-//! `expression` gives exactly what the definition of `fx_grammar` gives, or that memory ran out. A tree that is too
-//! high is never built, and the recursion is that of at most 200 open parentheses.
+//! The recursion is that of at most 200 open parentheses.
 #![tactic(auto)]
 
 mod expr;

@@ -15,8 +15,7 @@
 //! from coarse enough ones down; then the same once more for errors, which points decide. A word that is too small for
 //! its range and error lowers its node's point, and errors are settled again.
 //!
-//! Nothing rests on what is found: it has passed `fx_checker::check`, whose proof doesn't look in here. The trap: a box
-//! that already holds its templates must not be widened again, else ranges of products run away.
+//! The trap: a box that already holds its templates must not be widened again, else ranges of products run away.
 #![tactic(auto)]
 
 mod attempt;

@@ -8,8 +8,8 @@
 //!
 //! # Inside
 //!
-//! A line without quotes, which is nearly every line, is cut at its commas where it stands: nothing is allocated, and
-//! `plain_line_law` says that `csv` would give the same fields. Any other line goes through `csv`.
+//! A line without quotes is cut at its commas where it stands, and nothing is allocated. Any other line goes through
+//! `csv`.
 #![tactic(auto)]
 
 mod line;

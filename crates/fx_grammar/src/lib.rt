@@ -8,9 +8,9 @@
 //!
 //! # Inside
 //!
-//! The definitions of `specs` say it, one for each rule of the grammar: each takes the tokens that are left and gives a
-//! value and the tokens behind it, or the first fault with its place. `specs/Sources.antt` ends with `parsed`, from
-//! bytes to the wanted function. Of code there is only `Head`, what the grammar sees of a token.
+//! Each definition of `specs` takes the tokens that are left and gives a value and the tokens behind it, or the first
+//! fault with its place. `specs/Sources.antt` ends with `parsed`, from bytes to the wanted function. Of code there is
+//! only `Head`, what the grammar sees of a token.
 //!
 //! The trap: where one token completes two faults, the order of the tests in a definition is the grammar's table.
 #![tactic(auto)]

@@ -19,13 +19,11 @@
 //!
 //! # Inside
 //!
-//! Grid `e` are the dyadics with at most `e` binary places, in lowest terms. `grid` to `wide` round down or up to it: a
-//! dyadic, a fraction, or a quotient whose floor may have more than 128 bits, of which the whole part and the binary
-//! places are kept apart. The others give the narrowest interval on a grid that meets some bounds, each end rounded
-//! apart, and only where both mantissas have at most 62 bits and its claims fit. The traps: a number formed here may be
-//! long and its lowest terms short, so nothing is dropped before it is in lowest terms; and an end is None only where
-//! its mantissa is longer than 62 bits, so a None is the definition's answer too, and never stands for an end that was
-//! hard to find.
+//! Of a quotient whose floor may have more than 128 bits the whole part and the binary places are kept apart. The ends
+//! of a narrowest interval are rounded apart, and only where both mantissas have at most 62 bits and its claims fit.
+//! The traps: a number formed here may be long and its lowest terms short, so nothing is dropped before it is in lowest
+//! terms; and an end is None only where its mantissa is longer than 62 bits, so a None is the definition's answer too,
+//! and never stands for an end that was hard to find.
 #![tactic(auto)]
 
 mod divide;

@@ -11,8 +11,8 @@
 //!
 //! What a certificate says of a range or an error is an interval, and each of its inequalities is one interval inside
 //! another. An operation holds the operation of any two members, and its ends are the very sums and products of ends,
-//! so that the mantissas' limits decide None and nothing is rounded but by `outward`. The trap: no order of the ends is
-//! kept. An interval whose lo is above its hi holds nothing, and is not refused.
+//! so that the mantissas' limits decide None and nothing is rounded but by `outward`. The trap: an interval whose lo is
+//! above its hi holds nothing, and is not refused.
 #![tactic(auto)]
 
 ghost use Rattle.std.specs.Prelude.{◌≡◌, ◌+◌, ◌≤◌, ◌^◌, IsTrue};

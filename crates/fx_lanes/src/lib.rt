@@ -12,9 +12,8 @@
 //!
 //! # Inside
 //!
-//! The words of a code in sixteen rows stand in the lanes of vectors, so that a code is matched once for all of them.
-//! Lane by lane it is what the machine's step gives of that row. The trap: `B` doesn't choose what holds the words, so
-//! whoever calls does.
+//! A code is matched once for all sixteen rows. The trap: `B` doesn't choose what holds the words, so whoever calls
+//! does.
 #![tactic(auto)]
 
 mod code;

@@ -1,4 +1,5 @@
-//! The texts of a demonstration, which have a line for each number: its source and its rows.
+//! The texts of a demonstration, which have a line for each number: its source, its rows, and the last line of its
+//! page.
 //!
 //! # Contract
 //!
@@ -9,10 +10,7 @@
 //!
 //! # Inside
 //!
-//! And the last line of its page.
-//!
-//! Each text is a definition, byte by byte (`specs/Source.antt`, `specs/Rows.antt`). The trap: two runs of one number
-//! print the same, so nothing here may depend on anything else.
+//! The trap: two runs of one number print the same, so nothing here may depend on anything else.
 #![tactic(auto)]
 
 mod last;

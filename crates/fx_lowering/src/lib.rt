@@ -13,13 +13,10 @@
 //! # Inside
 //!
 //! A node's code at a point is its operation, with the shifts that bring its operands' points to that one and, where it
-//! is a literal or a state, a word. `code_at` gives it, or None where words of the width have no such shift.
-//! `program_for` makes the program of a function with codes that were proved to be lawful, as those of a plan by rule
-//! are; `lawful_program` tests codes of which nothing is known, as those of a search, and makes it where they are
-//! lawful.
+//! is a literal or a state, a word.
 //!
 //! This stands apart since plans by rule and searches share it: a plan knows beforehand that each node has a code at
-//! its point, and a search asks. So nothing is asked of points here, and what a plan knows are premises of the one
+//! its point, and a search asks. So nothing is asked of points here, and what a plan knows are the premises of the one
 //! clause that says where there is a code. Two traps: which word a literal has is the caller's choice, the floor or the
 //! nearest, and `code_at` doesn't test whether the width has it; and a code's point follows from those of its operands,
 //! so that `lawful_program` tests these before it is computed.

@@ -20,11 +20,9 @@
 //! - `mutate` makes one to six random moves. A move is a few rules at one place (`moves`, `factor`, `cleaning`), or
 //!   any one rule (`mutation`).
 //!
-//! A draft has room for 1,024 steps, of which 64 are drawn at random from where it was taken up; a form and a cleaning
-//! follow a rule, and draw none.
+//! A form and a cleaning follow a rule, and draw no step.
 //!
-//! Every choice is drawn from a generator by `draw`, so that a seed gives the same drafts on every machine. Nothing is
-//! promised of a draft but that its function is lawful by its type; whoever certifies it has the steps made again.
+//! A seed gives the same drafts on every machine. Whoever certifies a draft has its steps made again.
 //!
 //! The traps: a rule that matches may be refused at a limit, so a move can end in its middle; what was done stays, and
 //! is a draft as good as any. And a step that undoes an earlier one takes that away only where no step between them is

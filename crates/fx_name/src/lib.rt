@@ -8,10 +8,8 @@
 //!
 //! # Inside
 //!
-//! A `Name` is one by its type, so that whoever holds one tests nothing: the reader of programs, the parser, and what a
-//! function is made of share it. The reserved words stand here once, for names and for the tokens of a source. What a
-//! name is says `specs/Names.antt` of `fx_model`. The trap: a word is taken whole before it is looked up, so `imports`
-//! is a name.
+//! Whoever holds a `Name` tests nothing: the reader of programs, the parser, and what a function is made of share it.
+//! The trap: a word is taken whole before it is looked up, so `imports` is a name.
 #![tactic(auto)]
 
 mod name;

@@ -13,8 +13,7 @@
 //!
 //! # Inside
 //!
-//! One event is one row of one unit. What is printed for a unit is what the program's run over that unit's rows alone
-//! prints, and every clause of a run over rows holds of each unit. The order of reads and writes is `fx_stream`'s.
+//! The order of reads and writes is `fx_stream`'s.
 #![tactic(auto)]
 
 mod fault;

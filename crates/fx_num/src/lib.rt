@@ -15,11 +15,10 @@
 //!
 //! # Inside
 //!
-//! A certificate is a list of inequalities between numbers `m / 2^e`. All of its arithmetic is done here, exactly: a
-//! call gives the very value, or None where a mantissa leaves 128 bits, and nothing wraps or rounds unless its name
-//! says so. These calls run for every inequality of every certificate, so none allocates and none goes over bits one by
-//! one. The trap: a value fits only if each mantissa does after its alignment too, so that a sum can be None though
-//! it's small.
+//! A certificate is a list of inequalities between numbers `m / 2^e`. All of its arithmetic is done here, and nothing
+//! wraps or rounds unless its name says so. These calls run for every inequality of every certificate, so none
+//! allocates and none goes over bits one by one. The trap: a value fits only if each mantissa does after its alignment
+//! too, so that a sum can be None though it's small.
 #![tactic(auto)]
 
 mod dyadic;

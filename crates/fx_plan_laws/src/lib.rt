@@ -3,9 +3,9 @@
 //!
 //! # Contract
 //!
-//! Laws over definitions; nothing in it runs. **Sizes**: the plain plan and the calm plan (below) share powers of two,
-//! the search for the first of them, numbers as narrow as the code's, and which demands a power of two allows. A
-//! formula is *small* where its mantissas fit and the last, counted at one exponent, is at most a given whole number;
+//! Laws over definitions. **Sizes**: the plain plan and the calm plan share powers of two, the search for the first of
+//! them, numbers as narrow as the code's, and which demands a power of two allows. A formula is *small* where its
+//! mantissas fit and the last, counted at one exponent, is at most a given whole number (`IsSmall` of `proofs/Sizes`);
 //! sums add these numbers and products multiply them, so that a claim is met by counting. `first_true_law`: a search
 //! finds the first place at which its test is true. **Calm functions**: a function with states and without `val` is
 //! *calm* at a width where its results are sums, differences and negations of at most 64 literals, inputs, states and
@@ -20,24 +20,10 @@
 //!
 //! # Inside
 //!
-//! A formula is small where all its mantissas fit and the last, at one exponent, is at most a whole number (`IsSmall`
-//! of `proofs/Sizes`): sums add these numbers and products multiply them, and they decide comparisons (`Claims`). The
-//! plain plan and the calm plan are counted so. The trap: a comparison beside a fraction fits only where its
-//! denominator is narrow (`specs/Narrow`).
-//!
-//! A function with states is calm where its results are short sums of literals times inputs and states, a step halves
-//! the states, and seven numbers leave room (`specs/Calm`). Then bounds that count units, rounded upward at each node
-//! (`specs/Bounds`), come to at most what the terms are worth and some units for each: a next state keeps its boxes,
-//! and no output leaves its own (`proofs/Totals`). Sizes are exact fractions, and only their sums are compared with
-//! powers of two.
-//!
-//! The calm plan is a program and a certificate for each calm function and each way to round. All words have one point,
-//! and two whole numbers a node say all that the certificate holds: the value lies within so many units of that point,
-//! and the error within so many (`specs/CalmPlan`). Templates are unit templates, each with the box that its state
-//! keeps. One certificate serves both ways to round.
-//!
 //! Nothing here runs. What a plan meets is said by a law over the definitions, so whoever makes it needs no check of
-//! it.
+//! it. Templates of the calm plan are unit templates, each with the box that its state keeps, and one certificate
+//! serves both ways to round. Sizes are exact fractions, and only their sums are compared with powers of two. The trap:
+//! a comparison beside a fraction fits only where its denominator is narrow (`specs/Narrow`).
 #![tactic(auto)]
 
 ghost use Rattle.fx_plan_laws.specs.Searches.{FirstTrueLaw};

@@ -2,22 +2,17 @@
 //!
 //! # Contract
 //!
-//! *Which templates, with which bounds?* `propose_templates` builds chains by `fx_reach`, closes them on the unit
-//! templates, on themselves or by `fx_exchange`, and solves for all bounds together, from their fixed point outward,
-//! until one step keeps them. Where chains alone lose too much or find no place, a ladder of rooms closes them on
-//! templates of poles too, and where that isn't good either, chains of rising room are tried. It keeps its templates
-//! for a step that differs only in what drives it. Nothing is promised of what is proposed, and whoever takes it tests
-//! it: `fx_template` with clauses, `fx_feedback` by the checker.
+//! `propose_templates` builds chains by `fx_reach`, closes them on the unit templates, on themselves or by
+//! `fx_exchange`, and solves for all bounds together, from their fixed point outward, until one step keeps them. Where
+//! chains alone lose too much or find no place, a ladder of rooms closes them on templates of poles too, and where that
+//! isn't good either, chains of rising room are tried. It keeps its templates for a step that differs only in what
+//! drives it. Nothing is promised of what is proposed, and whoever takes it tests it: `fx_template` with clauses,
+//! `fx_feedback` by the checker.
 //!
 //! # Inside
 //!
-//! Chains of images are built as long as there is place, closed on the unit templates, on themselves, or by an exchange
-//! of a few templates for others; then the bounds of all templates are solved for together, from their reaches outward
-//! until one step keeps them, and lowered again. Where chains don't find their place, or lose too much, a ladder of
-//! rising rooms closes them on templates of the poles, too: each pole's plane is mapped to itself, so that a chain is
-//! followed only until its other poles have faded.
-//!
-//! Nothing is promised of what is proposed, and nothing rests on it: whoever takes it tests it.
+//! Each pole's plane is mapped to itself, so that a chain that is closed on templates of poles is followed only until
+//! its other poles have faded.
 #![tactic(auto)]
 
 mod build;

@@ -17,9 +17,8 @@
 //! whether a node has a code at a point (`has_code`). What the errors are then is worked out by `fx_planning`, of the
 //! same numbers (`fx_span`).
 //!
-//! Nothing is promised but that each call returns, and nothing rests on what is found. A mantissa that leaves 128 bits
-//! ends the attempt, never the search, and `Grids` has coarser grids to take then. The trap: a point that a code can't
-//! have, as where a shift leaves its limits, is found before any error is.
+//! A mantissa that leaves 128 bits ends the attempt, never the search, and `Grids` has coarser grids to take then. The
+//! trap: a point that a code can't have, as where a shift leaves its limits, is found before any error is.
 #![tactic(auto)]
 
 mod code;

@@ -3,16 +3,16 @@
 //!
 //! # Contract
 //!
-//! Rationals without bound; dyadics, intervals and decimals as they are written. `equality_law`, `order_law`,
-//! `operations_law`, `quotient_law`, `monotone_law`, `interval_law`, `error_law`, `floor_law`, `scaling_law`,
-//! `lowest_law`. `dyadic_laws`: the value of a dyadic sum is the sum of the values, a rounding is the nearest on its
-//! side, a sum, difference or product of intervals holds that of any member of the one and any of the other.
+//! `equality_law`, `order_law`, `operations_law`, `quotient_law`, `monotone_law`, `interval_law`, `error_law`,
+//! `floor_law`, `scaling_law`, `lowest_law`. `dyadic_laws`: the value of a dyadic sum is the sum of the values, a
+//! rounding is the nearest on its side, a sum, difference or product of intervals holds that of any member of the one
+//! and any of the other.
 //!
 //! # Inside
 //!
-//! All of it is for contracts and proofs, so that nothing here runs. `specs/` has the definitions; the functions below
-//! have empty bodies, and each carries a law that the crates above may believe. A polynomial identity over rationals is
-//! one line of a proof (`proofs/Ring`): cross multiplication makes it one over whole numbers.
+//! Nothing here runs: the functions below have empty bodies, and each carries a law of the definitions of `specs/`. A
+//! polynomial identity over rationals is one line of a proof (`proofs/Ring`): cross multiplication makes it one over
+//! whole numbers.
 #![tactic(auto)]
 
 pub mod dyadic_laws;

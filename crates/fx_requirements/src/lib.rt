@@ -2,14 +2,13 @@
 //!
 //! # Contract
 //!
-//! What a function says of its inputs and outputs: `require` gives the inputs with their ranges, `maybe_ensuring` what
-//! is said of the outputs, and `demands_at` makes demands of that, or finds ends in the wrong order.
+//! `require` gives the inputs with their ranges, `maybe_ensuring` what is said of the outputs, and `demands_at` makes
+//! demands of that, or finds ends in the wrong order: exactly as `fx_grammar` says, or Memory.
 //!
 //! # Inside
 //!
 //! Both speak of subjects, inputs or outputs by name, of which each learns a lower end, an upper end and an error at
-//! most once. `require` gives the inputs with their ranges, `maybe_ensuring` what is said of the outputs and
-//! `demands_at` the demands that it makes, exactly as the definitions of `fx_grammar` do, or that memory ran out.
+//! most once.
 //!
 //! The trap: where one token completes two faults, the order of two tests is the grammar's table; no test may move.
 #![tactic(auto)]

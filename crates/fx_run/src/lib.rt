@@ -13,9 +13,8 @@
 //!
 //! # Inside
 //!
-//! What is printed is the page of the machine's own run over the given rows, and for all true rows the exact run is
-//! there and each output within its bound. The order of reads and writes is `fx_stream`'s, and that the machine isn't
-//! stuck is the soundness theorem's; here the two meet.
+//! The order of reads and writes is `fx_stream`'s, and that the machine isn't stuck is the soundness theorem's; here
+//! the two meet.
 #![tactic(auto)]
 
 mod block;

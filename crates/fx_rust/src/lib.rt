@@ -4,13 +4,13 @@
 //!
 //! `rust_text` writes the text of a program at given widths: it is that of the program's statements (`text`), and does
 //! its steps wherever each word lies in its width (`does`); the only refusal is Memory. What the text is, and what it
-//! does, stands in `fx_statements`. The text doesn't say the states' start words: whoever calls it brings them.
+//! does, stands in `fx_statements`.
 //!
 //! # Inside
 //!
-//! What the text is and what it does stands in `fx_statements`; here it is written, piece by piece, so that a kind of
-//! code is one function in `value`. A way to round is asked for in two places, before what is rounded and behind it
-//! (`rounding`). The trap: the text says nothing of the states' start words, so whoever calls it brings them.
+//! The text is written piece by piece, so that a kind of code is one function in `value`. A way to round is asked for
+//! in two places, before what is rounded and behind it (`rounding`). The trap: the text says nothing of the states'
+//! start words, so whoever calls it brings them.
 #![tactic(auto)]
 
 mod piece;

@@ -2,9 +2,9 @@
 //!
 //! # Contract
 //!
-//! `search` tries as many forms of a function without states as it is asked for, fewer of one with more than 500 nodes,
-//! for a small bound: each a draft of `fx_moves`, with ranges of `fx_ranges`, points of `fx_points` and a plan of
-//! `fx_planning`. Its answer has the same clause as that of `fx_feedback`. How small its bounds are, no clause says.
+//! `search` tries as many forms of a function without states as it is asked for, fewer of one with more than 500 nodes.
+//! Its answer has the clause of `fx_feedback`'s: it has passed `fx_checker::check`, and the function, its name, the
+//! width and how codes round are those that were asked for. How small its bounds are, no clause says.
 //!
 //! # Inside
 //!
@@ -21,12 +21,9 @@
 //! - After 1, 2, 5, 10, 20, .. tries the best are polished (`polish`), each point, each word and the centres of each
 //!   product moved by a little, and written. Where the checker or a text refuses it, its numbers left 128 bits, and it
 //!   is made again on coarser grids (`certify`).
+//!
 //! What is certified stays until it is bettered, and no try depends on how many follow, so more tries give no worse
 //! answer.
-//!
-//! Nothing rests on any of this: what is found has passed `fx_checker::check`. So `search` promises that the function,
-//! its name, the width and how codes round are those that were asked for, and that it returns. How good its answers
-//! are, no clause says.
 //!
 //! The trap: a draft's steps are for the source's function, and its nodes for its own.
 #![tactic(auto)]

@@ -9,14 +9,12 @@
 //!
 //! # Inside
 //!
-//! A certificate's intervals have a dyadic for each end. Here both ends share an exponent (`Span`), since a search adds
-//! and compares more than it writes. `Grids` says with how many places a range or an error is kept. `Real` and
-//! `RealSpan` only rank choices. Fractions and decimals come onto grids (`range_between`), with the words of literals
+//! A certificate's intervals have a dyadic for each end. Here both ends share an exponent, since a search adds and
+//! compares more than it writes. Fractions and decimals come onto grids (`range_between`), with the words of literals
 //! (`nearest`), what those err (`word_error`), and what a width holds (`fits_word`).
 //!
-//! Nothing is promised but that each call returns. No number has a floating point. Mantissas have 128 bits, and one
-//! that leaves them gives None, which ends an attempt and never the search. The trap: intervals are exact, and grow by
-//! each product, unless somebody rounds them (`Grids::rounded`, `Span::outward`).
+//! No number has a floating point. The trap: intervals are exact, and grow by each product, unless somebody rounds them
+//! (`Grids::rounded`, `Span::outward`).
 #![tactic(auto)]
 
 mod grid;

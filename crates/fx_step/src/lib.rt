@@ -8,9 +8,8 @@
 //!
 //! # Inside
 //!
-//! A `Step` names a tree, a path in it and a rule. What a step does to a function is the work of `fx_rewrite`, which
-//! has the rules as code too: who only writes or keeps certificates doesn't need it. The trap: a step need not lead
-//! anywhere. Whether its place, its path and its rule are there, who applies it finds out.
+//! Who only writes or keeps certificates needs no rule. The trap: a step need not lead anywhere. Whether its place, its
+//! path and its rule are there, who applies it finds out.
 #![tactic(auto)]
 
 mod step;

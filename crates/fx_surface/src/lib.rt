@@ -3,8 +3,7 @@
 //! # Contract
 //!
 //! It promises nothing: tests that call, where there is memory, what no command does, with values that were worked out
-//! by hand or in another language. Want of memory is a lawful answer of each such call, so that no clause shows that
-//! another is ever given. No crate stands on it.
+//! by hand or in another language. No crate stands on it.
 //!
 //! # Inside
 //!

@@ -2,10 +2,9 @@
 //!
 //! # Contract
 //!
-//! The same grammar as relations by cases, and the proof that both agree: `read_is_spelled` and `spelled_is_read` (what
-//! is read are exactly the sources of the grammar, with the functions that it gives them), `one_meaning` (a source has
-//! no second list of functions), `text_law` and `wanted_law` (the same of texts and of bytes with a wanted name).
-//! Nothing in it runs.
+//! Relations and readers agree: `read_is_spelled` and `spelled_is_read` (what is read are exactly the sources of the
+//! grammar, with the functions that it gives them), `one_meaning` (a source has no second list of functions),
+//! `text_law` and `wanted_law` (the same of texts and of bytes with a wanted name). Nothing in it runs.
 //!
 //! # Inside
 //!

@@ -10,11 +10,8 @@
 //! # Inside
 //!
 //! A combination of the variables begins with a rest and goes on with a coefficient times each; inputs stand by their
-//! own intervals, states by shares of templates and, for what the shares leave, by the states' own templates.
-//! `node_fault` is the first fault of a node's five conditions, with or without shares; `template_judgement`,
-//! `start_judgement` and `start_template_judgement` say what the other conditions come to. Each call's clause is the
-//! condition of the definitions. The trap: shares are taken in the order in which they are written, since what fits
-//! depends on it.
+//! own intervals, states by shares of templates and, for what the shares leave, by the states' own templates. The trap:
+//! shares are taken in the order in which they are written, since what fits depends on it.
 #![tactic(auto)]
 
 mod bound;

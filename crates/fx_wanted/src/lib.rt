@@ -8,9 +8,8 @@
 //!
 //! # Inside
 //!
-//! One record goes from the words of a call through the attempts and the search into what is promised of the answer, so
-//! that whatever else may be asked for is one field more. The trap: a search may be given fewer tries than were asked
-//! for, but what is promised of the attempts is promised of all of them.
+//! The trap: a search may be given fewer tries than were asked for, but what is promised of the attempts is promised of
+//! all of them.
 #![tactic(auto)]
 
 mod wanted;

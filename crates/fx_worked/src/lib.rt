@@ -8,7 +8,6 @@
 //!
 //! # Inside
 //!
-//! Nothing runs here, and no crate stands on this one. A row of `proofs/` names a definition, its arguments and its
-//! value, which is that of a program in another language, so that the gate refuses a wrong definition; and a row more
-//! has no crate proved anew.
+//! A row of `proofs/` names a definition, its arguments and its value, which is that of a program in another language,
+//! so that the gate refuses a wrong definition.
 #![tactic(auto)]
