@@ -116,12 +116,10 @@ def contract(head):
 
 
 def wrapped(lines):
-    """Returns a paragraph's lines as the page has them: a list as it stands, other words up to 120 a line, and names of
-    pages as links."""
-    linked = [LINK.sub(r"[\1](\1)", line) for line in lines]
-    if lines[0].startswith("- "):
-        return linked
-    return textwrap.wrap(" ".join(linked), 120, break_long_words=False, break_on_hyphens=False)
+    """Returns a paragraph, or each item of a list, in lines of up to 120, with the names of pages as links."""
+    text = LINK.sub(r"[\1](\1)", " ".join(line.strip() if not line.startswith("- ") else f"\n{line}" for line in lines))
+    return [line for part in text.strip().split("\n") for line in textwrap.wrap(
+        part, 120, subsequent_indent="  " * part.startswith("- "), break_long_words=False, break_on_hyphens=False)]
 
 
 def entry(crate):

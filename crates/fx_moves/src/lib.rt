@@ -17,8 +17,8 @@
 //!   is left (`factor`, `cleaning`). That alone mostly brings the greatest gain.
 //! - `form` begins at the source too, and draws nothing: all is expanded, and the variables are taken out in one of
 //!   some orders, which gives Horner's scheme by each of them (`forms`, `orders`).
-//! - `mutate` makes one to six random moves. A move is a few rules at one place (`moves`, `factor`, `cleaning`), or
-//!   any one rule (`mutation`).
+//! - `mutate` makes one to six random moves. A move is a few rules at one place (`moves`, `factor`, `cleaning`), or any
+//!   one rule (`mutation`).
 //!
 //! A form and a cleaning follow a rule, and draw no step.
 //!

@@ -11,13 +11,13 @@
 //! first the ranges (`fx_ranges`), then a point for each node, which is another crate's, then what stands here. What is
 //! written of a plan is the business of `fx_writing`.
 //!
-//! - `find_plan` makes the codes at the points and their errors, by the checker's own formulas rounded outward once a node.
-//!   Floors err to one side only, so the words of literals are worth choosing: once each is the nearest, once it is moved
-//!   so that what it goes into has its error's middle at zero; and each output is tuned by the one literal whose slope
-//!   promises most. Where an output leaves an end that is demanded, a literal that brings it back is moved first. The
-//!   cheaper plan stands.
-//! - Where words are too small for a range with its error, the plan names their nodes (`Plan::small`), and the caller takes
-//!   coarser points. `Cost` orders plans, and what fails by how far it came.
+//! - `find_plan` makes the codes at the points and their errors, by the checker's own formulas rounded outward once a
+//!   node. Floors err to one side only, so the words of literals are worth choosing: once each is the nearest, once it
+//!   is moved so that what it goes into has its error's middle at zero; and each output is tuned by the one literal
+//!   whose slope promises most. Where an output leaves an end that is demanded, a literal that brings it back is moved
+//!   first. The cheaper plan stands.
+//! - Where words are too small for a range with its error, the plan names their nodes (`Plan::small`), and the caller
+//!   takes coarser points. `Cost` orders plans, and what fails by how far it came.
 //!
 //! Each call takes linear time in nodes by inputs. A mantissa that leaves 128 bits ends the attempt, never the search.
 //!
