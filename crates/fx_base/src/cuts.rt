@@ -46,7 +46,7 @@ pub(crate) fn line_end(bytes: &[u8]) -> Option<usize>
     memchr(b'\n', bytes)
 }
 
-/// The same, where none stands before a place. It looks at the bytes from there on alone.
+/// Where a line ends, of bytes none of which ends one before `seen`. It looks at the bytes from there on alone.
 pub(crate) fn line_end_from(bytes: &[u8], seen: usize) -> Option<usize>
     requires within { seen ≤ length bytes.now }
     requires before { position (λ b. b == 10) (take seen bytes.now) ≡ None }

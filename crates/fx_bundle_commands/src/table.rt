@@ -91,7 +91,7 @@ fn name_in(codes: &[Code], n: u32) -> &'static str
     }
 }
 
-/// The same of a program.
+/// The name of instruction `n` of a program.
 pub(crate) fn name_at(program: &Program, n: u32) -> &'static str
     ensures { result.now ≡ at [] (map instruction_name program.now.codes) n }
 {

@@ -54,7 +54,7 @@ pub fn least(
     Ok(w)
 }
 
-/// The same for two limits together.
+/// The least number from `first` on at which two limits hold together; that behind `last` where there is none.
 pub fn least_of_both(
     summands: &mut Vec<Summand>,
     function: &Function,

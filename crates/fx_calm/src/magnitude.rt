@@ -112,7 +112,7 @@ pub fn reach(input: &Input) -> Magnitude
     )
 }
 
-/// The same of input `k`; nothing where there is none.
+/// What no true value of input `k` is above, without its sign; nothing where there is none.
 pub fn reach_at(function: &Function, k: u32) -> Magnitude
     ensures weight { IsWeight result }
     ensures value { magnitude_value result ≡ reach_at function.now k }

@@ -38,8 +38,8 @@ pub trait Rule<'a> {
         ensures on { IfOk result (λ x. can_go_on self.now x.0) };
 }
 
-/// The same. A loop's variables come from a `?`, since the borrow checker covers no loop over a parameter of this kind
-/// yet.
+/// What is kept and the tokens, as they begin. A loop's variables come from a `?`, since the borrow checker covers no
+/// loop over a parameter of this kind yet.
 fn begun<'t, 'a, K: Drop>(kept: K, tokens: &'t [Token<'a>]) -> Parsed<'t, 'a, K>
     ensures value { IfOk result (λ x. (x.0 ≡ kept) × (x.1.now ≡ tokens.now)) }
     ensures ok { IsOk result }

@@ -177,7 +177,7 @@ fn column_sums(alloc: Global, rows: &[Vec<f64>]) -> Result<Vec<f64>, Memory> {
     Ok(sums)
 }
 
-/// The same numbers, of which none is below 0.
+/// Puts 0 in the place of each number below it.
 fn not_negative(numbers: &mut Vec<f64>) {
     for x in numbers.iter_mut() {
         if *x < 0.0 {

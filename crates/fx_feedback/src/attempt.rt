@@ -160,7 +160,7 @@ fn attempted(
     }
 }
 
-/// The same on the finest grids on which there is one.
+/// An attempt on the finest grids on which there is one.
 pub fn certified(
     alloc: Global,
     task: Task<'_>,

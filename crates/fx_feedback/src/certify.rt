@@ -65,7 +65,7 @@ fn better(task: Task<'_>, found: Certified, other: Certified) -> Certified
     }
 }
 
-/// The same where there may be no other one.
+/// The program with the better bounds, the first one where neither is better or there is no other.
 fn better_of(task: Task<'_>, found: Certified, other: Option<Certified>) -> Certified
     requires found { IsAnswerFor task.wanted task.source.now found }
     requires other { IsOffered task.wanted task.source.now other }

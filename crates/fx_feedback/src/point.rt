@@ -52,7 +52,8 @@ fn greatest(task: Task<'_>, n: usize, points: &[i32], cap: i32) -> Option<i32> {
     None
 }
 
-/// The same, but of a product that has no code, because its operands are too fine, the cap itself.
+/// The greatest point from a cap down at which a node has a code; of a product whose operands are too fine for one, the
+/// cap.
 fn greatest_or_cap(task: Task<'_>, n: usize, points: &[i32], cap: i32) -> Option<i32> {
     match greatest(task, n, points, cap) {
         Some(point) => Some(point),

@@ -90,7 +90,7 @@ pub fn plain_line_law(line: &[u8])
     let _ = line;
 }
 
-/// The same of a line that doesn't begin with the mark.
+/// A line without quotes, line ends and mark has the fields between its commas.
 pub fn unmarked_line_law(line: &[u8])
     requires plain { list_any is_special line.now ≡ false }
     requires unmarked { has_mark line.now ≡ false }

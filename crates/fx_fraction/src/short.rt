@@ -40,8 +40,8 @@ fn few_digits(start: u64, text: &[u8]) -> (u64, usize)
     (now, text.len())
 }
 
-/// The same of the digits behind a point, where a point stands first: what they come to, how many they are, and where
-/// they end.
+/// The digits behind a point, where a point stands first, after those that came to `start`: what they come to, how
+/// many they are, and where they end.
 fn few_part(start: u64, text: &[u8]) -> (u64, usize, usize)
     requires { IsBelowTens start (length text.now) }
     ensures { result.0 < 2 ^ 62 → IsShortPart start text.now result }
@@ -101,7 +101,7 @@ fn first_number(body: &[u8]) -> Option<ShortNumber>
     })
 }
 
-/// The same, with what is kept of the digits.
+/// The number that a text of few bytes spells, with what is kept of its digits. None where it is long, or none.
 pub fn read_short(body: &[u8]) -> Option<Mantissa>
     ensures { IfSome result (λ m. IsMantissa body.now m.digits m.places m.end) }
 {

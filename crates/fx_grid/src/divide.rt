@@ -44,7 +44,7 @@ fn half_limit() -> i128
     1 << 126
 }
 
-/// The same as `quotient_less`, of the other sign.
+/// What `quotient_less` gives of the mantissa with the other sign.
 fn opposite_less(m: i128, p: u32, d: u128, c: u32, point: i32) -> Option<Dyadic>
     requires point { IsPoint point }
     requires some { 0 < d }
@@ -234,7 +234,7 @@ fn unit_quotient(a: Option<Interval>, b: Interval, point: i32) -> Result<Interva
     }
 }
 
-/// The same after the test of the exact divisor `g` and the machine's `b`.
+/// The error of a quotient, after the test of the exact divisor `g` and the machine's `b`.
 fn cleared(g: Interval, a: Option<Interval>, b: Interval, point: i32) -> Result<Interval, Why>
     requires point { IsPoint point }
     ensures { (s t : Span) → FormsSpan a s → FormsSpan (Some b) t → IsShortSpan 512 t →

@@ -83,7 +83,7 @@ fn twice(w: i128) -> i128
     w + w
 }
 
-/// And one more.
+/// Twice a whole part and one more.
 fn twice_more(w: i128) -> i128
     requires { unsigned_abs w < 2 ^ 66 }
     ensures { result ≡ (w +ℤ w) +ℤ pos 1 }
@@ -154,7 +154,7 @@ fn lowered(n: i128, d: u128, j: u32, point: i32) -> Option<Dyadic>
     less_unit(w, joined(l, f, e - j, e), point)
 }
 
-/// The same of `n / (d * 2^(i + e))`, on grid `e`.
+/// Of `n / (d * 2^(i + e))`, the greatest on grid `e` that isn't above it, less a unit.
 fn shifted(n: i128, d: u128, i: u32, point: i32) -> Option<Dyadic>
     requires point { IsPoint point }
     requires some { 0 < d }

@@ -40,7 +40,7 @@ pub fn places(r: u128, d: u128, s: u32) -> u128
     f
 }
 
-/// The same with a sign.
+/// A number without sign as one with a sign.
 pub fn signed(f: u128) -> i128
     requires { f < 2 ^ 127 }
     ensures { result ≡ pos f }

@@ -18,7 +18,7 @@ pub trait SideBySide<const B: u32>: Copy {
 
     ghost words: { Self → List ℤ };
 
-    /// The same word in each lane.
+    /// One word, in each lane.
     fn splat(value: i64) -> Self
         requires room { HasRoom }
         requires word { IsWord B value }

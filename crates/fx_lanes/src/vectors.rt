@@ -56,7 +56,7 @@ impl Model for Numbers64 {
 }
 
 impl Numbers32 {
-    /// The same number in each lane.
+    /// One number, in each lane.
     #[inline]
     pub(crate) fn all(x: i32) -> Numbers32
         ensures { result ≡ replicate 16 x }
@@ -190,7 +190,7 @@ impl Numbers64 {
         self.lanes.to_array()
     }
 
-    /// The same number in each lane.
+    /// One number, in each lane.
     #[inline]
     pub(crate) fn all(x: i64) -> Numbers64
         ensures { result ≡ replicate 16 x }
@@ -273,7 +273,7 @@ impl Numbers64 {
         twice.minus(twice.lowered(1))
     }
 
-    /// The same where each has room for a half.
+    /// The whole number nearest to each by 2^s, of two as near the greater, where each has room for a half.
     #[inline]
     pub(crate) fn nearest_with_room(self, s: u32) -> Numbers64
         requires low { 1 ≤ s }

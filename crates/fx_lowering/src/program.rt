@@ -68,7 +68,7 @@ pub(crate) fn program_at(
     ))
 }
 
-/// The same where the points aren't at hand.
+/// The program of a function with these codes, whose points are worked out here.
 pub fn program_for(
     alloc: Global,
     function: &Function,

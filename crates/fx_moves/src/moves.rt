@@ -65,7 +65,7 @@ pub fn is_minus(e: &Expr) -> Option<bool> {
     }
 }
 
-/// The same of the tree at a site, and of one of its operands.
+/// Whether the tree at a site, and one of its operands, are differences.
 fn signs(draft: &Draft, site: &Site, number: u8) -> Option<(bool, bool)> {
     let e = draft.at(site)?;
     Some((is_minus(e)?, is_minus(operand(e, number)?)?))

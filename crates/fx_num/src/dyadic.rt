@@ -51,7 +51,7 @@ impl Dyadic {
         }
     }
 
-    /// The same of any exponent. None where that is above 2^20.
+    /// `m / 2^e` of any exponent, with the exponent 0 where m is zero. None where it is above 2^20.
     pub fn checked(m: i128, e: u32) -> Option<Dyadic>
         ensures { SomeIff result (e ≤ 2 ^ 20) (dyadic m e) }
     {

@@ -132,7 +132,7 @@ fn shift_loss(round: Round, s: i64, point: i32) -> Option<Span> {
     }
 }
 
-/// The same of an operand of a sum, which is always rounded down.
+/// What a shift of an operand of a sum loses, which is always rounded down.
 fn term_loss(s: i32, point: i32) -> Option<Span> {
     shift_loss(Round::Floor, i64::from(s), point)
 }

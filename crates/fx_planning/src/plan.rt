@@ -81,7 +81,7 @@ fn planned(
     }))
 }
 
-/// The same, and then tuned.
+/// The plan of these codes, whose literals' words are moved where that is wanted, and then tuned.
 fn finished(
     alloc: Global,
     setting: &Setting<'_>,

@@ -95,7 +95,7 @@ fn entry_of(task: Task, before: &[Entry], n: usize, cap: i8) -> Option<Entry> {
     }
 }
 
-/// The same, with one point for all uses, or None where no point is left.
+/// The points that node `n` may have, a single one where it has several uses, or None where no point is left.
 fn settled_entry(task: Task, before: &[Entry], n: usize, cap: i8) -> Option<Entry> {
     let entry = entry_of(task, before, n, cap)?;
     let best = entry.best()?;

@@ -31,7 +31,7 @@ impl Choice {
         }
     }
 
-    /// The same with the operands' points exchanged.
+    /// The choice with the operands' points exchanged.
     pub fn turned(self) -> Choice {
         Choice {
             left: self.right,

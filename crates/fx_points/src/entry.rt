@@ -35,7 +35,7 @@ impl Exact {
         })
     }
 
-    /// The same up to a cap.
+    /// An exact literal's points up to a cap.
     fn capped(&self, cap: i32) -> Option<Exact> {
         let finest = self.within(i32::from(self.least), cap)?;
         Some(Exact {

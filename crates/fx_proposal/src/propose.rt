@@ -144,7 +144,7 @@ pub fn propose_templates(
     propose_templates_within(alloc, t, side, starts, before, &mut Budget::whole())
 }
 
-/// The same, with no more work for exchanges than the budget allows.
+/// Templates of the one kind that might be kept, found with no more work for exchanges than the budget allows.
 pub fn propose_templates_within(
     alloc: Global,
     t: &Transition,

@@ -346,7 +346,7 @@ pub fn find_ranges_in(
     find_centred_ranges(alloc, function, nodes, grids, boxes, &[])
 }
 
-/// The same with the centres of each node's operands. Beyond the list's end they are in the middle.
+/// The ranges of all nodes, with the centres of each node's operands. Beyond the list's end they are in the middle.
 pub fn find_centred_ranges(
     alloc: Global,
     function: &Function,

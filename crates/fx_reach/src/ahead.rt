@@ -91,7 +91,7 @@ fn total_size(template: &[i128]) -> u128 {
     total
 }
 
-/// The same of the ends on one side.
+/// Turns the sums of the drives before each template into those behind it, on one side.
 fn turn_ends(sums: &mut Vec<i128>, total: i128) -> Option<()> {
     for sum in sums.iter_mut() {
         *sum = total.checked_sub(*sum)?;

@@ -72,7 +72,7 @@ pub fn magnitude(x: Interval) -> Option<i32> {
     greater(magnitude_of(x.lo), magnitude_of(x.hi))
 }
 
-/// The same of one number.
+/// One more than the exponent of the greatest power of two that isn't above a number's size; None for zero.
 fn magnitude_of(d: Dyadic) -> Option<i32> {
     if d.m == 0 {
         return None;

@@ -85,7 +85,7 @@ fn put_product(out: &mut Vec<u8>, a: u32, b: u32) -> Result<(), AllocError>
     put(out, b")")
 }
 
-/// The same, shifted to the right and rounded.
+/// A product of two words, shifted to the right and rounded.
 fn put_rounded_product(
     out: &mut Vec<u8>,
     r: Round,

@@ -101,7 +101,7 @@ fn fact_of(function: &Function, node: &Node, ranges: &Ranges, n: usize, cap: i32
     }
 }
 
-/// The same of each node, with these caps.
+/// What the choice of points reads of each node, with these caps.
 fn facts_of(
     alloc: Global,
     function: &Function,

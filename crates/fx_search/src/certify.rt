@@ -38,7 +38,7 @@ fn judged_after(
     Ok(certified)
 }
 
-/// The same of a draft, on grids, polished by looking at so many plans.
+/// What the checker makes of a draft, on grids, polished by looking at so many plans.
 fn certified_on(
     alloc: Global,
     task: Task<'_>,

@@ -137,7 +137,7 @@ fn suited(
     }
 }
 
-/// The same of a draft.
+/// The certified program of a draft, polished, unless a bound is above the one that stands.
 fn suited_draft(
     alloc: Global,
     task: Task<'_>,

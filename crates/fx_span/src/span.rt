@@ -58,7 +58,7 @@ impl Span {
         }
     }
 
-    /// The same on a grid that isn't coarser.
+    /// The span on a grid that isn't coarser.
     fn raised(self, e: u32) -> Option<Span> {
         if self.e == e {
             return Some(self);

@@ -61,7 +61,7 @@ fn are_short_shares(shares: &[Share]) -> bool
     true
 }
 
-/// The same, if there are shares.
+/// Whether each share is taken a number of times that has so few places, if there are shares.
 fn are_short_if_any(shares: &Option<Items<Share>>) -> bool
     ensures { IsTrue result ↔ AreShortSharesIfAny (option_map shares_of shares.now) }
 {
@@ -84,7 +84,7 @@ fn is_short_form(form: &Form) -> bool
         && are_short_if_any(&form.error_by)
 }
 
-/// The same, if there is a form.
+/// Whether all numbers of a form have so few places, if there is one.
 fn is_short_form_if_any(form: &Option<Form>) -> bool
     ensures { IsTrue result ↔ IsShortFormIfAny (option_map form_view form.now) }
 {

@@ -157,7 +157,8 @@ fn quick_left(
     less_raised(left, *short, coef)
 }
 
-/// The same of any numbers. It stands outside of the loop, which has few that aren't quick.
+/// What so many times a template leave of coefficient `j`, of any numbers. It stands outside of the loop, which has few
+/// that aren't quick.
 #[inline(never)]
 fn left_of(
     coefs: &[Option<Dyadic>],

@@ -29,7 +29,7 @@ fn box_of(starts: &[StartBox], side: &Side, s: u32) -> Option<Interval>
     interval(box_interval(starts, side, s))
 }
 
-/// The same as it is written.
+/// The box of state `s`, as it is written.
 pub fn box_interval(starts: &[StartBox], side: &Side, s: u32) -> Interval
     ensures { span result ≡ box_at side.now (boxes_in starts.now) s }
 {

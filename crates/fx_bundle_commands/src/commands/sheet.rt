@@ -25,7 +25,7 @@ use std::alloc::Global;
 /// A text that is printed of an accepted bundle.
 #[derive(Clone, Copy, Debug, PartialEq, Eq)]
 pub enum Sheet {
-    /// That it is accepted, and the bound of each output.
+    /// The verdict that a bundle is accepted, and the bound of each output.
     Bounds,
     /// Each code with its intervals, and the bound of each output.
     Table,
