@@ -1,7 +1,8 @@
 //! A plan of given ranges and points.
 
 use crate::sources::{GREAT, function_of};
-use fx_analysis::{points, ranges, roundoff};
+use fx_affine::roundoff;
+use fx_analysis::{points, ranges};
 use fx_expr::Items;
 use fx_flat::flatten;
 use fx_interval::Interval;
