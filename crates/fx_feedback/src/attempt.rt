@@ -168,7 +168,7 @@ pub fn certified(
 ) -> Result<Option<Certified>, Memory>
     ensures { IfOk result (IsOffered task.entry.wanted task.entry.source.now) }
 {
-    for grids in [Grids::FINE, Grids::COARSE, Grids::COARSEST] {
+    for grids in [Grids::FINE, Grids::COARSE, Grids::COARSEST, Grids::SHORT] {
         let mut own = budget.half();
         match attempted(alloc, Task { grids, ..task }, &mut own)? {
             Some(found) => return Ok(Some(found)),

@@ -1,18 +1,13 @@
 //! Affine forms: a node's value as a sum over the inputs and a rest.
 //!
-//! A form keeps what plain intervals lose, that the same input stands in both operands. Its coefficients are cut to 40
-//! bits; what is cut off goes to the rest, and where nothing was, the errors have no such share either.
+//! A form keeps what plain intervals lose, that the same input stands in both operands. Its coefficients are cut to so
+//! many bits as the grids allow; what is cut off goes to the rest, and where nothing was, the errors have no such share
+//! either.
 
 use crate::coefficients::Coefficients;
 use fx_flat::Node;
 use fx_num::{Dyadic, bits, floor_shift, left_fits};
-use fx_span::{Grids, PLACE_LIMIT, Span, product};
-
-/// How many bits a coefficient has at most.
-const COEFFICIENT_BITS: u32 = 40;
-
-/// How many bits a centre has at most.
-const CENTRE_BITS: u32 = 30;
+use fx_span::{Grids, Span, product};
 
 /// What a form has beside its coefficients, which stand in a row of `Coefficients`.
 #[derive(Clone, Copy, Debug)]
@@ -101,11 +96,11 @@ pub fn mix_of(node: &Node, form: &RangeForm, a: u32, b: u32) -> Option<Mix> {
     }
 }
 
-/// A number of at most 30 bits near the middle of a range.
-pub fn middle_of(range: Span) -> Option<Dyadic> {
+/// A number of few bits near the middle of a range.
+pub fn middle_of(range: Span, grids: Grids) -> Option<Dyadic> {
     let middle = floor_shift(range.lo.checked_add(range.hi)?, 1);
     let places = bits(middle.unsigned_abs())
-        .saturating_sub(CENTRE_BITS)
+        .saturating_sub(grids.centre_bits)
         .min(range.e);
     Dyadic::checked(floor_shift(middle, places), range.e.saturating_sub(places))
 }
@@ -147,12 +142,12 @@ fn end_alone(end: i128, e: u32) -> Span {
     }
 }
 
-/// A number of at most 30 bits near that point of a range.
-pub fn centre_at(range: Span, at: Centre) -> Option<Dyadic> {
+/// A number of few bits near that point of a range.
+pub fn centre_at(range: Span, at: Centre, grids: Grids) -> Option<Dyadic> {
     match at {
-        Centre::Middle => middle_of(range),
-        Centre::Low => middle_of(end_alone(range.lo, range.e)),
-        Centre::High => middle_of(end_alone(range.hi, range.e)),
+        Centre::Middle => middle_of(range, grids),
+        Centre::Low => middle_of(end_alone(range.lo, range.e), grids),
+        Centre::High => middle_of(end_alone(range.hi, range.e), grids),
         Centre::Zero => Some(Dyadic::zero()),
     }
 }
@@ -209,7 +204,7 @@ fn cut_row(
     Some(sum)
 }
 
-/// Writes the row of an operation whose form has the rest, with at most 40 bits a coefficient.
+/// Writes the row of an operation whose form has the rest, with so many bits a coefficient as the grids allow.
 pub fn write_row(
     coefficients: &mut Coefficients,
     n: usize,
@@ -220,8 +215,10 @@ pub fn write_row(
     grids: Grids,
 ) -> Option<RangeForm> {
     let greatest = mix_rows(coefficients, n, a, b, mix)?;
-    let by_bits = bits(greatest).saturating_sub(COEFFICIENT_BITS).min(mix.e);
-    let places = by_bits.max(mix.e.saturating_sub(PLACE_LIMIT));
+    let by_bits = bits(greatest)
+        .saturating_sub(grids.coefficient_bits)
+        .min(mix.e);
+    let places = by_bits.max(mix.e.saturating_sub(grids.place_limit));
     let is_cut = places > 0;
     let rest = if is_cut {
         cut_row(coefficients, n, mix.e, places, form.rest, inputs)?

@@ -162,7 +162,10 @@ fn quotient_range(a: Span, b: Span, grids: Grids) -> Option<Span> {
         .saturating_sub(i64::from(bits(a.size())))
         .saturating_add(i64::from(a.e))
         .saturating_sub(i64::from(b.e));
-    a.over(b, u32::try_from(places.clamp(0, 60)).ok()?)
+    a.over(
+        b,
+        u32::try_from(places.clamp(0, i64::from(grids.place_limit))).ok()?,
+    )
 }
 
 /// The plain range of an operation.
@@ -186,8 +189,8 @@ fn product_form(ranges: &Ranges, a: usize, b: usize) -> Option<RangeForm> {
     let x = ranges.span(a)?;
     let y = ranges.span(b)?;
     let centres = ranges.centres_of(ranges.spans.len());
-    let centre_a = centre_at(x, centres.a)?;
-    let centre_b = centre_at(y, centres.b)?;
+    let centre_a = centre_at(x, centres.a, ranges.grids)?;
+    let centre_b = centre_at(y, centres.b, ranges.grids)?;
     let left = ranges.form_or_rest(a)?.rest.scaled(centre_b)?;
     let right = ranges.form_or_rest(b)?.rest.scaled(centre_a)?;
     let both = Span::single(centre_a).scaled(centre_b)?;

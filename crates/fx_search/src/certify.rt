@@ -87,7 +87,7 @@ pub fn certified(
 ) -> Result<Option<Certified>, Memory>
     ensures { IfOk result (IsOffered task.entry.wanted task.entry.source.now) }
 {
-    for grids in [Grids::FINE, Grids::COARSE, Grids::COARSEST] {
+    for grids in [Grids::FINE, Grids::COARSE, Grids::COARSEST, Grids::SHORT] {
         let found = certified_on(alloc, task, draft, plans, grids)?;
         if found.is_some() {
             return Ok(found);

@@ -6,16 +6,19 @@
 use crate::span::Span;
 use fx_num::bits;
 
-/// The most binary places of a range, a form's rest and a coefficient.
-pub const PLACE_LIMIT: u32 = 60;
-
-/// Two grids.
+/// How long the numbers of an attempt are.
 #[derive(Clone, Copy, Debug, PartialEq, Eq)]
 pub struct Grids {
     /// About how many bits the greater end of a range has.
     pub range_bits: u32,
     /// How many places an error has behind its node's point.
     pub error_places: u32,
+    /// How many bits a form's coefficient has at most,
+    pub coefficient_bits: u32,
+    /// and how many the centre of a product's operand.
+    pub centre_bits: u32,
+    /// The most binary places of a range, a form's rest and a coefficient.
+    pub place_limit: u32,
 }
 
 impl Grids {
@@ -23,18 +26,33 @@ impl Grids {
     pub const FINE: Grids = Grids {
         range_bits: 44,
         error_places: 12,
+        coefficient_bits: 40,
+        centre_bits: 30,
+        place_limit: 60,
     };
 
     /// Those to take next, where a formula of the checker leaves 128 bits.
     pub const COARSE: Grids = Grids {
         range_bits: 36,
         error_places: 8,
+        ..Grids::FINE
     };
 
-    /// The last to take.
+    /// The coarsest of ranges and errors, with coefficients that are as long as ever.
     pub const COARSEST: Grids = Grids {
         range_bits: 28,
         error_places: 6,
+        ..Grids::FINE
+    };
+
+    /// Those of short coefficients, where a small one made numbers too long: it is cut to few bits or to zero, and what
+    /// is cut off goes to the rest.
+    pub const SHORT: Grids = Grids {
+        range_bits: 36,
+        error_places: 8,
+        coefficient_bits: 28,
+        centre_bits: 24,
+        place_limit: 40,
     };
 
     /// A grid on which the greater end of a range has about as many bits as are wanted.
@@ -42,7 +60,7 @@ impl Grids {
         self.range_bits
             .saturating_add(range.e)
             .saturating_sub(bits(range.size()))
-            .min(PLACE_LIMIT)
+            .min(self.place_limit)
     }
 
     /// The range on its own grid.

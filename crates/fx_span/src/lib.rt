@@ -13,21 +13,23 @@
 //! compares more than it writes. Fractions and decimals come onto grids (`range_between`), with the words of literals
 //! (`nearest`), what those err (`word_error`), and what a width holds (`fits_word`).
 //!
-//! No number has a floating point. The trap: intervals are exact, and grow by each product, unless somebody rounds them
-//! (`Grids::rounded`, `Span::outward`).
+//! No number has a floating point. A long formula is written with `MaybeSpan`, whose operations take none as well. The
+//! trap: intervals are exact, and grow by each product, unless somebody rounds them (`Grids::rounded`, `Span::outward`).
 #![tactic(auto)]
 
 mod grid;
 mod literal;
+mod maybe;
 mod real;
 mod real_span;
 mod span;
 
-pub use grid::{Grids, PLACE_LIMIT};
+pub use grid::Grids;
 pub use literal::{
     ceil_at, fits_word, floor_at, input_error, nearest, range_between, range_of, reading_error,
     unit_on, word_at, word_error,
 };
+pub use maybe::MaybeSpan;
 pub use real::Real;
 pub use real_span::RealSpan;
 pub use span::{Span, product};

@@ -1,9 +1,12 @@
 //! Fractions and decimals on grids: their floors, the words of literals, and the errors of those words.
 
-use crate::grid::{Grids, PLACE_LIMIT};
+use crate::grid::Grids;
 use crate::span::Span;
 use fx_fraction::{Decimal, Fraction, to_fraction};
 use fx_num::{Dyadic, bits, ceil_shift, floor_shift, left_fits};
+
+/// How many places a number is shifted by in one part at most, and how many an input's error is told with.
+const PLACES: u32 = 60;
 
 /// The floor of `top * 2^places / bottom`.
 ///
@@ -12,7 +15,7 @@ fn floor_places(top: i128, bottom: i128, places: u32) -> Option<i128> {
     if bottom <= 0 {
         return None;
     }
-    let first = places.min(PLACE_LIMIT);
+    let first = places.min(PLACES);
     let rest = places.saturating_sub(first);
     let shifted = left_fits(top, first)?;
     let whole = left_fits(shifted.div_euclid(bottom), rest)?;
@@ -54,7 +57,7 @@ fn places_between(lo: Fraction, hi: Fraction, grids: Grids) -> Option<u32> {
         .range_bits
         .saturating_add(bits(bottom.unsigned_abs()))
         .saturating_sub(bits(top));
-    Some(places.min(PLACE_LIMIT))
+    Some(places.min(grids.place_limit))
 }
 
 /// From one fraction to another, outward on a grid for their size.
@@ -148,6 +151,6 @@ pub fn fits_word(range: Span, point: i32, width: u32) -> bool {
 /// The size of an input's error, rounded up to 60 binary places.
 pub fn input_error(err: Decimal) -> Option<Dyadic> {
     let err = to_fraction(err);
-    let m = ceil_at(err.p, err.q, PLACE_LIMIT as i32)?;
-    Some(Dyadic::new(m, PLACE_LIMIT))
+    let m = ceil_at(err.p, err.q, PLACES as i32)?;
+    Some(Dyadic::new(m, PLACES))
 }
