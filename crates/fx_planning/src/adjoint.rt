@@ -13,19 +13,16 @@ fn add(slopes: &mut [RealSpan], a: u32, slope: RealSpan) {
     }
 }
 
-/// The range of an operand.
-fn slope_of(ranges: &Ranges, a: usize) -> Option<RealSpan> {
-    Some(RealSpan::of(ranges.span(a)?))
+/// The range of a node. Without one there is nothing to hand on, and a slope only ranks.
+fn range_of(ranges: &Ranges, a: usize) -> RealSpan {
+    match ranges.span(a) {
+        Some(range) => RealSpan::of(range),
+        None => RealSpan::ZERO,
+    }
 }
 
 /// Hands what an operation is worth on to its operands.
-fn hand_on(
-    slopes: &mut [RealSpan],
-    ranges: &Ranges,
-    n: usize,
-    node: &Node,
-    own: RealSpan,
-) -> Option<()> {
+fn hand_on(slopes: &mut [RealSpan], ranges: &Ranges, n: usize, node: &Node, own: RealSpan) {
     match node {
         Node::Neg { a } => add(slopes, *a, own.negative()),
         Node::Copy { a } => add(slopes, *a, own),
@@ -38,17 +35,16 @@ fn hand_on(
             add(slopes, *b, own.negative());
         }
         Node::Mul { a, b } => {
-            add(slopes, *a, own.times(slope_of(ranges, *b as usize)?));
-            add(slopes, *b, own.times(slope_of(ranges, *a as usize)?));
+            add(slopes, *a, own.times(range_of(ranges, *b as usize)));
+            add(slopes, *b, own.times(range_of(ranges, *a as usize)));
         }
         Node::Div { a, b } => {
-            let part = own.times(slope_of(ranges, *b as usize)?.inverse());
+            let part = own.times(range_of(ranges, *b as usize).inverse());
             add(slopes, *a, part);
-            add(slopes, *b, part.times(slope_of(ranges, n)?).negative());
+            add(slopes, *b, part.times(range_of(ranges, n)).negative());
         }
         _ => {}
     }
-    Some(())
 }
 
 /// How the output that node `output` is moves with each node.
@@ -69,8 +65,7 @@ pub fn slopes_of(
     for n in (0..nodes.len()).rev() {
         let own = slopes.get(n).copied().unwrap_or(RealSpan::ZERO);
         if !own.is_zero() {
-            // without a range there is nothing to hand on, and a slope only ranks
-            let _ = hand_on(&mut slopes, ranges, n, &nodes[n], own);
+            hand_on(&mut slopes, ranges, n, &nodes[n], own);
         }
     }
     Ok(slopes)

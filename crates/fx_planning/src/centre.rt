@@ -8,19 +8,25 @@ use crate::setting::Setting;
 use fx_flat::Node;
 use fx_num::{floor_shift, left_fits};
 use fx_program::Code;
-use fx_ranges::operands;
-use fx_span::{Span, word_at, word_error};
+use fx_span::{MaybeSpan, Span, word_at, word_error};
+
+/// A literal's word at a point, and by how much it differs from the literal.
+#[derive(Clone, Copy)]
+struct Word {
+    w: i64,
+    f: i32,
+    error: Span,
+}
 
 /// The literal among an operation's operands that may be moved, and the other operand.
 fn movable(setting: &Setting<'_>, n: usize) -> Option<(usize, usize)> {
-    let (a, b) = operands(setting.nodes.get(n)?)?;
+    let (a, b) = setting.operands(n);
     let (c, other) = if setting.literal(b).is_some() {
         (b, a)
     } else {
         (a, b)
     };
-    setting.literal(c)?;
-    if setting.uses.get(c).copied()? == 1 {
+    if setting.is_own_literal(c) {
         Some((c, other))
     } else {
         None
@@ -28,29 +34,113 @@ fn movable(setting: &Setting<'_>, n: usize) -> Option<(usize, usize)> {
 }
 
 /// Minus the middle of an error, in units of a literal's point.
-fn units_off(error: Span, point: i32) -> Option<i128> {
+fn units_off(error: Span, point: i32) -> i128 {
     let places = i64::from(error.e)
         .saturating_add(1)
-        .saturating_sub(i64::from(point));
-    if places <= 0 {
-        return Some(0);
+        .saturating_sub(i64::from(point))
+        .clamp(0, 1000) as u32;
+    if places == 0 {
+        return 0;
     }
-    let places = u32::try_from(places).ok()?;
-    let half = left_fits(1, places.checked_sub(1)?)?;
-    let twice = error.lo.checked_add(error.hi)?.checked_add(half)?;
-    floor_shift(twice, places).checked_neg()
+    let half = left_fits(1, places.saturating_sub(1)).unwrap_or(0);
+    let twice = error.lo.saturating_add(error.hi).saturating_add(half);
+    floor_shift(twice, places).saturating_neg()
 }
 
 /// By how much literal `c` is moved in a sum or a difference.
-fn sum_move(setting: &Setting<'_>, n: usize, c: usize, error: Span) -> Option<i128> {
-    let units = units_off(error, setting.point(c)?)?;
-    match setting.nodes.get(n)? {
+fn sum_move(setting: &Setting<'_>, node: &Node, c: usize, error: Span) -> i128 {
+    let units = units_off(error, setting.point(c).unwrap_or(0));
+    match node {
+        Node::Add { .. } => units,
         Node::Sub { b, .. } => if *b as usize == c {
-            units.checked_neg()
+            units.saturating_neg()
         } else {
-            Some(units)
+            units
         },
-        _ => Some(units),
+        _ => 0,
+    }
+}
+
+/// Literal `c` with a word at a point, if it is one.
+fn word_of(setting: &Setting<'_>, c: usize, word: i128, f: i32) -> Option<Word> {
+    match (setting.literal(c), word_at(word, setting.wanted.width)) {
+        (Some(value), Some(w)) => match word_error(value, word, f, setting.ranges.grids()) {
+            Some(error) => Some(Word { w, f, error }),
+            None => None,
+        },
+        _ => None,
+    }
+}
+
+/// The word of literal `c` moved by so many units, if it is another one.
+fn moved_word(setting: &Setting<'_>, codes: &[Code], c: usize, units: i128) -> Option<Word> {
+    match codes.get(c) {
+        Some(Code::Const { w, f }) => if units == 0 {
+            None
+        } else {
+            word_of(setting, c, i128::from(*w).saturating_add(units), *f)
+        },
+        _ => None,
+    }
+}
+
+/// An error if it is smaller than another.
+fn smaller(found: MaybeSpan, error: Span) -> Option<Span> {
+    match found.get() {
+        Some(found) => if found.is_smaller(error).unwrap_or(false) {
+            Some(found)
+        } else {
+            None
+        },
+        None => None,
+    }
+}
+
+/// The plain error of operation `n` if it is smaller than it was.
+fn smaller_error(
+    setting: &Setting<'_>,
+    codes: &[Code],
+    errors: &Errors,
+    n: usize,
+    error: Span,
+) -> Option<Span> {
+    match (codes.get(n), setting.point(n)) {
+        (Some(code), Some(point)) => smaller(plain_error(setting, errors, code, point), error),
+        _ => None,
+    }
+}
+
+/// Gives literal `c` another word.
+fn put_word(codes: &mut [Code], c: usize, word: Word) {
+    if let Some(slot) = codes.get_mut(c) {
+        *slot = Code::Const {
+            w: word.w,
+            f: word.f,
+        };
+    }
+}
+
+/// The error of operation `n` with another word of literal `c`. The word stays where the error gets smaller.
+fn with_word(
+    setting: &Setting<'_>,
+    codes: &mut [Code],
+    errors: &mut Errors,
+    n: usize,
+    c: usize,
+    word: Word,
+    error: Span,
+) -> Span {
+    let before = errors.span(c).unwrap_or(Span::ZERO);
+    errors.put(c, word.error);
+    match smaller_error(setting, codes, errors, n, error) {
+        Some(found) => {
+            put_word(codes, c, word);
+            found
+        }
+        None => {
+            errors.put(c, before);
+            error
+        }
     }
 }
 
@@ -63,31 +153,47 @@ fn moved(
     c: usize,
     units: i128,
     error: Span,
-) -> Option<Span> {
-    let code = codes.get(n).copied()?;
-    let Code::Const { w, f } = codes.get(c).copied()? else {
-        return Some(error);
-    };
-    let word = i128::from(w).checked_add(units)?;
-    let Some(w) = word_at(word, setting.wanted.width) else {
-        return Some(error);
-    };
-    if units == 0 {
-        return Some(error);
+) -> Span {
+    match moved_word(setting, codes, c, units) {
+        Some(word) => with_word(setting, codes, errors, n, c, word, error),
+        None => error,
     }
-    let before = errors.span(c)?;
-    errors.put(
-        c,
-        word_error(setting.literal(c)?, word, f, setting.ranges.grids())?,
-    )?;
-    let found = plain_error(setting, errors, &code, setting.point(n)?)?;
-    if found.is_smaller(error)? {
-        let slot = codes.get_mut(c)?;
-        *slot = Code::Const { w, f };
-        return Some(found);
+}
+
+/// The error of a product by a factor with one sign, after moves of its literal by a unit to either side.
+fn moved_factor(
+    setting: &Setting<'_>,
+    codes: &mut [Code],
+    errors: &mut Errors,
+    n: usize,
+    (c, other): (usize, usize),
+    error: Span,
+) -> Span {
+    let factor = setting.ranges.span(other).unwrap_or(Span::ZERO);
+    if factor.lo < 0 && factor.hi > 0 {
+        return error;
     }
-    errors.put(c, before)?;
-    Some(error)
+    let first = moved(setting, codes, errors, n, c, -1, error);
+    moved(setting, codes, errors, n, c, 1, first)
+}
+
+/// The error of operation `n` after moves of this literal.
+fn with_moves(
+    setting: &Setting<'_>,
+    codes: &mut [Code],
+    errors: &mut Errors,
+    n: usize,
+    (c, other): (usize, usize),
+    error: Span,
+) -> Span {
+    match setting.nodes.get(n) {
+        Some(Node::Mul { .. }) => moved_factor(setting, codes, errors, n, (c, other), error),
+        Some(node) => {
+            let units = sum_move(setting, node, c, error);
+            moved(setting, codes, errors, n, c, units, error)
+        }
+        None => error,
+    }
 }
 
 /// The error of operation `n`, whose plain error is given, after a move of its literal if that helps.
@@ -97,23 +203,9 @@ pub fn centred(
     errors: &mut Errors,
     n: usize,
     error: Span,
-) -> Option<Span> {
-    let Some((c, other)) = movable(setting, n) else {
-        return Some(error);
-    };
-    match setting.nodes.get(n)? {
-        Node::Mul { .. } => {
-            let factor = setting.ranges.span(other)?;
-            if factor.lo < 0 && factor.hi > 0 {
-                return Some(error);
-            }
-            let first = moved(setting, codes, errors, n, c, -1, error)?;
-            moved(setting, codes, errors, n, c, 1, first)
-        }
-        Node::Add { .. } | Node::Sub { .. } => {
-            let units = sum_move(setting, n, c, error)?;
-            moved(setting, codes, errors, n, c, units, error)
-        }
-        _ => Some(error),
+) -> Span {
+    match movable(setting, n) {
+        Some(literal) => with_moves(setting, codes, errors, n, literal, error),
+        None => error,
     }
 }

@@ -4,12 +4,13 @@
 //! Where a node has a form, its error has one too, over the inputs' errors, and the narrower of both stands.
 
 use crate::centre::centred;
+use crate::node_error::NodeError;
+use crate::rounding::{both_sides, shift_loss, term_loss};
 use crate::setting::Setting;
-use fx_fraction::Fraction;
-use fx_num::{Dyadic, Memory, left_fits};
-use fx_program::{Code, Kind, Round};
-use fx_ranges::{RangeForm, Unplanned, mix_of, operands, weighted};
-use fx_span::{Span, reading_error, unit_on, word_error};
+use fx_num::{Memory, left_fits};
+use fx_program::{Code, Kind};
+use fx_ranges::{Mix, RangeForm, Ranges, Unplanned, mix_of, weighted};
+use fx_span::{MaybeSpan, Span, reading_error, word_error};
 use std::alloc::Global;
 
 /// What the second pass says of all nodes.
@@ -25,36 +26,9 @@ pub struct Errors {
     pub small: Vec<u32>,
 }
 
-/// What is said of one node.
-#[derive(Clone, Copy, Debug)]
-struct NodeError {
-    span: Span,
-    rest: Span,
-    is_shown: bool,
-}
-
-impl NodeError {
-    /// An error without a form.
-    fn plain(span: Span) -> NodeError {
-        NodeError {
-            span,
-            rest: span,
-            is_shown: false,
-        }
-    }
-
-    /// The error of a variable, whose form is itself.
-    fn of_variable(span: Span) -> NodeError {
-        NodeError {
-            span,
-            rest: Span::ZERO,
-            is_shown: false,
-        }
-    }
-}
-
 impl Errors {
-    fn new(alloc: Global) -> Errors {
+    /// Of no nodes yet.
+    pub fn new(alloc: Global) -> Errors {
         Errors {
             spans: Vec::new(alloc),
             rests: Vec::new(alloc),
@@ -63,21 +37,16 @@ impl Errors {
         }
     }
 
-    /// No errors, of so many nodes.
-    pub fn zeros(alloc: Global, count: usize) -> Result<Errors, Memory> {
-        Ok(Errors {
-            spans: vec![in alloc; Span::ZERO; count]?,
-            rests: vec![in alloc; Span::ZERO; count]?,
-            shown: vec![in alloc; false; count]?,
-            small: Vec::new(alloc),
-        })
-    }
-
     fn push(&mut self, error: NodeError) -> Result<(), Memory> {
         self.spans.push(error.span)?;
         self.rests.push(error.rest)?;
         self.shown.push(error.is_shown)?;
         Ok(())
+    }
+
+    /// The error of a node, if it has one yet.
+    fn maybe(&self, n: usize) -> MaybeSpan {
+        MaybeSpan::of(self.span(n))
     }
 
     /// The error of a node.
@@ -96,66 +65,35 @@ impl Errors {
     }
 
     /// Takes another word's error as that of a literal.
-    pub fn put(&mut self, n: usize, span: Span) -> Option<()> {
-        let error = self.spans.get_mut(n)?;
-        *error = span;
-        let rest = self.rests.get_mut(n)?;
-        *rest = span;
-        Some(())
+    pub fn put(&mut self, n: usize, span: Span) {
+        if let Some(error) = self.spans.get_mut(n) {
+            *error = span;
+        }
+        if let Some(rest) = self.rests.get_mut(n) {
+            *rest = span;
+        }
     }
-}
-
-/// What a floor at a point loses.
-fn floor_loss(point: i32) -> Option<Span> {
-    let e = point.max(0).unsigned_abs();
-    let lo = unit_on(point, e)?.checked_neg()?;
-    Some(Span { lo, hi: 0, e })
-}
-
-/// What the nearest word at a point is off: half a unit to both sides.
-fn near_loss(point: i32) -> Option<Span> {
-    let halves = point.checked_add(1)?;
-    let e = halves.max(0).unsigned_abs();
-    let hi = unit_on(halves, e)?;
-    let lo = hi.checked_neg()?;
-    Some(Span { lo, hi, e })
-}
-
-/// What a shift by `s` to a point loses: nothing, where it isn't to the right.
-fn shift_loss(round: Round, s: i64, point: i32) -> Option<Span> {
-    if s <= 0 {
-        return Some(Span::ZERO);
-    }
-    match round {
-        Round::Floor => floor_loss(point),
-        Round::Nearest => near_loss(point),
-    }
-}
-
-/// What a shift of an operand of a sum loses, which is always rounded down.
-fn term_loss(s: i32, point: i32) -> Option<Span> {
-    shift_loss(Round::Floor, i64::from(s), point)
 }
 
 /// What is said of an operand.
-fn of(list: &[Span], a: u32) -> Option<Span> {
-    list.get(a as usize).copied()
+fn of(list: &[Span], a: u32) -> MaybeSpan {
+    MaybeSpan::of(list.get(a as usize).copied())
 }
 
 /// The error of a code but a product, by what is said of its operands: their errors, or the rests of their forms.
-fn linear_error(list: &[Span], kind: &Kind, point: i32) -> Option<Span> {
+fn linear_error(list: &[Span], kind: &Kind, point: i32) -> MaybeSpan {
     match kind {
-        Kind::Neg { a } => of(list, *a)?.negative(),
-        Kind::Copy { r, a, s } => of(list, *a)?.plus(shift_loss(*r, *s, point)?),
-        Kind::Add { a, b, sa, sb } => of(list, *a)?
-            .plus(of(list, *b)?)?
-            .plus(term_loss(*sa, point)?)?
-            .plus(term_loss(*sb, point)?),
-        Kind::Sub { a, b, sa, sb } => of(list, *a)?
-            .minus(of(list, *b)?)?
-            .plus(term_loss(*sa, point)?)?
-            .minus(term_loss(*sb, point)?),
-        _ => None,
+        Kind::Neg { a } => of(list, *a).negative(),
+        Kind::Copy { r, a, s } => of(list, *a).plus(shift_loss(*r, *s, point)),
+        Kind::Add { a, b, sa, sb } => of(list, *a)
+            .plus(of(list, *b))
+            .plus(term_loss(*sa, point))
+            .plus(term_loss(*sb, point)),
+        Kind::Sub { a, b, sa, sb } => of(list, *a)
+            .minus(of(list, *b))
+            .plus(term_loss(*sa, point))
+            .minus(term_loss(*sb, point)),
+        _ => MaybeSpan::NONE,
     }
 }
 
@@ -165,14 +103,14 @@ fn product_off(
     errors: &Errors,
     (a, b): (usize, usize),
     form: &RangeForm,
-) -> Option<Span> {
-    let x = setting.ranges.span(a)?.minus(Span::single(form.centre_a))?;
-    let y = setting.ranges.span(b)?.minus(Span::single(form.centre_b))?;
-    let error_a = errors.span(a)?;
-    let error_b = errors.span(b)?;
-    x.times(error_b)?
-        .plus(y.times(error_a)?)?
-        .plus(error_a.times(error_b)?)
+) -> MaybeSpan {
+    let x = setting.range(a).minus(MaybeSpan::single(form.centre_a));
+    let y = setting.range(b).minus(MaybeSpan::single(form.centre_b));
+    let error_a = errors.maybe(a);
+    let error_b = errors.maybe(b);
+    x.times(error_b)
+        .plus(y.times(error_a))
+        .plus(error_a.times(error_b))
 }
 
 /// The error of a product by its form. A form without centres gives the plain error.
@@ -181,40 +119,75 @@ fn product_error(
     errors: &Errors,
     (a, b): (usize, usize),
     form: &RangeForm,
-    loss: Span,
-) -> Option<Span> {
-    let off = product_off(setting, errors, (a, b), form)?;
-    let left = errors.rest(a)?.scaled(form.centre_b)?;
-    let right = errors.rest(b)?.scaled(form.centre_a)?;
-    off.plus(left.plus(right)?)?.plus(loss)
+    loss: MaybeSpan,
+) -> MaybeSpan {
+    let left = MaybeSpan::of(errors.rest(a)).scaled(form.centre_b);
+    let right = MaybeSpan::of(errors.rest(b)).scaled(form.centre_a);
+    product_off(setting, errors, (a, b), form)
+        .plus(left.plus(right))
+        .plus(loss)
 }
 
 /// The plain error of an operation but a quotient, before it is rounded.
-fn unrounded_error(
-    setting: &Setting<'_>,
-    errors: &Errors,
-    code: &Code,
-    point: i32,
-) -> Option<Span> {
+fn unrounded_error(setting: &Setting<'_>, errors: &Errors, code: &Code, point: i32) -> MaybeSpan {
     match &code.kind() {
         Kind::Mul { r, a, b, s } => {
-            let loss = shift_loss(*r, i64::from(*s), point)?;
+            let loss = shift_loss(*r, i64::from(*s), point);
             let form = RangeForm::of_rest(Span::ZERO);
-            product_off(setting, errors, (*a as usize, *b as usize), &form)?.plus(loss)
+            product_off(setting, errors, (*a as usize, *b as usize), &form).plus(loss)
         }
         kind => linear_error(&errors.spans, kind, point),
     }
 }
 
 /// The plain error of an operation but a quotient, on the grid of its point.
-pub fn plain_error(
+pub fn plain_error(setting: &Setting<'_>, errors: &Errors, code: &Code, point: i32) -> MaybeSpan {
+    setting.on_error_grid(unrounded_error(setting, errors, code, point), point)
+}
+
+/// What was cut off variable `k` of the form of node `n`, on the grid of the mix, so many places behind the form's.
+fn cut_off(
+    ranges: &Ranges,
+    n: usize,
+    (a, b): (usize, usize),
+    mix: Mix,
+    places: u32,
+    k: usize,
+) -> Option<i128> {
+    let x = ranges.coefficient(a, k).unwrap_or(0);
+    let y = ranges.coefficient(b, k).unwrap_or(0);
+    let kept = left_fits(ranges.coefficient(n, k).unwrap_or(0), places);
+    match (mix.of(x, y), kept) {
+        (Some(exact), Some(kept)) => exact.checked_sub(kept),
+        _ => None,
+    }
+}
+
+/// A sum with so much of a variable's error, on this grid.
+fn with_share(sum: MaybeSpan, share: Option<i128>, e: u32, error: MaybeSpan) -> MaybeSpan {
+    match share {
+        Some(m) => sum.plus_scaled(m, e, error),
+        None => MaybeSpan::NONE,
+    }
+}
+
+/// A rest with what the cut coefficients of a mix leave of the variables' errors.
+fn mixed_share(
     setting: &Setting<'_>,
     errors: &Errors,
-    code: &Code,
-    point: i32,
-) -> Option<Span> {
-    let error = unrounded_error(setting, errors, code, point)?;
-    Some(setting.on_error_grid(error, point))
+    n: usize,
+    operands: (usize, usize),
+    mix: Mix,
+    rest: MaybeSpan,
+) -> MaybeSpan {
+    let ranges = setting.ranges;
+    let places = mix.e.saturating_sub(ranges.grid(n));
+    let mut sum = rest;
+    for k in 0..ranges.variables() {
+        let share = cut_off(ranges, n, operands, mix, places, k);
+        sum = with_share(sum, share, mix.e, errors.maybe(k));
+    }
+    sum
 }
 
 /// What the cut coefficients leave of the inputs' errors.
@@ -223,44 +196,58 @@ fn cut_share(
     errors: &Errors,
     n: usize,
     form: &RangeForm,
-    rest: Span,
-) -> Option<Span> {
-    let node = setting.nodes.get(n)?;
-    let ranges = setting.ranges;
-    let (a, b) = operands(node)?;
-    let mix = mix_of(node, form, ranges.grid(a), ranges.grid(b))?;
-    let places = mix.e.checked_sub(form.e)?;
-    let mut sum = rest;
-    for k in 0..ranges.variables() {
-        let exact = mix.of(ranges.coefficient(a, k)?, ranges.coefficient(b, k)?)?;
-        let m = exact.checked_sub(left_fits(ranges.coefficient(n, k)?, places)?)?;
-        if m != 0 {
-            sum = sum.plus(errors.span(k)?.scaled(Dyadic::checked(m, mix.e)?)?)?;
+    rest: MaybeSpan,
+) -> MaybeSpan {
+    let (a, b) = setting.operands(n);
+    match setting.nodes.get(n) {
+        Some(node) => {
+            match mix_of(node, form, setting.ranges.grid(a), setting.ranges.grid(b)) {
+                Some(mix) => mixed_share(setting, errors, n, (a, b), mix, rest),
+                None => MaybeSpan::NONE,
+            }
         }
+        None => MaybeSpan::NONE,
     }
-    Some(sum)
 }
 
-/// The rest of an operation's error by its form.
+/// The rest of an operation's error by its form, on the grid of its point.
 fn error_rest(
     setting: &Setting<'_>,
     errors: &Errors,
     n: usize,
     code: &Code,
+    point: i32,
     form: &RangeForm,
-) -> Option<Span> {
-    let point = setting.point(n)?;
+) -> MaybeSpan {
     let rest = match &code.kind() {
         Kind::Mul { r, a, b, s } => {
-            let loss = shift_loss(*r, i64::from(*s), point)?;
-            product_error(setting, errors, (*a as usize, *b as usize), form, loss)?
+            let loss = shift_loss(*r, i64::from(*s), point);
+            product_error(setting, errors, (*a as usize, *b as usize), form, loss)
         }
-        kind => linear_error(&errors.rests, kind, point)?,
+        kind => linear_error(&errors.rests, kind, point),
     };
-    if form.is_cut {
+    let rest = if form.is_cut {
         cut_share(setting, errors, n, form, rest)
     } else {
-        Some(rest)
+        rest
+    };
+    setting.on_error_grid(rest, point)
+}
+
+/// The narrower of the plain error and that of a form with this rest.
+fn narrower_error(
+    setting: &Setting<'_>,
+    errors: &Errors,
+    n: usize,
+    point: i32,
+    plain: Span,
+    rest: Span,
+) -> Option<NodeError> {
+    let row = setting.ranges.row(n);
+    let sum = weighted(row, setting.ranges.grid(n), rest, &errors.spans);
+    match setting.on_error_grid(MaybeSpan::of(sum), point).get() {
+        Some(by_form) => NodeError::narrower(plain, by_form, rest),
+        None => None,
     }
 }
 
@@ -270,23 +257,37 @@ fn formed_error(
     errors: &Errors,
     n: usize,
     code: &Code,
+    point: i32,
     plain: Span,
 ) -> Option<NodeError> {
-    let Some(form) = setting.ranges.form(n) else {
-        return Some(NodeError::plain(plain));
-    };
-    let point = setting.point(n)?;
-    let rest = error_rest(setting, errors, n, code, &form)?;
-    let rest = setting.on_error_grid(rest, point);
-    let row = setting.ranges.row(n);
-    let by_form = weighted(row, form.e, rest, &errors.spans)?;
-    let by_form = setting.on_error_grid(by_form, point);
-    let is_shown = by_form.is_narrower(plain)?;
-    Some(NodeError {
-        span: if is_shown { by_form } else { plain },
-        rest,
-        is_shown,
-    })
+    match setting.ranges.form(n) {
+        Some(form) => match error_rest(setting, errors, n, code, point, &form).get() {
+            Some(rest) => narrower_error(setting, errors, n, point, plain, rest),
+            None => None,
+        },
+        None => NodeError::plain(MaybeSpan::some(plain)),
+    }
+}
+
+/// Whether neither a divisor nor what the machine sees of it may be zero, and both have one sign.
+fn have_one_sign(divisor: Span, seen: Span) -> bool {
+    divisor.is_clear() && seen.is_clear() && (divisor.lo > 0) == (seen.lo > 0)
+}
+
+/// The quotient of an error by a divisor as the machine sees it, one unit wider to both sides.
+fn divided_error(
+    setting: &Setting<'_>,
+    point: i32,
+    divisor: Span,
+    seen: Span,
+    top: Span,
+) -> MaybeSpan {
+    if !have_one_sign(divisor, seen) {
+        return MaybeSpan::NONE;
+    }
+    let e = setting.error_grid(point);
+    let quotient = MaybeSpan::of(top.over(seen, e));
+    setting.on_error_grid(quotient.plus(both_sides(point, e)), point)
 }
 
 /// The error of a quotient, which is one unit more to both sides than the operands make it.
@@ -294,98 +295,130 @@ fn quotient_error(
     setting: &Setting<'_>,
     errors: &Errors,
     n: usize,
+    point: i32,
     (a, b): (usize, usize),
-) -> Option<Span> {
-    let point = setting.point(n)?;
-    let e = setting.error_grid(point);
-    let divisor = setting.ranges.span(b)?;
-    let seen = divisor.plus(errors.span(b)?)?;
-    if !divisor.is_clear() || !seen.is_clear() || (divisor.lo > 0) != (seen.lo > 0) {
-        return None;
+) -> MaybeSpan {
+    let divisor = setting.range(b);
+    let seen = divisor.plus(errors.maybe(b));
+    let off = setting.range(n).times(errors.maybe(b));
+    let top = errors.maybe(a).minus(off);
+    match (divisor.get(), seen.get(), top.get()) {
+        (Some(divisor), Some(seen), Some(top)) => {
+            divided_error(setting, point, divisor, seen, top)
+        }
+        _ => MaybeSpan::NONE,
     }
-    let off = setting.ranges.span(n)?.times(errors.span(b)?)?;
-    let x = errors.span(a)?.minus(off)?.over(seen, e)?;
-    let unit = unit_on(point, e)?;
-    let error = Span {
-        lo: x.lo.checked_sub(unit)?,
-        hi: x.hi.checked_add(unit)?,
-        e,
-    };
-    Some(setting.on_error_grid(error, point))
 }
 
-/// The error of a literal's word.
-fn literal_error(
-    setting: &Setting<'_>,
-    codes: &[Code],
-    n: usize,
-    c: Fraction,
-) -> Option<NodeError> {
-    let Code::Const { w, f } = codes.get(n)? else {
-        return None;
-    };
-    let span = word_error(c, i128::from(*w), *f, setting.ranges.grids())?;
-    Some(NodeError::plain(span))
+/// The error of a literal's word at a point.
+fn literal_error(setting: &Setting<'_>, n: usize, w: i64, f: i32) -> Option<NodeError> {
+    match setting.literal(n) {
+        Some(c) => {
+            let error = word_error(c, i128::from(w), f, setting.ranges.grids());
+            NodeError::plain(MaybeSpan::of(error))
+        }
+        None => None,
+    }
 }
 
 /// The error of an input.
-fn input_error(setting: &Setting<'_>, n: usize, k: usize) -> Option<NodeError> {
+fn input_error(setting: &Setting<'_>, k: usize, point: i32) -> Option<NodeError> {
     let function = setting.function;
-    let input = function.inputs.as_slice().get(k)?;
-    let point = setting.point(n)?;
-    let e = setting.error_grid(point);
-    let error = reading_error(input.err, point, e)?;
-    Some(NodeError::of_variable(setting.on_error_grid(error, point)))
+    match function.inputs.as_slice().get(k) {
+        Some(input) => {
+            let error = reading_error(input.err, point, setting.error_grid(point));
+            NodeError::of_variable(setting.on_error_grid(MaybeSpan::of(error), point))
+        }
+        None => None,
+    }
 }
 
-/// The error of a state, which is its box.
-fn state_error(setting: &Setting<'_>, k: usize) -> Option<NodeError> {
-    Some(NodeError::of_variable(setting.boxes.get(k).copied()?))
-}
-
-/// The error of an operation, with a literal's word moved before it where that is wanted and helps.
+/// The error of an operation but a quotient, with a literal's word moved before it where that is wanted and helps.
 fn operation_error(
     setting: &Setting<'_>,
     codes: &mut [Code],
     errors: &mut Errors,
     n: usize,
+    code: &Code,
+    point: i32,
     is_centred: bool,
 ) -> Option<NodeError> {
-    let code = codes.get(n).copied()?;
-    if let Code::Div { a, b, .. } = &code {
-        let span = quotient_error(setting, errors, n, (*a as usize, *b as usize))?;
-        return Some(NodeError::plain(span));
+    match plain_error(setting, errors, code, point).get() {
+        Some(plain) => {
+            let plain = if is_centred {
+                centred(setting, codes, errors, n, plain)
+            } else {
+                plain
+            };
+            formed_error(setting, errors, n, code, point, plain)
+        }
+        None => None,
     }
-    let point = setting.point(n)?;
-    let plain = plain_error(setting, errors, &code, point)?;
-    let plain = if is_centred {
-        centred(setting, codes, errors, n, plain)?
-    } else {
-        plain
-    };
-    formed_error(setting, errors, n, &code, plain)
 }
 
-/// The error of a node behind those that have one.
+/// The error of a node with this code and this point, behind those that have one.
+fn coded_error(
+    setting: &Setting<'_>,
+    codes: &mut [Code],
+    errors: &mut Errors,
+    n: usize,
+    code: &Code,
+    point: i32,
+    is_centred: bool,
+) -> Option<NodeError> {
+    match code {
+        Code::Input { k, .. } => input_error(setting, *k as usize, point),
+        // the error of a state is its box
+        Code::State { k, .. } => NodeError::of_variable(of(setting.boxes, *k)),
+        Code::Const { w, f } => literal_error(setting, n, *w, *f),
+        Code::Div { a, b, .. } => {
+            let operands = (*a as usize, *b as usize);
+            NodeError::plain(quotient_error(setting, errors, n, point, operands))
+        }
+        _ => operation_error(setting, codes, errors, n, code, point, is_centred),
+    }
+}
+
+/// The error of a node behind those that have one, and whether its word is too small for what the machine may hold.
 fn node_error(
     setting: &Setting<'_>,
     codes: &mut [Code],
     errors: &mut Errors,
     n: usize,
     is_centred: bool,
-) -> Option<NodeError> {
-    match codes.get(n).copied()? {
-        Code::Input { k, .. } => input_error(setting, n, k as usize),
-        Code::State { k, .. } => state_error(setting, k as usize),
-        Code::Const { .. } => literal_error(setting, codes, n, setting.literal(n)?),
-        _ => operation_error(setting, codes, errors, n, is_centred),
+) -> Option<(NodeError, bool)> {
+    let found = match (codes.get(n).copied(), setting.point(n)) {
+        (Some(code), Some(point)) => {
+            coded_error(setting, codes, errors, n, &code, point, is_centred)
+        }
+        _ => None,
+    };
+    match found {
+        Some(error) => match setting.fits(n, error.span) {
+            Some(fits) => Some((error, !fits)),
+            None => None,
+        },
+        None => None,
     }
 }
 
-/// Whether the word of a node is too small for what the machine may hold there.
-fn is_small(setting: &Setting<'_>, n: usize, error: Span) -> Option<bool> {
-    let point = setting.point(n)?;
-    Some(!setting.ranges.fits(n, error, point, setting.wanted.width)?)
+/// Appends the errors of all nodes, up to the first that has none, which is told.
+fn add_errors(
+    setting: &Setting<'_>,
+    codes: &mut [Code],
+    errors: &mut Errors,
+    is_centred: bool,
+) -> Result<Option<Unplanned>, Memory> {
+    for n in 0..setting.nodes.len() {
+        let Some((error, is_small)) = node_error(setting, codes, errors, n, is_centred) else {
+            return Ok(Some(Unplanned::at(n)));
+        };
+        errors.push(error)?;
+        if is_small {
+            errors.small.push(Unplanned::at(n).node)?;
+        }
+    }
+    Ok(None)
 }
 
 /// The errors of all nodes, or the first node that has none.
@@ -398,17 +431,9 @@ pub fn find_errors(
     is_centred: bool,
 ) -> Result<Result<Errors, Unplanned>, Memory> {
     let mut errors = Errors::new(alloc);
-    for n in 0..setting.nodes.len() {
-        let Some(error) = node_error(setting, codes, &mut errors, n, is_centred) else {
-            return Ok(Err(Unplanned::at(n)));
-        };
-        let Some(is_small) = is_small(setting, n, error.span) else {
-            return Ok(Err(Unplanned::at(n)));
-        };
-        errors.push(error)?;
-        if is_small {
-            errors.small.push(Unplanned::at(n).node)?;
-        }
+    match add_errors(setting, codes, &mut errors, is_centred) {
+        Ok(None) => Ok(Ok(errors)),
+        Ok(Some(failed)) => Ok(Err(failed)),
+        Err(memory) => Err(memory),
     }
-    Ok(Ok(errors))
 }

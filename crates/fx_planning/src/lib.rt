@@ -30,7 +30,9 @@ mod centre;
 mod cost;
 mod ends;
 mod error;
+mod node_error;
 mod plan;
+mod rounding;
 mod setting;
 mod tune;
 

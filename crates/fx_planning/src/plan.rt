@@ -44,6 +44,11 @@ impl Plan {
         &self.errors
     }
 
+    /// Whether no word is too small, and it costs less than so much.
+    pub(crate) fn is_below(&self, cost: Cost) -> bool {
+        self.errors.small.is_empty() && self.cost < cost
+    }
+
     /// Whether it is better than another: first by how many words are too small.
     fn is_better(&self, other: &Plan) -> bool {
         let own = self.errors.small.len();
@@ -61,7 +66,7 @@ pub fn outputs_of<'a>(setting: &Setting<'_>, errors: &'a Errors) -> &'a [Span] {
 }
 
 /// The plan of these codes, whose literals' words are moved where that is wanted.
-fn planned(
+pub fn planned(
     alloc: Global,
     setting: &Setting<'_>,
     codes: Vec<Code>,
@@ -81,7 +86,25 @@ fn planned(
     }))
 }
 
-/// The plan of these codes, whose literals' words are moved where that is wanted, and then tuned.
+/// Tunes a plan in which no word is too small.
+fn tune_sound(alloc: Global, setting: &Setting<'_>, plan: &mut Plan) -> Result<(), Memory> {
+    if plan.errors.small.is_empty() {
+        tune(alloc, setting, plan)
+    } else {
+        Ok(())
+    }
+}
+
+/// The plan, tuned.
+fn tuned(alloc: Global, setting: &Setting<'_>, plan: Plan) -> Result<Plan, Memory> {
+    let mut plan = plan;
+    match tune_sound(alloc, setting, &mut plan) {
+        Ok(()) => Ok(plan),
+        Err(memory) => Err(memory),
+    }
+}
+
+/// The plan of these codes, whose literals' words are moved where that is wanted, and which is tuned then.
 fn finished(
     alloc: Global,
     setting: &Setting<'_>,
@@ -89,14 +112,33 @@ fn finished(
     is_centred: bool,
 ) -> Result<Result<Plan, Unplanned>, Memory> {
     let codes = Vec::from_slice(alloc, codes)?;
-    let mut plan = match planned(alloc, setting, codes, is_centred)? {
-        Ok(plan) => plan,
-        Err(failed) => return Ok(Err(failed)),
-    };
-    if plan.errors.small.is_empty() {
-        tune(alloc, setting, &mut plan)?;
+    match planned(alloc, setting, codes, is_centred)? {
+        Ok(plan) => Ok(Ok(tuned(alloc, setting, plan)?)),
+        Err(failed) => Ok(Err(failed)),
     }
-    Ok(Ok(plan))
+}
+
+/// Whether of two plans, of which each may be missing, the second is the better one.
+fn is_second_better(first: &Result<Plan, Unplanned>, second: &Result<Plan, Unplanned>) -> bool {
+    match (first, second) {
+        (Ok(first), Ok(second)) => second.is_better(first),
+        (Err(_), Ok(_)) => true,
+        _ => false,
+    }
+}
+
+/// The better one of two plans, of which each may be missing.
+fn better(
+    first: Result<Plan, Unplanned>,
+    second: Result<Plan, Unplanned>,
+) -> Result<Plan, Unplanned> {
+    if is_second_better(&first, &second) {
+        drop(first);
+        second
+    } else {
+        drop(second);
+        first
+    }
 }
 
 /// The better one of the plans with nearest and with centred words.
@@ -106,18 +148,17 @@ fn better_plan(
     codes: &[Code],
 ) -> Result<Result<Plan, Unplanned>, Memory> {
     let nearest = finished(alloc, setting, codes, false)?;
-    let Ok(centred) = finished(alloc, setting, codes, true)? else {
-        return Ok(nearest);
-    };
-    match nearest {
-        Ok(plan) => {
-            if centred.is_better(&plan) {
-                Ok(Ok(centred))
-            } else {
-                Ok(Ok(plan))
-            }
-        }
-        Err(_) => Ok(Ok(centred)),
+    match finished(alloc, setting, codes, true) {
+        Ok(centred) => Ok(better(nearest, centred)),
+        Err(memory) => Err(memory),
+    }
+}
+
+/// The better plan of a setting's codes, or the first node that has none.
+fn plan_of(alloc: Global, setting: &Setting<'_>) -> Result<Result<Plan, Unplanned>, Memory> {
+    match setting.codes(alloc)? {
+        Ok(codes) => better_plan(alloc, setting, &codes),
+        Err(failed) => Ok(Err(failed)),
     }
 }
 
@@ -137,10 +178,7 @@ pub fn find_plan(
         goal,
         ..Setting::new(function, nodes, ranges, points, wanted)
     };
-    match setting.codes(alloc)? {
-        Ok(codes) => better_plan(alloc, &setting, &codes),
-        Err(failed) => Ok(Err(failed)),
-    }
+    plan_of(alloc, &setting)
 }
 
 /// Moves the word of a literal of a sound plan by so many units, and keeps that where the cost falls.

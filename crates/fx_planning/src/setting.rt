@@ -7,7 +7,7 @@ use fx_fraction::Fraction;
 use fx_num::{Memory, bits};
 use fx_program::Code;
 use fx_ranges::{Ranges, Unplanned, codes_of, operands};
-use fx_span::Span;
+use fx_span::{MaybeSpan, Span};
 use fx_wanted::Wanted;
 use std::alloc::Global;
 
@@ -29,24 +29,30 @@ pub struct Setting<'a> {
     pub goal: Goal<'a>,
 }
 
+/// Counts a use of a node.
+fn count_use(uses: &mut [u32], a: usize) {
+    if let Some(count) = uses.get_mut(a) {
+        *count = count.saturating_add(1);
+    }
+}
+
+/// Counts a node as a use of its operands, once where they are one node.
+fn count_operands(uses: &mut [u32], node: &Node) {
+    if let Some((a, b)) = operands(node) {
+        count_use(uses, a);
+        if a != b {
+            count_use(uses, b);
+        }
+    }
+}
+
 /// How many nodes have each node as an operand.
 pub fn count_uses(alloc: Global, nodes: &[Node]) -> Result<Vec<u32>, Memory> {
     let mut uses = vec![in alloc; 0_u32; nodes.len()]?;
     for node in nodes {
-        if let Some((a, b)) = operands(node) {
-            count_use(&mut uses, a);
-            if a != b {
-                count_use(&mut uses, b);
-            }
-        }
+        count_operands(&mut uses, node);
     }
     Ok(uses)
-}
-
-fn count_use(uses: &mut Vec<u32>, a: usize) {
-    if let Some(count) = uses.get_mut(a) {
-        *count = count.saturating_add(1);
-    }
 }
 
 impl<'a> Setting<'a> {
@@ -102,9 +108,8 @@ impl Setting<'_> {
         self.ranges.grids().error_places_at(point)
     }
 
-    /// An error on the grid of its point, or on a coarser one where it has many bits: an input may err by far more than
-    /// a word does, and products of such errors would leave 128 bits.
-    pub fn on_error_grid(&self, error: Span, point: i32) -> Span {
+    /// An error on the grid of its point, or on a coarser one where it has many bits.
+    fn on_grid_of(&self, error: Span, point: i32) -> Span {
         let most = self.ranges.grids().range_bits.saturating_sub(BITS_LESS);
         let few = most
             .saturating_add(error.e)
@@ -112,11 +117,46 @@ impl Setting<'_> {
         error.outward(self.error_grid(point).min(few))
     }
 
+    /// An error on the grid of its point, or on a coarser one where it has many bits: an input may err by far more than
+    /// a word does, and products of such errors would leave 128 bits.
+    pub fn on_error_grid(&self, error: MaybeSpan, point: i32) -> MaybeSpan {
+        match error.get() {
+            Some(error) => MaybeSpan::some(self.on_grid_of(error, point)),
+            None => MaybeSpan::NONE,
+        }
+    }
+
     /// The literal that a node is, if it is one.
     pub fn literal(&self, n: usize) -> Option<Fraction> {
-        match self.nodes.get(n)? {
-            Node::Const { c } => Some(*c),
+        match self.nodes.get(n) {
+            Some(Node::Const { c }) => Some(*c),
             _ => None,
         }
+    }
+
+    /// The range of a node, if it has one.
+    pub fn range(&self, n: usize) -> MaybeSpan {
+        MaybeSpan::of(self.ranges.span(n))
+    }
+
+    /// The operands of an operation. One operand stands for both, and node 0 for those of what has none.
+    pub fn operands(&self, n: usize) -> (usize, usize) {
+        match self.nodes.get(n) {
+            Some(node) => operands(node).unwrap_or((0, 0)),
+            None => (0, 0),
+        }
+    }
+
+    /// Whether a node's word holds all of its range with this error.
+    pub fn fits(&self, n: usize, error: Span) -> Option<bool> {
+        match self.point(n) {
+            Some(point) => self.ranges.fits(n, error, point, self.wanted.width),
+            None => None,
+        }
+    }
+
+    /// Whether a node is a literal that one node alone has as an operand.
+    pub fn is_own_literal(&self, n: usize) -> bool {
+        self.literal(n).is_some() && self.uses.get(n).copied().unwrap_or(0) == 1
     }
 }

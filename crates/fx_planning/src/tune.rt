@@ -4,10 +4,9 @@
 //! and kept where the cost falls.
 
 use crate::adjoint::slopes_of;
-use crate::cost::cost_of;
+use crate::cost::Cost;
 use crate::ends::keep_ends;
-use crate::error::find_errors;
-use crate::plan::{Plan, outputs_of};
+use crate::plan::{Plan, planned};
 use crate::setting::Setting;
 use fx_num::Memory;
 use fx_program::Code;
@@ -101,25 +100,60 @@ fn best_move(codes: &[Code], slopes: &[RealSpan], ends: RealSpan) -> Option<Move
     best
 }
 
-/// The codes with one literal's word moved, if it stays a word.
-fn moved_codes(
+/// The code of a literal with its word moved, if it stays a word.
+fn moved_code(codes: &[Code], n: usize, units: i64, width: u32) -> Option<Code> {
+    match codes.get(n) {
+        Some(Code::Const { w, f }) => {
+            match word_at(i128::from(*w).saturating_add(i128::from(units)), width) {
+                Some(w) => Some(Code::Const { w, f: *f }),
+                None => None,
+            }
+        }
+        _ => None,
+    }
+}
+
+/// The codes with another one in a place.
+fn codes_with(alloc: Global, codes: &[Code], n: usize, code: Code) -> Result<Vec<Code>, Memory> {
+    let mut changed = Vec::from_slice(alloc, codes)?;
+    if let Some(slot) = changed.get_mut(n) {
+        *slot = code;
+    }
+    Ok(changed)
+}
+
+/// The plan of these codes, if no word is too small and it costs less than so much.
+fn cheaper_plan(
     alloc: Global,
-    codes: &[Code],
+    setting: &Setting<'_>,
+    codes: Vec<Code>,
+    cost: Cost,
+) -> Result<Option<Plan>, Memory> {
+    match planned(alloc, setting, codes, false)? {
+        Ok(plan) => if plan.is_below(cost) {
+            Ok(Some(plan))
+        } else {
+            Ok(None)
+        },
+        Err(_) => Ok(None),
+    }
+}
+
+/// The plan with the word of literal `n` moved, if that is sound and cheaper.
+fn moved_plan(
+    alloc: Global,
+    setting: &Setting<'_>,
+    plan: &Plan,
     n: usize,
     units: i64,
-    width: u32,
-) -> Result<Option<Vec<Code>>, Memory> {
-    let Some(Code::Const { w, f }) = codes.get(n).copied() else {
-        return Ok(None);
-    };
-    let Some(w) = word_at(i128::from(w).saturating_add(i128::from(units)), width) else {
-        return Ok(None);
-    };
-    let mut moved = Vec::from_slice(alloc, codes)?;
-    if let Some(slot) = moved.get_mut(n) {
-        *slot = Code::Const { w, f };
+) -> Result<Option<Plan>, Memory> {
+    match moved_code(plan.codes(), n, units, setting.wanted.width) {
+        Some(code) => {
+            let codes = codes_with(alloc, plan.codes(), n, code)?;
+            cheaper_plan(alloc, setting, codes, plan.cost())
+        }
+        None => Ok(None),
     }
-    Ok(Some(moved))
 }
 
 /// Moves the word of literal `n`, and keeps that where no word is too small and the cost falls.
@@ -130,20 +164,36 @@ pub fn try_word(
     n: usize,
     units: i64,
 ) -> Result<bool, Memory> {
-    let Some(mut codes) = moved_codes(alloc, &plan.codes, n, units, setting.wanted.width)? else {
-        return Ok(false);
-    };
-    let Ok(errors) = find_errors(alloc, setting, &mut codes, false)? else {
-        return Ok(false);
-    };
-    let cost = cost_of(setting, outputs_of(setting, &errors));
-    if !errors.small.is_empty() || cost >= plan.cost {
-        return Ok(false);
+    match moved_plan(alloc, setting, plan, n, units)? {
+        Some(cheaper) => {
+            *plan = cheaper;
+            Ok(true)
+        }
+        None => Ok(false),
     }
-    plan.codes = codes;
-    plan.errors = errors;
-    plan.cost = cost;
-    Ok(true)
+}
+
+/// Tunes a plan for output `j`, which is this node and moves so with each, and answers whether there was a move to try.
+fn tune_by(
+    alloc: Global,
+    setting: &Setting<'_>,
+    plan: &mut Plan,
+    slopes: &[RealSpan],
+    j: usize,
+    output: usize,
+) -> Result<bool, Memory> {
+    keep_ends(alloc, setting, plan, slopes, j, output)?;
+    let best = match plan.errors.span(output) {
+        Some(error) => best_move(&plan.codes, slopes, RealSpan::of(error)),
+        None => None,
+    };
+    match best {
+        Some(best) => {
+            try_word(alloc, setting, plan, best.node, best.units)?;
+            Ok(true)
+        }
+        None => Ok(false),
+    }
 }
 
 /// Tunes a plan for output `j`, which is this node, and answers whether there was a move to try.
@@ -158,15 +208,7 @@ fn tune_output(
         return Ok(false);
     }
     let slopes = slopes_of(alloc, setting.nodes, setting.ranges, output)?;
-    keep_ends(alloc, setting, plan, &slopes, j, output)?;
-    let Some(error) = plan.errors.span(output) else {
-        return Ok(false);
-    };
-    let Some(best) = best_move(&plan.codes, &slopes, RealSpan::of(error)) else {
-        return Ok(false);
-    };
-    try_word(alloc, setting, plan, best.node, best.units)?;
-    Ok(true)
+    tune_by(alloc, setting, plan, &slopes, j, output)
 }
 
 /// Tunes a plan for each output, a few rounds.
