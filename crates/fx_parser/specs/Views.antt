@@ -1,5 +1,5 @@
 -- What the values of the code stand for.
-use Rattle.std.specs.Prelude.{◌≡◌, ◌≤◌, ◌+◌, length, List, map}
+use Rattle.std.specs.Prelude.{◌≡◌, ◌≤◌, ◌+◌, ◌++◌, ◌∷◌, [], length, List, map}
 use Rattle.fx_rational.specs.Decimal.{decimal_value}
 use Rattle.fx_model.specs.Limits.{input_limit, state_limit, temp_limit}
 use Rattle.fx_model.specs.Function as model
@@ -24,6 +24,10 @@ state_value s = record { name = s.name.now; start = decimal_value (numeral_decim
 
 abbrev pub declared_of : Declared → fronts.Declared
 declared_of h = record { names = h.names; states = map state_value h.states.items }
+
+-- what is declared with one more state and its name
+abbrev pub with_state : fronts.Declared → model.State → fronts.Declared
+with_state h s = record { names = h.names ++ s.name ∷ []; states = h.states ++ s ∷ [] }
 
 abbrev pub temp_value : Temp → model.Temp
 temp_value t = record { name = t.name.now; tree = tree t.expr }

@@ -7,6 +7,7 @@ ghost use Rattle.fx_lexer.specs.Faults.{GivesParsed};
 ghost use Rattle.fx_cursor.specs.Views.{lexemes};
 ghost use Rattle.fx_expressions.specs.Views.{operand_of};
 ghost use Rattle.fx_parser.specs.Views.{body_value, results_value, HasBodyRoom};
+ghost use Rattle.fx_parser.specs.Behind.{GoesOn, val_behind};
 ghost use Rattle.fx_cursor.specs.Texts.{all_texts};
 ghost use Rattle.fx_grammar.specs.Steps.{name_place};
 ghost use Rattle.fx_expr.specs.TreeOf.{tree};
@@ -150,11 +151,11 @@ fn with_temp<'a>(body: Body<'a>, name: &'a str, operand: Operand) -> Result<Body
         nodes: more,
         ..
     } = operand;
-    let names = with_name(names, name)?;
     temps.push(Temp {
         name,
         expr: tree_or(expr),
     })?;
+    let names = with_name(names, name)?;
     Ok(Body {
         names,
         inputs,
@@ -164,8 +165,24 @@ fn with_temp<'a>(body: Body<'a>, name: &'a str, operand: Operand) -> Result<Body
     })
 }
 
-/// One `val`, behind the word.
+/// The name of one `val`, behind the word, and what stands behind its sign.
 #[tactic(auto, unfolding(fx_grammar::specs::Bodies::val_at))]
+fn val_name<'t, 'a>(end: u32, body: &Body<'_>, tokens: &'t [Token<'a>]) -> Parsed<'t, 'a, Token<'a>>
+    requires { HasBodyRoom body.now }
+    ensures value { GoesOn (λ x. val_behind end (body_value body.now) x.0.text.now (lexemes x.1.now)) result
+        (val_at end (body_value body.now) (lexemes tokens.now)) }
+    ensures shorter { IfOk result (λ x. length x.1.now < length tokens.now) }
+    ensures few { IfOk result (λ x. length body.now.temps.items < 1000) }
+    ensures new { IfOk result (λ x. name_place body.now.names x.0.text.now ≡ None) }
+{
+    let (token, rest) = want(end, Head::Name, tokens)?;
+    free(TEMPS, body.temps.len(), &body.names, &token)?;
+    let rest = typed(end, rest)?;
+    let (_, rest) = want(end, Head::Equals, rest)?;
+    Ok((token, rest))
+}
+
+/// One `val`, behind the word.
 fn val<'t, 'a>(
     alloc: Global,
     end: u32,
@@ -179,10 +196,7 @@ fn val<'t, 'a>(
     ensures room { IfOk result (λ x. HasBodyRoom x.0) }
     ensures kept { IfOk result (λ x. (x.0.inputs ≡ body.entry.inputs) × (x.0.states ≡ body.entry.states)) }
 {
-    let (token, rest) = want(end, Head::Name, tokens)?;
-    free(TEMPS, body.temps.len(), &body.names, &token)?;
-    let rest = typed(end, rest)?;
-    let (_, rest) = want(end, Head::Equals, rest)?;
+    let (token, rest) = val_name(end, &body, tokens)?;
     let (operand, rest) = whole(alloc, end, &body, rest)?;
     let body = with_temp(body, token.text, operand)?;
     Ok((body, past_semicolon(rest)))

@@ -1,13 +1,13 @@
 //! What stands before a function's body: its name, its parameters, its states and its type.
-ghost use Rattle.std.specs.Prelude.{◌≡◌, ◌≤◌, ◌<◌, ◌+◌, ◌^◌, length, map, IfOk, [], IfNone, IfSome, Ok};
+ghost use Rattle.std.specs.Prelude.{◌≡◌, ◌≤◌, ◌<◌, ◌+◌, ◌^◌, ◌++◌, ◌∷◌, length, map, IfOk, [], IfNone, IfSome, Ok, None};
 ghost use Rattle.fx_lexer.specs.Faults.{GivesParsed};
 ghost use Rattle.fx_lexer.specs.Tokens.{lexeme_of};
 ghost use Rattle.fx_cursor.specs.Texts.{all_texts};
 ghost use Rattle.fx_cursor.specs.Views.{lexemes};
 ghost use Rattle.fx_requirements.specs.Views.{subjects_of, IsNamed};
-ghost use Rattle.fx_parser.specs.Views.{declared_of, state_value};
-ghost use Rattle.fx_grammar.specs.Ranges.{names_of};
-ghost use Rattle.fx_grammar.specs.Steps.{has_name, free_at, listed, real_at};
+ghost use Rattle.fx_parser.specs.Views.{declared_of, state_value, with_state};
+ghost use Rattle.fx_grammar.specs.Ranges.{names_of, new_subject};
+ghost use Rattle.fx_grammar.specs.Steps.{has_name, name_place, free_at, listed, real_at};
 ghost use Rattle.fx_grammar.specs.Fronts.{param_at, declared_state, states_at, one_real, type_at, more_than};
 ghost use Rattle.fx_grammar.specs.Functions.{new_name};
 
@@ -42,8 +42,29 @@ pub struct Declared<'a> {
     pub states: Vec<State<'a>>,
 }
 
-/// A parameter behind those that were read.
+/// The name of a parameter behind those that were read, and what stands behind its type.
 #[tactic(auto, unfolding(fx_grammar::specs::Fronts::param_at))]
+fn param_name<'t, 'a>(
+    end: u32,
+    named: &Named<'_>,
+    tokens: &'t [Token<'a>],
+) -> Parsed<'t, 'a, Token<'a>>
+    requires few { length named.now.subjects.items ≤ 64 }
+    requires same { IsNamed named.now }
+    ensures value { GivesParsed (λ x. (subjects_of named.now.subjects ++ new_subject (lexeme_of x.0) ∷ [], lexemes x.1.now))
+        result (param_at end (subjects_of named.now.subjects) (lexemes tokens.now)) }
+    ensures shorter { IfOk result (λ x. length x.1.now < length tokens.now) }
+    ensures few { IfOk result (λ x. length named.now.subjects.items < 64) }
+    ensures new { IfOk result (λ x. name_place named.now.names x.0.text.now ≡ None) }
+{
+    let (token, rest) = want(end, Head::Name, tokens)?;
+    free(INPUTS, named.subjects.len(), &named.names, &token)?;
+    let (_, rest) = want(end, Head::Colon, rest)?;
+    let (_, rest) = real(end, rest)?;
+    Ok((token, rest))
+}
+
+/// A parameter behind those that were read.
 fn param<'t, 'a>(end: u32, named: Named<'a>, tokens: &'t [Token<'a>]) -> Parsed<'t, 'a, Named<'a>>
     requires few { length named.subjects.items ≤ 64 }
     requires same { IsNamed named }
@@ -53,10 +74,7 @@ fn param<'t, 'a>(end: u32, named: Named<'a>, tokens: &'t [Token<'a>]) -> Parsed<
     ensures few { IfOk result (λ x. length x.0.subjects.items ≤ 64) }
     ensures same { IfOk result (λ x. IsNamed x.0) }
 {
-    let (token, rest) = want(end, Head::Name, tokens)?;
-    free(INPUTS, named.subjects.len(), &named.names, &token)?;
-    let (_, rest) = want(end, Head::Colon, rest)?;
-    let (_, rest) = real(end, rest)?;
+    let (token, rest) = param_name(end, &named, tokens)?;
     let named = with_subject(named, &token)?;
     Ok((named, rest))
 }
@@ -101,6 +119,45 @@ pub fn params<'t, 'a>(alloc: Global, end: u32, tokens: &'t [Token<'a>]) -> Parse
 
 /// A state behind those that were read.
 #[tactic(auto, unfolding(fx_grammar::specs::Fronts::declared_state))]
+fn state_at<'t, 'a>(
+    end: u32,
+    declared: &Declared<'_>,
+    tokens: &'t [Token<'a>],
+) -> Parsed<'t, 'a, State<'a>>
+    requires { length declared.now.states.items ≤ 32 }
+    ensures value { GivesParsed (λ x. (with_state (declared_of declared.now) (state_value x.0), lexemes x.1.now))
+        result (declared_state end (declared_of declared.now) (lexemes tokens.now)) }
+    ensures shorter { IfOk result (λ x. length x.1.now < length tokens.now) }
+    ensures few { IfOk result (λ x. length declared.now.states.items < 32) }
+    ensures new { IfOk result (λ x. name_place declared.now.names x.0.name.now ≡ None) }
+{
+    let (token, rest) = want(end, Head::Name, tokens)?;
+    free(STATES, declared.states.len(), &declared.names, &token)?;
+    let (_, rest) = want(end, Head::Colon, rest)?;
+    let (_, rest) = real(end, rest)?;
+    let (_, rest) = want(end, Head::Equals, rest)?;
+    let (start, rest) = signed(end, rest)?;
+    let state = State {
+        name: token.text,
+        start,
+    };
+    Ok((state, rest))
+}
+
+/// The states and one more, whose name is new.
+fn with_state<'a>(declared: Declared<'a>, state: State<'a>) -> Result<Declared<'a>, SourceFault>
+    requires { name_place declared.names state.name.now ≡ None }
+    ensures value { GivesParsed declared_of result (Ok (with_state (declared_of declared.entry) (state_value state.entry))) }
+    ensures count { IfOk result (λ more. (length more.states.items ≡ length declared.entry.states.items + 1) ×
+        (length more.names ≡ length declared.entry.names + 1)) }
+{
+    let Declared { names, mut states } = declared;
+    states.push(state)?;
+    let names = with_name(names, state.name)?;
+    Ok(Declared { names, states })
+}
+
+/// One more state, with its name.
 fn one_state<'t, 'a>(
     end: u32,
     declared: Declared<'a>,
@@ -114,19 +171,9 @@ fn one_state<'t, 'a>(
     ensures few { IfOk result (λ x. (length x.0.states.items ≤ 32) ×
         (length x.0.names ≤ 64 + length x.0.states.items)) }
 {
-    let Declared { names, mut states } = declared;
-    let (token, rest) = want(end, Head::Name, tokens)?;
-    free(STATES, states.len(), &names, &token)?;
-    let (_, rest) = want(end, Head::Colon, rest)?;
-    let (_, rest) = real(end, rest)?;
-    let (_, rest) = want(end, Head::Equals, rest)?;
-    let (start, rest) = signed(end, rest)?;
-    let names = with_name(names, token.text)?;
-    states.push(State {
-        name: token.text,
-        start,
-    })?;
-    Ok((Declared { names, states }, rest))
+    let (state, rest) = state_at(end, &declared, tokens)?;
+    let declared = with_state(declared, state)?;
+    Ok((declared, rest))
 }
 
 /// One more `Real` of a type that begins at `first`.

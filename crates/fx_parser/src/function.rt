@@ -4,6 +4,7 @@ ghost use Rattle.fx_lexer.specs.Faults.{GivesParsed};
 ghost use Rattle.fx_cursor.specs.Texts.{all_texts};
 ghost use Rattle.fx_cursor.specs.Views.{lexemes};
 ghost use Rattle.fx_requirements.specs.Views.{demand_value, subject_of, subjects_of};
+ghost use Rattle.fx_parser.specs.Behind.{GoesOn, front_behind, with_reals};
 ghost use Rattle.fx_parser.specs.Views.{source_function_of, front_value, body_value, results_value, HasBodyRoom};
 ghost use Rattle.fx_grammar.specs.Steps.{has_name, name_place};
 ghost use Rattle.fx_grammar.specs.Functions.{front_at, body_of, require_word_at, within_nodes, ending_at, body_at};
@@ -38,8 +39,54 @@ pub struct Front<'a> {
     pub reals: usize,
 }
 
-/// A function up to its brace, behind its word.
+/// A function up to the colon before its type, behind its word. It has no `Real` yet.
 #[tactic(auto, unfolding(fx_grammar::specs::Functions::front_at))]
+fn declared_at<'t, 'a>(
+    alloc: Global,
+    end: u32,
+    functions: &Names<'_>,
+    tokens: &'t [Token<'a>],
+) -> Parsed<'t, 'a, Front<'a>>
+    ensures value { GoesOn (λ x. front_behind end (front_value x.0) (lexemes x.1.now)) result
+        (front_at end functions.now (lexemes tokens.now)) }
+    ensures shorter { IfOk result (λ x. length x.1.now < length tokens.now) }
+    ensures few { IfOk result (λ x. (length x.0.subjects.items ≤ 64) × (length x.0.declared.states.items ≤ 32) ×
+        (length x.0.declared.names ≤ 96)) }
+    ensures fresh { IfOk result (λ x. name_place functions.now x.0.name.now ≡ None) }
+{
+    let (token, rest) = want(end, Head::Name, tokens)?;
+    if place(functions, token.text).is_some() {
+        return Err(SourceFault::at(token.at, SourceKind::NamedTwice));
+    }
+    let (_, rest) = want(end, Head::Open, rest)?;
+    let (named, rest) = params(alloc, end, rest)?;
+    let Named { names, subjects } = named;
+    let (declared, rest) = states(alloc, end, names, rest)?;
+    let front = Front {
+        name: token.text,
+        subjects,
+        declared,
+        reals: 0,
+    };
+    Ok((front, rest))
+}
+
+/// How many `Real` the type of what is declared has, up to the brace.
+fn reals_at<'t, 'a>(end: u32, front: &Front<'_>, tokens: &'t [Token<'a>]) -> Parsed<'t, 'a, usize>
+    requires { length front.now.declared.states.items ≤ 32 }
+    ensures value { GivesParsed (λ x. (with_reals (front_value front.now) x.0, lexemes x.1.now)) result
+        (front_behind end (front_value front.now) (lexemes tokens.now)) }
+    ensures shorter { IfOk result (λ x. length x.1.now < length tokens.now) }
+    ensures more { IfOk result (λ x. length front.now.declared.states.items < x.0) }
+{
+    let (_, rest) = want(end, Head::Colon, tokens)?;
+    let (reals, rest) = type_at(end, front.declared.states.len(), rest)?;
+    let (_, rest) = want(end, Head::Equals, rest)?;
+    let (_, rest) = want(end, Head::OpenBrace, rest)?;
+    Ok((reals, rest))
+}
+
+/// A function up to its brace, behind its word.
 pub fn read_front<'t, 'a>(
     alloc: Global,
     end: u32,
@@ -53,24 +100,9 @@ pub fn read_front<'t, 'a>(
         (length x.0.declared.names ≤ 96) × (length x.0.declared.states.items < x.0.reals)) }
     ensures fresh { IfOk result (λ x. name_place functions.now x.0.name.now ≡ None) }
 {
-    let (token, rest) = want(end, Head::Name, tokens)?;
-    if place(functions, token.text).is_some() {
-        return Err(SourceFault::at(token.at, SourceKind::NamedTwice));
-    }
-    let (_, rest) = want(end, Head::Open, rest)?;
-    let (named, rest) = params(alloc, end, rest)?;
-    let Named { names, subjects } = named;
-    let (declared, rest) = states(alloc, end, names, rest)?;
-    let (_, rest) = want(end, Head::Colon, rest)?;
-    let (reals, rest) = type_at(end, declared.states.len(), rest)?;
-    let (_, rest) = want(end, Head::Equals, rest)?;
-    let (_, rest) = want(end, Head::OpenBrace, rest)?;
-    let front = Front {
-        name: token.text,
-        subjects,
-        declared,
-        reals,
-    };
+    let (mut front, rest) = declared_at(alloc, end, functions, tokens)?;
+    let (reals, rest) = reals_at(end, &front, rest)?;
+    front.reals = reals;
     Ok((front, rest))
 }
 

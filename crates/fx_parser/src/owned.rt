@@ -2,14 +2,14 @@
 //!
 //! Only this one is copied out of the text. That it is lawful is no test here: every function that the grammar reads
 //! is.
-ghost use Rattle.std.specs.Prelude.{◌≡◌, map, Ok};
+ghost use Rattle.std.specs.Prelude.{◌≡◌, map, Ok, IfOk, IfErr};
 ghost use Rattle.std.specs.List.{All};
 ghost use Rattle.fx_model.specs.Names.{IsName};
 ghost use Rattle.fx_expr.specs.Parts as parts;
 ghost use Rattle.fx_grammar.specs.Ranges.{declared_input};
 ghost use Rattle.std.specs.Option.{option_map};
 ghost use Rattle.fx_cursor.specs.Texts.{numeral_decimal};
-ghost use Rattle.fx_lexer.specs.Faults.{GivesParsed};
+ghost use Rattle.fx_lexer.specs.Faults.{source_memory, GivesParsed};
 ghost use Rattle.fx_parser.specs.LawfulNames.{IsLawfulAndNamed};
 ghost use Rattle.fx_requirements.specs.Views.{subject_of, demand_value};
 ghost use Rattle.fx_parser.specs.Views.{state_value, temp_value, source_function_of};
@@ -98,6 +98,43 @@ fn owned_demands(alloc: Global, demands: &[Demanded<'_>]) -> Result<Vec<Demand>,
     Ok(owned)
 }
 
+/// What a function declares, with names of its own.
+#[derive(Drop)]
+struct Declarations {
+    name: Name,
+    inputs: Vec<Input>,
+    states: Vec<State>,
+    demands: Vec<Demand>,
+}
+
+fn declared(
+    alloc: Global,
+    name: &str,
+    inputs: &[Subject<'_>],
+    states: &[front::State<'_>],
+    demands: &[Demanded<'_>],
+) -> Result<Declarations, SourceFault>
+    requires name { IsName name.now }
+    requires inputs { All (λ s. IsName s.name.now) inputs.now }
+    requires states { All (λ s. IsName s.name.now) states.now }
+    ensures name { IfOk result (λ d. d.name ≡ name.now) }
+    ensures inputs { IfOk result (λ d. map parts.input_of d.inputs.items ≡ map declared_input (map subject_of inputs.now)) }
+    ensures states { IfOk result (λ d. map parts.state_of d.states.items ≡ map state_value states.now) }
+    ensures demands { IfOk result (λ d. map parts.demand_of d.demands.items ≡ map demand_value demands.now) }
+    ensures failed { IfErr result (λ e. e ≡ source_memory) }
+{
+    let name = owned_name(alloc, name)?;
+    let inputs = owned_inputs(alloc, inputs)?;
+    let states = owned_states(alloc, states)?;
+    let demands = owned_demands(alloc, demands)?;
+    Ok(Declarations {
+        name,
+        inputs,
+        states,
+        demands,
+    })
+}
+
 /// The function that was read.
 pub fn owned(alloc: Global, source_function: SourceFunction<'_>) -> Result<Function, SourceFault>
     requires { IsLawfulAndNamed (source_function_of source_function) }
@@ -111,11 +148,13 @@ pub fn owned(alloc: Global, source_function: SourceFunction<'_>) -> Result<Funct
         results,
         demands,
     } = source_function;
-    let name = owned_name(alloc, name)?;
-    let inputs = owned_inputs(alloc, &inputs)?;
-    let states = owned_states(alloc, &states)?;
     let temps = owned_temps(alloc, temps)?;
-    let demands = owned_demands(alloc, &demands)?;
+    let Declarations {
+        name,
+        inputs,
+        states,
+        demands,
+    } = declared(alloc, name, &inputs, &states, &demands)?;
     Ok(Function::new(
         name,
         Items::from_vec(inputs),

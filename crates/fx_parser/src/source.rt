@@ -120,8 +120,8 @@ fn one_def<'t, 'a>(
     let (front, rest) = read_front(alloc, end, &names, behind(tokens))?;
     let name = front.name;
     let (source_function, rest) = read_body(alloc, end, word, front, rest)?;
-    let names = with_name(names, name)?;
     list.push(source_function)?;
+    let names = with_name(names, name)?;
     Ok((SourceFunctions { names, list }, rest))
 }
 

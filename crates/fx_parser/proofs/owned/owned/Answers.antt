@@ -6,14 +6,14 @@ use Rattle.fx_parser.specs.Views.{state_value, temp_value}
 use Rattle.fx_parser.proofs.Unmapped.{unmapped}
 use Rattle.fx_parser.proofs.owned.owned.Goals as goal
 
-pub owned_inputs-requires : goal.owned_inputs-requires
-owned_inputs-requires c =
+pub declared-requires-clause-inputs : goal.declared-requires-clause-inputs
+declared-requires-clause-inputs c =
     rw c.deref.ensures.value (unmapped subject_of (λ s. IsName s.name) c.args.source_function.inputs.items
     (unmapped declared_input (λ i. IsName i.name)
     (map subject_of c.args.source_function.inputs.items) c.requires.1.inputs))
 
-pub owned_states-requires : goal.owned_states-requires
-owned_states-requires c =
+pub declared-requires-clause-states : goal.declared-requires-clause-states
+declared-requires-clause-states c =
     rw c.deref-2.ensures.value
     (unmapped state_value (λ s. IsName s.name) c.args.source_function.states.items c.requires.1.states)
 
