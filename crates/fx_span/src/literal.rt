@@ -117,19 +117,25 @@ pub fn word_error(c: Fraction, w: i128, point: i32, grids: Grids) -> Option<Span
         .saturating_sub(i64::from(bits(w.unsigned_abs())))
         .saturating_sub(i64::from(bits(c.q.unsigned_abs())));
     let fine = i64::from(grids.error_places_at(point));
-    let difference = word_difference(c, w, point)?;
-    hold(difference, difference, fine.min(free).clamp(0, 126) as u32)
+    let e = fine.min(free).clamp(0, 126) as u32;
+    let top = word_difference(c, w, point)?;
+    // the difference is in units of the point, whose places it needs no more
+    let places = (e as i32).saturating_sub(point.max(0));
+    Some(Span {
+        lo: floor_at(top, c.q, places)?,
+        hi: ceil_at(top, c.q, places)?,
+        e,
+    })
 }
 
-/// The word's value less the literal, as a numerator and a denominator.
-fn word_difference(c: Fraction, w: i128, point: i32) -> Option<(i128, i128)> {
+/// The word's value less the literal, times the literal's denominator, in units of the point where that is above zero.
+fn word_difference(c: Fraction, w: i128, point: i32) -> Option<i128> {
     let places = point.unsigned_abs();
     if point >= 0 {
-        let top = w.checked_mul(c.q)?.checked_sub(left_fits(c.p, places)?)?;
-        return Some((top, left_fits(c.q, places)?));
+        w.checked_mul(c.q)?.checked_sub(left_fits(c.p, places)?)
+    } else {
+        left_fits(w, places)?.checked_mul(c.q)?.checked_sub(c.p)
     }
-    let value = left_fits(w, places)?;
-    Some((value.checked_mul(c.q)?.checked_sub(c.p)?, c.q))
 }
 
 /// Whether the numbers of a range, so many places behind the point, are words at a point.
