@@ -147,7 +147,8 @@ fn state_at<'t, 'a>(
 /// The states and one more, whose name is new.
 fn with_state<'a>(declared: Declared<'a>, state: State<'a>) -> Result<Declared<'a>, SourceFault>
     requires { name_place declared.names state.name.now ≡ None }
-    ensures value { GivesParsed declared_of result (Ok (with_state (declared_of declared.entry) (state_value state.entry))) }
+    ensures value { GivesParsed declared_of result
+        (Ok (with_state (declared_of declared.entry) (state_value state.entry))) }
     ensures count { IfOk result (λ more. (length more.states.items ≡ length declared.entry.states.items + 1) ×
         (length more.names ≡ length declared.entry.names + 1)) }
 {

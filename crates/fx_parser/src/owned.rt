@@ -118,7 +118,8 @@ fn declared(
     requires inputs { All (λ s. IsName s.name.now) inputs.now }
     requires states { All (λ s. IsName s.name.now) states.now }
     ensures name { IfOk result (λ d. d.name ≡ name.now) }
-    ensures inputs { IfOk result (λ d. map parts.input_of d.inputs.items ≡ map declared_input (map subject_of inputs.now)) }
+    ensures inputs { IfOk result
+        (λ d. map parts.input_of d.inputs.items ≡ map declared_input (map subject_of inputs.now)) }
     ensures states { IfOk result (λ d. map parts.state_of d.states.items ≡ map state_value states.now) }
     ensures demands { IfOk result (λ d. map parts.demand_of d.demands.items ≡ map demand_value demands.now) }
     ensures failed { IfErr result (λ e. e ≡ source_memory) }
