@@ -25,7 +25,7 @@ use std::alloc::Global;
 const TURNS: u32 = 12;
 
 /// Points, and a plan at them with error boxes that stand.
-#[derive(Debug, Drop)]
+#[derive(Drop)]
 struct Errors {
     points: Vec<i32>,
     settled: Settled<Plan>,

@@ -41,7 +41,7 @@ pub trait Settling {
 }
 
 /// What was found in boxes that hold the bounds of their templates, and the templates.
-#[derive(Debug, Drop)]
+#[derive(Drop)]
 pub struct Settled<F> {
     pub starts: Vec<Span>,
     pub found: F,
