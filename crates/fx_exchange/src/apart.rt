@@ -13,7 +13,7 @@ use std::alloc::Global;
 const SIZE_BITS: i32 = 44;
 
 /// Templates by which a combination is bounded, and the bound.
-#[derive(Debug, Drop)]
+#[derive(Drop)]
 pub struct Apart {
     /// The templates, each so many times.
     pub shares: Items<Share>,
@@ -22,7 +22,7 @@ pub struct Apart {
 }
 
 /// A combination of the variables, of which the inputs stand first.
-#[derive(Clone, Copy, Debug)]
+#[derive(Clone, Copy)]
 pub struct Combination<'a> {
     /// A coefficient for each variable.
     pub coefs: &'a [Dyadic],

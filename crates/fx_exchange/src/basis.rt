@@ -25,7 +25,7 @@ const LEAST_PIVOT: f64 = 1.0e-9;
 const SLACK: f64 = 1.0e-12;
 
 /// The templates of a pool in coordinates in which each costs 1.
-#[derive(Debug, Drop)]
+#[derive(Drop)]
 pub struct ScaledTemplates<'a> {
     pool: &'a Pool,
     /// What each template costs.
@@ -35,13 +35,13 @@ pub struct ScaledTemplates<'a> {
 }
 
 /// A basis: its templates, each with a sign.
-#[derive(Debug, Drop)]
+#[derive(Drop)]
 struct Basis {
     templates: Vec<(usize, f64)>,
 }
 
 /// What a template takes apart to, and what that costs.
-#[derive(Debug, Drop)]
+#[derive(Drop)]
 pub struct Exchanged {
     pub cost: i128,
     pub shares: Vec<Share>,
@@ -111,7 +111,7 @@ fn dot(a: &[f64], b: &[f64]) -> f64 {
 }
 
 /// A template to come into the basis, and how much it gains.
-#[derive(Clone, Copy, Debug)]
+#[derive(Clone, Copy)]
 struct Entering {
     template: usize,
     gain: f64,

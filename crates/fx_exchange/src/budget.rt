@@ -4,7 +4,7 @@
 const MOST: u64 = 1 << 29;
 
 /// What is left of the work that exchanges may come to, in products.
-#[derive(Debug, Drop)]
+#[derive(Drop)]
 pub struct Budget {
     left: u64,
 }

@@ -25,7 +25,7 @@ const ERROR_PLACES: i32 = 16;
 const ERROR_BITS: i32 = 60;
 
 /// Where the inputs lie, and templates of the states, which are scaled once for all nodes.
-#[derive(Clone, Copy, Debug)]
+#[derive(Clone, Copy)]
 struct Standing<'a> {
     spans: &'a [Interval],
     templates: &'a [Template],

@@ -11,11 +11,11 @@ use fx_writing::{plan_lines, range_lines};
 use std::alloc::Global;
 
 /// Ranges, in boxes of values.
-#[derive(Clone, Copy, Debug)]
+#[derive(Clone, Copy)]
 pub struct OfValues;
 
 /// A plan at these points, in boxes of errors.
-#[derive(Clone, Copy, Debug)]
+#[derive(Clone, Copy)]
 pub struct OfErrors<'a> {
     pub ranges: &'a Ranges,
     pub points: &'a [i32],

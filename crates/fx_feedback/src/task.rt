@@ -7,7 +7,7 @@ use fx_step::Step;
 use fx_wanted::Wanted;
 
 /// What an attempt goes on.
-#[derive(Clone, Copy, Debug)]
+#[derive(Clone, Copy)]
 pub struct Task<'a> {
     /// The function that was asked for.
     pub source: &'a Function,

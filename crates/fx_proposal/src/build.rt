@@ -10,7 +10,7 @@ use std::alloc::Global;
 const TEMPLATES: usize = TEMPLATE_LIMIT as usize;
 
 /// A template whose image isn't kept: it is taken apart by an exchange.
-#[derive(Clone, Copy, Debug)]
+#[derive(Clone, Copy)]
 struct End {
     chain: usize,
     time: usize,
@@ -18,7 +18,7 @@ struct End {
 }
 
 /// A pool while chains are put into it, with the templates that wait for an exchange.
-#[derive(Debug, Drop)]
+#[derive(Drop)]
 struct Building<'a> {
     alloc: Global,
     costs: &'a Costs,
@@ -153,15 +153,11 @@ impl<'a> Building<'a> {
         };
         let mut before: usize = 0;
         for time in times.iter().skip(1) {
-            let time = *time;
-            let template = self.put_template(
-                &chain.ahead,
-                time,
-                room_at(own, time, length, has_gaps),
-            )?;
-            self.join(number, last, before, template, time)?;
+            let room = room_at(own, *time, length, has_gaps);
+            let template = self.put_template(&chain.ahead, *time, room)?;
+            self.join(number, last, before, template, *time)?;
             last = template;
-            before = time;
+            before = *time;
         }
         Ok(last)
     }
@@ -269,13 +265,33 @@ impl<'a> Building<'a> {
         Ok(shares)
     }
 
-    /// The pool, with these shares for the templates that waited.
-    fn finished(self, shares: Vec<Vec<Share>>) -> Pool {
-        let mut pool = self.pool;
+    /// Gives the templates that waited what exchanges find for them.
+    fn exchange_ends(&mut self, chains: &[Chain], budget: &mut Budget) -> Result<(), Memory> {
+        let shares = self.exchanged(chains, budget)?;
         for (end, own) in self.ends.iter().zip(shares) {
-            pool.put_shares(end.template, own);
+            self.pool.put_shares(end.template, own);
         }
-        pool
+        Ok(())
+    }
+
+    /// Puts in the unit templates and all chains, as long as there is place. False where growing times don't suffice.
+    fn fill(
+        &mut self,
+        chains: &[Chain],
+        is_growing: bool,
+        budget: &mut Budget,
+    ) -> Result<bool, Memory> {
+        let lengths = wanted_lengths(self.alloc, chains, self.costs)?;
+        let places = TEMPLATES
+            .saturating_sub(self.pool.templates.states)
+            .saturating_sub(free_chains(chains));
+        let most = cap_of(&lengths, places).saturating_add(1);
+        self.put_units(chains)?;
+        if !self.put_chains(chains, &lengths, most, is_growing)? {
+            return Ok(false);
+        }
+        self.exchange_ends(chains, budget)?;
+        Ok(true)
     }
 }
 
@@ -288,16 +304,10 @@ pub fn build(
     is_growing: bool,
     budget: &mut Budget,
 ) -> Result<Option<Pool>, Memory> {
-    let lengths = wanted_lengths(alloc, chains, costs)?;
-    let places = TEMPLATES
-        .saturating_sub(linear.states)
-        .saturating_sub(free_chains(chains));
-    let most = cap_of(&lengths, places).saturating_add(1);
     let mut building = Building::new(alloc, linear, costs);
-    building.put_units(chains)?;
-    if !building.put_chains(chains, &lengths, most, is_growing)? {
-        return Ok(None);
+    if building.fill(chains, is_growing, budget)? {
+        Ok(Some(building.pool))
+    } else {
+        Ok(None)
     }
-    let shares = building.exchanged(chains, budget)?;
-    Ok(Some(building.finished(shares)))
 }

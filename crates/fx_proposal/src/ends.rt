@@ -5,7 +5,7 @@ use fx_reach::moved_down;
 use std::alloc::Global;
 
 /// Ends of a bound, whole at the power of two of its template.
-#[derive(Clone, Copy, Debug)]
+#[derive(Clone, Copy)]
 pub struct Ends {
     pub lo: i128,
     pub hi: i128,
@@ -36,6 +36,16 @@ impl Ends {
             lo: self.lo.max(other.lo),
             hi: self.hi.min(other.hi),
         }
+    }
+
+    /// With so many times others.
+    pub fn plus(self, times: i128, other: Ends) -> Option<Ends> {
+        let a = times.checked_mul(other.lo)?;
+        let b = times.checked_mul(other.hi)?;
+        Some(Ends {
+            lo: self.lo.checked_add(a.min(b))?,
+            hi: self.hi.checked_add(a.max(b))?,
+        })
     }
 
     /// Wider by `2^-k` of the width on both sides.

@@ -21,14 +21,14 @@ const MOST_OF_POLES: usize = 400;
 const LONGEST: usize = 1024;
 
 /// A template whose image is taken apart by an exchange.
-#[derive(Debug, Drop)]
+#[derive(Drop)]
 struct End {
     image: Vec<i128>,
     template: usize,
 }
 
 /// A pool while it is built, with the templates that wait for an exchange.
-#[derive(Debug, Drop)]
+#[derive(Drop)]
 pub struct Building<'a> {
     alloc: Global,
     linear: &'a Linear,
@@ -67,32 +67,41 @@ impl<'a> Building<'a> {
     fn put_units(&mut self, chains: &[Chain]) -> Result<(), Memory> {
         for chain in chains {
             if let Some(k) = chain.state {
-                let width = chain.ahead.templates.width(0);
-                let room = self.room(width, 1);
-                let reach = chain.ahead.templates.reach(0);
-                self.pool.push_unit(self.alloc, k, reach, room)?;
-                self.costs.push(width.saturating_add(room))?;
-                self.factors.push(1)?;
+                self.put_unit(&chain.ahead, k)?;
             }
         }
+        Ok(())
+    }
+
+    /// Adds the unit template of a state.
+    fn put_unit(&mut self, ahead: &Ahead, k: usize) -> Result<(), Memory> {
+        let width = ahead.templates.width(0);
+        let room = self.room(width, 1);
+        self.pool
+            .push_unit(self.alloc, k, ahead.templates.reach(0), room)?;
+        self.costs.push(width.saturating_add(room))?;
+        self.factors.push(1)?;
         Ok(())
     }
 
     /// Adds the templates of poles.
     fn put_poles(&mut self, planes: &Templates) -> Result<(), Memory> {
         for i in 0..planes.len() {
-            let template = planes.template(i);
-            let width = planes.width(i);
-            let room = room_part(width, self.rung.part, 100);
-            let place = self
-                .pool
-                .push_template(self.alloc, template, width, planes.reach(i), room)?;
-            if let Some(image) = self.linear.image(self.alloc, template)? {
-                self.ends.push(End {
-                    image,
-                    template: place,
-                })?;
-            }
+            self.put_plane(planes, i)?;
+        }
+        Ok(())
+    }
+
+    /// Adds one of them, which waits for an exchange of its image.
+    fn put_plane(&mut self, planes: &Templates, i: usize) -> Result<(), Memory> {
+        let own = planes.template(i);
+        let width = planes.width(i);
+        let room = room_part(width, self.rung.part, 100);
+        let template = self
+            .pool
+            .push_template(self.alloc, own, width, planes.reach(i), room)?;
+        if let Some(image) = self.linear.image(self.alloc, own)? {
+            self.ends.push(End { image, template })?;
         }
         Ok(())
     }
@@ -158,18 +167,23 @@ impl<'a> Building<'a> {
         for chain in chains {
             if let Some(k) = chain.state {
                 if self.is_follower(chain, k, budget)? {
-                    let room = self.room(chain.ahead.templates.width(0), 2);
-                    self.pool.put_room(k, room);
-                    if let Some(slot) = self.factors.get_mut(k) {
-                        *slot = 2;
-                    }
-                    if let Some(slot) = self.costs.get_mut(k) {
-                        *slot = self.pool.cost(k);
-                    }
+                    self.mark_follower(&chain.ahead, k);
                 }
             }
         }
         Ok(())
+    }
+
+    /// Marks a state, and gives its unit template twice the room.
+    fn mark_follower(&mut self, ahead: &Ahead, k: usize) {
+        let room = self.room(ahead.templates.width(0), 2);
+        self.pool.put_room(k, room);
+        if let Some(slot) = self.factors.get_mut(k) {
+            *slot = 2;
+        }
+        if let Some(slot) = self.costs.get_mut(k) {
+            *slot = self.pool.cost(k);
+        }
     }
 
     /// The first power of two at which a chain closes. None where there is none that it may have.
@@ -293,14 +307,38 @@ impl<'a> Building<'a> {
         Ok(shares)
     }
 
+    /// Gives the templates that waited what exchanges find for them.
+    fn exchange_ends(&mut self, budget: &mut Budget) -> Result<(), Memory> {
+        let shares = self.exchanged(budget)?;
+        for (end, own) in self.ends.iter().zip(shares) {
+            self.pool.put_shares(end.template, own);
+        }
+        Ok(())
+    }
+
     /// The pool, with what exchanges find for the templates that waited.
     pub fn finish(self, budget: &mut Budget) -> Result<Pool, Memory> {
-        let shares = self.exchanged(budget)?;
-        let mut pool = self.pool;
-        for (end, own) in self.ends.iter().zip(shares) {
-            pool.put_shares(end.template, own);
-        }
-        Ok(pool)
+        let mut building = self;
+        building.exchange_ends(budget)?;
+        Ok(building.pool)
+    }
+}
+
+impl Building<'_> {
+    /// Puts in the unit templates, those of poles, and all chains. False where the chains have no place.
+    fn fill(
+        &mut self,
+        chains: &[Chain],
+        planes: &Templates,
+        budget: &mut Budget,
+    ) -> Result<bool, Memory> {
+        self.put_units(chains)?;
+        self.put_poles(planes)?;
+        self.left = TEMPLATES
+            .saturating_sub(self.pool.templates.len())
+            .saturating_sub(free_chains(chains));
+        self.mark_followers(chains, budget)?;
+        self.put_chains(chains, budget)
     }
 }
 
@@ -314,18 +352,11 @@ pub fn place<'a>(
     planes: &Templates,
     budget: &mut Budget,
 ) -> Result<Option<Building<'a>>, Memory> {
-    let first = linear.states.saturating_add(planes.len());
-    if first > MOST_OF_POLES {
+    if linear.states.saturating_add(planes.len()) > MOST_OF_POLES {
         return Ok(None);
     }
     let mut building = Building::new(alloc, linear, rung);
-    building.put_units(chains)?;
-    building.put_poles(planes)?;
-    building.left = TEMPLATES
-        .saturating_sub(first)
-        .saturating_sub(free_chains(chains));
-    building.mark_followers(chains, budget)?;
-    if building.put_chains(chains, budget)? {
+    if building.fill(chains, planes, budget)? {
         Ok(Some(building))
     } else {
         Ok(None)

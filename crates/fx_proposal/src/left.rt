@@ -11,14 +11,21 @@ use std::alloc::Global;
 const OWN_PLACES: u32 = 40;
 
 /// So many times the bound of a template.
-#[derive(Clone, Copy, Debug)]
+#[derive(Clone, Copy)]
 struct Term {
     template: usize,
     times: i128,
 }
 
+impl Term {
+    /// A sum with the term, of the bounds of all templates.
+    fn added_to(self, sum: Ends, bounds: &[Ends]) -> Option<Ends> {
+        sum.plus(self.times, *bounds.get(self.template)?)
+    }
+}
+
 /// What a template is after one step.
-#[derive(Debug, Drop)]
+#[derive(Drop)]
 pub struct Left {
     terms: Vec<Term>,
     drive: Ends,
@@ -32,7 +39,7 @@ pub struct Left {
 }
 
 /// A term before it is whole: a template and how often it is taken.
-#[derive(Clone, Copy, Debug)]
+#[derive(Clone, Copy)]
 struct Taken {
     template: usize,
     times: Dyadic,
@@ -79,13 +86,20 @@ fn put_left(
     Ok(Some(()))
 }
 
+/// With the term, if it is of template `i`.
+fn plus_own(total: Dyadic, term: Taken, i: usize) -> Option<Dyadic> {
+    if term.template == i {
+        dadd(total, term.times)
+    } else {
+        Some(total)
+    }
+}
+
 /// How often template `i` is taken of itself, if that is below 1.
 fn own_of(terms: &[Taken], i: usize) -> Option<Dyadic> {
     let mut total = Dyadic::zero();
     for term in terms {
-        if term.template == i {
-            total = dadd(total, term.times)?;
-        }
+        total = plus_own(total, *term, i)?;
     }
     let most = Dyadic {
         m: (1 << 20) - 1,
@@ -98,13 +112,18 @@ fn own_of(terms: &[Taken], i: usize) -> Option<Dyadic> {
     }
 }
 
+/// How many places a term comes to.
+fn places_of(term: Taken, places: &[i32]) -> Option<i32> {
+    let e = i32::try_from(term.times.e).ok()?;
+    e.checked_add(*places.get(term.template)?)
+}
+
 /// The most places that a term of these comes to.
 fn most_places(terms: &[Taken], places: &[i32], own: i32, without: Option<usize>) -> Option<i32> {
     let mut most = own.checked_add(8)?;
     for term in terms {
         if Some(term.template) != without {
-            let e = i32::try_from(term.times.e).ok()?;
-            most = most.max(e.checked_add(*places.get(term.template)?)?);
+            most = most.max(places_of(*term, places)?);
         }
     }
     Some(most)
@@ -146,7 +165,7 @@ pub fn left_of(
     pool: &Pool,
     i: usize,
     places: &[i32],
-    starts: Option<&[Interval]>,
+    starts: &[Interval],
 ) -> Result<Option<Left>, Memory> {
     let Some(terms) = terms_of(alloc, linear, pool, i)? else {
         return Ok(None);
@@ -182,16 +201,17 @@ fn finished(
     own: Option<Dyadic>,
     places: i32,
     most: i32,
-    starts: Option<&[Interval]>,
+    starts: &[Interval],
 ) -> Option<Left> {
     let drive = drive_of(linear, pool, i)?;
     if !fits_beside(drive, most, places) {
         return None;
     }
     let own = own.unwrap_or(Dyadic::zero());
-    let start = match starts {
-        Some(starts) => Some(start_of(pool, i, starts, places)?),
-        None => None,
+    let start = if starts.is_empty() {
+        None
+    } else {
+        Some(start_of(pool, i, starts, places)?)
     };
     Some(Left {
         terms,
@@ -218,6 +238,16 @@ fn lower_over(lo: i128, down: i128, up: i128) -> Option<i128> {
 }
 
 impl Left {
+    /// Whether a template takes nothing of itself, and of others only those that are marked.
+    pub fn takes_only(&self, marks: &[bool]) -> bool {
+        for term in &self.terms {
+            if !marks.get(term.template).copied().unwrap_or(false) {
+                return false;
+            }
+        }
+        self.own_up == 0
+    }
+
     /// What a unit of the sums comes to in the bound, in floating point.
     fn unit(&self) -> f64 {
         let places = i32::try_from(self.places).unwrap_or(0);
@@ -247,16 +277,14 @@ impl Left {
 
     /// Where the template lies after one step, with the start if there is one.
     pub fn at(&self, bounds: &[Ends]) -> Option<Ends> {
-        let mut lo = self.drive.lo;
-        let mut hi = self.drive.hi;
+        let mut sum = self.drive;
         for term in &self.terms {
-            let bound = *bounds.get(term.template)?;
-            let a = term.times.checked_mul(bound.lo)?;
-            let b = term.times.checked_mul(bound.hi)?;
-            lo = lo.checked_add(a.min(b))?;
-            hi = hi.checked_add(a.max(b))?;
+            sum = term.added_to(sum, bounds)?;
         }
-        self.settled(floor_shift(lo, self.places), ceil_shift(hi, self.places))
+        self.settled(
+            floor_shift(sum.lo, self.places),
+            ceil_shift(sum.hi, self.places),
+        )
     }
 
     /// With the template's share in itself, and the start.

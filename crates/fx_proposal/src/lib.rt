@@ -21,6 +21,7 @@ mod ends;
 mod image;
 mod ladder;
 mod left;
+mod order;
 mod propose;
 mod rungs;
 mod start;

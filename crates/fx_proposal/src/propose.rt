@@ -3,22 +3,23 @@
 use crate::chains::{add_output_chains, unit_chains};
 use crate::ends::Ends;
 use crate::system::System;
-use crate::tries::{best_try, put_bounds};
+use crate::tries::{Goal, Solved, put_bounds};
 use fx_cert::{Share, Side, Template};
 use fx_exchange::Budget;
 use fx_expr::Items;
 use fx_interval::Interval;
 use fx_num::{Dyadic, Memory, left_fits};
-use fx_reach::{Linear, Pool, Transition};
+use fx_reach::{Chain, Linear, Pool, Transition};
 use std::alloc::Global;
 
 /// How many bits two linear parts have in common that count as one.
 const COMMON_BITS: u32 = 24;
 
 /// Templates that might be kept, with the step that they were worked out for.
-#[derive(Debug, Drop)]
+#[derive(Drop)]
 pub struct Proposal {
-    linear: Linear,
+    /// How much of each state comes to each next state, next state after next state.
+    entries: Vec<i128>,
     pool: Pool,
     templates: Items<Template>,
 }
@@ -38,7 +39,8 @@ impl Proposal {
     fn agrees_at(&self, linear: &Linear, place: usize) -> bool {
         let k = place.checked_div(linear.states).unwrap_or(0);
         let j = place.checked_rem(linear.states).unwrap_or(0);
-        let difference = linear.entry(k, j).abs_diff(self.linear.entry(k, j));
+        let own = self.entries.get(place).copied().unwrap_or(0);
+        let difference = linear.entry(k, j).abs_diff(own);
         let most = left_fits(self.pool.templates.width(k), COMMON_BITS).unwrap_or(i128::MAX);
         difference.saturating_mul(self.pool.templates.width(j).unsigned_abs())
             <= most.unsigned_abs()
@@ -54,24 +56,49 @@ impl Proposal {
         linear.states == self.pool.templates.states
     }
 
-    /// Takes the bounds that the same templates with the same shares have for another step. Whether some are found.
-    fn adapt(
+    /// Takes bounds that were found. Whether they have few enough bits.
+    fn put(&mut self, alloc: Global, system: &System, bounds: &[Ends]) -> Result<bool, Memory> {
+        if put_bounds(&mut self.pool, system, bounds).is_none() {
+            return Ok(false);
+        }
+        self.templates = templates_of(alloc, &self.pool, system, bounds)?;
+        Ok(true)
+    }
+
+    /// Takes the bounds that the same templates with the same shares have by these left sides. Whether some are found.
+    fn solve(&mut self, alloc: Global, system: &System) -> Result<bool, Memory> {
+        let mut bounds = Vec::new(alloc);
+        Ok(system.solve(alloc, &self.pool, &mut bounds)? && self.put(alloc, system, &bounds)?)
+    }
+
+    /// Takes the bounds that the same templates with the same shares have for another step, if its linear part is the
+    /// same. Whether some are found.
+    fn adapt_to(
         &mut self,
         alloc: Global,
         linear: &Linear,
-        starts: Option<&[Interval]>,
+        starts: &[Interval],
     ) -> Result<bool, Memory> {
-        let Some(system) = System::of(alloc, linear, &self.pool, starts)? else {
-            return Ok(false);
-        };
-        let Some(bounds) = system.solve(alloc, &self.pool)? else {
-            return Ok(false);
-        };
-        if put_bounds(&mut self.pool, &system, &bounds).is_none() {
-            return Ok(false);
+        let mut system = System::empty(alloc);
+        Ok(
+            self.agrees(linear)
+                && system.fill(alloc, linear, &self.pool, starts)?
+                && self.solve(alloc, &system)?,
+        )
+    }
+
+    /// Takes the bounds for the step of a transition, likewise.
+    fn adapt(
+        &mut self,
+        alloc: Global,
+        t: &Transition,
+        side: &Side,
+        starts: &[Interval],
+    ) -> Result<bool, Memory> {
+        match Linear::of(alloc, t, side, starts)? {
+            Some(linear) => self.adapt_to(alloc, &linear, starts),
+            None => Ok(false),
         }
-        self.templates = templates_of(alloc, &self.pool, &system, &bounds)?;
-        Ok(true)
     }
 }
 
@@ -107,27 +134,96 @@ fn templates_of(
     Ok(Items::from_vec(templates))
 }
 
-/// Templates looked for from the beginning.
+/// The linear part of a step, entry after entry.
+fn entries_of(alloc: Global, linear: &Linear) -> Result<Vec<i128>, Memory> {
+    let mut entries = Vec::new(alloc);
+    for place in 0..linear.states.saturating_mul(linear.states) {
+        let k = place.checked_div(linear.states).unwrap_or(0);
+        let j = place.checked_rem(linear.states).unwrap_or(0);
+        entries.push(linear.entry(k, j))?;
+    }
+    Ok(entries)
+}
+
+/// What was found for a step.
+fn proposal_of(alloc: Global, linear: &Linear, solved: Solved) -> Result<Proposal, Memory> {
+    let entries = entries_of(alloc, linear)?;
+    let templates = templates_of(alloc, &solved.pool, &solved.system, &solved.bounds)?;
+    Ok(Proposal {
+        entries,
+        pool: solved.pool,
+        templates,
+    })
+}
+
+/// The chains that templates begin with. None where one isn't bounded.
+fn chains_of(alloc: Global, t: &Transition, linear: &Linear) -> Result<Option<Vec<Chain>>, Memory> {
+    let Some(mut chains) = unit_chains(alloc, linear)? else {
+        return Ok(None);
+    };
+    add_output_chains(alloc, t, linear, &mut chains)?;
+    Ok(Some(chains))
+}
+
+/// The best templates that these chains begin.
+fn best_of(goal: Goal<'_>, budget: &mut Budget) -> Result<Option<Solved>, Memory> {
+    let mut best = None;
+    goal.try_all(&mut best, budget)?;
+    Ok(best)
+}
+
+/// Templates for a step, looked for from the beginning.
+fn found_for(
+    alloc: Global,
+    t: &Transition,
+    linear: &Linear,
+    starts: &[Interval],
+    budget: &mut Budget,
+) -> Result<Option<Proposal>, Memory> {
+    let Some(chains) = chains_of(alloc, t, linear)? else {
+        return Ok(None);
+    };
+    let goal = Goal {
+        alloc,
+        linear,
+        chains: &chains,
+        starts,
+    };
+    match best_of(goal, budget)? {
+        Some(solved) => Ok(Some(proposal_of(alloc, linear, solved)?)),
+        None => Ok(None),
+    }
+}
+
+/// Templates for the step of a transition, likewise.
 fn found(
     alloc: Global,
     t: &Transition,
-    linear: Linear,
-    starts: Option<&[Interval]>,
+    side: &Side,
+    starts: &[Interval],
     budget: &mut Budget,
 ) -> Result<Option<Proposal>, Memory> {
-    let Some(mut chains) = unit_chains(alloc, &linear)? else {
-        return Ok(None);
-    };
-    add_output_chains(alloc, t, &linear, &mut chains)?;
-    let Some(solved) = best_try(alloc, &linear, &chains, starts, budget)? else {
-        return Ok(None);
-    };
-    let templates = templates_of(alloc, &solved.pool, &solved.system, &solved.bounds)?;
-    Ok(Some(Proposal {
-        linear,
-        pool: solved.pool,
-        templates,
-    }))
+    match Linear::of(alloc, t, side, starts)? {
+        Some(linear) => found_for(alloc, t, &linear, starts, budget),
+        None => Ok(None),
+    }
+}
+
+/// What was proposed before with bounds for another step, where these are found, else templates looked for anew.
+fn adapted_or_found(
+    alloc: Global,
+    t: &Transition,
+    side: &Side,
+    starts: &[Interval],
+    proposal: Proposal,
+    budget: &mut Budget,
+) -> Result<Option<Proposal>, Memory> {
+    let mut proposal = proposal;
+    if proposal.adapt(alloc, t, side, starts)? {
+        return Ok(Some(proposal));
+    }
+    drop(proposal);
+    found(alloc, t, side, starts, budget)
 }
 
 /// Templates of the one kind that might be kept, and that hold the starts if some are given.
@@ -153,13 +249,9 @@ pub fn propose_templates_within(
     before: Option<Proposal>,
     budget: &mut Budget,
 ) -> Result<Option<Proposal>, Memory> {
-    let Some(linear) = Linear::of(alloc, t, side)? else {
-        return Ok(None);
-    };
-    if let Some(mut proposal) = before {
-        if proposal.agrees(&linear) && proposal.adapt(alloc, &linear, starts)? {
-            return Ok(Some(proposal));
-        }
+    let starts = starts.unwrap_or(&[]);
+    match before {
+        Some(proposal) => adapted_or_found(alloc, t, side, starts, proposal, budget),
+        None => found(alloc, t, side, starts, budget),
     }
-    found(alloc, t, linear, starts, budget)
 }

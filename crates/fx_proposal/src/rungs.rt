@@ -1,7 +1,7 @@
 //! The steps of the ladder: rooms that rise, with the part that planes of poles may lose.
 
 /// A step of the ladder.
-#[derive(Clone, Copy, Debug)]
+#[derive(Clone, Copy)]
 pub struct Rung {
     /// The room of a chain, in 64ths of what it begins with.
     pub room: i128,

@@ -17,7 +17,7 @@ const SLACK: f64 = 1.0 / 67108864.0;
 const LEAST_PIVOT: f64 = 1.0e-9;
 
 /// Equations, one for each template: what it leaves of itself and takes of the others, and what drives it.
-#[derive(Debug, Drop)]
+#[derive(Drop)]
 struct Equations {
     rows: Vec<Vec<f64>>,
     drives: Vec<f64>,

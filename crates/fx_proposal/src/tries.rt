@@ -16,7 +16,7 @@ use std::alloc::Global;
 
 /// A try: the room as a power of two below what a chain begins with, whether the outputs have chains, and whether
 /// chains that are too long have templates at growing times.
-#[derive(Clone, Copy, Debug)]
+#[derive(Clone, Copy)]
 struct Try {
     shift: i32,
     with_outputs: bool,
@@ -76,12 +76,22 @@ static TRIES: [Try; 9] = [
 const QUALITY_PLACES: u32 = 20;
 
 /// Templates with their bounds, and how good they are: the less, the better.
-#[derive(Debug, Drop)]
+#[derive(Drop)]
 pub struct Solved {
     pub pool: Pool,
     pub system: System,
     pub bounds: Vec<Ends>,
     quality: i128,
+}
+
+/// What templates are looked for.
+#[derive(Clone, Copy)]
+pub struct Goal<'a> {
+    pub alloc: Global,
+    pub linear: &'a Linear,
+    pub chains: &'a [Chain],
+    /// Where the states start; none where no bound has to hold that.
+    pub starts: &'a [Interval],
 }
 
 /// A width over a reach.
@@ -131,48 +141,81 @@ pub fn put_bounds(pool: &mut Pool, system: &System, bounds: &[Ends]) -> Option<(
     Some(())
 }
 
-/// One try.
-fn tried(
-    alloc: Global,
-    linear: &Linear,
-    chains: &[Chain],
-    one: Try,
-    starts: Option<&[Interval]>,
-    budget: &mut Budget,
-) -> Result<Option<Solved>, Memory> {
-    let costs = Costs::of(alloc, chains, one.shift)?;
-    match build(alloc, chains, linear, &costs, one.is_growing, budget)? {
-        Some(pool) => solve_pool(alloc, linear, chains, pool, starts, budget),
-        None => Ok(None),
+impl Solved {
+    /// Templates without bounds.
+    fn of(alloc: Global, pool: Pool) -> Solved {
+        Solved {
+            pool,
+            system: System::empty(alloc),
+            bounds: Vec::new(alloc),
+            quality: i128::MAX,
+        }
+    }
+
+    /// Finds bounds. Whether they stand.
+    fn find_bounds(&mut self, goal: Goal<'_>) -> Result<bool, Memory> {
+        Ok(
+            self.system
+                .fill(goal.alloc, goal.linear, &self.pool, goal.starts)?
+                && self.system.solve(goal.alloc, &self.pool, &mut self.bounds)?
+                && put_bounds(&mut self.pool, &self.system, &self.bounds).is_some(),
+        )
+    }
+
+    /// Finds bounds, and how good they are. Whether they stand.
+    fn solve(&mut self, goal: Goal<'_>, budget: &mut Budget) -> Result<bool, Memory> {
+        if !self.find_bounds(goal)? {
+            return Ok(false);
+        }
+        self.quality = quality(goal.alloc, &self.pool, goal.chains, budget)?;
+        Ok(true)
     }
 }
 
-/// A pool with its bounds, where they stand.
-fn solve_pool(
-    alloc: Global,
-    linear: &Linear,
-    chains: &[Chain],
-    pool: Pool,
-    starts: Option<&[Interval]>,
-    budget: &mut Budget,
-) -> Result<Option<Solved>, Memory> {
-    let mut pool = pool;
-    let Some(system) = System::of(alloc, linear, &pool, starts)? else {
-        return Ok(None);
-    };
-    let Some(bounds) = system.solve(alloc, &pool)? else {
-        return Ok(None);
-    };
-    if put_bounds(&mut pool, &system, &bounds).is_none() {
-        return Ok(None);
+impl<'a> Goal<'a> {
+    /// With the chains that a try uses: the outputs' stand last.
+    fn with(self, one: Try) -> Goal<'a> {
+        let used = if one.with_outputs {
+            self.chains
+        } else {
+            self.chains.get(..self.linear.states).unwrap_or(self.chains)
+        };
+        Goal {
+            chains: used,
+            ..self
+        }
     }
-    let quality = quality(alloc, &pool, chains, budget)?;
-    Ok(Some(Solved {
-        pool,
-        system,
-        bounds,
-        quality,
-    }))
+
+    /// A pool with its bounds, where they stand.
+    fn solved(self, pool: Pool, budget: &mut Budget) -> Result<Option<Solved>, Memory> {
+        let mut solved = Solved::of(self.alloc, pool);
+        if solved.solve(self, budget)? {
+            Ok(Some(solved))
+        } else {
+            Ok(None)
+        }
+    }
+
+    /// The templates of a try.
+    fn built(self, one: Try, budget: &mut Budget) -> Result<Option<Pool>, Memory> {
+        let costs = Costs::of(self.alloc, self.chains, one.shift)?;
+        build(
+            self.alloc,
+            self.chains,
+            self.linear,
+            &costs,
+            one.is_growing,
+            budget,
+        )
+    }
+
+    /// One try.
+    fn tried(self, one: Try, budget: &mut Budget) -> Result<Option<Solved>, Memory> {
+        match self.built(one, budget)? {
+            Some(pool) => self.solved(pool, budget),
+            None => Ok(None),
+        }
+    }
 }
 
 /// Whether a try came close enough to its reaches to end the search.
@@ -182,24 +225,14 @@ fn is_enough(solved: &Solved, one: Try) -> bool {
         && solved.quality <= unit.saturating_add(unit >> one.shift.unsigned_abs().min(20))
 }
 
-/// The better one of two.
-fn better(best: Option<Solved>, solved: Solved) -> Solved {
-    match best {
-        Some(best) => if solved.quality < best.quality {
-            solved
-        } else {
-            best
-        },
-        None => solved,
-    }
-}
-
-/// How many of the chains a try uses: the outputs' stand last.
-fn used<'a>(chains: &'a [Chain], states: usize, one: Try) -> &'a [Chain] {
-    if one.with_outputs {
-        chains
-    } else {
-        chains.get(..states).unwrap_or(chains)
+/// Takes a pool with its bounds in the place of one that isn't better.
+fn put_better(best: &mut Option<Solved>, solved: Solved) {
+    let is_better = match &*best {
+        Some(best) => solved.quality < best.quality,
+        None => true,
+    };
+    if is_better {
+        *best = Some(solved);
     }
 }
 
@@ -222,16 +255,27 @@ fn widest(widths: &[i128]) -> i128 {
 }
 
 /// A ladder: what its steps are built of.
-#[derive(Clone, Copy, Debug)]
+#[derive(Clone, Copy)]
 struct Ladder<'a> {
     alloc: Global,
     linear: &'a Linear,
     chains: &'a [Chain],
+    starts: &'a [Interval],
     poles: &'a [Pole],
     widest: i128,
 }
 
 impl<'a> Ladder<'a> {
+    /// What templates are looked for.
+    fn goal(self) -> Goal<'a> {
+        Goal {
+            alloc: self.alloc,
+            linear: self.linear,
+            chains: self.chains,
+            starts: self.starts,
+        }
+    }
+
     /// The templates of a step without the ends, if they find their place.
     fn placed(self, rung: Rung, budget: &mut Budget) -> Result<Option<Building<'a>>, Memory> {
         let part = to_float(rung.part) / 100.0;
@@ -247,6 +291,14 @@ impl<'a> Ladder<'a> {
         }
     }
 
+    /// Whether a step finds its place.
+    fn is_placed(self, step: usize, budget: &mut Budget) -> Result<bool, Memory> {
+        match RUNGS.get(step) {
+            Some(rung) => Ok(self.placed(*rung, budget)?.is_some()),
+            None => Ok(true),
+        }
+    }
+
     /// The first step that finds its place, between those that don't and those that do.
     fn first(self, budget: &mut Budget) -> Result<usize, Memory> {
         let mut low: usize = 0;
@@ -254,11 +306,7 @@ impl<'a> Ladder<'a> {
         for _turn in 0..5 {
             if low < high {
                 let middle = low.saturating_add(high) / 2;
-                let is_placed = match RUNGS.get(middle) {
-                    Some(rung) => self.placed(*rung, budget)?.is_some(),
-                    None => true,
-                };
-                if is_placed {
+                if self.is_placed(middle, budget)? {
                     high = middle;
                 } else {
                     low = middle.saturating_add(1);
@@ -269,43 +317,43 @@ impl<'a> Ladder<'a> {
     }
 
     /// A step with its bounds, if it finds its place and they stand.
-    fn stood(
-        self,
-        rung: Rung,
-        starts: Option<&[Interval]>,
-        budget: &mut Budget,
-    ) -> Result<Option<Solved>, Memory> {
+    fn stood(self, rung: Rung, budget: &mut Budget) -> Result<Option<Solved>, Memory> {
         match self.placed(rung, budget)? {
-            Some(building) => {
-                let pool = building.finish(budget)?;
-                solve_pool(self.alloc, self.linear, self.chains, pool, starts, budget)
-            }
+            Some(building) => self.goal().solved(building.finish(budget)?, budget),
             None => Ok(None),
         }
     }
 
-    /// The best of the steps from the first on that finds its place: mostly that one, and else one of the next two
-    /// whose bounds stand.
-    fn climbed(
+    /// Takes what a step gives, where that is better. Whether the ladder ends there, once so many have stood.
+    fn climb(
         self,
-        starts: Option<&[Interval]>,
+        rung: Rung,
+        count: &mut u32,
+        best: &mut Option<Solved>,
         budget: &mut Budget,
-    ) -> Result<Option<Solved>, Memory> {
+    ) -> Result<bool, Memory> {
+        match self.stood(rung, budget)? {
+            Some(found) => {
+                *count = (*count).saturating_add(1);
+                let is_last = *count >= 3 || is_expected(&found, rung);
+                put_better(best, found);
+                Ok(is_last)
+            }
+            None => Ok(false),
+        }
+    }
+
+    /// Takes the best of the steps from the first on that finds its place: mostly that one, and else one of the next
+    /// two whose bounds stand.
+    fn climb_all(self, best: &mut Option<Solved>, budget: &mut Budget) -> Result<(), Memory> {
         let first = self.first(budget)?;
-        let mut best = None;
         let mut count: u32 = 0;
         for rung in RUNGS.iter().skip(first) {
-            if let Some(found) = self.stood(*rung, starts, budget)? {
-                count = count.saturating_add(1);
-                let is_enough = count >= 3 || is_expected(&found, *rung);
-                let found = better(best, found);
-                if is_enough {
-                    return Ok(Some(found));
-                }
-                best = Some(found);
+            if self.climb(*rung, &mut count, best, budget)? {
+                return Ok(());
             }
         }
-        Ok(best)
+        Ok(())
     }
 }
 
@@ -316,91 +364,70 @@ fn is_expected(solved: &Solved, rung: Rung) -> bool {
     solved.quality <= unit.saturating_add(room)
 }
 
-/// The first step of the ladder that finds its place and whose bounds stand.
-fn climbed(
-    alloc: Global,
-    linear: &Linear,
-    chains: &[Chain],
-    starts: Option<&[Interval]>,
-    budget: &mut Budget,
-) -> Result<Option<Solved>, Memory> {
-    let widths = widths_of(alloc, chains, linear.states)?;
-    let poles = poles_of(alloc, linear, &widths)?;
-    let ladder = Ladder {
-        alloc,
-        linear,
-        chains,
-        poles: &poles,
-        widest: widest(&widths),
-    };
-    ladder.climbed(starts, budget)
-}
+impl Goal<'_> {
+    /// Takes what the ladder gives, where that is better.
+    fn climb(self, best: &mut Option<Solved>, budget: &mut Budget) -> Result<(), Memory> {
+        let widths = widths_of(self.alloc, self.chains, self.linear.states)?;
+        let poles = poles_of(self.alloc, self.linear, &widths)?;
+        let ladder = Ladder {
+            alloc: self.alloc,
+            linear: self.linear,
+            chains: self.chains,
+            starts: self.starts,
+            poles: &poles,
+            widest: widest(&widths),
+        };
+        ladder.climb_all(best, budget)
+    }
 
-/// The best of the older tries. Where no work is left for exchanges, the others are left out.
-fn best_older(
-    alloc: Global,
-    linear: &Linear,
-    chains: &[Chain],
-    starts: Option<&[Interval]>,
-    first: Option<Solved>,
-    budget: &mut Budget,
-) -> Result<Option<Solved>, Memory> {
-    let mut best = first;
-    for one in TRIES.iter().skip(1) {
-        let one = *one;
-        if budget.is_spent() {
-            return Ok(best);
-        }
-        // without chains of outputs a try with them is one without
-        if !one.with_outputs || chains.len() > linear.states || one.shift != 3 {
-            if let Some(solved) = tried(
-                alloc,
-                linear,
-                used(chains, linear.states, one),
-                one,
-                starts,
-                budget,
-            )? {
-                let is_enough = is_enough(&solved, one);
-                let solved = better(best, solved);
-                if is_enough {
-                    return Ok(Some(solved));
-                }
-                best = Some(solved);
+    /// Takes what a try gives, where that is better. Whether that is enough.
+    fn try_one(
+        self,
+        one: Try,
+        best: &mut Option<Solved>,
+        budget: &mut Budget,
+    ) -> Result<bool, Memory> {
+        match self.with(one).tried(one, budget)? {
+            Some(solved) => {
+                let is_last = is_enough(&solved, one);
+                put_better(best, solved);
+                Ok(is_last)
             }
+            None => Ok(false),
         }
     }
-    Ok(best)
+
+    /// Takes the best of the older tries. Where no work is left for exchanges, the others are left out.
+    fn try_older(self, best: &mut Option<Solved>, budget: &mut Budget) -> Result<(), Memory> {
+        let has_outputs = self.chains.len() > self.linear.states;
+        for one in TRIES.iter().skip(1) {
+            // without chains of outputs a try with them is one without
+            let is_new = !one.with_outputs || has_outputs || one.shift != 3;
+            if budget.is_spent() || (is_new && self.try_one(*one, best, budget)?) {
+                return Ok(());
+            }
+        }
+        Ok(())
+    }
+
+    /// Takes the best of the first try, the ladder, and the older tries where that isn't good.
+    pub fn try_all(self, best: &mut Option<Solved>, budget: &mut Budget) -> Result<(), Memory> {
+        if self.try_one(TRIES[0], best, budget)? {
+            return Ok(());
+        }
+        self.climb(best, budget)?;
+        if is_climbed(best) {
+            return Ok(());
+        }
+        self.try_older(best, budget)
+    }
 }
 
 /// Whether the ladder has done as much as the older tries could.
-fn is_climbed(solved: &Solved) -> bool {
+fn is_climbed(best: &Option<Solved>) -> bool {
     let unit = 1_i128 << QUALITY_PLACES;
-    solved.quality <= unit.saturating_add(unit >> 1)
-}
-
-/// The best of the first try, the ladder, and the older tries where that isn't good.
-pub fn best_try(
-    alloc: Global,
-    linear: &Linear,
-    chains: &[Chain],
-    starts: Option<&[Interval]>,
-    budget: &mut Budget,
-) -> Result<Option<Solved>, Memory> {
-    let first = tried(alloc, linear, chains, TRIES[0], starts, budget)?;
-    if let Some(solved) = &first {
-        if is_enough(solved, TRIES[0]) {
-            return Ok(first);
-        }
+    match best {
+        Some(solved) => solved.quality <= unit.saturating_add(unit >> 1),
+        None => false,
     }
-    let best = match climbed(alloc, linear, chains, starts, budget)? {
-        Some(solved) => Some(better(first, solved)),
-        None => first,
-    };
-    if let Some(solved) = &best {
-        if is_climbed(solved) {
-            return Ok(best);
-        }
-    }
-    best_older(alloc, linear, chains, starts, best, budget)
 }

@@ -1,8 +1,9 @@
 //! Looking ahead: a template, its images under the linear part, and how far each reaches.
 //!
-//! A template of the states becomes its image one step later, and what drives it is added. The sum of all later drives
-//! is the template's reach, the least bound that any certificate could have. It is known before a template is kept, so
-//! that what a closing of a chain costs is known too.
+//! A template of the states becomes its image one step later, and what drives it is added. The sum of all later drives,
+//! and what is left of the start at each time with the drives up to then, is the template's reach, the least bound that
+//! any certificate could have. It is known before a template is kept, so that what a closing of a chain costs is known
+//! too.
 
 use crate::linear::Linear;
 use crate::templates::Templates;
@@ -16,56 +17,91 @@ const FIRST: usize = 64;
 const DOUBLINGS: u32 = 8;
 
 /// A template and its images, with the reach of each.
-#[derive(Debug, Drop)]
+#[derive(Drop)]
 pub struct Ahead {
     /// The template and its images.
     pub templates: Templates,
+    /// Where each of them starts; none where nothing has to reach that.
+    starts_lo: Vec<i128>,
+    starts_hi: Vec<i128>,
 }
 
-/// The drives of the two halves of what was looked at.
-#[derive(Clone, Copy, Debug)]
+/// How wide the two halves of what was looked at come out, and both together.
+#[derive(Clone, Copy)]
 struct Halves {
     first: i128,
     both: i128,
 }
 
 impl Ahead {
-    /// One step more.
-    fn push_step(&mut self, linear: &Linear, t: usize) -> Result<Option<()>, Memory> {
-        let Some((lo, hi)) = linear.drive(self.templates.template(t)) else {
-            return Ok(None);
-        };
-        let (before_lo, before_hi) = self.templates.reach(t);
-        let Some(lo) = before_lo.checked_add(lo) else {
-            return Ok(None);
-        };
-        let Some(hi) = before_hi.checked_add(hi) else {
-            return Ok(None);
-        };
-        self.templates.push_reach((lo, hi))?;
-        linear.push_image(
-            &mut self.templates.entries,
-            t.saturating_mul(self.templates.states),
-        )
+    /// Puts where template `t` starts behind the others. False where numbers get too long.
+    fn push_start(&mut self, linear: &Linear, t: usize) -> Result<bool, Memory> {
+        if linear.starts().is_empty() {
+            return Ok(true);
+        }
+        match linear.start_of(self.templates.template(t)) {
+            Some(start) => {
+                self.starts_lo.push(start.lo)?;
+                self.starts_hi.push(start.hi)?;
+                Ok(true)
+            }
+            None => Ok(false),
+        }
     }
 
-    /// Steps up to this one.
-    fn push_steps(&mut self, linear: &Linear, end: usize) -> Result<Option<()>, Memory> {
+    /// What template `t` and those before are driven by.
+    fn sum_behind(&self, linear: &Linear, t: usize) -> Option<(i128, i128)> {
+        let drive = linear.drive(self.templates.template(t))?;
+        let (lo, hi) = self.templates.reach(t);
+        Some((lo.checked_add(drive.lo)?, hi.checked_add(drive.hi)?))
+    }
+
+    /// One step more. False where numbers get too long.
+    fn push_step(&mut self, linear: &Linear, t: usize) -> Result<bool, Memory> {
+        match self.sum_behind(linear, t) {
+            Some(sum) => {
+                self.templates.push_reach(sum)?;
+                let from = t.saturating_mul(self.templates.states);
+                linear.push_image(&mut self.templates.entries, from)
+            }
+            None => Ok(false),
+        }
+    }
+
+    /// Steps up to this one, likewise.
+    fn push_steps(&mut self, linear: &Linear, end: usize) -> Result<bool, Memory> {
         let from = self.templates.len().saturating_sub(1);
         for t in from..end {
-            if self.push_step(linear, t)?.is_none() {
-                return Ok(None);
+            if !(self.push_start(linear, t)? && self.push_step(linear, t)?) {
+                return Ok(false);
             }
         }
-        Ok(Some(()))
+        Ok(true)
     }
 
     /// How much the drives so far come to, and those of the first half.
-    fn halves(&self, end: usize) -> Halves {
+    fn driven(&self, end: usize) -> Halves {
         Halves {
             first: self.templates.width(end / 2),
             both: self.templates.width(end),
         }
+    }
+
+    /// How far the ends move by drives and starts in the first half, and in both.
+    fn moved(&self, end: usize, driven: Halves) -> Halves {
+        let first = self.moved_between(0, end / 2).max(driven.both);
+        let second = self.moved_between(end / 2, end);
+        Halves {
+            first,
+            both: first.saturating_add(second),
+        }
+    }
+
+    /// How far the ends move between two times.
+    fn moved_between(&self, from: usize, to: usize) -> i128 {
+        let lo = moved(&self.templates.lo, &self.starts_lo, from, to);
+        let hi = moved(&self.templates.hi, &self.starts_hi, from, to);
+        lo.max(hi)
     }
 
     /// Whether the template is clearly less than the first: what drives it may come late, through many states.
@@ -73,12 +109,40 @@ impl Ahead {
         total_size(self.templates.template(end)) <= total_size(self.templates.template(0)) >> 2
     }
 
-    /// Turns the sums of the drives before each template into the sums of those behind it.
-    fn turn(&mut self, end: usize, halves: Halves) -> Option<()> {
-        let lo = total(&self.templates.lo, end, halves)?;
-        let hi = total(&self.templates.hi, end, halves)?;
-        turn_ends(&mut self.templates.lo, lo)?;
-        turn_ends(&mut self.templates.hi, hi)
+    /// Turns the sums once nothing more comes, or no more steps are looked at. None where it isn't so yet, and false
+    /// where drives or starts don't end.
+    fn ended(&mut self, end: usize, is_last: bool) -> Option<bool> {
+        let driven = self.driven(end);
+        let moved = self.moved(end, driven);
+        let are_over = driven.are_over() && moved.are_over() && self.has_faded(end);
+        if !are_over && !is_last {
+            return None;
+        }
+        Some(driven.shrink() && moved.shrink() && self.turn(end, driven).is_some())
+    }
+
+    /// Looks ahead until nothing more comes. Whether that ends.
+    fn look(&mut self, linear: &Linear) -> Result<bool, Memory> {
+        let mut end = FIRST;
+        for turn in 0..DOUBLINGS.saturating_add(1) {
+            if !self.push_steps(linear, end)? {
+                return Ok(false);
+            }
+            if let Some(stands) = self.ended(end, turn == DOUBLINGS) {
+                return Ok(stands);
+            }
+            end = end.saturating_mul(2);
+        }
+        Ok(false)
+    }
+
+    /// Turns the sums of the drives before each template into how far it reaches: what its start is, and what drives it
+    /// and then its image, which reaches so far itself.
+    fn turn(&mut self, end: usize, driven: Halves) -> Option<()> {
+        let lo = last_of(&self.templates.lo, &self.starts_lo, end, driven, false)?;
+        let hi = last_of(&self.templates.hi, &self.starts_hi, end, driven, true)?;
+        turn_ends(&mut self.templates.lo, &self.starts_lo, lo, false)?;
+        turn_ends(&mut self.templates.hi, &self.starts_hi, hi, true)
     }
 }
 
@@ -91,10 +155,67 @@ fn total_size(template: &[i128]) -> u128 {
     total
 }
 
-/// Turns the sums of the drives before each template into those behind it, on one side.
-fn turn_ends(sums: &mut Vec<i128>, total: i128) -> Option<()> {
-    for sum in sums.iter_mut() {
-        *sum = total.checked_sub(*sum)?;
+/// The end that lies further out.
+fn outer(a: i128, b: i128, is_upper: bool) -> i128 {
+    if is_upper { a.max(b) } else { a.min(b) }
+}
+
+/// The outermost of the ends between two times, if there are some.
+fn outermost(ends: &[i128], from: usize, to: usize, is_upper: bool) -> Option<i128> {
+    let mut found = None;
+    for end in ends.get(from..to).unwrap_or(&[]) {
+        found = match found {
+            Some(other) => Some(outer(*end, other, is_upper)),
+            None => Some(*end),
+        };
+    }
+    found
+}
+
+/// An entry, 0 where there is none.
+fn entry(ends: &[i128], t: usize) -> i128 {
+    ends.get(t).copied().unwrap_or(0)
+}
+
+/// How far sums and starts come apart between two times.
+fn moved(sums: &[i128], starts: &[i128], from: usize, to: usize) -> i128 {
+    let mut least = i128::MAX;
+    let mut most = i128::MIN;
+    for t in from..to {
+        let end = entry(sums, t).saturating_add(entry(starts, t));
+        least = least.min(end);
+        most = most.max(end);
+    }
+    most.saturating_sub(least)
+}
+
+/// Where the last template comes to lie with all that drove it: by what goes on to drive it, and by the later starts.
+fn last_of(
+    sums: &[i128],
+    starts: &[i128],
+    end: usize,
+    driven: Halves,
+    is_upper: bool,
+) -> Option<i128> {
+    let all = total(sums, end, driven)?;
+    match outermost(starts, end / 2, end, is_upper) {
+        Some(start) => {
+            let started = sums.get(end)?.checked_add(start)?;
+            Some(outer(all, started, is_upper))
+        }
+        None => Some(all),
+    }
+}
+
+/// Turns the ends on one side, from the last on.
+fn turn_ends(sums: &mut Vec<i128>, starts: &[i128], last: i128, is_upper: bool) -> Option<()> {
+    let mut end = last;
+    for t in (0..sums.len()).rev() {
+        let slot = sums.get_mut(t)?;
+        if let Some(start) = starts.get(t) {
+            end = outer(end, slot.checked_add(*start)?, is_upper);
+        }
+        *slot = end.checked_sub(*slot)?;
     }
     Some(())
 }
@@ -126,7 +247,7 @@ impl Halves {
     }
 }
 
-/// Looks ahead from a template, until its drives end. None where they don't.
+/// Looks ahead from a template, until its drives end, and what is left of the starts. None where they don't.
 pub fn look_ahead(
     alloc: Global,
     linear: &Linear,
@@ -139,20 +260,12 @@ pub fn look_ahead(
             lo: vec![in alloc; 0_i128; 1]?,
             hi: vec![in alloc; 0_i128; 1]?,
         },
+        starts_lo: Vec::new(alloc),
+        starts_hi: Vec::new(alloc),
     };
-    let mut end = FIRST;
-    for turn in 0..DOUBLINGS.saturating_add(1) {
-        if ahead.push_steps(linear, end)?.is_none() {
-            return Ok(None);
-        }
-        let halves = ahead.halves(end);
-        if (halves.are_over() && ahead.has_faded(end)) || turn == DOUBLINGS {
-            if !halves.shrink() || ahead.turn(end, halves).is_none() {
-                return Ok(None);
-            }
-            return Ok(Some(ahead));
-        }
-        end = end.saturating_mul(2);
+    if ahead.look(linear)? {
+        Ok(Some(ahead))
+    } else {
+        Ok(None)
     }
-    Ok(None)
 }

@@ -10,14 +10,14 @@ use fx_num::{Dyadic, Memory, floor_shift};
 use std::alloc::Global;
 
 /// What was looked at from a template on, and the state whose unit template it is, if it is one.
-#[derive(Debug, Drop)]
+#[derive(Drop)]
 pub struct Chain {
     pub ahead: Ahead,
     pub state: Option<usize>,
 }
 
 /// How wide the unit templates reach, and what they cost with their room.
-#[derive(Debug, Drop)]
+#[derive(Drop)]
 pub struct Costs {
     widths: Vec<i128>,
     costs: Vec<i128>,
@@ -28,28 +28,41 @@ pub struct Costs {
 impl Costs {
     /// Those of chains that begin with all unit templates.
     pub fn of(alloc: Global, chains: &[Chain], shift: i32) -> Result<Costs, Memory> {
-        let mut widths = Vec::new(alloc);
-        let mut costs = Vec::new(alloc);
-        for chain in chains {
-            if chain.state.is_some() {
-                let width = chain.ahead.templates.width(0);
-                widths.push(width)?;
-                costs.push(width.saturating_add(room(width, shift)))?;
-            }
-        }
-        Ok(Costs {
-            widths,
-            costs,
+        let mut own = Costs {
+            widths: Vec::new(alloc),
+            costs: Vec::new(alloc),
             shift,
-        })
+        };
+        for chain in chains {
+            own.add(chain)?;
+        }
+        Ok(own)
+    }
+
+    /// Adds those of a chain, if it begins with a unit template.
+    fn add(&mut self, chain: &Chain) -> Result<(), Memory> {
+        if chain.state.is_some() {
+            let width = chain.ahead.templates.width(0);
+            self.widths.push(width)?;
+            self.costs
+                .push(width.saturating_add(room(width, self.shift)))?;
+        }
+        Ok(())
+    }
+
+    /// How much a state weighs in a template.
+    fn weight(&self, template: &[i128], j: usize) -> u128 {
+        let r = template.get(j).copied().unwrap_or(0);
+        let width = self.widths.get(j).copied().unwrap_or(0);
+        r.unsigned_abs().saturating_mul(width.unsigned_abs())
     }
 
     /// The state that weighs most in a template.
     fn heaviest(&self, template: &[i128]) -> usize {
         let mut best = 0;
         let mut most = 0;
-        for (j, (r, width)) in template.iter().zip(&self.widths).enumerate() {
-            let weight = r.unsigned_abs().saturating_mul(width.unsigned_abs());
+        for j in 0..self.widths.len() {
+            let weight = self.weight(template, j);
             if weight > most {
                 most = weight;
                 best = j;
@@ -69,48 +82,73 @@ pub fn room_part(width: i128, parts: i128, whole: i128) -> i128 {
     width.saturating_mul(parts).checked_div(whole).unwrap_or(0)
 }
 
+/// With what an entry costs.
+fn plus_cost(total: i128, r: i128, cost: i128) -> Option<i128> {
+    total.checked_add(r.checked_abs()?.checked_mul(cost)?)
+}
+
 /// What a template costs on the unit templates.
 pub fn unit_cost(template: &[i128], costs: &[i128]) -> Option<i128> {
     let mut total: i128 = 0;
     for (r, cost) in template.iter().zip(costs) {
-        total = total.checked_add(r.checked_abs()?.checked_mul(*cost)?)?;
+        total = plus_cost(total, *r, *cost)?;
     }
     Some(floor_shift(total, PLACES))
+}
+
+/// With what so many times an entry leave of its image costs.
+fn plus_left(total: i128, r: i128, q: i128, times: i128, cost: i128) -> Option<i128> {
+    plus_cost(total, r.checked_sub(product(times, q, PLACES)?)?, cost)
 }
 
 /// What so many times a template leave of its image costs on the unit templates.
 fn left_cost(image: &[i128], template: &[i128], times: i128, costs: &[i128]) -> Option<i128> {
     let mut total: i128 = 0;
     for ((r, q), cost) in image.iter().zip(template).zip(costs) {
-        let left = r.checked_sub(product(times, *q, PLACES)?)?;
-        total = total.checked_add(left.checked_abs()?.checked_mul(*cost)?)?;
+        total = plus_left(total, *r, *q, times, *cost)?;
     }
     Some(floor_shift(total, PLACES))
 }
 
-/// How often the image of template `i` takes that template, where the chain can be closed on it within the limit.
-fn on_itself(ahead: &Ahead, i: usize, costs: &Costs, limit: i128) -> Option<Dyadic> {
-    let template = ahead.templates.template(i);
-    let image = ahead.templates.template(i.saturating_add(1));
+/// How often a template is taken of itself, by the state that weighs most in its image.
+fn own_times(image: &[i128], template: &[i128], costs: &Costs) -> Option<Dyadic> {
     let j = costs.heaviest(image);
     let r = *image.get(j)?;
     let q = *template.get(j)?;
-    if i == 0 || r.signum() != q.signum() || r == 0 || r.unsigned_abs() >= q.unsigned_abs() {
+    if r.signum() != q.signum() || r == 0 || r.unsigned_abs() >= q.unsigned_abs() {
         return None;
     }
-    let times = share_of(r, q)?;
+    share_of(r, q)
+}
+
+/// What an image costs that takes so many times its template, which has this cost.
+fn own_cost(
+    image: &[i128],
+    template: &[i128],
+    times: Dyadic,
+    own: i128,
+    costs: &Costs,
+) -> Option<i128> {
     let whole = floor_at(times, PLACES as i32)?;
-    let own = ahead
-        .templates
-        .width(i)
-        .checked_add(room(ahead.templates.width(0), costs.shift))?;
-    let cost = product(whole, own, PLACES)?.checked_add(left_cost(
-        image,
-        template,
-        whole,
-        &costs.costs,
-    )?)?;
-    if cost <= limit { Some(times) } else { None }
+    let left = left_cost(image, template, whole, &costs.costs)?;
+    product(whole, own, PLACES)?.checked_add(left)
+}
+
+/// How often the image of template `i` takes that template, where the chain can be closed on it within the limit.
+fn on_itself(ahead: &Ahead, i: usize, costs: &Costs, limit: i128) -> Option<Dyadic> {
+    if i == 0 {
+        return None;
+    }
+    let template = ahead.templates.template(i);
+    let image = ahead.templates.template(i.saturating_add(1));
+    let times = own_times(image, template, costs)?;
+    let room = room(ahead.templates.width(0), costs.shift);
+    let own = ahead.templates.width(i).checked_add(room)?;
+    if own_cost(image, template, times, own, costs)? <= limit {
+        Some(times)
+    } else {
+        None
+    }
 }
 
 /// How often the image of template `i` takes that template, where the chain can be closed behind it: not at all where

@@ -5,7 +5,7 @@ use fx_num::Memory;
 use std::alloc::Global;
 
 /// A complex number.
-#[derive(Clone, Copy, Debug)]
+#[derive(Clone, Copy)]
 pub struct Complex {
     /// The real part.
     pub re: f64,
@@ -94,7 +94,7 @@ impl Complex {
 }
 
 /// A square matrix.
-#[derive(Debug, Drop)]
+#[derive(Drop)]
 pub struct Matrix {
     /// How many rows there are.
     pub size: usize,

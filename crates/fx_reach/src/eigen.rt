@@ -16,7 +16,7 @@ const STEPS: usize = 40;
 const NEXT_TO_NOTHING: f64 = 2.0e-16;
 
 /// A turn of two rows: a cosine and a complex sine.
-#[derive(Clone, Copy, Debug)]
+#[derive(Clone, Copy)]
 struct Turn {
     cosine: f64,
     sine: Complex,

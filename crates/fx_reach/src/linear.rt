@@ -10,19 +10,57 @@ use std::alloc::Global;
 /// How many bits the greatest size has while sizes are guessed.
 const SIZE_BITS: i32 = 44;
 
+/// How many bits more the starts may have: of a state that inputs drive by next to nothing the start is all there is.
+const START_BITS: i32 = 12;
+
 /// Half of a unit of a template's entries, in their products.
 const HALF: i128 = 1 << (PLACES - 1);
 
 /// Something that is added to the next states, each so many times.
-#[derive(Debug, Drop)]
+#[derive(Drop)]
 pub(crate) struct Drive {
     pub(crate) coefs: Vec<i128>,
     pub(crate) lo: i128,
     pub(crate) hi: i128,
 }
 
+/// From where to where something lies.
+#[derive(Clone, Copy)]
+pub(crate) struct Ends {
+    pub(crate) lo: i128,
+    pub(crate) hi: i128,
+}
+
+impl Ends {
+    /// With so many times others.
+    fn plus(self, times: i128, lo: i128, hi: i128) -> Option<Ends> {
+        let a = times.checked_mul(lo)?;
+        let b = times.checked_mul(hi)?;
+        Some(Ends {
+            lo: self.lo.checked_add(a.min(b))?,
+            hi: self.hi.checked_add(a.max(b))?,
+        })
+    }
+
+    /// Products with entries of a template, outward. A single number goes to the nearest unit: what drives a template by
+    /// that alone then does so for ever, and what fades comes to nothing.
+    fn rounded(self) -> Option<Ends> {
+        if self.lo == self.hi {
+            let nearest = rounded(self.lo)?;
+            return Some(Ends {
+                lo: nearest,
+                hi: nearest,
+            });
+        }
+        Some(Ends {
+            lo: floor_shift(self.lo, PLACES),
+            hi: ceil_shift(self.hi, PLACES),
+        })
+    }
+}
+
 /// A step of the states on one side, of values or of errors.
-#[derive(Debug, Drop)]
+#[derive(Drop)]
 pub struct Linear {
     /// How many inputs there are.
     pub inputs: usize,
@@ -37,47 +75,10 @@ pub struct Linear {
     /// How much of each state comes to each next state, with 48 binary places.
     columns: Vec<Vec<i128>>,
     drives: Vec<Drive>,
+    /// Where the states start, if that is to be reached.
+    starts: Vec<Ends>,
     /// Sizes are whole with so many binary places.
     pub scale: i32,
-}
-
-/// Puts the coefficients of next state `k` behind the others.
-fn put_coefs(coefs: &mut Vec<Dyadic>, t: &Transition, k: u32) -> Result<(), Memory> {
-    let variables = t.inputs.saturating_add(t.states);
-    for j in 0..variables {
-        let coef = affine_coef(&t.lines, variables, t.next.saturating_add(k), j);
-        coefs.push(coef)?;
-    }
-    Ok(())
-}
-
-/// The coefficients of all next states.
-fn all_coefs(alloc: Global, t: &Transition) -> Result<Vec<Dyadic>, Memory> {
-    let mut coefs = Vec::new(alloc);
-    for k in 0..t.states {
-        put_coefs(&mut coefs, t, k)?;
-    }
-    Ok(coefs)
-}
-
-/// The rests of all next states.
-fn all_rests(alloc: Global, t: &Transition, side: &Side) -> Result<Vec<Interval>, Memory> {
-    let variables = t.inputs.saturating_add(t.states);
-    let mut rests = Vec::new(alloc);
-    for k in 0..t.states {
-        let rest = side_rest(side, &t.lines, variables, t.next.saturating_add(k));
-        rests.push(rest)?;
-    }
-    Ok(rests)
-}
-
-/// Where all inputs lie.
-fn all_spans(alloc: Global, t: &Transition, side: &Side) -> Result<Vec<Interval>, Memory> {
-    let mut spans = Vec::new(alloc);
-    for j in 0..t.inputs {
-        spans.push(side_at(side, &t.lines, j))?;
-    }
-    Ok(spans)
 }
 
 /// The greatest magnitude of these, and of what came first.
@@ -87,6 +88,11 @@ fn greatest(first: Option<i32>, intervals: &[Interval]) -> Option<i32> {
         top = greater(top, magnitude(*interval));
     }
     top
+}
+
+/// Whether nothing else than 0 lies in an interval.
+fn is_zero(x: Interval) -> bool {
+    x.lo.m == 0 && x.hi.m == 0
 }
 
 /// The magnitude of what an input of this span drives with a coefficient.
@@ -112,10 +118,16 @@ fn greatest_driven(
     top
 }
 
-/// With so many binary places that the greatest drive has the wanted bits: of an input's span a small coefficient may
-/// leave next to nothing, which would drown in the rounding of each step.
-fn scale_of(variables: usize, coefs: &[Dyadic], spans: &[Interval], rests: &[Interval]) -> i32 {
-    match greatest_driven(greatest(None, rests), variables, coefs, spans) {
+/// The greatest magnitude of the starts, less what they may have more than drives.
+fn greatest_start(starts: &[Interval]) -> Option<i32> {
+    let top = greatest(None, starts)?;
+    Some(top.saturating_sub(START_BITS))
+}
+
+/// With so many binary places that the greatest drive has the wanted bits, and no start too many: of an input's span a
+/// small coefficient may leave next to nothing, which would drown in the rounding of each step.
+fn scale_of(driven: Option<i32>, starts: &[Interval]) -> i32 {
+    match greater(driven, greatest_start(starts)) {
         Some(top) => SIZE_BITS.saturating_sub(top).clamp(-200, 200),
         None => 0,
     }
@@ -157,87 +169,170 @@ impl Linear {
         self.drives.as_slice()
     }
 
-    /// Adds what drives by these coefficients, if it isn't zero.
-    fn add_drive(&mut self, coefs: Vec<i128>, span: Interval) -> Result<Option<()>, Memory> {
-        let Some(lo) = floor_at(span.lo, self.scale) else {
-            return Ok(None);
-        };
-        let Some(hi) = ceil_at(span.hi, self.scale) else {
-            return Ok(None);
-        };
-        if lo != 0 || hi != 0 {
-            self.drives.push(Drive { coefs, lo, hi })?;
+    /// Adds what drives by these coefficients, if it isn't zero. Whether its numbers have few enough bits.
+    fn add_drive(&mut self, coefs: Vec<i128>, span: Interval) -> Result<bool, Memory> {
+        match (floor_at(span.lo, self.scale), ceil_at(span.hi, self.scale)) {
+            (Some(lo), Some(hi)) => {
+                // a number's own width is next to nothing, and would only be rounded up at each step
+                let hi = if hi.saturating_sub(lo) <= 1 { lo } else { hi };
+                self.drives.push(Drive { coefs, lo, hi })?;
+                Ok(true)
+            }
+            _ => Ok(false),
         }
-        Ok(Some(()))
     }
 
-    /// Adds all inputs.
-    fn add_inputs(&mut self, alloc: Global) -> Result<Option<()>, Memory> {
+    /// Adds all inputs, likewise.
+    fn add_inputs(&mut self, alloc: Global) -> Result<bool, Memory> {
         for j in 0..self.inputs {
-            let Some(coefs) = self.column(alloc, j)? else {
-                return Ok(None);
-            };
             let span = self.spans.get(j).copied().unwrap_or(Interval::zero());
-            if self.add_drive(coefs, span)?.is_none() {
-                return Ok(None);
+            if !self.add_input(alloc, j, span)? {
+                return Ok(false);
             }
         }
-        Ok(Some(()))
+        Ok(true)
     }
 
-    /// Adds all rests.
-    fn add_rests(&mut self, alloc: Global) -> Result<Option<()>, Memory> {
+    /// Adds an input that lies so, likewise.
+    fn add_input(&mut self, alloc: Global, j: usize, span: Interval) -> Result<bool, Memory> {
+        if is_zero(span) {
+            return Ok(true);
+        }
+        match self.column(alloc, j)? {
+            Some(coefs) => self.add_drive(coefs, span),
+            None => Ok(false),
+        }
+    }
+
+    /// Adds all rests, likewise.
+    fn add_rests(&mut self, alloc: Global) -> Result<bool, Memory> {
         for k in 0..self.states {
-            let coefs = unit_vector(alloc, self.states, k, 1 << PLACES)?;
             let rest = self.rests.get(k).copied().unwrap_or(Interval::zero());
-            if self.add_drive(coefs, rest)?.is_none() {
-                return Ok(None);
+            if !is_zero(rest) {
+                let coefs = unit_vector(alloc, self.states, k, 1 << PLACES)?;
+                if !self.add_drive(coefs, rest)? {
+                    return Ok(false);
+                }
             }
         }
-        Ok(Some(()))
+        Ok(true)
     }
 
-    /// Adds the columns of all states.
-    fn add_columns(&mut self, alloc: Global) -> Result<Option<()>, Memory> {
+    /// Adds the columns of all states, likewise.
+    fn add_columns(&mut self, alloc: Global) -> Result<bool, Memory> {
         for j in 0..self.states {
             match self.column(alloc, self.inputs.saturating_add(j))? {
                 Some(column) => self.columns.push(column)?,
-                None => return Ok(None),
+                None => return Ok(false),
             }
         }
-        Ok(Some(()))
+        Ok(true)
     }
 
-    /// The step of a transition, if its numbers have few enough bits.
-    pub fn of(alloc: Global, t: &Transition, side: &Side) -> Result<Option<Linear>, Memory> {
-        let rests = all_rests(alloc, t, side)?;
-        let spans = all_spans(alloc, t, side)?;
-        let coefs = all_coefs(alloc, t)?;
-        let variables = t.inputs.saturating_add(t.states) as usize;
-        let scale = scale_of(variables, &coefs, &spans, &rests);
-        let mut linear = Linear {
-            inputs: t.inputs as usize,
-            states: t.states as usize,
-            coefs,
-            rests,
-            spans,
+    /// Adds where the states start, likewise.
+    fn add_starts(&mut self, starts: &[Interval]) -> Result<bool, Memory> {
+        for start in starts {
+            match (
+                floor_at(start.lo, self.scale),
+                ceil_at(start.hi, self.scale),
+            ) {
+                (Some(lo), Some(hi)) => self.starts.push(Ends { lo, hi })?,
+                _ => return Ok(false),
+            }
+        }
+        Ok(true)
+    }
+
+    /// Adds the coefficients of next state `k`.
+    fn add_coefs(&mut self, t: &Transition, k: u32) -> Result<(), Memory> {
+        let variables = t.inputs.saturating_add(t.states);
+        for j in 0..variables {
+            let coef = affine_coef(&t.lines, variables, t.next.saturating_add(k), j);
+            self.coefs.push(coef)?;
+        }
+        Ok(())
+    }
+
+    /// Adds the coefficients and the rests of all next states.
+    fn add_next(&mut self, t: &Transition, side: &Side) -> Result<(), Memory> {
+        let variables = t.inputs.saturating_add(t.states);
+        for k in 0..t.states {
+            self.add_coefs(t, k)?;
+            let rest = side_rest(side, &t.lines, variables, t.next.saturating_add(k));
+            self.rests.push(rest)?;
+        }
+        Ok(())
+    }
+
+    /// Adds where the inputs lie.
+    fn add_spans(&mut self, t: &Transition, side: &Side) -> Result<(), Memory> {
+        for j in 0..t.inputs {
+            self.spans.push(side_at(side, &t.lines, j))?;
+        }
+        Ok(())
+    }
+
+    /// Adds what whole numbers say of it. Whether they have few enough bits.
+    fn add_wholes(&mut self, alloc: Global, starts: &[Interval]) -> Result<bool, Memory> {
+        let variables = self.inputs.saturating_add(self.states);
+        let rests = greatest(None, &self.rests);
+        let driven = greatest_driven(rests, variables, &self.coefs, &self.spans);
+        self.scale = scale_of(driven, starts);
+        Ok(
+            self.add_columns(alloc)?
+                && self.add_inputs(alloc)?
+                && self.add_rests(alloc)?
+                && self.add_starts(starts)?,
+        )
+    }
+
+    /// A step of so many inputs and states of which nothing is known yet.
+    fn empty(alloc: Global, inputs: usize, states: usize) -> Linear {
+        Linear {
+            inputs,
+            states,
+            coefs: Vec::new(alloc),
+            rests: Vec::new(alloc),
+            spans: Vec::new(alloc),
             columns: Vec::new(alloc),
             drives: Vec::new(alloc),
-            scale,
-        };
-        if linear.add_columns(alloc)?.is_none() || linear.add_inputs(alloc)?.is_none() {
-            return Ok(None);
+            starts: Vec::new(alloc),
+            scale: 0,
         }
-        if linear.add_rests(alloc)?.is_none() {
-            return Ok(None);
+    }
+
+    /// Fills in what a transition does, from these starts. Whether its numbers have few enough bits.
+    fn fill(
+        &mut self,
+        alloc: Global,
+        t: &Transition,
+        side: &Side,
+        starts: &[Interval],
+    ) -> Result<bool, Memory> {
+        self.add_next(t, side)?;
+        self.add_spans(t, side)?;
+        self.add_wholes(alloc, starts)
+    }
+
+    /// The step of a transition from these starts, if its numbers have few enough bits. Where no starts are given
+    /// nothing has to reach them.
+    pub fn of(
+        alloc: Global,
+        t: &Transition,
+        side: &Side,
+        starts: &[Interval],
+    ) -> Result<Option<Linear>, Memory> {
+        let mut linear = Linear::empty(alloc, t.inputs as usize, t.states as usize);
+        if linear.fill(alloc, t, side, starts)? {
+            Ok(Some(linear))
+        } else {
+            Ok(None)
         }
-        Ok(Some(linear))
     }
 
     /// Entry `j` of a template's image: what the template is of the next states, as a template of the states.
     fn image_entry(&self, template: &[i128], j: usize) -> Option<i128> {
-        let total = products(template, self.columns.get(j)?)?;
-        Some(floor_shift(total.checked_add(HALF)?, PLACES))
+        rounded(products(template, self.columns.get(j)?)?)
     }
 
     /// A template's image.
@@ -252,46 +347,71 @@ impl Linear {
         Ok(Some(image))
     }
 
-    /// Puts a template's image in its place behind the others.
-    pub fn push_image(&self, templates: &mut Vec<i128>, from: usize) -> Result<Option<()>, Memory> {
-        for j in 0..self.states {
-            let template = templates.as_slice().get(from..).unwrap_or(&[]);
-            match self.image_entry(template, j) {
-                Some(entry) => {
-                    // an entry of 2^28 has left any filter that stands
-                    if entry.unsigned_abs() >> (PLACES + 28) != 0 {
-                        return Ok(None);
-                    }
-                    templates.push(entry)?;
-                }
-                None => return Ok(None),
-            }
+    /// Entry `j` of a template's image, if it is one of a filter that stands: 2^28 has left any.
+    fn small_entry(&self, template: &[i128], j: usize) -> Option<i128> {
+        let entry = self.image_entry(template, j)?;
+        if entry.unsigned_abs() >> (PLACES + 28) == 0 {
+            Some(entry)
+        } else {
+            None
         }
-        Ok(Some(()))
     }
 
-    /// What drives a template, from where to where.
-    pub fn drive(&self, template: &[i128]) -> Option<(i128, i128)> {
-        let mut lo: i128 = 0;
-        let mut hi: i128 = 0;
-        for drive in &self.drives {
-            let g = floor_shift(products(template, &drive.coefs)?, PLACES);
-            let a = g.checked_mul(drive.lo)?;
-            let b = g.checked_mul(drive.hi)?;
-            lo = lo.checked_add(a.min(b))?;
-            hi = hi.checked_add(a.max(b))?;
+    /// Puts the image of the template from a place on behind the others. Whether its entries are small enough.
+    pub fn push_image(&self, templates: &mut Vec<i128>, from: usize) -> Result<bool, Memory> {
+        for j in 0..self.states {
+            let template = templates.as_slice().get(from..).unwrap_or(&[]);
+            match self.small_entry(template, j) {
+                Some(entry) => templates.push(entry)?,
+                None => return Ok(false),
+            }
         }
-        Some((floor_shift(lo, PLACES), ceil_shift(hi, PLACES)))
+        Ok(true)
     }
+
+    /// What drives a template.
+    pub(crate) fn drive(&self, template: &[i128]) -> Option<Ends> {
+        let mut sum = Ends { lo: 0, hi: 0 };
+        for drive in &self.drives {
+            let times = floor_shift(products(template, &drive.coefs)?, PLACES);
+            sum = sum.plus(times, drive.lo, drive.hi)?;
+        }
+        sum.rounded()
+    }
+
+    /// Where the states start, state by state; none where nothing has to reach that.
+    pub(crate) fn starts(&self) -> &[Ends] {
+        self.starts.as_slice()
+    }
+
+    /// Where a template starts.
+    pub(crate) fn start_of(&self, template: &[i128]) -> Option<Ends> {
+        let mut sum = Ends { lo: 0, hi: 0 };
+        for (times, start) in template.iter().zip(&self.starts) {
+            sum = sum.plus(*times, start.lo, start.hi)?;
+        }
+        sum.rounded()
+    }
+}
+
+/// A product with an entry of a template to the nearest unit.
+fn rounded(total: i128) -> Option<i128> {
+    Some(floor_shift(total.checked_add(HALF)?, PLACES))
+}
+
+/// With the product of an entry and a coefficient.
+fn plus_product(total: i128, r: i128, c: i128) -> Option<i128> {
+    if r == 0 || c == 0 {
+        return Some(total);
+    }
+    total.checked_add(r.checked_mul(c)?)
 }
 
 /// The sum of the products of a template and coefficients.
 fn products(template: &[i128], coefs: &[i128]) -> Option<i128> {
     let mut total: i128 = 0;
     for (r, c) in template.iter().zip(coefs) {
-        if *r != 0 && *c != 0 {
-            total = total.checked_add(r.checked_mul(*c)?)?;
-        }
+        total = plus_product(total, *r, *c)?;
     }
     Some(total)
 }

@@ -30,8 +30,11 @@ const BINS: usize = 512;
 /// So many steps are looked at, at most.
 const STEPS: usize = 16384;
 
+/// How far a plane reaches at least, where the states are about as wide as 1: what nothing drives has templates, too.
+const LEAST_REACH: f64 = 1.0e-9;
+
 /// A pole, of a pair the one above the axis, with its left eigenvector over the states.
-#[derive(Debug, Drop)]
+#[derive(Drop)]
 pub struct Pole {
     value: Complex,
     size: f64,
@@ -39,6 +42,16 @@ pub struct Pole {
     vector: Vec<Complex>,
     /// What drives its plane.
     drives: Driven,
+    /// Where its plane starts, from the middle of what drives it on.
+    start: Started,
+}
+
+/// A point of a plane with what lies so near it, and for how many steps it is followed: then it comes back nearer.
+#[derive(Clone, Copy)]
+struct Started {
+    point: Complex,
+    radius: f64,
+    steps: usize,
 }
 
 /// The matrix whose vectors are the left eigenvectors, in coordinates in which each state is about as wide.
@@ -90,42 +103,59 @@ fn unscaled(alloc: Global, vector: &[Complex], widths: &[f64]) -> Result<Vec<Com
     Ok(own)
 }
 
-/// A pole of this value.
-fn pole_at(
-    alloc: Global,
-    linear: &Linear,
-    matrix: &Matrix,
-    widths: &[f64],
-    value: Complex,
-) -> Result<Pole, Memory> {
-    let scaled = eigenvector(alloc, matrix, value)?;
-    let vector = unscaled(alloc, &scaled, widths)?;
-    let drives = collect_drives(alloc, linear, value, &vector)?;
-    let angle = if value.im > 1.0e-10 {
-        angle_of(value)
-    } else {
-        0.0
-    };
-    Ok(Pole {
-        value,
-        size: value.size(),
-        angle,
-        vector,
-        drives,
-    })
+/// A step in coordinates in which each state is about as wide.
+#[derive(Clone, Copy)]
+struct Coordinates<'a> {
+    linear: &'a Linear,
+    matrix: &'a Matrix,
+    widths: &'a [f64],
+}
+
+impl Coordinates<'_> {
+    /// A pole of this value.
+    fn pole_at(self, alloc: Global, value: Complex) -> Result<Pole, Memory> {
+        let scaled = eigenvector(alloc, self.matrix, value)?;
+        let vector = unscaled(alloc, &scaled, self.widths)?;
+        let drives = collect_drives(alloc, self.linear, value, &vector)?;
+        let angle = if value.im > 1.0e-10 {
+            angle_of(value)
+        } else {
+            0.0
+        };
+        let start = start_of(self.linear, &vector, drives.middle, steps_of(angle));
+        Ok(Pole {
+            value,
+            size: value.size(),
+            angle,
+            vector,
+            drives,
+            start,
+        })
+    }
+
+    /// Adds the pole of a value, if it fades slowly and isn't there.
+    fn add_pole(self, alloc: Global, value: Complex, poles: &mut Vec<Pole>) -> Result<(), Memory> {
+        let size = value.size();
+        if value.im >= -1.0e-10 && size >= LEAST && size < 1.0 && !is_near(value, poles) {
+            poles.push(self.pole_at(alloc, value)?)?;
+        }
+        Ok(())
+    }
 }
 
 /// The poles that fade slowly, of a step whose states are so wide.
 pub fn poles_of(alloc: Global, linear: &Linear, widths: &[i128]) -> Result<Vec<Pole>, Memory> {
     let widths = floats_of(alloc, widths)?;
     let matrix = matrix_of(alloc, linear, &widths)?;
-    let mut poles: Vec<Pole> = Vec::new(alloc);
-    for value in &eigenvalues(alloc, &matrix)? {
-        let value = *value;
-        let size = value.size();
-        if value.im >= -1.0e-10 && size >= LEAST && size < 1.0 && !is_near(value, &poles) {
-            poles.push(pole_at(alloc, linear, &matrix, &widths, value)?)?;
-        }
+    let values = eigenvalues(alloc, &matrix)?;
+    let coordinates = Coordinates {
+        linear,
+        matrix: &matrix,
+        widths: &widths,
+    };
+    let mut poles = Vec::new(alloc);
+    for value in &values {
+        coordinates.add_pole(alloc, *value, &mut poles)?;
     }
     Ok(poles)
 }
@@ -137,6 +167,23 @@ impl Pole {
         let turns = i32::try_from(whole_below(self.angle / step)).unwrap_or(0);
         let rest = self.angle - f64::from(turns) * step;
         turn_by(size_of(step / 2.0 - rest)).re / turn_by(step / 2.0).re
+    }
+
+    /// From where to where the plane reaches in a direction, by what drives it and from its start on.
+    fn reach(&self, turn: Complex) -> (f64, f64) {
+        let half = greater_of(self.drives.reach(turn), LEAST_REACH);
+        let mut most = half;
+        let mut least = -half;
+        let mut now = turn.times(self.start.point);
+        let mut radius = self.start.radius;
+        for _step in 0..self.start.steps {
+            most = greater_of(most, now.re + radius);
+            least = -greater_of(-least, radius - now.re);
+            now = now.times(self.value);
+            radius = radius * self.size;
+        }
+        let middle = turn.times(self.drives.middle).re;
+        (middle + least, middle + most)
     }
 
     /// How many directions the plane needs, so that a step loses at most such a part of what it shrinks by.
@@ -154,7 +201,7 @@ impl Pole {
 }
 
 /// What drives a plane, collected by its direction, and the middle of what it comes to.
-#[derive(Debug, Drop)]
+#[derive(Drop)]
 struct Driven {
     bins: Vec<Complex>,
     middle: Complex,
@@ -204,6 +251,35 @@ fn driven_by(vector: &[Complex], coefs: &[i128]) -> Complex {
     total
 }
 
+/// How many steps a plane turns until it has gone round.
+fn steps_of(angle: f64) -> usize {
+    if angle > 0.0 {
+        saturating_f64_to_usize(HALF_TURN * 2.0 / angle)
+            .min(STEPS)
+            .saturating_add(2)
+    } else {
+        2
+    }
+}
+
+/// Where the plane of this eigenvector starts, if that is to be reached.
+fn start_of(linear: &Linear, vector: &[Complex], middle: Complex, steps: usize) -> Started {
+    let mut point = middle.scaled(-1.0);
+    let mut radius = 0.0;
+    for (x, start) in vector.iter().zip(linear.starts()) {
+        let lo = to_float(start.lo);
+        let hi = to_float(start.hi);
+        point = point.plus(x.scaled((lo + hi) * 0.5));
+        radius = radius + x.size() * (hi - lo) * 0.5;
+    }
+    let is_some = linear.starts().len() > 0;
+    Started {
+        point,
+        radius,
+        steps: if is_some { steps } else { 0 },
+    }
+}
+
 /// All that drives the plane of a pole with this eigenvector.
 fn collect_drives(
     alloc: Global,
@@ -248,12 +324,8 @@ fn push_direction(
     turn: Complex,
     widest: f64,
 ) -> Result<Option<()>, Memory> {
-    let half = pole.drives.reach(turn);
-    let middle = turn.times(pole.drives.middle).re;
-    if !(half > 0.0) {
-        return Ok(None);
-    }
-    let scale = scale_of(widest, half * 2.0);
+    let (least, most) = pole.reach(turn);
+    let scale = scale_of(widest, most - least);
     for k in 0..templates.states {
         let own = turn.times(entry(&pole.vector, k)).re;
         match whole_near(own * scale, PLACES as i32) {
@@ -261,8 +333,8 @@ fn push_direction(
             None => return Ok(None),
         }
     }
-    let lo = whole_near((middle - half) * scale, 0);
-    let hi = whole_near((middle + half) * scale, 0);
+    let lo = whole_near(least * scale, 0);
+    let hi = whole_near(most * scale, 0);
     match (lo, hi) {
         (Some(lo), Some(hi)) => {
             templates.push_reach((lo.saturating_sub(1), hi.saturating_add(1)))?;
@@ -290,8 +362,8 @@ fn push_plane(
     Ok(Some(()))
 }
 
-/// The templates over so many states of all poles, so many that a step loses at most such a part of what it shrinks by, each about as wide
-/// as the widest state; none where a plane would need too many.
+/// The templates over so many states of all poles, so many that a step loses at most such a part of what it shrinks by,
+/// each about as wide as the widest state; none where a plane would need too many.
 pub fn pole_templates(
     alloc: Global,
     states: usize,

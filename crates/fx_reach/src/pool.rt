@@ -10,7 +10,7 @@ use std::alloc::Global;
 const COEFFICIENT_BITS: i64 = 34;
 
 /// All templates of one kind, the unit templates first.
-#[derive(Debug, Drop)]
+#[derive(Drop)]
 pub struct Pool {
     /// The templates with 48 binary places, and how far each is guessed to reach.
     pub templates: Templates,

@@ -4,7 +4,7 @@ use fx_num::Memory;
 use std::alloc::Global;
 
 /// Templates of states, and how far each reaches.
-#[derive(Debug, Drop)]
+#[derive(Drop)]
 pub struct Templates {
     /// How many states there are.
     pub states: usize,

@@ -6,7 +6,7 @@ use fx_cert::NodeLine;
 use fx_flat::Nodes;
 
 /// How many variables there are, where the next states stand, and the lines of all nodes.
-#[derive(Debug, Drop)]
+#[derive(Drop)]
 pub struct Transition<'a> {
     /// How many inputs there are.
     pub inputs: u32,
