@@ -11,17 +11,35 @@ use fx_rewrite::{StepFault, apply};
 use fx_step::Step;
 use std::alloc::Global;
 
-/// The most steps of a draft.
-const STEP_LIMIT: usize = 1024;
+/// How many steps a draft may have.
+#[derive(Clone, Copy)]
+pub struct Limits {
+    /// The most steps in all,
+    steps: usize,
+    /// and the most that are drawn at random from where it is taken up.
+    drawn: u32,
+}
 
-/// The most steps that are drawn at random from where a draft is taken up.
-const DRAWN_LIMIT: u32 = 64;
+impl Limits {
+    /// Many steps, of which few are drawn.
+    pub const WIDE: Limits = Limits {
+        steps: 1024,
+        drawn: 64,
+    };
+
+    /// Few steps, all of which may be drawn.
+    pub const NARROW: Limits = Limits {
+        steps: 64,
+        drawn: u32::MAX,
+    };
+}
 
 /// A function, and the steps that made it of the source's.
 #[derive(Drop)]
 pub struct Draft {
     pub function: Function,
     pub steps: Trail,
+    limits: Limits,
     /// How many steps were drawn since the draft was taken up.
     drawn: u32,
     /// Whether the steps that are made follow a rule, so that they aren't drawn.
@@ -49,11 +67,17 @@ pub fn joined(alloc: Global, path: &[u8], below: &[u8]) -> Result<Vec<u8>, Memor
 }
 
 impl Draft {
-    /// The source as it stands.
+    /// The source as it stands, which may have many steps.
     pub fn new(alloc: Global, source: &Function) -> Result<Draft, Memory> {
+        Draft::within(alloc, source, Limits::WIDE)
+    }
+
+    /// The source as it stands, with limits to its steps.
+    pub fn within(alloc: Global, source: &Function, limits: Limits) -> Result<Draft, Memory> {
         Ok(Draft {
             function: source.copy(alloc)?,
             steps: Trail::new(alloc),
+            limits,
             drawn: 0,
             is_directed: false,
         })
@@ -64,6 +88,7 @@ impl Draft {
         Ok(Draft {
             function: self.function.copy(alloc)?,
             steps: self.steps.copy(alloc)?,
+            limits: self.limits,
             drawn: self.drawn,
             is_directed: self.is_directed,
         })
@@ -83,11 +108,11 @@ impl Draft {
 
     /// How many steps more there may be.
     pub fn room(&self) -> usize {
-        let left = STEP_LIMIT.saturating_sub(self.steps.len());
+        let left = self.limits.steps.saturating_sub(self.steps.len());
         if self.is_directed {
             left
         } else {
-            left.min(DRAWN_LIMIT.saturating_sub(self.drawn) as usize)
+            left.min(self.limits.drawn.saturating_sub(self.drawn) as usize)
         }
     }
 

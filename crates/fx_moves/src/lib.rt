@@ -42,7 +42,7 @@ mod site;
 mod trail;
 
 pub use cleaning::clean_all;
-pub use draft::Draft;
+pub use draft::{Draft, Limits};
 pub use drawing::draw;
 pub use mutation::{factor_all, mutate};
 pub use orders::form;

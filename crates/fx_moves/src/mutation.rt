@@ -15,9 +15,6 @@ use std::alloc::Global;
 /// So often a place and a move are drawn before a random move is given up.
 const DRAWS: u32 = 10;
 
-/// At most so many random moves lead from a draft to another.
-const MOVES: u32 = 6;
-
 /// At most so many sums are looked at for one that can be factored, times the operations of the function.
 const LOOKS: u32 = 1 << 16;
 
@@ -90,10 +87,15 @@ fn random_move<R: Rng>(alloc: Global, rng: &mut R, draft: &mut Draft) -> Result<
     Ok(())
 }
 
-/// One to six random moves from a draft that is taken up.
-pub fn mutate<R: Rng>(alloc: Global, rng: &mut R, draft: &mut Draft) -> Result<(), Memory> {
+/// One to so many random moves from a draft that is taken up.
+pub fn mutate<R: Rng>(
+    alloc: Global,
+    rng: &mut R,
+    draft: &mut Draft,
+    most: u32,
+) -> Result<(), Memory> {
     draft.take_up();
-    let moves = draw(rng, MOVES).saturating_add(1);
+    let moves = draw(rng, most.max(1)).saturating_add(1);
     for _turn in 0..moves {
         random_move(alloc, rng, draft)?;
     }

@@ -101,7 +101,7 @@ fn fact_of(function: &Function, node: &Node, ranges: &Ranges, n: usize, cap: i32
     }
 }
 
-/// What the choice of points reads of each node, with these caps.
+/// What the choice of points reads of all nodes, with these caps.
 fn facts_of(
     alloc: Global,
     function: &Function,
@@ -120,6 +120,40 @@ fn facts_of(
     Ok(facts)
 }
 
+/// The best points up to these caps, or the first node that has none.
+fn points_within(
+    alloc: Global,
+    task: Task<'_>,
+    function: &Function,
+    nodes: &Nodes,
+    ranges: &Ranges,
+    caps: &[i32],
+) -> Result<Result<Vec<i32>, Unplanned>, Memory> {
+    let facts = facts_of(alloc, function, nodes, ranges, caps)?;
+    let width = task.wanted.width.min(64);
+    match choose_points(alloc, nodes, &facts, width, task.wanted.round) {
+        Ok(points) => Ok(Ok(points)),
+        Err(PointFault::NoPoint { node }) => Ok(Err(Unplanned::at(node))),
+        Err(PointFault::Memory) => Err(Memory),
+    }
+}
+
+/// The plan at these points, or the first node that has none.
+fn placed_at(
+    alloc: Global,
+    task: Task<'_>,
+    function: &Function,
+    nodes: &Nodes,
+    ranges: &Ranges,
+    points: Vec<i32>,
+) -> Result<Result<Placed, Unplanned>, Memory> {
+    let wanted = task.wanted;
+    match find_plan(alloc, function, nodes, ranges, &points, wanted, task.goal())? {
+        Ok(plan) => Ok(Ok(Placed { points, plan })),
+        Err(failed) => Ok(Err(failed)),
+    }
+}
+
 /// The best points up to these caps, and their plan, or the first node that has none.
 fn placed_within(
     alloc: Global,
@@ -129,29 +163,8 @@ fn placed_within(
     ranges: &Ranges,
     caps: &[i32],
 ) -> Result<Result<Placed, Unplanned>, Memory> {
-    let facts = facts_of(alloc, function, nodes, ranges, caps)?;
-    let points = match choose_points(
-        alloc,
-        nodes,
-        &facts,
-        task.wanted.width.min(64),
-        task.wanted.round,
-    ) {
-        Ok(points) => points,
-        Err(PointFault::NoPoint { node }) => return Ok(Err(Unplanned::at(node))),
-        Err(PointFault::Memory) => return Err(Memory),
-    };
-    let found = find_plan(
-        alloc,
-        function,
-        nodes,
-        ranges,
-        &points,
-        task.wanted,
-        task.goal(),
-    )?;
-    match found {
-        Ok(plan) => Ok(Ok(Placed { points, plan })),
+    match points_within(alloc, task, function, nodes, ranges, caps)? {
+        Ok(points) => placed_at(alloc, task, function, nodes, ranges, points),
         Err(failed) => Ok(Err(failed)),
     }
 }
@@ -166,6 +179,38 @@ fn lower(caps: &mut [i32], placed: &Placed) {
     }
 }
 
+/// What comes of points up to some caps.
+enum Choice {
+    /// Each word is large enough.
+    Placed(Placed),
+    /// This node has no point or no code.
+    Failed(Unplanned),
+    /// The word of this node, and maybe of others, is too small: the caps were lowered.
+    Lowered(Unplanned),
+}
+
+/// Chooses points up to these caps, and lowers the caps of nodes whose words are too small.
+fn choose(
+    alloc: Global,
+    task: Task<'_>,
+    function: &Function,
+    nodes: &Nodes,
+    ranges: &Ranges,
+    caps: &mut [i32],
+) -> Result<Choice, Memory> {
+    match placed_within(alloc, task, function, nodes, ranges, caps)? {
+        Ok(placed) => match placed.plan.small().first().copied() {
+            Some(node) => {
+                lower(caps, &placed);
+                drop(placed);
+                Ok(Choice::Lowered(Unplanned { node }))
+            }
+            None => Ok(Choice::Placed(placed)),
+        },
+        Err(failed) => Ok(Choice::Failed(failed)),
+    }
+}
+
 /// The best points at which no word is too small, or the first node that has none.
 fn backed_off(
     alloc: Global,
@@ -177,15 +222,11 @@ fn backed_off(
     let mut caps = range_caps(alloc, nodes, ranges, task.wanted.width)?;
     let mut failed = Unplanned::at(0);
     for _turn in 0..TURNS {
-        let placed = match placed_within(alloc, task, function, nodes, ranges, &caps)? {
-            Ok(placed) => placed,
-            Err(failed) => return Ok(Err(failed)),
-        };
-        let Some(node) = placed.plan.small().first() else {
-            return Ok(Ok(placed));
-        };
-        failed = Unplanned { node: *node };
-        lower(&mut caps, &placed);
+        match choose(alloc, task, function, nodes, ranges, &mut caps)? {
+            Choice::Placed(placed) => return Ok(Ok(placed)),
+            Choice::Failed(node) => return Ok(Err(node)),
+            Choice::Lowered(node) => failed = node,
+        }
     }
     Ok(Err(failed))
 }
@@ -198,6 +239,24 @@ fn failure(nodes: &Nodes, failed: Unplanned) -> Cost {
     }
 }
 
+/// The ranges of a function's nodes with the best points, or the first node that has none.
+fn ranged(
+    alloc: Global,
+    task: Task<'_>,
+    function: &Function,
+    grids: Grids,
+    nodes: &Nodes,
+) -> Result<Result<(Ranges, Placed), Unplanned>, Memory> {
+    let ranges = match find_ranges(alloc, function, nodes, grids)? {
+        Ok(ranges) => ranges,
+        Err(failed) => return Ok(Err(failed)),
+    };
+    match backed_off(alloc, task, function, nodes, &ranges)? {
+        Ok(placed) => Ok(Ok((ranges, placed))),
+        Err(failed) => Ok(Err(failed)),
+    }
+}
+
 /// The attempt of a function as it stands, or what its failure costs.
 pub fn attempted(
     alloc: Global,
@@ -206,12 +265,8 @@ pub fn attempted(
     grids: Grids,
 ) -> Result<Result<Attempt, Cost>, Memory> {
     let nodes = flatten(alloc, function)?;
-    let ranges = match find_ranges(alloc, function, &nodes, grids)? {
-        Ok(ranges) => ranges,
-        Err(failed) => return Ok(Err(failure(&nodes, failed))),
-    };
-    match backed_off(alloc, task, function, &nodes, &ranges)? {
-        Ok(placed) => Ok(Ok(Attempt {
+    match ranged(alloc, task, function, grids, &nodes)? {
+        Ok((ranges, placed)) => Ok(Ok(Attempt {
             nodes,
             ranges,
             placed,

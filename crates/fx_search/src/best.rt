@@ -12,6 +12,7 @@ use fx_num::Memory;
 use fx_planning::Cost;
 use fx_span::{Grids, Real, Span};
 use std::alloc::Global;
+use std::mem::replace;
 
 /// A draft with its polished attempt.
 #[derive(Drop)]
@@ -87,6 +88,25 @@ pub fn polished_attempt(
     }
 }
 
+/// Lets an attempt of a draft take the best one's place.
+fn put_best(
+    alloc: Global,
+    draft: &Draft,
+    attempt: Attempt,
+    best: &mut Option<Polished>,
+) -> Result<(), Memory> {
+    match draft.copy(alloc) {
+        Ok(draft) => {
+            drop(replace(best, Some(Polished { draft, attempt })));
+            Ok(())
+        }
+        Err(fault) => {
+            drop(attempt);
+            Err(fault)
+        }
+    }
+}
+
 /// Polishes a trial, and lets it take the best one's place.
 pub fn polish_trial(
     alloc: Global,
@@ -99,8 +119,9 @@ pub fn polish_trial(
         return Ok(());
     };
     if is_best(&attempt, best) {
-        let draft = trial.draft.copy(alloc)?;
-        *best = Some(Polished { draft, attempt });
+        put_best(alloc, &trial.draft, attempt, best)
+    } else {
+        drop(attempt);
+        Ok(())
     }
-    Ok(())
 }

@@ -38,7 +38,20 @@ fn judged_after(
     Ok(certified)
 }
 
-/// What the checker makes of a draft, on grids, polished by looking at so many plans.
+/// What the checker makes of an attempt of a draft.
+fn judged_draft(
+    alloc: Global,
+    task: Task<'_>,
+    draft: &Draft,
+    attempt: &Attempt,
+) -> Result<Option<Certified>, Memory>
+    ensures { IfOk result (IsOffered task.entry.wanted task.entry.source.now) }
+{
+    let steps = draft.steps.steps(alloc)?;
+    judged_after(alloc, task, &steps, attempt)
+}
+
+/// What the checker makes of a draft on grids, polished by looking at so many plans.
 fn certified_on(
     alloc: Global,
     task: Task<'_>,
@@ -51,9 +64,9 @@ fn certified_on(
     let mut left = plans;
     match polished_attempt(alloc, task, draft, grids, &mut left)? {
         Some(attempt) => {
-            let steps = draft.steps.steps(alloc)?;
-            let certified = judged_after(alloc, task, &steps, &attempt)?;
-            Ok(certified)
+            let certified = judged_draft(alloc, task, draft, &attempt);
+            drop(attempt);
+            certified
         }
         None => Ok(None),
     }
@@ -68,8 +81,7 @@ pub fn certified_as(
 ) -> Result<Option<Certified>, Memory>
     ensures { IfOk result (IsOffered task.entry.wanted task.entry.source.now) }
 {
-    let steps = found.draft.steps.steps(alloc)?;
-    match judged_after(alloc, task, &steps, &found.attempt)? {
+    match judged_draft(alloc, task, &found.draft, &found.attempt)? {
         Some(certified) => Ok(Some(certified)),
         None => {
             let other = certified(alloc, task, &found.draft, plans)?;

@@ -5,35 +5,84 @@
 //! tries are the same ones and others behind them.
 
 use crate::front::{Front, Trial};
+use crate::seen::Seen;
 use crate::task::Task;
-use fx_moves::{Draft, clean_all, draw, factor_all, form, mutate};
+use fx_moves::{Draft, Limits, clean_all, draw, factor_all, form, mutate};
 use fx_num::Memory;
 use fx_planning::Cost;
 use fx_span::Real;
 use rand_core::Rng;
 use std::alloc::Global;
+use std::mem::replace;
 
-/// The first drafts begin at the source: it is cleaned, then factored at random up to this one,
+/// The first drafts begin at the source: it is cleaned, then factored at random up to this one, and in a climb with
+/// forms these come behind.
 const RANDOM_STARTS: u32 = 4;
 
-/// and then come directed forms, up to here,
-const FIRST_STARTS: u32 = 20;
+/// How a climb goes.
+#[derive(Clone, Copy)]
+pub struct Style {
+    /// The limits of its drafts' steps.
+    limits: Limits,
+    /// At most so many random moves lead from a draft to another.
+    moves: u32,
+    /// Up to this one the first drafts begin at the source,
+    first_starts: u32,
+    /// and some more from this one on,
+    later_start: u32,
+    /// up to here.
+    last_start: u32,
+    /// After so many tries without gain one of the best is taken up again.
+    patience: u32,
+    /// A dearer draft is taken up only with at most so many steps.
+    warm_steps: usize,
+    /// So many of the best are kept.
+    kept: usize,
+    /// So many plans are looked at in polishing them,
+    pub plans: u32,
+    /// and so many more for each try so far.
+    pub plans_a_try: u32,
+}
 
-/// and some more from this one on,
-const LATER_START: u32 = 33;
+impl Style {
+    /// By long ways, from directed forms too.
+    pub const WIDE: Style = Style {
+        limits: Limits::WIDE,
+        moves: 6,
+        first_starts: 20,
+        later_start: 33,
+        last_start: 48,
+        patience: 60,
+        warm_steps: 512,
+        kept: 20,
+        plans: 128,
+        plans_a_try: 8,
+    };
 
-/// up to here.
-const LAST_START: u32 = 48;
+    /// By few moves, near the source.
+    pub const NARROW: Style = Style {
+        limits: Limits::NARROW,
+        moves: 3,
+        first_starts: 4,
+        later_start: 21,
+        last_start: 36,
+        patience: 20,
+        warm_steps: 32,
+        kept: 5,
+        plans: 64,
+        plans_a_try: 2,
+    };
 
-/// After so many tries without gain one of the best is taken up again.
-const PATIENCE: u32 = 60;
-
-/// A dearer draft is taken up only with at most so many steps.
-const WARM_STEPS: usize = 512;
+    /// Whether a try begins at the source. The source itself is the one before them.
+    fn is_start(self, turn: u32) -> bool {
+        turn <= self.first_starts || (self.later_start <= turn && turn <= self.last_start)
+    }
+}
 
 /// Where a search stands.
 #[derive(Drop)]
 pub struct Climb {
+    style: Style,
     current: Trial,
     /// The best drafts so far.
     pub front: Front,
@@ -41,11 +90,6 @@ pub struct Climb {
     since: u32,
     /// How often one of the best was taken up again.
     returns: u32,
-}
-
-/// Whether a try begins at the source. The source itself is the one before them.
-fn is_start(turn: u32) -> bool {
-    turn <= FIRST_STARTS || (LATER_START <= turn && turn <= LAST_START)
 }
 
 /// A cost raised by at most a tenth.
@@ -63,35 +107,59 @@ fn heated<R: Rng>(rng: &mut R, cost: Cost) -> Cost {
     }
 }
 
-/// A draft that begins at the source: first it is only cleaned, then factored at random, then come the directed forms,
-/// and behind them it is factored at random again.
-fn started<R: Rng>(alloc: Global, rng: &mut R, task: Task<'_>, turn: u32) -> Result<Draft, Memory> {
-    let mut draft = Draft::new(alloc, task.source)?;
+/// Begins a draft at the source: first it is only cleaned, then factored at random, then come the directed forms, and
+/// behind them it is factored at random again.
+fn start<R: Rng>(
+    alloc: Global,
+    rng: &mut R,
+    draft: &mut Draft,
+    style: Style,
+    turn: u32,
+) -> Result<(), Memory> {
     if turn == 1 {
-        clean_all(alloc, &mut draft)?;
-        return Ok(draft);
+        return clean_all(alloc, draft);
     }
-    let is_due = RANDOM_STARTS < turn && turn <= FIRST_STARTS;
+    let is_due = RANDOM_STARTS < turn && turn <= style.first_starts;
     let number = turn.saturating_sub(RANDOM_STARTS).saturating_sub(1);
-    let is_form = is_due && form(alloc, &mut draft, number)?;
-    if !is_form {
-        factor_all(alloc, rng, &mut draft)?;
+    if is_due && form(alloc, draft, number)? {
+        return Ok(());
     }
+    factor_all(alloc, rng, draft)
+}
+
+/// A draft that begins at the source.
+fn started<R: Rng>(
+    alloc: Global,
+    rng: &mut R,
+    task: Task<'_>,
+    style: Style,
+    turn: u32,
+) -> Result<Draft, Memory> {
+    let mut draft = Draft::within(alloc, task.source, style.limits)?;
+    start(alloc, rng, &mut draft, style, turn)?;
     Ok(draft)
 }
 
 impl Climb {
     /// At the source, which is the best so far.
-    pub fn at_source(alloc: Global, task: Task<'_>) -> Result<Climb, Memory> {
-        let source = Trial::new(alloc, task, Draft::new(alloc, task.source)?)?;
-        let mut front = Front::new(alloc);
-        front.keep(alloc, &source)?;
-        Ok(Climb {
-            current: source,
-            front,
-            since: 0,
-            returns: 0,
-        })
+    pub fn at_source(alloc: Global, task: Task<'_>, style: Style) -> Result<Climb, Memory> {
+        let draft = Draft::within(alloc, task.source, style.limits)?;
+        let source = Trial::new(alloc, task, draft)?;
+        let mut front = Front::new(alloc, style.kept);
+        match front.keep(alloc, &source) {
+            Ok(_) => Ok(Climb {
+                style,
+                current: source,
+                front,
+                since: 0,
+                returns: 0,
+            }),
+            Err(fault) => {
+                drop(front);
+                drop(source);
+                Err(fault)
+            }
+        }
     }
 
     /// Which of the best is taken up again: the best every other time, and the others in turn.
@@ -108,7 +176,8 @@ impl Climb {
     /// Takes up one of the best again.
     fn go_back(&mut self, alloc: Global) -> Result<(), Memory> {
         if let Some(trial) = self.front.get(self.return_to()) {
-            self.current = trial.copy(alloc)?;
+            let copy = trial.copy(alloc)?;
+            drop(replace(&mut self.current, copy));
         }
         self.since = 0;
         self.returns = self.returns.wrapping_add(1);
@@ -118,11 +187,11 @@ impl Climb {
     /// A draft by random moves from the current one, or from one of the best where nothing was gained for long.
     fn moved<R: Rng>(&mut self, alloc: Global, rng: &mut R) -> Result<Draft, Memory> {
         self.since = self.since.saturating_add(1);
-        if self.since > PATIENCE {
+        if self.since > self.style.patience {
             self.go_back(alloc)?;
         }
         let mut draft = self.current.draft.copy(alloc)?;
-        mutate(alloc, rng, &mut draft)?;
+        mutate(alloc, rng, &mut draft, self.style.moves)?;
         Ok(draft)
     }
 
@@ -137,7 +206,7 @@ impl Climb {
         if trial.cost == old {
             return steps <= self.current.draft.steps.len();
         }
-        !is_start && steps <= WARM_STEPS && trial.cost < limit
+        !is_start && steps <= self.style.warm_steps && trial.cost < limit
     }
 
     /// Keeps a copy of a trial that is among the best.
@@ -151,26 +220,10 @@ impl Climb {
     /// Takes a trial up, where it is accepted.
     fn take<R: Rng>(&mut self, rng: &mut R, trial: Trial, is_start: bool) {
         if self.accepts(rng, &trial, is_start) {
-            self.current = trial;
+            drop(replace(&mut self.current, trial));
+        } else {
+            drop(trial);
         }
-    }
-
-    /// Makes the attempt of a draft that isn't the current one, and lets it serve.
-    fn attempt<R: Rng>(
-        &mut self,
-        alloc: Global,
-        rng: &mut R,
-        task: Task<'_>,
-        draft: Draft,
-        is_start: bool,
-    ) -> Result<(), Memory> {
-        if draft.is_same(&self.current.draft) {
-            return Ok(());
-        }
-        let trial = Trial::new(alloc, task, draft)?;
-        self.keep(alloc, &trial)?;
-        self.take(rng, trial, is_start);
-        Ok(())
     }
 
     /// The draft to try next.
@@ -181,11 +234,27 @@ impl Climb {
         task: Task<'_>,
         turn: u32,
     ) -> Result<Draft, Memory> {
-        if is_start(turn) {
-            started(alloc, rng, task, turn)
+        if self.style.is_start(turn) {
+            started(alloc, rng, task, self.style, turn)
         } else {
             self.moved(alloc, rng)
         }
+    }
+
+    /// Makes the attempt of a draft that isn't the current one, and lets it serve.
+    fn attempt<R: Rng>(
+        &mut self,
+        alloc: Global,
+        rng: &mut R,
+        task: Task<'_>,
+        seen: &mut Seen,
+        draft: Draft,
+        is_start: bool,
+    ) -> Result<(), Memory> {
+        let trial = seen.trial(alloc, task, draft)?;
+        self.keep(alloc, &trial)?;
+        self.take(rng, trial, is_start);
+        Ok(())
     }
 
     /// The try of this number, from 1 on behind the source.
@@ -194,9 +263,14 @@ impl Climb {
         alloc: Global,
         rng: &mut R,
         task: Task<'_>,
+        seen: &mut Seen,
         turn: u32,
     ) -> Result<(), Memory> {
         let draft = self.next_draft(alloc, rng, task, turn)?;
-        self.attempt(alloc, rng, task, draft, is_start(turn))
+        if draft.is_same(&self.current.draft) {
+            drop(draft);
+            return Ok(());
+        }
+        self.attempt(alloc, rng, task, seen, draft, self.style.is_start(turn))
     }
 }

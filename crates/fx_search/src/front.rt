@@ -2,14 +2,12 @@
 
 use crate::attempt::attempted;
 use crate::task::Task;
+use fx_expr::Function;
 use fx_moves::Draft;
 use fx_num::Memory;
 use fx_planning::Cost;
 use fx_span::Grids;
 use std::alloc::Global;
-
-/// So many drafts are kept.
-const KEPT: usize = 20;
 
 /// A draft, and what its attempt costs.
 #[derive(Drop)]
@@ -20,18 +18,32 @@ pub struct Trial {
     pub is_done: bool,
 }
 
+/// What the attempt of a function costs.
+fn cost_of(alloc: Global, task: Task<'_>, function: &Function) -> Result<Cost, Memory> {
+    match attempted(alloc, task, function, Grids::FINE)? {
+        Ok(attempt) => {
+            let cost = attempt.placed.plan.cost();
+            drop(attempt);
+            Ok(cost)
+        }
+        Err(cost) => Ok(cost),
+    }
+}
+
 impl Trial {
     /// The attempt of a draft.
     pub fn new(alloc: Global, task: Task<'_>, draft: Draft) -> Result<Trial, Memory> {
-        let cost = match attempted(alloc, task, &draft.function, Grids::FINE)? {
-            Ok(attempt) => attempt.placed.plan.cost(),
-            Err(cost) => cost,
-        };
-        Ok(Trial {
+        let cost = cost_of(alloc, task, &draft.function)?;
+        Ok(Trial::known(draft, cost))
+    }
+
+    /// A draft whose attempt costs so much.
+    pub fn known(draft: Draft, cost: Cost) -> Trial {
+        Trial {
             draft,
             cost,
             is_done: false,
-        })
+        }
     }
 
     /// An equal trial.
@@ -48,13 +60,16 @@ impl Trial {
 #[derive(Drop)]
 pub struct Front {
     list: Vec<Trial>,
+    /// So many are kept.
+    most: usize,
 }
 
 impl Front {
-    /// None yet.
-    pub fn new(alloc: Global) -> Front {
+    /// None yet, of which so many are to be kept.
+    pub fn new(alloc: Global, most: usize) -> Front {
         Front {
             list: Vec::new(alloc),
+            most,
         }
     }
 
@@ -102,13 +117,13 @@ impl Front {
         let Some(place) = self.place(trial.cost) else {
             return Ok(false);
         };
-        if place >= KEPT {
+        if place >= self.most {
             return Ok(false);
         }
         let copy = trial.copy(alloc)?;
         self.put(place, copy)?;
-        if self.list.len() > KEPT {
-            let _ = self.list.pop();
+        if self.list.len() > self.most {
+            drop(self.list.pop());
         }
         Ok(place == 0)
     }

@@ -16,11 +16,14 @@
 //! - The first try is the function as it stands. Each further try looks at some drafts. The first of these begin at it
 //!   too: cleaned, with common factors taken out at random, and in directed forms.
 //! - Then it climbs (`climb`), by random moves from the current draft. A draft that costs up to a tenth more may be
-//!   taken up too, and after sixty drafts without gain one of the twenty best is (`front`). Where there is no plan, the
-//!   draft that fails further on is the cheaper one.
+//!   taken up too, and after some drafts without gain one of the best is (`front`). Where there is no plan, the draft
+//!   that fails further on is the cheaper one. There are two climbs: a wide one, by up to six moves a draft and a
+//!   thousand steps, and beside it a narrow one, by up to three moves and 64 steps, with one draft a try. The wide one
+//!   finds more, and now and then the narrow one finds what it passes by.
+//! - A function that was tried before isn't tried again, whichever draft led to it (`seen`).
 //! - After 1, 2, 5, 10, 20, .. tries the best are polished (`polish`), each point, each word and the centres of each
-//!   product moved by a little, and written. Where the checker or a text refuses it, its numbers left 128 bits, and it
-//!   is made again on coarser grids (`certify`).
+//!   product moved by a little (`nudge`), and written. Where the checker or a text refuses it, its numbers left 128
+//!   bits, and it is made again on coarser grids (`certify`).
 //!
 //! What is certified stays until it is bettered, and no try depends on how many follow, so more tries give no worse
 //! answer.
@@ -33,8 +36,10 @@ mod best;
 mod certify;
 mod climb;
 mod front;
+mod nudge;
 mod polish;
 mod searching;
+mod seen;
 mod task;
 
 pub use fx_moves::draw;

@@ -1,26 +1,19 @@
 //! Polish: points and words of an attempt, and the centres of its products, are moved one by one, and points of an
 //! operation and its operands two at a time, as long as its cost falls.
+//!
+//! All that is tried is one list of nudges (`nudge`), gone over round and round until each was tried since the last
+//! gain: tried again it would give the plan that it gave.
 
 use crate::attempt::{Attempt, Placed};
+use crate::nudge::{Nudge, follows, nudges_of};
 use crate::task::Task;
 use fx_expr::Function;
 use fx_flat::Node;
 use fx_num::Memory;
-use fx_planning::{find_plan, move_word};
-use fx_ranges::{Centre, Centres, find_centred_ranges};
+use fx_planning::{Plan, find_plan, move_word};
+use fx_ranges::{Centres, Ranges, Unplanned, find_centred_ranges};
 use std::alloc::Global;
-
-/// By how much a point is moved.
-const POINT_MOVES: [i32; 4] = [1, -1, -2, 3];
-
-/// By how much two points are moved together.
-const PAIR_MOVES: [(i32, i32); 4] = [(1, 1), (-1, -1), (1, -1), (-1, 1)];
-
-/// By how many units a word is moved.
-const WORD_MOVES: [i64; 4] = [1, -1, 2, -2];
-
-/// Where the operands of a product may be centred.
-const CENTRES: [Centre; 4] = [Centre::Middle, Centre::Low, Centre::High, Centre::Zero];
+use std::mem::replace;
 
 /// No more rounds are made, though each had a gain.
 const ROUNDS: u32 = 64;
@@ -32,24 +25,6 @@ pub struct Polish<'a> {
     task: Task<'a>,
     function: &'a Function,
     budget: u32,
-}
-
-/// The node whose point a node has to have, if there is one.
-fn follows(node: &Node) -> Option<u32> {
-    match node {
-        Node::Neg { a } | Node::Copy { a } => Some(*a),
-        _ => None,
-    }
-}
-
-/// The operands of an operation with two.
-fn operands(node: &Node) -> Option<(usize, usize)> {
-    match node {
-        Node::Add { a, b } | Node::Sub { a, b } | Node::Mul { a, b } | Node::Div { a, b } => {
-            Some((*a as usize, *b as usize))
-        }
-        _ => None,
-    }
 }
 
 /// The points, one of them moved, and those that have to be the same.
@@ -111,33 +86,60 @@ impl<'a> Polish<'a> {
         is_left
     }
 
-    /// Takes other points, where the cost falls by them.
-    fn take_points(&mut self, attempt: &mut Attempt, points: Vec<i32>) -> Result<bool, Memory> {
-        let found = find_plan(
+    /// Whether a point so moved is beyond the node's range, so that its word would be too small.
+    fn is_beyond(&self, attempt: &Attempt, n: usize, by: i32) -> bool {
+        let point = attempt.placed.points.get(n).copied();
+        match (point, attempt.ranges.cap(n, self.task.wanted.width)) {
+            (Some(point), Some(cap)) => by > 0 && point.saturating_add(by) > cap,
+            _ => false,
+        }
+    }
+
+    /// The plan with these ranges and points, where it is sound and costs less than the attempt's.
+    fn cheaper_plan(
+        &self,
+        attempt: &Attempt,
+        ranges: &Ranges,
+        points: &[i32],
+    ) -> Result<Option<Plan>, Memory> {
+        let wanted = self.task.wanted;
+        let goal = self.task.goal();
+        let nodes = &attempt.nodes;
+        match find_plan(
             self.alloc,
             self.function,
-            &attempt.nodes,
-            &attempt.ranges,
-            &points,
-            self.task.wanted,
-            self.task.goal(),
-        )?;
-        match found {
+            nodes,
+            ranges,
+            points,
+            wanted,
+            goal,
+        )? {
             Ok(plan) => {
-                let old = attempt.placed.plan.cost();
-                if !plan.small().is_empty() || plan.cost() >= old {
-                    return Ok(false);
+                if plan.small().is_empty() && plan.cost() < attempt.placed.plan.cost() {
+                    Ok(Some(plan))
+                } else {
+                    drop(plan);
+                    Ok(None)
                 }
-                attempt.placed = Placed { points, plan };
+            }
+            Err(_) => Ok(None),
+        }
+    }
+
+    /// Takes other points, where the cost falls by them.
+    fn take_points(&self, attempt: &mut Attempt, points: Vec<i32>) -> Result<bool, Memory> {
+        match self.cheaper_plan(attempt, &attempt.ranges, &points)? {
+            Some(plan) => {
+                drop(replace(&mut attempt.placed, Placed { points, plan }));
                 Ok(true)
             }
-            Err(_) => Ok(false),
+            None => Ok(false),
         }
     }
 
     /// Moves a point, and keeps that where the cost falls.
     fn move_point(&mut self, attempt: &mut Attempt, n: usize, by: i32) -> Result<bool, Memory> {
-        if !self.spend() {
+        if self.is_beyond(attempt, n, by) || !self.spend() {
             return Ok(false);
         }
         let nodes = attempt.nodes.list.as_slice();
@@ -152,13 +154,39 @@ impl<'a> Polish<'a> {
         (n, m): (usize, usize),
         (by, other): (i32, i32),
     ) -> Result<bool, Memory> {
-        if n == m || !self.spend() {
+        let is_beyond = self.is_beyond(attempt, n, by) || self.is_beyond(attempt, m, other);
+        if is_beyond || !self.spend() {
             return Ok(false);
         }
         let nodes = attempt.nodes.list.as_slice();
         let first = moved_points(self.alloc, nodes, &attempt.placed.points, n, by)?;
         let points = moved_points(self.alloc, nodes, &first, m, other)?;
         self.take_points(attempt, points)
+    }
+
+    /// The ranges with the operands of a product centred elsewhere, or the first node that has none.
+    fn centred(
+        &self,
+        attempt: &Attempt,
+        n: usize,
+        to: Centres,
+    ) -> Result<Result<Ranges, Unplanned>, Memory> {
+        let centres = moved_centres(self.alloc, attempt, n, to)?;
+        let grids = attempt.ranges.grids();
+        let nodes = &attempt.nodes;
+        find_centred_ranges(self.alloc, self.function, nodes, grids, &[], &centres)
+    }
+
+    /// Takes other ranges, where the cost falls by them.
+    fn take_ranges(&self, attempt: &mut Attempt, ranges: Ranges) -> Result<bool, Memory> {
+        match self.cheaper_plan(attempt, &ranges, &attempt.placed.points)? {
+            Some(plan) => {
+                drop(replace(&mut attempt.placed.plan, plan));
+                drop(replace(&mut attempt.ranges, ranges));
+                Ok(true)
+            }
+            None => Ok(false),
+        }
     }
 
     /// Centres the operands of a product elsewhere, and keeps that where the cost falls.
@@ -168,39 +196,14 @@ impl<'a> Polish<'a> {
         n: usize,
         to: Centres,
     ) -> Result<bool, Memory> {
-        if attempt.ranges.centres_of(n) == to || !self.spend() {
+        let is_there = attempt.ranges.centres_of(n) == to || attempt.ranges.form(n).is_none();
+        if is_there || !self.spend() {
             return Ok(false);
         }
-        let centres = moved_centres(self.alloc, attempt, n, to)?;
-        let Ok(ranges) = find_centred_ranges(
-            self.alloc,
-            self.function,
-            &attempt.nodes,
-            attempt.ranges.grids(),
-            &[],
-            &centres,
-        )?
-        else {
-            return Ok(false);
-        };
-        let Ok(plan) = find_plan(
-            self.alloc,
-            self.function,
-            &attempt.nodes,
-            &ranges,
-            &attempt.placed.points,
-            self.task.wanted,
-            self.task.goal(),
-        )?
-        else {
-            return Ok(false);
-        };
-        if !plan.small().is_empty() || plan.cost() >= attempt.placed.plan.cost() {
-            return Ok(false);
+        match self.centred(attempt, n, to)? {
+            Ok(ranges) => self.take_ranges(attempt, ranges),
+            Err(_) => Ok(false),
         }
-        attempt.placed.plan = plan;
-        attempt.ranges = ranges;
-        Ok(true)
     }
 
     /// Moves the word of a literal, and keeps that where the cost falls.
@@ -221,117 +224,42 @@ impl<'a> Polish<'a> {
         )
     }
 
-    /// Moves the point of a node this way and that.
-    fn turn_point(&mut self, attempt: &mut Attempt, n: usize) -> Result<bool, Memory> {
-        let mut has_gain = false;
-        for by in &POINT_MOVES {
-            if self.move_point(attempt, n, *by)? {
-                has_gain = true;
-            }
+    /// Tries a nudge, and keeps it where the cost falls.
+    fn try_nudge(&mut self, attempt: &mut Attempt, nudge: Nudge) -> Result<bool, Memory> {
+        match nudge {
+            Nudge::Point { n, by } => self.move_point(attempt, n, by),
+            Nudge::Word { n, units } => self.move_word(attempt, n, units),
+            Nudge::Centre { n, to } => self.move_centres(attempt, n, to),
+            Nudge::Pair { n, m, by, other } => self.move_pair(attempt, (n, m), (by, other)),
         }
-        Ok(has_gain)
     }
 
-    /// Moves two points together, this way and that.
-    fn turn_pair(&mut self, attempt: &mut Attempt, pair: (usize, usize)) -> Result<bool, Memory> {
-        let mut has_gain = false;
-        for by in &PAIR_MOVES {
-            if self.move_pair(attempt, pair, *by)? {
-                has_gain = true;
+    /// Tries all nudges, until each was tried since the last gain, and answers how many were: so many were before.
+    fn turn(
+        &mut self,
+        attempt: &mut Attempt,
+        nudges: &[Nudge],
+        before: usize,
+    ) -> Result<usize, Memory> {
+        let mut quiet = before;
+        for nudge in nudges {
+            if quiet >= nudges.len() {
+                break;
             }
+            let has_gain = self.try_nudge(attempt, *nudge)?;
+            quiet = if has_gain { 0 } else { quiet.saturating_add(1) };
         }
-        Ok(has_gain)
+        Ok(quiet)
     }
 
-    /// Moves the word of a literal this way and that.
-    fn turn_word(&mut self, attempt: &mut Attempt, n: u32) -> Result<bool, Memory> {
-        let mut has_gain = false;
-        for units in &WORD_MOVES {
-            if self.move_word(attempt, n, *units)? {
-                has_gain = true;
-            }
-        }
-        Ok(has_gain)
-    }
-
-    /// Centres the operands of a product at each of some places.
-    fn turn_product(&mut self, attempt: &mut Attempt, n: usize) -> Result<bool, Memory> {
-        let mut has_gain = false;
-        for a in &CENTRES {
-            for b in &CENTRES {
-                if self.move_centres(attempt, n, Centres { a: *a, b: *b })? {
-                    has_gain = true;
-                }
-            }
-        }
-        Ok(has_gain)
-    }
-
-    /// Moves the centres of all products that have a form.
-    fn turn_products(&mut self, attempt: &mut Attempt) -> Result<bool, Memory> {
-        let mut has_gain = false;
-        for n in 0..attempt.nodes.list.len() {
-            let is_product = matches!(attempt.nodes.list.as_slice().get(n), Some(Node::Mul { .. }));
-            if is_product && attempt.ranges.form(n).is_some() && self.turn_product(attempt, n)? {
-                has_gain = true;
-            }
-        }
-        Ok(has_gain)
-    }
-
-    /// Moves the points of all nodes that have one of their own.
-    fn turn_points(&mut self, attempt: &mut Attempt) -> Result<bool, Memory> {
-        let mut has_gain = false;
-        for n in 0..attempt.nodes.list.len() {
-            let own = match attempt.nodes.list.as_slice().get(n) {
-                Some(node) => follows(node).is_none(),
-                None => false,
-            };
-            if own && self.turn_point(attempt, n)? {
-                has_gain = true;
-            }
-        }
-        Ok(has_gain)
-    }
-
-    /// Moves the points of each operation and its operands, two at a time.
-    fn turn_pairs(&mut self, attempt: &mut Attempt) -> Result<bool, Memory> {
-        let mut has_gain = false;
-        for n in 0..attempt.nodes.list.len() {
-            let node = attempt.nodes.list.as_slice().get(n);
-            if let Some((a, b)) = node.and_then(operands) {
-                let first = self.turn_pair(attempt, (n, a))?;
-                let second = self.turn_pair(attempt, (n, b))?;
-                let both = self.turn_pair(attempt, (a, b))?;
-                has_gain = has_gain || first || second || both;
-            }
-        }
-        Ok(has_gain)
-    }
-
-    /// Moves the words of all literals.
-    fn turn_words(&mut self, attempt: &mut Attempt) -> Result<bool, Memory> {
-        let mut has_gain = false;
-        let count = u32::try_from(attempt.nodes.list.len()).unwrap_or(u32::MAX);
-        for n in 0..count {
-            let node = attempt.nodes.list.as_slice().get(n as usize);
-            let is_literal = matches!(node, Some(Node::Const { .. }));
-            if is_literal && self.turn_word(attempt, n)? {
-                has_gain = true;
-            }
-        }
-        Ok(has_gain)
-    }
-
-    /// Rounds over all points and words, until one has no gain.
+    /// Rounds over all nudges, until each was tried since the last gain.
     pub fn run(&mut self, attempt: &mut Attempt) -> Result<(), Memory> {
+        let nudges = nudges_of(self.alloc, attempt.nodes.list.as_slice())?;
+        let mut quiet = 0_usize;
         for _round in 0..ROUNDS {
-            let points = self.turn_points(attempt)?;
-            let words = self.turn_words(attempt)?;
-            let centres = self.turn_products(attempt)?;
-            let pairs = self.turn_pairs(attempt)?;
-            if self.budget == 0 || !(points || words || centres || pairs) {
-                return Ok(());
+            quiet = self.turn(attempt, &nudges, quiet)?;
+            if self.budget == 0 || quiet >= nudges.len() {
+                break;
             }
         }
         Ok(())

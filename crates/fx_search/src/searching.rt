@@ -7,25 +7,24 @@ ghost use Rattle.fx_checker.specs.Answers.{IsOffered};
 
 use crate::best::{Polished, polish_trial};
 use crate::certify::{certified, certified_as, keeps};
-use crate::climb::Climb;
+use crate::climb::{Climb, Style};
 use crate::front::Front;
+use crate::seen::Seen;
 use crate::task::{Task, affordable, references};
 use fx_checker::Certified;
 use fx_expr::Function;
 use fx_moves::Draft;
 use fx_num::{Dyadic, Memory};
 use fx_wanted::Wanted;
-use rand_core::{Rng, SeedableRng};
+use rand_core::SeedableRng;
 use rand_pcg::Pcg32;
 use std::alloc::Global;
+use std::mem::replace;
 
-/// So many plans are looked at in polishing,
+/// So many plans are looked at in polishing a draft again, on coarser grids.
 const PLANS: u32 = 256;
 
-/// and so many more for each try so far.
-const PLANS_A_TRY: u32 = 16;
-
-/// A try looks at so many drafts,
+/// A try looks at so many drafts of the wide climb,
 const TURNS: u32 = 8;
 
 /// fewer where they have more nodes than these together.
@@ -47,9 +46,10 @@ fn is_mark(tries: u32) -> bool {
 
 /// How many plans are looked at in polishing after so many tries. Between the marks nothing is polished, so that what
 /// is found then is found at the next mark too.
-fn plans_after(nodes: u32, tries: u32) -> u32 {
+fn plans_after(nodes: u32, tries: u32, style: Style) -> u32 {
     if is_mark(tries) {
-        let plans = tries.saturating_mul(PLANS_A_TRY).saturating_add(PLANS);
+        let more = tries.saturating_mul(style.plans_a_try);
+        let plans = style.plans.saturating_add(more);
         affordable(nodes.saturating_mul(POLISH_PART), plans)
     } else {
         0
@@ -84,38 +84,94 @@ fn turns_a_try(nodes: u32) -> u32 {
     few.clamp(1, TURNS)
 }
 
-/// The try of this number, of which the source is the first, and the best behind it.
-fn turn<R: Rng>(
-    alloc: Global,
-    rng: &mut R,
-    task: Task<'_>,
-    climb: &mut Climb,
-    best: &mut Option<Polished>,
-    number: u32,
-) -> Result<(), Memory> {
-    if number > 1 {
+/// Two climbs, each with its draws, and what both have found.
+#[derive(Drop)]
+struct Climbs {
+    wide: Climb,
+    wide_draws: Pcg32,
+    narrow: Climb,
+    narrow_draws: Pcg32,
+    seen: Seen,
+    best: Option<Polished>,
+}
+
+impl Climbs {
+    /// At the source.
+    fn at_source(alloc: Global, task: Task<'_>, seed: u64) -> Result<Climbs, Memory> {
+        let seen = Seen::new(alloc)?;
+        let wide = Climb::at_source(alloc, task, Style::WIDE)?;
+        match Climb::at_source(alloc, task, Style::NARROW) {
+            Ok(narrow) => Ok(Climbs {
+                wide,
+                wide_draws: Pcg32::seed_from_u64(seed),
+                narrow,
+                narrow_draws: Pcg32::seed_from_u64(seed),
+                seen,
+                best: None,
+            }),
+            Err(fault) => {
+                drop(wide);
+                Err(fault)
+            }
+        }
+    }
+
+    /// Looks at the drafts of the try of this number: some of the wide climb, and one of the narrow.
+    fn climb(&mut self, alloc: Global, task: Task<'_>, number: u32) -> Result<(), Memory> {
         let turns = turns_a_try(task.source.nodes());
         let before = number.saturating_sub(2).saturating_mul(turns);
         for i in 0..turns {
-            climb.turn(alloc, rng, task, before.saturating_add(i).saturating_add(1))?;
+            let turn = before.saturating_add(i).saturating_add(1);
+            let draws = &mut self.wide_draws;
+            self.wide.turn(alloc, draws, task, &mut self.seen, turn)?;
         }
+        let draws = &mut self.narrow_draws;
+        let turn = number.saturating_sub(1);
+        self.narrow.turn(alloc, draws, task, &mut self.seen, turn)
     }
-    if number == task.tries() || is_mark(number) {
-        let plans = plans_after(task.source.nodes(), number);
-        polish_front(alloc, task, &mut climb.front, best, plans)?;
+
+    /// Polishes the best drafts of both after so many tries.
+    fn polish(&mut self, alloc: Global, task: Task<'_>, number: u32) -> Result<(), Memory> {
+        let nodes = task.source.nodes();
+        let plans = plans_after(nodes, number, Style::WIDE);
+        polish_front(alloc, task, &mut self.wide.front, &mut self.best, plans)?;
+        let plans = plans_after(nodes, number, Style::NARROW);
+        polish_front(alloc, task, &mut self.narrow.front, &mut self.best, plans)
     }
-    Ok(())
+
+    /// The try of this number, of which the source is the first, and the best behind it.
+    fn turn(&mut self, alloc: Global, task: Task<'_>, number: u32) -> Result<(), Memory> {
+        if number > 1 {
+            self.climb(alloc, task, number)?;
+        }
+        if number == task.tries() || is_mark(number) {
+            self.polish(alloc, task, number)?;
+        }
+        Ok(())
+    }
+
+    /// All tries.
+    fn run(&mut self, alloc: Global, task: Task<'_>) -> Result<(), Memory> {
+        for number in 1..task.tries().saturating_add(1) {
+            self.turn(alloc, task, number)?;
+        }
+        Ok(())
+    }
 }
 
 /// The best polished attempt among so many tries.
 fn best_attempt(alloc: Global, task: Task<'_>, seed: u64) -> Result<Option<Polished>, Memory> {
-    let mut rng = Pcg32::seed_from_u64(seed);
-    let mut climb = Climb::at_source(alloc, task)?;
-    let mut best = None;
-    for number in 1..task.tries().saturating_add(1) {
-        turn(alloc, &mut rng, task, &mut climb, &mut best, number)?;
+    let mut climbs = Climbs::at_source(alloc, task, seed)?;
+    let ran = climbs.run(alloc, task);
+    let best = replace(&mut climbs.best, None);
+    drop(climbs);
+    match ran {
+        Ok(()) => Ok(best),
+        Err(fault) => {
+            drop(best);
+            Err(fault)
+        }
     }
-    Ok(best)
 }
 
 /// The certified program of a polished attempt, unless a bound is above the one that stands.
@@ -133,6 +189,7 @@ fn suited(
     if keeps(&certified, held) {
         Ok(Some(certified))
     } else {
+        drop(certified);
         Ok(None)
     }
 }
@@ -152,6 +209,7 @@ fn suited_draft(
     if keeps(&found, held) {
         Ok(Some(found))
     } else {
+        drop(found);
         Ok(None)
     }
 }
@@ -194,8 +252,9 @@ fn best(
 {
     match best_attempt(alloc, task, seed)? {
         Some(found) => {
-            let kept = best_of(alloc, task, &found, held)?;
-            Ok(kept)
+            let kept = best_of(alloc, task, &found, held);
+            drop(found);
+            kept
         }
         None => {
             let other = unstepped(alloc, task, held)?;
