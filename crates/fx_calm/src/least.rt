@@ -7,9 +7,9 @@ ghost use Rattle.std.specs.Prelude.{◌≡◌, ◌+◌, ◌<◌, ◌≤◌, fals
 ghost use Rattle.fx_calm.specs.LimitOf.{count_of, is_within, IsReady, IsLeast, IsLeastAt, IsLeastOfBoth};
 
 use crate::limit::{Limit, count, is_within};
+use crate::summand::Summand;
 use fx_expr::Function;
 use fx_num::Memory;
-use crate::summand::Summand;
 
 /// The least number from `first` on at which thing `i` is within the limit; that behind `last` where there is none.
 fn least_at(

@@ -15,14 +15,14 @@ ghost use Rattle.fx_calm.specs.MagnitudeOf.{IsMagnitude, magnitude_value};
 ghost use Rattle.fx_calm.specs.SumOf.{sum_value, IsSum, IsWeight};
 ghost use Rattle.fx_calm.specs.LimitOf.{no_tree, first_result, result_count, count_of, is_within, IsTame, IsReady};
 
+use crate::long_division::adds_up_to;
 use crate::magnitude::{Magnitude, is_below, magnitude_of_decimal, reach, units};
 use crate::sum::Sum;
+use crate::summand::Summand;
 use crate::terms::{literals_below, put_terms};
 use fx_expr::{Expr, Function, Input};
 use fx_lowering::{input_count, output_count, state_count};
 use fx_num::{Memory, two_to};
-use crate::long_division::adds_up_to;
-use crate::summand::Summand;
 use fx_weight::input_at;
 
 /// What is limited.

@@ -16,11 +16,11 @@ ghost use Rattle.fx_calm.specs.NumbersOf.{numbers_view, calm_numbers, has_form, 
 use crate::least::{least, least_of_both};
 use crate::limit::{Limit, result_at, result_total};
 use crate::sum::Sum;
+use crate::summand::Summand;
 use crate::terms::is_short;
 use fx_expr::Function;
 use fx_lowering::{output_count, state_count};
 use fx_num::Memory;
-use crate::summand::Summand;
 use fx_weight::{allows, demand_at};
 use std::alloc::Global;
 

@@ -12,9 +12,9 @@ ghost use Rattle.fx_calm.specs.TermOf.{term_view, IsSized, IsRoomAfter};
 
 use crate::magnitude::{Magnitude, is_below, magnitude_of, whole};
 use crate::sum::{Sum, input_weight, literal_weight, state_weight};
+use crate::summand::Summand;
 use fx_expr::{Expr, Function};
 use fx_num::Memory;
-use crate::summand::Summand;
 
 /// A term of a linear tree; its size has no sign.
 #[derive(Clone, Copy, Debug)]
