@@ -160,7 +160,7 @@ fn widen_all<S: Settling>(
 }
 
 /// What stands once boxes hold the bounds of their templates.
-fn settled<F: Drop>(widening: Widening<F>) -> Option<Settled<F>> {
+fn what_stands<F: Drop>(widening: Widening<F>) -> Option<Settled<F>> {
     match (widening.found, widening.proposal) {
         (Some(found), Some(proposal)) => Some(Settled {
             starts: widening.starts,
@@ -187,7 +187,7 @@ fn settle_from<S: Settling>(
         proposal: first,
     };
     if widen_all(alloc, task, kind, &mut widening, budget)? {
-        Ok(settled(widening))
+        Ok(what_stands(widening))
     } else {
         Ok(None)
     }
