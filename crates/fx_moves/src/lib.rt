@@ -3,10 +3,10 @@
 //! # Contract
 //!
 //! A `Draft` is a function after some rewriting steps; `mutate`, `factor_all`, `form` and `clean_all` change it by
-//! steps that `apply` makes, so it is lawful by its type, and nothing else is promised of it. It has room for 1,024
-//! steps, of which 64 are drawn at random from where it was taken up; its steps are a `Trail`, with all paths in one
-//! vector. `draw` is the generator's next word modulo the number of choices that it is given (`value`) and leaves the
-//! rest of its stream (`rest`); every choice goes through it.
+//! steps that `apply` makes, so it is lawful by its type, and nothing else is promised of it. It has room for as many
+//! steps as its `Limits` say: 1,024, of which 64 are drawn at random from where it was taken up, or 64 in all. Its
+//! steps are a `Trail`, with all paths in one vector. `draw` is the generator's next word modulo the number of choices
+//! that it is given (`value`) and leaves the rest of its stream (`rest`); every choice goes through it.
 //!
 //! # Inside
 //!
@@ -17,8 +17,8 @@
 //!   is left (`factor`, `cleaning`). That alone mostly brings the greatest gain.
 //! - `form` begins at the source too, and draws nothing: all is expanded, and the variables are taken out in one of
 //!   some orders, which gives Horner's scheme by each of them (`forms`, `orders`).
-//! - `mutate` makes one to six random moves. A move is a few rules at one place (`moves`, `factor`, `cleaning`), or any
-//!   one rule (`mutation`).
+//! - `mutate` makes some random moves, up to as many as it is asked for. A move is a few rules at one place (`moves`,
+//!   `factor`, `cleaning`), or any one rule (`mutation`).
 //!
 //! A form and a cleaning follow a rule, and draw no step.
 //!
