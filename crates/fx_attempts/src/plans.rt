@@ -17,11 +17,11 @@ ghost use Rattle.fx_rules.specs.Steps.{rewrite};
 ghost use Rattle.fx_cert.specs.CertificateView.{certificate_of};
 
 use fx_calm::{CalmFault, calm_plan};
-use fx_plan_laws::calm_law;
 use fx_cert::Certificate;
 use fx_checker::{Certified, CheckFault, check};
 use fx_expr::Function;
 use fx_num::Memory;
+use fx_plan_laws::calm_law;
 use fx_program::Program;
 use fx_wanted::Wanted;
 use fx_weight::{Outside, WeightFault, bound_law, class_law, plain_plan};
