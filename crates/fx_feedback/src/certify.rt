@@ -77,48 +77,8 @@ fn better_of(task: Task<'_>, found: Certified, other: Option<Certified>) -> Cert
     }
 }
 
-/// What a cleaned function with these nodes gives.
-fn certified_nodes(
-    alloc: Global,
-    task: Task<'_>,
-    draft: &Draft,
-    nodes: &Nodes,
-    budget: &mut Budget,
-) -> Result<Option<Certified>, Memory>
-    ensures { IfOk result (IsOffered task.entry.wanted task.entry.source.now) }
-{
-    let steps = draft.steps.steps(alloc)?;
-    let turned = Task {
-        steps: &steps,
-        function: &draft.function,
-        nodes,
-        ..task
-    };
-    let certified = certified(alloc, turned, budget)?;
-    Ok(certified)
-}
-
-/// What a cleaned function gives. It is looked for where a quotient was turned, and where nothing was found and
+/// What the cleaned function gives. It is looked for where a quotient was turned, and where nothing was found and
 /// cleaning changed something.
-fn certified_draft(
-    alloc: Global,
-    task: Task<'_>,
-    draft: &Draft,
-    is_found: bool,
-    budget: &mut Budget,
-) -> Result<Option<Certified>, Memory>
-    ensures { IfOk result (IsOffered task.entry.wanted task.entry.source.now) }
-{
-    let nodes = flatten(alloc, &draft.function)?;
-    let is_turned = quotients(&nodes) < quotients(task.nodes);
-    if draft.steps.is_empty() || (is_found && !is_turned) {
-        return Ok(None);
-    }
-    let certified = certified_nodes(alloc, task, draft, &nodes, budget)?;
-    Ok(certified)
-}
-
-/// What the cleaned function gives, likewise.
 fn certified_cleaned(
     alloc: Global,
     task: Task<'_>,
@@ -128,7 +88,19 @@ fn certified_cleaned(
     ensures { IfOk result (IsOffered task.entry.wanted task.entry.source.now) }
 {
     let draft = cleaned(alloc, task.source)?;
-    let certified = certified_draft(alloc, task, &draft, is_found, budget)?;
+    let nodes = flatten(alloc, &draft.function)?;
+    let is_turned = quotients(&nodes) < quotients(task.nodes);
+    if draft.steps.is_empty() || (is_found && !is_turned) {
+        return Ok(None);
+    }
+    let steps = draft.steps.steps(alloc)?;
+    let turned = Task {
+        steps: &steps,
+        function: &draft.function,
+        nodes: &nodes,
+        ..task
+    };
+    let certified = certified(alloc, turned, budget)?;
     Ok(certified)
 }
 

@@ -6,7 +6,7 @@
 
 use crate::boxes::{hold_all, intervals, next_boxes};
 use crate::task::Task;
-use fx_cert::{NodeLine, Side, Template};
+use fx_cert::{NodeLine, Side};
 use fx_exchange::Budget;
 use fx_num::Memory;
 use fx_proposal::{Proposal, propose_templates_within};
@@ -65,131 +65,24 @@ fn starts_of<S: Settling>(
     Ok(Some(starts))
 }
 
-/// Boxes while they are widened, with what was found in the last, and the templates for that.
-#[derive(Drop)]
-struct Widening<F> {
-    starts: Vec<Span>,
-    boxes: Vec<Span>,
-    found: Option<F>,
-    proposal: Option<Proposal>,
-}
-
-/// Looks for templates of what was found, which hold the starts. Whether there are some.
-fn propose<S: Settling>(
+/// What is found in these boxes, and templates for it that hold the starts.
+fn proposed_in<S: Settling>(
     alloc: Global,
     task: Task<'_>,
     kind: &S,
-    widening: &mut Widening<S::Found>,
-    lines: Vec<NodeLine>,
+    starts: &[Span],
+    boxes: &[Span],
+    before: Option<Proposal>,
     budget: &mut Budget,
-) -> Result<bool, Memory> {
-    let starts = intervals(alloc, &widening.starts)?;
+) -> Result<Option<(S::Found, Proposal)>, Memory> {
+    let Some((found, lines)) = kind.found_in(alloc, task, boxes)? else {
+        return Ok(None);
+    };
+    let starts = intervals(alloc, starts)?;
     let t = Transition::over(task.nodes, kind.points(), lines);
-    let before = widening.proposal.take();
-    widening.proposal = propose_templates_within(
-        alloc,
-        &t,
-        &kind.side(),
-        Some(&starts),
-        before,
-        budget,
-    )?;
-    Ok(widening.proposal.is_some())
-}
-
-/// Looks into the boxes, and for templates of what is found there. Whether there are some.
-fn look<S: Settling>(
-    alloc: Global,
-    task: Task<'_>,
-    kind: &S,
-    widening: &mut Widening<S::Found>,
-    budget: &mut Budget,
-) -> Result<bool, Memory> {
-    let Some((found, lines)) = kind.found_in(alloc, task, &widening.boxes)? else {
-        return Ok(false);
-    };
-    widening.found = Some(found);
-    propose(alloc, task, kind, widening, lines, budget)
-}
-
-/// The templates that were found last.
-fn templates_of(proposal: &Option<Proposal>) -> &[Template] {
-    match proposal {
-        Some(proposal) => proposal.templates(),
-        None => &[],
-    }
-}
-
-/// Widens the boxes that don't hold the bounds of their templates. False where numbers get too long.
-fn widen(
-    alloc: Global,
-    boxes: &mut Vec<Span>,
-    templates: &[Template],
-    turn: u32,
-) -> Result<bool, Memory> {
-    match next_boxes(alloc, boxes, templates, turn)? {
-        Some(next) => {
-            *boxes = next;
-            Ok(true)
-        }
-        None => Ok(false),
-    }
-}
-
-/// Widens boxes until they hold the bounds of their templates. Whether they come to do so.
-fn widen_all<S: Settling>(
-    alloc: Global,
-    task: Task<'_>,
-    kind: &S,
-    widening: &mut Widening<S::Found>,
-    budget: &mut Budget,
-) -> Result<bool, Memory> {
-    for turn in 0..TURNS {
-        if !look(alloc, task, kind, widening, budget)? {
-            return Ok(false);
-        }
-        let templates = templates_of(&widening.proposal);
-        if hold_all(&widening.boxes, templates) {
-            return Ok(true);
-        }
-        if !widen(alloc, &mut widening.boxes, templates, turn)? {
-            return Ok(false);
-        }
-    }
-    Ok(false)
-}
-
-/// What stands once boxes hold the bounds of their templates.
-fn what_stands<F: Drop>(widening: Widening<F>) -> Option<Settled<F>> {
-    match (widening.found, widening.proposal) {
-        (Some(found), Some(proposal)) => Some(Settled {
-            starts: widening.starts,
-            found,
-            proposal,
-        }),
-        _ => None,
-    }
-}
-
-/// What is found in boxes that hold the bounds of their templates, from boxes on in which the states start.
-fn settle_from<S: Settling>(
-    alloc: Global,
-    task: Task<'_>,
-    kind: &S,
-    starts: Vec<Span>,
-    first: Option<Proposal>,
-    budget: &mut Budget,
-) -> Result<Option<Settled<S::Found>>, Memory> {
-    let mut widening = Widening {
-        boxes: Vec::from_slice(alloc, &starts)?,
-        starts,
-        found: None,
-        proposal: first,
-    };
-    if widen_all(alloc, task, kind, &mut widening, budget)? {
-        Ok(what_stands(widening))
-    } else {
-        Ok(None)
+    match propose_templates_within(alloc, &t, &kind.side(), Some(&starts), before, budget)? {
+        Some(proposal) => Ok(Some((found, proposal))),
+        None => Ok(None),
     }
 }
 
@@ -201,8 +94,28 @@ pub fn settle<S: Settling>(
     first: Option<Proposal>,
     budget: &mut Budget,
 ) -> Result<Option<Settled<S::Found>>, Memory> {
-    match starts_of(alloc, task, kind)? {
-        Some(starts) => settle_from(alloc, task, kind, starts, first, budget),
-        None => Ok(None),
+    let Some(starts) = starts_of(alloc, task, kind)? else {
+        return Ok(None);
+    };
+    let mut boxes = Vec::from_slice(alloc, &starts)?;
+    let mut before = first;
+    for turn in 0..TURNS {
+        let next = proposed_in(alloc, task, kind, &starts, &boxes, before, budget)?;
+        let Some((found, proposal)) = next else {
+            return Ok(None);
+        };
+        if hold_all(&boxes, proposal.templates()) {
+            return Ok(Some(Settled {
+                starts,
+                found,
+                proposal,
+            }));
+        }
+        match next_boxes(alloc, &boxes, proposal.templates(), turn)? {
+            Some(next) => boxes = next,
+            None => return Ok(None),
+        }
+        before = Some(proposal);
     }
+    Ok(None)
 }
