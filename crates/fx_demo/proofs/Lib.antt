@@ -1,3 +1,5 @@
-mod Rows
+mod Feeds
+mod Lengths
+mod GoodRows
 mod Pages
 mod Running

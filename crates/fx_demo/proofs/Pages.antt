@@ -6,7 +6,7 @@ use Rattle.fx_rational.specs.Rational.{Rational}
 use Rattle.fx_model.specs.Function.{Run, Step, run_of}
 use Rattle.fx_model.specs.Machine.{Program, output_points}
 use Rattle.fx_model.specs.Page.{line_of, names_from, page, page_lines, word_texts}
-use Rattle.fx_listing.specs.LastLine.{HasTwoLines}
+use Rattle.fx_demo.specs.LastLine.{HasTwoLines}
 
 -- ---- the lines of rows end with a line feed
 fed : (fs : List ℤ) (ws : List ℤ) (rows : List (List ℤ)) →

@@ -12,10 +12,10 @@ use Rattle.fx_rows.specs.Header.{header_of}
 use Rattle.fx_rows.specs.ReadRows.{Read, after_header, lines_read}
 use Rattle.fx_run.specs.Printed.{RowsLaw, given_values, run_outcome, run_page}
 use Rattle.fx_demo.specs.Demonstration.{IsRun, given}
-use Rattle.fx_demo.proofs.Rows.{still_none, thousand}
+use Rattle.fx_demo.proofs.GoodRows.{still_none, thousand}
 use Rattle.fx_demo.proofs.Pages.{run_outputs, two_lines}
-use Rattle.fx_listing.specs.LastLine.{HasTwoLines}
-use Rattle.fx_listing.specs.Rows.{demo_rows}
+use Rattle.fx_demo.specs.LastLine.{HasTwoLines}
+use Rattle.fx_demo.specs.Rows.{demo_rows}
 
 headed-by : (f : Function) (h : Result (Option (List ℕ)) RowFlaw) (ls : List (List ℕ)) (more : Read) →
     (more.given.bad ≡ None → more.has_header ≡ true)

@@ -14,9 +14,9 @@ use Rattle.fx_weight.specs.PlainClass.{outside_of}
 use Rattle.fx_program.specs.declared.code.Round.TheVariants.{Floor}
 use Rattle.fx_wanted.specs.declared.wanted.Wanted.{Wanted}
 use Rattle.fx_synth.specs.Synthesis.{IsSynthesised}
-use Rattle.fx_listing.specs.LastLine.{IsLastLine}
-use Rattle.fx_listing.specs.Rows.{demo_rows}
-use Rattle.fx_listing.specs.Source.{demo_source}
+use Rattle.fx_demo.specs.LastLine.{IsLastLine}
+use Rattle.fx_demo.specs.Rows.{demo_rows}
+use Rattle.fx_demo.specs.Source.{demo_source}
 
 -- what a demonstration asks of its synthesis
 abbrev pub demo_wanted : Wanted

@@ -1,1 +1,4 @@
+pub mod Source
+pub mod Rows
+pub mod LastLine
 pub mod Demonstration

@@ -2,14 +2,16 @@
 ghost use Rattle.std.specs.Prelude.{◌≡◌, ◌≤◌, None, Ok, IfOk};
 ghost use Rattle.fx_grammar.specs.Sources.{parsed};
 ghost use Rattle.fx_weight.specs.PlainClass.{outside_of};
-ghost use Rattle.fx_listing.specs.Source.{demo_source};
+ghost use Rattle.fx_demo.specs.Source.{demo_source};
 ghost use Rattle.fx_demo.specs.Demonstration.{IsDemonstration, IsProgram, IsRun};
-ghost use Rattle.fx_listing.specs.LastLine.{HasTwoLines, IsLastLine};
+ghost use Rattle.fx_demo.specs.LastLine.{HasTwoLines, IsLastLine};
 
+use crate::last::last_line;
+use crate::rows::rows_text;
+use crate::source::function_of;
 use fx_base::{BytesOut, CleanIn};
 use fx_checker::Certified;
 use fx_expr::Function;
-use fx_listing::{function_of, last_line, rows_text};
 use fx_num::Memory;
 use fx_run::{RunFault, run_rows};
 use fx_synth::{Round, SynthFault, synthesise};

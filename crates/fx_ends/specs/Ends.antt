@@ -9,12 +9,16 @@ use Rattle.fx_inequalities.specs.NodeConditions.{no_input}
 use Rattle.fx_lexer.specs.declared.fault.SourceFault.{SourceFault}
 use Rattle.fx_text.specs.declared.fault.TextFault.{TextFault}
 use Rattle.fx_rows.specs.Faults as rows
-use Rattle.fx_weight.specs.PlainClass.{Outside, Node, Demand}
 use Rattle.fx_rows.specs.declared.fault.RowKind.{RowKind}
 use Rattle.fx_rows.specs.declared.unit.UnitKind.{UnitKind}
 use Rattle.fx_rows.specs.declared.fault.RowKind.TheVariants.{LineTooLong, StrayReturn}
 use Rattle.fx_judging.specs.PartNames.{part_name}
 use Rattle.fx_ends.specs.KindTexts.{condition_text, source_text, bundle_kind_text, row_text, unit_text}
+
+-- what a line names of a function: a node, or an output, which counts from 1
+pub data Place : Type 0 where
+  Node : (node : ℕ) → Place
+  Output : (output : ℕ) → Place
 
 -- the inputs are those of the function whose rows were read
 pub data End : Type 0 where
@@ -22,7 +26,7 @@ pub data End : Type 0 where
   Rejected : (fault : Fault) → End
   Misread : (fault : SourceFault) → End
   BadBundle : (fault : TextFault) → End
-  NotFound : (outside : Outside) → End
+  NotFound : (place : Place) → End
   BadRow : (inputs : List Input) (line : ℕ) (fault : rows.RowFlaw) → End
   BadUnit : (line : ℕ) (kind : UnitKind) → End
 
@@ -38,7 +42,7 @@ status_of (BadUnit line kind) = 5
 status_of ReadFault = 6
 status_of WriteFault = 7
 status_of NoMemory = 8
-status_of (NotFound outside) = 9
+status_of (NotFound place) = 9
 status_of OverLimit = 10
 
 -- the column's name behind a row's fault; one of the line as a whole has none
@@ -51,10 +55,10 @@ column_text inputs k kind = codes " column " ∷ (at no_input inputs k).name ∷
 abbrev pub row_reason : List ℕ → ℕ → List (List ℕ) → List (List ℕ)
 row_reason kind line column = codes "row: " ∷ kind ∷ codes " at line " ∷ decimal line ∷ column
 
--- what keeps a function outside; outputs count from 1
-abbrev pub outside_text : Outside → List (List ℕ)
-outside_text (Node node) = codes "node " ∷ decimal node ∷ []
-outside_text (Demand output) = codes "output " ∷ decimal output ∷ []
+-- how it is named
+abbrev pub place_text : Place → List (List ℕ)
+place_text (Node node) = codes "node " ∷ decimal node ∷ []
+place_text (Output output) = codes "output " ∷ decimal output ∷ []
 
 -- what the line says behind the program's name, piece by piece; a program has its own usage
 abbrev pub reason : List ℕ → End → Option (List (List ℕ))
@@ -70,7 +74,7 @@ reason usage (BadBundle fault) =
 reason usage (BadRow inputs line fault) =
     Some (row_reason (row_text fault.kind) line (column_text inputs fault.input fault.kind))
 reason usage (BadUnit line kind) = Some (row_reason (unit_text kind) line [])
-reason usage (NotFound outside) = Some (codes "not found: " ∷ outside_text outside)
+reason usage (NotFound place) = Some (codes "not found: " ∷ place_text place)
 reason usage ReadFault = Some (codes "read fault" ∷ [])
 reason usage WriteFault = Some (codes "write fault" ∷ [])
 reason usage NoMemory = Some (codes "out of memory" ∷ [])

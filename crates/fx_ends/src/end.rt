@@ -9,10 +9,9 @@ ghost use Rattle.fx_expr.specs.Parts.{input_of};
 ghost use Rattle.fx_rows.specs.Faults as rows;
 ghost use Rattle.fx_judging.specs.FaultView as conditions;
 ghost use Rattle.std.specs.Fmt.{decimal};
-ghost use Rattle.fx_weight.specs.OutsideView.{outside_view};
 ghost use Rattle.fx_ends.specs.Ends as ends;
 ghost use Rattle.fx_ends.specs.Ends.{end_line, line_of, status_of};
-ghost use Rattle.fx_ends.specs.EndView.{end_of};
+ghost use Rattle.fx_ends.specs.EndView.{end_of, place_of};
 ghost use Rattle.fx_ends.specs.Notes.{AreNotes};
 
 use crate::kind::{bundle_text, condition_text, row_text, source_text, unit_text};
@@ -23,8 +22,16 @@ use fx_judging::ConditionFault;
 use fx_lexer::SourceFault;
 use fx_rows::{RowFault, RowKind, UnitKind};
 use fx_text::TextFault;
-use fx_weight::Outside;
 use itoa::Buffer;
+
+/// What a line names of a function.
+#[derive(Clone, Copy, Debug, PartialEq, Eq)]
+pub enum Place {
+    /// A node.
+    Node { node: u32 },
+    /// An output, counted from 1.
+    Output { output: u32 },
+}
 
 /// How a call ends.
 #[derive(Clone, Copy, Debug)]
@@ -47,8 +54,8 @@ pub enum End<'a> {
     Misread(SourceFault),
     /// The bundle's text has one.
     BadBundle(TextFault),
-    /// Nothing is found for the function, which this keeps outside the class that is served always.
-    NotFound(Outside),
+    /// Nothing is found for the function, because of this.
+    NotFound(Place),
     /// A line of the input is bad, for the function with these inputs.
     BadRow {
         inputs: &'a [Input],
@@ -160,25 +167,25 @@ fn note_column<N: Sink>(program: &str, kind: &str, line: u64, name: &str, notes:
     );
 }
 
-fn note_place<N: Sink>(program: &str, part: &str, place: u32, notes: &mut N)
+fn note_number<N: Sink>(program: &str, part: &str, number: u32, notes: &mut N)
     ensures { AreNotes (N.seen notes.old) (N.seen notes.new)
-        (Some (ends.note_text program.now (codes "not found: " ∷ part.now ∷ decimal place ∷ []))) }
+        (Some (ends.note_text program.now (codes "not found: " ∷ part.now ∷ decimal number ∷ []))) }
 {
     let mut digits = Buffer::new();
     note_line(
         program,
-        &["not found: ", part, digits.format(place), "\n"],
+        &["not found: ", part, digits.format(number), "\n"],
         notes,
     );
 }
 
-fn note_outside<N: Sink>(program: &str, outside: Outside, notes: &mut N)
+fn note_place<N: Sink>(program: &str, place: Place, notes: &mut N)
     ensures { AreNotes (N.seen notes.old) (N.seen notes.new)
-        (line_of program.now [] (ends.NotFound (outside_view outside))) }
+        (line_of program.now [] (ends.NotFound (place_of place))) }
 {
-    match outside {
-        Outside::Node { node } => note_place(program, "node ", node, notes),
-        Outside::Demand { output } => note_place(program, "output ", output, notes),
+    match place {
+        Place::Node { node } => note_number(program, "node ", node, notes),
+        Place::Output { output } => note_number(program, "output ", output, notes),
     }
 }
 
@@ -243,7 +250,7 @@ impl<'a> End<'a> {
             End::Rejected(fault) => note_rejected(program, *fault, notes),
             End::Misread(fault) => note_misread(program, *fault, notes),
             End::BadBundle(fault) => note_bundle(program, *fault, notes),
-            End::NotFound(outside) => note_outside(program, *outside, notes),
+            End::NotFound(place) => note_place(program, *place, notes),
             End::BadRow {
                 inputs,
                 line,

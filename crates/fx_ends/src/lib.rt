@@ -17,5 +17,5 @@ mod end;
 mod kind;
 mod notes;
 
-pub use end::End;
+pub use end::{End, Place};
 pub use notes::put_pieces;

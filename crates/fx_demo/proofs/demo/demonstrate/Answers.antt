@@ -1,6 +1,6 @@
 use Rattle.std.proofs.Common.{subst, sym}
-use Rattle.fx_listing.specs.LastLine.{IsLastLine}
-use Rattle.fx_listing.specs.LastLine.{HasTwoLines}
+use Rattle.fx_demo.specs.LastLine.{IsLastLine}
+use Rattle.fx_demo.specs.LastLine.{HasTwoLines}
 use Rattle.fx_demo.proofs.Running.{paged}
 use Rattle.fx_demo.proofs.demo.demonstrate.Goals as goal
 

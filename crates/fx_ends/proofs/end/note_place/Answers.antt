@@ -1,4 +1,7 @@
 use Rattle.fx_ends.proofs.end.note_place.Goals as goal
 
-pub returns : goal.returns
-returns g c = rw (← c.format.ensures.text) c.note_line.ensures
+pub returns-in-Node : goal.returns-in-Node
+returns-in-Node g c = rw (c.in-Node.is) c.note_number.ensures
+
+pub returns-in-Output : goal.returns-in-Output
+returns-in-Output g c = rw (c.in-Output.is) c.note_number-in-Output.ensures

@@ -4,7 +4,7 @@ use Rattle.std.proofs.lemmas.Grind.{common_steps}
 use Rattle.std.proofs.Math.Seq.{drop-cons, get_or-append_seam}
 use Rattle.std.proofs.lemmas.List.{take-append-drop, take_all, drop_all, length-append, length-drop, length-take, get_or-drop, get_or-take, get_or_append_left, get_or_default}
 use Rattle.memchr.specs.Find.{IsLastByte, is_byte}
-use Rattle.fx_listing.specs.LastLine.{HasTwoLines, IsLastLine}
+use Rattle.fx_demo.specs.LastLine.{HasTwoLines, IsLastLine}
 
 -- the bytes before a line feed, and those behind it
 at-feed : (bytes : List ℕ) (end : ℕ) → end < length bytes → is_byte 10 (get_or bytes end 0) ≡ true →

@@ -1,8 +1,8 @@
 use Rattle.std.proofs.Common.{◌∙◌, ◌+◌, ◌-◌, ◌++◌, ap, sym, append_assoc}
 use Rattle.fx_model.specs.LineText.{numbered_lines}
-use Rattle.fx_listing.specs.Rows.{row_line}
+use Rattle.fx_demo.specs.Rows.{row_line}
 use Rattle.fx_model.proofs.Listed.{next_line}
-use Rattle.fx_listing.proofs.rows.put_rows.Goals as goal
+use Rattle.fx_demo.proofs.rows.put_rows.Goals as goal
 
 pub loop-r-preserved : goal.loop-r-preserved
 loop-r-preserved c =

@@ -1,7 +1,7 @@
 use Rattle.std.proofs.Common.{◌∙◌, ◌++◌, ap, append_assoc, codes}
 use Rattle.fx_model.specs.LineText.{numbered_lines}
-use Rattle.fx_listing.specs.Rows.{row_line}
-use Rattle.fx_listing.proofs.rows.put_input.Goals as goal
+use Rattle.fx_demo.specs.Rows.{row_line}
+use Rattle.fx_demo.proofs.rows.put_input.Goals as goal
 
 pub returns : goal.returns
 returns c =

@@ -2,7 +2,7 @@
 ghost use Rattle.std.specs.Prelude.{◌≡◌, ◌++◌, ◌<◌, ◌≤◌, OnOk, IfOk, None, Ok};
 ghost use Rattle.fx_grammar.specs.Sources.{parsed};
 ghost use Rattle.fx_model.specs.LineText.{numbered_lines};
-ghost use Rattle.fx_listing.specs.Source.{demo_source, head_text, result_text, temp_line, two_digits};
+ghost use Rattle.fx_demo.specs.Source.{demo_source, head_text, result_text, temp_line, two_digits};
 ghost use Rattle.std.specs.Fmt.{decimal};
 
 use fx_expr::Function;

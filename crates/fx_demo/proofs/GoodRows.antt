@@ -14,7 +14,7 @@ use Rattle.fx_rows.specs.Faults.{RowFlaw}
 use Rattle.fx_rows.specs.Header.{column_names, columns_from, header_of, header_of_fields, with_columns}
 use Rattle.fx_rows.specs.ReadRows.{Given, Read, after_header, after_row, after_values, lines_read, moved_down, rows_from}
 use Rattle.fx_rows.specs.Values.{Values, row_of, row_of_fields}
-use Rattle.fx_listing.specs.Rows.{demo_rows}
+use Rattle.fx_demo.specs.Rows.{demo_rows}
 
 -- ---- a line
 -- some bytes, without a quote, an end of line and a mark

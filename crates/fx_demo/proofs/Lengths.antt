@@ -4,7 +4,7 @@ use Rattle.std.specs.Fmt.{decimal}
 use Rattle.std.proofs.lemmas.Fmt.{length-decimal-le}
 use Rattle.std.proofs.lemmas.List.{length-append}
 use Rattle.fx_model.specs.LineText.{numbered_lines}
-use Rattle.fx_listing.specs.Source.{demo_source, head_text, result_text, temp_line, two_digits}
+use Rattle.fx_demo.specs.Source.{demo_source, head_text, result_text, temp_line, two_digits}
 
 -- of a number below 1,000
 three : (n : ℕ) → n < 1000 → length (decimal n) ≤ 3

@@ -1,6 +1,6 @@
 //! The last line of a page.
 ghost use Rattle.std.specs.Prelude.{◌≡◌, IfSome, None};
-ghost use Rattle.fx_listing.specs.LastLine.{HasTwoLines, IsLastLine};
+ghost use Rattle.fx_demo.specs.LastLine.{HasTwoLines, IsLastLine};
 
 use memchr::memrchr;
 

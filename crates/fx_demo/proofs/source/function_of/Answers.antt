@@ -1,6 +1,6 @@
 use Rattle.std.proofs.Common.{◌<◌, ◌^◌, ◌∙◌, length, sym, subst}
-use Rattle.fx_listing.proofs.Lengths.{source_short}
-use Rattle.fx_listing.proofs.source.function_of.Goals as goal
+use Rattle.fx_demo.proofs.Lengths.{source_short}
+use Rattle.fx_demo.proofs.source.function_of.Goals as goal
 
 pub parse-requires : goal.parse-requires
 parse-requires c =

@@ -1,7 +1,7 @@
 use Rattle.std.proofs.Common.{◌∙◌, ◌++◌, ap, append_assoc}
 use Rattle.fx_model.specs.LineText.{numbered_lines}
-use Rattle.fx_listing.specs.Source.{head_text, result_text, temp_line}
-use Rattle.fx_listing.proofs.source.put_source.Goals as goal
+use Rattle.fx_demo.specs.Source.{head_text, result_text, temp_line}
+use Rattle.fx_demo.proofs.source.put_source.Goals as goal
 
 pub returns : goal.returns
 returns c =

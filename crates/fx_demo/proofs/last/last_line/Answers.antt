@@ -1,6 +1,6 @@
 use Rattle.std.proofs.Common.{arith}
-use Rattle.fx_listing.proofs.Feeds.{last-line-of, no-feed-before}
-use Rattle.fx_listing.proofs.last.last_line.Goals as goal
+use Rattle.fx_demo.proofs.Feeds.{last-line-of, no-feed-before}
+use Rattle.fx_demo.proofs.last.last_line.Goals as goal
 
 pub returns-in_err-before-clause-none : goal.returns-in_err-before-clause-none
 returns-in_err-before-clause-none c = λ _.

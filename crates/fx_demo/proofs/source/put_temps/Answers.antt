@@ -1,8 +1,8 @@
 use Rattle.std.proofs.Common.{◌∙◌, ◌+◌, ◌-◌, ◌++◌, ap, sym, append_assoc}
 use Rattle.fx_model.specs.LineText.{numbered_lines}
-use Rattle.fx_listing.specs.Source.{temp_line}
+use Rattle.fx_demo.specs.Source.{temp_line}
 use Rattle.fx_model.proofs.Listed.{next_line}
-use Rattle.fx_listing.proofs.source.put_temps.Goals as goal
+use Rattle.fx_demo.proofs.source.put_temps.Goals as goal
 
 pub loop-i-preserved : goal.loop-i-preserved
 loop-i-preserved c =

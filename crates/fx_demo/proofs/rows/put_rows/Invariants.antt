@@ -1,7 +1,7 @@
 use Rattle.std.proofs.Common.{◌≡◌, ◌-◌, ◌++◌}
 use Rattle.fx_model.specs.LineText.{numbered_lines}
-use Rattle.fx_listing.specs.Rows.{row_line}
-use Rattle.fx_listing.proofs.rows.put_rows.Given as goal
+use Rattle.fx_demo.specs.Rows.{row_line}
+use Rattle.fx_demo.proofs.rows.put_rows.Given as goal
 
 -- what was appended, and the lines that are left, are all of them
 abbrev pub invariant-loop-r : goal.invariant-loop-r

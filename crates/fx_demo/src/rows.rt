@@ -1,7 +1,7 @@
 //! The rows of a demonstration.
 ghost use Rattle.std.specs.Prelude.{◌≡◌, ◌++◌, ◌≤◌, OnOk, IfOk};
 ghost use Rattle.fx_model.specs.LineText.{numbered_lines};
-ghost use Rattle.fx_listing.specs.Rows.{demo_rows, hundredths, hundredths_text, row_line};
+ghost use Rattle.fx_demo.specs.Rows.{demo_rows, hundredths, hundredths_text, row_line};
 
 use fx_num::Memory;
 use itoa::Buffer;
