@@ -3,8 +3,8 @@
 //! # Contract
 //!
 //! `main` hands the words, the files and the three streams to `fixd`, and ends with its status; where the words can't
-//! be taken, it ends as for words that are no command's, or for want of memory. Here alone stand a stored run of the
-//! program and tests; other calls are cases, or stand in `.ci/checks/streams` and `demos`.
+//! be taken, it ends as for words that are no command's, or for want of memory. Here stand a stored run of `fixd` and
+//! seven tests; other calls are cases, or stand in `.ci/checks/streams` and `demos`.
 //!
 //! # Inside
 //!
