@@ -6,7 +6,7 @@
 use crate::build::{free_chains, once};
 use crate::rungs::Rung;
 use fx_cert::Share;
-use fx_exchange::{Budget, ScaledTemplates, exchange};
+use fx_exchange::{Budget, ScaledTemplates, costs_at_most, exchange};
 use fx_num::{Memory, TEMPLATE_LIMIT};
 use fx_reach::{Ahead, Chain, Linear, PLACES, Pool, Templates, room_part, unit_cost};
 use std::alloc::Global;
@@ -130,7 +130,7 @@ impl<'a> Building<'a> {
         if self.pool.templates.len() == self.linear.states {
             return Ok(false);
         }
-        Ok(exchange(self.alloc, scaled, template, budget)?.cost <= limit)
+        costs_at_most(self.alloc, scaled, template, limit, budget)
     }
 
     /// Whether the image of a state's unit template takes, but for next to nothing, only other states that follow none.
