@@ -53,7 +53,7 @@ impl<'a> Building<'a> {
             linear,
             rung,
             stride,
-            pool: Pool::new(alloc, linear.states, linear.scale),
+            pool: Pool::new(alloc, linear.states, linear.scale, linear.spared),
             ends: Vec::new(alloc),
             costs: Vec::new(alloc),
             factors: Vec::new(alloc),
