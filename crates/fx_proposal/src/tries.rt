@@ -354,13 +354,26 @@ impl<'a> Ladder<'a> {
     }
 
     /// Takes the best of the steps from the first on that finds its place: mostly that one, and else one of the next
-    /// two whose bounds stand.
+    /// two whose bounds stand. Where bounds don't stand, again and again, more and more steps are left out: each is
+    /// dear, and a little more room seldom helps.
     fn climb_all(self, best: &mut Option<Solved>, budget: &mut Budget) -> Result<(), Memory> {
-        let first = self.first(budget)?;
+        let mut step = self.first(budget)?;
         let mut count: u32 = 0;
-        for rung in RUNGS.iter().skip(first) {
+        let mut more: usize = 1;
+        for _turn in 0..RUNGS.len() {
+            let Some(rung) = RUNGS.get(step) else {
+                return Ok(());
+            };
+            let before = count;
             if self.climb(*rung, &mut count, best, budget)? {
                 return Ok(());
+            }
+            if count > before {
+                more = 1;
+            }
+            step = step.saturating_add(more);
+            if count == before {
+                more = more.saturating_mul(2);
             }
         }
         Ok(())
