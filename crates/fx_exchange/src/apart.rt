@@ -44,7 +44,7 @@ fn scale_of(templates: &[Template]) -> i32 {
 /// The templates with their bounds for reaches.
 pub fn pool_of(alloc: Global, templates: &[Template], states: usize) -> Result<Pool, Memory> {
     let scale = scale_of(templates);
-    let mut pool = Pool::new(alloc, states, scale);
+    let mut pool = Pool::new(alloc, states, scale, 0);
     for template in templates {
         let lo = floor_at(template.bound.lo, scale).unwrap_or(0);
         let hi = ceil_at(template.bound.hi, scale).unwrap_or(0);

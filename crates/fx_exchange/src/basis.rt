@@ -186,6 +186,26 @@ fn not_negative(numbers: &mut Vec<f64>) {
     }
 }
 
+/// What is asked of the cost of a goal.
+#[derive(Clone, Copy)]
+enum Asked {
+    /// The least there is.
+    Least,
+    /// Whether it is at most so much.
+    AtMost(f64),
+}
+
+impl Asked {
+    /// Whether a cost that can be had says enough, where this template gains most: no cost is below what can be had
+    /// over that gain.
+    fn is_decided(self, cost: f64, entering: Entering) -> bool {
+        match self {
+            Asked::Least => false,
+            Asked::AtMost(limit) => cost <= limit || cost > limit * size_of(entering.gain),
+        }
+    }
+}
+
 impl Basis {
     /// The unit templates, with the signs of a template.
     fn units(alloc: Global, template: &[f64]) -> Result<Basis, Memory> {
@@ -238,13 +258,15 @@ impl Basis {
         }
     }
 
-    /// The next exchange: which place the entering template takes. None where there is nothing to gain.
+    /// The next exchange: which place the entering template takes. None where there is nothing to gain, or where what
+    /// the least cost is said to be compared with is decided.
     fn next(
         &self,
         alloc: Global,
         templates: &ScaledTemplates<'_>,
         inverse: &[Vec<f64>],
         goal: &[f64],
+        asked: Asked,
     ) -> Result<Option<(usize, (usize, f64))>, Memory> {
         let worth = column_sums(alloc, inverse)?;
         let Some(entering) = best_gain(templates, &worth) else {
@@ -252,6 +274,9 @@ impl Basis {
         };
         let mut times = image(alloc, inverse, goal)?;
         not_negative(&mut times);
+        if asked.is_decided(total_size(&times), entering) {
+            return Ok(None);
+        }
         let mut column = image(alloc, inverse, templates.template(entering.template))?;
         for x in column.iter_mut() {
             *x = *x * entering.sign();
@@ -269,6 +294,7 @@ fn improve(
     templates: &ScaledTemplates<'_>,
     basis: &mut Basis,
     goal: &[f64],
+    asked: Asked,
     budget: &mut Budget,
 ) -> Result<Option<Vec<Vec<f64>>>, Memory> {
     let Some(mut inverse) = basis.inverse(alloc, templates)? else {
@@ -279,7 +305,7 @@ fn improve(
         if !budget.take(work) {
             return Ok(Some(inverse));
         }
-        let Some((place, template)) = basis.next(alloc, templates, &inverse, goal)? else {
+        let Some((place, template)) = basis.next(alloc, templates, &inverse, goal, asked)? else {
             return Ok(Some(inverse));
         };
         let before = basis.put(place, template);
@@ -389,7 +415,8 @@ pub fn exchange(
     }
     let goal = scaled(alloc, template, &scaled_templates.costs, cost)?;
     let mut basis = Basis::units(alloc, &goal)?;
-    let Some(inverse) = improve(alloc, scaled_templates, &mut basis, &goal, budget)? else {
+    let Some(inverse) = improve(alloc, scaled_templates, &mut basis, &goal, Asked::Least, budget)?
+    else {
         return Ok(none);
     };
     let times = image(alloc, &inverse, &goal)?;
@@ -397,4 +424,28 @@ pub fn exchange(
         cost: whole_near(total_size(&times) * cost, 0).unwrap_or(i128::MAX),
         shares: shares_of(alloc, scaled_templates, &basis, &times, cost)?,
     })
+}
+
+/// Whether taking a template of 48 binary places apart costs at most so much, as well as the budget lets that be seen.
+/// It is looked for no longer than until that is decided.
+pub fn costs_at_most(
+    alloc: Global,
+    scaled_templates: &ScaledTemplates<'_>,
+    template: &[i128],
+    limit: i128,
+    budget: &mut Budget,
+) -> Result<bool, Memory> {
+    let first = scaled(alloc, template, &scaled_templates.costs, 1.0)?;
+    let cost = total_size(&first);
+    if !(cost > 0.0) {
+        return Ok(true);
+    }
+    let goal = scaled(alloc, template, &scaled_templates.costs, cost)?;
+    let mut basis = Basis::units(alloc, &goal)?;
+    let most = to_float(limit) / cost;
+    let asked = Asked::AtMost(most);
+    match improve(alloc, scaled_templates, &mut basis, &goal, asked, budget)? {
+        Some(inverse) => Ok(total_size(&image(alloc, &inverse, &goal)?) <= most),
+        None => Ok(false),
+    }
 }

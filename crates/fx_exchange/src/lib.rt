@@ -22,6 +22,6 @@ mod budget;
 mod inverse;
 
 pub use apart::{Apart, Combination, pool_of, take_apart};
-pub use basis::{Exchanged, ScaledTemplates, exchange};
+pub use basis::{Exchanged, ScaledTemplates, costs_at_most, exchange};
 pub use budget::Budget;
 pub use inverse::{entry_of, take_row};

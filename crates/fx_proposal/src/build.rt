@@ -102,7 +102,7 @@ impl<'a> Building<'a> {
         Building {
             alloc,
             costs,
-            pool: Pool::new(alloc, linear.states, linear.scale),
+            pool: Pool::new(alloc, linear.states, linear.scale, linear.spared),
             ends: Vec::new(alloc),
         }
     }

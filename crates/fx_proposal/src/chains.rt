@@ -3,7 +3,7 @@
 use fx_cert::affine_coef;
 use fx_num::Memory;
 use fx_reach::{
-    Ahead, Chain, Linear, PLACES, Transition, floor_at, look_ahead, unit_cost, unit_vector,
+    Ahead, Chain, Linear, PLACES, Transition, floor_at, look_ahead, unit_at, unit_cost, unit_vector,
 };
 use std::alloc::Global;
 
@@ -23,14 +23,20 @@ pub fn unit_chains(alloc: Global, linear: &Linear) -> Result<Option<Vec<Chain>>,
     Ok(Some(chains))
 }
 
-/// What a node takes of the states. None where it is nothing.
-fn state_part(alloc: Global, t: &Transition, node: u32) -> Result<Option<Vec<i128>>, Memory> {
+/// What a node takes of the states, in these units. None where it is nothing.
+fn state_part(
+    alloc: Global,
+    t: &Transition,
+    node: u32,
+    units: &[u32],
+) -> Result<Option<Vec<i128>>, Memory> {
     let variables = t.inputs.saturating_add(t.states);
     let mut template = Vec::new(alloc);
     let mut is_some = false;
     for k in 0..t.states {
         let coef = affine_coef(&t.lines, variables, node, t.inputs.saturating_add(k));
-        let entry = floor_at(coef, PLACES as i32).unwrap_or(0);
+        let places = (PLACES as i32).saturating_sub(unit_at(units, k as usize));
+        let entry = floor_at(coef, places).unwrap_or(0);
         is_some = is_some || entry != 0;
         template.push(entry)?;
     }
@@ -75,11 +81,12 @@ pub fn add_output_chains(
     alloc: Global,
     t: &Transition,
     linear: &Linear,
+    units: &[u32],
     chains: &mut Vec<Chain>,
 ) -> Result<(), Memory> {
     let widths = widths_of(alloc, chains)?;
     for node in t.next.saturating_sub(t.outputs)..t.next {
-        if let Some(template) = state_part(alloc, t, node)? {
+        if let Some(template) = state_part(alloc, t, node, units)? {
             if !is_known(chains, &template) {
                 if let Some(ahead) = look_ahead(alloc, linear, &template)? {
                     if is_worth(&ahead, &template, &widths) {

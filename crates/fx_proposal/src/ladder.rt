@@ -6,7 +6,7 @@
 use crate::build::{free_chains, once};
 use crate::rungs::Rung;
 use fx_cert::Share;
-use fx_exchange::{Budget, ScaledTemplates, exchange};
+use fx_exchange::{Budget, ScaledTemplates, costs_at_most, exchange};
 use fx_num::{Memory, TEMPLATE_LIMIT};
 use fx_reach::{Ahead, Chain, Linear, PLACES, Pool, Templates, room_part, unit_cost};
 use std::alloc::Global;
@@ -33,6 +33,8 @@ pub struct Building<'a> {
     alloc: Global,
     linear: &'a Linear,
     rung: Rung,
+    /// How many times a chain goes on from one of its templates to the next.
+    stride: usize,
     pool: Pool,
     ends: Vec<End>,
     /// What the unit templates cost, with their room.
@@ -45,12 +47,13 @@ pub struct Building<'a> {
 
 impl<'a> Building<'a> {
     /// No template yet.
-    fn new(alloc: Global, linear: &'a Linear, rung: Rung) -> Building<'a> {
+    fn new(alloc: Global, linear: &'a Linear, rung: Rung, stride: usize) -> Building<'a> {
         Building {
             alloc,
             linear,
             rung,
-            pool: Pool::new(alloc, linear.states, linear.scale),
+            stride,
+            pool: Pool::new(alloc, linear.states, linear.scale, linear.spared),
             ends: Vec::new(alloc),
             costs: Vec::new(alloc),
             factors: Vec::new(alloc),
@@ -130,7 +133,7 @@ impl<'a> Building<'a> {
         if self.pool.templates.len() == self.linear.states {
             return Ok(false);
         }
-        Ok(exchange(self.alloc, scaled, template, budget)?.cost <= limit)
+        costs_at_most(self.alloc, scaled, template, limit, budget)
     }
 
     /// Whether the image of a state's unit template takes, but for next to nothing, only other states that follow none.
@@ -244,24 +247,35 @@ impl<'a> Building<'a> {
         )
     }
 
-    /// Adds a chain of this length, each template shown by the next, and the last waiting for an exchange.
-    fn put_templates(&mut self, chain: &Chain, length: usize, factor: i128) -> Result<(), Memory> {
-        let room = self.room(chain.ahead.templates.width(0), factor);
+    /// Has a template wait for an exchange of its image, the template of a chain at a time.
+    fn put_end(&mut self, ahead: &Ahead, time: usize, template: usize) -> Result<(), Memory> {
+        let image = Vec::from_slice(self.alloc, ahead.templates.template(time))?;
+        self.ends.push(End { image, template })?;
+        Ok(())
+    }
+
+    /// Adds so many templates of a chain behind its first. Each is shown by the next, or waits for an exchange where
+    /// that isn't its image, as the last does.
+    fn put_templates(&mut self, chain: &Chain, count: usize, factor: i128) -> Result<(), Memory> {
+        let ahead = &chain.ahead;
+        let room = self.room(ahead.templates.width(0), factor);
         let mut last = match chain.state {
             Some(k) => k,
-            None => self.put_template(&chain.ahead, 0, room)?,
+            None => self.put_template(ahead, 0, room)?,
         };
-        for time in 1..length {
-            let next = self.put_template(&chain.ahead, time, room)?;
-            self.pool.put_share(self.alloc, last, once(next))?;
+        let mut time: usize = 0;
+        for _template in 0..count {
+            let image = time.saturating_add(1);
+            time = time.saturating_add(self.stride);
+            let next = self.put_template(ahead, time, room)?;
+            if image == time {
+                self.pool.put_share(self.alloc, last, once(next))?;
+            } else {
+                self.put_end(ahead, image, last)?;
+            }
             last = next;
         }
-        let image = Vec::from_slice(self.alloc, chain.ahead.templates.template(length))?;
-        self.ends.push(End {
-            image,
-            template: last,
-        })?;
-        Ok(())
+        self.put_end(ahead, time.saturating_add(1), last)
     }
 
     /// Adds a chain. False where there is no place for it.
@@ -278,12 +292,12 @@ impl<'a> Building<'a> {
         let Some(length) = wanted else {
             return Ok(false);
         };
-        let more = length.saturating_sub(1);
+        let more = length.saturating_sub(1).checked_div(self.stride).unwrap_or(0);
         if more > self.left {
             return Ok(false);
         }
         self.left = self.left.saturating_sub(more);
-        self.put_templates(chain, length, factor)?;
+        self.put_templates(chain, more, factor)?;
         Ok(true)
     }
 
@@ -349,13 +363,14 @@ pub fn place<'a>(
     chains: &[Chain],
     linear: &'a Linear,
     rung: Rung,
+    stride: usize,
     planes: &Templates,
     budget: &mut Budget,
 ) -> Result<Option<Building<'a>>, Memory> {
     if linear.states.saturating_add(planes.len()) > MOST_OF_POLES {
         return Ok(None);
     }
-    let mut building = Building::new(alloc, linear, rung);
+    let mut building = Building::new(alloc, linear, rung, stride);
     if building.fill(chains, planes, budget)? {
         Ok(Some(building))
     } else {

@@ -182,12 +182,15 @@ pub fn left_of(
     Ok(finished(linear, pool, i, wholes, own, own_places, most, starts))
 }
 
-/// By how many places terms may be finer than the bound, so that a checker's exact sums have room in 128 bits.
+/// By how many places terms may be finer than the bound, so that a checker's exact sums have room in 128 bits; by more
+/// where the bound has fewer bits.
 const FINER_PLACES: i32 = 91;
 
 /// Whether what drives a template, and terms with so many places, are little enough finer than a bound with so many.
-fn fits_beside(drive: Interval, most: i32, places: i32) -> bool {
-    let finest = places.saturating_add(FINER_PLACES);
+fn fits_beside(drive: Interval, most: i32, places: i32, spared: u8) -> bool {
+    let finest = places
+        .saturating_add(FINER_PLACES)
+        .saturating_add(i32::from(spared));
     let end = finest.max(0).unsigned_abs();
     most <= finest && drive.lo.e <= end && drive.hi.e <= end
 }
@@ -204,7 +207,7 @@ fn finished(
     starts: &[Interval],
 ) -> Option<Left> {
     let drive = drive_of(linear, pool, i)?;
-    if !fits_beside(drive, most, places) {
+    if !fits_beside(drive, most, places, linear.spared) {
         return None;
     }
     let own = own.unwrap_or(Dyadic::zero());

@@ -9,7 +9,9 @@ use fx_exchange::Budget;
 use fx_expr::Items;
 use fx_interval::Interval;
 use fx_num::{Dyadic, Memory, left_fits};
-use fx_reach::{Chain, Linear, Pool, Transition};
+use fx_reach::{
+    Chain, Linear, Pool, Transition, in_units, moved, moved_interval, unit_at, units_of,
+};
 use std::alloc::Global;
 
 /// How many bits two linear parts have in common that count as one.
@@ -20,7 +22,10 @@ const COMMON_BITS: u32 = 24;
 pub struct Proposal {
     /// How much of each state comes to each next state, next state after next state.
     entries: Vec<i128>,
+    /// The units of the states, as powers of two, in which the pool is.
+    units: Vec<u32>,
     pool: Pool,
+    /// The templates of the states themselves.
     templates: Items<Template>,
 }
 
@@ -61,8 +66,13 @@ impl Proposal {
         if put_bounds(&mut self.pool, system, bounds).is_none() {
             return Ok(false);
         }
-        self.templates = templates_of(alloc, &self.pool, system, bounds)?;
-        Ok(true)
+        match templates_of(alloc, &self.pool, system, bounds, &self.units)? {
+            Some(templates) => {
+                self.templates = templates;
+                Ok(true)
+            }
+            None => Ok(false),
+        }
     }
 
     /// Takes the bounds that the same templates with the same shares have by these left sides. Whether some are found.
@@ -95,43 +105,99 @@ impl Proposal {
         side: &Side,
         starts: &[Interval],
     ) -> Result<bool, Memory> {
-        match Linear::of(alloc, t, side, starts)? {
-            Some(linear) => self.adapt_to(alloc, &linear, starts),
+        let Some(starts) = in_units(alloc, starts, &self.units)? else {
+            return Ok(false);
+        };
+        match Linear::of(alloc, t, side, &starts, &self.units)? {
+            Some(linear) => self.adapt_to(alloc, &linear, &starts),
             None => Ok(false),
         }
     }
 }
 
-/// The coefficients of a template.
-fn template_coefs(alloc: Global, pool: &Pool, i: usize) -> Result<Items<Dyadic>, Memory> {
+/// The unit that template `i` has itself: that of its state, if it is a unit template.
+fn own_unit(pool: &Pool, units: &[u32], i: usize) -> i32 {
+    if i < pool.templates.states {
+        unit_at(units, i)
+    } else {
+        0
+    }
+}
+
+/// The coefficients of a template over the states themselves.
+fn template_coefs(
+    alloc: Global,
+    pool: &Pool,
+    units: &[u32],
+    i: usize,
+) -> Result<Option<Items<Dyadic>>, Memory> {
+    let own = own_unit(pool, units, i);
     let mut coefs = Vec::new(alloc);
     for j in 0..pool.templates.states {
-        coefs.push(pool.coef(i, j))?;
+        match moved(pool.coef(i, j), unit_at(units, j).saturating_sub(own)) {
+            Some(coef) => coefs.push(coef)?,
+            None => return Ok(None),
+        }
     }
-    Ok(Items::from_vec(coefs))
+    Ok(Some(Items::from_vec(coefs)))
 }
 
 /// The shares of a template.
-fn template_shares(alloc: Global, pool: &Pool, i: usize) -> Result<Items<Share>, Memory> {
-    Ok(Items::from_vec(Vec::from_slice(alloc, pool.shares(i))?))
+fn template_shares(
+    alloc: Global,
+    pool: &Pool,
+    units: &[u32],
+    i: usize,
+) -> Result<Option<Items<Share>>, Memory> {
+    let own = own_unit(pool, units, i);
+    let mut shares = Vec::new(alloc);
+    for share in pool.shares(i) {
+        let other = own_unit(pool, units, share.template as usize);
+        match moved(share.times, other.saturating_sub(own)) {
+            Some(times) => shares.push(Share { times, ..*share })?,
+            None => return Ok(None),
+        }
+    }
+    Ok(Some(Items::from_vec(shares)))
 }
 
-/// The templates of a pool with these bounds.
+/// A template of a pool with this bound, over the states themselves.
+fn template_of(
+    alloc: Global,
+    pool: &Pool,
+    units: &[u32],
+    i: usize,
+    bound: Interval,
+) -> Result<Option<Template>, Memory> {
+    let own = own_unit(pool, units, i);
+    let coefs = template_coefs(alloc, pool, units, i)?;
+    let shares = template_shares(alloc, pool, units, i)?;
+    match (coefs, moved_interval(bound, own.saturating_neg()), shares) {
+        (Some(coefs), Some(bound), Some(shares)) => Ok(Some(Template {
+            coefs,
+            bound,
+            shares,
+        })),
+        _ => Ok(None),
+    }
+}
+
+/// The templates of a pool with these bounds. None where numbers get too long.
 fn templates_of(
     alloc: Global,
     pool: &Pool,
     system: &System,
     bounds: &[Ends],
-) -> Result<Items<Template>, Memory> {
+    units: &[u32],
+) -> Result<Option<Items<Template>>, Memory> {
     let mut templates = Vec::new(alloc);
     for (i, ends) in bounds.iter().enumerate() {
-        templates.push(Template {
-            coefs: template_coefs(alloc, pool, i)?,
-            bound: system.interval(i, *ends),
-            shares: template_shares(alloc, pool, i)?,
-        })?;
+        match template_of(alloc, pool, units, i, system.interval(i, *ends))? {
+            Some(template) => templates.push(template)?,
+            None => return Ok(None),
+        }
     }
-    Ok(Items::from_vec(templates))
+    Ok(Some(Items::from_vec(templates)))
 }
 
 /// The linear part of a step, entry after entry.
@@ -145,57 +211,110 @@ fn entries_of(alloc: Global, linear: &Linear) -> Result<Vec<i128>, Memory> {
     Ok(entries)
 }
 
-/// What was found for a step.
-fn proposal_of(alloc: Global, linear: &Linear, solved: Solved) -> Result<Proposal, Memory> {
+/// What was found for a step in these units.
+fn proposal_of(
+    alloc: Global,
+    linear: &Linear,
+    units: Vec<u32>,
+    solved: Solved,
+) -> Result<Option<Proposal>, Memory> {
     let entries = entries_of(alloc, linear)?;
-    let templates = templates_of(alloc, &solved.pool, &solved.system, &solved.bounds)?;
-    Ok(Proposal {
+    let found = templates_of(alloc, &solved.pool, &solved.system, &solved.bounds, &units)?;
+    let Some(templates) = found else {
+        return Ok(None);
+    };
+    Ok(Some(Proposal {
         entries,
+        units,
         pool: solved.pool,
         templates,
-    })
+    }))
 }
 
 /// The chains that templates begin with. None where one isn't bounded.
-fn chains_of(alloc: Global, t: &Transition, linear: &Linear) -> Result<Option<Vec<Chain>>, Memory> {
-    let Some(mut chains) = unit_chains(alloc, linear)? else {
-        return Ok(None);
-    };
-    add_output_chains(alloc, t, linear, &mut chains)?;
-    Ok(Some(chains))
-}
-
-/// The best templates that these chains begin.
-fn best_of(goal: Goal<'_>, budget: &mut Budget) -> Result<Option<Solved>, Memory> {
-    let mut best = None;
-    goal.try_all(&mut best, budget)?;
-    Ok(best)
-}
-
-/// Templates for a step, looked for from the beginning.
-fn found_for(
+fn chains_of(
     alloc: Global,
     t: &Transition,
     linear: &Linear,
-    starts: &[Interval],
-    budget: &mut Budget,
-) -> Result<Option<Proposal>, Memory> {
-    let Some(chains) = chains_of(alloc, t, linear)? else {
+    units: &[u32],
+) -> Result<Option<Vec<Chain>>, Memory> {
+    let Some(mut chains) = unit_chains(alloc, linear)? else {
         return Ok(None);
     };
-    let goal = Goal {
-        alloc,
-        linear,
-        chains: &chains,
-        starts,
-    };
-    match best_of(goal, budget)? {
-        Some(solved) => Ok(Some(proposal_of(alloc, linear, solved)?)),
-        None => Ok(None),
+    add_output_chains(alloc, t, linear, units, &mut chains)?;
+    Ok(Some(chains))
+}
+
+/// A step in some units of the states, with the chains that templates begin with.
+#[derive(Drop)]
+struct Measured {
+    linear: Linear,
+    units: Vec<u32>,
+    starts: Vec<Interval>,
+    chains: Vec<Chain>,
+}
+
+impl Measured {
+    /// The step of a transition in these units, if its numbers have few enough bits and its chains are bounded.
+    fn of(
+        alloc: Global,
+        t: &Transition,
+        side: &Side,
+        starts: &[Interval],
+        units: Vec<u32>,
+    ) -> Result<Option<Measured>, Memory> {
+        let Some(starts) = in_units(alloc, starts, &units)? else {
+            return Ok(None);
+        };
+        let Some(linear) = Linear::of(alloc, t, side, &starts, &units)? else {
+            return Ok(None);
+        };
+        match chains_of(alloc, t, &linear, &units)? {
+            Some(chains) => Ok(Some(Measured {
+                linear,
+                units,
+                starts,
+                chains,
+            })),
+            None => Ok(None),
+        }
+    }
+
+    /// The step of a transition with its states as they are, and where its numbers are too long for that in units in
+    /// which all reach about as far.
+    fn found(
+        alloc: Global,
+        t: &Transition,
+        side: &Side,
+        starts: &[Interval],
+    ) -> Result<Option<Measured>, Memory> {
+        if let Some(measured) = Measured::of(alloc, t, side, starts, Vec::new(alloc))? {
+            return Ok(Some(measured));
+        }
+        match Linear::of(alloc, t, side, starts, &[])? {
+            Some(linear) => {
+                let units = units_of(alloc, &linear)?;
+                Measured::of(alloc, t, side, starts, units)
+            }
+            None => Ok(None),
+        }
+    }
+
+    /// The best templates that the chains begin.
+    fn best(&self, alloc: Global, budget: &mut Budget) -> Result<Option<Solved>, Memory> {
+        let goal = Goal {
+            alloc,
+            linear: &self.linear,
+            chains: &self.chains,
+            starts: &self.starts,
+        };
+        let mut best = None;
+        goal.try_all(&mut best, budget)?;
+        Ok(best)
     }
 }
 
-/// Templates for the step of a transition, likewise.
+/// Templates for the step of a transition, looked for from the beginning.
 fn found(
     alloc: Global,
     t: &Transition,
@@ -203,8 +322,11 @@ fn found(
     starts: &[Interval],
     budget: &mut Budget,
 ) -> Result<Option<Proposal>, Memory> {
-    match Linear::of(alloc, t, side, starts)? {
-        Some(linear) => found_for(alloc, t, &linear, starts, budget),
+    let Some(measured) = Measured::found(alloc, t, side, starts)? else {
+        return Ok(None);
+    };
+    match measured.best(alloc, budget)? {
+        Some(solved) => proposal_of(alloc, &measured.linear, measured.units, solved),
         None => Ok(None),
     }
 }

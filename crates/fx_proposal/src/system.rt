@@ -38,6 +38,7 @@ fn put_places(places: &mut Vec<i32>, pool: &Pool) -> Result<(), Memory> {
     for i in 0..pool.templates.len() {
         let length = i64::from(bits(pool.templates.width(i).max(1).unsigned_abs()));
         let e = BOUND_BITS
+            .saturating_sub(i64::from(pool.spared))
             .saturating_sub(length)
             .saturating_add(i64::from(pool.scale));
         places.push(e.clamp(0, 90) as i32)?;

@@ -263,6 +263,8 @@ struct Ladder<'a> {
     starts: &'a [Interval],
     poles: &'a [Pole],
     widest: i128,
+    /// How many times chains go on from one template to the next.
+    stride: usize,
 }
 
 impl<'a> Ladder<'a> {
@@ -286,7 +288,15 @@ impl<'a> Ladder<'a> {
             part,
             self.widest,
         )? {
-            Some(planes) => place(self.alloc, self.chains, self.linear, rung, &planes, budget),
+            Some(planes) => place(
+                self.alloc,
+                self.chains,
+                self.linear,
+                rung,
+                self.stride,
+                &planes,
+                budget,
+            ),
             None => Ok(None),
         }
     }
@@ -344,13 +354,26 @@ impl<'a> Ladder<'a> {
     }
 
     /// Takes the best of the steps from the first on that finds its place: mostly that one, and else one of the next
-    /// two whose bounds stand.
+    /// two whose bounds stand. Where bounds don't stand, again and again, more and more steps are left out: each is
+    /// dear, and a little more room seldom helps.
     fn climb_all(self, best: &mut Option<Solved>, budget: &mut Budget) -> Result<(), Memory> {
-        let first = self.first(budget)?;
+        let mut step = self.first(budget)?;
         let mut count: u32 = 0;
-        for rung in RUNGS.iter().skip(first) {
+        let mut more: usize = 1;
+        for _turn in 0..RUNGS.len() {
+            let Some(rung) = RUNGS.get(step) else {
+                return Ok(());
+            };
+            let before = count;
             if self.climb(*rung, &mut count, best, budget)? {
                 return Ok(());
+            }
+            if count > before {
+                more = 1;
+            }
+            step = step.saturating_add(more);
+            if count == before {
+                more = more.saturating_mul(2);
             }
         }
         Ok(())
@@ -364,20 +387,31 @@ fn is_expected(solved: &Solved, rung: Rung) -> bool {
     solved.quality <= unit.saturating_add(room)
 }
 
+/// The strides of chains on a ladder, the best first: templates that change slowly lie nearly between those of earlier
+/// and later times, so that a chain that is too long does with every fourth.
+static STRIDES: [usize; 3] = [1, 2, 4];
+
 impl Goal<'_> {
-    /// Takes what the ladder gives, where that is better.
+    /// Takes what ladders give, where that is better: the first that does as much as the older tries could is the last.
     fn climb(self, best: &mut Option<Solved>, budget: &mut Budget) -> Result<(), Memory> {
         let widths = widths_of(self.alloc, self.chains, self.linear.states)?;
         let poles = poles_of(self.alloc, self.linear, &widths)?;
-        let ladder = Ladder {
-            alloc: self.alloc,
-            linear: self.linear,
-            chains: self.chains,
-            starts: self.starts,
-            poles: &poles,
-            widest: widest(&widths),
-        };
-        ladder.climb_all(best, budget)
+        for stride in STRIDES.iter() {
+            let ladder = Ladder {
+                alloc: self.alloc,
+                linear: self.linear,
+                chains: self.chains,
+                starts: self.starts,
+                poles: &poles,
+                widest: widest(&widths),
+                stride: *stride,
+            };
+            ladder.climb_all(best, budget)?;
+            if is_climbed(best) {
+                return Ok(());
+            }
+        }
+        Ok(())
     }
 
     /// Takes what a try gives, where that is better. Whether that is enough.

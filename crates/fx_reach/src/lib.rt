@@ -39,6 +39,7 @@ mod pool;
 mod sum;
 mod templates;
 mod transition;
+mod units;
 mod whole;
 
 pub use ahead::{Ahead, look_ahead};
@@ -52,6 +53,7 @@ pub use pool::Pool;
 pub use sum::{plus_scaled, times};
 pub use templates::Templates;
 pub use transition::Transition;
+pub use units::{in_units, moved, moved_interval, unit_at, units_of};
 pub use whole::{
     PLACES, SHARE_BITS, SHARE_PLACES, ceil_at, floor_at, magnitude, moved_down, moved_up, product,
     quotient, share_of, unit_vector,

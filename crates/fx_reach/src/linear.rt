@@ -1,6 +1,7 @@
 //! The linear part of a step, and what drives it: the inputs and the rests of the next states.
 
 use crate::transition::Transition;
+use crate::units::{moved, moved_interval, unit_at};
 use crate::whole::{PLACES, ceil_at, floor_at, greater, magnitude, unit_vector};
 use fx_cert::{Side, affine_coef, side_at, side_rest};
 use fx_interval::Interval;
@@ -12,6 +13,9 @@ const SIZE_BITS: i32 = 44;
 
 /// How many bits more the starts may have: of a state that inputs drive by next to nothing the start is all there is.
 const START_BITS: i32 = 12;
+
+/// How many bits are spared in units of the states.
+const SPARED_BITS: u8 = 10;
 
 /// Half of a unit of a template's entries, in their products.
 const HALF: i128 = 1 << (PLACES - 1);
@@ -79,6 +83,8 @@ pub struct Linear {
     starts: Vec<Ends>,
     /// Sizes are whole with so many binary places.
     pub scale: i32,
+    /// So many bits fewer templates and bounds have: in units of the states coefficients of a step are longer.
+    pub spared: u8,
 }
 
 /// The greatest magnitude of these, and of what came first.
@@ -298,7 +304,26 @@ impl Linear {
             drives: Vec::new(alloc),
             starts: Vec::new(alloc),
             scale: 0,
+            spared: 0,
         }
+    }
+
+    /// Takes coefficients and rests in these units of the states.
+    fn measure(&mut self, units: &[u32]) -> Option<()> {
+        self.spared = if units.is_empty() { 0 } else { SPARED_BITS };
+        let variables = self.inputs.saturating_add(self.states);
+        for (place, coef) in self.coefs.iter_mut().enumerate() {
+            let own = unit_at(units, place.checked_div(variables)?);
+            let by = match place.checked_rem(variables)?.checked_sub(self.inputs) {
+                Some(j) => own.saturating_sub(unit_at(units, j)),
+                None => own,
+            };
+            *coef = moved(*coef, by)?;
+        }
+        for (k, rest) in self.rests.iter_mut().enumerate() {
+            *rest = moved_interval(*rest, unit_at(units, k))?;
+        }
+        Some(())
     }
 
     /// Fills in what a transition does, from these starts. Whether its numbers have few enough bits.
@@ -308,22 +333,24 @@ impl Linear {
         t: &Transition,
         side: &Side,
         starts: &[Interval],
+        units: &[u32],
     ) -> Result<bool, Memory> {
         self.add_next(t, side)?;
         self.add_spans(t, side)?;
-        self.add_wholes(alloc, starts)
+        Ok(self.measure(units).is_some() && self.add_wholes(alloc, starts)?)
     }
 
-    /// The step of a transition from these starts, if its numbers have few enough bits. Where no starts are given
-    /// nothing has to reach them.
+    /// The step of a transition in these units of the states, from these starts in them, if its numbers have few enough
+    /// bits. Where no starts are given nothing has to reach them, and where no units are all are 1.
     pub fn of(
         alloc: Global,
         t: &Transition,
         side: &Side,
         starts: &[Interval],
+        units: &[u32],
     ) -> Result<Option<Linear>, Memory> {
         let mut linear = Linear::empty(alloc, t.inputs as usize, t.states as usize);
-        if linear.fill(alloc, t, side, starts)? {
+        if linear.fill(alloc, t, side, starts, units)? {
             Ok(Some(linear))
         } else {
             Ok(None)

@@ -16,6 +16,8 @@ pub struct Pool {
     pub templates: Templates,
     /// Reaches are whole with so many binary places.
     pub scale: i32,
+    /// So many bits fewer coefficients and bounds have.
+    pub spared: u8,
     /// Coefficients, template after template.
     coefs: Vec<Dyadic>,
     rooms: Vec<i128>,
@@ -24,10 +26,11 @@ pub struct Pool {
 
 impl Pool {
     /// None yet.
-    pub fn new(alloc: Global, states: usize, scale: i32) -> Pool {
+    pub fn new(alloc: Global, states: usize, scale: i32, spared: u8) -> Pool {
         Pool {
             templates: Templates::new(alloc, states),
             scale,
+            spared,
             coefs: Vec::new(alloc),
             rooms: Vec::new(alloc),
             shares: Vec::new(alloc),
@@ -159,7 +162,7 @@ impl Pool {
     ) -> Result<usize, Memory> {
         for j in 0..self.templates.states {
             let entry = template.get(j).copied().unwrap_or(0);
-            let places = coef_places(self.templates.width(j), widest);
+            let places = coef_places(self.templates.width(j), widest, self.spared);
             self.push_coef(rounded(entry, places))?;
         }
         self.push_reach(alloc, reach, room)
@@ -167,13 +170,14 @@ impl Pool {
 }
 
 /// How many binary places the coefficient of a state has in a template.
-fn coef_places(state_width: i128, widest: i128) -> u32 {
+fn coef_places(state_width: i128, widest: i128, spared: u8) -> u32 {
     if state_width == 0 {
         return 0;
     }
     let own = i64::from(bits(state_width.unsigned_abs()));
     let first = i64::from(bits(widest.max(1).unsigned_abs()));
     COEFFICIENT_BITS
+        .saturating_sub(i64::from(spared))
         .saturating_add(own)
         .saturating_sub(first)
         .clamp(0, 56) as u32
