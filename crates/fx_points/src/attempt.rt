@@ -47,62 +47,117 @@ pub fn operands(node: &Node) -> (Option<u32>, Option<u32>) {
     }
 }
 
-/// A factor's entry and size.
-fn factor<'a>(task: Task<'a>, before: &'a [Entry], a: u32) -> Option<Factor<'a>> {
-    let entry = before.get(a as usize)?;
-    let size = task.facts.get(a as usize)?.size;
-    Some(Factor { entry, size })
+/// The entries of both operands.
+fn both_of(before: &[Entry], a: u32, b: u32) -> Option<(&Entry, &Entry)> {
+    match (before.get(a as usize), before.get(b as usize)) {
+        (Some(x), Some(y)) => Some((x, y)),
+        _ => None,
+    }
 }
 
-/// The points that a quotient may have.
+/// The points that a negation or a copy may have.
+fn passed_entry(before: &[Entry], a: u32, cap: i8) -> Option<Entry> {
+    match before.get(a as usize) {
+        Some(x) => x.passed_on(i32::from(cap)),
+        None => None,
+    }
+}
+
+/// The points that a sum or a difference may have.
+fn sum_entry(before: &[Entry], a: u32, b: u32, room: Room) -> Option<Entry> {
+    match both_of(before, a, b) {
+        Some((x, y)) => sum(x, y, room).map(Entry::Listed),
+        None => None,
+    }
+}
+
+/// A factor's entry and size.
+fn factor<'a>(facts: &[NodeFacts], before: &'a [Entry], a: u32) -> Option<Factor<'a>> {
+    match (before.get(a as usize), facts.get(a as usize)) {
+        (Some(entry), Some(facts)) => Some(Factor {
+            entry,
+            size: facts.size,
+        }),
+        _ => None,
+    }
+}
+
+/// The points that a product may have.
+fn product_entry(
+    facts: &[NodeFacts],
+    before: &[Entry],
+    a: u32,
+    b: u32,
+    room: Room,
+) -> Option<Entry> {
+    match (factor(facts, before, a), factor(facts, before, b)) {
+        (Some(x), Some(y)) => product(x, y, room).map(Entry::Listed),
+        _ => None,
+    }
+}
+
+/// The points that a quotient of such a size may have.
 fn quotient_entry(
-    task: Task,
+    facts: &[NodeFacts],
     before: &[Entry],
     a: u32,
     b: u32,
     size: Real,
     room: Room,
 ) -> Option<Entry> {
-    let inverse = Real::ONE.over(task.facts.get(b as usize)?.least);
-    let x = before.get(a as usize)?;
-    let y = before.get(b as usize)?;
-    Some(Entry::Listed(quotient(x, y, Rates { inverse, size }, room)))
+    match (both_of(before, a, b), facts.get(b as usize)) {
+        (Some((x, y)), Some(divisor)) => {
+            let inverse = Real::ONE.over(divisor.least);
+            Some(Entry::Listed(quotient(x, y, Rates { inverse, size }, room)))
+        }
+        _ => None,
+    }
 }
 
-/// The points that node `n` may have, by those of the nodes before it.
-fn entry_of(task: Task, before: &[Entry], n: usize, cap: i8) -> Option<Entry> {
-    let facts = task.facts.get(n)?;
+/// The points that a node may have, by what is known of it and by those of the nodes before it.
+fn entry_by(
+    task: &Task,
+    before: &[Entry],
+    node: &Node,
+    known: &NodeFacts,
+    cap: i8,
+) -> Option<Entry> {
     let room = Room {
         cap,
         width: task.width,
         round: task.round,
     };
-    match task.nodes.get(n)? {
-        Node::Input { .. } | Node::State { .. } => Some(Entry::Listed(input(facts.error, cap))),
+    match node {
+        Node::Input { .. } | Node::State { .. } => Some(Entry::Listed(input(known.error, cap))),
         Node::Const { c } => Some(literal(*c, cap)),
-        Node::Neg { a } | Node::Copy { a } => before.get(*a as usize)?.passed_on(i32::from(cap)),
-        Node::Add { a, b } | Node::Sub { a, b } => {
-            let x = before.get(*a as usize)?;
-            let y = before.get(*b as usize)?;
-            sum(x, y, room).map(Entry::Listed)
-        }
-        Node::Mul { a, b } => {
-            let x = factor(task, before, *a)?;
-            let y = factor(task, before, *b)?;
-            product(x, y, room).map(Entry::Listed)
-        }
-        Node::Div { a, b } => quotient_entry(task, before, *a, *b, facts.size, room),
+        Node::Neg { a } | Node::Copy { a } => passed_entry(before, *a, cap),
+        Node::Add { a, b } | Node::Sub { a, b } => sum_entry(before, *a, *b, room),
+        Node::Mul { a, b } => product_entry(task.facts, before, *a, *b, room),
+        Node::Div { a, b } => quotient_entry(task.facts, before, *a, *b, known.size, room),
+    }
+}
+
+/// The points that node `n` may have, by those of the nodes before it.
+fn entry_of(task: &Task, before: &[Entry], n: usize, cap: i8) -> Option<Entry> {
+    match (task.nodes.get(n), task.facts.get(n)) {
+        (Some(node), Some(known)) => entry_by(task, before, node, known, cap),
+        _ => None,
+    }
+}
+
+/// The points as they are, or the best one alone for a node with several uses.
+fn shared(entry: Entry, is_shared: bool) -> Option<Entry> {
+    match entry.best() {
+        Some(best) => Some(if is_shared { Entry::alone(best) } else { entry }),
+        None => None,
     }
 }
 
 /// The points that node `n` may have, a single one where it has several uses, or None where no point is left.
-fn settled_entry(task: Task, before: &[Entry], n: usize, cap: i8) -> Option<Entry> {
-    let entry = entry_of(task, before, n, cap)?;
-    let best = entry.best()?;
-    if *task.uses.get(n)? > 1 {
-        Some(Entry::alone(best))
-    } else {
-        Some(entry)
+fn settled_entry(task: &Task, before: &[Entry], n: usize, cap: i8) -> Option<Entry> {
+    match (entry_of(task, before, n, cap), task.uses.get(n)) {
+        (Some(entry), Some(uses)) => shared(entry, *uses > 1),
+        _ => None,
     }
 }
 
@@ -113,7 +168,7 @@ fn entries(alloc: Global, task: Task, caps: &[i8]) -> Result<Vec<Entry>, PointFa
 {
     let mut entries = Vec::new(alloc);
     for n in 0..caps.len() {
-        let Some(entry) = settled_entry(task, &entries, n, caps[n]) else {
+        let Some(entry) = settled_entry(&task, &entries, n, caps[n]) else {
             return Err(PointFault::NoPoint { node: n });
         };
         entries.push(entry)?;

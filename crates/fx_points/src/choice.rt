@@ -5,7 +5,7 @@ use fx_program::is_point;
 use fx_span::Real;
 
 /// A point that a node may have.
-#[derive(Clone, Copy, Debug)]
+#[derive(Clone, Copy)]
 pub struct Choice {
     /// The point.
     pub point: i8,
@@ -56,7 +56,7 @@ fn point_at(f: i32) -> Option<i8> {
 }
 
 /// At most eight choices, the finest point first.
-#[derive(Clone, Copy, Debug)]
+#[derive(Clone, Copy)]
 pub struct Choices {
     list: [Choice; 8],
     count: usize,

@@ -61,6 +61,15 @@ fn lower_negated(nodes: &[Node], caps: &mut [i8]) {
     }
 }
 
+/// The greatest point of each node by its range and by the negations that use it.
+fn caps_of(alloc: Global, task: Task) -> Result<Vec<i8>, Memory>
+    ensures { IfOk result (λ caps. length caps.items ≡ length task.entry.facts.now) }
+{
+    let mut caps = range_caps(alloc, task.facts)?;
+    lower_negated(task.nodes, &mut caps);
+    Ok(caps)
+}
+
 /// Raises what is asked of an operand.
 fn raise(finest: &mut [i8], operand: Option<u32>, point: i8) {
     if let Some(a) = operand {
@@ -121,6 +130,30 @@ fn tried_again(alloc: Global, task: Task, caps: &[i8], first: Chosen) -> Result<
     }
 }
 
+/// The cheaper of what is chosen and of an attempt with lower caps for shared nodes, where they have any.
+fn bettered(alloc: Global, task: Task, caps: &mut [i8], first: Chosen) -> Result<Chosen, PointFault>
+    requires { length first.points.items ≡ length caps.old }
+    ensures each { IfOk result (λ chosen. length chosen.points.items ≡ length caps.old) }
+    ensures memory { IfErr result (λ e. e ≡ fault.Memory) }
+{
+    let finest = finest_uses(alloc, task.nodes, &first.points)?;
+    if lower_shared(task, &first.points, &finest, caps) {
+        tried_again(alloc, task, caps, first)
+    } else {
+        Ok(first)
+    }
+}
+
+/// A point for each node, and what they cost.
+fn chosen(alloc: Global, task: Task) -> Result<Chosen, PointFault>
+    ensures each { IfOk result (λ chosen. length chosen.points.items ≡ length task.entry.facts.now) }
+    ensures blames { IfErr result (BlamesOneOf (length task.entry.facts.now)) }
+{
+    let mut caps = caps_of(alloc, task)?;
+    let first = attempt(alloc, task, &caps)?;
+    bettered(alloc, task, &mut caps, first)
+}
+
 /// The points as whole numbers.
 fn widened(alloc: Global, points: &[i8]) -> Result<Vec<i32>, Memory>
     ensures { IfOk result (λ wide. length wide.items ≡ length points.now) }
@@ -155,14 +188,6 @@ pub fn choose_points(
         width: width as i8,
         round,
     };
-    let mut caps = range_caps(alloc, facts)?;
-    lower_negated(list, &mut caps);
-    let first = attempt(alloc, task, &caps)?;
-    let finest = finest_uses(alloc, list, &first.points)?;
-    let chosen = if lower_shared(task, &first.points, &finest, &mut caps) {
-        tried_again(alloc, task, &caps, first)?
-    } else {
-        first
-    };
+    let chosen = chosen(alloc, task)?;
     Ok(widened(alloc, &chosen.points)?)
 }

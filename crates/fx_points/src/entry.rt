@@ -3,7 +3,7 @@ use crate::choice::{Choice, Choices};
 use fx_span::Real;
 
 /// An exact literal, or its negation: any point from `least` to `greatest` costs nothing.
-#[derive(Clone, Copy, Debug)]
+#[derive(Clone, Copy)]
 pub struct Exact {
     /// The least point at which its word is exact.
     pub least: i8,
@@ -46,7 +46,7 @@ impl Exact {
 }
 
 /// The points that a node may have.
-#[derive(Clone, Copy, Debug)]
+#[derive(Clone, Copy)]
 pub enum Entry {
     /// Those of an exact literal that is used once.
     Exact(Exact),

@@ -8,7 +8,7 @@ use fx_program::Round;
 use fx_span::Real;
 
 /// How far the points of a node may go.
-#[derive(Clone, Copy, Debug)]
+#[derive(Clone, Copy)]
 pub struct Room {
     /// The greatest point.
     pub cap: i8,
@@ -50,20 +50,26 @@ fn term(operand: &Entry, f: i8, width: i8) -> Option<Choice> {
 
 /// The choice of a sum at point `f`.
 fn sum_at(a: &Entry, b: &Entry, f: i8, width: i8) -> Option<Choice> {
-    let x = term(a, f, width)?;
-    let y = term(b, f, width)?;
-    Some(Choice {
-        point: f,
-        cost: x.cost.plus(y.cost),
-        left: x.point,
-        right: y.point,
-    })
+    match (term(a, f, width), term(b, f, width)) {
+        (Some(x), Some(y)) => Some(Choice {
+            point: f,
+            cost: x.cost.plus(y.cost),
+            left: x.point,
+            right: y.point,
+        }),
+        _ => None,
+    }
 }
 
 /// The points of a sum or a difference.
 pub fn sum(a: &Entry, b: &Entry, room: Room) -> Option<Choices> {
-    let top = a.finest()?.max(b.finest()?).min(i32::from(room.cap));
-    Some(Choices::down_from(top, Choice::POINTS, |f| sum_at(a, b, f, room.width)))
+    match (a.finest(), b.finest()) {
+        (Some(x), Some(y)) => {
+            let top = x.max(y).min(i32::from(room.cap));
+            Some(Choices::down_from(top, Choice::POINTS, |f| sum_at(a, b, f, room.width)))
+        }
+        _ => None,
+    }
 }
 
 /// What a product's shift loses at point `f`, if it may have the shift.
@@ -86,50 +92,75 @@ fn least_shift(least: i8, x: i8, f: i8) -> i32 {
 }
 
 /// The choice of the product of an exact literal and `x` at point `f`: the literal's point is the least that keeps all.
-fn scaled_choice(literal: Exact, size: Real, x: Choice, f: i8, room: Room) -> Option<Choice> {
+fn scaled_choice(literal: Exact, size: Real, x: &Choice, f: i8, room: Room) -> Option<Choice> {
     let shift = least_shift(literal.least, x.point, f);
-    let loss = product_loss(shift, f, room)?;
     let wanted = i32::from(f) - i32::from(x.point);
-    let point = literal.at(wanted.saturating_add(shift))?.point;
-    let cost = size.times(x.cost).plus(loss);
-    Some(Choice {
-        point: f,
-        cost,
-        left: point,
-        right: x.point,
-    })
+    match (
+        product_loss(shift, f, room),
+        literal.at(wanted.saturating_add(shift)),
+    ) {
+        (Some(loss), Some(factor)) => Some(Choice {
+            point: f,
+            cost: size.times(x.cost).plus(loss),
+            left: factor.point,
+            right: x.point,
+        }),
+        _ => None,
+    }
 }
 
 /// The choice of the product of an exact literal and another node at point `f`.
 fn scaled_at(literal: Exact, size: Real, other: &Choices, f: i8, room: Room) -> Option<Choice> {
     let mut best = None;
     for x in other.as_slice() {
-        best = cheaper(best, scaled_choice(literal, size, *x, f, room));
+        best = cheaper(best, scaled_choice(literal, size, x, f, room));
     }
     best
 }
 
 /// The points of the product of an exact literal, on the left, and another node.
 fn scaled(literal: Exact, size: Real, other: &Choices, room: Room) -> Option<Choices> {
-    let finest = i32::from(other.finest()?.point);
-    let top = (finest + i32::from(literal.greatest)).min(i32::from(room.cap));
-    Some(Choices::down_from(top, Choice::POINTS, |f| {
-        scaled_at(literal, size, other, f, room)
-    }))
+    match other.finest() {
+        Some(finest) => {
+            let all = i32::from(finest.point) + i32::from(literal.greatest);
+            let top = all.min(i32::from(room.cap));
+            Some(Choices::down_from(top, Choice::POINTS, |f| {
+                scaled_at(literal, size, other, f, room)
+            }))
+        }
+        None => None,
+    }
 }
 
-/// The points of a product whose operands have the points that are best for them.
-fn whole_product(x: Choice, y: Choice, cost: Real, room: Room) -> Choices {
-    let point = i32::from(x.point) + i32::from(y.point);
-    Choices::down_from(point.min(i32::from(room.cap)), Choice::POINTS, |f| {
-        let loss = product_loss(point - i32::from(f), f, room)?;
-        Some(Choice {
+/// The choice of a product at point `f`, which costs so much before its shift.
+fn product_at(x: &Choice, y: &Choice, cost: Real, f: i8, room: Room) -> Option<Choice> {
+    let shift = i32::from(x.point) + i32::from(y.point) - i32::from(f);
+    match product_loss(shift, f, room) {
+        Some(loss) => Some(Choice {
             point: f,
             cost: cost.plus(loss),
             left: x.point,
             right: y.point,
-        })
-    })
+        }),
+        None => None,
+    }
+}
+
+/// The points of a product whose operands have these points.
+fn product_of(x: &Choice, y: &Choice, cost: Real, room: Room) -> Choices {
+    let top = (i32::from(x.point) + i32::from(y.point)).min(i32::from(room.cap));
+    Choices::down_from(top, Choice::POINTS, |f| product_at(x, y, cost, f, room))
+}
+
+/// The points of a product whose operands have the points that are best for them.
+fn whole_product(a: Factor, b: Factor, room: Room) -> Option<Choices> {
+    match (a.entry.best(), b.entry.best()) {
+        (Some(x), Some(y)) => {
+            let cost = b.size.times(x.cost).plus(a.size.times(y.cost));
+            Some(product_of(&x, &y, cost, room))
+        }
+        _ => None,
+    }
 }
 
 /// An operand of a product, with the size of its range.
@@ -143,13 +174,10 @@ pub struct Factor<'a> {
 pub fn product(a: Factor, b: Factor, room: Room) -> Option<Choices> {
     match (a.entry, b.entry) {
         (Entry::Exact(x), Entry::Listed(list)) => scaled(*x, a.size, list, room),
-        (Entry::Listed(list), Entry::Exact(x)) => Some(scaled(*x, b.size, list, room)?.turned()),
-        _ => {
-            let x = a.entry.best()?;
-            let y = b.entry.best()?;
-            let cost = b.size.times(x.cost).plus(a.size.times(y.cost));
-            Some(whole_product(x, y, cost, room))
+        (Entry::Listed(list), Entry::Exact(x)) => {
+            scaled(*x, b.size, list, room).map(|choices| choices.turned())
         }
+        _ => whole_product(a, b, room),
     }
 }
 
