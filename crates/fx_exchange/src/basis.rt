@@ -415,7 +415,14 @@ pub fn exchange(
     }
     let goal = scaled(alloc, template, &scaled_templates.costs, cost)?;
     let mut basis = Basis::units(alloc, &goal)?;
-    let Some(inverse) = improve(alloc, scaled_templates, &mut basis, &goal, Asked::Least, budget)?
+    let Some(inverse) = improve(
+        alloc,
+        scaled_templates,
+        &mut basis,
+        &goal,
+        Asked::Least,
+        budget,
+    )?
     else {
         return Ok(none);
     };

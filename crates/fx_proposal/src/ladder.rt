@@ -292,7 +292,10 @@ impl<'a> Building<'a> {
         let Some(length) = wanted else {
             return Ok(false);
         };
-        let more = length.saturating_sub(1).checked_div(self.stride).unwrap_or(0);
+        let more = length
+            .saturating_sub(1)
+            .checked_div(self.stride)
+            .unwrap_or(0);
         if more > self.left {
             return Ok(false);
         }
