@@ -154,7 +154,10 @@ fn template_shares(
     for share in pool.shares(i) {
         let other = own_unit(pool, units, share.template as usize);
         match moved(share.times, other.saturating_sub(own)) {
-            Some(times) => shares.push(Share { times, ..*share })?,
+            Some(times) => shares.push(Share {
+                template: share.template,
+                times,
+            })?,
             None => return Ok(None),
         }
     }
@@ -326,7 +329,10 @@ fn found(
         return Ok(None);
     };
     match measured.best(alloc, budget)? {
-        Some(solved) => proposal_of(alloc, &measured.linear, measured.units, solved),
+        Some(solved) => {
+            let units = measured.units;
+            proposal_of(alloc, &measured.linear, units, solved)
+        }
         None => Ok(None),
     }
 }
