@@ -4,7 +4,7 @@
 Seconds of the processor (the least of so many runs, three without it) and resident memory of `synth` on functions of
 20, 40, 150 and 1,500 nodes, sums of products of four inputs, at 0, 200, 2,000 and 4,000 tries, and of doppler at 200
 tries. Tries after which every single step was looked at are the search's alone: the tries a second are those between
-the last two. A try looks at eight drafts, at fewer in a function of more than 250 nodes. Last it says the load, as it
+the last two. A try looks at nine drafts, at fewer in a function of more than 250 nodes. Last it says the load, as it
 was at the beginning. Outside the gate: figures depend on the machine.
 """
 import os
