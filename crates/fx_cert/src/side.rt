@@ -11,7 +11,7 @@ use crate::lookup::{affine_error_rest, affine_rest, error_at, range_at};
 use fx_interval::Interval;
 
 /// Which of the two.
-#[derive(Clone, Copy, Debug, PartialEq, Eq)]
+#[derive(Clone, Copy)]
 pub enum Side {
     /// The exact value.
     Value,
