@@ -7,6 +7,7 @@
 
 use crate::linear::Linear;
 use crate::templates::Templates;
+use crate::whole::{both, difference, put, quotient, sum, whole_at};
 use fx_num::Memory;
 use std::alloc::Global;
 
@@ -51,9 +52,11 @@ impl Ahead {
 
     /// What template `t` and those before are driven by.
     fn sum_behind(&self, linear: &Linear, t: usize) -> Option<(i128, i128)> {
-        let drive = linear.drive(self.templates.template(t))?;
         let (lo, hi) = self.templates.reach(t);
-        Some((lo.checked_add(drive.lo)?, hi.checked_add(drive.hi)?))
+        match linear.drive(self.templates.template(t)) {
+            Some(drive) => both(lo.checked_add(drive.lo), hi.checked_add(drive.hi)),
+            None => None,
+        }
     }
 
     /// One step more. False where numbers get too long.
@@ -114,35 +117,46 @@ impl Ahead {
     fn ended(&mut self, end: usize, is_last: bool) -> Option<bool> {
         let driven = self.driven(end);
         let moved = self.moved(end, driven);
-        let are_over = driven.are_over() && moved.are_over() && self.has_faded(end);
-        if !are_over && !is_last {
-            return None;
+        if is_last || (driven.are_over() && moved.are_over() && self.has_faded(end)) {
+            Some(driven.shrink() && moved.shrink() && self.turn(end, driven))
+        } else {
+            None
         }
-        Some(driven.shrink() && moved.shrink() && self.turn(end, driven).is_some())
+    }
+
+    /// Looks ahead so far, and turns the sums as above.
+    fn look_up_to(
+        &mut self,
+        linear: &Linear,
+        end: usize,
+        is_last: bool,
+    ) -> Result<Option<bool>, Memory> {
+        if self.push_steps(linear, end)? {
+            Ok(self.ended(end, is_last))
+        } else {
+            Ok(Some(false))
+        }
     }
 
     /// Looks ahead until nothing more comes. Whether that ends.
     fn look(&mut self, linear: &Linear) -> Result<bool, Memory> {
         let mut end = FIRST;
         for turn in 0..DOUBLINGS.saturating_add(1) {
-            if !self.push_steps(linear, end)? {
-                return Ok(false);
+            match self.look_up_to(linear, end, turn == DOUBLINGS)? {
+                Some(stands) => return Ok(stands),
+                None => end = end.saturating_mul(2),
             }
-            if let Some(stands) = self.ended(end, turn == DOUBLINGS) {
-                return Ok(stands);
-            }
-            end = end.saturating_mul(2);
         }
         Ok(false)
     }
 
     /// Turns the sums of the drives before each template into how far it reaches: what its start is, and what drives it
-    /// and then its image, which reaches so far itself.
-    fn turn(&mut self, end: usize, driven: Halves) -> Option<()> {
-        let lo = last_of(&self.templates.lo, &self.starts_lo, end, driven, false)?;
-        let hi = last_of(&self.templates.hi, &self.starts_hi, end, driven, true)?;
-        turn_ends(&mut self.templates.lo, &self.starts_lo, lo, false)?;
-        turn_ends(&mut self.templates.hi, &self.starts_hi, hi, true)
+    /// and then its image, which reaches so far itself. False where numbers get too long.
+    fn turn(&mut self, end: usize, driven: Halves) -> bool {
+        let lo = last_of(&self.templates.lo, &self.starts_lo, end, driven, false);
+        let hi = last_of(&self.templates.hi, &self.starts_hi, end, driven, true);
+        turn_ends(&mut self.templates.lo, &self.starts_lo, lo, false)
+            && turn_ends(&mut self.templates.hi, &self.starts_hi, hi, true)
     }
 }
 
@@ -160,6 +174,14 @@ fn outer(a: i128, b: i128, is_upper: bool) -> i128 {
     if is_upper { a.max(b) } else { a.min(b) }
 }
 
+/// The end that lies further out, if both are there.
+fn outer_of(a: Option<i128>, b: Option<i128>, is_upper: bool) -> Option<i128> {
+    match (a, b) {
+        (Some(a), Some(b)) => Some(outer(a, b, is_upper)),
+        _ => None,
+    }
+}
+
 /// The outermost of the ends between two times, if there are some.
 fn outermost(ends: &[i128], from: usize, to: usize, is_upper: bool) -> Option<i128> {
     let mut found = None;
@@ -172,17 +194,12 @@ fn outermost(ends: &[i128], from: usize, to: usize, is_upper: bool) -> Option<i1
     found
 }
 
-/// An entry, 0 where there is none.
-fn entry(ends: &[i128], t: usize) -> i128 {
-    ends.get(t).copied().unwrap_or(0)
-}
-
 /// How far sums and starts come apart between two times.
 fn moved(sums: &[i128], starts: &[i128], from: usize, to: usize) -> i128 {
     let mut least = i128::MAX;
     let mut most = i128::MIN;
     for t in from..to {
-        let end = entry(sums, t).saturating_add(entry(starts, t));
+        let end = whole_at(sums, t).saturating_add(whole_at(starts, t));
         least = least.min(end);
         most = most.max(end);
     }
@@ -197,40 +214,68 @@ fn last_of(
     driven: Halves,
     is_upper: bool,
 ) -> Option<i128> {
-    let all = total(sums, end, driven)?;
+    let all = total(sums, end, driven);
     match outermost(starts, end / 2, end, is_upper) {
-        Some(start) => {
-            let started = sums.get(end)?.checked_add(start)?;
-            Some(outer(all, started, is_upper))
-        }
-        None => Some(all),
+        Some(start) => outer_of(all, whole_at(sums, end).checked_add(start), is_upper),
+        None => all,
     }
 }
 
-/// Turns the ends on one side, from the last on.
-fn turn_ends(sums: &mut Vec<i128>, starts: &[i128], last: i128, is_upper: bool) -> Option<()> {
-    let mut end = last;
-    for t in (0..sums.len()).rev() {
-        let slot = sums.get_mut(t)?;
-        if let Some(start) = starts.get(t) {
-            end = outer(end, slot.checked_add(*start)?, is_upper);
-        }
-        *slot = end.checked_sub(*slot)?;
+/// The end of a template, by that of its image and where it starts, if that is to be reached.
+fn end_at(image: Option<i128>, sum: i128, start: Option<&i128>, is_upper: bool) -> Option<i128> {
+    match start {
+        Some(start) => outer_of(image, sum.checked_add(*start), is_upper),
+        None => image,
     }
-    Some(())
+}
+
+/// Puts how far an end lies from a sum in the place of that. False where 128 bits don't hold it.
+fn put_distance(sums: &mut Vec<i128>, t: usize, end: Option<i128>) -> bool {
+    match difference(end, whole_at(sums, t)) {
+        Some(distance) => {
+            put(sums, t, distance);
+            true
+        }
+        None => false,
+    }
+}
+
+/// Turns the ends on one side, from the last on. False where numbers get too long.
+fn turn_ends(sums: &mut Vec<i128>, starts: &[i128], last: Option<i128>, is_upper: bool) -> bool {
+    let mut end = last;
+    let mut fits = true;
+    for t in (0..sums.len()).rev() {
+        end = end_at(end, whole_at(sums, t), starts.get(t), is_upper);
+        fits = fits && put_distance(sums, t, end);
+    }
+    fits
+}
+
+/// What the second half leaves of the first, once it shrinks as before.
+fn rest_of(halves: Halves) -> Option<i128> {
+    difference(halves.first.checked_mul(2), halves.both)
+}
+
+/// The drives of the first half, and of the second and what goes on so.
+fn with_rest(first: i128, second: i128, halves: Halves, rest: i128) -> Option<i128> {
+    match second.checked_mul(halves.first) {
+        Some(product) => sum(Some(first), quotient(product, rest)),
+        None => None,
+    }
 }
 
 /// All drives, where those that weren't looked at shrink as the second half did.
 fn total(sums: &[i128], end: usize, halves: Halves) -> Option<i128> {
-    let all = *sums.get(end)?;
-    let first = *sums.get(end / 2)?;
-    let second = all.checked_sub(first)?;
-    let left = halves.first.checked_mul(2)?.checked_sub(halves.both)?;
-    if left <= 0 {
-        return Some(all);
+    let all = whole_at(sums, end);
+    let first = whole_at(sums, end / 2);
+    match both(all.checked_sub(first), rest_of(halves)) {
+        Some((second, rest)) => if rest <= 0 {
+            Some(all)
+        } else {
+            with_rest(first, second, halves, rest)
+        },
+        None => None,
     }
-    let more = second.checked_mul(halves.first)?.div_euclid(left);
-    first.checked_add(more)
 }
 
 impl Halves {

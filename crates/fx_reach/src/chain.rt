@@ -5,7 +5,7 @@
 //! chain, a closing holds exactly where what it costs is at most the image's reach and that room.
 
 use crate::ahead::Ahead;
-use crate::whole::{PLACES, floor_at, moved_down, product, share_of};
+use crate::whole::{PLACES, floor_at, moved_down, product, share_of, sum, whole_at};
 use fx_num::{Dyadic, Memory, floor_shift};
 use std::alloc::Global;
 
@@ -52,8 +52,8 @@ impl Costs {
 
     /// How much a state weighs in a template.
     fn weight(&self, template: &[i128], j: usize) -> u128 {
-        let r = template.get(j).copied().unwrap_or(0);
-        let width = self.widths.get(j).copied().unwrap_or(0);
+        let r = whole_at(template, j);
+        let width = whole_at(&self.widths, j);
         r.unsigned_abs().saturating_mul(width.unsigned_abs())
     }
 
@@ -82,89 +82,130 @@ pub fn room_part(width: i128, parts: i128, whole: i128) -> i128 {
     width.saturating_mul(parts).checked_div(whole).unwrap_or(0)
 }
 
-/// With what an entry costs.
-fn plus_cost(total: i128, r: i128, cost: i128) -> Option<i128> {
-    total.checked_add(r.checked_abs()?.checked_mul(cost)?)
+/// What an entry costs, if it is there.
+fn entry_cost(r: Option<i128>, cost: i128) -> Option<i128> {
+    match r {
+        Some(r) => match r.checked_abs() {
+            Some(size) => size.checked_mul(cost),
+            None => None,
+        },
+        None => None,
+    }
+}
+
+/// Entries' costs as they are counted of templates.
+fn cost_of(total: Option<i128>) -> Option<i128> {
+    match total {
+        Some(total) => Some(floor_shift(total, PLACES)),
+        None => None,
+    }
 }
 
 /// What a template costs on the unit templates.
 pub fn unit_cost(template: &[i128], costs: &[i128]) -> Option<i128> {
-    let mut total: i128 = 0;
-    for (r, cost) in template.iter().zip(costs) {
-        total = plus_cost(total, *r, *cost)?;
+    let mut total = Some(0);
+    for j in 0..costs.len() {
+        total = sum(
+            total,
+            entry_cost(Some(whole_at(template, j)), whole_at(costs, j)),
+        );
     }
-    Some(floor_shift(total, PLACES))
+    cost_of(total)
 }
 
-/// With what so many times an entry leave of its image costs.
-fn plus_left(total: i128, r: i128, q: i128, times: i128, cost: i128) -> Option<i128> {
-    plus_cost(total, r.checked_sub(product(times, q, PLACES)?)?, cost)
+/// What so many times an entry leave of its image.
+fn left_entry(r: i128, q: i128, times: i128) -> Option<i128> {
+    match product(times, q, PLACES) {
+        Some(taken) => r.checked_sub(taken),
+        None => None,
+    }
 }
 
 /// What so many times a template leave of its image costs on the unit templates.
 fn left_cost(image: &[i128], template: &[i128], times: i128, costs: &[i128]) -> Option<i128> {
-    let mut total: i128 = 0;
-    for ((r, q), cost) in image.iter().zip(template).zip(costs) {
-        total = plus_left(total, *r, *q, times, *cost)?;
+    let mut total = Some(0);
+    for j in 0..costs.len() {
+        let left = left_entry(whole_at(image, j), whole_at(template, j), times);
+        total = sum(total, entry_cost(left, whole_at(costs, j)));
     }
-    Some(floor_shift(total, PLACES))
+    cost_of(total)
 }
 
 /// How often a template is taken of itself, by the state that weighs most in its image.
 fn own_times(image: &[i128], template: &[i128], costs: &Costs) -> Option<Dyadic> {
     let j = costs.heaviest(image);
-    let r = *image.get(j)?;
-    let q = *template.get(j)?;
+    let r = whole_at(image, j);
+    let q = whole_at(template, j);
     if r.signum() != q.signum() || r == 0 || r.unsigned_abs() >= q.unsigned_abs() {
-        return None;
+        None
+    } else {
+        share_of(r, q)
     }
-    share_of(r, q)
 }
 
-/// What an image costs that takes so many times its template, which has this cost.
-fn own_cost(
-    image: &[i128],
-    template: &[i128],
-    times: Dyadic,
-    own: i128,
-    costs: &Costs,
-) -> Option<i128> {
-    let whole = floor_at(times, PLACES as i32)?;
-    let left = left_cost(image, template, whole, &costs.costs)?;
-    product(whole, own, PLACES)?.checked_add(left)
+/// What the image of template `i` costs that takes so many times that template.
+fn own_cost(ahead: &Ahead, i: usize, times: Dyadic, costs: &Costs) -> Option<i128> {
+    let template = ahead.templates.template(i);
+    let image = ahead.templates.template(i.saturating_add(1));
+    let room = room(ahead.templates.width(0), costs.shift);
+    match (
+        floor_at(times, PLACES as i32),
+        ahead.templates.width(i).checked_add(room),
+    ) {
+        (Some(whole), Some(own)) => sum(
+            product(whole, own, PLACES),
+            left_cost(image, template, whole, &costs.costs),
+        ),
+        _ => None,
+    }
+}
+
+/// These times, if the image of template `i` that takes them costs no more than the limit.
+fn within(ahead: &Ahead, i: usize, times: Dyadic, costs: &Costs, limit: i128) -> Option<Dyadic> {
+    match own_cost(ahead, i, times, costs) {
+        Some(cost) => if cost <= limit { Some(times) } else { None },
+        None => None,
+    }
 }
 
 /// How often the image of template `i` takes that template, where the chain can be closed on it within the limit.
 fn on_itself(ahead: &Ahead, i: usize, costs: &Costs, limit: i128) -> Option<Dyadic> {
-    if i == 0 {
-        return None;
-    }
     let template = ahead.templates.template(i);
     let image = ahead.templates.template(i.saturating_add(1));
-    let times = own_times(image, template, costs)?;
-    let room = room(ahead.templates.width(0), costs.shift);
-    let own = ahead.templates.width(i).checked_add(room)?;
-    if own_cost(image, template, times, own, costs)? <= limit {
-        Some(times)
-    } else {
-        None
+    match own_times(image, template, costs) {
+        Some(times) => if i > 0 {
+            within(ahead, i, times, costs, limit)
+        } else {
+            None
+        },
+        None => None,
     }
+}
+
+/// What a template may cost at most behind which a chain is closed: its reach and the chain's room, and next to nothing
+/// more.
+fn limit_at(ahead: &Ahead, i: usize, costs: &Costs) -> Option<i128> {
+    let first = ahead.templates.width(0);
+    let room = room(first, costs.shift);
+    sum(
+        ahead.templates.width(i).checked_add(room),
+        Some(first >> 30),
+    )
 }
 
 /// How often the image of template `i` takes that template, where the chain can be closed behind it: not at all where
 /// the unit templates suffice.
 pub fn find_closing(ahead: &Ahead, i: usize, costs: &Costs) -> Option<Dyadic> {
-    let first = ahead.templates.width(0);
     let next = i.saturating_add(1);
-    let limit = ahead
-        .templates
-        .width(next)
-        .checked_add(room(first, costs.shift))?
-        .checked_add(first >> 30)?;
-    if unit_cost(ahead.templates.template(next), &costs.costs)? <= limit {
-        return Some(Dyadic { m: 0, e: 0 });
+    let cost = unit_cost(ahead.templates.template(next), &costs.costs);
+    match (cost, limit_at(ahead, next, costs)) {
+        (Some(cost), Some(limit)) => if cost <= limit {
+            Some(Dyadic { m: 0, e: 0 })
+        } else {
+            on_itself(ahead, i, costs, limit)
+        },
+        _ => None,
     }
-    on_itself(ahead, i, costs, limit)
 }
 
 /// How many templates a chain wants to have: up to the first behind which it can be closed, else all that were looked

@@ -154,11 +154,42 @@ fn step(
 ) -> Result<(), Memory> {
     add_to_diagonal(m, start, end, shift.scaled(-1.0));
     let turns = turns_of(alloc, m, start, end)?;
-    for (i, turn) in turns.iter().enumerate() {
-        turn_columns(m, start.saturating_add(i), start, end, *turn);
+    for i in 0..turns.len() {
+        turn_columns(m, start.saturating_add(i), start, end, turns[i]);
     }
     add_to_diagonal(m, start, end, shift);
     Ok(())
+}
+
+/// The shift of a step, for which an eigenvalue has waited so long.
+fn shift_after(m: &Matrix, end: usize, waited: usize) -> Complex {
+    let last = end.saturating_sub(1);
+    if waited & 7 == 0 {
+        // what goes round in a circle is thrown out of it
+        Complex::real(m.at(last, last).length() + m.at(last, last.saturating_sub(1)).length())
+    } else {
+        shift_of(m, end)
+    }
+}
+
+/// Takes eigenvalues off a matrix in Hessenberg form, the last first. Whether the steps settle.
+fn take_values(alloc: Global, m: &mut Matrix, values: &mut Vec<Complex>) -> Result<bool, Memory> {
+    let mut end = m.size;
+    let mut waited: usize = 0;
+    for _step in 0..m.size.saturating_mul(STEPS) {
+        let last = end.saturating_sub(1);
+        let start = block_start(m, end);
+        if start < last {
+            waited = waited.saturating_add(1);
+            let shift = shift_after(m, end, waited);
+            step(alloc, m, start, end, shift)?;
+        } else if end > 0 {
+            values.push(m.at(last, last))?;
+            end = last;
+            waited = 0;
+        }
+    }
+    Ok(end == 0)
 }
 
 /// The eigenvalues of a matrix; none where the steps don't settle.
@@ -166,36 +197,10 @@ pub fn eigenvalues(alloc: Global, matrix: &Matrix) -> Result<Vec<Complex>, Memor
     let mut m = matrix.copy(alloc)?;
     let mut values = Vec::new(alloc);
     reduce(&mut m);
-    let mut end = m.size;
-    let mut waited: usize = 0;
-    for _step in 0..m.size.saturating_mul(STEPS) {
-        if end == 0 {
-            return Ok(values);
-        }
-        let last = end.saturating_sub(1);
-        let start = block_start(&m, end);
-        if start >= last {
-            values.push(m.at(last, last))?;
-            end = last;
-            waited = 0;
-        } else {
-            waited = waited.saturating_add(1);
-            let shift = if waited & 7 == 0 {
-                // what goes round in a circle is thrown out of it
-                Complex::real(
-                    m.at(last, last).length() + m.at(last, last.saturating_sub(1)).length(),
-                )
-            } else {
-                shift_of(&m, end)
-            };
-            step(alloc, &mut m, start, end, shift)?;
-        }
+    if !take_values(alloc, &mut m, &mut values)? {
+        values.truncate(0);
     }
-    if end == 0 {
-        Ok(values)
-    } else {
-        Ok(Vec::new(alloc))
-    }
+    Ok(values)
 }
 
 /// Solves the equations of a matrix for a vector, by elimination; a pivot that is next to nothing is a small one.
@@ -279,15 +284,26 @@ fn normalise(vector: &mut Vec<Complex>) {
     }
 }
 
+/// Takes a vector nearer to that which a matrix takes to so many times itself.
+fn iterate(
+    alloc: Global,
+    matrix: &Matrix,
+    value: Complex,
+    vector: &mut Vec<Complex>,
+) -> Result<(), Memory> {
+    let mut m = matrix.copy(alloc)?;
+    add_to_diagonal(&mut m, 0, matrix.size, value.scaled(-1.0));
+    solve(&mut m, vector, 1.0e-30);
+    normalise(vector);
+    Ok(())
+}
+
 /// The vector that a matrix takes to so many times itself.
 pub fn eigenvector(alloc: Global, matrix: &Matrix, value: Complex) -> Result<Vec<Complex>, Memory> {
     let mut vector = vec![in alloc; Complex { re: 1.0, im: 0.0 }; matrix.size]?;
     let near = value.scaled(1.0 + 1.0e-13);
     for _turn in 0..3 {
-        let mut m = matrix.copy(alloc)?;
-        add_to_diagonal(&mut m, 0, matrix.size, near.scaled(-1.0));
-        solve(&mut m, &mut vector, 1.0e-30);
-        normalise(&mut vector);
+        iterate(alloc, matrix, near, &mut vector)?;
     }
     Ok(vector)
 }

@@ -50,7 +50,7 @@ pub use float::{
 pub use linear::Linear;
 pub use poles::{Pole, pole_templates, poles_of};
 pub use pool::Pool;
-pub use sum::{plus_scaled, times};
+pub use sum::{plus_scaled, times, with_scaled};
 pub use templates::Templates;
 pub use transition::Transition;
 pub use units::{in_units, moved, moved_interval, unit_at, units_of};

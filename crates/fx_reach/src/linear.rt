@@ -2,7 +2,7 @@
 
 use crate::transition::Transition;
 use crate::units::{moved, moved_interval, unit_at};
-use crate::whole::{PLACES, ceil_at, floor_at, greater, magnitude, unit_vector};
+use crate::whole::{PLACES, ceil_at, floor_at, greater, magnitude, sum, unit_vector, whole_at};
 use fx_cert::{Side, affine_coef, side_at, side_rest};
 use fx_interval::Interval;
 use fx_num::{Dyadic, Memory, ceil_shift, floor_shift};
@@ -35,31 +35,66 @@ pub(crate) struct Ends {
     pub(crate) hi: i128,
 }
 
+impl Drive {
+    /// A sum with what drives a template, in whose products with the coefficients it comes so often.
+    fn added_to(&self, sum: Option<Ends>, products: Option<i128>) -> Option<Ends> {
+        match (sum, products) {
+            (Some(sum), Some(products)) => {
+                sum.plus(floor_shift(products, PLACES), self.lo, self.hi)
+            }
+            _ => None,
+        }
+    }
+}
+
 impl Ends {
+    /// A sum with so many times these.
+    fn added_to(self, sum: Option<Ends>, times: i128) -> Option<Ends> {
+        match sum {
+            Some(sum) => sum.plus(times, self.lo, self.hi),
+            None => None,
+        }
+    }
+
+    /// These, if both are there.
+    fn of(lo: Option<i128>, hi: Option<i128>) -> Option<Ends> {
+        match (lo, hi) {
+            (Some(lo), Some(hi)) => Some(Ends { lo, hi }),
+            _ => None,
+        }
+    }
+
     /// With so many times others.
     fn plus(self, times: i128, lo: i128, hi: i128) -> Option<Ends> {
-        let a = times.checked_mul(lo)?;
-        let b = times.checked_mul(hi)?;
-        Some(Ends {
-            lo: self.lo.checked_add(a.min(b))?,
-            hi: self.hi.checked_add(a.max(b))?,
-        })
+        match (times.checked_mul(lo), times.checked_mul(hi)) {
+            (Some(a), Some(b)) => Ends::of(
+                self.lo.checked_add(a.min(b)),
+                self.hi.checked_add(a.max(b)),
+            ),
+            _ => None,
+        }
     }
 
     /// Products with entries of a template, outward. A single number goes to the nearest unit: what drives a template by
     /// that alone then does so for ever, and what fades comes to nothing.
     fn rounded(self) -> Option<Ends> {
         if self.lo == self.hi {
-            let nearest = rounded(self.lo)?;
-            return Some(Ends {
-                lo: nearest,
-                hi: nearest,
-            });
+            let nearest = rounded(Some(self.lo));
+            Ends::of(nearest, nearest)
+        } else {
+            Some(Ends {
+                lo: floor_shift(self.lo, PLACES),
+                hi: ceil_shift(self.hi, PLACES),
+            })
         }
-        Some(Ends {
-            lo: floor_shift(self.lo, PLACES),
-            hi: ceil_shift(self.hi, PLACES),
-        })
+    }
+}
+
+/// A sum of products with entries of a template, outward, if it is there.
+fn rounded_ends(sum: Option<Ends>) -> Option<Ends> {
+    match sum {
+        Some(sum) => sum.rounded(),
+        None => None,
     }
 }
 
@@ -224,6 +259,15 @@ impl Linear {
         Ok(true)
     }
 
+    /// Adds all that drives the states, likewise.
+    fn add_drives(&mut self, alloc: Global) -> Result<bool, Memory> {
+        if self.add_inputs(alloc)? {
+            self.add_rests(alloc)
+        } else {
+            Ok(false)
+        }
+    }
+
     /// Adds the columns of all states, likewise.
     fn add_columns(&mut self, alloc: Global) -> Result<bool, Memory> {
         for j in 0..self.states {
@@ -238,12 +282,10 @@ impl Linear {
     /// Adds where the states start, likewise.
     fn add_starts(&mut self, starts: &[Interval]) -> Result<bool, Memory> {
         for start in starts {
-            match (
-                floor_at(start.lo, self.scale),
-                ceil_at(start.hi, self.scale),
-            ) {
-                (Some(lo), Some(hi)) => self.starts.push(Ends { lo, hi })?,
-                _ => return Ok(false),
+            let lo = floor_at(start.lo, self.scale);
+            match Ends::of(lo, ceil_at(start.hi, self.scale)) {
+                Some(ends) => self.starts.push(ends)?,
+                None => return Ok(false),
             }
         }
         Ok(true)
@@ -284,12 +326,11 @@ impl Linear {
         let rests = greatest(None, &self.rests);
         let driven = greatest_driven(rests, variables, &self.coefs, &self.spans);
         self.scale = scale_of(driven, starts);
-        Ok(
-            self.add_columns(alloc)?
-                && self.add_inputs(alloc)?
-                && self.add_rests(alloc)?
-                && self.add_starts(starts)?,
-        )
+        if self.add_columns(alloc)? && self.add_drives(alloc)? {
+            self.add_starts(starts)
+        } else {
+            Ok(false)
+        }
     }
 
     /// A step of so many inputs and states of which nothing is known yet.
@@ -308,22 +349,41 @@ impl Linear {
         }
     }
 
-    /// Takes coefficients and rests in these units of the states.
-    fn measure(&mut self, units: &[u32]) -> Option<()> {
-        self.spared = if units.is_empty() { 0 } else { SPARED_BITS };
+    /// By which power of two the coefficient at a place is greater in these units of the states.
+    fn shift_at(&self, units: &[u32], place: usize) -> i32 {
         let variables = self.inputs.saturating_add(self.states);
-        for (place, coef) in self.coefs.iter_mut().enumerate() {
-            let own = unit_at(units, place.checked_div(variables)?);
-            let by = match place.checked_rem(variables)?.checked_sub(self.inputs) {
-                Some(j) => own.saturating_sub(unit_at(units, j)),
-                None => own,
-            };
-            *coef = moved(*coef, by)?;
+        let own = unit_at(units, place.checked_div(variables).unwrap_or(0));
+        let j = place.checked_rem(variables).unwrap_or(0);
+        if j < self.inputs {
+            own
+        } else {
+            own.saturating_sub(unit_at(units, j.saturating_sub(self.inputs)))
         }
-        for (k, rest) in self.rests.iter_mut().enumerate() {
-            *rest = moved_interval(*rest, unit_at(units, k))?;
+    }
+
+    /// Takes the coefficients in these units of the states. Whether they have few enough bits.
+    fn measure_coefs(&mut self, units: &[u32]) -> bool {
+        let mut fits = true;
+        for place in 0..self.coefs.len() {
+            let by = self.shift_at(units, place);
+            fits = fits && move_coef(&mut self.coefs, place, by);
         }
-        Some(())
+        fits
+    }
+
+    /// Takes the rests so, likewise.
+    fn measure_rests(&mut self, units: &[u32]) -> bool {
+        let mut fits = true;
+        for k in 0..self.rests.len() {
+            fits = fits && move_rest(&mut self.rests, k, unit_at(units, k));
+        }
+        fits
+    }
+
+    /// Takes coefficients and rests so, likewise.
+    fn measure(&mut self, units: &[u32]) -> bool {
+        self.spared = if units.is_empty() { 0 } else { SPARED_BITS };
+        self.measure_coefs(units) && self.measure_rests(units)
     }
 
     /// Fills in what a transition does, from these starts. Whether its numbers have few enough bits.
@@ -337,7 +397,11 @@ impl Linear {
     ) -> Result<bool, Memory> {
         self.add_next(t, side)?;
         self.add_spans(t, side)?;
-        Ok(self.measure(units).is_some() && self.add_wholes(alloc, starts)?)
+        if self.measure(units) {
+            self.add_wholes(alloc, starts)
+        } else {
+            Ok(false)
+        }
     }
 
     /// The step of a transition in these units of the states, from these starts in them, if its numbers have few enough
@@ -359,7 +423,10 @@ impl Linear {
 
     /// Entry `j` of a template's image: what the template is of the next states, as a template of the states.
     fn image_entry(&self, template: &[i128], j: usize) -> Option<i128> {
-        rounded(products(template, self.columns.get(j)?)?)
+        match self.columns.get(j) {
+            Some(column) => rounded(products(template, column)),
+            None => None,
+        }
     }
 
     /// A template's image.
@@ -376,11 +443,13 @@ impl Linear {
 
     /// Entry `j` of a template's image, if it is one of a filter that stands: 2^28 has left any.
     fn small_entry(&self, template: &[i128], j: usize) -> Option<i128> {
-        let entry = self.image_entry(template, j)?;
-        if entry.unsigned_abs() >> (PLACES + 28) == 0 {
-            Some(entry)
-        } else {
-            None
+        match self.image_entry(template, j) {
+            Some(entry) => if entry.unsigned_abs() >> (PLACES + 28) == 0 {
+                Some(entry)
+            } else {
+                None
+            },
+            None => None,
         }
     }
 
@@ -398,12 +467,11 @@ impl Linear {
 
     /// What drives a template.
     pub(crate) fn drive(&self, template: &[i128]) -> Option<Ends> {
-        let mut sum = Ends { lo: 0, hi: 0 };
+        let mut sum = Some(Ends { lo: 0, hi: 0 });
         for drive in &self.drives {
-            let times = floor_shift(products(template, &drive.coefs)?, PLACES);
-            sum = sum.plus(times, drive.lo, drive.hi)?;
+            sum = drive.added_to(sum, products(template, &drive.coefs));
         }
-        sum.rounded()
+        rounded_ends(sum)
     }
 
     /// Where the states start, state by state; none where nothing has to reach that.
@@ -413,32 +481,74 @@ impl Linear {
 
     /// Where a template starts.
     pub(crate) fn start_of(&self, template: &[i128]) -> Option<Ends> {
-        let mut sum = Ends { lo: 0, hi: 0 };
-        for (times, start) in template.iter().zip(&self.starts) {
-            sum = sum.plus(*times, start.lo, start.hi)?;
+        let mut sum = Some(Ends { lo: 0, hi: 0 });
+        for k in 0..self.starts.len() {
+            sum = self.starts[k].added_to(sum, whole_at(template, k));
         }
-        sum.rounded()
+        rounded_ends(sum)
     }
 }
 
-/// A product with an entry of a template to the nearest unit.
-fn rounded(total: i128) -> Option<i128> {
-    Some(floor_shift(total.checked_add(HALF)?, PLACES))
+/// A product with an entry of a template to the nearest unit, if it is there.
+fn rounded(total: Option<i128>) -> Option<i128> {
+    match sum(total, Some(HALF)) {
+        Some(total) => Some(floor_shift(total, PLACES)),
+        None => None,
+    }
 }
 
 /// With the product of an entry and a coefficient.
-fn plus_product(total: i128, r: i128, c: i128) -> Option<i128> {
+fn plus_product(total: Option<i128>, r: i128, c: i128) -> Option<i128> {
     if r == 0 || c == 0 {
-        return Some(total);
+        total
+    } else {
+        sum(total, r.checked_mul(c))
     }
-    total.checked_add(r.checked_mul(c)?)
 }
 
 /// The sum of the products of a template and coefficients.
 fn products(template: &[i128], coefs: &[i128]) -> Option<i128> {
-    let mut total: i128 = 0;
+    let mut total = Some(0);
     for (r, c) in template.iter().zip(coefs) {
-        total = plus_product(total, *r, *c)?;
+        total = plus_product(total, *r, *c);
     }
-    Some(total)
+    total
+}
+
+/// Takes a coefficient times `2^by`. Whether it has few enough bits then.
+fn move_coef(coefs: &mut Vec<Dyadic>, place: usize, by: i32) -> bool {
+    match coefs.get_mut(place) {
+        Some(slot) => move_dyadic(slot, by),
+        None => false,
+    }
+}
+
+/// Takes a dyadic times `2^by`, likewise.
+fn move_dyadic(slot: &mut Dyadic, by: i32) -> bool {
+    match moved(*slot, by) {
+        Some(own) => {
+            *slot = own;
+            true
+        }
+        None => false,
+    }
+}
+
+/// Takes a rest times `2^by`, likewise.
+fn move_rest(rests: &mut Vec<Interval>, k: usize, by: i32) -> bool {
+    match rests.get_mut(k) {
+        Some(slot) => move_interval(slot, by),
+        None => false,
+    }
+}
+
+/// Takes an interval times `2^by`, likewise.
+fn move_interval(slot: &mut Interval, by: i32) -> bool {
+    match moved_interval(*slot, by) {
+        Some(own) => {
+            *slot = own;
+            true
+        }
+        None => false,
+    }
 }

@@ -11,9 +11,9 @@ use crate::float::{
     HALF_TURN, angle_of, count_to_float, greater_of, power_of_two, size_of, to_float, turn_by,
     whole_below, whole_near,
 };
-use crate::linear::Linear;
+use crate::linear::{Drive, Ends, Linear};
 use crate::templates::Templates;
-use crate::whole::PLACES;
+use crate::whole::{PLACES, both};
 use fx_num::Memory;
 use std::alloc::Global;
 use std::num::saturating_f64_to_usize;
@@ -52,6 +52,19 @@ struct Started {
     point: Complex,
     radius: f64,
     steps: usize,
+}
+
+impl Started {
+    /// With where a state starts, which comes to the plane by this entry of the vector.
+    fn plus(self, x: Complex, start: Ends) -> Started {
+        let lo = to_float(start.lo);
+        let hi = to_float(start.hi);
+        Started {
+            point: self.point.plus(x.scaled((lo + hi) * 0.5)),
+            radius: self.radius + x.size() * (hi - lo) * 0.5,
+            steps: self.steps,
+        }
+    }
 }
 
 /// The matrix whose vectors are the left eigenvectors, in coordinates in which each state is about as wide.
@@ -94,13 +107,11 @@ fn is_near(value: Complex, poles: &[Pole]) -> bool {
     false
 }
 
-/// A vector in the states' own coordinates.
-fn unscaled(alloc: Global, vector: &[Complex], widths: &[f64]) -> Result<Vec<Complex>, Memory> {
-    let mut own = Vec::new(alloc);
-    for (x, width) in vector.iter().zip(widths) {
-        own.push(x.scaled(1.0 / *width))?;
+/// Takes a vector in the states' own coordinates.
+fn unscale(vector: &mut Vec<Complex>, widths: &[f64]) {
+    for k in 0..vector.len() {
+        vector[k] = vector[k].scaled(1.0 / float_at(widths, k));
     }
-    Ok(own)
 }
 
 /// A step in coordinates in which each state is about as wide.
@@ -112,10 +123,16 @@ struct Coordinates<'a> {
 }
 
 impl Coordinates<'_> {
-    /// A pole of this value.
-    fn pole_at(self, alloc: Global, value: Complex) -> Result<Pole, Memory> {
-        let scaled = eigenvector(alloc, self.matrix, value)?;
-        let vector = unscaled(alloc, &scaled, self.widths)?;
+    /// The left eigenvector over the states of this value.
+    fn vector_at(self, alloc: Global, value: Complex) -> Result<Vec<Complex>, Memory> {
+        let mut vector = eigenvector(alloc, self.matrix, value)?;
+        unscale(&mut vector, self.widths);
+        Ok(vector)
+    }
+
+    /// Adds the pole of this value.
+    fn push_pole(self, alloc: Global, value: Complex, poles: &mut Vec<Pole>) -> Result<(), Memory> {
+        let vector = self.vector_at(alloc, value)?;
         let drives = collect_drives(alloc, self.linear, value, &vector)?;
         let angle = if value.im > 1.0e-10 {
             angle_of(value)
@@ -123,23 +140,35 @@ impl Coordinates<'_> {
             0.0
         };
         let start = start_of(self.linear, &vector, drives.middle, steps_of(angle));
-        Ok(Pole {
+        poles.push(Pole {
             value,
             size: value.size(),
             angle,
             vector,
             drives,
             start,
-        })
+        })?;
+        Ok(())
     }
 
     /// Adds the pole of a value, if it fades slowly and isn't there.
     fn add_pole(self, alloc: Global, value: Complex, poles: &mut Vec<Pole>) -> Result<(), Memory> {
         let size = value.size();
         if value.im >= -1.0e-10 && size >= LEAST && size < 1.0 && !is_near(value, poles) {
-            poles.push(self.pole_at(alloc, value)?)?;
+            self.push_pole(alloc, value, poles)
+        } else {
+            Ok(())
         }
-        Ok(())
+    }
+
+    /// The poles that fade slowly.
+    fn poles(self, alloc: Global) -> Result<Vec<Pole>, Memory> {
+        let values = eigenvalues(alloc, self.matrix)?;
+        let mut poles = Vec::new(alloc);
+        for value in &values {
+            self.add_pole(alloc, *value, &mut poles)?;
+        }
+        Ok(poles)
     }
 }
 
@@ -147,17 +176,12 @@ impl Coordinates<'_> {
 pub fn poles_of(alloc: Global, linear: &Linear, widths: &[i128]) -> Result<Vec<Pole>, Memory> {
     let widths = floats_of(alloc, widths)?;
     let matrix = matrix_of(alloc, linear, &widths)?;
-    let values = eigenvalues(alloc, &matrix)?;
     let coordinates = Coordinates {
         linear,
         matrix: &matrix,
         widths: &widths,
     };
-    let mut poles = Vec::new(alloc);
-    for value in &values {
-        coordinates.add_pole(alloc, *value, &mut poles)?;
-    }
-    Ok(poles)
+    coordinates.poles(alloc)
 }
 
 impl Pole {
@@ -232,6 +256,15 @@ impl Driven {
         }
     }
 
+    /// Adds all that comes of what drives this eigenvector's plane.
+    fn add_drive(&mut self, vector: &[Complex], pole: Complex, drive: &Drive) {
+        let own = driven_by(vector, &drive.coefs);
+        let lo = to_float(drive.lo);
+        let hi = to_float(drive.hi);
+        self.middle = self.middle.plus(own.scaled((lo + hi) * 0.5));
+        self.add_times(pole, own.scaled((hi - lo) * 0.5));
+    }
+
     /// How far to each side of its middle the plane reaches in a direction.
     fn reach(&self, turn: Complex) -> f64 {
         let mut total = 0.0;
@@ -244,9 +277,10 @@ impl Driven {
 
 /// How much of a drive comes to a vector.
 fn driven_by(vector: &[Complex], coefs: &[i128]) -> Complex {
+    let unit = power_of_two(-(PLACES as i32));
     let mut total = Complex::real(0.0);
-    for (x, coef) in vector.iter().zip(coefs) {
-        total = total.plus(x.scaled(to_float(*coef) * power_of_two(-(PLACES as i32))));
+    for k in 0..coefs.len() {
+        total = total.plus(entry(vector, k).scaled(to_float(coefs[k]) * unit));
     }
     total
 }
@@ -264,20 +298,16 @@ fn steps_of(angle: f64) -> usize {
 
 /// Where the plane of this eigenvector starts, if that is to be reached.
 fn start_of(linear: &Linear, vector: &[Complex], middle: Complex, steps: usize) -> Started {
-    let mut point = middle.scaled(-1.0);
-    let mut radius = 0.0;
-    for (x, start) in vector.iter().zip(linear.starts()) {
-        let lo = to_float(start.lo);
-        let hi = to_float(start.hi);
-        point = point.plus(x.scaled((lo + hi) * 0.5));
-        radius = radius + x.size() * (hi - lo) * 0.5;
+    let starts = linear.starts();
+    let mut started = Started {
+        point: middle.scaled(-1.0),
+        radius: 0.0,
+        steps: if starts.is_empty() { 0 } else { steps },
+    };
+    for k in 0..starts.len() {
+        started = started.plus(entry(vector, k), starts[k]);
     }
-    let is_some = linear.starts().len() > 0;
-    Started {
-        point,
-        radius,
-        steps: if is_some { steps } else { 0 },
-    }
+    started
 }
 
 /// All that drives the plane of a pole with this eigenvector.
@@ -292,11 +322,7 @@ fn collect_drives(
         middle: Complex::real(0.0),
     };
     for drive in linear.drives() {
-        let own = driven_by(vector, &drive.coefs);
-        let lo = to_float(drive.lo);
-        let hi = to_float(drive.hi);
-        all.middle = all.middle.plus(own.scaled((lo + hi) * 0.5));
-        all.add_times(pole, own.scaled((hi - lo) * 0.5));
+        all.add_drive(vector, pole, drive);
     }
     let left = Complex::real(1.0).minus(pole);
     all.middle = all.middle.over(left);
@@ -317,49 +343,86 @@ fn scale_of(widest: f64, width: f64) -> f64 {
     scale
 }
 
-/// Puts a template of a plane behind the others. None where its numbers have too many bits.
+/// Puts the entries of a template of a plane behind the others. False where they have too many bits.
+fn push_entries(
+    templates: &mut Templates,
+    vector: &[Complex],
+    turn: Complex,
+    scale: f64,
+) -> Result<bool, Memory> {
+    for k in 0..templates.states {
+        let own = turn.times(entry(vector, k)).re;
+        match whole_near(own * scale, PLACES as i32) {
+            Some(x) => templates.entries.push(x)?,
+            None => return Ok(false),
+        }
+    }
+    Ok(true)
+}
+
+/// Puts how far it reaches behind the others, likewise.
+fn push_reach(templates: &mut Templates, least: f64, most: f64) -> Result<bool, Memory> {
+    match both(whole_near(least, 0), whole_near(most, 0)) {
+        Some((lo, hi)) => {
+            templates.push_reach((lo.saturating_sub(1), hi.saturating_add(1)))?;
+            Ok(true)
+        }
+        None => Ok(false),
+    }
+}
+
+/// Puts a template of a plane behind the others, likewise.
 fn push_direction(
     templates: &mut Templates,
     pole: &Pole,
     turn: Complex,
     widest: f64,
-) -> Result<Option<()>, Memory> {
+) -> Result<bool, Memory> {
     let (least, most) = pole.reach(turn);
     let scale = scale_of(widest, most - least);
-    for k in 0..templates.states {
-        let own = turn.times(entry(&pole.vector, k)).re;
-        match whole_near(own * scale, PLACES as i32) {
-            Some(x) => templates.entries.push(x)?,
-            None => return Ok(None),
-        }
-    }
-    let lo = whole_near(least * scale, 0);
-    let hi = whole_near(most * scale, 0);
-    match (lo, hi) {
-        (Some(lo), Some(hi)) => {
-            templates.push_reach((lo.saturating_sub(1), hi.saturating_add(1)))?;
-            Ok(Some(()))
-        }
-        _ => Ok(None),
+    if push_entries(templates, &pole.vector, turn, scale)? {
+        push_reach(templates, least * scale, most * scale)
+    } else {
+        Ok(false)
     }
 }
 
-/// Puts the templates of a pole behind the others.
+/// Puts so many templates of a pole behind the others, likewise.
 fn push_plane(
     templates: &mut Templates,
     pole: &Pole,
     count: usize,
     widest: f64,
-) -> Result<Option<()>, Memory> {
+) -> Result<bool, Memory> {
     let step = turn_by(HALF_TURN / count_to_float(count));
     let mut turn = Complex::real(1.0);
     for _direction in 0..count {
-        if push_direction(templates, pole, turn, widest)?.is_none() {
-            return Ok(None);
+        if !push_direction(templates, pole, turn, widest)? {
+            return Ok(false);
         }
         turn = turn.times(step);
     }
-    Ok(Some(()))
+    Ok(true)
+}
+
+/// Puts the templates of all poles behind the others. False where a plane would need too many, or numbers have too many
+/// bits.
+fn push_planes(
+    templates: &mut Templates,
+    poles: &[Pole],
+    part: f64,
+    widest: f64,
+) -> Result<bool, Memory> {
+    for pole in poles {
+        let is_there = match pole.directions(part) {
+            Some(count) => push_plane(templates, pole, count, widest)?,
+            None => false,
+        };
+        if !is_there {
+            return Ok(false);
+        }
+    }
+    Ok(true)
 }
 
 /// The templates over so many states of all poles, so many that a step loses at most such a part of what it shrinks by,
@@ -372,14 +435,9 @@ pub fn pole_templates(
     widest: i128,
 ) -> Result<Option<Templates>, Memory> {
     let mut templates = Templates::new(alloc, states);
-    for pole in poles {
-        let Some(count) = pole.directions(part) else {
-            return Ok(None);
-        };
-        let widest = to_float(widest);
-        if push_plane(&mut templates, pole, count, widest)?.is_none() {
-            return Ok(None);
-        }
+    if push_planes(&mut templates, poles, part, to_float(widest))? {
+        Ok(Some(templates))
+    } else {
+        Ok(None)
     }
-    Ok(Some(templates))
 }

@@ -1,7 +1,7 @@
 //! Templates that are proposed, with shares, and how far each is guessed to reach.
 
 use crate::templates::Templates;
-use crate::whole::{PLACES, floor_at};
+use crate::whole::{PLACES, floor_at, put, whole_at};
 use fx_cert::Share;
 use fx_num::{Dyadic, Memory, bits, floor_shift, lowest};
 use std::alloc::Global;
@@ -48,7 +48,7 @@ impl Pool {
 
     /// How much wider its bound may get.
     pub fn room(&self, i: usize) -> i128 {
-        self.rooms.get(i).copied().unwrap_or(0)
+        whole_at(&self.rooms, i)
     }
 
     /// What template `i` costs: how wide its bound gets.
@@ -58,22 +58,14 @@ impl Pool {
 
     /// Gives template `i` another room.
     pub fn put_room(&mut self, i: usize, room: i128) {
-        if let Some(slot) = self.rooms.get_mut(i) {
-            *slot = room;
-        }
+        put(&mut self.rooms, i, room);
     }
 
     /// Gives template `i` what its bound came to in the place of a guess.
     pub fn put_reach(&mut self, i: usize, (lo, hi): (i128, i128)) {
-        if let Some(slot) = self.templates.lo.get_mut(i) {
-            *slot = lo;
-        }
-        if let Some(slot) = self.templates.hi.get_mut(i) {
-            *slot = hi;
-        }
-        if let Some(slot) = self.rooms.get_mut(i) {
-            *slot = 0;
-        }
+        put(&mut self.templates.lo, i, lo);
+        put(&mut self.templates.hi, i, hi);
+        put(&mut self.rooms, i, 0);
     }
 
     /// The shares of template `i`.
@@ -161,7 +153,7 @@ impl Pool {
         room: i128,
     ) -> Result<usize, Memory> {
         for j in 0..self.templates.states {
-            let entry = template.get(j).copied().unwrap_or(0);
+            let entry = whole_at(template, j);
             let places = coef_places(self.templates.width(j), widest, self.spared);
             self.push_coef(rounded(entry, places))?;
         }

@@ -27,10 +27,10 @@ pub fn moved(d: Dyadic, by: i32) -> Option<Dyadic> {
 
 /// An interval times `2^by`, likewise.
 pub fn moved_interval(x: Interval, by: i32) -> Option<Interval> {
-    Some(Interval {
-        lo: moved(x.lo, by)?,
-        hi: moved(x.hi, by)?,
-    })
+    match (moved(x.lo, by), moved(x.hi, by)) {
+        (Some(lo), Some(hi)) => Some(Interval { lo, hi }),
+        _ => None,
+    }
 }
 
 /// A unit as an exponent, 0 where none is given.
@@ -58,15 +58,44 @@ fn column(alloc: Global, linear: &Linear, j: usize) -> Result<Vec<f64>, Memory> 
     Ok(column)
 }
 
+/// How much of each state comes to each next state.
+fn columns_of(alloc: Global, linear: &Linear) -> Result<Vec<Vec<f64>>, Memory> {
+    let mut columns = Vec::new(alloc);
+    for j in 0..linear.states {
+        columns.push(column(alloc, linear, linear.inputs.saturating_add(j))?)?;
+    }
+    Ok(columns)
+}
+
+/// Adds so many times a column.
+fn add_column(sum: &mut [f64], column: &[f64], times: f64) {
+    for k in 0..sum.len() {
+        sum[k] = sum[k] + entry(column, k) * times;
+    }
+}
+
 /// What a step makes of the states, whose columns these are.
 fn image(alloc: Global, columns: &[Vec<f64>], states: &[f64]) -> Result<Vec<f64>, Memory> {
     let mut image = vec![in alloc; 0.0_f64; columns.len()]?;
-    for (column, x) in columns.iter().zip(states) {
-        for (own, coef) in image.iter_mut().zip(column) {
-            *own = *own + *coef * *x;
-        }
+    for j in 0..columns.len() {
+        add_column(&mut image, columns[j].as_slice(), entry(states, j));
     }
     Ok(image)
+}
+
+/// An entry of a row, 0 where it has none.
+fn entry(row: &[f64], i: usize) -> f64 {
+    match row.get(i) {
+        Some(x) => *x,
+        None => 0.0,
+    }
+}
+
+/// Adds the sizes of what comes to the states.
+fn add_sizes(widths: &mut [f64], states: &[f64]) {
+    for k in 0..widths.len() {
+        widths[k] = widths[k] + size_of(entry(states, k));
+    }
 }
 
 /// Adds how far what comes to the states once, each with such a size, brings each of them.
@@ -78,35 +107,53 @@ fn add_response(
 ) -> Result<(), Memory> {
     let mut now = first;
     for _step in 0..STEPS {
-        for (width, x) in widths.iter_mut().zip(&now) {
-            *width = *width + size_of(*x);
-        }
+        add_sizes(widths, &now);
         now = image(alloc, columns, &now)?;
+    }
+    Ok(())
+}
+
+/// What an input that reaches so far from 0 brings to each next state at once.
+fn scaled_column(alloc: Global, linear: &Linear, j: usize, size: f64) -> Result<Vec<f64>, Memory> {
+    let mut own = column(alloc, linear, j)?;
+    for k in 0..own.len() {
+        own[k] = own[k] * size;
+    }
+    Ok(own)
+}
+
+/// What the rest of next state `k` brings to each at once.
+fn rest_column(alloc: Global, linear: &Linear, k: usize, size: f64) -> Result<Vec<f64>, Memory> {
+    let mut own = vec![in alloc; 0.0_f64; linear.states]?;
+    if let Some(slot) = own.get_mut(k) {
+        *slot = size;
+    }
+    Ok(own)
+}
+
+/// Adds how far the inputs and the rests bring each state.
+fn add_responses(
+    alloc: Global,
+    linear: &Linear,
+    columns: &[Vec<f64>],
+    widths: &mut [f64],
+) -> Result<(), Memory> {
+    for j in 0..linear.spans.len() {
+        let first = scaled_column(alloc, linear, j, size_of_interval(linear.spans[j]))?;
+        add_response(alloc, columns, first, widths)?;
+    }
+    for k in 0..linear.rests.len() {
+        let first = rest_column(alloc, linear, k, size_of_interval(linear.rests[k]))?;
+        add_response(alloc, columns, first, widths)?;
     }
     Ok(())
 }
 
 /// How far the inputs and the rests bring each state, about.
 fn widths_of(alloc: Global, linear: &Linear) -> Result<Vec<f64>, Memory> {
-    let mut columns = Vec::new(alloc);
-    for j in 0..linear.states {
-        columns.push(column(alloc, linear, linear.inputs.saturating_add(j))?)?;
-    }
+    let columns = columns_of(alloc, linear)?;
     let mut widths = vec![in alloc; 0.0_f64; linear.states]?;
-    for (j, span) in linear.spans.iter().enumerate() {
-        let mut first = column(alloc, linear, j)?;
-        for x in first.iter_mut() {
-            *x = *x * size_of_interval(*span);
-        }
-        add_response(alloc, &columns, first, &mut widths)?;
-    }
-    for (k, rest) in linear.rests.iter().enumerate() {
-        let mut first = vec![in alloc; 0.0_f64; linear.states]?;
-        if let Some(slot) = first.get_mut(k) {
-            *slot = size_of_interval(*rest);
-        }
-        add_response(alloc, &columns, first, &mut widths)?;
-    }
+    add_responses(alloc, linear, &columns, &mut widths)?;
     Ok(widths)
 }
 
@@ -144,8 +191,8 @@ pub fn in_units(
     units: &[u32],
 ) -> Result<Option<Vec<Interval>>, Memory> {
     let mut list = Vec::new(alloc);
-    for (k, x) in intervals.iter().enumerate() {
-        match moved_interval(*x, unit_at(units, k)) {
+    for k in 0..intervals.len() {
+        match moved_interval(intervals[k], unit_at(units, k)) {
             Some(own) => list.push(own)?,
             None => return Ok(None),
         }

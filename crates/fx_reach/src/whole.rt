@@ -55,6 +55,42 @@ pub fn quotient(a: i128, b: i128) -> Option<i128> {
     if b > 0 { Some(a.div_euclid(b)) } else { None }
 }
 
+/// Both numbers, if both are there.
+pub(crate) fn both(a: Option<i128>, b: Option<i128>) -> Option<(i128, i128)> {
+    match (a, b) {
+        (Some(a), Some(b)) => Some((a, b)),
+        _ => None,
+    }
+}
+
+/// The sum of two numbers, if both are there.
+pub fn sum(a: Option<i128>, b: Option<i128>) -> Option<i128> {
+    match (a, b) {
+        (Some(a), Some(b)) => a.checked_add(b),
+        _ => None,
+    }
+}
+
+/// What a number has more than another, if it is there.
+pub fn difference(a: Option<i128>, b: i128) -> Option<i128> {
+    match a {
+        Some(a) => a.checked_sub(b),
+        None => None,
+    }
+}
+
+/// An entry of a list, 0 where it has none.
+pub(crate) fn whole_at(list: &[i128], i: usize) -> i128 {
+    list.get(i).copied().unwrap_or(0)
+}
+
+/// Puts an entry of a list.
+pub(crate) fn put(list: &mut Vec<i128>, i: usize, x: i128) {
+    if let Some(slot) = list.get_mut(i) {
+        *slot = x;
+    }
+}
+
 /// The greater magnitude, where zero's is the least.
 pub fn greater(a: Option<i32>, b: Option<i32>) -> Option<i32> {
     match a {
@@ -104,6 +140,14 @@ pub const SHARE_BITS: u32 = 42;
 /// How many binary places a share has at most.
 pub const SHARE_PLACES: u32 = 44;
 
+/// The quotient with `e` binary places that is nearest to the half of `twice / d`, where `twice` has one place more.
+fn nearest_quotient(twice: i128, d: i128, e: u32) -> Option<Dyadic> {
+    match quotient(twice, d) {
+        Some(m) => Some(lowest(floor_shift(m.saturating_add(1), 1), e)),
+        None => None,
+    }
+}
+
 /// `n / d` as a share, where both have few bits and `d` is above zero.
 fn short_share(n: i128, d: i128) -> Option<Dyadic> {
     let top = i64::from(bits(n.unsigned_abs()));
@@ -112,9 +156,10 @@ fn short_share(n: i128, d: i128) -> Option<Dyadic> {
         .saturating_add(bottom)
         .saturating_sub(top)
         .clamp(0, i64::from(SHARE_PLACES)) as u32;
-    let twice = left_fits(n, e.saturating_add(1))?;
-    let m = quotient(twice, d)?.checked_add(1)?;
-    Some(lowest(floor_shift(m, 1), e))
+    match left_fits(n, e.saturating_add(1)) {
+        Some(twice) => nearest_quotient(twice, d, e),
+        None => None,
+    }
 }
 
 /// `n / d` as a share, unless one of them is 0. Of numbers that are
@@ -125,10 +170,10 @@ pub fn share_of(n: i128, d: i128) -> Option<Dyadic> {
     let numerator = floor_shift(n, over);
     let denominator = floor_shift(d, over);
     if numerator == 0 || denominator == 0 {
-        return None;
+        None
+    } else if denominator < 0 {
+        short_share(numerator.saturating_neg(), denominator.saturating_neg())
+    } else {
+        short_share(numerator, denominator)
     }
-    if denominator < 0 {
-        return short_share(numerator.checked_neg()?, denominator.checked_neg()?);
-    }
-    short_share(numerator, denominator)
 }
