@@ -6,7 +6,7 @@ use fx_cert::{Share, Template};
 use fx_expr::Items;
 use fx_interval::Interval;
 use fx_num::{Dyadic, Memory, dsub};
-use fx_reach::{PLACES, Pool, ceil_at, floor_at, magnitude, plus_scaled, times};
+use fx_reach::{PLACES, Pool, ceil_at, floor_at, magnitude, times, with_scaled};
 use std::alloc::Global;
 
 /// How many bits the widest bound has.
@@ -30,6 +30,13 @@ pub struct Combination<'a> {
     pub spans: &'a [Interval],
     /// What is added.
     pub rest: Interval,
+}
+
+impl Combination<'_> {
+    /// The coefficient of state `k`.
+    fn state_coef(&self, k: usize) -> Option<Dyadic> {
+        self.coefs.get(self.spans.len().saturating_add(k)).copied()
+    }
 }
 
 /// With so many places the widest bound has the wanted bits.
@@ -57,11 +64,7 @@ pub fn pool_of(alloc: Global, templates: &[Template], states: usize) -> Result<P
 fn state_part(alloc: Global, c: &Combination<'_>, states: usize) -> Result<Vec<i128>, Memory> {
     let mut template = Vec::new(alloc);
     for k in 0..states {
-        let coef = c
-            .coefs
-            .get(c.spans.len().saturating_add(k))
-            .copied()
-            .unwrap_or(Dyadic::zero());
+        let coef = c.state_coef(k).unwrap_or(Dyadic::zero());
         template.push(floor_at(coef, PLACES as i32).unwrap_or(0))?;
     }
     Ok(template)
@@ -69,46 +72,76 @@ fn state_part(alloc: Global, c: &Combination<'_>, states: usize) -> Result<Vec<i
 
 /// With the inputs by their own intervals.
 fn with_inputs(c: &Combination<'_>) -> Option<Interval> {
-    let mut total = c.rest;
-    for (coef, span) in c.coefs.iter().zip(c.spans) {
-        total = plus_scaled(total, *coef, *span)?;
+    let mut total = Some(c.rest);
+    for j in 0..c.spans.len().min(c.coefs.len()) {
+        total = with_scaled(total, Some(c.coefs[j]), Some(c.spans[j]));
     }
-    Some(total)
+    total
+}
+
+/// Where template `i` lies.
+fn bound_at(templates: &[Template], i: usize) -> Option<Interval> {
+    match templates.get(i) {
+        Some(template) => Some(template.bound),
+        None => None,
+    }
 }
 
 /// With the shares.
-fn with_shares(first: Interval, templates: &[Template], shares: &[Share]) -> Option<Interval> {
+fn with_shares(
+    first: Option<Interval>,
+    templates: &[Template],
+    shares: &[Share],
+) -> Option<Interval> {
     let mut total = first;
     for share in shares {
-        total = plus_scaled(
-            total,
-            share.times,
-            templates.get(share.template as usize)?.bound,
-        )?;
+        let bound = bound_at(templates, share.template as usize);
+        total = with_scaled(total, Some(share.times), bound);
     }
-    Some(total)
+    total
 }
 
 /// Coefficient `k` of a template.
 fn coef_at(templates: &[Template], i: u32, k: usize) -> Option<Dyadic> {
-    templates.get(i as usize)?.coefs.as_slice().get(k).copied()
+    match templates.get(i as usize) {
+        Some(template) => template.coefs.as_slice().get(k).copied(),
+        None => None,
+    }
+}
+
+/// What a share takes of the coefficient of state `k`.
+fn taken_of(templates: &[Template], share: Share, k: usize) -> Option<Dyadic> {
+    match coef_at(templates, share.template, k) {
+        Some(coef) => times(share.times, coef),
+        None => None,
+    }
+}
+
+/// What is left of a coefficient, if both are there.
+fn less(coef: Option<Dyadic>, taken: Option<Dyadic>) -> Option<Dyadic> {
+    match (coef, taken) {
+        (Some(coef), Some(taken)) => dsub(coef, taken),
+        _ => None,
+    }
 }
 
 /// What the shares leave of the coefficient of state `k`.
-fn left_of(coef: Dyadic, templates: &[Template], shares: &[Share], k: usize) -> Option<Dyadic> {
+fn left_of(
+    coef: Option<Dyadic>,
+    templates: &[Template],
+    shares: &[Share],
+    k: usize,
+) -> Option<Dyadic> {
     let mut left = coef;
     for share in shares {
-        left = dsub(
-            left,
-            times(share.times, coef_at(templates, share.template, k)?)?,
-        )?;
+        left = less(left, taken_of(templates, *share, k));
     }
-    Some(left)
+    left
 }
 
 /// With the states by their own templates.
 fn with_states(
-    first: Interval,
+    first: Option<Interval>,
     c: &Combination<'_>,
     templates: &[Template],
     shares: &[Share],
@@ -116,11 +149,10 @@ fn with_states(
 ) -> Option<Interval> {
     let mut total = first;
     for k in 0..states {
-        let coef = *c.coefs.get(c.spans.len().checked_add(k)?)?;
-        let left = left_of(coef, templates, shares, k)?;
-        total = plus_scaled(total, left, templates.get(k)?.bound)?;
+        let left = left_of(c.state_coef(k), templates, shares, k);
+        total = with_scaled(total, left, bound_at(templates, k));
     }
-    Some(total)
+    total
 }
 
 /// Where a combination lies by these shares.
@@ -130,8 +162,8 @@ fn bound_of(
     shares: &[Share],
     states: usize,
 ) -> Option<Interval> {
-    let first = with_inputs(c)?;
-    let second = with_shares(first, templates, shares)?;
+    let first = with_inputs(c);
+    let second = with_shares(first, templates, shares);
     with_states(second, c, templates, shares, states)
 }
 

@@ -47,19 +47,45 @@ pub struct Exchanged {
     pub shares: Vec<Share>,
 }
 
-/// A template in coordinates in which each state costs 1.
+/// A unit of a template's entries.
+fn entry_unit() -> f64 {
+    power_of_two(-(PLACES as i32))
+}
+
+/// Puts a template in coordinates in which each state costs 1, over a divisor, behind others.
+fn push_scaled(
+    entries: &mut Vec<f64>,
+    template: &[i128],
+    costs: &[f64],
+    divisor: f64,
+) -> Result<(), Memory> {
+    let unit = entry_unit();
+    for j in 0..template.len().min(costs.len()) {
+        entries.push(to_float(template[j]) * unit * (costs[j] / divisor))?;
+    }
+    Ok(())
+}
+
+/// A template in coordinates in which each state costs 1, over a divisor.
 fn scaled(
     alloc: Global,
     template: &[i128],
     costs: &[f64],
     divisor: f64,
 ) -> Result<Vec<f64>, Memory> {
-    let unit = power_of_two(-(PLACES as i32));
     let mut scaled = Vec::new(alloc);
-    for (entry, cost) in template.iter().zip(costs) {
-        scaled.push(to_float(*entry) * unit * (*cost / divisor))?;
-    }
+    push_scaled(&mut scaled, template, costs, divisor)?;
     Ok(scaled)
+}
+
+/// What a template costs on the unit templates.
+fn scaled_size(template: &[i128], costs: &[f64]) -> f64 {
+    let unit = entry_unit();
+    let mut total = 0.0;
+    for j in 0..template.len().min(costs.len()) {
+        total = total + size_of(to_float(template[j]) * unit * costs[j]);
+    }
+    total
 }
 
 /// What the templates of a pool cost.
@@ -71,16 +97,20 @@ fn costs_of(alloc: Global, pool: &Pool) -> Result<Vec<f64>, Memory> {
     Ok(costs)
 }
 
+/// The entries of the templates of a pool in coordinates in which each costs 1.
+fn entries_of(alloc: Global, pool: &Pool, costs: &[f64]) -> Result<Vec<f64>, Memory> {
+    let mut entries = Vec::new(alloc);
+    for i in 0..costs.len() {
+        push_scaled(&mut entries, pool.templates.template(i), costs, costs[i])?;
+    }
+    Ok(entries)
+}
+
 impl<'a> ScaledTemplates<'a> {
     /// The templates of a pool.
     pub fn of(alloc: Global, pool: &'a Pool) -> Result<ScaledTemplates<'a>, Memory> {
         let costs = costs_of(alloc, pool)?;
-        let mut entries = Vec::new(alloc);
-        for (i, cost) in costs.iter().enumerate() {
-            for entry in &scaled(alloc, pool.templates.template(i), &costs, *cost)? {
-                entries.push(*entry)?;
-            }
-        }
+        let entries = entries_of(alloc, pool, &costs)?;
         Ok(ScaledTemplates {
             pool,
             costs,
@@ -144,13 +174,14 @@ fn leaving(times: &[f64], column: &[f64]) -> Option<usize> {
     let mut best = None;
     let mut least = 0.0;
     let mut pivot = 0.0;
-    for (a, (time, own)) in times.iter().zip(column).enumerate() {
-        if *own > LEAST_PIVOT {
-            let ratio = *time / *own;
-            if best.is_none() || ratio < least - SLACK || (ratio <= least + SLACK && *own > pivot) {
+    for a in 0..times.len() {
+        let own = entry_of(column, a);
+        if own > LEAST_PIVOT {
+            let ratio = times[a] / own;
+            if best.is_none() || ratio < least - SLACK || (ratio <= least + SLACK && own > pivot) {
                 best = Some(a);
                 least = ratio;
-                pivot = *own;
+                pivot = own;
             }
         }
     }
@@ -166,13 +197,18 @@ fn image(alloc: Global, rows: &[Vec<f64>], vector: &[f64]) -> Result<Vec<f64>, M
     Ok(image)
 }
 
+/// Adds a row.
+fn add_row(sums: &mut [f64], row: &[f64]) {
+    for k in 0..sums.len() {
+        sums[k] = sums[k] + entry_of(row, k);
+    }
+}
+
 /// Sums of a matrix's columns.
 fn column_sums(alloc: Global, rows: &[Vec<f64>]) -> Result<Vec<f64>, Memory> {
     let mut sums = vec![in alloc; 0.0_f64; rows.len()]?;
     for row in rows {
-        for (sum, x) in sums.iter_mut().zip(row) {
-            *sum = *sum + *x;
-        }
+        add_row(&mut sums, row);
     }
     Ok(sums)
 }
@@ -210,8 +246,8 @@ impl Basis {
     /// The unit templates, with the signs of a template.
     fn units(alloc: Global, template: &[f64]) -> Result<Basis, Memory> {
         let mut templates = Vec::new(alloc);
-        for (j, x) in template.iter().enumerate() {
-            templates.push((j, if *x < 0.0 { -1.0 } else { 1.0 }))?;
+        for j in 0..template.len() {
+            templates.push((j, if template[j] < 0.0 { -1.0 } else { 1.0 }))?;
         }
         Ok(Basis { templates })
     }
@@ -269,26 +305,108 @@ impl Basis {
         asked: Asked,
     ) -> Result<Option<(usize, (usize, f64))>, Memory> {
         let worth = column_sums(alloc, inverse)?;
-        let Some(entering) = best_gain(templates, &worth) else {
-            return Ok(None);
-        };
+        match best_gain(templates, &worth) {
+            Some(entering) => entering.exchanged(alloc, templates, inverse, goal, asked),
+            None => Ok(None),
+        }
+    }
+
+    /// Puts a template at a place of the basis, and makes its inverse anew. False where there is none: then both stay.
+    fn exchange_at(
+        &mut self,
+        alloc: Global,
+        templates: &ScaledTemplates<'_>,
+        inverse: &mut Vec<Vec<f64>>,
+        place: usize,
+        template: (usize, f64),
+    ) -> Result<bool, Memory> {
+        let before = self.put(place, template);
+        match self.inverse(alloc, templates)? {
+            Some(next) => {
+                *inverse = next;
+                Ok(true)
+            }
+            None => {
+                self.put(place, before);
+                Ok(false)
+            }
+        }
+    }
+
+    /// One exchange, if something is gained. Whether one was made.
+    fn improve(
+        &mut self,
+        alloc: Global,
+        templates: &ScaledTemplates<'_>,
+        inverse: &mut Vec<Vec<f64>>,
+        goal: &[f64],
+        asked: Asked,
+    ) -> Result<bool, Memory> {
+        match self.next(alloc, templates, inverse, goal, asked)? {
+            Some((place, template)) => self.exchange_at(alloc, templates, inverse, place, template),
+            None => Ok(false),
+        }
+    }
+}
+
+impl Entering {
+    /// The exchange that takes it into the basis with this inverse, likewise.
+    fn exchanged(
+        self,
+        alloc: Global,
+        templates: &ScaledTemplates<'_>,
+        inverse: &[Vec<f64>],
+        goal: &[f64],
+        asked: Asked,
+    ) -> Result<Option<(usize, (usize, f64))>, Memory> {
         let mut times = image(alloc, inverse, goal)?;
         not_negative(&mut times);
-        if asked.is_decided(total_size(&times), entering) {
-            return Ok(None);
+        if asked.is_decided(total_size(&times), self) {
+            Ok(None)
+        } else {
+            self.placed(alloc, templates, inverse, &times)
         }
-        let mut column = image(alloc, inverse, templates.template(entering.template))?;
-        for x in column.iter_mut() {
-            *x = *x * entering.sign();
+    }
+
+    /// The place that it takes of a basis whose templates are taken so often.
+    fn placed(
+        self,
+        alloc: Global,
+        templates: &ScaledTemplates<'_>,
+        inverse: &[Vec<f64>],
+        times: &[f64],
+    ) -> Result<Option<(usize, (usize, f64))>, Memory> {
+        let mut column = image(alloc, inverse, templates.template(self.template))?;
+        for k in 0..column.len() {
+            column[k] = column[k] * self.sign();
         }
-        match leaving(&times, &column) {
-            Some(place) => Ok(Some((place, (entering.template, entering.sign())))),
+        match leaving(times, &column) {
+            Some(place) => Ok(Some((place, (self.template, self.sign())))),
             None => Ok(None),
         }
     }
 }
 
-/// Exchanges templates of a basis, as long as something is gained and the budget allows, and gives its inverse.
+/// Exchanges templates of a basis with this inverse, as long as something is gained and the budget allows.
+fn improve_all(
+    alloc: Global,
+    templates: &ScaledTemplates<'_>,
+    basis: &mut Basis,
+    inverse: &mut Vec<Vec<f64>>,
+    goal: &[f64],
+    asked: Asked,
+    budget: &mut Budget,
+) -> Result<(), Memory> {
+    let work = step_work(templates);
+    for _turn in 0..templates.states().saturating_mul(8).saturating_add(16) {
+        if !(budget.take(work) && basis.improve(alloc, templates, inverse, goal, asked)?) {
+            return Ok(());
+        }
+    }
+    Ok(())
+}
+
+/// Exchanges templates of a basis likewise, and gives its inverse.
 fn improve(
     alloc: Global,
     templates: &ScaledTemplates<'_>,
@@ -297,27 +415,14 @@ fn improve(
     asked: Asked,
     budget: &mut Budget,
 ) -> Result<Option<Vec<Vec<f64>>>, Memory> {
-    let Some(mut inverse) = basis.inverse(alloc, templates)? else {
-        return Ok(None);
-    };
-    let work = step_work(templates);
-    for _turn in 0..templates.states().saturating_mul(8).saturating_add(16) {
-        if !budget.take(work) {
-            return Ok(Some(inverse));
+    match basis.inverse(alloc, templates)? {
+        Some(first) => {
+            let mut inverse = first;
+            improve_all(alloc, templates, basis, &mut inverse, goal, asked, budget)?;
+            Ok(Some(inverse))
         }
-        let Some((place, template)) = basis.next(alloc, templates, &inverse, goal, asked)? else {
-            return Ok(Some(inverse));
-        };
-        let before = basis.put(place, template);
-        match basis.inverse(alloc, templates)? {
-            Some(next) => inverse = next,
-            None => {
-                basis.put(place, before);
-                return Ok(Some(inverse));
-            }
-        }
+        None => Ok(None),
     }
-    Ok(Some(inverse))
 }
 
 /// Puts a share where its template stands in the order of templates.
@@ -353,10 +458,13 @@ fn share_of(templates: &ScaledTemplates<'_>, i: usize, times: f64, part: f64) ->
     if i < templates.states() {
         return None;
     }
-    Some(Share {
-        template: u32::try_from(i).ok()?,
-        times: dyadic_near(times, SHARE_BITS, places_of(part))?,
-    })
+    match (
+        u32::try_from(i),
+        dyadic_near(times, SHARE_BITS, places_of(part)),
+    ) {
+        (Ok(template), Some(times)) => Some(Share { template, times }),
+        _ => None,
+    }
 }
 
 /// The shares of a basis whose templates are taken so often.
@@ -368,9 +476,10 @@ fn shares_of(
     cost: f64,
 ) -> Result<Vec<Share>, Memory> {
     let mut shares = Vec::new(alloc);
-    for ((i, sign), time) in basis.templates.iter().zip(times) {
-        let part = entry_of(&templates.costs, *i) / cost;
-        if let Some(share) = share_of(templates, *i, *time * *sign / part, part) {
+    for a in 0..basis.templates.len().min(times.len()) {
+        let (i, sign) = basis.templates[a];
+        let part = entry_of(&templates.costs, i) / cost;
+        if let Some(share) = share_of(templates, i, times[a] * sign / part, part) {
             insert(&mut shares, share)?;
         }
     }
@@ -404,32 +513,52 @@ pub fn exchange(
     template: &[i128],
     budget: &mut Budget,
 ) -> Result<Exchanged, Memory> {
-    let none = Exchanged {
+    let cost = scaled_size(template, &scaled_templates.costs);
+    if cost > 0.0 {
+        let goal = scaled(alloc, template, &scaled_templates.costs, cost)?;
+        exchange_goal(alloc, scaled_templates, &goal, cost, budget)
+    } else {
+        Ok(nothing(alloc))
+    }
+}
+
+/// A template that is taken apart to nothing.
+fn nothing(alloc: Global) -> Exchanged {
+    Exchanged {
         cost: 0,
         shares: Vec::new(alloc),
-    };
-    let first = scaled(alloc, template, &scaled_templates.costs, 1.0)?;
-    let cost = total_size(&first);
-    if !(cost > 0.0) {
-        return Ok(none);
     }
-    let goal = scaled(alloc, template, &scaled_templates.costs, cost)?;
-    let mut basis = Basis::units(alloc, &goal)?;
-    let Some(inverse) = improve(
-        alloc,
-        scaled_templates,
-        &mut basis,
-        &goal,
-        Asked::Least,
-        budget,
-    )?
-    else {
-        return Ok(none);
-    };
-    let times = image(alloc, &inverse, &goal)?;
+}
+
+/// Takes a template apart of which so many parts are the goal, likewise.
+fn exchange_goal(
+    alloc: Global,
+    templates: &ScaledTemplates<'_>,
+    goal: &[f64],
+    cost: f64,
+    budget: &mut Budget,
+) -> Result<Exchanged, Memory> {
+    let mut basis = Basis::units(alloc, goal)?;
+    match improve(alloc, templates, &mut basis, goal, Asked::Least, budget)? {
+        Some(inverse) => take_by_basis(alloc, templates, &basis, &inverse, goal, cost),
+        None => Ok(nothing(alloc)),
+    }
+}
+
+/// Takes a goal apart by a basis with this inverse.
+fn take_by_basis(
+    alloc: Global,
+    templates: &ScaledTemplates<'_>,
+    basis: &Basis,
+    inverse: &[Vec<f64>],
+    goal: &[f64],
+    cost: f64,
+) -> Result<Exchanged, Memory> {
+    let times = image(alloc, inverse, goal)?;
+    let shares = shares_of(alloc, templates, basis, &times, cost)?;
     Ok(Exchanged {
         cost: whole_near(total_size(&times) * cost, 0).unwrap_or(i128::MAX),
-        shares: shares_of(alloc, scaled_templates, &basis, &times, cost)?,
+        shares,
     })
 }
 
@@ -442,17 +571,31 @@ pub fn costs_at_most(
     limit: i128,
     budget: &mut Budget,
 ) -> Result<bool, Memory> {
-    let first = scaled(alloc, template, &scaled_templates.costs, 1.0)?;
-    let cost = total_size(&first);
-    if !(cost > 0.0) {
-        return Ok(true);
+    let cost = scaled_size(template, &scaled_templates.costs);
+    if cost > 0.0 {
+        let goal = scaled(alloc, template, &scaled_templates.costs, cost)?;
+        let most = to_float(limit) / cost;
+        goal_costs_at_most(alloc, scaled_templates, &goal, most, budget)
+    } else {
+        Ok(true)
     }
-    let goal = scaled(alloc, template, &scaled_templates.costs, cost)?;
-    let mut basis = Basis::units(alloc, &goal)?;
-    let most = to_float(limit) / cost;
+}
+
+/// Whether a goal costs at most so much of what it does on the unit templates, likewise.
+fn goal_costs_at_most(
+    alloc: Global,
+    templates: &ScaledTemplates<'_>,
+    goal: &[f64],
+    most: f64,
+    budget: &mut Budget,
+) -> Result<bool, Memory> {
+    let mut basis = Basis::units(alloc, goal)?;
     let asked = Asked::AtMost(most);
-    match improve(alloc, scaled_templates, &mut basis, &goal, asked, budget)? {
-        Some(inverse) => Ok(total_size(&image(alloc, &inverse, &goal)?) <= most),
+    match improve(alloc, templates, &mut basis, goal, asked, budget)? {
+        Some(inverse) => {
+            let times = image(alloc, &inverse, goal)?;
+            Ok(total_size(&times) <= most)
+        }
         None => Ok(false),
     }
 }

@@ -59,34 +59,53 @@ pub fn take_row(own: &mut [f64], other: &[f64], factor: f64) {
 
 /// Takes a row from all others, so that their entries in its column are 0.
 fn take_from_others(rows: &mut Vec<Vec<f64>>, own: &[f64], column: usize) {
-    for (i, row) in rows.iter_mut().enumerate() {
-        let factor = entry_of(row, column);
+    for i in 0..rows.len() {
+        let factor = entry_of(&rows[i], column);
         if i != column && factor != 0.0 {
-            take_row(row, own, factor);
+            take_row(&mut rows[i], own, factor);
         }
     }
 }
 
-/// Brings a column to a column of the unit matrix. Whether its pivot was great enough.
-fn clear_column(alloc: Global, rows: &mut Vec<Vec<f64>>, column: usize) -> Result<bool, Memory> {
-    let best = pivot(rows, column, column);
-    let divisor = entry(rows, best, column);
-    if !(size_of(divisor) > LEAST_PIVOT) {
-        return Ok(false);
+/// Puts the row that stood in the place of a column's pivot in the place that this left, without that column.
+fn put_other(rows: &mut Vec<Vec<f64>>, place: usize, other: Vec<f64>, column: usize) {
+    let factor = entry_of(&other, column);
+    let mut other = other;
+    if let Some(own) = rows.get(column) {
+        take_row(&mut other, own, factor);
     }
+    let _empty = exchange_row(rows, place, other);
+}
+
+/// Brings a column to a column of the unit matrix, by the row of its pivot.
+fn clear_by(alloc: Global, rows: &mut Vec<Vec<f64>>, column: usize, best: usize, divisor: f64) {
     let mut own = exchange_row(rows, best, Vec::new(alloc));
     divide(&mut own, divisor);
     take_from_others(rows, &own, column);
     let other = exchange_row(rows, column, own);
     if best != column {
-        let factor = entry_of(&other, column);
-        let mut other = other;
-        if let Some(own) = rows.get(column) {
-            take_row(&mut other, own, factor);
-        }
-        let _empty = exchange_row(rows, best, other);
+        put_other(rows, best, other, column);
     }
-    Ok(true)
+}
+
+/// Brings a column to a column of the unit matrix. Whether its pivot was great enough.
+fn clear_column(alloc: Global, rows: &mut Vec<Vec<f64>>, column: usize) -> bool {
+    let best = pivot(rows, column, column);
+    let divisor = entry(rows, best, column);
+    let is_great = size_of(divisor) > LEAST_PIVOT;
+    if is_great {
+        clear_by(alloc, rows, column, best, divisor);
+    }
+    is_great
+}
+
+/// Brings all columns there, likewise.
+fn clear_columns(alloc: Global, rows: &mut Vec<Vec<f64>>) -> bool {
+    let mut is_clear = true;
+    for column in 0..rows.len() {
+        is_clear = is_clear && clear_column(alloc, rows, column);
+    }
+    is_clear
 }
 
 /// The last columns of all rows.
@@ -102,10 +121,10 @@ fn right_part(alloc: Global, rows: &[Vec<f64>]) -> Result<Vec<Vec<f64>>, Memory>
 /// The inverse of a matrix, beside whose rows those of the unit matrix stand. None where there is next to none.
 pub fn inverse(alloc: Global, rows: Vec<Vec<f64>>) -> Result<Option<Vec<Vec<f64>>>, Memory> {
     let mut rows = rows;
-    for column in 0..rows.len() {
-        if !clear_column(alloc, &mut rows, column)? {
-            return Ok(None);
-        }
+    if clear_columns(alloc, &mut rows) {
+        let right = right_part(alloc, &rows)?;
+        Ok(Some(right))
+    } else {
+        Ok(None)
     }
-    Ok(Some(right_part(alloc, &rows)?))
 }
