@@ -5,6 +5,7 @@ use fx_exchange::{Budget, ScaledTemplates, exchange};
 use fx_num::{Dyadic, Memory, TEMPLATE_LIMIT};
 use fx_reach::{Ahead, Chain, Costs, Linear, Pool, find_closing, room, times_of, wanted_length};
 use std::alloc::Global;
+use std::mem::replace;
 
 /// How many templates a certificate has at most, as lists count.
 const TEMPLATES: usize = TEMPLATE_LIMIT as usize;
@@ -96,6 +97,37 @@ fn room_at(own: i128, time: usize, length: usize, has_gaps: bool) -> i128 {
     own.saturating_sub(used)
 }
 
+/// Takes shares out of a list of them.
+pub fn taken(alloc: Global, shares: &mut Vec<Vec<Share>>, i: usize) -> Vec<Share> {
+    match shares.get_mut(i) {
+        Some(slot) => replace(slot, Vec::new(alloc)),
+        None => Vec::new(alloc),
+    }
+}
+
+impl End {
+    /// The image that is taken apart.
+    fn image(self, chains: &[Chain]) -> &[i128] {
+        match chains.get(self.chain) {
+            Some(chain) => chain.ahead.templates.template(self.time),
+            None => &[],
+        }
+    }
+}
+
+/// Puts the shares that an exchange finds for a template behind others.
+pub fn put_exchanged(
+    alloc: Global,
+    scaled: &ScaledTemplates<'_>,
+    template: &[i128],
+    shares: &mut Vec<Vec<Share>>,
+    budget: &mut Budget,
+) -> Result<(), Memory> {
+    let found = exchange(alloc, scaled, template, budget)?;
+    shares.push(found.shares)?;
+    Ok(())
+}
+
 impl<'a> Building<'a> {
     /// No template yet.
     fn new(alloc: Global, linear: &Linear, costs: &'a Costs) -> Building<'a> {
@@ -152,12 +184,13 @@ impl<'a> Building<'a> {
             None => self.put_template(&chain.ahead, 0, room_at(own, 0, length, has_gaps))?,
         };
         let mut before: usize = 0;
-        for time in times.iter().skip(1) {
-            let room = room_at(own, *time, length, has_gaps);
-            let template = self.put_template(&chain.ahead, *time, room)?;
-            self.join(number, last, before, template, *time)?;
+        for at in 1..times.len() {
+            let time = times[at];
+            let room = room_at(own, time, length, has_gaps);
+            let template = self.put_template(&chain.ahead, time, room)?;
+            self.join(number, last, before, template, time)?;
             last = template;
-            before = *time;
+            before = time;
         }
         Ok(last)
     }
@@ -173,11 +206,17 @@ impl<'a> Building<'a> {
     ) -> Result<(), Memory> {
         let image = time.saturating_add(1);
         if image == next_time {
-            return self.pool.put_share(self.alloc, template, once(next));
+            self.pool.put_share(self.alloc, template, once(next))
+        } else {
+            self.put_end(chain, image, template)
         }
+    }
+
+    /// Has a template wait for an exchange of its image, which has this time.
+    fn put_end(&mut self, chain: usize, time: usize, template: usize) -> Result<(), Memory> {
         self.ends.push(End {
             chain,
-            time: image,
+            time,
             template,
         })?;
         Ok(())
@@ -192,26 +231,22 @@ impl<'a> Building<'a> {
         template: usize,
         time: usize,
     ) -> Result<(), Memory> {
-        let Some(times) = closing else {
-            self.ends.push(End {
-                chain,
-                time,
-                template,
-            })?;
-            return Ok(());
-        };
+        match closing {
+            Some(times) => self.close_on_itself(template, times),
+            None => self.put_end(chain, time, template),
+        }
+    }
+
+    /// Shows a template by itself, so many times, if that isn't 0.
+    fn close_on_itself(&mut self, template: usize, times: Dyadic) -> Result<(), Memory> {
         if times.m == 0 {
             return Ok(());
         }
-        let own = u32::try_from(template).unwrap_or(u32::MAX);
-        self.pool.put_share(
-            self.alloc,
-            template,
-            Share {
-                template: own,
-                times,
-            },
-        )
+        let own = Share {
+            template: u32::try_from(template).unwrap_or(u32::MAX),
+            times,
+        };
+        self.pool.put_share(self.alloc, template, own)
     }
 
     /// Adds a chain of at most so many templates. False where growing times don't suffice.
@@ -224,15 +259,28 @@ impl<'a> Building<'a> {
         is_growing: bool,
     ) -> Result<bool, Memory> {
         let closing = find_closing(&chain.ahead, length.saturating_sub(1), self.costs);
-        let kept = times_of(self.alloc, length, closing.is_some(), most, is_growing)?;
-        let Some(times) = kept else {
-            return Ok(false);
-        };
-        let last = self.put_templates(number, chain, length, &times)?;
+        match times_of(self.alloc, length, closing.is_some(), most, is_growing)? {
+            Some(times) => {
+                self.put_times(number, chain, length, &times, closing)?;
+                Ok(true)
+            }
+            None => Ok(false),
+        }
+    }
+
+    /// Adds the templates of a chain at these times, and closes it so, if that is at its wanted length.
+    fn put_times(
+        &mut self,
+        number: usize,
+        chain: &Chain,
+        length: usize,
+        times: &[usize],
+        closing: Option<Dyadic>,
+    ) -> Result<(), Memory> {
+        let last = self.put_templates(number, chain, length, times)?;
         let image = times.last().copied().unwrap_or(0).saturating_add(1);
         let closing = if image == length { closing } else { None };
-        self.close(number, closing, last, image)?;
-        Ok(true)
+        self.close(number, closing, last, image)
     }
 
     /// Adds all chains, likewise.
@@ -243,8 +291,9 @@ impl<'a> Building<'a> {
         most: usize,
         is_growing: bool,
     ) -> Result<bool, Memory> {
-        for (number, (chain, length)) in chains.iter().zip(lengths).enumerate() {
-            if !self.put_chain(number, chain, *length, most, is_growing)? {
+        for number in 0..chains.len().min(lengths.len()) {
+            let length = lengths[number];
+            if !self.put_chain(number, &chains[number], length, most, is_growing)? {
                 return Ok(false);
             }
         }
@@ -256,22 +305,26 @@ impl<'a> Building<'a> {
         let scaled = ScaledTemplates::of(self.alloc, &self.pool)?;
         let mut shares = Vec::new(self.alloc);
         for end in &self.ends {
-            let template = match chains.get(end.chain) {
-                Some(chain) => chain.ahead.templates.template(end.time),
-                None => &[],
-            };
-            shares.push(exchange(self.alloc, &scaled, template, budget)?.shares)?;
+            put_exchanged(self.alloc, &scaled, end.image(chains), &mut shares, budget)?;
         }
         Ok(shares)
     }
 
     /// Gives the templates that waited what exchanges find for them.
     fn exchange_ends(&mut self, chains: &[Chain], budget: &mut Budget) -> Result<(), Memory> {
-        let shares = self.exchanged(chains, budget)?;
-        for (end, own) in self.ends.iter().zip(shares) {
-            self.pool.put_shares(end.template, own);
+        let mut shares = self.exchanged(chains, budget)?;
+        for i in 0..self.ends.len() {
+            let own = taken(self.alloc, &mut shares, i);
+            self.put_end_shares(i, own);
         }
         Ok(())
+    }
+
+    /// Gives the template that waits at place `i` these shares.
+    fn put_end_shares(&mut self, i: usize, shares: Vec<Share>) {
+        if let Some(end) = self.ends.get(i) {
+            self.pool.put_shares(end.template, shares);
+        }
     }
 
     /// Puts in the unit templates and all chains, as long as there is place. False where growing times don't suffice.

@@ -10,41 +10,72 @@ use std::alloc::Global;
 /// The chains that begin with the unit templates. None where one isn't bounded.
 pub fn unit_chains(alloc: Global, linear: &Linear) -> Result<Option<Vec<Chain>>, Memory> {
     let mut chains = Vec::new(alloc);
-    for k in 0..linear.states {
-        let template = unit_vector(alloc, linear.states, k, 1 << PLACES)?;
-        match look_ahead(alloc, linear, &template)? {
-            Some(ahead) => chains.push(Chain {
-                ahead,
-                state: Some(k),
-            })?,
-            None => return Ok(None),
-        }
+    if put_unit_chains(alloc, linear, &mut chains)? {
+        Ok(Some(chains))
+    } else {
+        Ok(None)
     }
-    Ok(Some(chains))
 }
 
-/// What a node takes of the states, in these units. None where it is nothing.
+/// Puts them behind others. False where one isn't bounded.
+fn put_unit_chains(
+    alloc: Global,
+    linear: &Linear,
+    chains: &mut Vec<Chain>,
+) -> Result<bool, Memory> {
+    for k in 0..linear.states {
+        let template = unit_vector(alloc, linear.states, k, 1 << PLACES)?;
+        if !put_chain(alloc, linear, &template, k, chains)? {
+            return Ok(false);
+        }
+    }
+    Ok(true)
+}
+
+/// Puts the chain of a state's unit template behind others, likewise.
+fn put_chain(
+    alloc: Global,
+    linear: &Linear,
+    template: &[i128],
+    k: usize,
+    chains: &mut Vec<Chain>,
+) -> Result<bool, Memory> {
+    match look_ahead(alloc, linear, template)? {
+        Some(ahead) => {
+            chains.push(Chain {
+                ahead,
+                state: Some(k),
+            })?;
+            Ok(true)
+        }
+        None => Ok(false),
+    }
+}
+
+/// What a node takes of the states, in these units.
 fn state_part(
     alloc: Global,
     t: &Transition,
     node: u32,
     units: &[u32],
-) -> Result<Option<Vec<i128>>, Memory> {
+) -> Result<Vec<i128>, Memory> {
     let variables = t.inputs.saturating_add(t.states);
     let mut template = Vec::new(alloc);
-    let mut is_some = false;
     for k in 0..t.states {
         let coef = affine_coef(&t.lines, variables, node, t.inputs.saturating_add(k));
         let places = (PLACES as i32).saturating_sub(unit_at(units, k as usize));
-        let entry = floor_at(coef, places).unwrap_or(0);
-        is_some = is_some || entry != 0;
-        template.push(entry)?;
+        template.push(floor_at(coef, places).unwrap_or(0))?;
     }
-    if is_some {
-        Ok(Some(template))
-    } else {
-        Ok(None)
+    Ok(template)
+}
+
+/// Whether a template takes anything.
+fn takes_some(template: &[i128]) -> bool {
+    let mut is_some = false;
+    for entry in template {
+        is_some = is_some || *entry != 0;
     }
+    is_some
 }
 
 /// Whether a template begins a chain, or is the image of what begins one.
@@ -76,6 +107,43 @@ fn widths_of(alloc: Global, chains: &[Chain]) -> Result<Vec<i128>, Memory> {
     Ok(widths)
 }
 
+/// Adds a chain that begins with no unit template, if it is bounded and worth its place.
+fn add_chain(
+    alloc: Global,
+    linear: &Linear,
+    template: &[i128],
+    widths: &[i128],
+    chains: &mut Vec<Chain>,
+) -> Result<(), Memory> {
+    match look_ahead(alloc, linear, template)? {
+        Some(ahead) => {
+            if is_worth(&ahead, template, widths) {
+                chains.push(Chain { ahead, state: None })?;
+            }
+            Ok(())
+        }
+        None => Ok(()),
+    }
+}
+
+/// Adds the chain that begins with what a node takes of the states, if that is something new.
+fn add_output_chain(
+    alloc: Global,
+    t: &Transition,
+    linear: &Linear,
+    node: u32,
+    units: &[u32],
+    widths: &[i128],
+    chains: &mut Vec<Chain>,
+) -> Result<(), Memory> {
+    let template = state_part(alloc, t, node, units)?;
+    if takes_some(&template) && !is_known(chains, &template) {
+        add_chain(alloc, linear, &template, widths, chains)
+    } else {
+        Ok(())
+    }
+}
+
 /// Adds the chains that begin with what the outputs take of the states.
 pub fn add_output_chains(
     alloc: Global,
@@ -86,15 +154,7 @@ pub fn add_output_chains(
 ) -> Result<(), Memory> {
     let widths = widths_of(alloc, chains)?;
     for node in t.next.saturating_sub(t.outputs)..t.next {
-        if let Some(template) = state_part(alloc, t, node, units)? {
-            if !is_known(chains, &template) {
-                if let Some(ahead) = look_ahead(alloc, linear, &template)? {
-                    if is_worth(&ahead, &template, &widths) {
-                        chains.push(Chain { ahead, state: None })?;
-                    }
-                }
-            }
-        }
+        add_output_chain(alloc, t, linear, node, units, &widths, chains)?;
     }
     Ok(())
 }

@@ -1,7 +1,8 @@
 //! Ends of a bound as whole numbers.
 
+use fx_interval::Interval;
 use fx_num::Memory;
-use fx_reach::moved_down;
+use fx_reach::{ceil_at, floor_at, moved_down};
 use std::alloc::Global;
 
 /// Ends of a bound, whole at the power of two of its template.
@@ -12,6 +13,19 @@ pub struct Ends {
 }
 
 impl Ends {
+    /// These, if both are there.
+    pub fn of(lo: Option<i128>, hi: Option<i128>) -> Option<Ends> {
+        match (lo, hi) {
+            (Some(lo), Some(hi)) => Some(Ends { lo, hi }),
+            _ => None,
+        }
+    }
+
+    /// Those of an interval with so many binary places, outward.
+    pub fn around(x: Interval, places: i32) -> Option<Ends> {
+        Ends::of(floor_at(x.lo, places), ceil_at(x.hi, places))
+    }
+
     /// How wide they are.
     pub fn width(self) -> i128 {
         self.hi.saturating_sub(self.lo)
@@ -40,21 +54,29 @@ impl Ends {
 
     /// With so many times others.
     pub fn plus(self, times: i128, other: Ends) -> Option<Ends> {
-        let a = times.checked_mul(other.lo)?;
-        let b = times.checked_mul(other.hi)?;
-        Some(Ends {
-            lo: self.lo.checked_add(a.min(b))?,
-            hi: self.hi.checked_add(a.max(b))?,
-        })
+        match (times.checked_mul(other.lo), times.checked_mul(other.hi)) {
+            (Some(a), Some(b)) => Ends::of(
+                self.lo.checked_add(a.min(b)),
+                self.hi.checked_add(a.max(b)),
+            ),
+            _ => None,
+        }
     }
 
     /// Wider by `2^-k` of the width on both sides.
     pub fn widened(self, k: i32) -> Option<Ends> {
-        let more = moved_down(self.width(), k)?.checked_add(1)?;
-        Some(Ends {
-            lo: self.lo.checked_sub(more)?,
-            hi: self.hi.checked_add(more)?,
-        })
+        match plus(moved_down(self.width(), k), 1) {
+            Some(more) => Ends::of(self.lo.checked_sub(more), self.hi.checked_add(more)),
+            None => None,
+        }
+    }
+}
+
+/// The sum of a number, if it is there, and another.
+pub fn plus(a: Option<i128>, b: i128) -> Option<i128> {
+    match a {
+        Some(a) => a.checked_add(b),
+        None => None,
     }
 }
 

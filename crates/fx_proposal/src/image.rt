@@ -3,84 +3,76 @@
 use crate::ends::Ends;
 use fx_interval::Interval;
 use fx_num::{Dyadic, dadd, dsub};
-use fx_reach::{Linear, Pool, ceil_at, floor_at, plus_scaled, times};
+use fx_reach::{Linear, Pool, times, with_scaled};
 
 /// With so many times a coefficient.
-fn plus_product(total: Dyadic, own: Dyadic, coef: Dyadic) -> Option<Dyadic> {
+fn plus_product(total: Option<Dyadic>, own: Dyadic, coef: Dyadic) -> Option<Dyadic> {
     if own.m == 0 {
-        return Some(total);
+        return total;
     }
-    dadd(total, times(own, coef)?)
+    match (total, times(own, coef)) {
+        (Some(total), Some(product)) => dadd(total, product),
+        _ => None,
+    }
 }
 
 /// Without so many times a coefficient.
-fn less_product(total: Dyadic, own: Dyadic, coef: Dyadic) -> Option<Dyadic> {
+fn less_product(total: Option<Dyadic>, own: Dyadic, coef: Dyadic) -> Option<Dyadic> {
     if coef.m == 0 {
-        return Some(total);
+        return total;
     }
-    dsub(total, times(own, coef)?)
+    match (total, times(own, coef)) {
+        (Some(total), Some(product)) => dsub(total, product),
+        _ => None,
+    }
 }
 
 /// Coefficient `j` of what template `i` is of the next states.
 fn image_coef(linear: &Linear, pool: &Pool, i: usize, j: usize) -> Option<Dyadic> {
-    let mut total = Dyadic::zero();
+    let mut total = Some(Dyadic::zero());
     for k in 0..linear.states {
-        total = plus_product(total, pool.coef(i, k), linear.coef(k, j))?;
+        total = plus_product(total, pool.coef(i, k), linear.coef(k, j));
     }
-    Some(total)
+    total
 }
 
 /// What the rests of the next states add to template `i`.
 fn rests_of(linear: &Linear, pool: &Pool, i: usize) -> Option<Interval> {
-    let mut total = Interval::zero();
-    for (k, rest) in linear.rests.iter().enumerate() {
-        total = plus_scaled(total, pool.coef(i, k), *rest)?;
+    let mut total = Some(Interval::zero());
+    for k in 0..linear.rests.len() {
+        total = with_scaled(total, Some(pool.coef(i, k)), Some(linear.rests[k]));
     }
-    Some(total)
-}
-
-/// With what input `j` adds to template `i`.
-fn plus_span(
-    total: Interval,
-    linear: &Linear,
-    pool: &Pool,
-    i: usize,
-    j: usize,
-) -> Option<Interval> {
-    plus_scaled(
-        total,
-        image_coef(linear, pool, i, j)?,
-        *linear.spans.get(j)?,
-    )
+    total
 }
 
 /// What drives template `i`.
 pub fn drive_of(linear: &Linear, pool: &Pool, i: usize) -> Option<Interval> {
-    let mut total = rests_of(linear, pool, i)?;
+    let mut total = rests_of(linear, pool, i);
     for j in 0..linear.spans.len() {
-        total = plus_span(total, linear, pool, i, j)?;
+        let coef = image_coef(linear, pool, i, j);
+        total = with_scaled(total, coef, Some(linear.spans[j]));
     }
-    Some(total)
+    total
 }
 
 /// What the shares leave of template `i`'s image at state `j`.
 pub fn left_coef(linear: &Linear, pool: &Pool, i: usize, j: usize) -> Option<Dyadic> {
-    let mut left = image_coef(linear, pool, i, linear.inputs.checked_add(j)?)?;
+    let mut left = image_coef(linear, pool, i, linear.inputs.saturating_add(j));
     for share in pool.shares(i) {
         let coef = pool.coef(share.template as usize, j);
-        left = less_product(left, share.times, coef)?;
+        left = less_product(left, share.times, coef);
     }
-    Some(left)
+    left
 }
 
 /// Where the template is at the start.
 pub fn start_of(pool: &Pool, i: usize, starts: &[Interval], places: i32) -> Option<Ends> {
-    let mut total = Interval::zero();
-    for (k, start) in starts.iter().enumerate() {
-        total = plus_scaled(total, pool.coef(i, k), *start)?;
+    let mut total = Some(Interval::zero());
+    for k in 0..starts.len() {
+        total = with_scaled(total, Some(pool.coef(i, k)), Some(starts[k]));
     }
-    Some(Ends {
-        lo: floor_at(total.lo, places)?,
-        hi: ceil_at(total.hi, places)?,
-    })
+    match total {
+        Some(total) => Ends::around(total, places),
+        None => None,
+    }
 }

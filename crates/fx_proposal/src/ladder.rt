@@ -3,10 +3,10 @@
 //! A chain is followed only until what is left of it costs, on all templates that are there, at most its reach and its
 //! room: then an exchange takes the end apart. What a later chain closes on are the templates of the earlier ones too.
 
-use crate::build::{free_chains, once};
+use crate::build::{free_chains, once, put_exchanged, taken};
 use crate::rungs::Rung;
 use fx_cert::Share;
-use fx_exchange::{Budget, ScaledTemplates, costs_at_most, exchange};
+use fx_exchange::{Budget, ScaledTemplates, costs_at_most};
 use fx_num::{Memory, TEMPLATE_LIMIT};
 use fx_reach::{Ahead, Chain, Linear, PLACES, Pool, Templates, room_part, unit_cost};
 use std::alloc::Global;
@@ -43,6 +43,14 @@ pub struct Building<'a> {
     factors: Vec<i128>,
     /// How many templates still have a place.
     left: usize,
+}
+
+/// Whether a cost is at most so much, if it is there.
+fn is_at_most(cost: Option<i128>, limit: i128) -> bool {
+    match cost {
+        Some(cost) => cost <= limit,
+        None => false,
+    }
 }
 
 impl<'a> Building<'a> {
@@ -125,28 +133,31 @@ impl<'a> Building<'a> {
             .saturating_add(self.room(first, factor))
             .saturating_add(first >> 30);
         let template = ahead.templates.template(time);
-        if let Some(cost) = unit_cost(template, &self.costs) {
-            if cost <= limit {
-                return Ok(true);
-            }
+        if is_at_most(unit_cost(template, &self.costs), limit) {
+            Ok(true)
+        } else if self.pool.templates.len() == self.linear.states {
+            Ok(false)
+        } else {
+            costs_at_most(self.alloc, scaled, template, limit, budget)
         }
-        if self.pool.templates.len() == self.linear.states {
-            return Ok(false);
-        }
-        costs_at_most(self.alloc, scaled, template, limit, budget)
+    }
+
+    /// Whether the image of unit template `k` may take so much of state `j`: next to nothing, or another that follows
+    /// none.
+    fn may_take(&self, k: usize, j: usize, entry: i128) -> bool {
+        let size = room_part(
+            self.pool.templates.width(j),
+            entry.saturating_abs() >> 8,
+            1 << (PLACES - 8),
+        );
+        let follows = self.factors.get(j).copied().unwrap_or(1) != 1;
+        size <= self.pool.templates.width(k) >> 20 || !(j == k || follows)
     }
 
     /// Whether the image of a state's unit template takes, but for next to nothing, only other states that follow none.
     fn takes_others(&self, k: usize, image: &[i128]) -> bool {
-        let least = self.pool.templates.width(k) >> 20;
-        for (j, entry) in image.iter().enumerate() {
-            let size = room_part(
-                self.pool.templates.width(j),
-                entry.saturating_abs() >> 8,
-                1 << (PLACES - 8),
-            );
-            let follows = self.factors.get(j).copied().unwrap_or(1) != 1;
-            if size > least && (j == k || follows) {
+        for j in 0..image.len() {
+            if !self.may_take(k, j, image[j]) {
                 return false;
             }
         }
@@ -155,23 +166,35 @@ impl<'a> Building<'a> {
 
     /// Whether a unit template only follows others: then it gets twice the room, and no chain.
     fn is_follower(&self, chain: &Chain, k: usize, budget: &mut Budget) -> Result<bool, Memory> {
-        if !self.takes_others(k, chain.ahead.templates.template(1)) {
-            return Ok(false);
+        if self.takes_others(k, chain.ahead.templates.template(1)) {
+            self.needs_twice(&chain.ahead, budget)
+        } else {
+            Ok(false)
         }
+    }
+
+    /// Whether a chain can be closed behind its first template with twice the room, and not with the room.
+    fn needs_twice(&self, ahead: &Ahead, budget: &mut Budget) -> Result<bool, Memory> {
         let scaled = ScaledTemplates::of(self.alloc, &self.pool)?;
         Ok(
-            !self.closes(&scaled, &chain.ahead, 1, 1, budget)?
-                && self.closes(&scaled, &chain.ahead, 1, 2, budget)?,
+            !self.closes(&scaled, ahead, 1, 1, budget)?
+                && self.closes(&scaled, ahead, 1, 2, budget)?,
         )
+    }
+
+    /// Marks the unit template of a state, if it follows others.
+    fn try_follower(&mut self, chain: &Chain, k: usize, budget: &mut Budget) -> Result<(), Memory> {
+        if self.is_follower(chain, k, budget)? {
+            self.mark_follower(&chain.ahead, k);
+        }
+        Ok(())
     }
 
     /// Marks those that follow others.
     fn mark_followers(&mut self, chains: &[Chain], budget: &mut Budget) -> Result<(), Memory> {
         for chain in chains {
             if let Some(k) = chain.state {
-                if self.is_follower(chain, k, budget)? {
-                    self.mark_follower(&chain.ahead, k);
-                }
+                self.try_follower(chain, k, budget)?;
             }
         }
         Ok(())
@@ -218,14 +241,27 @@ impl<'a> Building<'a> {
         budget: &mut Budget,
     ) -> Result<Option<usize>, Memory> {
         let scaled = ScaledTemplates::of(self.alloc, &self.pool)?;
-        let Some(mut high) = self.doubled(&scaled, ahead, factor, budget)? else {
-            return Ok(None);
-        };
-        let mut low = high / 2;
+        match self.doubled(&scaled, ahead, factor, budget)? {
+            Some(power) => self.least(&scaled, ahead, power, factor, budget),
+            None => Ok(None),
+        }
+    }
+
+    /// The least one up to a power of two.
+    fn least(
+        &self,
+        scaled: &ScaledTemplates<'_>,
+        ahead: &Ahead,
+        power: usize,
+        factor: i128,
+        budget: &mut Budget,
+    ) -> Result<Option<usize>, Memory> {
+        let mut high = power;
+        let mut low = power / 2;
         for _turn in 0..11 {
             if high.saturating_sub(low) > 1 {
                 let middle = low.saturating_add(high) / 2;
-                if self.closes(&scaled, ahead, middle, factor, budget)? {
+                if self.closes(scaled, ahead, middle, factor, budget)? {
                     high = middle;
                 } else {
                     low = middle;
@@ -289,19 +325,24 @@ impl<'a> Building<'a> {
         } else {
             Some(1)
         };
-        let Some(length) = wanted else {
-            return Ok(false);
-        };
+        match wanted {
+            Some(length) => self.put_length(chain, length, factor),
+            None => Ok(false),
+        }
+    }
+
+    /// Adds a chain of so many templates, likewise.
+    fn put_length(&mut self, chain: &Chain, length: usize, factor: i128) -> Result<bool, Memory> {
         let more = length
             .saturating_sub(1)
             .checked_div(self.stride)
             .unwrap_or(0);
-        if more > self.left {
-            return Ok(false);
+        let has_place = more <= self.left;
+        if has_place {
+            self.left = self.left.saturating_sub(more);
+            self.put_templates(chain, more, factor)?;
         }
-        self.left = self.left.saturating_sub(more);
-        self.put_templates(chain, more, factor)?;
-        Ok(true)
+        Ok(has_place)
     }
 
     /// Adds all chains, likewise.
@@ -319,18 +360,26 @@ impl<'a> Building<'a> {
         let scaled = ScaledTemplates::of(self.alloc, &self.pool)?;
         let mut shares = Vec::new(self.alloc);
         for end in &self.ends {
-            shares.push(exchange(self.alloc, &scaled, &end.image, budget)?.shares)?;
+            put_exchanged(self.alloc, &scaled, &end.image, &mut shares, budget)?;
         }
         Ok(shares)
     }
 
     /// Gives the templates that waited what exchanges find for them.
     fn exchange_ends(&mut self, budget: &mut Budget) -> Result<(), Memory> {
-        let shares = self.exchanged(budget)?;
-        for (end, own) in self.ends.iter().zip(shares) {
-            self.pool.put_shares(end.template, own);
+        let mut shares = self.exchanged(budget)?;
+        for i in 0..self.ends.len() {
+            let own = taken(self.alloc, &mut shares, i);
+            self.put_end_shares(i, own);
         }
         Ok(())
+    }
+
+    /// Gives the template that waits at place `i` these shares.
+    fn put_end_shares(&mut self, i: usize, shares: Vec<Share>) {
+        if let Some(end) = self.ends.get(i) {
+            self.pool.put_shares(end.template, shares);
+        }
     }
 
     /// The pool, with what exchanges find for the templates that waited.

@@ -6,6 +6,13 @@ use crate::left::Left;
 use fx_num::Memory;
 use std::alloc::Global;
 
+/// Marks a template.
+fn mark(are_put: &mut [bool], i: usize) {
+    if let Some(slot) = are_put.get_mut(i) {
+        *slot = true;
+    }
+}
+
 /// Puts those templates behind the others that take only what stands there. Whether there were some.
 fn put_next(lefts: &[Left], are_put: &mut [bool], order: &mut Vec<usize>) -> Result<bool, Memory> {
     let before = order.len();
@@ -13,9 +20,7 @@ fn put_next(lefts: &[Left], are_put: &mut [bool], order: &mut Vec<usize>) -> Res
         let is_new = !are_put.get(i).copied().unwrap_or(true);
         if is_new && lefts[i].takes_only(are_put) {
             order.push(i)?;
-            if let Some(slot) = are_put.get_mut(i) {
-                *slot = true;
-            }
+            mark(are_put, i);
         }
     }
     Ok(order.len() > before)

@@ -13,6 +13,7 @@ use fx_reach::{
     Chain, Linear, Pool, Transition, in_units, moved, moved_interval, unit_at, units_of,
 };
 use std::alloc::Global;
+use std::mem::replace;
 
 /// How many bits two linear parts have in common that count as one.
 const COMMON_BITS: u32 = 24;
@@ -63,9 +64,20 @@ impl Proposal {
 
     /// Takes bounds that were found. Whether they have few enough bits.
     fn put(&mut self, alloc: Global, system: &System, bounds: &[Ends]) -> Result<bool, Memory> {
-        if put_bounds(&mut self.pool, system, bounds).is_none() {
-            return Ok(false);
+        if put_bounds(&mut self.pool, system, bounds) {
+            self.put_templates(alloc, system, bounds)
+        } else {
+            Ok(false)
         }
+    }
+
+    /// Takes the templates of the pool with these bounds, likewise.
+    fn put_templates(
+        &mut self,
+        alloc: Global,
+        system: &System,
+        bounds: &[Ends],
+    ) -> Result<bool, Memory> {
         match templates_of(alloc, &self.pool, system, bounds, &self.units)? {
             Some(templates) => {
                 self.templates = templates;
@@ -75,10 +87,26 @@ impl Proposal {
         }
     }
 
+    /// Fills in the linear part, and the templates of the pool with these bounds, likewise.
+    fn fill(
+        &mut self,
+        alloc: Global,
+        linear: &Linear,
+        system: &System,
+        bounds: &[Ends],
+    ) -> Result<bool, Memory> {
+        self.entries = entries_of(alloc, linear)?;
+        self.put_templates(alloc, system, bounds)
+    }
+
     /// Takes the bounds that the same templates with the same shares have by these left sides. Whether some are found.
     fn solve(&mut self, alloc: Global, system: &System) -> Result<bool, Memory> {
         let mut bounds = Vec::new(alloc);
-        Ok(system.solve(alloc, &self.pool, &mut bounds)? && self.put(alloc, system, &bounds)?)
+        if system.solve(alloc, &self.pool, &mut bounds)? {
+            self.put(alloc, system, &bounds)
+        } else {
+            Ok(false)
+        }
     }
 
     /// Takes the bounds that the same templates with the same shares have for another step, if its linear part is the
@@ -89,12 +117,26 @@ impl Proposal {
         linear: &Linear,
         starts: &[Interval],
     ) -> Result<bool, Memory> {
+        if self.agrees(linear) {
+            self.solve_for(alloc, linear, starts)
+        } else {
+            Ok(false)
+        }
+    }
+
+    /// Takes the bounds that the same templates have for another step, likewise.
+    fn solve_for(
+        &mut self,
+        alloc: Global,
+        linear: &Linear,
+        starts: &[Interval],
+    ) -> Result<bool, Memory> {
         let mut system = System::empty(alloc);
-        Ok(
-            self.agrees(linear)
-                && system.fill(alloc, linear, &self.pool, starts)?
-                && self.solve(alloc, &system)?,
-        )
+        if system.fill(alloc, linear, &self.pool, starts)? {
+            self.solve(alloc, &system)
+        } else {
+            Ok(false)
+        }
     }
 
     /// Takes the bounds for the step of a transition, likewise.
@@ -105,11 +147,22 @@ impl Proposal {
         side: &Side,
         starts: &[Interval],
     ) -> Result<bool, Memory> {
-        let Some(starts) = in_units(alloc, starts, &self.units)? else {
-            return Ok(false);
-        };
-        match Linear::of(alloc, t, side, &starts, &self.units)? {
-            Some(linear) => self.adapt_to(alloc, &linear, &starts),
+        match in_units(alloc, starts, &self.units)? {
+            Some(starts) => self.adapt_from(alloc, t, side, &starts),
+            None => Ok(false),
+        }
+    }
+
+    /// Takes the bounds for it from these starts in the pool's units, likewise.
+    fn adapt_from(
+        &mut self,
+        alloc: Global,
+        t: &Transition,
+        side: &Side,
+        starts: &[Interval],
+    ) -> Result<bool, Memory> {
+        match Linear::of(alloc, t, side, starts, &self.units)? {
+            Some(linear) => self.adapt_to(alloc, &linear, starts),
             None => Ok(false),
         }
     }
@@ -173,16 +226,79 @@ fn template_of(
     bound: Interval,
 ) -> Result<Option<Template>, Memory> {
     let own = own_unit(pool, units, i);
-    let coefs = template_coefs(alloc, pool, units, i)?;
-    let shares = template_shares(alloc, pool, units, i)?;
-    match (coefs, moved_interval(bound, own.saturating_neg()), shares) {
-        (Some(coefs), Some(bound), Some(shares)) => Ok(Some(Template {
+    match moved_interval(bound, own.saturating_neg()) {
+        Some(bound) => template_within(alloc, pool, units, i, bound),
+        None => Ok(None),
+    }
+}
+
+/// The template with its bound over the states themselves.
+fn template_within(
+    alloc: Global,
+    pool: &Pool,
+    units: &[u32],
+    i: usize,
+    bound: Interval,
+) -> Result<Option<Template>, Memory> {
+    match template_coefs(alloc, pool, units, i)? {
+        Some(coefs) => template_with(alloc, pool, units, i, bound, coefs),
+        None => Ok(None),
+    }
+}
+
+/// The template with its bound and its coefficients over the states themselves.
+fn template_with(
+    alloc: Global,
+    pool: &Pool,
+    units: &[u32],
+    i: usize,
+    bound: Interval,
+    coefs: Items<Dyadic>,
+) -> Result<Option<Template>, Memory> {
+    match template_shares(alloc, pool, units, i)? {
+        Some(shares) => Ok(Some(Template {
             coefs,
             bound,
             shares,
         })),
-        _ => Ok(None),
+        None => Ok(None),
     }
+}
+
+/// Puts a template of a pool with this bound behind others. False where numbers get too long.
+fn put_template(
+    alloc: Global,
+    pool: &Pool,
+    units: &[u32],
+    i: usize,
+    bound: Interval,
+    templates: &mut Vec<Template>,
+) -> Result<bool, Memory> {
+    match template_of(alloc, pool, units, i, bound)? {
+        Some(template) => {
+            templates.push(template)?;
+            Ok(true)
+        }
+        None => Ok(false),
+    }
+}
+
+/// Puts all of them, likewise.
+fn put_templates(
+    alloc: Global,
+    pool: &Pool,
+    system: &System,
+    bounds: &[Ends],
+    units: &[u32],
+    templates: &mut Vec<Template>,
+) -> Result<bool, Memory> {
+    for i in 0..bounds.len() {
+        let bound = system.interval(i, bounds[i]);
+        if !put_template(alloc, pool, units, i, bound, templates)? {
+            return Ok(false);
+        }
+    }
+    Ok(true)
 }
 
 /// The templates of a pool with these bounds. None where numbers get too long.
@@ -194,13 +310,11 @@ fn templates_of(
     units: &[u32],
 ) -> Result<Option<Items<Template>>, Memory> {
     let mut templates = Vec::new(alloc);
-    for (i, ends) in bounds.iter().enumerate() {
-        match template_of(alloc, pool, units, i, system.interval(i, *ends))? {
-            Some(template) => templates.push(template)?,
-            None => return Ok(None),
-        }
+    if put_templates(alloc, pool, system, bounds, units, &mut templates)? {
+        Ok(Some(Items::from_vec(templates)))
+    } else {
+        Ok(None)
     }
-    Ok(Some(Items::from_vec(templates)))
 }
 
 /// The linear part of a step, entry after entry.
@@ -221,17 +335,35 @@ fn proposal_of(
     units: Vec<u32>,
     solved: Solved,
 ) -> Result<Option<Proposal>, Memory> {
-    let entries = entries_of(alloc, linear)?;
-    let found = templates_of(alloc, &solved.pool, &solved.system, &solved.bounds, &units)?;
-    let Some(templates) = found else {
-        return Ok(None);
-    };
-    Ok(Some(Proposal {
-        entries,
+    let Solved {
+        pool,
+        system,
+        bounds,
+        ..
+    } = solved;
+    proposal_with(alloc, linear, units, pool, &system, &bounds)
+}
+
+/// What was found, by the bounds of a pool.
+fn proposal_with(
+    alloc: Global,
+    linear: &Linear,
+    units: Vec<u32>,
+    pool: Pool,
+    system: &System,
+    bounds: &[Ends],
+) -> Result<Option<Proposal>, Memory> {
+    let mut proposal = Proposal {
+        entries: Vec::new(alloc),
         units,
-        pool: solved.pool,
-        templates,
-    }))
+        pool,
+        templates: Items::from_vec(Vec::new(alloc)),
+    };
+    if proposal.fill(alloc, linear, system, bounds)? {
+        Ok(Some(proposal))
+    } else {
+        Ok(None)
+    }
 }
 
 /// The chains that templates begin with. None where one isn't bounded.
@@ -241,11 +373,30 @@ fn chains_of(
     linear: &Linear,
     units: &[u32],
 ) -> Result<Option<Vec<Chain>>, Memory> {
-    let Some(mut chains) = unit_chains(alloc, linear)? else {
-        return Ok(None);
-    };
-    add_output_chains(alloc, t, linear, units, &mut chains)?;
-    Ok(Some(chains))
+    match unit_chains(alloc, linear)? {
+        Some(first) => {
+            let mut chains = first;
+            add_output_chains(alloc, t, linear, units, &mut chains)?;
+            Ok(Some(chains))
+        }
+        None => Ok(None),
+    }
+}
+
+/// Units in which all states of a step reach about as far, if its numbers have few enough bits.
+fn reaching_units(
+    alloc: Global,
+    t: &Transition,
+    side: &Side,
+    starts: &[Interval],
+) -> Result<Option<Vec<u32>>, Memory> {
+    match Linear::of(alloc, t, side, starts, &[])? {
+        Some(linear) => {
+            let units = units_of(alloc, &linear)?;
+            Ok(Some(units))
+        }
+        None => Ok(None),
+    }
 }
 
 /// A step in some units of the states, with the chains that templates begin with.
@@ -266,20 +417,52 @@ impl Measured {
         starts: &[Interval],
         units: Vec<u32>,
     ) -> Result<Option<Measured>, Memory> {
-        let Some(starts) = in_units(alloc, starts, &units)? else {
-            return Ok(None);
-        };
-        let Some(linear) = Linear::of(alloc, t, side, &starts, &units)? else {
-            return Ok(None);
-        };
-        match chains_of(alloc, t, &linear, &units)? {
-            Some(chains) => Ok(Some(Measured {
-                linear,
-                units,
-                starts,
-                chains,
-            })),
+        match in_units(alloc, starts, &units)? {
+            Some(starts) => Measured::from(alloc, t, side, starts, units),
             None => Ok(None),
+        }
+    }
+
+    /// It from these starts in its units, likewise.
+    fn from(
+        alloc: Global,
+        t: &Transition,
+        side: &Side,
+        starts: Vec<Interval>,
+        units: Vec<u32>,
+    ) -> Result<Option<Measured>, Memory> {
+        match Linear::of(alloc, t, side, &starts, &units)? {
+            Some(linear) => {
+                let measured = Measured {
+                    linear,
+                    units,
+                    starts,
+                    chains: Vec::new(alloc),
+                };
+                measured.with_chains(alloc, t)
+            }
+            None => Ok(None),
+        }
+    }
+
+    /// It with its chains, likewise.
+    fn with_chains(self, alloc: Global, t: &Transition) -> Result<Option<Measured>, Memory> {
+        let mut measured = self;
+        if measured.put_chains(alloc, t)? {
+            Ok(Some(measured))
+        } else {
+            Ok(None)
+        }
+    }
+
+    /// Puts the chains. False where one isn't bounded.
+    fn put_chains(&mut self, alloc: Global, t: &Transition) -> Result<bool, Memory> {
+        match chains_of(alloc, t, &self.linear, &self.units)? {
+            Some(chains) => {
+                self.chains = chains;
+                Ok(true)
+            }
+            None => Ok(false),
         }
     }
 
@@ -291,13 +474,31 @@ impl Measured {
         side: &Side,
         starts: &[Interval],
     ) -> Result<Option<Measured>, Memory> {
-        if let Some(measured) = Measured::of(alloc, t, side, starts, Vec::new(alloc))? {
-            return Ok(Some(measured));
+        match Measured::of(alloc, t, side, starts, Vec::new(alloc))? {
+            Some(measured) => Ok(Some(measured)),
+            None => Measured::in_other_units(alloc, t, side, starts),
         }
-        match Linear::of(alloc, t, side, starts, &[])? {
-            Some(linear) => {
-                let units = units_of(alloc, &linear)?;
-                Measured::of(alloc, t, side, starts, units)
+    }
+
+    /// It in units in which all states reach about as far.
+    fn in_other_units(
+        alloc: Global,
+        t: &Transition,
+        side: &Side,
+        starts: &[Interval],
+    ) -> Result<Option<Measured>, Memory> {
+        match reaching_units(alloc, t, side, starts)? {
+            Some(units) => Measured::of(alloc, t, side, starts, units),
+            None => Ok(None),
+        }
+    }
+
+    /// Templates for the step, looked for from the beginning.
+    fn proposal(&mut self, alloc: Global, budget: &mut Budget) -> Result<Option<Proposal>, Memory> {
+        match self.best(alloc, budget)? {
+            Some(solved) => {
+                let units = replace(&mut self.units, Vec::new(alloc));
+                proposal_of(alloc, &self.linear, units, solved)
             }
             None => Ok(None),
         }
@@ -325,13 +526,10 @@ fn found(
     starts: &[Interval],
     budget: &mut Budget,
 ) -> Result<Option<Proposal>, Memory> {
-    let Some(measured) = Measured::found(alloc, t, side, starts)? else {
-        return Ok(None);
-    };
-    match measured.best(alloc, budget)? {
-        Some(solved) => {
-            let units = measured.units;
-            proposal_of(alloc, &measured.linear, units, solved)
+    match Measured::found(alloc, t, side, starts)? {
+        Some(found) => {
+            let mut measured = found;
+            measured.proposal(alloc, budget)
         }
         None => Ok(None),
     }
@@ -346,12 +544,26 @@ fn adapted_or_found(
     proposal: Proposal,
     budget: &mut Budget,
 ) -> Result<Option<Proposal>, Memory> {
-    let mut proposal = proposal;
-    if proposal.adapt(alloc, t, side, starts)? {
-        return Ok(Some(proposal));
+    match adapted(alloc, t, side, starts, proposal)? {
+        Some(proposal) => Ok(Some(proposal)),
+        None => found(alloc, t, side, starts, budget),
     }
-    drop(proposal);
-    found(alloc, t, side, starts, budget)
+}
+
+/// What was proposed before with bounds for another step, where these are found.
+fn adapted(
+    alloc: Global,
+    t: &Transition,
+    side: &Side,
+    starts: &[Interval],
+    before: Proposal,
+) -> Result<Option<Proposal>, Memory> {
+    let mut proposal = before;
+    if proposal.adapt(alloc, t, side, starts)? {
+        Ok(Some(proposal))
+    } else {
+        Ok(None)
+    }
 }
 
 /// Templates of the one kind that might be kept, and that hold the starts if some are given.

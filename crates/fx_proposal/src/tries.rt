@@ -103,9 +103,10 @@ fn ratio(width: i128, reach: i128) -> i128 {
 /// How good the bounds of the unit templates are.
 fn unit_quality(pool: &Pool, chains: &[Chain]) -> i128 {
     let mut worst = 0;
-    for (i, chain) in chains.iter().enumerate() {
-        if chain.state.is_some() {
-            worst = ratio(pool.templates.width(i), chain.ahead.templates.width(0)).max(worst);
+    for i in 0..chains.len() {
+        if chains[i].state.is_some() {
+            let reach = chains[i].ahead.templates.width(0);
+            worst = ratio(pool.templates.width(i), reach).max(worst);
         }
     }
     worst
@@ -118,27 +119,61 @@ fn quality(
     chains: &[Chain],
     budget: &mut Budget,
 ) -> Result<i128, Memory> {
-    let mut worst = unit_quality(pool, chains);
+    let units = unit_quality(pool, chains);
     if chains.len() == pool.templates.states {
-        return Ok(worst);
+        Ok(units)
+    } else {
+        let scaled = ScaledTemplates::of(alloc, pool)?;
+        output_quality(alloc, &scaled, chains, units, budget)
     }
-    let scaled = ScaledTemplates::of(alloc, pool)?;
+}
+
+/// How good the bound of what a chain begins with is, by an exchange.
+fn exchanged_quality(
+    alloc: Global,
+    scaled: &ScaledTemplates<'_>,
+    chain: &Chain,
+    budget: &mut Budget,
+) -> Result<i128, Memory> {
+    let found = exchange(alloc, scaled, chain.ahead.templates.template(0), budget)?;
+    Ok(ratio(found.cost, chain.ahead.templates.width(0)))
+}
+
+/// How good the bounds of outputs are, where none of the others is worse than this.
+fn output_quality(
+    alloc: Global,
+    scaled: &ScaledTemplates<'_>,
+    chains: &[Chain],
+    units: i128,
+    budget: &mut Budget,
+) -> Result<i128, Memory> {
+    let mut worst = units;
     for chain in chains {
         if chain.state.is_none() {
-            let found = exchange(alloc, &scaled, chain.ahead.templates.template(0), budget)?;
-            worst = ratio(found.cost, chain.ahead.templates.width(0)).max(worst);
+            worst = exchanged_quality(alloc, scaled, chain, budget)?.max(worst);
         }
     }
     Ok(worst)
 }
 
-/// Puts what came out in the place of the guesses.
-pub fn put_bounds(pool: &mut Pool, system: &System, bounds: &[Ends]) -> Option<()> {
-    for i in 0..bounds.len() {
-        let reach = system.reach(pool, i, bounds[i])?;
-        pool.put_reach(i, reach);
+/// Puts what came out in the place of a guess. False where it has too many bits.
+fn put_bound(pool: &mut Pool, system: &System, i: usize, ends: Ends) -> bool {
+    match system.reach(pool, i, ends) {
+        Some(reach) => {
+            pool.put_reach(i, reach);
+            true
+        }
+        None => false,
     }
-    Some(())
+}
+
+/// Puts what came out in the place of the guesses, likewise.
+pub fn put_bounds(pool: &mut Pool, system: &System, bounds: &[Ends]) -> bool {
+    let mut fits = true;
+    for i in 0..bounds.len() {
+        fits = fits && put_bound(pool, system, i, bounds[i]);
+    }
+    fits
 }
 
 impl Solved {
@@ -158,17 +193,17 @@ impl Solved {
             self.system
                 .fill(goal.alloc, goal.linear, &self.pool, goal.starts)?
                 && self.system.solve(goal.alloc, &self.pool, &mut self.bounds)?
-                && put_bounds(&mut self.pool, &self.system, &self.bounds).is_some(),
+                && put_bounds(&mut self.pool, &self.system, &self.bounds),
         )
     }
 
     /// Finds bounds, and how good they are. Whether they stand.
     fn solve(&mut self, goal: Goal<'_>, budget: &mut Budget) -> Result<bool, Memory> {
-        if !self.find_bounds(goal)? {
-            return Ok(false);
+        let stand = self.find_bounds(goal)?;
+        if stand {
+            self.quality = quality(goal.alloc, &self.pool, goal.chains, budget)?;
         }
-        self.quality = quality(goal.alloc, &self.pool, goal.chains, budget)?;
-        Ok(true)
+        Ok(stand)
     }
 }
 
@@ -227,12 +262,18 @@ fn is_enough(solved: &Solved, one: Try) -> bool {
 
 /// Takes a pool with its bounds in the place of one that isn't better.
 fn put_better(best: &mut Option<Solved>, solved: Solved) {
-    let is_better = match &*best {
+    if is_better(best, &solved) {
+        *best = Some(solved);
+    } else {
+        drop(solved);
+    }
+}
+
+/// Whether a pool with its bounds is better than another, if there is one.
+fn is_better(best: &Option<Solved>, solved: &Solved) -> bool {
+    match best {
         Some(best) => solved.quality < best.quality,
         None => true,
-    };
-    if is_better {
-        *best = Some(solved);
     }
 }
 
@@ -343,12 +384,7 @@ impl<'a> Ladder<'a> {
         budget: &mut Budget,
     ) -> Result<bool, Memory> {
         match self.stood(rung, budget)? {
-            Some(found) => {
-                *count = (*count).saturating_add(1);
-                let is_last = *count >= 3 || is_expected(&found, rung);
-                put_better(best, found);
-                Ok(is_last)
-            }
+            Some(found) => Ok(take_step(found, rung, count, best)),
             None => Ok(false),
         }
     }
@@ -380,6 +416,14 @@ impl<'a> Ladder<'a> {
     }
 }
 
+/// Takes what a step gave, where that is better. Whether the ladder ends there, likewise.
+fn take_step(found: Solved, rung: Rung, count: &mut u32, best: &mut Option<Solved>) -> bool {
+    *count = (*count).saturating_add(1);
+    let is_last = *count >= 3 || is_expected(&found, rung);
+    put_better(best, found);
+    is_last
+}
+
 /// Whether the bounds are about as wide as the room of a step lets them be.
 fn is_expected(solved: &Solved, rung: Rung) -> bool {
     let unit = 1_i128 << QUALITY_PLACES;
@@ -396,14 +440,25 @@ impl Goal<'_> {
     fn climb(self, best: &mut Option<Solved>, budget: &mut Budget) -> Result<(), Memory> {
         let widths = widths_of(self.alloc, self.chains, self.linear.states)?;
         let poles = poles_of(self.alloc, self.linear, &widths)?;
+        self.climb_strides(&poles, widest(&widths), best, budget)
+    }
+
+    /// Takes what ladders of these poles give, likewise.
+    fn climb_strides(
+        self,
+        poles: &[Pole],
+        widest: i128,
+        best: &mut Option<Solved>,
+        budget: &mut Budget,
+    ) -> Result<(), Memory> {
         for stride in STRIDES.iter() {
             let ladder = Ladder {
                 alloc: self.alloc,
                 linear: self.linear,
                 chains: self.chains,
                 starts: self.starts,
-                poles: &poles,
-                widest: widest(&widths),
+                poles,
+                widest,
                 stride: *stride,
             };
             ladder.climb_all(best, budget)?;
