@@ -3,24 +3,34 @@
 use crate::range::Unplanned;
 use fx_expr::Function;
 use fx_flat::Node;
-use fx_fraction::to_fraction;
+use fx_fraction::{Fraction, to_fraction};
 use fx_lowering::code_at;
 use fx_num::Memory;
 use fx_program::{Code, Round, is_point};
 use fx_span::{nearest, word_at};
 use std::alloc::Global;
 
+/// The nearest word of a number at a point.
+fn nearest_word(c: Fraction, f: i32, width: u32) -> Option<i64> {
+    match nearest(c, f) {
+        Some(w) => word_at(w, width),
+        None => None,
+    }
+}
+
 /// The word that a state starts with: the nearest.
 pub fn start_word(function: &Function, k: usize, f: i32, width: u32) -> Option<i64> {
-    let state = function.states.as_slice().get(k)?;
-    word_at(nearest(to_fraction(state.start), f)?, width)
+    match function.states.as_slice().get(k) {
+        Some(state) => nearest_word(to_fraction(state.start), f, width),
+        None => None,
+    }
 }
 
 /// The word of a node at a point, where its code has one: the nearest.
 fn word_of(function: &Function, node: &Node, f: i32, width: u32) -> Option<i64> {
     match node {
         Node::State { k } => start_word(function, *k as usize, f, width),
-        Node::Const { c } => word_at(nearest(*c, f)?, width),
+        Node::Const { c } => nearest_word(*c, f, width),
         // no other code has a word
         _ => Some(0),
     }
@@ -35,8 +45,10 @@ fn nearest_code(
     width: u32,
     round: Round,
 ) -> Option<Code> {
-    let w = word_of(function, node, f, width)?;
-    code_at(node, w, f, points, width, round)
+    match word_of(function, node, f, width) {
+        Some(w) => code_at(node, w, f, points, width, round),
+        None => None,
+    }
 }
 
 /// Whether a node has a code at a point, after those of its operands.
@@ -54,11 +66,14 @@ fn nth_code(
     width: u32,
     round: Round,
 ) -> Option<Code> {
-    let f = points.get(n).copied()?;
-    if !is_point(f) {
-        return None;
+    match (points.get(n), nodes.get(n)) {
+        (Some(f), Some(node)) => if is_point(*f) {
+            nearest_code(function, node, *f, points, width, round)
+        } else {
+            None
+        },
+        _ => None,
     }
-    nearest_code(function, nodes.get(n)?, f, points, width, round)
 }
 
 /// The codes of all nodes that round so, or the first node whose point gives no code of the width.

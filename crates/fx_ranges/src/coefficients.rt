@@ -7,7 +7,7 @@ use fx_num::Memory;
 use std::alloc::Global;
 
 /// The rows of all nodes.
-#[derive(Debug, Drop)]
+#[derive(Drop)]
 pub struct Coefficients {
     width: usize,
     list: Vec<i128>,
@@ -16,11 +16,13 @@ pub struct Coefficients {
 impl Coefficients {
     /// So many rows of so many zeros, and None where their count leaves its type.
     pub fn new(alloc: Global, count: usize, width: usize) -> Result<Option<Coefficients>, Memory> {
-        let Some(size) = count.checked_mul(width) else {
-            return Ok(None);
-        };
-        let list = vec![in alloc; 0_i128; size]?;
-        Ok(Some(Coefficients { width, list }))
+        match count.checked_mul(width) {
+            Some(size) => {
+                let list = vec![in alloc; 0_i128; size]?;
+                Ok(Some(Coefficients { width, list }))
+            }
+            None => Ok(None),
+        }
     }
 
     /// How long a row is.
@@ -35,18 +37,26 @@ impl Coefficients {
         self.list.as_slice().get(from..to).unwrap_or(&[])
     }
 
-    /// The coefficient at a place.
-    pub fn at(&self, n: usize, k: usize) -> Option<i128> {
-        let place = n.checked_mul(self.width)?.checked_add(k)?;
-        self.list.get(place).copied()
+    /// Where a coefficient stands. No list reaches the last place of all, which stands for those behind it.
+    fn place(&self, n: usize, k: usize) -> usize {
+        n.saturating_mul(self.width).saturating_add(k)
     }
 
-    /// Puts a coefficient at a place.
-    pub fn put(&mut self, n: usize, k: usize, m: i128) -> Option<()> {
-        let place = n.checked_mul(self.width)?.checked_add(k)?;
-        let coefficient = self.list.get_mut(place)?;
-        *coefficient = m;
-        Some(())
+    /// The coefficient at a place.
+    pub fn at(&self, n: usize, k: usize) -> Option<i128> {
+        self.list.get(self.place(n, k)).copied()
+    }
+
+    /// Puts a coefficient at a place, and answers whether there is such a place.
+    pub fn put(&mut self, n: usize, k: usize, m: i128) -> bool {
+        let place = self.place(n, k);
+        match self.list.get_mut(place) {
+            Some(coefficient) => {
+                *coefficient = m;
+                true
+            }
+            None => false,
+        }
     }
 
     /// Makes a row zero again.

@@ -7,10 +7,10 @@
 use crate::coefficients::Coefficients;
 use fx_flat::Node;
 use fx_num::{Dyadic, bits, floor_shift, left_fits};
-use fx_span::{Grids, Span, product};
+use fx_span::{Grids, MaybeSpan, Span, product};
 
 /// What a form has beside its coefficients, which stand in a row of `Coefficients`.
-#[derive(Clone, Copy, Debug)]
+#[derive(Clone, Copy)]
 pub struct RangeForm {
     /// The grid of the coefficients.
     pub e: u32,
@@ -37,10 +37,23 @@ impl RangeForm {
             shows_range: false,
         }
     }
+
+    /// The form with this rest, whose coefficients on the grid `e` have so many places less.
+    fn cut(self, rest: Option<Span>, e: u32, places: u32, grids: Grids) -> Option<RangeForm> {
+        match rest {
+            Some(rest) => Some(RangeForm {
+                e: e.saturating_sub(places),
+                rest: grids.rounded(rest),
+                is_cut: places > 0,
+                ..self
+            }),
+            None => None,
+        }
+    }
 }
 
 /// How two rows are mixed: `s` times the first and `t` times the second, on the grid `e`.
-#[derive(Clone, Copy, Debug)]
+#[derive(Clone, Copy)]
 pub struct Mix {
     s: i128,
     t: i128,
@@ -51,21 +64,32 @@ impl Mix {
     /// The coefficient that comes of two.
     pub fn of(self, x: i128, y: i128) -> Option<i128> {
         if x == 0 && y == 0 {
-            return Some(0);
+            Some(0)
+        } else {
+            match (product(self.s, x), product(self.t, y)) {
+                (Some(left), Some(right)) => left.checked_add(right),
+                _ => None,
+            }
         }
-        product(self.s, x)?.checked_add(product(self.t, y)?)
+    }
+
+    /// One row by `s` and one by `t`, which come to the grids `left` and `right`.
+    fn on_finer(left: u32, s: i128, right: u32, t: i128) -> Option<Mix> {
+        let e = left.max(right);
+        let s = left_fits(s, e.saturating_sub(left));
+        let t = left_fits(t, e.saturating_sub(right));
+        match (s, t) {
+            (Some(s), Some(t)) => Some(Mix { s, t, e }),
+            _ => None,
+        }
     }
 
     /// One row by `s` and one by `t`, whose grids are `a` and `b`.
     fn aligned(a: u32, s: Dyadic, b: u32, t: Dyadic) -> Option<Mix> {
-        let left = a.checked_add(s.e)?;
-        let right = b.checked_add(t.e)?;
-        let e = left.max(right);
-        Some(Mix {
-            s: left_fits(s.m, e.checked_sub(left)?)?,
-            t: left_fits(t.m, e.checked_sub(right)?)?,
-            e,
-        })
+        match (a.checked_add(s.e), b.checked_add(t.e)) {
+            (Some(left), Some(right)) => Mix::on_finer(left, s.m, right, t.m),
+            _ => None,
+        }
     }
 }
 
@@ -98,15 +122,20 @@ pub fn mix_of(node: &Node, form: &RangeForm, a: u32, b: u32) -> Option<Mix> {
 
 /// A number of few bits near the middle of a range.
 pub fn middle_of(range: Span, grids: Grids) -> Option<Dyadic> {
-    let middle = floor_shift(range.lo.checked_add(range.hi)?, 1);
-    let places = bits(middle.unsigned_abs())
-        .saturating_sub(grids.centre_bits)
-        .min(range.e);
-    Dyadic::checked(floor_shift(middle, places), range.e.saturating_sub(places))
+    match range.lo.checked_add(range.hi) {
+        Some(twice) => {
+            let middle = floor_shift(twice, 1);
+            let places = bits(middle.unsigned_abs())
+                .saturating_sub(grids.centre_bits)
+                .min(range.e);
+            Dyadic::checked(floor_shift(middle, places), range.e.saturating_sub(places))
+        }
+        None => None,
+    }
 }
 
 /// Where an operand of a product is centred.
-#[derive(Clone, Copy, Debug, PartialEq, Eq)]
+#[derive(Clone, Copy, PartialEq, Eq)]
 pub enum Centre {
     /// At the middle of its range.
     Middle,
@@ -119,7 +148,7 @@ pub enum Centre {
 }
 
 /// The centres of both operands.
-#[derive(Clone, Copy, Debug, PartialEq, Eq)]
+#[derive(Clone, Copy, PartialEq, Eq)]
 pub struct Centres {
     pub a: Centre,
     pub b: Centre,
@@ -154,13 +183,36 @@ pub fn centre_at(range: Span, at: Centre, grids: Grids) -> Option<Dyadic> {
 
 /// A rest and the sum of the row's coefficients by what is said of each input.
 pub fn weighted(row: &[i128], e: u32, rest: Span, inputs: &[Span]) -> Option<Span> {
-    let mut sum = rest;
+    let mut sum = MaybeSpan::some(rest);
     for (m, span) in row.iter().zip(inputs) {
-        if *m != 0 {
-            sum = sum.plus(span.scaled(Dyadic::checked(*m, e)?)?)?;
-        }
+        sum = sum.plus_scaled(*m, e, MaybeSpan::some(*span));
     }
-    Some(sum)
+    sum.get()
+}
+
+/// The coefficient that two rows give at a place.
+fn mixed(coefficients: &Coefficients, a: usize, b: usize, mix: Mix, k: usize) -> Option<i128> {
+    match (coefficients.at(a, k), coefficients.at(b, k)) {
+        (Some(x), Some(y)) => mix.of(x, y),
+        _ => None,
+    }
+}
+
+/// Puts a coefficient, if there is one, at a place of a row, and gives its size.
+fn put_mixed(
+    coefficients: &mut Coefficients,
+    n: usize,
+    k: usize,
+    mixed: Option<i128>,
+) -> Option<u128> {
+    match mixed {
+        Some(m) => if coefficients.put(n, k, m) {
+            Some(m.unsigned_abs())
+        } else {
+            None
+        },
+        None => None,
+    }
 }
 
 /// Writes the row of an operation, and gives the greatest size in it.
@@ -173,14 +225,61 @@ fn mix_rows(
 ) -> Option<u128> {
     let mut greatest = 0;
     for k in 0..coefficients.width() {
-        let m = mix.of(coefficients.at(a, k)?, coefficients.at(b, k)?)?;
-        coefficients.put(n, k, m)?;
-        greatest = m.unsigned_abs().max(greatest);
+        let m = mixed(coefficients, a, b, mix, k);
+        match put_mixed(coefficients, n, k, m) {
+            Some(size) => greatest = size.max(greatest),
+            None => return None,
+        }
     }
     Some(greatest)
 }
 
-/// Cuts so many places off a row's coefficients, and adds what they come to to the rest.
+/// A coefficient without its last places, to the nearest, and what was cut off. `half` is half a unit of what is left.
+fn cut(m: i128, half: i128, places: u32) -> Option<(i128, i128)> {
+    let kept = match m.checked_add(half) {
+        Some(raised) => floor_shift(raised, places),
+        None => return None,
+    };
+    match left_fits(kept, places) {
+        Some(back) => match m.checked_sub(back) {
+            Some(off) => Some((kept, off)),
+            None => None,
+        },
+        None => None,
+    }
+}
+
+/// Cuts a coefficient where it stands, and gives what was cut off.
+fn cut_at(
+    coefficients: &mut Coefficients,
+    n: usize,
+    k: usize,
+    half: i128,
+    places: u32,
+) -> Option<i128> {
+    let found = match coefficients.at(n, k) {
+        Some(m) => cut(m, half, places),
+        None => None,
+    };
+    match found {
+        Some((kept, off)) => if coefficients.put(n, k, kept) {
+            Some(off)
+        } else {
+            None
+        },
+        None => None,
+    }
+}
+
+/// A sum with so many times an input, if both are there.
+fn with_off(sum: MaybeSpan, off: Option<i128>, e: u32, input: Option<&Span>) -> MaybeSpan {
+    match off {
+        Some(off) => sum.plus_scaled(off, e, MaybeSpan::of(input.copied())),
+        None => MaybeSpan::NONE,
+    }
+}
+
+/// Cuts so many places off a row's coefficients, at least one, and adds what they come to to the rest.
 fn cut_row(
     coefficients: &mut Coefficients,
     n: usize,
@@ -189,19 +288,22 @@ fn cut_row(
     rest: Span,
     inputs: &[Span],
 ) -> Option<Span> {
-    let half = left_fits(1, places.checked_sub(1)?)?;
-    let mut sum = rest;
+    let half = match left_fits(1, places.saturating_sub(1)) {
+        Some(half) => half,
+        None => return None,
+    };
+    let mut sum = MaybeSpan::some(rest);
     for k in 0..coefficients.width() {
-        let m = coefficients.at(n, k)?;
-        let kept = floor_shift(m.checked_add(half)?, places);
-        let off = m.checked_sub(left_fits(kept, places)?)?;
-        if off != 0 {
-            let span = inputs.get(k)?;
-            sum = sum.plus(span.scaled(Dyadic::checked(off, e)?)?)?;
-        }
-        coefficients.put(n, k, kept)?;
+        let off = cut_at(coefficients, n, k, half, places);
+        sum = with_off(sum, off, e, inputs.get(k));
     }
-    Some(sum)
+    sum.get()
+}
+
+/// How many places are cut off coefficients of at most this size on the grid `e`.
+fn places_cut(greatest: u128, e: u32, grids: Grids) -> u32 {
+    let by_bits = bits(greatest).saturating_sub(grids.coefficient_bits).min(e);
+    by_bits.max(e.saturating_sub(grids.place_limit))
 }
 
 /// Writes the row of an operation whose form has the rest, with so many bits a coefficient as the grids allow.
@@ -214,21 +316,16 @@ pub fn write_row(
     inputs: &[Span],
     grids: Grids,
 ) -> Option<RangeForm> {
-    let greatest = mix_rows(coefficients, n, a, b, mix)?;
-    let by_bits = bits(greatest)
-        .saturating_sub(grids.coefficient_bits)
-        .min(mix.e);
-    let places = by_bits.max(mix.e.saturating_sub(grids.place_limit));
-    let is_cut = places > 0;
-    let rest = if is_cut {
-        cut_row(coefficients, n, mix.e, places, form.rest, inputs)?
-    } else {
-        form.rest
-    };
-    Some(RangeForm {
-        e: mix.e.saturating_sub(places),
-        rest: grids.rounded(rest),
-        is_cut,
-        ..form
-    })
+    match mix_rows(coefficients, n, a, b, mix) {
+        Some(greatest) => {
+            let places = places_cut(greatest, mix.e, grids);
+            let rest = if places > 0 {
+                cut_row(coefficients, n, mix.e, places, form.rest, inputs)
+            } else {
+                Some(form.rest)
+            };
+            form.cut(rest, mix.e, places, grids)
+        }
+        None => None,
+    }
 }

@@ -4,15 +4,16 @@
 //! first node whose range reaches `2^62` as a mantissa, whose divisor may be zero, or whose numbers leave 128 bits.
 
 use crate::coefficients::Coefficients;
-use crate::form::{Centres, RangeForm, centre_at, mix_of, operands, weighted, write_row};
+use crate::form::{Centre, Centres, RangeForm, centre_at, mix_of, operands, weighted, write_row};
 use fx_expr::Function;
 use fx_flat::{Node, Nodes};
+use fx_fraction::Fraction;
 use fx_num::{Dyadic, GREATEST_POINT, LEAST_POINT, Memory, bits};
-use fx_span::{Grids, Span, fits_word, range_between, range_of};
+use fx_span::{Grids, MaybeSpan, Span, fits_word, range_between, range_of};
 use std::alloc::Global;
 
 /// There is no plan: this node is the first for which the pass has nothing to say.
-#[derive(Clone, Copy, Debug, PartialEq, Eq)]
+#[derive(Clone, Copy)]
 pub struct Unplanned {
     pub node: u32,
 }
@@ -26,8 +27,31 @@ impl Unplanned {
     }
 }
 
+/// The greatest point at which a range fits a word of so many bits, from -64 to 62.
+fn highest_point(span: Span, width: u32) -> i32 {
+    let size = span.size();
+    let free = i64::from(width).saturating_add(i64::from(span.e));
+    let highest = free.saturating_sub(i64::from(bits(size)));
+    let point = highest.clamp(i64::from(LEAST_POINT), i64::from(GREATEST_POINT)) as i32;
+    if size == 0 {
+        GREATEST_POINT
+    } else if fits_word(span, point, width) {
+        point
+    } else {
+        point.saturating_sub(1).max(LEAST_POINT)
+    }
+}
+
+/// The number of this size on the grid `e`.
+fn dyadic(size: u128, e: u32) -> Option<Dyadic> {
+    match i128::try_from(size) {
+        Ok(m) => Dyadic::checked(m, e),
+        Err(_) => None,
+    }
+}
+
 /// What the first pass says of all nodes.
-#[derive(Debug, Drop)]
+#[derive(Drop)]
 pub struct Ranges {
     grids: Grids,
     spans: Vec<Span>,
@@ -38,22 +62,19 @@ pub struct Ranges {
 }
 
 impl Ranges {
+    /// Those of no nodes yet.
     fn new(
         alloc: Global,
-        count: usize,
-        inputs: usize,
         grids: Grids,
-        centres: &[Centres],
-    ) -> Result<Option<Ranges>, Memory> {
-        match Coefficients::new(alloc, count, inputs)? {
-            Some(coefficients) => Ok(Some(Ranges {
-                grids,
-                spans: Vec::new(alloc),
-                forms: Vec::new(alloc),
-                coefficients,
-                centres: Vec::from_slice(alloc, centres)?,
-            })),
-            None => Ok(None),
+        coefficients: Coefficients,
+        centres: Vec<Centres>,
+    ) -> Ranges {
+        Ranges {
+            grids,
+            spans: Vec::new(alloc),
+            forms: Vec::new(alloc),
+            coefficients,
+            centres,
         }
     }
 
@@ -98,11 +119,16 @@ impl Ranges {
         self.forms.get(n).copied()?
     }
 
-    /// The form of a node, which is its range alone where it has none.
-    fn form_or_rest(&self, n: usize) -> Option<RangeForm> {
-        match self.form(n) {
-            Some(form) => Some(form),
-            None => Some(RangeForm::of_rest(self.span(n)?)),
+    /// Whether a node has a form.
+    fn has_form(&self, n: usize) -> bool {
+        matches!(self.forms.get(n), Some(Some(_)))
+    }
+
+    /// The rest of a node's form, which is its range where it has none.
+    fn rest(&self, n: usize) -> Option<Span> {
+        match self.forms.get(n) {
+            Some(Some(form)) => Some(form.rest),
+            _ => self.span(n),
         }
     }
 
@@ -116,128 +142,203 @@ impl Ranges {
 
     /// The greatest point at which the node's range fits a word of so many bits, from -64 to 62.
     pub fn cap(&self, n: usize, width: u32) -> Option<i32> {
-        let span = self.span(n)?;
-        if span.size() == 0 {
-            return Some(GREATEST_POINT);
+        match self.span(n) {
+            Some(span) => Some(highest_point(span, width)),
+            None => None,
         }
-        let free = i64::from(width).saturating_add(i64::from(span.e));
-        let highest = free.saturating_sub(i64::from(bits(span.size())));
-        let point = i32::try_from(highest.clamp(
-            i64::from(LEAST_POINT),
-            i64::from(GREATEST_POINT),
-        )).ok()?;
-        if fits_word(span, point, width) {
-            return Some(point);
-        }
-        Some(point.saturating_sub(1).max(LEAST_POINT))
     }
 
     /// Whether a word at a point holds whatever of the node's range has such an error.
     pub fn fits(&self, n: usize, error: Span, point: i32, width: u32) -> Option<bool> {
-        Some(fits_word(self.span(n)?.plus(error)?, point, width))
+        let held = MaybeSpan::of(self.span(n)).plus(MaybeSpan::some(error));
+        match held.get() {
+            Some(held) => Some(fits_word(held, point, width)),
+            None => None,
+        }
     }
 
     /// The greater end of the node's range without its sign.
     pub fn size(&self, n: usize) -> Option<Dyadic> {
-        let span = self.span(n)?;
-        let m = i128::try_from(span.size()).ok()?;
-        Dyadic::checked(m, span.e)
+        match self.span(n) {
+            Some(span) => dyadic(span.size(), span.e),
+            None => None,
+        }
     }
 
     /// The lesser end of the node's range without its sign, which is the least size of a divisor.
     pub fn least_size(&self, n: usize) -> Option<Dyadic> {
-        let span = self.span(n)?;
-        let m = i128::try_from(span.least_size()).ok()?;
-        Dyadic::checked(m, span.e)
+        match self.span(n) {
+            Some(span) => dyadic(span.least_size(), span.e),
+            None => None,
+        }
     }
 }
 
 /// The range of a quotient.
 fn quotient_range(a: Span, b: Span, grids: Grids) -> Option<Span> {
-    if !b.is_clear() {
-        return None;
+    if b.is_clear() {
+        let places = i64::from(grids.range_bits)
+            .saturating_add(i64::from(bits(b.least_size())))
+            .saturating_sub(i64::from(bits(a.size())))
+            .saturating_add(i64::from(a.e))
+            .saturating_sub(i64::from(b.e));
+        a.over(b, places.clamp(0, i64::from(grids.place_limit)) as u32)
+    } else {
+        None
     }
-    let places = i64::from(grids.range_bits)
-        .saturating_add(i64::from(bits(b.least_size())))
-        .saturating_sub(i64::from(bits(a.size())))
-        .saturating_add(i64::from(a.e))
-        .saturating_sub(i64::from(b.e));
-    a.over(
-        b,
-        u32::try_from(places.clamp(0, i64::from(grids.place_limit))).ok()?,
-    )
+}
+
+/// The range of an operation whose operands have these, before it is rounded.
+fn unrounded_range(node: &Node, a: Span, b: Span, grids: Grids) -> Option<Span> {
+    match node {
+        Node::Neg { .. } => a.negative(),
+        Node::Add { .. } => a.plus(b),
+        Node::Sub { .. } => a.minus(b),
+        Node::Mul { .. } => a.times(b),
+        Node::Div { .. } => quotient_range(a, b, grids),
+        _ => Some(a),
+    }
+}
+
+/// A range, if there is one, with as many places as the grids allow.
+fn rounded(range: Option<Span>, grids: Grids) -> Option<Span> {
+    match range {
+        Some(range) => Some(grids.rounded(range)),
+        None => None,
+    }
+}
+
+/// The ranges of both operands of an operation.
+fn operand_ranges(ranges: &Ranges, node: &Node) -> Option<(Span, Span)> {
+    let (a, b) = match operands(node) {
+        Some((a, b)) => (ranges.span(a), ranges.span(b)),
+        None => (None, None),
+    };
+    match (a, b) {
+        (Some(a), Some(b)) => Some((a, b)),
+        _ => None,
+    }
 }
 
 /// The plain range of an operation.
 fn plain_range(ranges: &Ranges, node: &Node) -> Option<Span> {
-    let (a, b) = operands(node)?;
-    let a = ranges.span(a)?;
-    let b = ranges.span(b)?;
-    let range = match node {
-        Node::Neg { .. } => a.negative()?,
-        Node::Add { .. } => a.plus(b)?,
-        Node::Sub { .. } => a.minus(b)?,
-        Node::Mul { .. } => a.times(b)?,
-        Node::Div { .. } => quotient_range(a, b, ranges.grids)?,
-        _ => a,
-    };
-    Some(ranges.grids.rounded(range))
+    match operand_ranges(ranges, node) {
+        Some((a, b)) => rounded(unrounded_range(node, a, b, ranges.grids), ranges.grids),
+        None => None,
+    }
 }
 
-/// The rest of the form of the product that is next, with the operands' centres.
-fn product_form(ranges: &Ranges, a: usize, b: usize) -> Option<RangeForm> {
-    let x = ranges.span(a)?;
-    let y = ranges.span(b)?;
+/// An operand of a product.
+#[derive(Clone, Copy)]
+struct Factor {
+    range: Span,
+    /// The rest of its form.
+    rest: Span,
+    centre: Dyadic,
+}
+
+/// An operand of a product, centred there.
+fn centred_factor(ranges: &Ranges, a: usize, at: Centre) -> Option<Factor> {
+    match (ranges.span(a), ranges.rest(a)) {
+        (Some(range), Some(rest)) => match centre_at(range, at, ranges.grids) {
+            Some(centre) => Some(Factor {
+                range,
+                rest,
+                centre,
+            }),
+            None => None,
+        },
+        _ => None,
+    }
+}
+
+/// The rest of the form of a product.
+fn product_rest(a: Factor, b: Factor) -> MaybeSpan {
+    let left = MaybeSpan::some(a.rest).scaled(b.centre);
+    let right = MaybeSpan::some(b.rest).scaled(a.centre);
+    let both = MaybeSpan::single(a.centre).scaled(b.centre);
+    let off_a = MaybeSpan::some(a.range).minus(MaybeSpan::single(a.centre));
+    let off_b = MaybeSpan::some(b.range).minus(MaybeSpan::single(b.centre));
+    left.plus(right).minus(both).plus(off_a.times(off_b))
+}
+
+/// The form of a product of these, before its row is written.
+fn product_form(a: Factor, b: Factor) -> Option<RangeForm> {
+    let (centre_a, centre_b) = (a.centre, b.centre);
+    match product_rest(a, b).get() {
+        Some(rest) => Some(RangeForm {
+            centre_a,
+            centre_b,
+            ..RangeForm::of_rest(rest)
+        }),
+        None => None,
+    }
+}
+
+/// The form of the product that is next, before its row is written.
+fn next_product_form(ranges: &Ranges, a: usize, b: usize) -> Option<RangeForm> {
     let centres = ranges.centres_of(ranges.spans.len());
-    let centre_a = centre_at(x, centres.a, ranges.grids)?;
-    let centre_b = centre_at(y, centres.b, ranges.grids)?;
-    let left = ranges.form_or_rest(a)?.rest.scaled(centre_b)?;
-    let right = ranges.form_or_rest(b)?.rest.scaled(centre_a)?;
-    let both = Span::single(centre_a).scaled(centre_b)?;
-    let off_a = x.minus(Span::single(centre_a))?;
-    let off_b = y.minus(Span::single(centre_b))?;
-    Some(RangeForm {
-        centre_a,
-        centre_b,
-        ..RangeForm::of_rest(left.plus(right)?.minus(both)?.plus(off_a.times(off_b)?)?)
-    })
+    match (
+        centred_factor(ranges, a, centres.a),
+        centred_factor(ranges, b, centres.b),
+    ) {
+        (Some(a), Some(b)) => product_form(a, b),
+        _ => None,
+    }
+}
+
+/// The rest of the form of an operation but a product, by those of its operands.
+fn linear_rest(node: &Node, a: MaybeSpan, b: MaybeSpan) -> MaybeSpan {
+    match node {
+        Node::Neg { .. } => a.negative(),
+        Node::Add { .. } => a.plus(b),
+        Node::Sub { .. } => a.minus(b),
+        _ => a,
+    }
+}
+
+/// The form of an operation but a product, before its row is written.
+fn linear_form(ranges: &Ranges, node: &Node, a: usize, b: usize) -> Option<RangeForm> {
+    let a = MaybeSpan::of(ranges.rest(a));
+    let b = MaybeSpan::of(ranges.rest(b));
+    match linear_rest(node, a, b).get() {
+        Some(rest) => Some(RangeForm::of_rest(rest)),
+        None => None,
+    }
 }
 
 /// What an operation's form is, before its row is written.
 fn unwritten_form(ranges: &Ranges, node: &Node, a: usize, b: usize) -> Option<RangeForm> {
-    if let Node::Mul { .. } = node {
-        return product_form(ranges, a, b);
+    match node {
+        Node::Mul { .. } => next_product_form(ranges, a, b),
+        _ => linear_form(ranges, node, a, b),
     }
-    let x = ranges.form_or_rest(a)?.rest;
-    let y = ranges.form_or_rest(b)?.rest;
-    let rest = match node {
-        Node::Neg { .. } => x.negative()?,
-        Node::Add { .. } => x.plus(y)?,
-        Node::Sub { .. } => x.minus(y)?,
-        _ => x,
-    };
-    Some(RangeForm::of_rest(rest))
 }
 
 /// Writes the form of an operation.
 fn write_form(ranges: &mut Ranges, n: usize, node: &Node, a: usize, b: usize) -> Option<RangeForm> {
-    let form = unwritten_form(ranges, node, a, b)?;
-    let mix = mix_of(node, &form, ranges.grid(a), ranges.grid(b))?;
-    write_row(
-        &mut ranges.coefficients,
-        n,
-        (a, b),
-        mix,
-        form,
-        &ranges.spans,
-        ranges.grids,
-    )
+    match unwritten_form(ranges, node, a, b) {
+        Some(form) => match mix_of(node, &form, ranges.grid(a), ranges.grid(b)) {
+            Some(mix) => write_row(
+                &mut ranges.coefficients,
+                n,
+                (a, b),
+                mix,
+                form,
+                &ranges.spans,
+                ranges.grids,
+            ),
+            None => None,
+        },
+        None => None,
+    }
 }
 
 /// The range that a form with a written row shows.
 fn shown_range(ranges: &Ranges, n: usize, form: &RangeForm) -> Option<Span> {
-    let sum = weighted(ranges.coefficients.row(n), form.e, form.rest, &ranges.spans)?;
-    Some(ranges.grids.rounded(sum))
+    let row = ranges.coefficients.row(n);
+    let sum = weighted(row, form.e, form.rest, &ranges.spans);
+    rounded(sum, ranges.grids)
 }
 
 /// The form of an operation whose row is written, and the range that it shows.
@@ -248,9 +349,59 @@ fn written_form(
     a: usize,
     b: usize,
 ) -> Option<(RangeForm, Span)> {
-    let form = write_form(ranges, n, node, a, b)?;
-    let range = shown_range(ranges, n, &form)?;
-    Some((form, range))
+    match write_form(ranges, n, node, a, b) {
+        Some(form) => match shown_range(ranges, n, &form) {
+            Some(range) => Some((form, range)),
+            None => None,
+        },
+        None => None,
+    }
+}
+
+/// The narrower of two ranges, and whether it is the second.
+fn narrower(first: Span, second: Span) -> Option<(Span, bool)> {
+    match second.is_narrower(first) {
+        Some(true) => Some((second, true)),
+        Some(false) => Some((first, false)),
+        None => None,
+    }
+}
+
+/// The narrower of an operation's plain range and its form's, with the form.
+fn with_form(plain: Span, form: RangeForm, by_form: Span) -> Option<(Span, Option<RangeForm>)> {
+    match narrower(plain, by_form) {
+        Some((range, shows_range)) => Some((
+            range,
+            Some(RangeForm {
+                shows_range,
+                ..form
+            }),
+        )),
+        None => None,
+    }
+}
+
+/// The range of an operation of which an operand has a form.
+fn formed_range(
+    ranges: &mut Ranges,
+    n: usize,
+    node: &Node,
+    (a, b): (usize, usize),
+    plain: Span,
+) -> Option<(Span, Option<RangeForm>)> {
+    match written_form(ranges, n, node, a, b) {
+        Some((form, by_form)) => with_form(plain, form, by_form),
+        None => {
+            // a form is of use and never needed: where its numbers leave 128 bits, the node has none
+            ranges.coefficients.clear(n);
+            Some((plain, None))
+        }
+    }
+}
+
+/// Whether an operation has a form, if its numbers fit: a quotient has none.
+fn may_have_form(ranges: &Ranges, node: &Node, (a, b): (usize, usize)) -> bool {
+    !matches!(node, Node::Div { .. }) && (ranges.has_form(a) || ranges.has_form(b))
 }
 
 /// The range of an operation, with its form where an operand has one.
@@ -259,53 +410,67 @@ fn operation_range(
     n: usize,
     node: &Node,
 ) -> Option<(Span, Option<RangeForm>)> {
-    let plain = plain_range(ranges, node)?;
-    let (a, b) = operands(node)?;
-    if ranges.form(a).is_none() && ranges.form(b).is_none() {
-        return Some((plain, None));
+    match (plain_range(ranges, node), operands(node)) {
+        (Some(plain), Some(both)) => if may_have_form(ranges, node, both) {
+            formed_range(ranges, n, node, both, plain)
+        } else {
+            Some((plain, None))
+        },
+        _ => None,
     }
-    if let Node::Div { .. } = node {
-        return Some((plain, None));
-    }
-    let Some((form, by_form)) = written_form(ranges, n, node, a, b) else {
-        // a form is of use and never needed: where its numbers leave 128 bits, the node has none
-        ranges.coefficients.clear(n);
-        return Some((plain, None));
-    };
-    let shows_range = by_form.is_narrower(plain)?;
-    let range = if shows_range { by_form } else { plain };
-    Some((
-        range,
-        Some(RangeForm {
-            shows_range,
-            ..form
-        }),
-    ))
 }
 
-/// The range of an input, whose form is itself.
-fn input_range(
-    function: &Function,
+/// The range of an input.
+fn input_range(function: &Function, k: usize, grids: Grids) -> Option<Span> {
+    match function.inputs.as_slice().get(k) {
+        Some(input) => range_of(input.lo, input.hi, grids),
+        None => None,
+    }
+}
+
+/// This range of an input or a state, whose form is itself: its row has a one at place `k`.
+fn variable_range(
     ranges: &mut Ranges,
     n: usize,
     k: usize,
+    range: Option<Span>,
 ) -> Option<(Span, Option<RangeForm>)> {
-    let input = function.inputs.as_slice().get(k)?;
-    let range = range_of(input.lo, input.hi, ranges.grids)?;
-    ranges.coefficients.put(n, k, 1)?;
-    Some((range, Some(RangeForm::of_rest(Span::ZERO))))
+    match range {
+        Some(range) => if ranges.coefficients.put(n, k, 1) {
+            Some((range, Some(RangeForm::of_rest(Span::ZERO))))
+        } else {
+            None
+        },
+        None => None,
+    }
 }
 
-/// The range of a state, which is its box, and whose form is itself.
-fn state_range(
+/// The range of a literal, which has no form.
+fn literal_range(c: Fraction, grids: Grids) -> Option<(Span, Option<RangeForm>)> {
+    match range_between(c, c, grids) {
+        Some(range) => Some((range, None)),
+        None => None,
+    }
+}
+
+/// The range of a node behind those that have one, however great it is.
+fn any_range(
+    function: &Function,
     ranges: &mut Ranges,
     boxes: &[Span],
     n: usize,
-    k: usize,
+    node: &Node,
 ) -> Option<(Span, Option<RangeForm>)> {
-    let range = boxes.get(k).copied()?;
-    ranges.coefficients.put(n, n, 1)?;
-    Some((range, Some(RangeForm::of_rest(Span::ZERO))))
+    match node {
+        Node::Input { k } => {
+            let range = input_range(function, *k as usize, ranges.grids);
+            variable_range(ranges, n, *k as usize, range)
+        }
+        // a state's range is its box
+        Node::State { k } => variable_range(ranges, n, n, boxes.get(*k as usize).copied()),
+        Node::Const { c } => literal_range(*c, ranges.grids),
+        _ => operation_range(ranges, n, node),
+    }
 }
 
 /// The range of a node behind those that have one.
@@ -316,16 +481,44 @@ fn node_range(
     n: usize,
     node: &Node,
 ) -> Option<(Span, Option<RangeForm>)> {
-    let found = match node {
-        Node::Input { k } => input_range(function, ranges, n, *k as usize)?,
-        Node::State { k } => state_range(ranges, boxes, n, *k as usize)?,
-        Node::Const { c } => (range_between(*c, *c, ranges.grids)?, None),
-        _ => operation_range(ranges, n, node)?,
-    };
-    if bits(found.0.size()) > 62 {
-        return None;
+    match any_range(function, ranges, boxes, n, node) {
+        Some((range, form)) => if bits(range.size()) > 62 {
+            None
+        } else {
+            Some((range, form))
+        },
+        None => None,
     }
-    Some(found)
+}
+
+/// Appends the ranges of all nodes, up to the first that has none, which is told.
+fn add_ranges(
+    function: &Function,
+    list: &[Node],
+    boxes: &[Span],
+    ranges: &mut Ranges,
+) -> Result<Option<Unplanned>, Memory> {
+    for n in 0..list.len() {
+        match node_range(function, ranges, boxes, n, &list[n]) {
+            Some((span, form)) => ranges.push(span, form)?,
+            None => return Ok(Some(Unplanned::at(n))),
+        }
+    }
+    Ok(None)
+}
+
+/// The ranges with those of all nodes appended, or the first node that has none.
+fn filled(
+    function: &Function,
+    list: &[Node],
+    boxes: &[Span],
+    mut ranges: Ranges,
+) -> Result<Result<Ranges, Unplanned>, Memory> {
+    match add_ranges(function, list, boxes, &mut ranges) {
+        Ok(None) => Ok(Ok(ranges)),
+        Ok(Some(failed)) => Ok(Err(failed)),
+        Err(memory) => Err(memory),
+    }
 }
 
 /// The ranges of all nodes of a function without states, or the first node that has none.
@@ -360,16 +553,27 @@ pub fn find_centred_ranges(
 ) -> Result<Result<Ranges, Unplanned>, Memory> {
     let list = nodes.list.as_slice();
     let variables = function.inputs.len().saturating_add(boxes.len());
-    let Some(mut ranges) = Ranges::new(alloc, list.len(), variables, grids, centres)? else {
-        return Ok(Err(Unplanned::at(0)));
-    };
-    for n in 0..list.len() {
-        match node_range(function, &mut ranges, boxes, n, &list[n]) {
-            Some((span, form)) => ranges.push(span, form)?,
-            None => return Ok(Err(Unplanned::at(n))),
+    let centres = Vec::from_slice(alloc, centres)?;
+    match Coefficients::new(alloc, list.len(), variables) {
+        Ok(Some(coefficients)) => {
+            let ranges = Ranges::new(alloc, grids, coefficients, centres);
+            filled(function, list, boxes, ranges)
         }
+        Ok(None) => Ok(Err(Unplanned::at(0))),
+        Err(memory) => Err(memory),
     }
-    Ok(Ok(ranges))
+}
+
+/// The narrower of a node's plain range and its form's, and whether it is the form's.
+fn own_range(ranges: &Ranges, n: usize, node: &Node) -> Option<(Span, bool)> {
+    match (plain_range(ranges, node), ranges.form(n)) {
+        (Some(plain), Some(form)) => match shown_range(ranges, n, &form) {
+            Some(by_form) => narrower(plain, by_form),
+            None => None,
+        },
+        (Some(plain), None) => Some((plain, false)),
+        (None, _) => None,
+    }
 }
 
 /// The narrowest of a node's plain range, its form's and one that templates show, and which it is.
@@ -379,22 +583,13 @@ fn narrowest(
     node: &Node,
     by_templates: Option<Span>,
 ) -> Option<(Span, bool, bool)> {
-    let mut best = plain_range(ranges, node)?;
-    let mut by_form = false;
-    if let Some(form) = ranges.form(n) {
-        let range = shown_range(ranges, n, &form)?;
-        if range.is_narrower(best)? {
-            best = range;
-            by_form = true;
-        }
-    }
-    match by_templates {
-        Some(range) => if range.is_narrower(best)? {
-            Some((range, false, true))
-        } else {
-            Some((best, by_form, false))
+    match (own_range(ranges, n, node), by_templates) {
+        (Some((own, by_form)), Some(range)) => match narrower(own, range) {
+            Some((best, is_new)) => Some((best, by_form && !is_new, is_new)),
+            None => None,
         },
-        None => Some((best, by_form, false)),
+        (Some((own, by_form)), None) => Some((own, by_form, false)),
+        (None, _) => None,
     }
 }
 
@@ -415,11 +610,13 @@ impl Ranges {
 
     /// Narrows the range of an operation after those of its operands, and answers whether templates show it.
     pub fn narrow(&mut self, n: usize, node: &Node, by_templates: Option<Span>) -> bool {
-        let Some((span, by_form, is_by_templates)) = narrowest(self, n, node, by_templates) else {
-            return false;
-        };
-        self.put_span(n, span);
-        self.put_shown(n, by_form);
-        is_by_templates
+        match narrowest(self, n, node, by_templates) {
+            Some((span, by_form, is_by_templates)) => {
+                self.put_span(n, span);
+                self.put_shown(n, by_form);
+                is_by_templates
+            }
+            None => false,
+        }
     }
 }

@@ -7,8 +7,13 @@ use fx_span::{Grids, Span, range_between, word_error};
 
 /// Where the start value of state `k` lies, outward on a grid.
 pub fn start_range(function: &Function, k: usize, grids: Grids) -> Option<Span> {
-    let start = to_fraction(function.states.as_slice().get(k)?.start);
-    range_between(start, start, grids)
+    match function.states.as_slice().get(k) {
+        Some(state) => {
+            let start = to_fraction(state.start);
+            range_between(start, start, grids)
+        }
+        None => None,
+    }
 }
 
 /// By how much the start word of state `k` at a point differs from the start value.
@@ -19,7 +24,11 @@ pub fn start_error(
     width: u32,
     grids: Grids,
 ) -> Option<Span> {
-    let start = to_fraction(function.states.as_slice().get(k)?.start);
-    let w = start_word(function, k, point, width)?;
-    word_error(start, i128::from(w), point, grids)
+    match (
+        function.states.as_slice().get(k),
+        start_word(function, k, point, width),
+    ) {
+        (Some(state), Some(w)) => word_error(to_fraction(state.start), i128::from(w), point, grids),
+        _ => None,
+    }
 }
