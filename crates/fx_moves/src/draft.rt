@@ -59,6 +59,14 @@ pub fn places(function: &Function) -> u32 {
     u32::try_from(count).unwrap_or(u32::MAX)
 }
 
+/// Whether both trees are there and are the same.
+fn are_same(first: Option<&Expr>, second: Option<&Expr>) -> bool {
+    match (first, second) {
+        (Some(a), Some(b)) => same(a, b),
+        _ => false,
+    }
+}
+
 /// A path and what comes below it.
 pub fn joined(alloc: Global, path: &[u8], below: &[u8]) -> Result<Vec<u8>, Memory> {
     let mut whole = Vec::from_slice(alloc, path)?;
@@ -85,13 +93,17 @@ impl Draft {
 
     /// An equal draft.
     pub fn copy(&self, alloc: Global) -> Result<Draft, Memory> {
-        Ok(Draft {
-            function: self.function.copy(alloc)?,
-            steps: self.steps.copy(alloc)?,
-            limits: self.limits,
-            drawn: self.drawn,
-            is_directed: self.is_directed,
-        })
+        let steps = self.steps.copy(alloc)?;
+        match self.function.copy(alloc) {
+            Ok(function) => Ok(Draft {
+                function,
+                steps,
+                limits: self.limits,
+                drawn: self.drawn,
+                is_directed: self.is_directed,
+            }),
+            Err(memory) => Err(memory),
+        }
     }
 
     /// Takes the draft up anew: steps are drawn from here.
@@ -119,10 +131,7 @@ impl Draft {
     /// Whether both functions have the same trees.
     pub fn is_same(&self, other: &Draft) -> bool {
         for place in 0..places(&self.function) {
-            let (Some(a), Some(b)) = (self.function.tree(place), other.function.tree(place)) else {
-                return false;
-            };
-            if !same(a, b) {
+            if !are_same(self.function.tree(place), other.function.tree(place)) {
                 return false;
             }
         }
@@ -131,35 +140,48 @@ impl Draft {
 
     /// The tree at a site.
     pub fn at(&self, site: &Site) -> Option<&Expr> {
-        fx_expr::at(self.function.tree(site.place)?, &site.path)
+        match self.function.tree(site.place) {
+            Some(tree) => fx_expr::at(tree, &site.path),
+            None => None,
+        }
     }
 
     /// Makes a step, if there is room for it and it can be made.
     fn make(&mut self, alloc: Global, step: &Step) -> Result<bool, Memory> {
         if self.room() == 0 {
-            return Ok(false);
+            Ok(false)
+        } else {
+            match apply(alloc, &mut self.function, step) {
+                Ok(()) => self.count(step),
+                Err(StepFault::Memory) => Err(Memory),
+                Err(_) => Ok(false),
+            }
         }
-        match apply(alloc, &mut self.function, step) {
-            Ok(()) => {}
-            Err(StepFault::Memory) => return Err(Memory),
-            Err(_) => return Ok(false),
-        }
+    }
+
+    /// Counts a step that was made, if it was drawn, and notes it.
+    fn count(&mut self, step: &Step) -> Result<bool, Memory> {
         if !self.is_directed {
             self.drawn = self.drawn.saturating_add(1);
         }
-        self.note(step)?;
-        Ok(true)
+        match self.note(step) {
+            Ok(()) => Ok(true),
+            Err(memory) => Err(memory),
+        }
     }
 
     /// Notes a step that was made. One that undoes an earlier one takes that away, if nothing behind it is in the way.
     fn note(&mut self, step: &Step) -> Result<(), Memory> {
         let path = step.path.as_slice();
-        if let Some(rule) = inverse(step.rule) {
-            if self.steps.undo(step.place, path, rule) {
-                return Ok(());
-            }
+        let is_undone = match inverse(step.rule) {
+            Some(rule) => self.steps.undo(step.place, path, rule),
+            None => false,
+        };
+        if is_undone {
+            Ok(())
+        } else {
+            self.steps.push(step.place, path, step.rule)
         }
-        self.steps.push(step.place, path, step.rule)
     }
 
     /// Applies a rule below a site, and answers whether it matched.

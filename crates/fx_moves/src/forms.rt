@@ -7,11 +7,14 @@
 
 use crate::cleaning::clean_all;
 use crate::draft::{Draft, Site};
-use crate::factor::{Term, below, bring, factors, pull, take_signs, terms, unsigned};
-use crate::moves::{is_minus, rotate_left, rotate_right};
+use crate::factor::{
+    Term, below, bring_beside, factor_ends, factors, pull, pull_operand, take_signs, terms,
+    terms_at, unsigned,
+};
+use crate::moves::{HERE, LEFT, RIGHT, always, follow, is_minus, rotate_left, when};
 use crate::rule::{
-    ADD_NEGATION, DROP_NEGATIONS, EXCHANGE_FACTORS, EXCHANGE_TERMS, FACTOR_OF_DIFFERENCE,
-    FACTOR_OF_SUM, FOLD_PRODUCT, GROUP_FACTORS_RIGHT, NEGATE_TERMS, SUBTRACT, TAKE_NEGATION,
+    ADD_NEGATION, DROP_NEGATIONS, EXCHANGE_FACTORS, EXCHANGE_TERMS, FOLD_PRODUCT,
+    GROUP_FACTORS_RIGHT, NEGATE_TERMS, SUBTRACT, TAKE_NEGATION,
 };
 use crate::site::site_of;
 use fx_expr::{Expr, at, operand, same};
@@ -138,18 +141,23 @@ fn expansion(e: &Expr) -> Option<Turn> {
 
 /// Makes a turn.
 fn make(alloc: Global, draft: &mut Draft, site: &Site, turn: Turn) -> Result<bool, Memory> {
-    if turn.is_first {
-        return draft.apply(alloc, site, &[0], turn.rule);
-    }
-    if turn.is_second {
-        return draft.apply(alloc, site, &[1], turn.rule);
-    }
-    draft.apply(alloc, site, &[], turn.rule)
+    let below = if turn.is_first {
+        LEFT
+    } else if turn.is_second {
+        RIGHT
+    } else {
+        HERE
+    };
+    draft.apply(alloc, site, below, turn.rule)
 }
 
 /// Expands the tree at a site a little.
 fn expand_at(alloc: Global, draft: &mut Draft, site: &Site) -> Result<bool, Memory> {
-    match draft.at(site).and_then(expansion) {
+    let turn = match draft.at(site) {
+        Some(e) => expansion(e),
+        None => None,
+    };
+    match turn {
         Some(turn) => make(alloc, draft, site, turn),
         None => Ok(false),
     }
@@ -175,17 +183,32 @@ fn flatten_at(alloc: Global, draft: &mut Draft, site: &Site) -> Result<bool, Mem
     }
 }
 
-/// The paths of a product's factors that are literals, in their order. None of any other tree.
-fn literals(alloc: Global, e: &Expr) -> Result<Vec<Vec<u8>>, Memory> {
-    let mut found = Vec::new(alloc);
-    if !matches!(e, Expr::Mul(_, _)) {
-        return Ok(found);
-    }
-    let paths = factors(alloc, e)?;
-    for path in &paths {
+/// Appends those of the paths at which a literal stands.
+fn put_literals(
+    alloc: Global,
+    e: &Expr,
+    paths: &[Vec<u8>],
+    found: &mut Vec<Vec<u8>>,
+) -> Result<(), Memory> {
+    for path in paths {
         if matches!(at(e, path), Some(Expr::Lit(_))) {
             found.push(Vec::from_slice(alloc, path)?)?;
         }
+    }
+    Ok(())
+}
+
+/// Appends the paths of a product's factors that are literals.
+fn put_literal_factors(alloc: Global, e: &Expr, found: &mut Vec<Vec<u8>>) -> Result<(), Memory> {
+    let paths = factors(alloc, e)?;
+    put_literals(alloc, e, &paths, found)
+}
+
+/// The paths of a product's factors that are literals, in their order. None of any other tree.
+fn literals(alloc: Global, e: &Expr) -> Result<Vec<Vec<u8>>, Memory> {
+    let mut found = Vec::new(alloc);
+    if matches!(e, Expr::Mul(_, _)) {
+        put_literal_factors(alloc, e, &mut found)?;
     }
     Ok(found)
 }
@@ -198,38 +221,62 @@ fn literals_at(alloc: Global, draft: &Draft, site: &Site) -> Result<Vec<Vec<u8>>
     }
 }
 
+/// The operand of this number of what stands at a site.
+fn operand_at<'a>(draft: &'a Draft, site: &Site, number: u8) -> Option<&'a Expr> {
+    match draft.at(site) {
+        Some(e) => operand(e, number),
+        None => None,
+    }
+}
+
+/// Brings the last literal of the product at a site to its right end, if it has one.
+fn pull_last_literal(alloc: Global, draft: &mut Draft, site: &Site) -> Result<bool, Memory> {
+    let all = literals_at(alloc, draft, site)?;
+    match all.last() {
+        Some(path) => pull(alloc, draft, site, path),
+        None => Ok(false),
+    }
+}
+
+/// Folds the literal that is the last factor of a product and another one, which stands further left.
+fn fold_further(alloc: Global, draft: &mut Draft, site: &Site) -> Result<bool, Memory> {
+    let left = below(alloc, site, LEFT)?;
+    if pull_last_literal(alloc, draft, &left)? {
+        let turns = [
+            always(HERE, GROUP_FACTORS_RIGHT),
+            always(RIGHT, FOLD_PRODUCT),
+        ];
+        follow(alloc, draft, site, &turns)
+    } else {
+        Ok(false)
+    }
+}
+
 /// The product's last factor is a literal: brings another one beside it, and folds both.
 fn fold_last(alloc: Global, draft: &mut Draft, site: &Site) -> Result<bool, Memory> {
-    let left = below(alloc, site, &[0])?;
-    if matches!(draft.at(&left), Some(Expr::Lit(_))) {
-        return draft.apply(alloc, site, &[], FOLD_PRODUCT);
+    if matches!(operand_at(draft, site, 0), Some(Expr::Lit(_))) {
+        draft.apply(alloc, site, HERE, FOLD_PRODUCT)
+    } else {
+        fold_further(alloc, draft, site)
     }
-    let others = literals_at(alloc, draft, &left)?;
-    let Some(path) = others.last() else {
-        return Ok(false);
-    };
-    if !pull(alloc, draft, &left, path)? {
-        return Ok(false);
+}
+
+/// Brings the first of several literals of the product at a site to its right end.
+fn pull_first_literal(alloc: Global, draft: &mut Draft, site: &Site) -> Result<bool, Memory> {
+    let all = literals_at(alloc, draft, site)?;
+    match (all.first(), all.get(1)) {
+        (Some(path), Some(_)) => pull(alloc, draft, site, path),
+        _ => Ok(false),
     }
-    if !draft.apply(alloc, site, &[], GROUP_FACTORS_RIGHT)? {
-        return Ok(false);
-    }
-    draft.apply(alloc, site, &[1], FOLD_PRODUCT)
 }
 
 /// Makes one literal of two that a product has.
 fn merge_at(alloc: Global, draft: &mut Draft, site: &Site) -> Result<bool, Memory> {
-    let all = literals_at(alloc, draft, site)?;
-    if all.len() < 2 {
-        return Ok(false);
+    if pull_first_literal(alloc, draft, site)? {
+        fold_last(alloc, draft, site)
+    } else {
+        Ok(false)
     }
-    let Some(path) = all.first() else {
-        return Ok(false);
-    };
-    if !pull(alloc, draft, site, path)? {
-        return Ok(false);
-    }
-    fold_last(alloc, draft, site)
 }
 
 /// Whether a path leads to the left end.
@@ -237,14 +284,23 @@ fn is_left_end(path: &[u8]) -> bool {
     path.iter().all(|digit| *digit == 0)
 }
 
+/// Brings the last literal of the product at a site to its right end, unless it stands at the left end.
+fn pull_trailing_literal(alloc: Global, draft: &mut Draft, site: &Site) -> Result<bool, Memory> {
+    let all = literals_at(alloc, draft, site)?;
+    match all.last() {
+        Some(path) => if is_left_end(path) {
+            Ok(false)
+        } else {
+            pull(alloc, draft, site, path)
+        },
+        None => Ok(false),
+    }
+}
+
 /// Brings the literal of a product to its left end. Nothing is left to do there, so the pass goes on.
 fn lead_at(alloc: Global, draft: &mut Draft, site: &Site) -> Result<bool, Memory> {
-    let all = literals_at(alloc, draft, site)?;
-    let Some(path) = all.last() else {
-        return Ok(false);
-    };
-    if !is_left_end(path) && pull(alloc, draft, site, path)? {
-        let _ = draft.apply(alloc, site, &[], EXCHANGE_FACTORS)?;
+    if pull_trailing_literal(alloc, draft, site)? {
+        let _ = draft.apply(alloc, site, HERE, EXCHANGE_FACTORS)?;
     }
     Ok(false)
 }
@@ -258,6 +314,31 @@ fn is_variable(e: &Expr, inputs: u32, variable: u32) -> bool {
     }
 }
 
+/// Whether the variable stands at a path.
+fn is_variable_at(e: &Expr, path: &[u8], inputs: u32, variable: u32) -> bool {
+    match at(e, path) {
+        Some(factor) => is_variable(factor, inputs, variable),
+        None => false,
+    }
+}
+
+/// A copy of the first of these paths at which the variable stands.
+fn first_variable(
+    alloc: Global,
+    e: &Expr,
+    paths: &[Vec<u8>],
+    inputs: u32,
+    variable: u32,
+) -> Result<Option<Vec<u8>>, Memory> {
+    for path in paths {
+        if is_variable_at(e, path, inputs, variable) {
+            let found = Vec::from_slice(alloc, path)?;
+            return Ok(Some(found));
+        }
+    }
+    Ok(None)
+}
+
 /// The path of a variable among a product's factors.
 fn variable_path(
     alloc: Global,
@@ -265,19 +346,12 @@ fn variable_path(
     inputs: u32,
     variable: u32,
 ) -> Result<Option<Vec<u8>>, Memory> {
-    if !matches!(e, Expr::Mul(_, _)) {
-        return Ok(None);
+    if matches!(e, Expr::Mul(_, _)) {
+        let paths = factors(alloc, e)?;
+        first_variable(alloc, e, &paths, inputs, variable)
+    } else {
+        Ok(None)
     }
-    let paths = factors(alloc, e)?;
-    for path in &paths {
-        if let Some(factor) = at(e, path) {
-            if is_variable(factor, inputs, variable) {
-                let found = Vec::from_slice(alloc, path)?;
-                return Ok(Some(found));
-            }
-        }
-    }
-    Ok(None)
 }
 
 /// Whether a term has the variable as a factor, whatever its sign.
@@ -294,7 +368,7 @@ fn both_have(
     inputs: u32,
     variable: u32,
 ) -> Result<bool, Memory> {
-    match draft.at(site).and_then(terms) {
+    match terms_at(draft, site) {
         Some((x, y)) => {
             let first = has_variable(alloc, x, inputs, variable)?;
             Ok(first && has_variable(alloc, y, inputs, variable)?)
@@ -317,27 +391,64 @@ fn turn_sign(alloc: Global, draft: &mut Draft, site: &Site) -> Result<(), Memory
         Some(e) => begins_negated(e),
         None => false,
     };
-    if is_turned && draft.apply(alloc, site, &[], EXCHANGE_TERMS)? {
-        let _ = draft.apply(alloc, site, &[], SUBTRACT)?;
-    }
+    let turns = [
+        when(is_turned, HERE, EXCHANGE_TERMS),
+        when(is_turned, HERE, SUBTRACT),
+    ];
+    let _ = follow(alloc, draft, site, &turns)?;
     Ok(())
 }
 
-/// Brings a variable to the right end of the product at a site.
+/// The path of a variable among the factors of the operand of this number.
+fn variable_path_at(
+    alloc: Global,
+    draft: &Draft,
+    site: &Site,
+    number: u8,
+    inputs: u32,
+    variable: u32,
+) -> Result<Option<Vec<u8>>, Memory> {
+    match operand_at(draft, site, number) {
+        Some(e) => variable_path(alloc, e, inputs, variable),
+        None => Ok(None),
+    }
+}
+
+/// Brings a variable to the right end of the product that is the operand of this number.
 fn pull_variable(
+    alloc: Global,
+    draft: &mut Draft,
+    site: &Site,
+    number: u8,
+    inputs: u32,
+    variable: u32,
+) -> Result<bool, Memory> {
+    match variable_path_at(alloc, draft, site, number, inputs, variable)? {
+        Some(path) => pull_operand(alloc, draft, site, number, &path),
+        None => Ok(false),
+    }
+}
+
+/// Takes a sum's signs into its factors or into the sum.
+fn turn_signs(alloc: Global, draft: &mut Draft, site: &Site) -> Result<bool, Memory> {
+    turn_sign(alloc, draft, site)?;
+    take_signs(alloc, draft, site)
+}
+
+/// `x * v + y * v` to `(x + y) * v`, where `v` may stand anywhere in both products, and the signs are taken.
+fn take_out_unsigned(
     alloc: Global,
     draft: &mut Draft,
     site: &Site,
     inputs: u32,
     variable: u32,
 ) -> Result<bool, Memory> {
-    let found = match draft.at(site) {
-        Some(e) => variable_path(alloc, e, inputs, variable)?,
-        None => None,
-    };
-    match found {
-        Some(path) => pull(alloc, draft, site, &path),
-        None => Ok(false),
+    if pull_variable(alloc, draft, site, 0, inputs, variable)?
+        && pull_variable(alloc, draft, site, 1, inputs, variable)?
+    {
+        factor_ends(alloc, draft, site)
+    } else {
+        Ok(false)
     }
 }
 
@@ -349,25 +460,34 @@ fn take_out(
     inputs: u32,
     variable: u32,
 ) -> Result<bool, Memory> {
-    if !both_have(alloc, draft, site, inputs, variable)? {
-        return Ok(false);
+    if both_have(alloc, draft, site, inputs, variable)? && turn_signs(alloc, draft, site)? {
+        take_out_unsigned(alloc, draft, site, inputs, variable)
+    } else {
+        Ok(false)
     }
-    turn_sign(alloc, draft, site)?;
-    if !take_signs(alloc, draft, site)? {
-        return Ok(false);
+}
+
+/// The term at this depth of a chain that has the variable.
+fn partner_at(
+    alloc: Global,
+    (left, right): (&Expr, &Expr),
+    depth: usize,
+    inputs: u32,
+    variable: u32,
+) -> Result<Option<Term>, Memory> {
+    if has_variable(alloc, right, inputs, variable)? {
+        Ok(Some(Term {
+            depth,
+            is_first: false,
+        }))
+    } else if terms(left).is_none() && has_variable(alloc, left, inputs, variable)? {
+        Ok(Some(Term {
+            depth,
+            is_first: true,
+        }))
+    } else {
+        Ok(None)
     }
-    let left = below(alloc, site, &[0])?;
-    let right = below(alloc, site, &[1])?;
-    if !pull_variable(alloc, draft, &left, inputs, variable)?
-        || !pull_variable(alloc, draft, &right, inputs, variable)?
-    {
-        return Ok(false);
-    }
-    let rule = match draft.at(site) {
-        Some(Expr::Sub(_, _)) => FACTOR_OF_DIFFERENCE,
-        _ => FACTOR_OF_SUM,
-    };
-    draft.apply(alloc, site, &[], rule)
 }
 
 /// The nearest term of a chain that has the variable.
@@ -379,22 +499,16 @@ fn partner(
 ) -> Result<Option<Term>, Memory> {
     let mut here = chain;
     for depth in 0..HEIGHT_LIMIT as usize {
-        let Some((left, right)) = terms(here) else {
-            return Ok(None);
-        };
-        if has_variable(alloc, right, inputs, variable)? {
-            return Ok(Some(Term {
-                depth,
-                is_first: false,
-            }));
+        match terms(here) {
+            Some((left, right)) => {
+                let found = partner_at(alloc, (left, right), depth, inputs, variable)?;
+                if found.is_some() {
+                    return Ok(found);
+                }
+                here = left;
+            }
+            None => return Ok(None),
         }
-        if terms(left).is_none() && has_variable(alloc, left, inputs, variable)? {
-            return Ok(Some(Term {
-                depth,
-                is_first: true,
-            }));
-        }
-        here = left;
     }
     Ok(None)
 }
@@ -409,6 +523,18 @@ enum Front {
     Chain(Term),
 }
 
+/// Where the variable stands in what is before the last term, which has it.
+fn front_before(alloc: Global, chain: &Expr, inputs: u32, variable: u32) -> Result<Front, Memory> {
+    if is_minus(chain).is_none() {
+        Ok(Front::Single)
+    } else {
+        match partner(alloc, chain, inputs, variable)? {
+            Some(term) => Ok(Front::Chain(term)),
+            None => Ok(Front::Nothing),
+        }
+    }
+}
+
 /// Where the variable stands before the last term of the chain at a site, which has it too.
 fn front_of(
     alloc: Global,
@@ -417,18 +543,30 @@ fn front_of(
     inputs: u32,
     variable: u32,
 ) -> Result<Front, Memory> {
-    let Some((chain, last)) = draft.at(site).and_then(terms) else {
-        return Ok(Front::Nothing);
-    };
-    if !has_variable(alloc, last, inputs, variable)? {
-        return Ok(Front::Nothing);
-    }
-    if is_minus(chain).is_none() {
-        return Ok(Front::Single);
-    }
-    match partner(alloc, chain, inputs, variable)? {
-        Some(term) => Ok(Front::Chain(term)),
+    match terms_at(draft, site) {
+        Some((chain, last)) => if has_variable(alloc, last, inputs, variable)? {
+            front_before(alloc, chain, inputs, variable)
+        } else {
+            Ok(Front::Nothing)
+        },
         None => Ok(Front::Nothing),
+    }
+}
+
+/// Takes the variable out of the last term of the chain at a site and this one.
+fn take_out_with(
+    alloc: Global,
+    draft: &mut Draft,
+    site: &Site,
+    term: Term,
+    inputs: u32,
+    variable: u32,
+) -> Result<bool, Memory> {
+    if bring_beside(alloc, draft, site, term)? {
+        let right = below(alloc, site, RIGHT)?;
+        take_out(alloc, draft, &right, inputs, variable)
+    } else {
+        Ok(false)
     }
 }
 
@@ -443,24 +581,18 @@ fn factor_at(
     match front_of(alloc, draft, site, inputs, variable)? {
         Front::Nothing => Ok(false),
         Front::Single => take_out(alloc, draft, site, inputs, variable),
-        Front::Chain(term) => {
-            if !bring(alloc, draft, site, term)? || !rotate_right(alloc, draft, site)? {
-                return Ok(false);
-            }
-            let right = below(alloc, site, &[1])?;
-            take_out(alloc, draft, &right, inputs, variable)
-        }
+        Front::Chain(term) => take_out_with(alloc, draft, site, term, inputs, variable),
     }
 }
 
 /// Whether a tree is `(a * x) * x`.
 fn is_paired(e: &Expr) -> bool {
-    let Expr::Mul(a, c) = e else {
-        return false;
-    };
-    match operand(a, 1) {
-        Some(b) => matches!(**a, Expr::Mul(_, _)) && same(b, c),
-        None => false,
+    match e {
+        Expr::Mul(a, c) => match operand(a, 1) {
+            Some(b) => matches!(**a, Expr::Mul(_, _)) && same(b, c),
+            None => false,
+        },
+        _ => false,
     }
 }
 
@@ -495,6 +627,27 @@ fn turn_at(
     }
 }
 
+/// Has a pass look at the operation of this number, if there is one, and gives the number of the one to look at next.
+fn pass_over(
+    alloc: Global,
+    draft: &mut Draft,
+    inputs: u32,
+    pass: Pass,
+    number: u32,
+) -> Result<Option<u32>, Memory> {
+    match site_of(alloc, &draft.function, number)? {
+        Some(site) => {
+            let is_changed = turn_at(alloc, draft, &site, inputs, pass)?;
+            Ok(Some(if is_changed {
+                number.saturating_sub(2)
+            } else {
+                number.saturating_add(1)
+            }))
+        }
+        None => Ok(None),
+    }
+}
+
 /// A pass over all operations.
 fn run(alloc: Global, draft: &mut Draft, pass: Pass) -> Result<(), Memory> {
     let inputs = u32::try_from(draft.function.inputs.len()).unwrap_or(u32::MAX);
@@ -503,14 +656,10 @@ fn run(alloc: Global, draft: &mut Draft, pass: Pass) -> Result<(), Memory> {
         if draft.function.nodes() > MOST_NODES {
             return Ok(());
         }
-        let Some(site) = site_of(alloc, &draft.function, number)? else {
-            return Ok(());
-        };
-        number = if turn_at(alloc, draft, &site, inputs, pass)? {
-            number.saturating_sub(2)
-        } else {
-            number.saturating_add(1)
-        };
+        match pass_over(alloc, draft, inputs, pass, number)? {
+            Some(next) => number = next,
+            None => return Ok(()),
+        }
     }
     Ok(())
 }

@@ -13,22 +13,22 @@ use fx_num::Memory;
 use std::alloc::Global;
 
 /// The tree itself.
-const HERE: &[u8] = &[];
+pub const HERE: &[u8] = &[];
 /// Its first operand.
-const LEFT: &[u8] = &[0];
+pub const LEFT: &[u8] = &[0];
 /// Its second operand.
-const RIGHT: &[u8] = &[1];
+pub const RIGHT: &[u8] = &[1];
 
 /// A rule at a path below a move's site, if the move has it.
 #[derive(Clone, Copy)]
-struct Turn<'a> {
+pub struct Turn<'a> {
     is_part: bool,
     below: &'a [u8],
     rule: u8,
 }
 
 /// A rule at a path, if it is part of a move.
-fn when<'a>(is_part: bool, below: &'a [u8], rule: u8) -> Turn<'a> {
+pub fn when<'a>(is_part: bool, below: &'a [u8], rule: u8) -> Turn<'a> {
     Turn {
         is_part,
         below,
@@ -37,12 +37,12 @@ fn when<'a>(is_part: bool, below: &'a [u8], rule: u8) -> Turn<'a> {
 }
 
 /// A rule at a path.
-fn always<'a>(below: &'a [u8], rule: u8) -> Turn<'a> {
+pub fn always<'a>(below: &'a [u8], rule: u8) -> Turn<'a> {
     when(true, below, rule)
 }
 
 /// Makes the turns in their order, and answers whether all were made.
-fn follow(
+pub fn follow(
     alloc: Global,
     draft: &mut Draft,
     site: &Site,
@@ -65,73 +65,99 @@ pub fn is_minus(e: &Expr) -> Option<bool> {
     }
 }
 
+/// Whether an operand of a tree is a difference, if it is a sum or a difference.
+fn is_operand_minus(e: &Expr, number: u8) -> Option<bool> {
+    match operand(e, number) {
+        Some(a) => is_minus(a),
+        None => None,
+    }
+}
+
 /// Whether the tree at a site, and one of its operands, are differences.
 fn signs(draft: &Draft, site: &Site, number: u8) -> Option<(bool, bool)> {
-    let e = draft.at(site)?;
-    Some((is_minus(e)?, is_minus(operand(e, number)?)?))
+    let (outer, inner) = match draft.at(site) {
+        Some(e) => (is_minus(e), is_operand_minus(e, number)),
+        None => (None, None),
+    };
+    match (outer, inner) {
+        (Some(outer), Some(inner)) => Some((outer, inner)),
+        _ => None,
+    }
 }
 
 /// `(a + b) + c` to `(a + c) + b`, with any signs.
 pub fn swap(alloc: Global, draft: &mut Draft, site: &Site) -> Result<bool, Memory> {
-    let Some((outer, inner)) = signs(draft, site, 0) else {
-        return Ok(false);
-    };
-    let turns = [
-        when(outer, HERE, ADD_NEGATION),
-        when(inner, LEFT, ADD_NEGATION),
-        always(HERE, GROUP_TERMS_RIGHT),
-        always(RIGHT, EXCHANGE_TERMS),
-        always(HERE, GROUP_TERMS_LEFT),
-        when(outer, LEFT, SUBTRACT),
-        when(inner, HERE, SUBTRACT),
-    ];
-    follow(alloc, draft, site, &turns)
+    match signs(draft, site, 0) {
+        Some((outer, inner)) => {
+            let turns = [
+                when(outer, HERE, ADD_NEGATION),
+                when(inner, LEFT, ADD_NEGATION),
+                always(HERE, GROUP_TERMS_RIGHT),
+                always(RIGHT, EXCHANGE_TERMS),
+                always(HERE, GROUP_TERMS_LEFT),
+                when(outer, LEFT, SUBTRACT),
+                when(inner, HERE, SUBTRACT),
+            ];
+            follow(alloc, draft, site, &turns)
+        }
+        None => Ok(false),
+    }
 }
 
 /// `(a + b) + c` to `a + (b + c)`, with any signs.
 pub fn rotate_right(alloc: Global, draft: &mut Draft, site: &Site) -> Result<bool, Memory> {
-    let Some((outer, inner)) = signs(draft, site, 0) else {
-        return Ok(false);
-    };
-    let turns = [
-        when(outer, HERE, ADD_NEGATION),
-        when(inner, LEFT, ADD_NEGATION),
-        always(HERE, GROUP_TERMS_RIGHT),
-        when(inner && !outer, RIGHT, EXCHANGE_TERMS),
-        when(inner || outer, RIGHT, SUBTRACT),
-    ];
-    follow(alloc, draft, site, &turns)
+    match signs(draft, site, 0) {
+        Some((outer, inner)) => {
+            let turns = [
+                when(outer, HERE, ADD_NEGATION),
+                when(inner, LEFT, ADD_NEGATION),
+                always(HERE, GROUP_TERMS_RIGHT),
+                when(inner && !outer, RIGHT, EXCHANGE_TERMS),
+                when(inner || outer, RIGHT, SUBTRACT),
+            ];
+            follow(alloc, draft, site, &turns)
+        }
+        None => Ok(false),
+    }
 }
 
 /// `a + (b + c)` to `(a + b) + c`, with any signs.
 pub fn rotate_left(alloc: Global, draft: &mut Draft, site: &Site) -> Result<bool, Memory> {
-    let Some((outer, inner)) = signs(draft, site, 1) else {
-        return Ok(false);
-    };
-    let both = outer && inner;
-    let turns = [
-        when(outer, HERE, ADD_NEGATION),
-        when(both, &[1, 0], ADD_NEGATION),
-        when(outer, RIGHT, NEGATE_TERMS),
-        when(both, &[1, 1], DROP_NEGATIONS),
-        when(inner && !outer, RIGHT, ADD_NEGATION),
-        always(HERE, GROUP_TERMS_LEFT),
-        when(outer, LEFT, SUBTRACT),
-        when(outer != inner, HERE, SUBTRACT),
-    ];
-    follow(alloc, draft, site, &turns)
+    match signs(draft, site, 1) {
+        Some((outer, inner)) => {
+            let both = outer && inner;
+            let turns = [
+                when(outer, HERE, ADD_NEGATION),
+                when(both, &[1, 0], ADD_NEGATION),
+                when(outer, RIGHT, NEGATE_TERMS),
+                when(both, &[1, 1], DROP_NEGATIONS),
+                when(inner && !outer, RIGHT, ADD_NEGATION),
+                always(HERE, GROUP_TERMS_LEFT),
+                when(outer, LEFT, SUBTRACT),
+                when(outer != inner, HERE, SUBTRACT),
+            ];
+            follow(alloc, draft, site, &turns)
+        }
+        None => Ok(false),
+    }
 }
 
 /// `a + b` to `b + a`, and `a - b` to `-b + a`.
 pub fn turn_round(alloc: Global, draft: &mut Draft, site: &Site) -> Result<bool, Memory> {
-    let Some(minus) = draft.at(site).and_then(is_minus) else {
-        return Ok(false);
+    let minus = match draft.at(site) {
+        Some(e) => is_minus(e),
+        None => None,
     };
-    let turns = [
-        when(minus, HERE, ADD_NEGATION),
-        always(HERE, EXCHANGE_TERMS),
-    ];
-    follow(alloc, draft, site, &turns)
+    match minus {
+        Some(minus) => {
+            let turns = [
+                when(minus, HERE, ADD_NEGATION),
+                always(HERE, EXCHANGE_TERMS),
+            ];
+            follow(alloc, draft, site, &turns)
+        }
+        None => Ok(false),
+    }
 }
 
 /// `(a * b) * c` to `(a * c) * b`.

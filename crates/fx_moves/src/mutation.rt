@@ -4,7 +4,7 @@ use crate::cleaning::{clean, clean_all};
 use crate::draft::{Draft, Site};
 use crate::drawing::{draw, draw_index};
 use crate::factor::chain_factor;
-use crate::moves::{rotate_left, rotate_right, swap};
+use crate::moves::{HERE, rotate_left, rotate_right, swap};
 use crate::rule::rules_of;
 use crate::site::{operations, site_of};
 use fx_expr::Function;
@@ -18,6 +18,33 @@ const DRAWS: u32 = 10;
 /// At most so many sums are looked at for one that can be factored, times the operations of the function.
 const LOOKS: u32 = 1 << 16;
 
+/// Takes a drawn one out of a list, if there is any.
+fn take_drawn<R: Rng, T: Copy>(rng: &mut R, list: &mut Vec<T>) -> Option<T> {
+    match draw_index(rng, list.len()) {
+        Some(i) => Some(list.swap_remove(i)),
+        None => None,
+    }
+}
+
+/// Applies one of these rules that matches the tree at a site, each with the same chance.
+fn any_rule<R: Rng>(
+    alloc: Global,
+    rng: &mut R,
+    draft: &mut Draft,
+    site: &Site,
+    rules: &mut Vec<u8>,
+) -> Result<bool, Memory> {
+    for _turn in 0..rules.len() {
+        match take_drawn(rng, rules) {
+            Some(rule) => if draft.apply(alloc, site, HERE, rule)? {
+                return Ok(true);
+            },
+            None => return Ok(false),
+        }
+    }
+    Ok(false)
+}
+
 /// Applies one rule that matches the tree at a site, each with the same chance.
 fn single_rule<R: Rng>(
     alloc: Global,
@@ -25,20 +52,13 @@ fn single_rule<R: Rng>(
     draft: &mut Draft,
     site: &Site,
 ) -> Result<bool, Memory> {
-    let Some(e) = draft.at(site) else {
-        return Ok(false);
-    };
-    let mut rules = Vec::from_slice(alloc, rules_of(e))?;
-    for _turn in 0..rules.len() {
-        let Some(i) = draw_index(rng, rules.len()) else {
-            return Ok(false);
-        };
-        let rule = rules.swap_remove(i);
-        if draft.apply(alloc, site, &[], rule)? {
-            return Ok(true);
+    match draft.at(site) {
+        Some(e) => {
+            let mut rules = Vec::from_slice(alloc, rules_of(e))?;
+            any_rule(alloc, rng, draft, site, &mut rules)
         }
+        None => Ok(false),
     }
-    Ok(false)
 }
 
 /// A random move at a site: three times of ten a single rule.
@@ -49,14 +69,15 @@ fn move_at<R: Rng>(
     site: &Site,
 ) -> Result<bool, Memory> {
     if draw(rng, 10) < 3 {
-        return single_rule(alloc, rng, draft, site);
-    }
-    match draw(rng, 5) {
-        0 => swap(alloc, draft, site),
-        1 => rotate_left(alloc, draft, site),
-        2 => rotate_right(alloc, draft, site),
-        3 => chain_factor(alloc, rng, draft, site),
-        _ => clean(alloc, draft, site),
+        single_rule(alloc, rng, draft, site)
+    } else {
+        match draw(rng, 5) {
+            0 => swap(alloc, draft, site),
+            1 => rotate_left(alloc, draft, site),
+            2 => rotate_right(alloc, draft, site),
+            3 => chain_factor(alloc, rng, draft, site),
+            _ => clean(alloc, draft, site),
+        }
     }
 }
 
@@ -68,19 +89,26 @@ fn random_site<R: Rng>(
 ) -> Result<Option<Site>, Memory> {
     let count = operations(function);
     if count == 0 {
-        return Ok(None);
+        Ok(None)
+    } else {
+        let number = draw(rng, count);
+        site_of(alloc, function, number)
     }
-    let number = draw(rng, count);
-    site_of(alloc, function, number)
+}
+
+/// Tries a random move at a random operation, and answers whether it is the last try: one that changed anything, or of
+/// a function without operations.
+fn try_move<R: Rng>(alloc: Global, rng: &mut R, draft: &mut Draft) -> Result<bool, Memory> {
+    match random_site(alloc, rng, &draft.function)? {
+        Some(site) => move_at(alloc, rng, draft, &site),
+        None => Ok(true),
+    }
 }
 
 /// One random move at a random operation.
 fn random_move<R: Rng>(alloc: Global, rng: &mut R, draft: &mut Draft) -> Result<(), Memory> {
     for _turn in 0..DRAWS {
-        let Some(site) = random_site(alloc, rng, &draft.function)? else {
-            return Ok(());
-        };
-        if move_at(alloc, rng, draft, &site)? {
+        if try_move(alloc, rng, draft)? {
             return Ok(());
         }
     }
@@ -111,24 +139,50 @@ fn numbers(alloc: Global, count: u32) -> Result<Vec<u32>, Memory> {
     Ok(list)
 }
 
+/// Factors the sum of this number, and answers whether it could be. None where there is no such operation.
+fn factor_number<R: Rng>(
+    alloc: Global,
+    rng: &mut R,
+    draft: &mut Draft,
+    number: u32,
+) -> Result<Option<bool>, Memory> {
+    match site_of(alloc, &draft.function, number)? {
+        Some(site) => {
+            let is_factored = chain_factor(alloc, rng, draft, &site)?;
+            Ok(Some(is_factored))
+        }
+        None => Ok(None),
+    }
+}
+
+/// Factors one of these sums, drawn in random order, looking at so many.
+fn factor_one_of<R: Rng>(
+    alloc: Global,
+    rng: &mut R,
+    draft: &mut Draft,
+    list: &mut Vec<u32>,
+    looks: u32,
+) -> Result<bool, Memory> {
+    for _turn in 0..looks {
+        let found = match take_drawn(rng, list) {
+            Some(number) => factor_number(alloc, rng, draft, number)?,
+            None => None,
+        };
+        match found {
+            Some(true) => return Ok(true),
+            Some(false) => {}
+            None => return Ok(false),
+        }
+    }
+    Ok(false)
+}
+
 /// Factors one of the sums, drawn in random order, and answers whether there was any that could be.
 fn factor_any<R: Rng>(alloc: Global, rng: &mut R, draft: &mut Draft) -> Result<bool, Memory> {
     let count = operations(&draft.function);
     let mut list = numbers(alloc, count)?;
     let looks = count.min((LOOKS / count.max(1)).max(64));
-    for _turn in 0..looks {
-        let Some(i) = draw_index(rng, list.len()) else {
-            return Ok(false);
-        };
-        let number = list.swap_remove(i);
-        let Some(site) = site_of(alloc, &draft.function, number)? else {
-            return Ok(false);
-        };
-        if chain_factor(alloc, rng, draft, &site)? {
-            return Ok(true);
-        }
-    }
-    Ok(false)
+    factor_one_of(alloc, rng, draft, &mut list, looks)
 }
 
 /// Cleans and factors the draft, in random order, until nothing is left.

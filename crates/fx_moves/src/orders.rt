@@ -81,21 +81,33 @@ fn order_of(alloc: Global, count: usize, number: usize) -> Result<Vec<u32>, Memo
     }
 }
 
+/// Makes the form by this order of the variables, with squares by themselves or not.
+fn form_by(
+    alloc: Global,
+    draft: &mut Draft,
+    order: &[u32],
+    has_squares: bool,
+) -> Result<bool, Memory> {
+    clean_all(alloc, draft)?;
+    expand_all(alloc, draft)?;
+    factor_by(alloc, draft, order)?;
+    if has_squares {
+        pair_squares(alloc, draft)?;
+    }
+    Ok(true)
+}
+
 /// Makes the form of this number of a draft that stands at its source, and answers whether there is one.
 pub fn form(alloc: Global, draft: &mut Draft, number: u32) -> Result<bool, Memory> {
     let count = variables(&draft.function);
     let place = (number / 2) as usize;
     if count > MOST_VARIABLES || place >= orders(count) {
-        return Ok(false);
+        Ok(false)
+    } else {
+        let order = order_of(alloc, count, place)?;
+        let was = draft.direct(true);
+        let is_made = form_by(alloc, draft, &order, number % 2 == 1);
+        let _ = draft.direct(was);
+        is_made
     }
-    let order = order_of(alloc, count, place)?;
-    let was = draft.direct(true);
-    clean_all(alloc, draft)?;
-    expand_all(alloc, draft)?;
-    factor_by(alloc, draft, &order)?;
-    if number % 2 == 1 {
-        pair_squares(alloc, draft)?;
-    }
-    let _ = draft.direct(was);
-    Ok(true)
 }
