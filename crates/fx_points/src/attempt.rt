@@ -2,7 +2,7 @@
 ghost use Rattle.std.specs.Prelude.{◌≡◌, length, IfOk, IfErr};
 ghost use Rattle.fx_points.specs.Faults.{BlamesOneOf};
 
-use crate::choice::Choice;
+use crate::choice::{Choice, Choices};
 use crate::entry::Entry;
 use crate::facts::NodeFacts;
 use crate::fault::PointFault;
@@ -63,10 +63,18 @@ fn passed_entry(before: &[Entry], a: u32, cap: i8) -> Option<Entry> {
     }
 }
 
+/// The entry of these choices, if there are any.
+fn listed(choices: Option<Choices>) -> Option<Entry> {
+    match choices {
+        Some(choices) => Some(Entry::Listed(choices)),
+        None => None,
+    }
+}
+
 /// The points that a sum or a difference may have.
 fn sum_entry(before: &[Entry], a: u32, b: u32, room: Room) -> Option<Entry> {
     match both_of(before, a, b) {
-        Some((x, y)) => sum(x, y, room).map(Entry::Listed),
+        Some((x, y)) => listed(sum(x, y, room)),
         None => None,
     }
 }
@@ -91,7 +99,7 @@ fn product_entry(
     room: Room,
 ) -> Option<Entry> {
     match (factor(facts, before, a), factor(facts, before, b)) {
-        (Some(x), Some(y)) => product(x, y, room).map(Entry::Listed),
+        (Some(x), Some(y)) => listed(product(x, y, room)),
         _ => None,
     }
 }
@@ -168,12 +176,20 @@ fn entries(alloc: Global, task: Task, caps: &[i8]) -> Result<Vec<Entry>, PointFa
 {
     let mut entries = Vec::new(alloc);
     for n in 0..caps.len() {
-        let Some(entry) = settled_entry(&task, &entries, n, caps[n]) else {
-            return Err(PointFault::NoPoint { node: n });
-        };
-        entries.push(entry)?;
+        match settled_entry(&task, &entries, n, caps[n]) {
+            Some(entry) => entries.push(entry)?,
+            None => return Err(PointFault::NoPoint { node: n }),
+        }
     }
     Ok(entries)
+}
+
+/// The cheapest point of a node.
+fn best_point(entry: &Entry) -> i8 {
+    match entry.best() {
+        Some(choice) => choice.point,
+        None => 0,
+    }
 }
 
 /// The cheapest point of each node.
@@ -182,8 +198,7 @@ fn best_points(alloc: Global, entries: &[Entry]) -> Result<Vec<i8>, Memory>
 {
     let mut points = Vec::new(alloc);
     for entry in entries {
-        let point = entry.best().map_or(0, |c| c.point);
-        points.push(point)?;
+        points.push(best_point(entry))?;
     }
     Ok(points)
 }
@@ -198,21 +213,33 @@ fn set(points: &mut [i8], operand: Option<u32>, point: i8) {
     }
 }
 
+/// Gives the operands of a node the points that its choice asks for, if it has one. Answers the cost with that of an
+/// output added.
+fn hand_on(node: &Node, choice: Option<Choice>, points: &mut [i8], cost: Real) -> Real {
+    match choice {
+        Some(choice) => {
+            let (left, right) = operands(node);
+            set(points, left, choice.left);
+            set(points, right, choice.right);
+            match node {
+                Node::Copy { .. } => cost.plus(choice.cost),
+                _ => cost,
+            }
+        }
+        None => cost,
+    }
+}
+
 /// From the last node to the first, gives the operands the points that the node's own point asks for. Answers the
 /// summed cost of the outputs.
 fn hand_down(nodes: &[Node], entries: &[Entry], points: &mut [i8]) -> Real {
     let mut cost = Real::ZERO;
     for n in (0..points.len()).rev() {
-        if let (Some(node), Some(entry)) = (nodes.get(n), entries.get(n)) {
-            if let Some(choice) = entry.at(i32::from(points[n])) {
-                let (left, right) = operands(node);
-                set(points, left, choice.left);
-                set(points, right, choice.right);
-                if matches!(node, Node::Copy { .. }) {
-                    cost = cost.plus(choice.cost);
-                }
-            }
-        }
+        let point = i32::from(points[n]);
+        cost = match (nodes.get(n), entries.get(n)) {
+            (Some(node), Some(entry)) => hand_on(node, entry.at(point), points, cost),
+            _ => cost,
+        };
     }
     cost
 }

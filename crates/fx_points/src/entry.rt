@@ -37,11 +37,13 @@ impl Exact {
 
     /// An exact literal's points up to a cap.
     fn capped(&self, cap: i32) -> Option<Exact> {
-        let finest = self.within(i32::from(self.least), cap)?;
-        Some(Exact {
-            least: self.least,
-            greatest: finest.point,
-        })
+        match self.within(i32::from(self.least), cap) {
+            Some(finest) => Some(Exact {
+                least: self.least,
+                greatest: finest.point,
+            }),
+            None => None,
+        }
     }
 }
 
@@ -59,7 +61,10 @@ impl Entry {
     pub fn finest(&self) -> Option<i32> {
         match self {
             Entry::Exact(x) => Some(i32::from(x.greatest)),
-            Entry::Listed(list) => list.finest().map(|c| i32::from(c.point)),
+            Entry::Listed(list) => match list.finest() {
+                Some(choice) => Some(i32::from(choice.point)),
+                None => None,
+            },
         }
     }
 
@@ -98,7 +103,10 @@ impl Entry {
     /// The points up to a cap, each for itself: a negation and a copy shift nothing.
     pub fn passed_on(&self, cap: i32) -> Option<Entry> {
         match self {
-            Entry::Exact(x) => x.capped(cap).map(Entry::Exact),
+            Entry::Exact(x) => match x.capped(cap) {
+                Some(capped) => Some(Entry::Exact(capped)),
+                None => None,
+            },
             Entry::Listed(list) => Some(Entry::Listed(list.capped(cap))),
         }
     }

@@ -3,7 +3,7 @@
 use fx_span::Real;
 
 /// What the choice of points reads of a node beside the node list.
-#[derive(Clone, Copy, Debug)]
+#[derive(Clone, Copy)]
 pub struct NodeFacts {
     /// The greatest point at which its range fits the word: from -64 to 62, or below where no point is left.
     pub cap: i32,

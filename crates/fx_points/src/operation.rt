@@ -36,16 +36,23 @@ pub fn input(error: Real, cap: i8) -> Choices {
     })
 }
 
+/// A choice with the floor at point `f`.
+fn floored(choice: Option<Choice>, f: i8) -> Option<Choice> {
+    match choice {
+        Some(c) => Some(Choice {
+            cost: c.cost.plus(unit(f)),
+            ..c
+        }),
+        None => None,
+    }
+}
+
 /// The cheapest point of an operand of a sum at point `f`, with the floor where it is finer.
 fn term(operand: &Entry, f: i8, width: i8) -> Option<Choice> {
     let point = i32::from(f);
     let kept = operand.cheapest(point - i32::from(width), point);
     let shifted = operand.cheapest(point + 1, point + 64);
-    let floored = shifted.map(|c| Choice {
-        cost: c.cost.plus(unit(f)),
-        ..c
-    });
-    cheaper(floored, kept)
+    cheaper(floored(shifted, f), kept)
 }
 
 /// The choice of a sum at point `f`.
@@ -174,9 +181,10 @@ pub struct Factor<'a> {
 pub fn product(a: Factor, b: Factor, room: Room) -> Option<Choices> {
     match (a.entry, b.entry) {
         (Entry::Exact(x), Entry::Listed(list)) => scaled(*x, a.size, list, room),
-        (Entry::Listed(list), Entry::Exact(x)) => {
-            scaled(*x, b.size, list, room).map(|choices| choices.turned())
-        }
+        (Entry::Listed(list), Entry::Exact(x)) => match scaled(*x, b.size, list, room) {
+            Some(choices) => Some(choices.turned()),
+            None => None,
+        },
         _ => whole_product(a, b, room),
     }
 }
@@ -187,7 +195,7 @@ fn quotient_at(a: &Entry, b: &Choices, rates: Rates, f: i8, width: i8) -> Option
     for y in b.as_slice() {
         let to = i32::from(f) + i32::from(y.point);
         let x = a.cheapest(to - i32::from(width), to);
-        best = cheaper(best, x.map(|x| rates.quotient_choice(x, *y, f)));
+        best = cheaper(best, rates.choice(x, Some(*y), f));
     }
     best
 }
@@ -198,7 +206,7 @@ fn divided_at(a: &Choices, b: Exact, rates: Rates, f: i8, width: i8) -> Option<C
     for x in a.as_slice() {
         let from = i32::from(x.point) - i32::from(f);
         let y = b.within(from, from + i32::from(width));
-        best = cheaper(best, y.map(|y| rates.quotient_choice(*x, y, f)));
+        best = cheaper(best, rates.choice(Some(*x), y, f));
     }
     best
 }
@@ -213,6 +221,14 @@ pub struct Rates {
 }
 
 impl Rates {
+    /// The choice of a quotient at point `f`, if both operands have one.
+    fn choice(self, x: Option<Choice>, y: Option<Choice>, f: i8) -> Option<Choice> {
+        match (x, y) {
+            (Some(x), Some(y)) => Some(self.quotient_choice(x, y, f)),
+            _ => None,
+        }
+    }
+
     /// The choice of a quotient at point `f`, whose floor errs to both sides.
     fn quotient_choice(self, x: Choice, y: Choice, f: i8) -> Choice {
         let passed = x.cost.plus(self.size.times(y.cost)).times(self.inverse);
