@@ -10,7 +10,7 @@ use fx_fraction::{Decimal, to_fraction};
 use fx_span::{Real, Span};
 
 /// What bounds are measured by: those of another plan.
-#[derive(Clone, Copy, Debug)]
+#[derive(Clone, Copy)]
 pub struct Goal<'a> {
     /// The bounds of the other plan, one for each output. Where there is none, 1 stands for it.
     pub references: &'a [Real],
@@ -18,7 +18,7 @@ pub struct Goal<'a> {
 
 /// What is paid for a plan, or for none. Their order is that of the costs: any plan's is below that of none, then the
 /// excess decides, and of equal ones the mean.
-#[derive(Clone, Copy, Debug, PartialEq, Eq, PartialOrd, Ord)]
+#[derive(Clone, Copy, PartialEq, PartialOrd)]
 pub enum Cost {
     /// The greatest quotient of a bound by what it has to keep, but at least 1, and more where an output leaves a
     /// demanded end; and the mean of those by the references.

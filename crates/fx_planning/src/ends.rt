@@ -20,33 +20,59 @@ const PUSHES: usize = 2;
 /// How far values on a grid, down to `lo`, are below a demanded end.
 fn lack(end: Decimal, lo: i128, e: u32) -> Option<i128> {
     let c = to_fraction(end);
-    ceil_at(c.p, c.q, i32::try_from(e).ok()?)?.checked_sub(lo)
+    let least = match i32::try_from(e) {
+        Ok(f) => ceil_at(c.p, c.q, f),
+        Err(_) => None,
+    };
+    match least {
+        Some(least) => least.checked_sub(lo),
+        None => None,
+    }
 }
 
 /// How far values on a grid, up to `hi`, are above a demanded end.
 fn surplus(end: Decimal, hi: i128, e: u32) -> Option<i128> {
     let c = to_fraction(end);
-    hi.checked_sub(floor_at(c.p, c.q, i32::try_from(e).ok()?)?)
+    let greatest = match i32::try_from(e) {
+        Ok(f) => floor_at(c.p, c.q, f),
+        Err(_) => None,
+    };
+    match greatest {
+        Some(greatest) => hi.checked_sub(greatest),
+        None => None,
+    }
+}
+
+/// By how much values have to move up to keep a lower end.
+fn upward(end: Option<Decimal>, values: Span) -> Real {
+    let units = match end {
+        Some(end) => lack(end, values.lo, values.e),
+        None => None,
+    };
+    Real::of(units.unwrap_or(0).max(0), values.e)
+}
+
+/// By how much values have to move down to keep an upper end.
+fn downward(end: Option<Decimal>, values: Span) -> Real {
+    let units = match end {
+        Some(end) => surplus(end, values.hi, values.e),
+        None => None,
+    };
+    Real::of(units.unwrap_or(0).max(0), values.e)
 }
 
 /// By how much an output's error has to move up for its values to keep the demanded lower end, and how far down for the
 /// upper one. Zero where they are kept, and where an end doesn't fit: the checker judges what is found.
 pub fn moves_wanted(demand: Demand, range: Span, error: Span) -> (Real, Real) {
-    if demand.lo.is_none() && demand.hi.is_none() {
-        return (Real::ZERO, Real::ZERO);
+    let values = if demand.lo.is_none() && demand.hi.is_none() {
+        None
+    } else {
+        range.plus(error)
+    };
+    match values {
+        Some(values) => (upward(demand.lo, values), downward(demand.hi, values)),
+        None => (Real::ZERO, Real::ZERO),
     }
-    let Some(values) = range.plus(error) else {
-        return (Real::ZERO, Real::ZERO);
-    };
-    let up = match demand.lo {
-        Some(end) => lack(end, values.lo, values.e).unwrap_or(0).max(0),
-        None => 0,
-    };
-    let down = match demand.hi {
-        Some(end) => surplus(end, values.hi, values.e).unwrap_or(0).max(0),
-        None => 0,
-    };
-    (Real::of(up, values.e), Real::of(down, values.e))
 }
 
 /// What an output's ends cost: 1 where they are kept, and the more the further they are left, by the error's size.
@@ -60,28 +86,60 @@ pub fn end_excess(demand: Demand, range: Span, error: Span, bound: Real) -> Real
     }
 }
 
+/// By how many units a literal has to be moved, up or down, to shift an error by so much, if its slope by unit has a
+/// sign.
+fn units_for(slope: RealSpan, by: Real) -> Option<i64> {
+    if Real::ZERO < slope.lo {
+        by.over(slope.lo).floor()
+    } else if slope.hi < Real::ZERO {
+        by.over(slope.hi.negative()).floor()
+    } else {
+        None
+    }
+}
+
 /// The move of one literal that shifts an error by so much, up or down, if its slope by unit has a sign.
 fn push(node: usize, slope: RealSpan, ends: RealSpan, by: Real, is_up: bool) -> Option<Move> {
-    let is_rising = Real::ZERO < slope.lo;
-    if !is_rising && slope.hi >= Real::ZERO {
-        return None;
+    match units_for(slope, by) {
+        Some(size) => {
+            let is_rising = Real::ZERO < slope.lo;
+            let size = size.max(1);
+            let units = if is_rising == is_up {
+                size
+            } else {
+                size.saturating_neg()
+            };
+            Some(Move {
+                node,
+                units,
+                bound: bound_after(ends, slope, units),
+            })
+        }
+        None => None,
     }
-    let least = if is_rising {
-        slope.lo
-    } else {
-        slope.hi.negative()
+}
+
+/// The better of the best push so far and that by a node, if it is a literal.
+fn with_push(
+    best: Option<Move>,
+    n: usize,
+    code: &Code,
+    slope: RealSpan,
+    ends: RealSpan,
+    by: Real,
+    is_up: bool,
+) -> Option<Move> {
+    let found = match code {
+        Code::Const { f, .. } => {
+            let slope = slope.scaled(Real::power(f.saturating_neg()));
+            push(n, slope, ends, by, is_up)
+        }
+        _ => None,
     };
-    let size = by.over(least).floor()?.max(1);
-    let units = if is_rising == is_up {
-        size
-    } else {
-        size.saturating_neg()
-    };
-    Some(Move {
-        node,
-        units,
-        bound: bound_after(ends, slope, units),
-    })
+    match found {
+        Some(found) => lesser(best, found),
+        None => best,
+    }
 }
 
 /// The literal's move that shifts an output's error by so much at the least bound.
@@ -94,14 +152,47 @@ fn best_push(
 ) -> Option<Move> {
     let mut best = None;
     for (n, (code, slope)) in codes.iter().zip(slopes).enumerate() {
-        if let Code::Const { f, .. } = code {
-            let slope = slope.scaled(Real::power(f.saturating_neg()));
-            if let Some(found) = push(n, slope, ends, by, is_up) {
-                best = lesser(best, found);
-            }
-        }
+        best = with_push(best, n, code, *slope, ends, by, is_up);
     }
     best
+}
+
+/// The move that brings an output nearer to its demanded ends, where its error has to move up or down by so much.
+fn push_by(
+    codes: &[Code],
+    slopes: &[RealSpan],
+    ends: RealSpan,
+    (up, down): (Real, Real),
+) -> Option<Move> {
+    let is_up = !up.is_zero();
+    let by = if is_up { up } else { down };
+    if by.is_zero() {
+        None
+    } else {
+        best_push(codes, slopes, ends, by, is_up)
+    }
+}
+
+/// The move that brings output `j`, which is node `n`, nearer to its demanded ends, if one does.
+fn next_push(
+    setting: &Setting<'_>,
+    plan: &Plan,
+    slopes: &[RealSpan],
+    j: usize,
+    n: usize,
+) -> Option<Move> {
+    let function = setting.function;
+    match (
+        function.demands.as_slice().get(j),
+        setting.ranges.span(n),
+        plan.errors.span(n),
+    ) {
+        (Some(demand), Some(range), Some(error)) => {
+            let wanted = moves_wanted(*demand, range, error);
+            push_by(&plan.codes, slopes, RealSpan::of(error), wanted)
+        }
+        _ => None,
+    }
 }
 
 /// Moves one word so that output `j`, which is node `n`, comes nearer to its demanded ends, and answers whether it did.
@@ -113,22 +204,7 @@ fn push_once(
     j: usize,
     n: usize,
 ) -> Result<bool, Memory> {
-    let function = setting.function;
-    let demands = function.demands.as_slice();
-    let (Some(demand), Some(range), Some(error)) = (
-        demands.get(j),
-        setting.ranges.span(n),
-        plan.errors.span(n),
-    ) else {
-        return Ok(false);
-    };
-    let (up, down) = moves_wanted(*demand, range, error);
-    let is_up = !up.is_zero();
-    let by = if is_up { up } else { down };
-    if by.is_zero() {
-        return Ok(false);
-    }
-    match best_push(&plan.codes, slopes, RealSpan::of(error), by, is_up) {
+    match next_push(setting, plan, slopes, j, n) {
         Some(best) => try_word(alloc, setting, plan, best.node, best.units),
         None => Ok(false),
     }

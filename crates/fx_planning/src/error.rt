@@ -14,7 +14,7 @@ use fx_span::{MaybeSpan, Span, reading_error, word_error};
 use std::alloc::Global;
 
 /// What the second pass says of all nodes.
-#[derive(Debug, Drop)]
+#[derive(Drop)]
 pub struct Errors {
     /// The error of each node.
     pub spans: Vec<Span>,
@@ -37,10 +37,14 @@ impl Errors {
         }
     }
 
-    fn push(&mut self, error: NodeError) -> Result<(), Memory> {
+    /// Appends the error of node `n`.
+    fn push(&mut self, n: usize, error: NodeError, is_small: bool) -> Result<(), Memory> {
         self.spans.push(error.span)?;
         self.rests.push(error.rest)?;
         self.shown.push(error.is_shown)?;
+        if is_small {
+            self.small.push(Unplanned::at(n).node)?;
+        }
         Ok(())
     }
 
@@ -410,12 +414,9 @@ fn add_errors(
     is_centred: bool,
 ) -> Result<Option<Unplanned>, Memory> {
     for n in 0..setting.nodes.len() {
-        let Some((error, is_small)) = node_error(setting, codes, errors, n, is_centred) else {
-            return Ok(Some(Unplanned::at(n)));
-        };
-        errors.push(error)?;
-        if is_small {
-            errors.small.push(Unplanned::at(n).node)?;
+        match node_error(setting, codes, errors, n, is_centred) {
+            Some((error, is_small)) => errors.push(n, error, is_small)?,
+            None => return Ok(Some(Unplanned::at(n))),
         }
     }
     Ok(None)

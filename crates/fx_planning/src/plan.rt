@@ -14,7 +14,7 @@ use fx_wanted::Wanted;
 use std::alloc::Global;
 
 /// The codes of all nodes, their errors, and what the plan costs.
-#[derive(Debug, Drop)]
+#[derive(Drop)]
 pub struct Plan {
     /// What was asked of its words.
     pub wanted: Wanted,
@@ -24,6 +24,17 @@ pub struct Plan {
 }
 
 impl Plan {
+    /// That of these codes, which err so.
+    fn of(setting: &Setting<'_>, codes: Vec<Code>, errors: Errors) -> Plan {
+        let cost = cost_of(setting, outputs_of(setting, &errors));
+        Plan {
+            wanted: setting.wanted,
+            codes,
+            errors,
+            cost,
+        }
+    }
+
     /// What it costs.
     pub fn cost(&self) -> Cost {
         self.cost
@@ -73,17 +84,11 @@ pub fn planned(
     is_centred: bool,
 ) -> Result<Result<Plan, Unplanned>, Memory> {
     let mut codes = codes;
-    let errors = match find_errors(alloc, setting, &mut codes, is_centred)? {
-        Ok(errors) => errors,
-        Err(failed) => return Ok(Err(failed)),
-    };
-    let cost = cost_of(setting, outputs_of(setting, &errors));
-    Ok(Ok(Plan {
-        wanted: setting.wanted,
-        codes,
-        errors,
-        cost,
-    }))
+    match find_errors(alloc, setting, &mut codes, is_centred) {
+        Ok(Ok(errors)) => Ok(Ok(Plan::of(setting, codes, errors))),
+        Ok(Err(failed)) => Ok(Err(failed)),
+        Err(memory) => Err(memory),
+    }
 }
 
 /// Tunes a plan in which no word is too small.

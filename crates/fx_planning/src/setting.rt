@@ -15,7 +15,7 @@ use std::alloc::Global;
 const BITS_LESS: u32 = 8;
 
 /// A function's nodes and their ranges, what is asked of its words, and what its bounds are measured by.
-#[derive(Clone, Copy, Debug)]
+#[derive(Clone, Copy)]
 pub struct Setting<'a> {
     pub function: &'a Function,
     pub nodes: &'a [Node],

@@ -12,6 +12,7 @@ use fx_num::Memory;
 use fx_program::Code;
 use fx_span::{Real, RealSpan, word_at};
 use std::alloc::Global;
+use std::mem::replace;
 
 /// The most units that a word is moved by.
 const MOVE_LIMIT: i64 = 1 << 20;
@@ -20,7 +21,7 @@ const MOVE_LIMIT: i64 = 1 << 20;
 const ROUNDS: usize = 2;
 
 /// A word moved, and about what the output's bound comes to.
-#[derive(Clone, Copy, Debug)]
+#[derive(Clone, Copy)]
 pub struct Move {
     pub node: usize,
     pub units: i64,
@@ -53,6 +54,35 @@ pub fn lesser(best: Option<Move>, other: Move) -> Option<Move> {
     }
 }
 
+/// By how many units a literal with this slope by unit has to be moved for the middle of the ends to come to zero, if it
+/// moves them.
+fn units_to_middle(slope: RealSpan, ends: RealSpan) -> Option<i64> {
+    let twice = slope.lo.plus(slope.hi);
+    if twice.is_zero() {
+        None
+    } else {
+        ends.lo.plus(ends.hi).negative().over(twice).floor()
+    }
+}
+
+/// The better of the best move so far and this one of a literal, where it is one and below the limit.
+fn with_move(
+    best: Option<Move>,
+    node: usize,
+    slope: RealSpan,
+    units: i64,
+    ends: RealSpan,
+    limit: Real,
+) -> Option<Move> {
+    let bound = bound_after(ends, slope, units);
+    let is_move = units != 0 && units.unsigned_abs() <= MOVE_LIMIT.unsigned_abs();
+    if is_move && bound < limit {
+        lesser(best, Move { node, units, bound })
+    } else {
+        best
+    }
+}
+
 /// The better of the best move so far and those of one literal whose point is `f`, where one is below the limit.
 fn better(
     best: Option<Move>,
@@ -63,28 +93,13 @@ fn better(
     limit: Real,
 ) -> Option<Move> {
     let slope = slope.scaled(Real::power(f.saturating_neg()));
-    let twice = slope.lo.plus(slope.hi);
-    if twice.is_zero() {
-        return best;
-    }
-    let Some(units) = ends.lo.plus(ends.hi).negative().over(twice).floor() else {
-        return best;
-    };
-    let mut found = best;
-    for t in units..units.saturating_add(2) {
-        let bound = bound_after(ends, slope, t);
-        if t != 0 && t.unsigned_abs() <= MOVE_LIMIT.unsigned_abs() && bound < limit {
-            found = lesser(
-                found,
-                Move {
-                    node,
-                    units: t,
-                    bound,
-                },
-            );
+    match units_to_middle(slope, ends) {
+        Some(units) => {
+            let first = with_move(best, node, slope, units, ends, limit);
+            with_move(first, node, slope, units.saturating_add(1), ends, limit)
         }
+        None => best,
     }
-    found
 }
 
 /// The move that seems best for an output.
@@ -133,6 +148,7 @@ fn cheaper_plan(
         Ok(plan) => if plan.is_below(cost) {
             Ok(Some(plan))
         } else {
+            drop(plan);
             Ok(None)
         },
         Err(_) => Ok(None),
@@ -166,7 +182,7 @@ pub fn try_word(
 ) -> Result<bool, Memory> {
     match moved_plan(alloc, setting, plan, n, units)? {
         Some(cheaper) => {
-            *plan = cheaper;
+            drop(replace(plan, cheaper));
             Ok(true)
         }
         None => Ok(false),
@@ -188,10 +204,10 @@ fn tune_by(
         None => None,
     };
     match best {
-        Some(best) => {
-            try_word(alloc, setting, plan, best.node, best.units)?;
-            Ok(true)
-        }
+        Some(best) => match try_word(alloc, setting, plan, best.node, best.units) {
+            Ok(_) => Ok(true),
+            Err(memory) => Err(memory),
+        },
         None => Ok(false),
     }
 }
