@@ -149,39 +149,29 @@ impl Draft {
     /// Makes a step, if there is room for it and it can be made.
     fn make(&mut self, alloc: Global, step: &Step) -> Result<bool, Memory> {
         if self.room() == 0 {
-            Ok(false)
-        } else {
-            match apply(alloc, &mut self.function, step) {
-                Ok(()) => self.count(step),
-                Err(StepFault::Memory) => Err(Memory),
-                Err(_) => Ok(false),
-            }
+            return Ok(false);
         }
-    }
-
-    /// Counts a step that was made, if it was drawn, and notes it.
-    fn count(&mut self, step: &Step) -> Result<bool, Memory> {
+        match apply(alloc, &mut self.function, step) {
+            Ok(()) => {}
+            Err(StepFault::Memory) => return Err(Memory),
+            Err(_) => return Ok(false),
+        }
         if !self.is_directed {
             self.drawn = self.drawn.saturating_add(1);
         }
-        match self.note(step) {
-            Ok(()) => Ok(true),
-            Err(memory) => Err(memory),
-        }
+        self.note(step)?;
+        Ok(true)
     }
 
     /// Notes a step that was made. One that undoes an earlier one takes that away, if nothing behind it is in the way.
     fn note(&mut self, step: &Step) -> Result<(), Memory> {
         let path = step.path.as_slice();
-        let is_undone = match inverse(step.rule) {
-            Some(rule) => self.steps.undo(step.place, path, rule),
-            None => false,
-        };
-        if is_undone {
-            Ok(())
-        } else {
-            self.steps.push(step.place, path, step.rule)
+        if let Some(rule) = inverse(step.rule) {
+            if self.steps.undo(step.place, path, rule) {
+                return Ok(());
+            }
         }
+        self.steps.push(step.place, path, step.rule)
     }
 
     /// Applies a rule below a site, and answers whether it matched.

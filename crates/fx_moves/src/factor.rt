@@ -68,27 +68,6 @@ pub fn factors(alloc: Global, e: &Expr) -> Result<Vec<Vec<u8>>, Memory> {
     Ok(out)
 }
 
-impl Common {
-    /// A factor with these paths.
-    fn new(alloc: Global, factor: &Expr, left: &[u8], right: &[u8]) -> Result<Common, Memory> {
-        let left = Vec::from_slice(alloc, left)?;
-        let right = Vec::from_slice(alloc, right)?;
-        Ok(Common {
-            left,
-            right,
-            is_literal: matches!(factor, Expr::Lit(_)),
-        })
-    }
-}
-
-/// Whether what stands at a path of a tree is the same as a factor.
-fn stands_at(y: &Expr, path: &[u8], factor: &Expr) -> bool {
-    match at(y, path) {
-        Some(other) => same(factor, other),
-        None => false,
-    }
-}
-
 /// Appends what a factor has in common with those of another product.
 fn put_common(
     alloc: Global,
@@ -99,45 +78,31 @@ fn put_common(
     out: &mut Vec<Common>,
 ) -> Result<(), Memory> {
     for right in rights {
-        if stands_at(y, right, factor) {
-            out.push(Common::new(alloc, factor, left, right)?)?;
+        if let Some(other) = at(y, right) {
+            if same(factor, other) {
+                out.push(Common {
+                    left: Vec::from_slice(alloc, left)?,
+                    right: Vec::from_slice(alloc, right)?,
+                    is_literal: matches!(factor, Expr::Lit(_)),
+                })?;
+            }
         }
     }
     Ok(())
-}
-
-/// Appends what the factors of a product at these paths have in common with those of another.
-fn put_all_common(
-    alloc: Global,
-    (x, lefts): (&Expr, &[Vec<u8>]),
-    (y, rights): (&Expr, &[Vec<u8>]),
-    out: &mut Vec<Common>,
-) -> Result<(), Memory> {
-    for left in lefts {
-        if let Some(factor) = at(x, left) {
-            put_common(alloc, factor, left, y, rights, out)?;
-        }
-    }
-    Ok(())
-}
-
-/// Appends the factors that two products have in common.
-fn put_common_factors(
-    alloc: Global,
-    x: &Expr,
-    y: &Expr,
-    out: &mut Vec<Common>,
-) -> Result<(), Memory> {
-    let lefts = factors(alloc, x)?;
-    let rights = factors(alloc, y)?;
-    put_all_common(alloc, (x, &lefts), (y, &rights), out)
 }
 
 /// The factors that two products have in common.
 fn common_factors(alloc: Global, x: &Expr, y: &Expr) -> Result<Vec<Common>, Memory> {
     let mut out = Vec::new(alloc);
-    if matches!(x, Expr::Mul(_, _)) && matches!(y, Expr::Mul(_, _)) {
-        put_common_factors(alloc, x, y, &mut out)?;
+    if !matches!(x, Expr::Mul(_, _)) || !matches!(y, Expr::Mul(_, _)) {
+        return Ok(out);
+    }
+    let lefts = factors(alloc, x)?;
+    let rights = factors(alloc, y)?;
+    for left in &lefts {
+        if let Some(factor) = at(x, left) {
+            put_common(alloc, factor, left, y, &rights, &mut out)?;
+        }
     }
     Ok(out)
 }
