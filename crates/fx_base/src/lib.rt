@@ -14,7 +14,8 @@
 //! before (`asked`). `put_all` appends all (`all`) or, where a write failed, a front (`front`, `cause`). The kinds in
 //! memory `BytesIn`, `CleanIn`, `BytesOut`, `Silent` and `Papers` say what each call gives and leaves (`count`,
 //! `after`) and which fails (`fails`; of `BytesOut` want of memory may fail others; `CleanIn` and `Silent` never fail).
-//! Real streams and files are the program's own and tell nothing.
+//! Real streams and files, `StdIn`, `StdOut`, `StdErr` and `Files`, are what both programs hand on: they tell nothing, so
+//! no clause says that a stream gives what it holds.
 //!
 //! *The lines of a source, one at a time.* `next_line` answers a line as soon as the bytes taken hold its end and reads
 //! only where they hold none (`lazy`); whatever comes behind the bytes taken, the line is the first of their lines, of
@@ -26,8 +27,8 @@
 //! # Inside
 //!
 //! Whoever reads a file or a stream answers a fault only where a count rose, so that every status of a command has its
-//! cause. The kinds in memory tell all of their bytes and fail at the calls that a test names; the real files and
-//! streams are the program's own and tell nothing.
+//! cause. The kinds in memory tell all of their bytes and fail at the calls that a test names; the real streams and
+//! files (`outside.rt`) are the trusted edge.
 //!
 //! The trap: a read may come in pieces, so a short read isn't the end. `Ok(0)` for a buffer with room is.
 #![tactic(auto)]
@@ -39,6 +40,7 @@ mod cuts;
 mod fetch;
 mod held;
 mod lines;
+mod outside;
 mod shelves;
 mod sinks;
 mod sources;
@@ -46,6 +48,7 @@ mod whole;
 
 pub use answers::{Failed, InFault, LineFault, Status};
 pub use lines::{LineStep, Lines};
+pub use outside::{Files, StdErr, StdIn, StdOut};
 pub use shelves::{FileName, Papers, Shelf};
 pub use sinks::{BytesOut, Silent, Sink};
 pub use sources::{BytesIn, CleanIn, Source};

@@ -2,15 +2,14 @@
 ghost use Rattle.std.specs.Prelude.{◌≡◌, ◌++◌, ◌∷◌, [], ◌<◌, length, OnOk, IfOk};
 ghost use Rattle.std.specs.Fmt.{decimal};
 ghost use Rattle.fx_model.specs.LineText.{line_text, numbered_lines};
-ghost use Rattle.fx_packed.specs.Packed.{size_of};
+ghost use Rattle.fx_mixed.specs.Packed.{size_of};
 ghost use Rattle.fx_widths.specs.LeastWidths.{least_widths};
 ghost use Rattle.fx_bundle_commands.specs.commands.Widths.{bytes_line, width_line, widths_text};
 
 use crate::table::{codes_of, name_at};
 use fx_checker::Certified;
-use fx_mixed::{least_width, least_widths};
+use fx_mixed::{byte_count, least_width, least_widths};
 use fx_num::Memory;
-use fx_packed::byte_count;
 use fx_text::{begin_line, end_line, put_number, put_one, put_word};
 use itoa::Buffer;
 use std::alloc::{AllocError, Global};

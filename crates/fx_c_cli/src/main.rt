@@ -10,9 +10,8 @@
 //! words can't even be taken.
 #![tactic(auto)]
 
-use fx_base::Status;
+use fx_base::{Files, Status, StdErr, StdOut};
 use fx_c_command::{End, finish, fixd_c};
-use fx_outside::{Files, StdErr, StdOut};
 use std::env;
 use std::io::ErrorKind;
 use std::process::ExitCode;

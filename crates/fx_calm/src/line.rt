@@ -17,9 +17,8 @@ use crate::magnitude::units;
 use fx_cert::{NodeLine, StartBox, Template, unit_vector};
 use fx_expr::{Function, Items};
 use fx_grid::up_quotient;
-use fx_interval::Interval;
+use fx_num::{Dyadic, Interval, Memory};
 use fx_lowering::state_count;
-use fx_num::{Dyadic, Memory};
 use std::alloc::Global;
 
 /// `m` units `2^-f`, in lowest terms.

@@ -8,7 +8,7 @@ ghost use Rattle.fx_cert.specs.Sides.{side_at, side_rest};
 
 use crate::certificate::NodeLine;
 use crate::lookup::{affine_error_rest, affine_rest, error_at, range_at};
-use fx_interval::Interval;
+use fx_num::Interval;
 
 /// Which of the two.
 #[derive(Clone, Copy)]

@@ -12,9 +12,8 @@
 //! the words can't even be taken.
 #![tactic(auto)]
 
-use fx_base::Status;
+use fx_base::{Files, Status, StdErr, StdIn, StdOut};
 use fx_command::{End, fixd};
-use fx_outside::{Files, StdErr, StdIn, StdOut};
 use std::env;
 use std::io::ErrorKind;
 use std::process::ExitCode;

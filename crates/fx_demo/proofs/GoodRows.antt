@@ -7,8 +7,8 @@ use Rattle.fx_rational.specs.Decimal.{Decimal}
 use Rattle.fx_model.specs.Function.{Function}
 use Rattle.fx_model.specs.Limits.{line_limit}
 use Rattle.fx_base.specs.Text.{lines_in}
-use Rattle.fx_fields.specs.Line.{has_mark, is_return, is_special, line_fields, pieces}
-use Rattle.fx_fields.proofs.PlainLines.{unmarked_plain_line}
+use Rattle.fx_rows.specs.Line.{has_mark, is_return, is_special, line_fields, pieces}
+use Rattle.fx_rows.proofs.PlainLines.{unmarked_plain_line}
 use Rattle.fx_rows.specs.Blanks.{without_blanks}
 use Rattle.fx_rows.specs.Faults.{RowFlaw}
 use Rattle.fx_rows.specs.Header.{column_names, columns_from, header_of, header_of_fields, with_columns}

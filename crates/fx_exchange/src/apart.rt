@@ -4,8 +4,7 @@ use crate::basis::{ScaledTemplates, exchange};
 use crate::budget::Budget;
 use fx_cert::{Share, Template};
 use fx_expr::Items;
-use fx_interval::Interval;
-use fx_num::{Dyadic, Memory, dsub};
+use fx_num::{Dyadic, Interval, Memory, dsub};
 use fx_reach::{PLACES, Pool, ceil_at, floor_at, magnitude, times, with_scaled};
 use std::alloc::Global;
 

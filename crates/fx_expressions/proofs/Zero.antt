@@ -1,6 +1,6 @@
 -- The literal of the decimal zero is the whole number zero.
 use Rattle.std.proofs.Common.{◌≡◌, pos, refl}
-use Rattle.fx_algebra.specs.Gcd.{gcd}
+use Rattle.fx_rational.specs.Gcd.{gcd}
 use Rattle.fx_rational.specs.Rational.{over, lowest, whole}
 use Rattle.fx_rational.specs.Decimal.{decimal_value}
 

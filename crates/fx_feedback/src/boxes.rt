@@ -1,8 +1,7 @@
 //! Boxes of states: where each is taken to lie, until its template says so.
 
 use fx_cert::Template;
-use fx_interval::Interval;
-use fx_num::{Memory, bits, floor_shift, left_fits};
+use fx_num::{Interval, Memory, bits, floor_shift, left_fits};
 use fx_span::Span;
 use fx_writing::interval;
 use std::alloc::Global;

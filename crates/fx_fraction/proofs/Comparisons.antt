@@ -2,7 +2,7 @@
 use Rattle.std.proofs.Common.{◌≡◌, ℕ, ◌^◌, pos, ◌*ℤ◌, ◌≤ℤ◌, sym, subst}
 use Rattle.std.specs.Prelude.{int_le}
 use Rattle.std.specs.Cmp.{both_ways}
-use Rattle.fx_algebra.proofs.Order.{pow_above}
+use Rattle.fx_rational.proofs.Order.{pow_above}
 use Rattle.fx_rational.specs.Rational.{Rational, bottom, over, is_at_most, floor_div, ceil_div}
 use Rattle.fx_rational.specs.Dyadic.{Dyadic, dyadic_value}
 use Rattle.fx_rational.proofs.Floors.{le_floor, ceiling_le}

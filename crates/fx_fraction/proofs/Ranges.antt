@@ -6,8 +6,8 @@ use Rattle.std.proofs.lemmas.Nat.{mul-lt, mul-le, pow-add}
 use Rattle.std.proofs.lemmas.Int.{ints, unsigned_abs-mul, to_z-of_z}
 use Rattle.std.specs.Cmp.{both_ways}
 use lib.IntN.{*ℤ_comm}
-use Rattle.fx_algebra.proofs.Integers.{le_by_certificate, neg_ℤ-*ℤ, mul_above, mul_nonneg, nonneg_of_above, difference_nonneg, suc_above}
-use Rattle.fx_algebra.proofs.Quote.{by_quotes, quotes}
+use Rattle.fx_rational.proofs.Integers.{le_by_certificate, neg_ℤ-*ℤ, mul_above, mul_nonneg, nonneg_of_above, difference_nonneg, suc_above}
+use Rattle.fx_rational.proofs.Quote.{by_quotes, quotes}
 use Rattle.fx_rational.specs.Rational.{over, plus, minus, negative, is_at_most}
 use Rattle.fx_rational.specs.Decimal.{Decimal, decimal_value}
 use Rattle.fx_fraction.specs.Units.{smallest_units}

@@ -6,8 +6,8 @@ use Rattle.std.proofs.Math.Nat.{div-le_self}
 use Rattle.std.proofs.lemmas.Nat.{mul-lt}
 use Rattle.std.proofs.lemmas.Int.{ints, fits_signed_mul, unsigned_abs-mul, to_z-of_z}
 use Rattle.std.proofs.lemmas.Nat.Gcd.{same_from_IsGcd}
-use Rattle.fx_algebra.specs.Gcd.{gcd}
-use Rattle.fx_algebra.proofs.LowestTerms.{gcd_is}
+use Rattle.fx_rational.specs.Gcd.{gcd}
+use Rattle.fx_rational.proofs.LowestTerms.{gcd_is}
 use Rattle.fx_rational.specs.Rational.{Rational, bottom, over, negative, quotient, divided, lowest}
 use Rattle.fx_rational.specs.Decimal.{Decimal}
 use Rattle.fx_rational.proofs.Lowest.{suc_pred, size-neg_ℤ, part_some, lowest_top, lowest_bottom}

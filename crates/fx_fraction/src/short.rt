@@ -11,7 +11,8 @@ ghost use Rattle.fx_fraction.specs.DecimalOf.{trimmed, within_limits, decimal_of
 ghost use Rattle.fx_fraction.specs.Kept.{Keeps, FitsFront, zeros_of};
 ghost use Rattle.fx_fraction.specs.ReadParts.{IsBelowTens, IsMantissa, IsShortNumber, IsShortPart};
 
-use crate::decimal::{Decimal, signed};
+use crate::decimal::Decimal;
+use crate::fewest::fewest_places;
 use crate::read::{Mantissa, behind_sign, is_negative};
 use crate::significant::Significant;
 
@@ -113,24 +114,6 @@ pub fn read_short(body: &[u8]) -> Option<Mantissa>
     })
 }
 
-/// The decimal of a number and its places, in the fewest places.
-fn lowered(is_negative: bool, size: u64, places: u8) -> Decimal
-    requires few { places ≤ 18 }
-    requires small { size < 2 ^ 62 }
-    ensures { within_limits is_negative (trimmed size places) ≡ Ok result }
-{
-    let mut front = size;
-    let mut left = places;
-    while left > 0 && front % 10 == 0 {
-        front /= 10;
-        left -= 1;
-    }
-    Decimal {
-        a: signed(is_negative, front),
-        b: left,
-    }
-}
-
 /// The decimal that a text spells, where it is short and has no power of ten.
 pub fn read_plain(text: &[u8]) -> Option<Decimal>
     ensures { IfSome result (λ d. decimal_of text.now ≡ Ok d) }
@@ -140,5 +123,5 @@ pub fn read_plain(text: &[u8]) -> Option<Decimal>
     if number.end < body.len() || number.places > 18 {
         return None;
     }
-    Some(lowered(is_negative(text), number.size, number.places as u8))
+    fewest_places(is_negative(text), number.size, number.places as u8)
 }

@@ -6,7 +6,7 @@ use Rattle.std.specs.Int.{w128}
 use Rattle.std.proofs.lemmas.Int.{ints}
 use Rattle.std.proofs.lemmas.Bool.{and_parts}
 use Rattle.std.proofs.Math.Nat.{mul-pos}
-use Rattle.fx_algebra.proofs.Integers.{neg_ℤ-*ℤ}
+use Rattle.fx_rational.proofs.Integers.{neg_ℤ-*ℤ}
 use Rattle.fx_rational.specs.Rational.{Rational, bottom, over, plus, minus, negative, floor_div, Equal, AtMost, is_positive, is_negative, above_zero, below_zero}
 use Rattle.fx_rational.specs.Dyadic.{Dyadic, dyadic_value, zero_dyadic, dyadic_difference, least, greatest, is_dyadic_at_most}
 use Rattle.fx_rational.specs.Interval.{Interval}

@@ -2,8 +2,8 @@
 use Rattle.std.proofs.Common.{◌≡◌, ℕ, zero, suc, ◌+◌, ◌*◌, ◌/◌, ◌%◌, ◌^◌, ◌<◌, ltb, ◌==◌, Bool, true, false, if◌then◌else◌, ℤ, pos, ◌+ℤ◌, ◌-ℤ◌, ◌*ℤ◌, neg_ℤ, ◌≤ℤ◌, ◌<ℤ◌, ◌⊎◌, ⊎_elim, [], ◌∷◌, refl, sym, ap, ◌∙◌, arith}
 use Rattle.std.proofs.lemmas.Int.{ints}
 use Rattle.std.proofs.lemmas.Nat.{div-add-mod', mod_below}
-use Rattle.fx_algebra.proofs.Integers.{neg_ℤ-*ℤ, +ℤ-*ℤ}
-use Rattle.fx_algebra.proofs.Quote.{by_quotes, quotes}
+use Rattle.fx_rational.proofs.Integers.{neg_ℤ-*ℤ, +ℤ-*ℤ}
+use Rattle.fx_rational.proofs.Quote.{by_quotes, quotes}
 use Rattle.fx_rational.specs.Rational.{floor_div, ceil_div}
 use Rattle.fx_rational.specs.Dyadic.{Dyadic}
 use Rattle.fx_rational.proofs.Floors.{floor_is, le_floor, one_more_times}

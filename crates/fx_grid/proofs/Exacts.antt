@@ -2,7 +2,7 @@
 use Rattle.std.proofs.Common.{◌≡◌, ℕ, suc, ◌*◌, ◌^◌, ◌<◌, ◌≤◌, ℤ, pos, negsuc, ◌-ℤ◌, ◌*ℤ◌, neg_ℤ, [], ◌∷◌, refl, sym, ap, subst, ◌∙◌, arith, pow_pos}
 use Rattle.std.proofs.lemmas.Int.{ints}
 use Rattle.std.proofs.Math.Nat.{mul-pos}
-use Rattle.fx_algebra.proofs.Quote as int
+use Rattle.fx_rational.proofs.Quote as int
 use Rattle.fx_rational.specs.Rational.{Rational, bottom, whole, over, minus, negative, times, scaled, floor, floor_div, ceil_div, Equal}
 use Rattle.fx_rational.proofs.Ring.{by_quotes, quotes}
 use Rattle.fx_rational.proofs.Laws.{equal_refl, equal_sym, equal_trans, times_same, minus_same, negative_same}

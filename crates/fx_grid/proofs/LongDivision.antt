@@ -5,8 +5,8 @@ use Rattle.std.proofs.Math.Pow.{pow_mono}
 use Rattle.std.proofs.lemmas.Int.{ints, unsigned_abs-mul}
 use Rattle.std.proofs.lemmas.Nat.{mul-le, pow_pos, div_below}
 use Rattle.std.proofs.Math.Nat.{mul-lt-mul_of_pos_right}
-use Rattle.fx_algebra.proofs.Integers.{*ℤ_assoc}
-use Rattle.fx_algebra.proofs.Quote.{by_quotes, quotes}
+use Rattle.fx_rational.proofs.Integers.{*ℤ_assoc}
+use Rattle.fx_rational.proofs.Quote.{by_quotes, quotes}
 use Rattle.fx_rational.specs.Dyadic.{Dyadic}
 use Rattle.fx_rational.specs.Rational.{floor_div}
 use Rattle.fx_rational.proofs.Floors.{floor_is, one_more_times}

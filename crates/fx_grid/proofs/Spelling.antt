@@ -4,7 +4,7 @@ use Rattle.std.proofs.Common.{◌≡◌, ℕ, zero, suc, ◌-◌, ◌*◌, ◌%�
 use Rattle.std.specs.Prelude.{unsigned_abs}
 use Rattle.std.proofs.lemmas.Int.{ints}
 use Rattle.std.proofs.lemmas.Nat.{div-add-mod', mod_below}
-use Rattle.fx_algebra.proofs.Integers.{*ℤ_assoc}
+use Rattle.fx_rational.proofs.Integers.{*ℤ_assoc}
 use Rattle.fx_rational.specs.Rational.{Rational, floor_div, Equal}
 use Rattle.fx_rational.specs.Dyadic.{Dyadic, dyadic, dyadic_value, rounded_down, rounded_up}
 use Rattle.fx_rational.proofs.Laws.{equal_sym, le_trans, le_of_equal, le_antisym}

@@ -5,8 +5,8 @@ use Rattle.std.specs.Int.{w128, trailing_zeros}
 use Rattle.std.proofs.lemmas.Int.{ints}
 use Rattle.std.proofs.Math.Pow.{pow_mono}
 use Rattle.std.proofs.lemmas.Nat.{pow_pos}
-use Rattle.fx_algebra.proofs.Integers.{neg_ℤ-*ℤ}
-use Rattle.fx_algebra.proofs.Quote.{by_quotes, quotes}
+use Rattle.fx_rational.proofs.Integers.{neg_ℤ-*ℤ}
+use Rattle.fx_rational.proofs.Quote.{by_quotes, quotes}
 use Rattle.fx_rational.specs.Rational.{floor_div}
 use Rattle.fx_rational.specs.Dyadic.{dyadic}
 use Rattle.fx_rational.proofs.Lowest.{size-neg_ℤ}

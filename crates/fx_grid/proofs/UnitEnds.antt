@@ -3,9 +3,9 @@ use Rattle.std.proofs.Common.{◌≡◌, ℕ, suc, ◌+◌, ◌-◌, ◌*◌, �
 use Rattle.std.proofs.Math.IntN.{neg_ℤ-neg_ℤ}
 use Rattle.std.proofs.lemmas.Int.{ints}
 use Rattle.std.proofs.lemmas.Nat.{pow_pos}
-use Rattle.fx_algebra.proofs.Integers.{neg_ℤ-*ℤ}
-use Rattle.fx_algebra.proofs.Order.{mul_le_right}
-use Rattle.fx_algebra.proofs.Quote as int
+use Rattle.fx_rational.proofs.Integers.{neg_ℤ-*ℤ}
+use Rattle.fx_rational.proofs.Order.{mul_le_right}
+use Rattle.fx_rational.proofs.Quote as int
 use Rattle.fx_rational.specs.Rational.{Rational, bottom, over, plus, minus, negative, times, scaled, floor_div, Equal, AtMost}
 use Rattle.fx_rational.proofs.Ring.{by_quotes, quotes}
 use Rattle.fx_rational.proofs.Laws.{equal_sym, le_refl, le_trans, le_of_equal, le_antisym, Nonneg, nonneg_from, nonneg_top, nonneg_times, gap, ordered}

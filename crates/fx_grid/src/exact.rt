@@ -20,9 +20,8 @@ use crate::settle::ends;
 use crate::wide::{rest, signed, wide_down, wide_up};
 use fx_expr::Input;
 use fx_fraction::{Fraction, dyadic_le, fneg, to_fraction};
-use fx_interval::Interval;
+use fx_num::{Dyadic, Interval, left_fits, raised};
 use fx_judging::{difference, number, reduced, sum, unit};
-use fx_num::{Dyadic, left_fits, raised};
 
 /// The numerator of `c * 2^f`.
 fn top_of(c: Fraction, f: i32) -> i128

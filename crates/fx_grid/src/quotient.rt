@@ -18,8 +18,7 @@ use crate::number::{
 };
 use crate::settle::{answer, keep};
 use fx_fraction::Fraction;
-use fx_interval::{Interval, greatest, least};
-use fx_num::Dyadic;
+use fx_num::{Dyadic, Interval, greatest, least};
 
 /// The narrowest on grid `e` from one fraction to another.
 pub fn between(lo: Fraction, hi: Fraction, e: u32) -> Result<Interval, Why>

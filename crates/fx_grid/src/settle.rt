@@ -11,8 +11,7 @@ ghost use Rattle.fx_grid.specs.Wide.{IsEnd};
 
 use crate::fault::Why;
 use crate::grid::{down, is_small, up};
-use fx_interval::Interval;
-use fx_num::Dyadic;
+use fx_num::{Dyadic, Interval};
 
 /// The interval, where its mantissas have at most 62 bits.
 pub fn keep(x: Interval) -> Option<Interval>

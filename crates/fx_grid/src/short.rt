@@ -14,8 +14,7 @@ ghost use Rattle.fx_grid.specs.Short.{has_short_ends, is_near, has_few_places, h
 
 use crate::grid::is_small;
 use crate::number::left;
-use fx_interval::{Interval, greatest, least};
-use fx_num::Dyadic;
+use fx_num::{Dyadic, Interval, greatest, least};
 
 /// Whether both ends have mantissas of at most 62 bits.
 fn has_short_ends(x: Interval) -> bool

@@ -12,7 +12,7 @@ ghost use Rattle.fx_inequalities.specs.Near.{IsNear};
 ghost use Rattle.fx_sound.specs.Soundness.{StepIsNear};
 ghost use Rattle.fx_program.specs.CodeView.{code_of};
 ghost use Rattle.fx_machine.specs.Steps.{step_taken};
-ghost use Rattle.fx_packed.specs.Packed.{packed};
+ghost use Rattle.fx_mixed.specs.Packed.{packed};
 ghost use Rattle.fx_statements.specs.Widths.{FitWidths};
 ghost use Rattle.fx_mixed.specs.Mixing.{IsMixed, IsStored, IsTurned, first_word, first_words, states_among, widths_of};
 
@@ -21,7 +21,7 @@ use crate::widths::least_widths;
 use fx_checker::Certified;
 use fx_fraction::Decimal;
 use fx_num::Memory;
-use fx_packed::Bank;
+use crate::Bank;
 use fx_program::{Code, Program};
 use fx_run::StepWords;
 use fx_sound::{start_law, step_law};

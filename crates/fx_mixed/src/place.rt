@@ -2,7 +2,7 @@
 ghost use Rattle.std.specs.Prelude.{◌≡◌, ◌+◌, ◌≤◌, length, take, drop};
 
 use fx_machine::Words;
-use fx_packed::Bank;
+use crate::Bank;
 use fx_word::Word;
 
 /// So many words of a bank, from one of them on.

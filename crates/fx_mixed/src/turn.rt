@@ -19,7 +19,7 @@ use fx_checker::Certified;
 use fx_fraction::Decimal;
 use fx_machine::code_word;
 use fx_model::in_range_law;
-use fx_packed::Bank;
+use crate::Bank;
 use fx_program::{Code, Program};
 use fx_sound::step_law;
 use fx_widths::{own_width_law, states_fit_law};

@@ -11,7 +11,7 @@ use Rattle.fx_model.specs.Limits.{line_limit}
 use Rattle.fx_model.specs.Machine.{machine_step}
 use Rattle.fx_machine.specs.Registers.{Contents}
 use Rattle.fx_machine.specs.Steps.{step_taken}
-use Rattle.fx_fields.specs.Line.{is_return, line_fields}
+use Rattle.fx_rows.specs.Line.{is_return, line_fields}
 use Rattle.fx_rows.specs.Faults.{at_input}
 use Rattle.fx_rows.specs.Header.{column_names, header_of_fields}
 use Rattle.fx_rows.specs.ReadRows.{moved_down}

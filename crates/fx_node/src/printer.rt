@@ -9,7 +9,7 @@ ghost use Rattle.std.specs.Vec.{vec_capacity};
 ghost use Rattle.fx_rational.specs.Decimal.{decimal_value};
 ghost use Rattle.fx_model.specs.Limits.{line_limit};
 ghost use Rattle.fx_model.specs.Rows.{IsInRange};
-ghost use Rattle.fx_fields.specs.Line.{is_special};
+ghost use Rattle.fx_rows.specs.Line.{is_special};
 ghost use Rattle.fx_rows.specs.Ranges.{Serves};
 ghost use Rattle.fx_rows.specs.UnitColumn.{column_of, unit_of};
 ghost use Rattle.fx_rows.specs.Values.{row_of};

@@ -1,4 +1,4 @@
-//! Exact whole numbers of 128 bits, and exact dyadics over them.
+//! Exact whole numbers of 128 bits, exact dyadics over them, and intervals with dyadic ends.
 //!
 //! # Contract
 //!
@@ -13,19 +13,26 @@
 //! and `Dyadic::checked` refuses an exponent above 2^20. `limits.rt` has the limits of functions, programs and
 //! certificates, each once, as `fx_model/specs/Limits.antt` defines them.
 //!
+//! Of intervals, `iadd`, `isub` and `imul` give the sums of ends, their differences crosswise, and the least and the
+//! greatest of their four products, None exactly where a mantissa on the way leaves 128 bits; `inside` compares ends,
+//! `outward` rounds them apart, `least` and `greatest` are the lesser and the greater of two numbers, and
+//! `Interval::zero` is zero alone. No order of the ends is kept.
+//!
 //! # Inside
 //!
-//! A certificate is a list of inequalities between numbers `m / 2^e`. All of its arithmetic is done here, and nothing
-//! wraps or rounds unless its name says so. These calls run for every inequality of every certificate, so none
-//! allocates and none goes over bits one by one. The trap: a value fits only if each mantissa does after its alignment
-//! too, so that a sum can be None though it's small.
+//! A certificate is a list of inequalities between numbers `m / 2^e`, each of which says that one interval lies in
+//! another. All of its arithmetic is done here, and nothing wraps or rounds unless its name says so. These calls run
+//! for every inequality of every certificate, so none allocates and none goes over bits one by one. The trap: a value
+//! fits only if each mantissa does after its alignment too, so that a sum can be None though it's small.
 #![tactic(auto)]
 
 mod dyadic;
+mod interval;
 mod limits;
 mod shift;
 
 pub use dyadic::{Dyadic, dadd, dle, dmul, dsub, lowest, round_down, round_up};
+pub use interval::{Interval, greatest, iadd, imul, inside, isub, least, outward};
 pub use limits::{
     GREATEST_POINT, HEIGHT_LIMIT, INPUT_LIMIT, LEAST_POINT, NODE_LIMIT, OUTPUT_LIMIT, PLACE_END,
     SOURCE_LIMIT, STATE_LIMIT, STEP_LIMIT, TEMP_LIMIT, TEMPLATE_LIMIT,

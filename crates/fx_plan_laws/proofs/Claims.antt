@@ -4,9 +4,9 @@ use Rattle.std.proofs.Common.{◌≡◌, ℕ, suc, pred, ◌^◌, ◌/◌, ◌�
 use Rattle.std.specs.Prelude.{unsigned_abs}
 use Rattle.std.specs.List.{list_all}
 use Rattle.std.proofs.Math.Nat.{div-le_self}
-use Rattle.fx_algebra.specs.Gcd.{gcd}
-use Rattle.fx_algebra.proofs.Integers.{nonneg_of_above}
-use Rattle.fx_algebra.proofs.Order.{mul_le_right, pow_above}
+use Rattle.fx_rational.specs.Gcd.{gcd}
+use Rattle.fx_rational.proofs.Integers.{nonneg_of_above}
+use Rattle.fx_rational.proofs.Order.{mul_le_right, pow_above}
 use Rattle.fx_rational.specs.Rational.{Rational, bottom, over, lowest, negative, AtMost}
 use Rattle.fx_rational.specs.Dyadic.{Dyadic, dyadic_value, aligned, fits_128}
 use Rattle.fx_rational.proofs.Laws.{equal_sym, le_trans, le_of_equal}

@@ -4,9 +4,9 @@ use Rattle.std.specs.Prelude.{unsigned_abs}
 use Rattle.std.proofs.lemmas.Int.{ints}
 use Rattle.std.proofs.lemmas.Nat.{div-add-mod', mod_below}
 use Rattle.std.proofs.Math.Nat.{mul-pos}
-use Rattle.fx_algebra.proofs.Quote.{by_quotes, quotes}
-use Rattle.fx_algebra.proofs.Integers.{mul_nonneg, nonneg_of_above}
-use Rattle.fx_algebra.proofs.Order.{pow_above}
+use Rattle.fx_rational.proofs.Quote.{by_quotes, quotes}
+use Rattle.fx_rational.proofs.Integers.{mul_nonneg, nonneg_of_above}
+use Rattle.fx_rational.proofs.Order.{pow_above}
 use Rattle.fx_rational.specs.Rational.{Rational, bottom, whole, plus, times, scaled, ceil_div, AtMost}
 use Rattle.fx_rational.proofs.Laws.{equal_sym, le_refl, le_trans, le_of_equal, plus_le, Nonneg, nonneg_top}
 use Rattle.fx_rational.proofs.Floors.{ceiling_is, ceiling_le}

@@ -4,7 +4,7 @@ use Rattle.std.proofs.Common.{◌≡◌, ℕ, zero, suc, ◌+◌, ◌-◌, ◌*�
 use Rattle.std.specs.Prelude.{unsigned_abs}
 use Rattle.std.proofs.Math.Nat.{le-mul_of_pos_right}
 use Rattle.std.proofs.lemmas.Int.{ints}
-use Rattle.fx_algebra.proofs.Integers.{neg_ℤ-*ℤ, *ℤ_assoc}
+use Rattle.fx_rational.proofs.Integers.{neg_ℤ-*ℤ, *ℤ_assoc}
 use Rattle.fx_model.specs.Machine.{Round, Floor, Nearest}
 use Rattle.fx_rational.specs.Rational.{floor_div}
 use Rattle.fx_rational.specs.Dyadic.{Dyadic, aligned, IsWritten}

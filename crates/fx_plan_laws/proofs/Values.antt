@@ -2,7 +2,7 @@
 use Rattle.std.proofs.Common.{◌≡◌, ℕ, Bool, true, false, if◌then◌else◌, [], ◌∷◌, ℤ, pos, negsuc, suc, ◌*ℤ◌, neg_ℤ, ◌≤ℤ◌, refl, arith}
 use Rattle.std.specs.Prelude.{unsigned_abs}
 use Rattle.std.proofs.lemmas.Int.{ints}
-use Rattle.fx_algebra.proofs.Order.{mul_le_right}
+use Rattle.fx_rational.proofs.Order.{mul_le_right}
 use Rattle.fx_rational.specs.Rational.{Rational, bottom, plus, minus, negative, scaled, floor, Equal, AtMost, is_at_most}
 use Rattle.fx_rational.proofs.Ring.{by_quotes, quotes}
 use Rattle.fx_rational.proofs.Laws.{equal_refl, equal_sym, equal_trans, le_refl, le_trans, le_of_equal, minus_same, Nonneg, nonneg_from, negative_le, gap, ordered, nonneg_plus}

@@ -2,7 +2,7 @@
 use Rattle.std.proofs.Common.{◌≡◌, ℕ, suc, ◌+◌, ◌-◌, ◌*◌, ◌^◌, ◌<◌, ◌≤◌, [], ◌∷◌, ℤ, pos, negsuc, ◌+ℤ◌, ◌*ℤ◌, neg_ℤ, sym, ap, subst, ◌∙◌, arith, pow_pos, pow-add}
 use Rattle.std.proofs.lemmas.Int.{ints}
 use Rattle.std.proofs.lemmas.Nat.{mul-le}
-use Rattle.fx_algebra.proofs.Integers.{neg_ℤ-*ℤ}
+use Rattle.fx_rational.proofs.Integers.{neg_ℤ-*ℤ}
 use Rattle.fx_rational.specs.Rational.{AtMost}
 use Rattle.fx_rational.specs.Dyadic.{Dyadic, aligned, word_dyadic}
 use Rattle.fx_rational.proofs.Dyadics.{dyadic_exponent, raised}

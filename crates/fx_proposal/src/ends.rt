@@ -1,7 +1,6 @@
 //! Ends of a bound as whole numbers.
 
-use fx_interval::Interval;
-use fx_num::Memory;
+use fx_num::{Interval, Memory};
 use fx_reach::{ceil_at, floor_at, moved_down};
 use std::alloc::Global;
 

@@ -1,8 +1,7 @@
 //! What comes of a template in one step, as exact numbers: on each state, and by what drives it.
 
 use crate::ends::Ends;
-use fx_interval::Interval;
-use fx_num::{Dyadic, dadd, dsub};
+use fx_num::{Dyadic, Interval, dadd, dsub};
 use fx_reach::{Linear, Pool, times, with_scaled};
 
 /// With so many times a coefficient.

@@ -2,8 +2,7 @@
 
 use crate::ends::Ends;
 use crate::image::{drive_of, left_coef, start_of};
-use fx_interval::Interval;
-use fx_num::{Dyadic, Memory, ceil_shift, dadd, dle, floor_shift, left_fits};
+use fx_num::{Dyadic, Interval, Memory, ceil_shift, dadd, dle, floor_shift, left_fits};
 use fx_reach::{Linear, Pool, floor_at, power_of_two, quotient, size_of, to_float};
 use std::alloc::Global;
 

@@ -7,8 +7,7 @@ use crate::tries::{Goal, Solved, put_bounds};
 use fx_cert::{Share, Side, Template};
 use fx_exchange::Budget;
 use fx_expr::Items;
-use fx_interval::Interval;
-use fx_num::{Dyadic, Memory, left_fits};
+use fx_num::{Dyadic, Interval, Memory, left_fits};
 use fx_reach::{
     Chain, Linear, Pool, Transition, in_units, moved, moved_interval, unit_at, units_of,
 };

@@ -9,8 +9,7 @@ use crate::ladder::{Building, place};
 use crate::rungs::{RUNGS, Rung};
 use crate::system::System;
 use fx_exchange::{Budget, ScaledTemplates, exchange};
-use fx_interval::Interval;
-use fx_num::{Memory, left_fits};
+use fx_num::{Interval, Memory, left_fits};
 use fx_reach::{Chain, Costs, Linear, Pole, Pool, pole_templates, poles_of, to_float};
 use std::alloc::Global;
 

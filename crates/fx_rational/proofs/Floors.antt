@@ -2,9 +2,9 @@
 use Rattle.std.proofs.Common.{ℕ, arith, refl, pos, negsuc, ℤ, ◌+ℤ◌, ◌*ℤ◌, neg_ℤ, ◌≤ℤ◌, ◌<ℤ◌, ◌↔◌, ◌≡◌, [], ◌∷◌}
 use Rattle.std.proofs.lemmas.Int.{ints}
 use Rattle.std.proofs.lemmas.Nat.{div-add-mod', mod_below}
-use Rattle.fx_algebra.proofs.Integers.{neg_ℤ-*ℤ, nonneg_of_above}
-use Rattle.fx_algebra.proofs.Order.{mul_le_right, lt_of_mul}
-use Rattle.fx_algebra.proofs.Quote.{by_quotes, quotes}
+use Rattle.fx_rational.proofs.Integers.{neg_ℤ-*ℤ, nonneg_of_above}
+use Rattle.fx_rational.proofs.Order.{mul_le_right, lt_of_mul}
+use Rattle.fx_rational.proofs.Quote.{by_quotes, quotes}
 use Rattle.fx_rational.specs.Rational.{Rational, bottom, whole, over, plus, floor, floor_div, ceil_div, AtMost}
 use Rattle.fx_rational.specs.DyadicLaws.{FloorLaw, CeilingLaw}
 

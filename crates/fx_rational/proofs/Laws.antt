@@ -1,8 +1,8 @@
 -- Fractions are an ordered ring.
 use Rattle.std.proofs.Common.{◌≡◌, refl, sym, ap, ◌∙◌, pos, ℤ, ◌+ℤ◌, ◌-ℤ◌, ◌*ℤ◌, neg_ℤ, ◌≤ℤ◌, ◌<ℤ◌, [], ◌∷◌, ◌⊎◌, inl, inr, arith, ⊎_elim}
 use Rattle.std.proofs.lemmas.Int.{ints}
-use Rattle.fx_algebra.proofs.Integers.{le_by_certificate, add_nonneg, mul_nonneg, nonneg_of_above, difference_nonneg, suc_above}
-use Rattle.fx_algebra.proofs.Quote as int
+use Rattle.fx_rational.proofs.Integers.{le_by_certificate, add_nonneg, mul_nonneg, nonneg_of_above, difference_nonneg, suc_above}
+use Rattle.fx_rational.proofs.Quote as int
 use Rattle.fx_rational.specs.Rational.{Rational, bottom, whole, over, plus, negative, minus, times, Equal, AtMost}
 use Rattle.fx_rational.proofs.Ring.{by_quotes, quotes, suc_pred}
 

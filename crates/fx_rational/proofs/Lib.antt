@@ -1,3 +1,8 @@
+pub mod Integers
+pub mod IntegerRing
+pub mod Quote
+pub mod Order
+pub mod LowestTerms
 pub mod Ring
 pub mod Laws
 pub mod Quotient

@@ -3,10 +3,10 @@ use Rattle.std.proofs.Common.{◌≡◌, ℕ, zero, suc, pred, ◌*◌, ◌/◌,
 use Rattle.std.specs.Prelude.{unsigned_abs, int_div}
 use Rattle.std.specs.Int.{IsGcd, ◌∣◌}
 use Rattle.std.proofs.lemmas.Nat.Gcd.{mod-eq-zero_of_dvd, same_from_IsGcd}
-use Rattle.fx_algebra.specs.Gcd.{IsLowest, gcd}
-use Rattle.fx_algebra.proofs.Integers.{neg_ℤ-*ℤ}
-use Rattle.fx_algebra.proofs.LowestTerms.{scaled, gcd_is, one_spelling}
-use Rattle.fx_algebra.proofs.Quote.{by_quotes, quotes}
+use Rattle.fx_rational.specs.Gcd.{IsLowest, gcd}
+use Rattle.fx_rational.proofs.Integers.{neg_ℤ-*ℤ}
+use Rattle.fx_rational.proofs.LowestTerms.{scaled, gcd_is, one_spelling}
+use Rattle.fx_rational.proofs.Quote.{by_quotes, quotes}
 use Rattle.fx_rational.specs.Rational.{Rational, bottom, over, Equal, lowest}
 use Rattle.fx_rational.specs.LowestLaw.{LowestLaw}
 use Rattle.fx_rational.proofs.Laws.{equal_sym, equal_trans}

@@ -2,7 +2,7 @@
 use Rattle.std.proofs.Common.{◌≡◌, ℕ, zero, suc, pred, ◌+◌, ◌*◌, ◌^◌, ◌<◌, refl, sym, ap, ◌∙◌, pos, negsuc, ℤ, ◌+ℤ◌, ◌-ℤ◌, ◌*ℤ◌, neg_ℤ, ◌≤ℤ◌, [], ◌∷◌, arith, pow_pos, pow-add}
 use Rattle.std.proofs.Math.Nat.{mul-pos}
 use Rattle.std.proofs.lemmas.Int.{ints}
-use Rattle.fx_algebra.proofs.Quote as int
+use Rattle.fx_rational.proofs.Quote as int
 use Rattle.fx_rational.specs.Rational.{Rational, bottom, whole, over, plus, negative, minus, times, scaled, Equal, AtMost}
 use Rattle.fx_rational.specs.Dyadic.{dyadic_value, unit_dyadic}
 use Rattle.fx_rational.proofs.Ring.{by_quotes, quotes}

@@ -1,8 +1,8 @@
 -- What is above zero, and quotients.
 use Rattle.std.proofs.Common.{◌≡◌, ◌⊎◌, inl, inr, ⊎_elim, ℕ, zero, suc, pred, ◌*◌, ◌<◌, refl, sym, ap, ◌∙◌, pos, negsuc, ℤ, ◌*ℤ◌, neg_ℤ, ◌≤ℤ◌, ◌<ℤ◌, [], ◌∷◌, arith, Some, None}
 use Rattle.std.proofs.lemmas.Int.{ints}
-use Rattle.fx_algebra.proofs.Integers.{le_by_certificate, mul_above, difference_nonneg, suc_above}
-use Rattle.fx_algebra.proofs.Quote as int
+use Rattle.fx_rational.proofs.Integers.{le_by_certificate, mul_above, difference_nonneg, suc_above}
+use Rattle.fx_rational.proofs.Quote as int
 use Rattle.fx_rational.specs.Rational.{Rational, bottom, whole, over, times, negative, quotient, divided, Equal, AtMost}
 use Rattle.fx_rational.specs.Laws.{SameOption}
 use Rattle.fx_rational.proofs.Ring.{suc_pred, by_quotes, quotes}

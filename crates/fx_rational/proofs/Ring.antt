@@ -1,6 +1,6 @@
 -- Identities of fractions, by those of whole numbers at tops and bottoms.
 use Rattle.std.proofs.Common.{◌≡◌, ℕ, zero, suc, pred, ◌*◌, refl, sym, ap, subst₂, ◌∙◌, arith, pos, ℤ, ◌+ℤ◌, ◌*ℤ◌, neg_ℤ, List, [], ◌∷◌, true}
-use Rattle.fx_algebra.proofs.Ring.{Polynomial, var, lit, add, sub, mul, neg, at, value_in, normal_form, vanishes, ring}
+use Rattle.fx_rational.proofs.IntegerRing.{Polynomial, var, lit, add, sub, mul, neg, at, value_in, normal_form, vanishes, ring}
 use Rattle.fx_rational.specs.Rational.{Rational, bottom, whole, over, plus, negative, minus, times, Equal}
 
 abbrev pub nth : List Rational → ℕ → Rational

@@ -1,8 +1,8 @@
 -- Roundings of dyadics are the nearest on their side of all those with few enough binary places.
 use Rattle.std.proofs.Common.{◌≡◌, ℕ, ◌-◌, ◌^◌, ◌≤◌, refl, arith, ℤ, ◌≤ℤ◌, Bool, true, false, if◌then◌else◌, nat_le}
 use Rattle.std.proofs.lemmas.Int.{ints}
-use Rattle.fx_algebra.proofs.Integers.{nonneg_of_above}
-use Rattle.fx_algebra.proofs.Order.{mul_le_right, pow_above}
+use Rattle.fx_rational.proofs.Integers.{nonneg_of_above}
+use Rattle.fx_rational.proofs.Order.{mul_le_right, pow_above}
 use Rattle.fx_rational.specs.Rational.{AtMost, floor_div, ceil_div}
 use Rattle.fx_rational.specs.Dyadic.{Dyadic, dyadic_value, dyadic, aligned, rounded_down, rounded_up}
 use Rattle.fx_rational.specs.DyadicLaws.{RoundedDownLaw, IsRoundedDown, RoundedUpLaw, IsRoundedUp}

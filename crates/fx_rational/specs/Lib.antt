@@ -1,3 +1,4 @@
+pub mod Gcd
 pub mod Rational
 pub mod Dyadic
 pub mod Interval

@@ -1,6 +1,6 @@
 -- What the spelling in lowest terms is.
 use Rattle.std.specs.Prelude.{◌≡◌}
-use Rattle.fx_algebra.specs.Gcd.{IsLowest}
+use Rattle.fx_rational.specs.Gcd.{IsLowest}
 use Rattle.fx_rational.specs.Rational.{Rational, bottom, Equal, lowest}
 
 -- `lowest r` is the same number in lowest terms, no other spelling of that number is, and equal numbers have the same

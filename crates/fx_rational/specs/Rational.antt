@@ -1,6 +1,6 @@
 -- Fractions of whole numbers without bound, by cross multiplication: nothing is reduced and nothing is bounded.
 use Rattle.std.specs.Prelude.{◌≡◌, ℕ, zero, suc, pred, ◌*◌, ◌^◌, ◌/◌, ℤ, pos, negsuc, ◌+ℤ◌, ◌*ℤ◌, neg_ℤ, ◌≤ℤ◌, int_le, int_div, unsigned_abs, Option, Some, None, Bool, true, false}
-use Rattle.fx_algebra.specs.Gcd.{gcd}
+use Rattle.fx_rational.specs.Gcd.{gcd}
 
 -- top / (less + 1): the denominator is above zero by construction
 pub record Rational : Type 0 where

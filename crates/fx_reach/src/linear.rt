@@ -4,8 +4,7 @@ use crate::transition::Transition;
 use crate::units::{moved, moved_interval, unit_at};
 use crate::whole::{PLACES, ceil_at, floor_at, greater, magnitude, sum, unit_vector, whole_at};
 use fx_cert::{Side, affine_coef, side_at, side_rest};
-use fx_interval::Interval;
-use fx_num::{Dyadic, Memory, ceil_shift, floor_shift};
+use fx_num::{Dyadic, Interval, Memory, ceil_shift, floor_shift};
 use std::alloc::Global;
 
 /// How many bits the greatest size has while sizes are guessed.

@@ -1,7 +1,6 @@
 //! Sums of intervals, each taken so many times.
 
-use fx_interval::Interval;
-use fx_num::{Dyadic, dadd, dmul};
+use fx_num::{Dyadic, Interval, dadd, dmul};
 
 /// How many binary places a factor has at most.
 const FACTOR_PLACES: u32 = 512;

@@ -5,8 +5,7 @@
 
 use crate::float::{greater_of, power_of_two, size_of, to_float};
 use crate::linear::Linear;
-use fx_interval::Interval;
-use fx_num::{Dyadic, Memory, left_fits, lowest};
+use fx_num::{Dyadic, Interval, Memory, left_fits, lowest};
 use std::alloc::Global;
 
 /// So many steps a response is followed.

@@ -2,8 +2,7 @@
 //!
 //! Nothing rests on what is worked out here. What leaves 128 bits is None, and drops what asked for it.
 
-use fx_interval::Interval;
-use fx_num::{Dyadic, Memory, bits, ceil_shift, floor_shift, left_fits, lowest};
+use fx_num::{Dyadic, Interval, Memory, bits, ceil_shift, floor_shift, left_fits, lowest};
 use std::alloc::Global;
 
 /// How many binary places a coefficient has while templates are worked out.

@@ -3,7 +3,7 @@ use Rattle.std.proofs.Common.{◌≡◌, Some, suc, pred, ◌<◌, ◌^◌, ℤ,
 use Rattle.std.specs.Prelude.{unsigned_abs}
 use Rattle.std.specs.Int.{IsGcd}
 use Rattle.std.proofs.lemmas.Int.{ints}
-use Rattle.fx_algebra.specs.Gcd.{IsLowest}
+use Rattle.fx_rational.specs.Gcd.{IsLowest}
 use Rattle.fx_rational.specs.Rational.{Rational, bottom, quotient, lowest}
 use Rattle.fx_rational.proofs.Laws.{equal_refl}
 use Rattle.fx_rational.proofs.Lowest.{lowest_is}

@@ -7,7 +7,7 @@ use Rattle.fx_rational.specs.Decimal.{Decimal, decimal_value}
 use Rattle.fx_model.specs.Function.{Function}
 use Rattle.fx_model.specs.Limits.{line_limit}
 use Rattle.fx_model.specs.Rows.{IsInRange}
-use Rattle.fx_fields.specs.Line.{line_fields, is_return}
+use Rattle.fx_rows.specs.Line.{line_fields, is_return}
 use Rattle.fx_rows.specs.Blanks.{without_blanks}
 use Rattle.fx_rows.specs.Faults.{RowFlaw, at_input}
 use Rattle.fx_rows.specs.Header.{columns_from, header_of, header_of_fields, column_names, with_columns}

@@ -1,3 +1,6 @@
+pub mod PlainLines
+pub mod Cuts
+pub mod Records
 pub mod Seen
 pub mod Named
 pub mod Read

@@ -15,7 +15,7 @@ use Rattle.fx_rational.specs.Decimal.{Decimal, decimal_value}
 use Rattle.fx_fraction.specs.Numeral.{Sign, unwritten, plus, minus, Power, Numeral, sign_text, part_text, power_text, numeral_text, part_digits, is_number, is_e, is_power, IsNumeral, numeral_of}
 use Rattle.fx_fraction.specs.DecimalOf.{decimal_of, decimal_from}
 use Rattle.fx_fraction.proofs.Numerals.{numeral_joined}
-use Rattle.fx_fields.specs.Line.{is_return, is_special, has_mark, line_fields, pieces, plain_fields}
+use Rattle.fx_rows.specs.Line.{is_return, is_special, has_mark, line_fields, pieces, plain_fields}
 use Rattle.fx_model.specs.Function.{Input}
 use Rattle.fx_model.specs.Rows.{is_given}
 use Rattle.fx_model.proofs.Digits.{digit_range}

@@ -7,8 +7,8 @@ use Rattle.std.proofs.lemmas.List.Elements.{All-nil, All-cons}
 use Rattle.std.proofs.lemmas.List.Folds.{list_any_none, list_any-append}
 use Rattle.std.proofs.lemmas.List.Splits.{slice_split_none, slice_split_at}
 use Rattle.fx_rational.specs.Decimal.{Decimal}
-use Rattle.fx_fields.specs.Line.{is_special, pieces}
-use Rattle.fx_leading.specs.Leading.{IsLeading, IsEnd}
+use Rattle.fx_rows.specs.Line.{is_special, pieces}
+use Rattle.fx_text.specs.Leading.{IsLeading, IsEnd}
 use Rattle.fx_rows.specs.Passing.{IsPiece}
 use Rattle.fx_rows.proofs.Numbers.{no_special, number_spared, comma_spares}
 use Rattle.fx_rows.proofs.Read.{place-at}

@@ -8,8 +8,8 @@ use Rattle.csv.specs.Records.{field_at}
 use Rattle.fx_rational.specs.Decimal.{Decimal}
 use Rattle.fx_model.specs.Function.{Input}
 use Rattle.fx_fraction.specs.declared.range.Range.{Range}
-use Rattle.fx_fields.proofs.Cuts.{first_there}
-use Rattle.fx_fields.specs.Line.{is_special, is_return, pieces, plain_fields}
+use Rattle.fx_rows.proofs.Cuts.{first_there}
+use Rattle.fx_rows.specs.Line.{is_special, is_return, pieces, plain_fields}
 use Rattle.fx_rows.specs.Passing.{HasValue, IsValue, zero_decimal}
 use Rattle.fx_rows.specs.Ordered.{IsOrder}
 use Rattle.fx_rows.specs.Ranges.{IsRangeOf}

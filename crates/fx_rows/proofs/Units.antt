@@ -9,7 +9,7 @@ use Rattle.csv.specs.Records.{field_at}
 use Rattle.fx_rational.specs.Decimal.{Decimal}
 use Rattle.fx_model.specs.Function.{Function}
 use Rattle.fx_model.specs.Limits.{line_limit}
-use Rattle.fx_fields.specs.Line.{is_return, line_fields, pieces, plain_fields}
+use Rattle.fx_rows.specs.Line.{is_return, line_fields, pieces, plain_fields}
 use Rattle.fx_rows.specs.Blanks.{without_blanks}
 use Rattle.fx_rows.specs.Faults.{RowFlaw, at_input}
 use Rattle.fx_rows.specs.Header.{column_names, header_of, header_of_fields}

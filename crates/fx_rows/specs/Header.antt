@@ -3,7 +3,7 @@ use Rattle.std.specs.Prelude.{◌≡◌, ◌⊎◌, ℕ, ◌+◌, List, [], ◌�
 use Rattle.std.specs.List.{list_any}
 use Rattle.fx_model.specs.Function.{Function}
 use Rattle.fx_model.specs.Limits.{line_limit}
-use Rattle.fx_fields.specs.Line.{line_fields, is_return}
+use Rattle.fx_rows.specs.Line.{line_fields, is_return}
 use Rattle.fx_rows.specs.Blanks.{without_blanks}
 use Rattle.fx_rows.specs.Faults.{RowFlaw, at_input, row_fault_of, IsMemory}
 use Rattle.fx_rows.specs.Places.{places_of}

@@ -1,3 +1,5 @@
+pub mod Line
+pub mod Seen
 pub mod Blanks
 pub mod Faults
 pub mod Places

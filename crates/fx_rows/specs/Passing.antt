@@ -5,8 +5,8 @@ use Rattle.std.specs.List.{list_any}
 use Rattle.csv.specs.Records.{field_at}
 use Rattle.fx_rational.specs.Decimal.{Decimal}
 use Rattle.fx_model.specs.Function.{Input}
-use Rattle.fx_fields.specs.Line.{is_special}
-use Rattle.fx_leading.specs.Leading.{IsEnd, IsLeading}
+use Rattle.fx_rows.specs.Line.{is_special}
+use Rattle.fx_text.specs.Leading.{IsEnd, IsLeading}
 use Rattle.fx_fraction.specs.declared.range.Range.{Range}
 use Rattle.fx_fraction.specs.Units.{holds}
 use Rattle.fx_rows.specs.Values.{field_value}

@@ -3,7 +3,7 @@ use Rattle.std.specs.Prelude.{ℕ, ◌&&◌, Bool, List, [], ◌∷◌, length, 
 use Rattle.std.specs.Str.{all_ascii_digits}
 use Rattle.std.specs.Str.Parse.{digits_value}
 use Rattle.csv.specs.Records.{field_at}
-use Rattle.fx_fields.specs.Line.{line_fields}
+use Rattle.fx_rows.specs.Line.{line_fields}
 use Rattle.fx_rows.specs.Blanks.{without_blanks}
 use Rattle.fx_rows.specs.Places.{places_of}
 use Rattle.fx_rows.specs.declared.column.Column.{Column}

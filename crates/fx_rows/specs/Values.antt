@@ -8,7 +8,7 @@ use Rattle.fx_model.specs.Limits.{line_limit}
 use Rattle.fx_model.specs.Rows.{is_given}
 use Rattle.fx_fraction.specs.DecimalOf.{decimal_of}
 use Rattle.fx_fraction.specs.declared.fault.NumberFault.{NumberFault}
-use Rattle.fx_fields.specs.Line.{line_fields, is_return}
+use Rattle.fx_rows.specs.Line.{line_fields, is_return}
 use Rattle.fx_rows.specs.Blanks.{without_blanks}
 use Rattle.fx_rows.specs.Faults.{RowFlaw, at_input}
 use Rattle.fx_rows.specs.declared.fault.RowKind.{RowKind}

@@ -8,7 +8,7 @@ ghost use Rattle.fx_rows.specs.UnitColumn.{column_after, column_among, column_of
 
 use crate::blanks::trimmed;
 use csv::ByteRecord;
-use fx_fields::record_of;
+use crate::record_of;
 use fx_num::Memory;
 use std::alloc::Global;
 

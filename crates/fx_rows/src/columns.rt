@@ -13,7 +13,7 @@ use crate::blanks::trimmed;
 use crate::fault::{MEMORY, RowFault, RowKind, line_fault};
 use csv::ByteRecord;
 use fx_expr::{Function, Input, Items};
-use fx_fields::record_of;
+use crate::record_of;
 use fx_num::Memory;
 use indexmap::IndexMap;
 use std::alloc::Global;

@@ -5,7 +5,7 @@
 ghost use Rattle.std.specs.Prelude.{◌≡◌, ◌≤◌, false, IfNone, nat_lt, length, Some, None, if◌then◌else◌};
 ghost use Rattle.std.specs.List.{list_any};
 ghost use Rattle.fx_model.specs.Limits.{line_limit};
-ghost use Rattle.fx_fields.specs.Line.{is_return};
+ghost use Rattle.fx_rows.specs.Line.{is_return};
 ghost use Rattle.fx_rows.specs.declared.fault.RowKind.TheVariants.{LineTooLong, StrayReturn};
 
 use std::fmt;

@@ -8,7 +8,7 @@ ghost use Rattle.std.specs.List.{list_any};
 ghost use Rattle.std.specs.Vec.{vec_capacity, vec_len};
 ghost use Rattle.fx_model.specs.Function.{Input};
 ghost use Rattle.fx_model.specs.Limits.{line_limit};
-ghost use Rattle.fx_fields.specs.Line.{line_fields, is_return, is_special, has_mark, pieces};
+ghost use Rattle.fx_rows.specs.Line.{line_fields, is_return, is_special, has_mark, pieces};
 ghost use Rattle.fx_rows.specs.Passing.{IsValue, HasValue};
 ghost use Rattle.fx_rows.specs.Ranges.{AreRangesOf};
 ghost use Rattle.fx_rows.specs.Results.{IsRowRead};
@@ -17,9 +17,9 @@ ghost use Rattle.fx_rows.specs.Values.{row_of_fields};
 use crate::fault::LINE_LIMIT;
 use crate::order::Order;
 use crate::skip::{behind_piece, is_plain_left, skip_columns};
-use fx_fields::unmarked_line_law;
+use crate::unmarked_line_law;
 use fx_fraction::{Decimal, Range};
-use fx_leading::leading_decimal;
+use fx_text::leading_decimal;
 
 // What fills a row before it is read.
 const ZERO: Decimal = Decimal { a: 0, b: 0 };

@@ -1,7 +1,7 @@
 //! The columns of a line that are passed on the way to a number, as long as no quote and no line end stands in them.
 ghost use Rattle.std.specs.Prelude.{◌≡◌, ◌∷◌, IfSome, IsTrue, false, drop, take};
 ghost use Rattle.std.specs.List.{list_any};
-ghost use Rattle.fx_fields.specs.Line.{is_special, pieces, pieces_left};
+ghost use Rattle.fx_rows.specs.Line.{is_special, pieces, pieces_left};
 ghost use Rattle.fx_rows.specs.Passing.{IsPiece, special_left};
 
 // Where the piece that stands first in a text ends. None where a quote or a line end stands in it.

@@ -3,11 +3,11 @@
 //! A unit is looked for only in a line that is a row already, so no other test of the line is due.
 ghost use Rattle.std.specs.Prelude.{◌≡◌, false, option_map, IfOk, IsOk};
 ghost use Rattle.std.specs.List.{list_any};
-ghost use Rattle.fx_fields.specs.Line.{is_return, is_special};
+ghost use Rattle.fx_rows.specs.Line.{is_return, is_special};
 ghost use Rattle.fx_rows.specs.UnitColumn.{unit_in_field, unit_named, unit_of};
 
 use crate::blanks::trimmed;
-use fx_fields::{piece_from, plain_text, record_of};
+use crate::{piece_from, plain_text, record_of};
 use fx_fraction::read_natural;
 use fx_num::Memory;
 use std::alloc::Global;

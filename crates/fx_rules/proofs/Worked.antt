@@ -1,6 +1,6 @@
 -- Worked rewritings, by evaluation: each rule on a tree that it turns, and on one that it doesn't.
 use Rattle.std.specs.Prelude.{◌≡◌, ℕ, zero, suc, ◌^◌, pos, negsuc, List, [], ◌∷◌, Some, None, refl, codes}
-use Rattle.fx_algebra.specs.Gcd.{gcd}
+use Rattle.fx_rational.specs.Gcd.{gcd}
 use Rattle.fx_rational.specs.Rational.{over, whole, plus, minus, times, negative, divided, quotient, lowest}
 use Rattle.fx_model.specs.Tree.{Tree, Literal, Input, Negation, Sum, Difference, Product, Quotient}
 use Rattle.fx_model.specs.Function as function

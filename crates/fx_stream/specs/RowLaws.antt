@@ -6,7 +6,7 @@ use Rattle.std.proofs.lemmas.Bool.{lt-ltb}
 use Rattle.fx_rational.specs.Decimal.{Decimal}
 use Rattle.fx_model.specs.Function.{Function}
 use Rattle.fx_model.specs.Limits.{line_limit}
-use Rattle.fx_fields.specs.Line.{line_fields, is_return}
+use Rattle.fx_rows.specs.Line.{line_fields, is_return}
 use Rattle.fx_rows.specs.Faults.{RowFlaw, at_input}
 use Rattle.fx_rows.specs.Header.{header_of_fields, column_names}
 use Rattle.fx_rows.specs.Values.{row_of_fields, stopped as row_stopped}

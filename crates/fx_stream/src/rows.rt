@@ -10,7 +10,7 @@ ghost use Rattle.fx_rational.specs.Decimal.{decimal_value};
 ghost use Rattle.fx_rational.specs.Decimal as rational;
 ghost use Rattle.fx_model.specs.Function as model;
 ghost use Rattle.fx_model.specs.Rows.{IsInRange};
-ghost use Rattle.fx_fields.specs.Line.{is_special};
+ghost use Rattle.fx_rows.specs.Line.{is_special};
 ghost use Rattle.fx_rows.specs.Ranges.{reader_columns, Serves};
 ghost use Rattle.fx_rows.specs.Faults.{row_fault_of};
 ghost use Rattle.fx_rows.specs.declared.fault.RowKind.TheVariants as kind;

@@ -1,7 +1,7 @@
 -- Worked examples: texts that are sources, with their functions, and texts that are none. A wrong line here is refused.
 use Rattle.std.specs.Prelude.{◌≡◌, pos, negsuc, List, [], ◌∷◌, Some, None, Result, Ok, Err, codes, refl, ◌++◌}
 use Rattle.std.proofs.Common.{sym, ◌∙◌}
-use Rattle.fx_algebra.specs.Gcd.{gcd}
+use Rattle.fx_rational.specs.Gcd.{gcd}
 use Rattle.fx_rational.specs.Rational.{Rational, over, whole, is_at_most, lowest}
 use Rattle.fx_rational.specs.Decimal.{decimal_value}
 use Rattle.fx_fraction.specs.Numeral.{numeral_of}

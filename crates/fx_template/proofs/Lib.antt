@@ -1,3 +1,9 @@
+mod Indexes
+pub mod Near
+pub mod Short
+pub mod Fronts
+pub mod Agreement
+mod Worked
 pub mod Lists
 pub mod UnitVectors
 pub mod UnitTemplates

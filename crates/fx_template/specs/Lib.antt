@@ -1,3 +1,7 @@
+pub mod AffineView
+pub mod Combining
+pub mod ShortForms
+pub mod AffineAnswers
 pub mod Listed
 pub mod Transitions
 pub mod PlainRounds

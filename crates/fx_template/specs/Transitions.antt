@@ -8,7 +8,7 @@ use Rattle.fx_model.specs.LawfulProgram.{IsPoint}
 use Rattle.fx_inequalities.specs.Certificate.{Form, NodeLine, zero_interval}
 use Rattle.fx_conditions.specs.Limits.{AreShortLines}
 use Rattle.fx_cert.specs.CertificateView.{lines_view}
-use Rattle.fx_affine.specs.AffineView.{LinearForm, Planned}
+use Rattle.fx_template.specs.AffineView.{LinearForm, Planned}
 use Rattle.fx_flat.specs.declared.node.Nodes.{Nodes}
 use Rattle.fx_template.specs.Listed.{tabulate}
 use Rattle.fx_reach.specs.declared.transition.Transition as code

@@ -1,7 +1,7 @@
 //! Templates for a plan: what the search proposes, where it passes the test, and else the plain rounds.
 
 ghost use Rattle.std.specs.Prelude.{◌≡◌, ◌≤◌, ◌<◌, true, length, IfOk, IfErr};
-ghost use Rattle.fx_affine.specs.AffineView.{planned};
+ghost use Rattle.fx_template.specs.AffineView.{planned};
 ghost use Rattle.fx_cert.specs.CertificateView.{templates_in};
 ghost use Rattle.fx_conditions.specs.Limits.{AreShortTemplates};
 ghost use Rattle.fx_template.specs.Transitions.{IsModestTransition, transition_in, transition_of};
@@ -14,7 +14,7 @@ use crate::round::plain_rounds;
 use crate::stand::{first_fallen, is_met};
 use crate::template::{FoundTemplates, TemplateFault};
 use crate::unit::unit_templates;
-use fx_affine::PlannedNodes;
+use crate::PlannedNodes;
 use fx_cert::{Side, Template};
 use fx_expr::Items;
 use fx_flat::Nodes;

@@ -10,8 +10,7 @@ ghost use Rattle.fx_template.specs.Templates.{AreCountedTemplates, AreWrittenBou
 
 use fx_cert::{Share, Template, unit_coef};
 use fx_grid::is_small;
-use fx_interval::Interval;
-use fx_num::{Dyadic, TEMPLATE_LIMIT};
+use fx_num::{Dyadic, Interval, TEMPLATE_LIMIT};
 
 /// How many templates a certificate has at most, as lists count.
 const TEMPLATES: usize = TEMPLATE_LIMIT as usize;

@@ -16,8 +16,7 @@ ghost use Rattle.fx_template.specs.Transitions.{IsModestTransition, transition_i
 
 use fx_cert::{Form, NodeLine, Share};
 use fx_expr::Items;
-use fx_interval::Interval;
-use fx_num::{Dyadic, GREATEST_POINT, INPUT_LIMIT, LEAST_POINT, NODE_LIMIT, STATE_LIMIT};
+use fx_num::{Dyadic, GREATEST_POINT, INPUT_LIMIT, Interval, LEAST_POINT, NODE_LIMIT, STATE_LIMIT};
 use fx_reach::Transition;
 
 /// How many binary places a number has at most.

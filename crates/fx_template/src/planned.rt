@@ -5,16 +5,15 @@ ghost use Rattle.std.specs.Option.{option_map};
 ghost use Rattle.fx_model.specs.Tree.{at};
 ghost use Rattle.fx_rational.specs.Dyadic.{zero_dyadic};
 ghost use Rattle.fx_inequalities.specs.Certificate.{zero_interval};
-ghost use Rattle.fx_affine.specs.AffineView.{linear_form, planned};
+ghost use Rattle.fx_template.specs.AffineView.{linear_form, planned};
 ghost use Rattle.fx_cert.specs.CertificateView.{form_view as form_view, line_view, lines_view};
 ghost use Rattle.fx_template.specs.Transitions.{planned_form, planned_line, planned_lines, transition_in, transition_of};
 
-use fx_affine::{Affine, PlannedNodes};
+use crate::{Affine, PlannedNodes};
 use fx_cert::{Form, NodeLine};
 use fx_expr::Items;
 use fx_flat::Nodes;
-use fx_interval::Interval;
-use fx_num::{Dyadic, Memory};
+use fx_num::{Dyadic, Interval, Memory};
 use fx_reach::Transition;
 use std::alloc::{AllocError, Global};
 

@@ -15,9 +15,8 @@ ghost use Rattle.fx_template.specs.RoundView.{AreShortBoth, AreShortBounds, boun
 use crate::unit::{bound_at, unit_templates};
 use fx_cert::{Side, Template, error_at, range_at};
 use fx_grid::{Why, error_grid, narrowest_round};
-use fx_interval::{Interval, greatest, least};
+use fx_num::{Interval, Memory, greatest, least};
 use fx_judging::interval;
-use fx_num::Memory;
 use fx_reach::Transition;
 use fx_template_conditions::template_bound_of;
 use std::alloc::Global;

@@ -15,7 +15,7 @@ use crate::round::Bounds;
 use crate::unit::bound_at;
 use fx_cert::{Side, Template};
 use fx_grid::is_small;
-use fx_interval::Interval;
+use fx_num::Interval;
 use fx_judging::Judgement;
 use fx_reach::Transition;
 use fx_template_conditions::template_judgement;

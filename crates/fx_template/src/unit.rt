@@ -11,8 +11,7 @@ ghost use Rattle.fx_template.specs.RoundView.{AreShortBounds};
 
 use fx_cert::{Template, unit_vector};
 use fx_expr::Items;
-use fx_interval::Interval;
-use fx_num::Memory;
+use fx_num::{Interval, Memory};
 use std::alloc::Global;
 
 /// Bound `i` of a list, and 0 past its end.

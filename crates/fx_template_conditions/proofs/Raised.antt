@@ -1,7 +1,7 @@
 -- A factor that is raised to an exponent before it is multiplied stays within 64 bits, and its product within 128.
 use Rattle.std.proofs.Common.{◌≡◌, ℕ, ◌+◌, ◌-◌, ◌*◌, ◌^◌, ◌<◌, ◌≤◌, ℤ, pos, ◌*ℤ◌, unsigned_abs, IsTrue, FitsSigned, to_z, of_z, [], ◌∷◌, refl, ap, subst, sym, ◌∙◌, arith}
 use Rattle.std.specs.Int.{w64, w128, leading_zeros}
-use Rattle.fx_algebra.proofs.Quote.{by_quotes, quotes}
+use Rattle.fx_rational.proofs.Quote.{by_quotes, quotes}
 use Rattle.fx_rational.specs.Dyadic.{fits_128}
 use Rattle.fx_rational.proofs.Fits.{fits_is}
 use Rattle.std.proofs.Math.Pow.{pow_mono}

@@ -22,7 +22,7 @@ use fx_cert::{Certificate, NodeLine, Side, StartBox, error_at, range_at};
 use fx_conditions::{Matched, divisor_judgement, word_judgement, zero_fraction};
 use fx_expr::Function;
 use fx_fraction::{Fraction, to_fraction};
-use fx_interval::Interval;
+use fx_num::Interval;
 use fx_judging::{
     ConditionFault, ConditionKind, Judgement, Part, difference, fault, number, reaches, word_value,
 };

@@ -9,8 +9,7 @@ ghost use Rattle.fx_rational.specs.Dyadic.{Dyadic, difference_fits, dyadic_diffe
 ghost use Rattle.fx_template_conditions.specs.ShortTimes.{AreTimes, HasRoom};
 ghost use Rattle.fx_rational.specs.Interval.{interval_product, interval_product_fits};
 
-use fx_interval::{Interval, greatest, least};
-use fx_num::{Dyadic, mul_fits, short_two_to};
+use fx_num::{Dyadic, Interval, greatest, least, mul_fits, short_two_to};
 
 /// A mantissa in 64 bits.
 fn short(d: Dyadic) -> Option<i64>

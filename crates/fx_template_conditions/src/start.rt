@@ -17,7 +17,7 @@ use fx_cert::{Side, StartBox, Template};
 use fx_conditions::{bound_of, template_coef_of, zero_fraction};
 use fx_expr::Function;
 use fx_fraction::{Fraction, to_fraction};
-use fx_interval::Interval;
+use fx_num::Interval;
 use fx_judging::{
     Judgement, difference, interval, lies_in, number, plus, point, reaches, times, word_value, zero,
 };

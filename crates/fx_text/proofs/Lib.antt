@@ -1,3 +1,6 @@
+pub mod Spelling
+pub mod Signs
+pub mod Pieces
 pub mod Choices
 pub mod Cuts
 pub mod NumberLaws

@@ -1,3 +1,4 @@
+pub mod Leading
 pub mod Faults
 pub mod Cutting
 pub mod Numbers

@@ -1,6 +1,6 @@
 -- Worked comparisons of dyadics with fractions, by fractions in another language: a wrong definition here is refused.
 use Rattle.std.specs.Prelude.{◌≡◌, pos, negsuc, ◌*ℤ◌, Bool, true, false, if◌then◌else◌, Option, Some, None, refl}
-use Rattle.fx_algebra.specs.Gcd.{gcd}
+use Rattle.fx_rational.specs.Gcd.{gcd}
 use Rattle.fx_rational.specs.Rational.{Rational, over, bottom, is_at_most, lowest}
 use Rattle.fx_rational.specs.Dyadic.{Dyadic, dyadic_value, fits_128}
 use Rattle.fx_worked.proofs.Shifts.{dy}

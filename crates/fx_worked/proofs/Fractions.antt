@@ -2,7 +2,7 @@
 -- here is refused.
 use Rattle.std.specs.Prelude.{◌≡◌, ◌^◌, ℕ, ℤ, pos, negsuc, ◌&&◌, if◌then◌else◌, unsigned_abs, nat_lt, List, [], ◌∷◌, Option, Some, None, refl}
 use Rattle.std.specs.Option.{option_and_then}
-use Rattle.fx_algebra.specs.Gcd.{gcd}
+use Rattle.fx_rational.specs.Gcd.{gcd}
 use Rattle.fx_rational.specs.Rational.{Rational, over, bottom, plus, minus, negative, times, divided, quotient, lowest}
 
 -- a rational in lowest terms, top and bottom, where both are below 2^62

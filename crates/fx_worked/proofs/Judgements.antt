@@ -1,6 +1,6 @@
 -- Worked comparisons, of each judgement one on either side of its edge: a wrong judgement here is refused.
 use Rattle.std.specs.Prelude.{◌≡◌, ℕ, ℤ, pos, negsuc, [], ◌∷◌, refl}
-use Rattle.fx_algebra.specs.Gcd.{gcd}
+use Rattle.fx_rational.specs.Gcd.{gcd}
 use Rattle.fx_rational.specs.Rational.{over, plus, negative, minus, times, lowest, is_at_most, is_positive, is_negative}
 use Rattle.fx_rational.specs.Dyadic.{dyadic_value, dyadic_sum, dyadic_difference, dyadic_product, fits_128, sum_fits, difference_fits, product_fits}
 use Rattle.fx_inequalities.specs.Formula.{Span, Num, Sum, formula_value, formed, formula_fits, span, span_sum}

@@ -1,7 +1,7 @@
 -- Worked refusals of rewriting steps, each told apart from the others: `apply` answers this fault, or that memory is
 -- wanting.
 use Rattle.std.proofs.Common.{◌≡◌, ◌⊎◌, inl, inr, ℕ, zero, suc, ◌^◌, pos, List, [], ◌∷◌, map, length, replicate, slice_get, codes, Some, None, option_and_then, refl, sym, ap, subst, ◌∙◌}
-use Rattle.fx_algebra.specs.Gcd.{gcd}
+use Rattle.fx_rational.specs.Gcd.{gcd}
 use Rattle.fx_rational.specs.Rational.{over, whole, plus, minus, negative, times, divided, quotient, lowest}
 use Rattle.fx_model.specs.Tree.{Tree, Literal, Input, Negation, Sum, Difference, Product, Quotient}
 use Rattle.fx_model.specs.Function.{Function}

@@ -5,7 +5,7 @@ use Rattle.fx_model.specs.LineText.{line_text, numbered_lines}
 use Rattle.fx_model.specs.Machine.{Program}
 use Rattle.fx_model.specs.Tree.{at}
 use Rattle.fx_inequalities.specs.Certificate.{Certificate}
-use Rattle.fx_packed.specs.Packed.{size_of}
+use Rattle.fx_mixed.specs.Packed.{size_of}
 use Rattle.fx_widths.specs.LeastWidths.{least_width, least_widths}
 use Rattle.fx_model.specs.ProgramText.{instruction_name}
 

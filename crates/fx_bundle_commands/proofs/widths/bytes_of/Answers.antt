@@ -1,5 +1,5 @@
 use Rattle.std.proofs.Common.{◌∙◌, sym, subst}
-use Rattle.fx_packed.specs.Packed.{AreKnown}
+use Rattle.fx_mixed.specs.Packed.{AreKnown}
 use Rattle.fx_bundle_commands.proofs.widths.bytes_of.Goals as goal
 
 pub byte_count-requires-clause-known : goal.byte_count-requires-clause-known

@@ -5,7 +5,7 @@ use Rattle.fx_model.specs.Machine.{Program, start_words}
 use Rattle.fx_inequalities.specs.Near.{IsNear}
 use Rattle.fx_program.specs.CodeView.{code_of}
 use Rattle.fx_rules.specs.Steps.{rewrite}
-use Rattle.fx_packed.specs.Packed.{AreKnown}
+use Rattle.fx_mixed.specs.Packed.{AreKnown}
 use Rattle.fx_statements.specs.Widths.{FitWidths}
 use Rattle.fx_widths.specs.LeastWidths.{least_widths}
 use Rattle.fx_mixed.specs.Mixing.{IsMixed, first_word, first_words}

@@ -1,6 +1,6 @@
 use Rattle.std.proofs.Common.{arith}
 use Rattle.csv.specs.Records.{fields_of}
-use Rattle.fx_fields.proofs.Records.{few-line-fields}
+use Rattle.fx_rows.proofs.Records.{few-line-fields}
 use Rattle.fx_rows.proofs.column.find_column.Goals as goal
 
 pub column_in-requires : goal.column_in-requires

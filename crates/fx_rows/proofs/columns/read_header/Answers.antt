@@ -1,6 +1,6 @@
 use Rattle.std.proofs.Common.{◌≡◌, List, map, ap, length, ◌∙◌, arith}
 use Rattle.csv.specs.Records.{fields_of}
-use Rattle.fx_fields.proofs.Records.{few-line-fields}
+use Rattle.fx_rows.proofs.Records.{few-line-fields}
 use Rattle.fx_model.specs.Function.{Function, Input}
 use Rattle.fx_expr.specs.Parts.{input_of}
 use Rattle.fx_expr.specs.declared.parts.Input as declared

@@ -1,7 +1,7 @@
 use Rattle.std.proofs.Common.{◌≡◌, ◌+◌, ◌-◌, ◌<◌, length, get_or, drop, arith, ap, ◌∙◌}
 use Rattle.std.proofs.Math.ListN.{length-set}
-use Rattle.fx_fields.specs.Line.{pieces, pieces_left}
-use Rattle.fx_fields.proofs.Cuts.{drop-further, one_further}
+use Rattle.fx_rows.specs.Line.{pieces, pieces_left}
+use Rattle.fx_rows.proofs.Cuts.{drop-further, one_further}
 use Rattle.fx_rows.proofs.Passed.{leading_piece}
 use Rattle.fx_rows.proofs.Placed.{column_value, one_placed}
 use Rattle.fx_rows.proofs.Ranges.{no_range, range-at}

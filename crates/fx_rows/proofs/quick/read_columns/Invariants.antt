@@ -1,7 +1,7 @@
 use Rattle.std.proofs.Common.{◌≡◌, ℕ, ◌<◌, List, length, drop, get_or}
 use Rattle.std.specs.List.{list_any}
 use Rattle.fx_model.specs.Function.{Input}
-use Rattle.fx_fields.specs.Line.{is_special, pieces, pieces_left}
+use Rattle.fx_rows.specs.Line.{is_special, pieces, pieces_left}
 use Rattle.fx_rows.specs.Passing.{HasValue, special_left}
 use Rattle.fx_rows.specs.Ranges.{AreRangesOf}
 use Rattle.fx_rows.proofs.quick.read_columns.Given as goal

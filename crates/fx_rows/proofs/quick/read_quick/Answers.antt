@@ -2,7 +2,7 @@ use Rattle.std.proofs.Common.{◌≡◌, ◌<◌, ◌++◌, List, Ok, true, leng
 use Rattle.std.proofs.lemmas.Bool.{eqb-false}
 use Rattle.std.proofs.Math.Seq.{take-append_seam}
 use Rattle.fx_rational.specs.Decimal.{Decimal}
-use Rattle.fx_fields.specs.Line.{line_fields}
+use Rattle.fx_rows.specs.Line.{line_fields}
 use Rattle.fx_rows.specs.Ordered.{IsOrder}
 use Rattle.fx_rows.specs.Results.{IsRowRead}
 use Rattle.fx_rows.specs.Values.{row_of_fields}

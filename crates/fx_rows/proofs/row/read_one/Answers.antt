@@ -1,6 +1,6 @@
 use Rattle.std.proofs.Common.{◌≡◌, [], ◌∷◌, true, Ok, Option, Some, None, length, get_or, ap, sym, subst, ◌∙◌, refl, arith, rules}
 use Rattle.std.proofs.lemmas.List.{drop_all}
-use Rattle.fx_fields.specs.Line.{line_fields}
+use Rattle.fx_rows.specs.Line.{line_fields}
 use Rattle.fx_rows.specs.Results.{IsRowRead}
 use Rattle.fx_rows.specs.Values.{Values, row_of_fields}
 use Rattle.fx_rows.proofs.Numbers.{no_special, no_return, no_mark, one_value}

@@ -1,5 +1,5 @@
 use Rattle.std.proofs.Common.{◌≡◌, ℕ, ◌<◌, false, get_or}
-use Rattle.fx_fields.specs.Line.{is_special}
+use Rattle.fx_rows.specs.Line.{is_special}
 use Rattle.fx_rows.proofs.skip.is_plain_left.Given as goal
 
 abbrev pub invariant-loop-byte : goal.invariant-loop-byte

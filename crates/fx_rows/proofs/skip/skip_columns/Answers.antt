@@ -1,6 +1,6 @@
 use Rattle.std.proofs.Common.{◌∙◌}
-use Rattle.fx_fields.specs.Line.{pieces, pieces_left}
-use Rattle.fx_fields.proofs.Cuts.{one_further}
+use Rattle.fx_rows.specs.Line.{pieces, pieces_left}
+use Rattle.fx_rows.proofs.Cuts.{one_further}
 use Rattle.fx_rows.proofs.skip.skip_columns.Goals as goal
 
 pub loop-k-preserved : goal.loop-k-preserved

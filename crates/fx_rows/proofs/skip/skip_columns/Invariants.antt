@@ -1,6 +1,6 @@
 use Rattle.std.proofs.Common.{◌≡◌, drop}
 use Rattle.std.specs.List.{list_any}
-use Rattle.fx_fields.specs.Line.{is_special, pieces, pieces_left}
+use Rattle.fx_rows.specs.Line.{is_special, pieces, pieces_left}
 use Rattle.fx_rows.specs.Passing.{special_left}
 use Rattle.fx_rows.proofs.skip.skip_columns.Given as goal
 

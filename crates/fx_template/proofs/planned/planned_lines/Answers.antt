@@ -1,6 +1,6 @@
 use Rattle.std.proofs.Common.{◌∙◌, ap}
 use Rattle.std.proofs.lemmas.List.{map_push}
-use Rattle.fx_affine.specs.AffineView.{planned}
+use Rattle.fx_template.specs.AffineView.{planned}
 use Rattle.fx_cert.specs.CertificateView.{line_view, lines_view}
 use Rattle.fx_template.specs.Transitions.{planned_line}
 use Rattle.fx_template.proofs.Lists.{tabulate_more}

@@ -1,5 +1,5 @@
 use Rattle.std.proofs.Common.{◌≡◌}
-use Rattle.fx_affine.specs.AffineView.{planned}
+use Rattle.fx_template.specs.AffineView.{planned}
 use Rattle.fx_cert.specs.CertificateView.{lines_view}
 use Rattle.fx_template.specs.Listed.{tabulate}
 use Rattle.fx_template.specs.Transitions.{planned_line}

@@ -1,7 +1,0 @@
-use Rattle.fx_leading.proofs.Signs.{leads}
-use Rattle.fx_leading.proofs.leading.plain_decimal.Goals as goal
-
-pub returns : goal.returns
-returns c =
-    leads c.args.text.now c.sign_end-start.result _ _ _ _ c.sign_end-start.ensures.end c.in_ok-number.ensures
-    (c.is_end.ensures c.if-not-is_end.false) c.in_ok-value.ensures

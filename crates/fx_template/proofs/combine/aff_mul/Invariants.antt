@@ -1,0 +1,8 @@
+use Rattle.fx_template.specs.AffineView.{linear_form}
+use Rattle.fx_template.specs.Combining.{product_form}
+use Rattle.fx_template.proofs.Fronts.{IsFront}
+use Rattle.fx_template.proofs.combine.aff_mul.Given as goal
+
+abbrev pub invariant-loop-j : goal.invariant-loop-j
+invariant-loop-j l =
+    IsFront l.coefs l.j (product_form (linear_form l.fn.a) (linear_form l.fn.b) l.fn.ranges l.fn.centres).coef

@@ -1,0 +1,7 @@
+use Rattle.fx_template.specs.AffineView.{linear_form}
+use Rattle.fx_template.specs.Combining.{scaled_form}
+use Rattle.fx_template.proofs.Fronts.{IsFront}
+use Rattle.fx_template.proofs.combine.aff_scale.Given as goal
+
+abbrev pub invariant-loop-j : goal.invariant-loop-j
+invariant-loop-j l = IsFront l.coefs l.j (scaled_form (linear_form l.fn.a) l.fn.m).coef
