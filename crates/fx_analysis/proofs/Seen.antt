@@ -6,7 +6,7 @@ use Rattle.fx_flat.specs.InPlace.{IsInPlace, AreInPlace}
 use Rattle.fx_flat.specs.NodeOf.{node_of, nodes_in}
 use Rattle.fx_flat.specs.declared.node.Node.{Node}
 use Rattle.fx_flat.proofs.Ordered.{ordered_at}
-use Rattle.fx_grid.specs.declared.fault.Why.{Why}
+use Rattle.fx_outward.specs.declared.fault.Why.{Why}
 use Rattle.fx_analysis.specs.Fold.{parts_after}
 use Rattle.fx_analysis.proofs.Turns.{IsWalked, walk_on, walk_stops}
 

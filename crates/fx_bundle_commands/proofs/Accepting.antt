@@ -20,7 +20,7 @@ use Rattle.fx_text.specs.Faults as text
 use Rattle.fx_text.specs.declared.fault.TextFault.{TextFault}
 use Rattle.fx_text.specs.declared.fault.TextKind.TheVariants as texts
 use Rattle.fx_grammar.specs.Sources.{parsed}
-use Rattle.fx_judging.specs.FaultView.{condition_fault_of}
+use Rattle.fx_formulas.specs.FaultView.{condition_fault_of}
 use Rattle.fx_checker.specs.Refusal.{IsRefusal}
 use Rattle.fx_checker.specs.declared.fault.CheckFault.{CheckFault}
 use Rattle.fx_checker.specs.declared.fault.CheckFault.TheVariants as checks

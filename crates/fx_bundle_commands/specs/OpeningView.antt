@@ -11,7 +11,7 @@ use Rattle.fx_rules.specs.Steps.{rewrite}
 use Rattle.fx_lexer.specs.declared.fault.SourceFault.{SourceFault}
 use Rattle.fx_text.specs.declared.fault.TextFault.{TextFault}
 use Rattle.fx_checker.specs.CertifiedView.{Accepted}
-use Rattle.fx_judging.specs.FaultView.{condition_fault_of}
+use Rattle.fx_formulas.specs.FaultView.{condition_fault_of}
 use Rattle.fx_checker.specs.declared.fault.CheckFault.{CheckFault}
 use Rattle.fx_checker.specs.declared.fault.CheckFault.TheVariants as checks
 use Rattle.fx_cert.specs.BundleView.{Parts, IsLawfulBundle}

@@ -4,7 +4,7 @@ ghost use Rattle.std.specs.Prelude.{◌≡◌, unsigned_abs, ◌+◌, ◌^◌, �
 ghost use Rattle.fx_model.specs.Tree.{at};
 ghost use Rattle.fx_inequalities.specs.Accepted.{no_state, start_of};
 ghost use Rattle.fx_inequalities.specs.LawfulCertificate.{unit_vector};
-ghost use Rattle.fx_grid.specs.Grid.{lowest_dyadic};
+ghost use Rattle.fx_outward.specs.Grid.{lowest_dyadic};
 ghost use Rattle.fx_plan_laws.specs.Powers.{magnitude};
 ghost use Rattle.fx_cert.specs.CertificateView.{line_view, template_view, templates_in, box_of, boxes_in};
 ghost use Rattle.fx_plan_laws.specs.Bounds.{units_up};
@@ -16,7 +16,7 @@ use crate::limit::start_at;
 use crate::magnitude::units;
 use fx_cert::{NodeLine, StartBox, Template, unit_vector};
 use fx_expr::{Function, Items};
-use fx_grid::up_quotient;
+use fx_outward::up_quotient;
 use fx_num::{Dyadic, Interval, Memory};
 use fx_lowering::state_count;
 use std::alloc::Global;

@@ -14,7 +14,7 @@ ghost use Rattle.fx_calm.specs.SumOf.{IsWeight};
 
 use fx_expr::{Function, Input};
 use fx_fraction::{Decimal, Fraction, ten_to};
-use fx_grid::{denominator, numerator};
+use fx_outward::{denominator, numerator};
 use fx_num::raised;
 
 /// The number `top / bottom`, which isn't negative.

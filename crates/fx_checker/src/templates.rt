@@ -7,8 +7,8 @@ ghost use Rattle.fx_inequalities.specs.Affine.{templates_of};
 ghost use Rattle.fx_template_conditions.specs.Boxes.{box_at};
 ghost use Rattle.fx_inequalities.specs.Condition as conditions;
 ghost use Rattle.fx_inequalities.specs.Condition.{each_index, first_fault_of};
-ghost use Rattle.fx_judging.specs.Judging.{judged};
-ghost use Rattle.fx_judging.specs.FaultView.{condition_fault_of};
+ghost use Rattle.fx_formulas.specs.Judging.{judged};
+ghost use Rattle.fx_formulas.specs.FaultView.{condition_fault_of};
 ghost use Rattle.fx_cert.specs.CertificateView.{certificate_of, templates_in};
 ghost use Rattle.fx_conditions.specs.Limits.{IsShortCertificate};
 ghost use Rattle.fx_template_conditions.specs.KeptTemplates.{kept_template};
@@ -16,7 +16,7 @@ ghost use Rattle.fx_checker.specs.TemplateFaults.{start_template_condition, temp
 
 use fx_cert::{Certificate, Side, Template};
 use fx_expr::Function;
-use fx_judging::{ConditionFault, ConditionKind, Judgement, Part, fault};
+use fx_formulas::{ConditionFault, ConditionKind, Judgement, Part, fault};
 use fx_program::Program;
 use fx_template_conditions::{start_template_judgement, template_judgement};
 

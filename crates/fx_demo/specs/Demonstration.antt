@@ -10,7 +10,7 @@ use Rattle.fx_rules.specs.Steps.{rewrite}
 use Rattle.fx_checker.specs.CertifiedView.{Accepted}
 use Rattle.fx_rows.specs.ReadRows.{Given, read_rows}
 use Rattle.fx_run.specs.Printed.{given_values, IsHonestRun}
-use Rattle.fx_weight.specs.PlainClass.{outside_of}
+use Rattle.fx_weight.specs.PlainClass.{obstacle_of}
 use Rattle.fx_program.specs.declared.code.Round.TheVariants.{Floor}
 use Rattle.fx_wanted.specs.declared.wanted.Wanted.{Wanted}
 use Rattle.fx_synth.specs.Synthesis.{IsSynthesised}
@@ -26,7 +26,7 @@ demo_wanted = record { width = 32; tries = 200; round = Floor }
 -- its function, so that its bounds are at most those of the plan
 pub record IsProgram (n : ℕ) (a : Accepted) : Type 0 where
   pub meant : parsed (demo_source n) None ≡ Ok a.function
-  pub served : outside_of 32 a.function ≡ None
+  pub served : obstacle_of 32 a.function ≡ None
   pub program : IsLawfulProgram a.program
   pub certificate : IsLawfulCertificate a.certificate
   pub accepted : IsAccepted rewrite a.function a.program a.certificate

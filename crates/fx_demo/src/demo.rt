@@ -1,7 +1,7 @@
 //! The demonstration: its source, a program for it, and the run of its rows.
 ghost use Rattle.std.specs.Prelude.{◌≡◌, ◌≤◌, None, Ok, IfOk};
 ghost use Rattle.fx_grammar.specs.Sources.{parsed};
-ghost use Rattle.fx_weight.specs.PlainClass.{outside_of};
+ghost use Rattle.fx_weight.specs.PlainClass.{obstacle_of};
 ghost use Rattle.fx_demo.specs.Source.{demo_source};
 ghost use Rattle.fx_demo.specs.Demonstration.{IsDemonstration, IsProgram, IsRun};
 ghost use Rattle.fx_demo.specs.LastLine.{HasTwoLines, IsLastLine};
@@ -15,18 +15,18 @@ use fx_expr::Function;
 use fx_num::Memory;
 use fx_run::{RunFault, run_rows};
 use fx_synth::{Round, SynthFault, synthesise};
-use fx_weight::find_outside;
+use fx_weight::find_obstacle;
 use std::alloc::Global;
 
 // The function of the source of number `n`, which the plain plan serves at 32 bits.
 fn served_function(alloc: Global, n: u32) -> Result<Function, Memory>
     requires { n ≤ 500 }
     ensures meant { IfOk result (λ fn. parsed (demo_source n) None ≡ Ok fn) }
-    ensures served { IfOk result (λ fn. outside_of 32 fn ≡ None) }
+    ensures served { IfOk result (λ fn. obstacle_of 32 fn ≡ None) }
 {
     let function = function_of(alloc, n)?;
-    let outside = find_outside(alloc, &function, 32)?;
-    if outside.is_some() {
+    let obstacle = find_obstacle(alloc, &function, 32)?;
+    if obstacle.is_some() {
         // the plain plan serves every such function, as `.ci/checks/demos` shows of each number
         return Err(Memory);
     }

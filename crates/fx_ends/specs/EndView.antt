@@ -1,6 +1,6 @@
 -- What contracts see of how a call ends.
 use Rattle.std.specs.Prelude.{map}
-use Rattle.fx_judging.specs.FaultView as conditions
+use Rattle.fx_formulas.specs.FaultView as conditions
 use Rattle.fx_rows.specs.Faults as rows
 use Rattle.fx_expr.specs.Parts.{input_of}
 use Rattle.fx_ends.specs.Ends as ends

@@ -12,7 +12,7 @@ use Rattle.fx_rows.specs.Faults as rows
 use Rattle.fx_rows.specs.declared.fault.RowKind.{RowKind}
 use Rattle.fx_rows.specs.declared.unit.UnitKind.{UnitKind}
 use Rattle.fx_rows.specs.declared.fault.RowKind.TheVariants.{LineTooLong, StrayReturn}
-use Rattle.fx_judging.specs.PartNames.{part_name}
+use Rattle.fx_formulas.specs.PartNames.{part_name}
 use Rattle.fx_ends.specs.KindTexts.{condition_text, source_text, bundle_kind_text, row_text, unit_text}
 
 -- what a line names of a function: a node, or an output, which counts from 1

@@ -7,7 +7,7 @@ ghost use Rattle.fx_model.specs.Tree.{at};
 ghost use Rattle.fx_inequalities.specs.NodeConditions.{no_input};
 ghost use Rattle.fx_expr.specs.Parts.{input_of};
 ghost use Rattle.fx_rows.specs.Faults as rows;
-ghost use Rattle.fx_judging.specs.FaultView as conditions;
+ghost use Rattle.fx_formulas.specs.FaultView as conditions;
 ghost use Rattle.std.specs.Fmt.{decimal};
 ghost use Rattle.fx_ends.specs.Ends as ends;
 ghost use Rattle.fx_ends.specs.Ends.{end_line, line_of, status_of};
@@ -18,7 +18,7 @@ use crate::kind::{bundle_text, condition_text, row_text, source_text, unit_text}
 use crate::notes::note_line;
 use fx_base::{Sink, Status};
 use fx_expr::Input;
-use fx_judging::ConditionFault;
+use fx_formulas::ConditionFault;
 use fx_lexer::SourceFault;
 use fx_rows::{RowFault, RowKind, UnitKind};
 use fx_text::TextFault;

@@ -1,9 +1,9 @@
 //! How faults are called on the notes.
 ghost use Rattle.std.specs.Prelude.{◌≡◌};
-ghost use Rattle.fx_judging.specs.FaultView.{kind_of};
+ghost use Rattle.fx_formulas.specs.FaultView.{kind_of};
 ghost use Rattle.fx_ends.specs.KindTexts.{condition_text, source_text, bundle_kind_text, row_text, unit_text};
 
-use fx_judging::ConditionKind;
+use fx_formulas::ConditionKind;
 use fx_lexer::SourceKind;
 use fx_rows::{RowKind, UnitKind};
 use fx_text::TextKind;

@@ -10,7 +10,7 @@ use Rattle.fx_model.specs.Machine as machine
 use Rattle.fx_model.specs.Machine.{Round, Code, IsWord, shifted, rounded, floor_divided}
 use Rattle.fx_model.specs.Tree.{at}
 use Rattle.fx_word.specs.Words.{IsSomeWord}
-use Rattle.fx_machine.specs.Codes.{Computes, IsUnstuck, word_of}
+use Rattle.fx_machine.specs.Codes.{Computes, IsUnstuckCode, word_of}
 use Rattle.fx_machine.proofs.Alone.{alone, goes_alone}
 use Rattle.fx_machine.proofs.Codes.{Runs, runs_neg, runs_add, runs_sub, runs_mul, runs_div, runs_copy, runs_const, runs_input, at_map_any}
 use Rattle.fx_lanes.specs.WordsSideBySide.{added, subtracted, multiplied, divided, copied}
@@ -23,7 +23,7 @@ passed = to_z-of_z w32
 
 -- the code of each arm that computes with words alone
 module _ {n : ℕ} {code : Code} {vs : List (List ℤ)} (goes : GoesInLanes n code vs) where
-  here : (k : ℕ) → k < 16 → IsUnstuck n code [] [] (lane k vs)
+  here : (k : ℕ) → k < 16 → IsUnstuckCode n code [] [] (lane k vs)
   here k lt = record { some = goes.each k lt }
 
   -- lane by lane these are the code's words
@@ -94,7 +94,7 @@ pub record GoesInRows (n i : ℕ) (code : Code) (rows : List Decimal) (vs : List
   pub some : (k : ℕ) → k < 16 → IsSome (word_of n code (map decimal_value (row_at i k rows)) [] (lane k vs))
 
 module _ {n i : ℕ} {code : Code} {rows : List Decimal} {vs : List (List ℤ)} (goes : GoesInRows n i code rows vs) where
-  in_row : (k : ℕ) → k < 16 → IsUnstuck n code (map decimal_value (row_at i k rows)) [] (lane k vs)
+  in_row : (k : ℕ) → k < 16 → IsUnstuckCode n code (map decimal_value (row_at i k rows)) [] (lane k vs)
   in_row k lt = record { some = goes.some k lt }
 
   -- one that computes looks at words alone

@@ -7,10 +7,10 @@ use Rattle.fx_model.specs.Machine.{Code}
 use Rattle.fx_program.specs.CodeView.{code_of}
 use Rattle.fx_program.specs.declared.code.Code as declared
 use Rattle.fx_program.specs.declared.code.Code.TheVariants.{Input, State, Const, Neg, Add, Sub, Mul, MulNear, Div, Copy, CopyNear}
-use Rattle.fx_machine.specs.Codes.{word_of, IsUnstuck, Computes, HasOneShift, IsCodeAt}
+use Rattle.fx_machine.specs.Codes.{word_of, IsUnstuckCode, Computes, HasOneShift, IsCodeAt}
 
 -- they look at no inputs and no states
-pub alone : {n : ℕ} {code : Code} {g : List Rational} {z ws : List ℤ} → IsUnstuck n code g z ws → Computes code →
+pub alone : {n : ℕ} {code : Code} {g : List Rational} {z ws : List ℤ} → IsUnstuckCode n code g z ws → Computes code →
     word_of n code g z ws ≡ word_of n code [] [] ws
 unfolding word_of
 alone {code = machine.Input k f} goes h = elim h [ ]
@@ -23,8 +23,8 @@ alone {code = machine.Mul r a b s} goes h = refl
 alone {code = machine.Div a b s} goes h = refl
 alone {code = machine.Copy r a s} goes h = refl
 
-pub goes_alone : {n : ℕ} {code : Code} {g : List Rational} {z ws : List ℤ} → IsUnstuck n code g z ws → Computes code →
-    IsUnstuck n code [] [] ws
+pub goes_alone : {n : ℕ} {code : Code} {g : List Rational} {z ws : List ℤ} → IsUnstuckCode n code g z ws → Computes code →
+    IsUnstuckCode n code [] [] ws
 goes_alone goes h = record { some = subst IsSome (alone goes h) goes.some }
 
 -- so they may stand behind any

@@ -56,7 +56,7 @@ impl<'a> RowStep for Mixed<'a> {
 
     ghost can_run = { λ _. ⊤ };
 
-    ghost is_settled = { λ _. ⊤ };
+    ghost holds_none = { λ _. ⊤ };
 
     ghost head = { λ m. line_of (names_from 1 m.accepted.program.outputs) };
 
@@ -75,7 +75,7 @@ impl<'a> RowStep for Mixed<'a> {
     }
 
     // Each row is printed at once.
-    fn settle(&mut self, _page: &mut Page) {}
+    fn put_held(&mut self, _page: &mut Page) {}
 
     ghost none = { λ m _. nothing_from m.accepted.program (states_among m.accepted.program m.words) };
 }

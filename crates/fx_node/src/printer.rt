@@ -222,7 +222,7 @@ impl<'a, const B: u32> Printer for NodePrinter<'a, B> {
         × (length s.node.registers ≡ s.units)
         × (length s.node.accepted.function.inputs ≤ vec_capacity s.row) };
 
-    ghost is_settled = { λ _. ⊤ };
+    ghost holds_none = { λ _. ⊤ };
 
     ghost outcome = { λ s ls. units_outcome s.node (option_map node_columns s.reader) ls };
 
@@ -248,7 +248,7 @@ impl<'a, const B: u32> Printer for NodePrinter<'a, B> {
     }
 
     // Each row is printed at once.
-    fn settle(&mut self, _page: &mut Page) {}
+    fn put_held(&mut self, _page: &mut Page) {}
 
     fn too_long(&self) -> Flaw {
         Flaw::Row(LINE_TOO_LONG)

@@ -8,7 +8,7 @@ use Rattle.fx_rational.proofs.Powers.{power, power_above, unit_above}
 use Rattle.fx_model.specs.Function as function
 use Rattle.fx_model.specs.Function.{Function}
 use Rattle.fx_model.specs.Machine.{Round}
-use Rattle.fx_inequalities.specs.Formula.{Sum, Difference, span, zero_span, span_sum, span_difference, span_product, loss_at, unit_at, word_at}
+use Rattle.fx_inequalities.specs.Formula.{Sum, Difference, span, zero_span, span_sum, span_difference, span_product, roundoff_at, unit_at, word_at}
 use Rattle.fx_inequalities.specs.Claim.{BelowFraction, AboveFraction, inside}
 use Rattle.fx_inequalities.specs.OperationSpans.{product_error}
 use Rattle.fx_plan_laws.specs.Narrow.{IsNarrowNumber, IsNarrowInput}
@@ -54,7 +54,7 @@ module _ (n : ℕ) (c : Numbers) (space : IsSpacious n c) where
       (span_differences (omega (arith, s)) (zero_interval_small c.f 0 (omega arith)) (small_units c.f r s))
 
   pub copied_inside : (e : ℕ) → e ≤ 2 ^ (c.m + c.f) →
-      AreMet (inside (span_sum (span (units c.f e)) (loss_at (pos c.f) (pos 0))) (span (units c.f e)))
+      AreMet (inside (span_sum (span (units c.f e)) (roundoff_at (pos c.f) (pos 0))) (span (units c.f e)))
   copied_inside e l =
       let s = few l in
       inside_units {m = e + 0} e (span_sum (span (units c.f e)) zero_span) s (omega arith)
@@ -80,8 +80,8 @@ module _ (n : ℕ) (c : Numbers) (space : IsSpacious n c) where
 
   pub sum_error_inside : (a b : ℕ) → a + b ≤ 2 ^ (c.m + c.f) →
       AreMet (inside (span_sum
-      (span_sum (span_sum (span (units c.f a)) (span (units c.f b))) (loss_at (pos c.f) (pos 0)))
-      (loss_at (pos c.f) (pos 0))) (span (units c.f (a + b))))
+      (span_sum (span_sum (span (units c.f a)) (span (units c.f b))) (roundoff_at (pos c.f) (pos 0)))
+      (roundoff_at (pos c.f) (pos 0))) (span (units c.f (a + b))))
   sum_error_inside a b l = let s = few l in
       inside_units {m = a + b + 0 + 0} (a + b) _ s (omega arith)
       (span_sums (omega (arith, s))
@@ -91,8 +91,8 @@ module _ (n : ℕ) (c : Numbers) (space : IsSpacious n c) where
 
   pub difference_error_inside : (a b : ℕ) → a + b ≤ 2 ^ (c.m + c.f) →
       AreMet (inside (span_difference
-      (span_sum (span_difference (span (units c.f a)) (span (units c.f b))) (loss_at (pos c.f) (pos 0)))
-      (loss_at (pos c.f) (pos 0))) (span (units c.f (a + b))))
+      (span_sum (span_difference (span (units c.f a)) (span (units c.f b))) (roundoff_at (pos c.f) (pos 0)))
+      (roundoff_at (pos c.f) (pos 0))) (span (units c.f (a + b))))
   difference_error_inside a b l = let s = few l in
       inside_units {m = a + b + 0 + 0} (a + b) _ s (omega arith)
       (span_differences (omega (arith, s))

@@ -10,7 +10,7 @@ use Rattle.fx_model.specs.Tree.{at}
 use Rattle.fx_model.specs.Function.{Function}
 use Rattle.fx_model.specs.Machine.{Round}
 use Rattle.fx_model.specs.Nodes.{Node, Input, State, Const, Neg, Add, Sub, Mul, Div, Copy}
-use Rattle.fx_inequalities.specs.Formula.{Span, span, zero_span, span_sum, span_difference, span_product, loss_at}
+use Rattle.fx_inequalities.specs.Formula.{Span, span, zero_span, span_sum, span_difference, span_product, roundoff_at}
 use Rattle.fx_inequalities.specs.Claim.{Claim, inside}
 use Rattle.fx_inequalities.specs.Certificate.{Certificate, NodeLine, no_line, no_template}
 use Rattle.fx_inequalities.specs.Affine.{range_at, error_at}
@@ -141,7 +141,7 @@ module _ (n : ℕ) (fn : Function) (c : Numbers) (bs : List Bound) (cert : Certi
       subst (λ (s : Span). AreMet (inside (span_difference zero_span s) (error_of c.f (at no_bound bs a))))
       (sym (error_is a o.1)) (turned_inside n c space (at no_bound bs a).e l.e)
   error_met r (Add a b) o w l =
-      let x = at no_bound bs a in let y = at no_bound bs b in let z = loss_at (pos c.f) (pos 0) in
+      let x = at no_bound bs a in let y = at no_bound bs b in let z = roundoff_at (pos c.f) (pos 0) in
       subst (λ (h : Span). AreMet
       (inside (span_sum (span_sum (span_sum h (error_at cert.lines b)) z) z) (error_of c.f (sum_bound x y)))) (sym
       (error_is a o.1))
@@ -149,7 +149,7 @@ module _ (n : ℕ) (fn : Function) (c : Numbers) (bs : List Bound) (cert : Certi
       (inside (span_sum (span_sum (span_sum (error_of c.f x) h) z) z) (error_of c.f (sum_bound x y)))) (sym
       (error_is b o.2)) (sum_error_inside n c space x.e y.e l.e))
   error_met r (Sub a b) o w l =
-      let x = at no_bound bs a in let y = at no_bound bs b in let z = loss_at (pos c.f) (pos 0) in
+      let x = at no_bound bs a in let y = at no_bound bs b in let z = roundoff_at (pos c.f) (pos 0) in
       subst (λ (h : Span). AreMet
       (inside (span_difference (span_sum (span_difference h (error_at cert.lines b)) z) z)
       (error_of c.f (sum_bound x y)))) (sym (error_is a o.1))
@@ -168,7 +168,7 @@ module _ (n : ℕ) (fn : Function) (c : Numbers) (bs : List Bound) (cert : Certi
       (before b o.2).e l.e))
   error_met r (Div a b) o w l = absurd w.1
   error_met r (Copy a) o w l =
-      subst (λ (s : Span). AreMet (inside (span_sum s (loss_at (pos c.f) (pos 0))) (error_of c.f (at no_bound bs a))))
+      subst (λ (s : Span). AreMet (inside (span_sum s (roundoff_at (pos c.f) (pos 0))) (error_of c.f (at no_bound bs a))))
       (sym (error_is a o.1)) (copied_inside n c space (at no_bound bs a).e l.e)
 
 -- ---- all conditions of one node

@@ -10,8 +10,8 @@ use Rattle.fx_rational.proofs.Dyadics.{as_written}
 use Rattle.fx_rational.proofs.Powers.{power, power_above, unit, unit_above, unit_power, over_scaled, scaled_is, whole_order}
 use Rattle.fx_bounds.proofs.Words.{unit_at_is}
 use Rattle.fx_inequalities.specs.Formula.{Num, Sum, Difference, formula_value, word_at, unit_at}
-use Rattle.fx_grid.specs.Grid.{lowest_dyadic}
-use Rattle.fx_grid.proofs.Grids.{lowest_dyadic_is}
+use Rattle.fx_outward.specs.Grid.{lowest_dyadic}
+use Rattle.fx_outward.proofs.Grids.{lowest_dyadic_is}
 use Rattle.fx_plan_laws.specs.Powers.{magnitude}
 use Rattle.fx_plan_laws.proofs.Values.{magnitude_above, magnitude_below, from_magnitude_low, from_magnitude_high, sum_value, difference_value, lost_word, less_unit, more_unit}
 use Rattle.fx_plan_laws.proofs.Sizes.{IsUpTo}

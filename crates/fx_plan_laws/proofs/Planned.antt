@@ -25,7 +25,7 @@ use Rattle.fx_inequalities.specs.Condition.{Condition, OfProgram, OfStart, OfTem
 use Rattle.fx_inequalities.specs.NodeConditions.{node_conditions}
 use Rattle.fx_inequalities.specs.Rewriting.{Rewrites}
 use Rattle.fx_inequalities.specs.Accepted.{output_code, counts_agree, each_node, all_shape_conditions, start_claims, start_template_claims, template_claims, demand_claims, each_claims, conditions_of, demand_conditions, IsAccepted, certified_bound}
-use Rattle.fx_grid.specs.Grid.{lowest_dyadic}
+use Rattle.fx_outward.specs.Grid.{lowest_dyadic}
 use Rattle.fx_plan_laws.specs.Demands.{allows}
 use Rattle.fx_plan_laws.specs.Powers.{power_value}
 use Rattle.fx_plan_laws.proofs.Claims.{AreMet, none_met}

@@ -84,23 +84,23 @@ error_worth c y (OfInput k s) = times s (power y)
 error_worth c y (OfState k s) = times s (power (c.p + 4 + y))
 
 -- so many units more for each term
-abbrev pub range_loss : Numbers → ℕ
-range_loss c = 2 ^ (c.m + 1)
+abbrev pub range_roundoff : Numbers → ℕ
+range_roundoff c = 2 ^ (c.m + 1)
 
-abbrev pub error_loss : Numbers → ℕ → ℕ
-error_loss c y = 2 ^ c.m + 2 ^ (y + 3)
+abbrev pub error_roundoff : Numbers → ℕ → ℕ
+error_roundoff c y = 2 ^ c.m + 2 ^ (y + 3)
 
 -- ---- trees
 pub record IsBounded (c : Numbers) (y : ℕ) (is : List function.Input) (xs : List Term) (b : Bound) : Type 0 where
-  pub range : IsWithin (power c.f) (range_worth c is) (range_loss c) xs b.r
-  pub error : IsWithin (whole (pos 1)) (error_worth c y) (error_loss c y) xs b.e
+  pub range : IsWithin (power c.f) (range_worth c is) (range_roundoff c) xs b.r
+  pub error : IsWithin (whole (pos 1)) (error_worth c y) (error_roundoff c y) xs b.e
 
 module _ (c : Numbers) (y : ℕ) (is : List function.Input) (room : HasRoom c y) (roomy : (k : ℕ) → k < length is →
     IsRoomyInput c (at no_input is k)) where
-  some_range : 1 ≤ range_loss c
+  some_range : 1 ≤ range_roundoff c
   some_range = pow_pos (c.m + 1)
 
-  some_error : 1 ≤ error_loss c y
+  some_error : 1 ≤ error_roundoff c y
   some_error = let p = pow_pos c.m in omega (arith, p)
 
   -- a factor that stands alone
@@ -108,24 +108,24 @@ module _ (c : Numbers) (y : ℕ) (is : List function.Input) (room : HasRoom c y)
       Equal (range_worth c is x) (times (whole (pos 1)) w) → Equal (error_worth c y x) (times (whole (pos 1)) e) →
       IsBounded c y is (x ∷ []) b
   bare x b w e h p q = record {
-    range = one_within (power c.f) (range_worth c is) (range_loss c) x b.r
+    range = one_within (power c.f) (range_worth c is) (range_roundoff c) x b.r
         (le_trans h.range (plus_le
         (le_of_equal (equal_trans
         (by_quotes {ρ = w ∷ power c.f ∷ []} {b = times (power c.f) (times (whole (pos 1)) w)}
         (search quotes depth 20) (search quotes depth 20) refl) (times_same (equal_refl (power c.f))
         (equal_sym p)))) (naturals_le some_range)));
-    error = one_within (whole (pos 1)) (error_worth c y) (error_loss c y) x b.e
-        (le_trans h.error (ordered (whole_nonneg (error_loss c y))
+    error = one_within (whole (pos 1)) (error_worth c y) (error_roundoff c y) x b.e
+        (le_trans h.error (ordered (whole_nonneg (error_roundoff c y))
         (equal_trans (plus_minus q)
-        (by_quotes {ρ = e ∷ whole (pos (error_loss c y)) ∷ []} (search quotes depth 20)
+        (by_quotes {ρ = e ∷ whole (pos (error_roundoff c y)) ∷ []} (search quotes depth 20)
         (search quotes depth 20) refl))));
   }
     where
       plus_minus : Equal (error_worth c y x) (times (whole (pos 1)) e) →
           Equal (Rattle.fx_rational.specs.Rational.minus
-          (plus (times (whole (pos 1)) (error_worth c y x)) (whole (pos (error_loss c y)))) e)
+          (plus (times (whole (pos 1)) (error_worth c y x)) (whole (pos (error_roundoff c y)))) e)
           (Rattle.fx_rational.specs.Rational.minus
-          (plus (times (whole (pos 1)) (times (whole (pos 1)) e)) (whole (pos (error_loss c y)))) e)
+          (plus (times (whole (pos 1)) (times (whole (pos 1)) e)) (whole (pos (error_roundoff c y)))) e)
       plus_minus q =
           Rattle.fx_rational.proofs.Laws.minus_same (plus_same (times_same (equal_refl _) q) (equal_refl _))
           (equal_refl e)
@@ -135,10 +135,10 @@ module _ (c : Numbers) (y : ℕ) (is : List function.Input) (room : HasRoom c y)
       Equal (error_worth c y x) (times s e) → IsBounded c y is (x ∷ []) b
   scaled x b s w e h p q = record {
     range =
-        one_within (power c.f) (range_worth c is) (range_loss c) x b.r
+        one_within (power c.f) (range_worth c is) (range_roundoff c) x b.r
         (le_trans h.range (plus_le (le_of_equal (times_same (equal_refl (power c.f)) (equal_sym p))) (le_refl _)));
     error =
-        one_within (whole (pos 1)) (error_worth c y) (error_loss c y) x b.e
+        one_within (whole (pos 1)) (error_worth c y) (error_roundoff c y) x b.e
         (le_trans h.error (plus_le
         (le_of_equal (equal_trans (equal_sym q)
         (by_quotes {ρ = error_worth c y x ∷ []} {a = error_worth c y x} {b = times (whole (pos 1)) (error_worth c y x)}
@@ -147,13 +147,13 @@ module _ (c : Numbers) (y : ℕ) (is : List function.Input) (room : HasRoom c y)
 
   alone : (x : Rational) → IsBounded c y is (Alone (magnitude x) ∷ []) (const_bound c.f x)
   alone x = record {
-    range = one_within (power c.f) (range_worth c is) (range_loss c) (Alone (magnitude x)) (units_up c.f (magnitude x))
+    range = one_within (power c.f) (range_worth c is) (range_roundoff c) (Alone (magnitude x)) (units_up c.f (magnitude x))
         (le_trans (units_below c.f (magnitude x) (magnitude_nonneg x))
         (plus_le (le_of_equal (by_quotes {ρ = magnitude x ∷ power c.f ∷ []} (search quotes depth 20)
         (search quotes depth 20) refl)) (naturals_le some_range)));
-    error = one_within (whole (pos 1)) (error_worth c y) (error_loss c y) (Alone (magnitude x)) 1
+    error = one_within (whole (pos 1)) (error_worth c y) (error_roundoff c y) (Alone (magnitude x)) 1
         (ordered (gap (naturals_le some_error))
-        (by_quotes {ρ = whole (pos (error_loss c y)) ∷ []} (search quotes depth 20) (search quotes depth 20) refl));
+        (by_quotes {ρ = whole (pos (error_roundoff c y)) ∷ []} (search quotes depth 20) (search quotes depth 20) refl));
   }
 
   literal_small : (x : Rational) → is_at_most (magnitude x) (power_value (pos (c.m - 1))) ≡ true →

@@ -17,7 +17,7 @@ use Rattle.fx_plan_laws.specs.Bounds.{Bound}
 use Rattle.fx_plan_laws.specs.Calm.{Numbers, reach_of}
 use Rattle.fx_plan_laws.specs.Linear.{Term, Alone, OfInput, OfState, scaled_term, terms_of, total, input_size, state_size, literal_size, input_reach}
 use Rattle.fx_plan_laws.proofs.Factors.{HasRoom, naturals_le, naturals_order, natural_sum, natural_product, whole_nonneg, powers}
-use Rattle.fx_plan_laws.proofs.Terms.{total_append, range_worth, error_worth, range_loss, error_loss, IsBounded}
+use Rattle.fx_plan_laws.proofs.Terms.{total_append, range_worth, error_worth, range_roundoff, error_roundoff, IsBounded}
 
 -- ---- the sums, part by part
 -- of the list's inputs
@@ -148,15 +148,15 @@ module _ (c : Numbers) (y : ℕ) (is : List function.Input) (t : Tree) (b : Boun
   xs = terms_of t
 
   abbrev k : ℕ
-  k = length xs * range_loss c
+  k = length xs * range_roundoff c
 
   abbrev l : ℕ
-  l = length xs * error_loss c y
+  l = length xs * error_roundoff c y
 
   -- roundings are at most a unit of values
   range_few : k ≤ 2 ^ c.f
   range_few =
-      let f = few_times (length xs) (range_loss c) (c.m + 1) few (omega arith) in
+      let f = few_times (length xs) (range_roundoff c) (c.m + 1) few (omega arith) in
       let r = room.roundings in
       let p = room.point in
       let m = power_more {a = (c.m + 1) + 6} {b = c.f} (omega (arith, r, p)) in

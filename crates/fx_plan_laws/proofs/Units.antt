@@ -10,11 +10,11 @@ use Rattle.fx_rational.specs.Rational.{floor_div}
 use Rattle.fx_rational.specs.Dyadic.{Dyadic, aligned, IsWritten}
 use Rattle.fx_rational.specs.Interval.{IsWrittenInterval}
 use Rattle.fx_rational.proofs.Lowest.{size-neg_ℤ}
-use Rattle.fx_inequalities.specs.Formula.{Num, formed, Span, span, unit_at, loss_at}
+use Rattle.fx_inequalities.specs.Formula.{Num, formed, Span, span, unit_at, roundoff_at}
 use Rattle.fx_inequalities.specs.Claim.{inside}
-use Rattle.fx_inequalities.specs.OperationSpans.{rounding_loss}
-use Rattle.fx_grid.specs.Grid.{is_even, lowest_dyadic}
-use Rattle.fx_grid.proofs.Grids.{half_of, lowest_dyadic_is}
+use Rattle.fx_inequalities.specs.OperationSpans.{roundoff_of}
+use Rattle.fx_outward.specs.Grid.{is_even, lowest_dyadic}
+use Rattle.fx_outward.proofs.Grids.{half_of, lowest_dyadic_is}
 use Rattle.fx_plan_laws.proofs.Claims.{AreMet, inside_met, le_formed, number_formed}
 use Rattle.fx_plan_laws.proofs.Powers.{power_small, power_more}
 use Rattle.fx_plan_laws.proofs.Sizes.{IsUpTo, IsSmall, IsSmallSpan, small_number, within_pos, aligned_up, small_zero, zero_interval_small}
@@ -95,7 +95,7 @@ inside_units {f} {m} r s few le small =
     inside_units_at {f = f} {E = f} {m = m} r s (omega arith) few (let z : f - f ≡ 0 = omega arith in
     subst (λ (k : ℕ). m ≤ r * 2 ^ k) (sym z) (omega (arith, le))) small
 
--- ---- units and losses
+-- ---- units and roundoffs
 -- a unit at the exponent E
 pub small_unit : (f E : ℕ) → f ≤ E → E ≤ 126 → IsSmall E (2 ^ (E - f)) (unit_at (pos f))
 small_unit f E up few =
@@ -105,9 +105,9 @@ small_unit f E up few =
     unit_few : (f E : ℕ) → E ≤ 126 → 2 ^ (E - f) < 2 ^ 127
     unit_few f E few = power_small (omega (arith, few))
 
-pub small_loss : (f E s : ℕ) → f ≤ E → E ≤ 126 → IsSmallSpan E (2 ^ (E - f)) (loss_at (pos f) (pos s))
-small_loss f E zero up few = zero_interval_small E (2 ^ (E - f)) (power_small (omega (arith, few)))
-small_loss f E (suc s) up few = record {
+pub small_roundoff : (f E s : ℕ) → f ≤ E → E ≤ 126 → IsSmallSpan E (2 ^ (E - f)) (roundoff_at (pos f) (pos s))
+small_roundoff f E zero up few = zero_interval_small E (2 ^ (E - f)) (power_small (omega (arith, few)))
+small_roundoff f E (suc s) up few = record {
   lo =
       small_number (record { m = negsuc 0; e = f }) E (2 ^ (E - f)) up
       (record { low = omega (arith, ints); high = omega (arith, ints) }) (power_small (omega (arith, few)));
@@ -116,8 +116,8 @@ small_loss f E (suc s) up few = record {
 
 -- half a unit to either side lies within a unit
 pub small_rounding : (r : Round) (f E s : ℕ) → f < E → E ≤ 126 →
-    IsSmallSpan E (2 ^ (E - f)) (rounding_loss r (pos f) (pos s))
-small_rounding Floor f E s up few = small_loss f E s (omega (arith, up)) few
+    IsSmallSpan E (2 ^ (E - f)) (roundoff_of r (pos f) (pos s))
+small_rounding Floor f E s up few = small_roundoff f E s (omega (arith, up)) few
 small_rounding Nearest f E s up few =
     let half = power_more {a = E - (f + 1)} {b = E - f} (omega arith) in
     let whole = power_small {k = E - f} (omega (arith, few)) in

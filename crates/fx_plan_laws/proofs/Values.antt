@@ -10,7 +10,7 @@ use Rattle.fx_rational.proofs.Powers.{unit}
 use Rattle.fx_rational.proofs.Tests.{at_most_true, at_most_false}
 use Rattle.fx_model.specs.Machine.{word_value}
 use Rattle.fx_bounds.proofs.Words.{word_at_is, word_is}
-use Rattle.fx_bounds.proofs.Losses.{Lost, input_lost}
+use Rattle.fx_bounds.proofs.Roundoffs.{Lost, input_lost}
 use Rattle.fx_inequalities.specs.Formula.{Formula, Sum, Difference, formula_value, word_at}
 use Rattle.fx_plan_laws.specs.Powers.{magnitude, greater}
 

@@ -13,7 +13,7 @@ use Rattle.fx_inequalities.specs.Accepted.{start_of}
 use Rattle.fx_inequalities.specs.Certificate.{Certificate, NodeLine, Template, StartBox}
 use Rattle.fx_inequalities.specs.LawfulCertificate.{unit_vector}
 use Rattle.fx_lowering.specs.OfFunction.{program_for}
-use Rattle.fx_grid.specs.Grid.{lowest_dyadic}
+use Rattle.fx_outward.specs.Grid.{lowest_dyadic}
 use Rattle.fx_plan_laws.specs.Powers.{magnitude}
 use Rattle.fx_plan_laws.specs.Calm.{Numbers, numbers_of}
 use Rattle.fx_plan_laws.specs.Bounds.{Bound, no_bound, units_up, state_bound, input_bound, const_bound, sum_bound, product_bound}

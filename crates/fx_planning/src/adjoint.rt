@@ -3,26 +3,26 @@
 use fx_flat::Node;
 use fx_num::Memory;
 use fx_ranges::Ranges;
-use fx_span::RealSpan;
+use fx_search_numbers::RoundedInterval;
 use std::alloc::Global;
 
 /// Adds to the slope of a node.
-fn add(slopes: &mut [RealSpan], a: u32, slope: RealSpan) {
+fn add(slopes: &mut [RoundedInterval], a: u32, slope: RoundedInterval) {
     if let Some(sum) = slopes.get_mut(a as usize) {
         *sum = sum.plus(slope);
     }
 }
 
 /// The range of a node. Without one there is nothing to hand on, and a slope only ranks.
-fn range_of(ranges: &Ranges, a: usize) -> RealSpan {
+fn range_of(ranges: &Ranges, a: usize) -> RoundedInterval {
     match ranges.span(a) {
-        Some(range) => RealSpan::of(range),
-        None => RealSpan::ZERO,
+        Some(range) => RoundedInterval::of(range),
+        None => RoundedInterval::ZERO,
     }
 }
 
 /// Hands what an operation is worth on to its operands.
-fn hand_on(slopes: &mut [RealSpan], ranges: &Ranges, n: usize, node: &Node, own: RealSpan) {
+fn hand_on(slopes: &mut [RoundedInterval], ranges: &Ranges, n: usize, node: &Node, own: RoundedInterval) {
     match node {
         Node::Neg { a } => add(slopes, *a, own.negative()),
         Node::Copy { a } => add(slopes, *a, own),
@@ -53,17 +53,17 @@ pub fn slopes_of(
     nodes: &[Node],
     ranges: &Ranges,
     output: usize,
-) -> Result<Vec<RealSpan>, Memory> {
+) -> Result<Vec<RoundedInterval>, Memory> {
     let mut slopes = Vec::new(alloc);
     for n in 0..nodes.len() {
         slopes.push(if n == output {
-            RealSpan::ONE
+            RoundedInterval::ONE
         } else {
-            RealSpan::ZERO
+            RoundedInterval::ZERO
         })?;
     }
     for n in (0..nodes.len()).rev() {
-        let own = slopes.get(n).copied().unwrap_or(RealSpan::ZERO);
+        let own = slopes.get(n).copied().unwrap_or(RoundedInterval::ZERO);
         if !own.is_zero() {
             hand_on(&mut slopes, ranges, n, &nodes[n], own);
         }

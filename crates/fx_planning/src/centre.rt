@@ -8,14 +8,14 @@ use crate::setting::Setting;
 use fx_flat::Node;
 use fx_num::{floor_shift, left_fits};
 use fx_program::Code;
-use fx_span::{MaybeSpan, Span, word_at, word_error};
+use fx_search_numbers::{MaybeInterval, FixedInterval, word_at, word_error};
 
 /// A literal's word at a point, and by how much it differs from the literal.
 #[derive(Clone, Copy)]
 struct Word {
     w: i64,
     f: i32,
-    error: Span,
+    error: FixedInterval,
 }
 
 /// The literal among an operation's operands that may be moved, and the other operand.
@@ -34,7 +34,7 @@ fn movable(setting: &Setting<'_>, n: usize) -> Option<(usize, usize)> {
 }
 
 /// Minus the middle of an error, in units of a literal's point.
-fn units_off(error: Span, point: i32) -> i128 {
+fn units_off(error: FixedInterval, point: i32) -> i128 {
     let places = i64::from(error.e)
         .saturating_add(1)
         .saturating_sub(i64::from(point))
@@ -48,7 +48,7 @@ fn units_off(error: Span, point: i32) -> i128 {
 }
 
 /// By how much literal `c` is moved in a sum or a difference.
-fn sum_move(setting: &Setting<'_>, node: &Node, c: usize, error: Span) -> i128 {
+fn sum_move(setting: &Setting<'_>, node: &Node, c: usize, error: FixedInterval) -> i128 {
     let units = units_off(error, setting.point(c).unwrap_or(0));
     match node {
         Node::Add { .. } => units,
@@ -85,7 +85,7 @@ fn moved_word(setting: &Setting<'_>, codes: &[Code], c: usize, units: i128) -> O
 }
 
 /// An error if it is smaller than another.
-fn smaller(found: MaybeSpan, error: Span) -> Option<Span> {
+fn smaller(found: MaybeInterval, error: FixedInterval) -> Option<FixedInterval> {
     match found.get() {
         Some(found) => if found.is_smaller(error).unwrap_or(false) {
             Some(found)
@@ -102,8 +102,8 @@ fn smaller_error(
     codes: &[Code],
     errors: &Errors,
     n: usize,
-    error: Span,
-) -> Option<Span> {
+    error: FixedInterval,
+) -> Option<FixedInterval> {
     match (codes.get(n), setting.point(n)) {
         (Some(code), Some(point)) => smaller(plain_error(setting, errors, code, point), error),
         _ => None,
@@ -128,9 +128,9 @@ fn with_word(
     n: usize,
     c: usize,
     word: Word,
-    error: Span,
-) -> Span {
-    let before = errors.span(c).unwrap_or(Span::ZERO);
+    error: FixedInterval,
+) -> FixedInterval {
+    let before = errors.span(c).unwrap_or(FixedInterval::ZERO);
     errors.put(c, word.error);
     match smaller_error(setting, codes, errors, n, error) {
         Some(found) => {
@@ -152,8 +152,8 @@ fn moved(
     n: usize,
     c: usize,
     units: i128,
-    error: Span,
-) -> Span {
+    error: FixedInterval,
+) -> FixedInterval {
     match moved_word(setting, codes, c, units) {
         Some(word) => with_word(setting, codes, errors, n, c, word, error),
         None => error,
@@ -167,9 +167,9 @@ fn moved_factor(
     errors: &mut Errors,
     n: usize,
     (c, other): (usize, usize),
-    error: Span,
-) -> Span {
-    let factor = setting.ranges.span(other).unwrap_or(Span::ZERO);
+    error: FixedInterval,
+) -> FixedInterval {
+    let factor = setting.ranges.span(other).unwrap_or(FixedInterval::ZERO);
     if factor.lo < 0 && factor.hi > 0 {
         return error;
     }
@@ -184,8 +184,8 @@ fn with_moves(
     errors: &mut Errors,
     n: usize,
     (c, other): (usize, usize),
-    error: Span,
-) -> Span {
+    error: FixedInterval,
+) -> FixedInterval {
     match setting.nodes.get(n) {
         Some(Node::Mul { .. }) => moved_factor(setting, codes, errors, n, (c, other), error),
         Some(node) => {
@@ -202,8 +202,8 @@ pub fn centred(
     codes: &mut [Code],
     errors: &mut Errors,
     n: usize,
-    error: Span,
-) -> Span {
+    error: FixedInterval,
+) -> FixedInterval {
     match movable(setting, n) {
         Some(literal) => with_moves(setting, codes, errors, n, literal, error),
         None => error,

@@ -7,13 +7,13 @@ use crate::ends::end_excess;
 use crate::setting::Setting;
 use fx_expr::Demand;
 use fx_fraction::{Decimal, to_fraction};
-use fx_span::{Real, Span};
+use fx_search_numbers::{Rounded, FixedInterval};
 
 /// What bounds are measured by: those of another plan.
 #[derive(Clone, Copy)]
 pub struct Goal<'a> {
     /// The bounds of the other plan, one for each output. Where there is none, 1 stands for it.
-    pub references: &'a [Real],
+    pub references: &'a [Rounded],
 }
 
 /// What is paid for a plan, or for none. Their order is that of the costs: any plan's is below that of none, then the
@@ -22,36 +22,36 @@ pub struct Goal<'a> {
 pub enum Cost {
     /// The greatest quotient of a bound by what it has to keep, but at least 1, and more where an output leaves a
     /// demanded end; and the mean of those by the references.
-    Planned { excess: Real, mean: Real },
+    Planned { excess: Rounded, mean: Rounded },
     /// There is no plan: from the node that fails on so many are left.
     Unplanned { left: u32 },
 }
 
 /// About a decimal.
-fn about(d: Decimal) -> Real {
+fn about(d: Decimal) -> Rounded {
     let c = to_fraction(d);
-    Real::of(c.p, 0).over(Real::of(c.q, 0))
+    Rounded::of(c.p, 0).over(Rounded::of(c.q, 0))
 }
 
 /// About the bound that an error interval gives.
-pub fn bound(error: Span) -> Real {
+pub fn bound(error: FixedInterval) -> Rounded {
     match i128::try_from(error.size()) {
-        Ok(m) => Real::of(m, error.e),
-        Err(_) => Real::INFINITE,
+        Ok(m) => Rounded::of(m, error.e),
+        Err(_) => Rounded::INFINITE,
     }
 }
 
 /// The bound that an output's is measured by, which is 1 where there is none.
-fn reference(goal: Goal<'_>, j: usize) -> Real {
-    let bound = goal.references.get(j).copied().unwrap_or(Real::ONE);
-    if bound.is_zero() { Real::ONE } else { bound }
+fn reference(goal: Goal<'_>, j: usize) -> Rounded {
+    let bound = goal.references.get(j).copied().unwrap_or(Rounded::ONE);
+    if bound.is_zero() { Rounded::ONE } else { bound }
 }
 
 /// How far an output is from what is demanded of it: at least 1, and 1 where all of it is kept.
-fn demand_excess(demand: Demand, range: Option<Span>, error: Span, bound: Real) -> Real {
+fn demand_excess(demand: Demand, range: Option<FixedInterval>, error: FixedInterval, bound: Rounded) -> Rounded {
     let by_error = match demand.err {
-        Some(d) => Real::ONE.max(bound.over(about(d))),
-        None => Real::ONE,
+        Some(d) => Rounded::ONE.max(bound.over(about(d))),
+        None => Rounded::ONE,
     };
     match range {
         Some(range) => by_error.max(end_excess(demand, range, error, bound)),
@@ -60,12 +60,12 @@ fn demand_excess(demand: Demand, range: Option<Span>, error: Span, bound: Real) 
 }
 
 /// What the outputs' errors cost.
-pub fn cost_of(setting: &Setting<'_>, outputs: &[Span]) -> Cost {
+pub fn cost_of(setting: &Setting<'_>, outputs: &[FixedInterval]) -> Cost {
     let function = setting.function;
     let demands = function.demands.as_slice();
     let first = setting.first_output();
-    let mut excess = Real::ONE;
-    let mut sum = Real::ZERO;
+    let mut excess = Rounded::ONE;
+    let mut sum = Rounded::ZERO;
     let mut count = 0_i64;
     for (j, error) in outputs.iter().enumerate() {
         let size = bound(*error);
@@ -79,6 +79,6 @@ pub fn cost_of(setting: &Setting<'_>, outputs: &[Span]) -> Cost {
     }
     Cost::Planned {
         excess,
-        mean: sum.over(Real::of(i128::from(count), 0)),
+        mean: sum.over(Rounded::of(i128::from(count), 0)),
     }
 }

@@ -11,7 +11,7 @@ use fx_expr::Demand;
 use fx_fraction::{Decimal, to_fraction};
 use fx_num::Memory;
 use fx_program::Code;
-use fx_span::{Real, RealSpan, Span, ceil_at, floor_at};
+use fx_search_numbers::{Rounded, RoundedInterval, FixedInterval, ceil_at, floor_at};
 use std::alloc::Global;
 
 /// How often a word is moved for one output: the first move is cut to whole units.
@@ -44,26 +44,26 @@ fn surplus(end: Decimal, hi: i128, e: u32) -> Option<i128> {
 }
 
 /// By how much values have to move up to keep a lower end.
-fn upward(end: Option<Decimal>, values: Span) -> Real {
+fn upward(end: Option<Decimal>, values: FixedInterval) -> Rounded {
     let units = match end {
         Some(end) => lack(end, values.lo, values.e),
         None => None,
     };
-    Real::of(units.unwrap_or(0).max(0), values.e)
+    Rounded::of(units.unwrap_or(0).max(0), values.e)
 }
 
 /// By how much values have to move down to keep an upper end.
-fn downward(end: Option<Decimal>, values: Span) -> Real {
+fn downward(end: Option<Decimal>, values: FixedInterval) -> Rounded {
     let units = match end {
         Some(end) => surplus(end, values.hi, values.e),
         None => None,
     };
-    Real::of(units.unwrap_or(0).max(0), values.e)
+    Rounded::of(units.unwrap_or(0).max(0), values.e)
 }
 
 /// By how much an output's error has to move up for its values to keep the demanded lower end, and how far down for the
 /// upper one. Zero where they are kept, and where an end doesn't fit: the checker judges what is found.
-pub fn moves_wanted(demand: Demand, range: Span, error: Span) -> (Real, Real) {
+pub fn moves_wanted(demand: Demand, range: FixedInterval, error: FixedInterval) -> (Rounded, Rounded) {
     let values = if demand.lo.is_none() && demand.hi.is_none() {
         None
     } else {
@@ -71,27 +71,27 @@ pub fn moves_wanted(demand: Demand, range: Span, error: Span) -> (Real, Real) {
     };
     match values {
         Some(values) => (upward(demand.lo, values), downward(demand.hi, values)),
-        None => (Real::ZERO, Real::ZERO),
+        None => (Rounded::ZERO, Rounded::ZERO),
     }
 }
 
 /// What an output's ends cost: 1 where they are kept, and the more the further they are left, by the error's size.
-pub fn end_excess(demand: Demand, range: Span, error: Span, bound: Real) -> Real {
+pub fn end_excess(demand: Demand, range: FixedInterval, error: FixedInterval, bound: Rounded) -> Rounded {
     let (up, down) = moves_wanted(demand, range, error);
     let passed = up.max(down);
     if passed.is_zero() {
-        Real::ONE
+        Rounded::ONE
     } else {
-        Real::ONE.plus(passed.over(bound))
+        Rounded::ONE.plus(passed.over(bound))
     }
 }
 
 /// By how many units a literal has to be moved, up or down, to shift an error by so much, if its slope by unit has a
 /// sign.
-fn units_for(slope: RealSpan, by: Real) -> Option<i64> {
-    if Real::ZERO < slope.lo {
+fn units_for(slope: RoundedInterval, by: Rounded) -> Option<i64> {
+    if Rounded::ZERO < slope.lo {
         by.over(slope.lo).floor()
-    } else if slope.hi < Real::ZERO {
+    } else if slope.hi < Rounded::ZERO {
         by.over(slope.hi.negative()).floor()
     } else {
         None
@@ -99,10 +99,10 @@ fn units_for(slope: RealSpan, by: Real) -> Option<i64> {
 }
 
 /// The move of one literal that shifts an error by so much, up or down, if its slope by unit has a sign.
-fn push(node: usize, slope: RealSpan, ends: RealSpan, by: Real, is_up: bool) -> Option<Move> {
+fn push(node: usize, slope: RoundedInterval, ends: RoundedInterval, by: Rounded, is_up: bool) -> Option<Move> {
     match units_for(slope, by) {
         Some(size) => {
-            let is_rising = Real::ZERO < slope.lo;
+            let is_rising = Rounded::ZERO < slope.lo;
             let size = size.max(1);
             let units = if is_rising == is_up {
                 size
@@ -124,14 +124,14 @@ fn with_push(
     best: Option<Move>,
     n: usize,
     code: &Code,
-    slope: RealSpan,
-    ends: RealSpan,
-    by: Real,
+    slope: RoundedInterval,
+    ends: RoundedInterval,
+    by: Rounded,
     is_up: bool,
 ) -> Option<Move> {
     let found = match code {
         Code::Const { f, .. } => {
-            let slope = slope.scaled(Real::power(f.saturating_neg()));
+            let slope = slope.scaled(Rounded::power(f.saturating_neg()));
             push(n, slope, ends, by, is_up)
         }
         _ => None,
@@ -145,9 +145,9 @@ fn with_push(
 /// The literal's move that shifts an output's error by so much at the least bound.
 fn best_push(
     codes: &[Code],
-    slopes: &[RealSpan],
-    ends: RealSpan,
-    by: Real,
+    slopes: &[RoundedInterval],
+    ends: RoundedInterval,
+    by: Rounded,
     is_up: bool,
 ) -> Option<Move> {
     let mut best = None;
@@ -160,9 +160,9 @@ fn best_push(
 /// The move that brings an output nearer to its demanded ends, where its error has to move up or down by so much.
 fn push_by(
     codes: &[Code],
-    slopes: &[RealSpan],
-    ends: RealSpan,
-    (up, down): (Real, Real),
+    slopes: &[RoundedInterval],
+    ends: RoundedInterval,
+    (up, down): (Rounded, Rounded),
 ) -> Option<Move> {
     let is_up = !up.is_zero();
     let by = if is_up { up } else { down };
@@ -177,7 +177,7 @@ fn push_by(
 fn next_push(
     setting: &Setting<'_>,
     plan: &Plan,
-    slopes: &[RealSpan],
+    slopes: &[RoundedInterval],
     j: usize,
     n: usize,
 ) -> Option<Move> {
@@ -189,7 +189,7 @@ fn next_push(
     ) {
         (Some(demand), Some(range), Some(error)) => {
             let wanted = moves_wanted(*demand, range, error);
-            push_by(&plan.codes, slopes, RealSpan::of(error), wanted)
+            push_by(&plan.codes, slopes, RoundedInterval::of(error), wanted)
         }
         _ => None,
     }
@@ -200,7 +200,7 @@ fn push_once(
     alloc: Global,
     setting: &Setting<'_>,
     plan: &mut Plan,
-    slopes: &[RealSpan],
+    slopes: &[RoundedInterval],
     j: usize,
     n: usize,
 ) -> Result<bool, Memory> {
@@ -215,7 +215,7 @@ pub fn keep_ends(
     alloc: Global,
     setting: &Setting<'_>,
     plan: &mut Plan,
-    slopes: &[RealSpan],
+    slopes: &[RoundedInterval],
     j: usize,
     n: usize,
 ) -> Result<(), Memory> {

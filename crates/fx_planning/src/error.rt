@@ -5,21 +5,21 @@
 
 use crate::centre::centred;
 use crate::node_error::NodeError;
-use crate::rounding::{both_sides, shift_loss, term_loss};
+use crate::rounding::{both_sides, shift_roundoff, term_roundoff};
 use crate::setting::Setting;
 use fx_num::{Memory, left_fits};
 use fx_program::{Code, Kind};
 use fx_ranges::{Mix, RangeForm, Ranges, Unplanned, mix_of, weighted};
-use fx_span::{MaybeSpan, Span, reading_error, word_error};
+use fx_search_numbers::{MaybeInterval, FixedInterval, reading_error, word_error};
 use std::alloc::Global;
 
 /// What the second pass says of all nodes.
 #[derive(Drop)]
 pub struct Errors {
     /// The error of each node.
-    pub spans: Vec<Span>,
+    pub spans: Vec<FixedInterval>,
     /// The rest of its form, or the error again.
-    pub rests: Vec<Span>,
+    pub rests: Vec<FixedInterval>,
     /// Whether the form shows the error.
     pub shown: Vec<bool>,
     /// The nodes whose words are too small for their values.
@@ -49,17 +49,17 @@ impl Errors {
     }
 
     /// The error of a node, if it has one yet.
-    fn maybe(&self, n: usize) -> MaybeSpan {
-        MaybeSpan::of(self.span(n))
+    fn maybe(&self, n: usize) -> MaybeInterval {
+        MaybeInterval::of(self.span(n))
     }
 
     /// The error of a node.
-    pub fn span(&self, n: usize) -> Option<Span> {
+    pub fn span(&self, n: usize) -> Option<FixedInterval> {
         self.spans.get(n).copied()
     }
 
     /// The rest of a node's form.
-    pub fn rest(&self, n: usize) -> Option<Span> {
+    pub fn rest(&self, n: usize) -> Option<FixedInterval> {
         self.rests.get(n).copied()
     }
 
@@ -69,7 +69,7 @@ impl Errors {
     }
 
     /// Takes another word's error as that of a literal.
-    pub fn put(&mut self, n: usize, span: Span) {
+    pub fn put(&mut self, n: usize, span: FixedInterval) {
         if let Some(error) = self.spans.get_mut(n) {
             *error = span;
         }
@@ -80,24 +80,24 @@ impl Errors {
 }
 
 /// What is said of an operand.
-fn of(list: &[Span], a: u32) -> MaybeSpan {
-    MaybeSpan::of(list.get(a as usize).copied())
+fn of(list: &[FixedInterval], a: u32) -> MaybeInterval {
+    MaybeInterval::of(list.get(a as usize).copied())
 }
 
 /// The error of a code but a product, by what is said of its operands: their errors, or the rests of their forms.
-fn linear_error(list: &[Span], kind: &Kind, point: i32) -> MaybeSpan {
+fn linear_error(list: &[FixedInterval], kind: &Kind, point: i32) -> MaybeInterval {
     match kind {
         Kind::Neg { a } => of(list, *a).negative(),
-        Kind::Copy { r, a, s } => of(list, *a).plus(shift_loss(*r, *s, point)),
+        Kind::Copy { r, a, s } => of(list, *a).plus(shift_roundoff(*r, *s, point)),
         Kind::Add { a, b, sa, sb } => of(list, *a)
             .plus(of(list, *b))
-            .plus(term_loss(*sa, point))
-            .plus(term_loss(*sb, point)),
+            .plus(term_roundoff(*sa, point))
+            .plus(term_roundoff(*sb, point)),
         Kind::Sub { a, b, sa, sb } => of(list, *a)
             .minus(of(list, *b))
-            .plus(term_loss(*sa, point))
-            .minus(term_loss(*sb, point)),
-        _ => MaybeSpan::NONE,
+            .plus(term_roundoff(*sa, point))
+            .minus(term_roundoff(*sb, point)),
+        _ => MaybeInterval::NONE,
     }
 }
 
@@ -107,9 +107,9 @@ fn product_off(
     errors: &Errors,
     (a, b): (usize, usize),
     form: &RangeForm,
-) -> MaybeSpan {
-    let x = setting.range(a).minus(MaybeSpan::single(form.centre_a));
-    let y = setting.range(b).minus(MaybeSpan::single(form.centre_b));
+) -> MaybeInterval {
+    let x = setting.range(a).minus(MaybeInterval::single(form.centre_a));
+    let y = setting.range(b).minus(MaybeInterval::single(form.centre_b));
     let error_a = errors.maybe(a);
     let error_b = errors.maybe(b);
     x.times(error_b)
@@ -123,29 +123,29 @@ fn product_error(
     errors: &Errors,
     (a, b): (usize, usize),
     form: &RangeForm,
-    loss: MaybeSpan,
-) -> MaybeSpan {
-    let left = MaybeSpan::of(errors.rest(a)).scaled(form.centre_b);
-    let right = MaybeSpan::of(errors.rest(b)).scaled(form.centre_a);
+    roundoff: MaybeInterval,
+) -> MaybeInterval {
+    let left = MaybeInterval::of(errors.rest(a)).scaled(form.centre_b);
+    let right = MaybeInterval::of(errors.rest(b)).scaled(form.centre_a);
     product_off(setting, errors, (a, b), form)
         .plus(left.plus(right))
-        .plus(loss)
+        .plus(roundoff)
 }
 
 /// The plain error of an operation but a quotient, before it is rounded.
-fn unrounded_error(setting: &Setting<'_>, errors: &Errors, code: &Code, point: i32) -> MaybeSpan {
+fn unrounded_error(setting: &Setting<'_>, errors: &Errors, code: &Code, point: i32) -> MaybeInterval {
     match &code.kind() {
         Kind::Mul { r, a, b, s } => {
-            let loss = shift_loss(*r, i64::from(*s), point);
-            let form = RangeForm::of_rest(Span::ZERO);
-            product_off(setting, errors, (*a as usize, *b as usize), &form).plus(loss)
+            let roundoff = shift_roundoff(*r, i64::from(*s), point);
+            let form = RangeForm::of_rest(FixedInterval::ZERO);
+            product_off(setting, errors, (*a as usize, *b as usize), &form).plus(roundoff)
         }
         kind => linear_error(&errors.spans, kind, point),
     }
 }
 
 /// The plain error of an operation but a quotient, on the grid of its point.
-pub fn plain_error(setting: &Setting<'_>, errors: &Errors, code: &Code, point: i32) -> MaybeSpan {
+pub fn plain_error(setting: &Setting<'_>, errors: &Errors, code: &Code, point: i32) -> MaybeInterval {
     setting.on_error_grid(unrounded_error(setting, errors, code, point), point)
 }
 
@@ -168,10 +168,10 @@ fn cut_off(
 }
 
 /// A sum with so much of a variable's error, on this grid.
-fn with_share(sum: MaybeSpan, share: Option<i128>, e: u32, error: MaybeSpan) -> MaybeSpan {
+fn with_share(sum: MaybeInterval, share: Option<i128>, e: u32, error: MaybeInterval) -> MaybeInterval {
     match share {
         Some(m) => sum.plus_scaled(m, e, error),
-        None => MaybeSpan::NONE,
+        None => MaybeInterval::NONE,
     }
 }
 
@@ -182,8 +182,8 @@ fn mixed_share(
     n: usize,
     operands: (usize, usize),
     mix: Mix,
-    rest: MaybeSpan,
-) -> MaybeSpan {
+    rest: MaybeInterval,
+) -> MaybeInterval {
     let ranges = setting.ranges;
     let places = mix.e.saturating_sub(ranges.grid(n));
     let mut sum = rest;
@@ -200,17 +200,17 @@ fn cut_share(
     errors: &Errors,
     n: usize,
     form: &RangeForm,
-    rest: MaybeSpan,
-) -> MaybeSpan {
+    rest: MaybeInterval,
+) -> MaybeInterval {
     let (a, b) = setting.operands(n);
     match setting.nodes.get(n) {
         Some(node) => {
             match mix_of(node, form, setting.ranges.grid(a), setting.ranges.grid(b)) {
                 Some(mix) => mixed_share(setting, errors, n, (a, b), mix, rest),
-                None => MaybeSpan::NONE,
+                None => MaybeInterval::NONE,
             }
         }
-        None => MaybeSpan::NONE,
+        None => MaybeInterval::NONE,
     }
 }
 
@@ -222,11 +222,11 @@ fn error_rest(
     code: &Code,
     point: i32,
     form: &RangeForm,
-) -> MaybeSpan {
+) -> MaybeInterval {
     let rest = match &code.kind() {
         Kind::Mul { r, a, b, s } => {
-            let loss = shift_loss(*r, i64::from(*s), point);
-            product_error(setting, errors, (*a as usize, *b as usize), form, loss)
+            let roundoff = shift_roundoff(*r, i64::from(*s), point);
+            product_error(setting, errors, (*a as usize, *b as usize), form, roundoff)
         }
         kind => linear_error(&errors.rests, kind, point),
     };
@@ -244,12 +244,12 @@ fn narrower_error(
     errors: &Errors,
     n: usize,
     point: i32,
-    plain: Span,
-    rest: Span,
+    plain: FixedInterval,
+    rest: FixedInterval,
 ) -> Option<NodeError> {
     let row = setting.ranges.row(n);
     let sum = weighted(row, setting.ranges.grid(n), rest, &errors.spans);
-    match setting.on_error_grid(MaybeSpan::of(sum), point).get() {
+    match setting.on_error_grid(MaybeInterval::of(sum), point).get() {
         Some(by_form) => NodeError::narrower(plain, by_form, rest),
         None => None,
     }
@@ -262,19 +262,19 @@ fn formed_error(
     n: usize,
     code: &Code,
     point: i32,
-    plain: Span,
+    plain: FixedInterval,
 ) -> Option<NodeError> {
     match setting.ranges.form(n) {
         Some(form) => match error_rest(setting, errors, n, code, point, &form).get() {
             Some(rest) => narrower_error(setting, errors, n, point, plain, rest),
             None => None,
         },
-        None => NodeError::plain(MaybeSpan::some(plain)),
+        None => NodeError::plain(MaybeInterval::some(plain)),
     }
 }
 
 /// Whether neither a divisor nor what the machine sees of it may be zero, and both have one sign.
-fn have_one_sign(divisor: Span, seen: Span) -> bool {
+fn have_one_sign(divisor: FixedInterval, seen: FixedInterval) -> bool {
     divisor.is_clear() && seen.is_clear() && (divisor.lo > 0) == (seen.lo > 0)
 }
 
@@ -282,15 +282,15 @@ fn have_one_sign(divisor: Span, seen: Span) -> bool {
 fn divided_error(
     setting: &Setting<'_>,
     point: i32,
-    divisor: Span,
-    seen: Span,
-    top: Span,
-) -> MaybeSpan {
+    divisor: FixedInterval,
+    seen: FixedInterval,
+    top: FixedInterval,
+) -> MaybeInterval {
     if !have_one_sign(divisor, seen) {
-        return MaybeSpan::NONE;
+        return MaybeInterval::NONE;
     }
     let e = setting.error_grid(point);
-    let quotient = MaybeSpan::of(top.over(seen, e));
+    let quotient = MaybeInterval::of(top.over(seen, e));
     setting.on_error_grid(quotient.plus(both_sides(point, e)), point)
 }
 
@@ -301,7 +301,7 @@ fn quotient_error(
     n: usize,
     point: i32,
     (a, b): (usize, usize),
-) -> MaybeSpan {
+) -> MaybeInterval {
     let divisor = setting.range(b);
     let seen = divisor.plus(errors.maybe(b));
     let off = setting.range(n).times(errors.maybe(b));
@@ -310,7 +310,7 @@ fn quotient_error(
         (Some(divisor), Some(seen), Some(top)) => {
             divided_error(setting, point, divisor, seen, top)
         }
-        _ => MaybeSpan::NONE,
+        _ => MaybeInterval::NONE,
     }
 }
 
@@ -319,7 +319,7 @@ fn literal_error(setting: &Setting<'_>, n: usize, w: i64, f: i32) -> Option<Node
     match setting.literal(n) {
         Some(c) => {
             let error = word_error(c, i128::from(w), f, setting.ranges.grids());
-            NodeError::plain(MaybeSpan::of(error))
+            NodeError::plain(MaybeInterval::of(error))
         }
         None => None,
     }
@@ -331,7 +331,7 @@ fn input_error(setting: &Setting<'_>, k: usize, point: i32) -> Option<NodeError>
     match function.inputs.as_slice().get(k) {
         Some(input) => {
             let error = reading_error(input.err, point, setting.error_grid(point));
-            NodeError::of_variable(setting.on_error_grid(MaybeSpan::of(error), point))
+            NodeError::of_variable(setting.on_error_grid(MaybeInterval::of(error), point))
         }
         None => None,
     }

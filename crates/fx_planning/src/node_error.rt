@@ -1,21 +1,21 @@
 //! What the second pass says of one node.
 
-use fx_span::{MaybeSpan, Span};
+use fx_search_numbers::{MaybeInterval, FixedInterval};
 
 /// What is said of one node.
 #[derive(Clone, Copy)]
 pub struct NodeError {
     /// The error.
-    pub span: Span,
+    pub span: FixedInterval,
     /// The rest of its form, or the error again.
-    pub rest: Span,
+    pub rest: FixedInterval,
     /// Whether the form shows the error.
     pub is_shown: bool,
 }
 
 impl NodeError {
     /// An error without a form, if there is one.
-    pub fn plain(error: MaybeSpan) -> Option<NodeError> {
+    pub fn plain(error: MaybeInterval) -> Option<NodeError> {
         match error.get() {
             Some(span) => Some(NodeError {
                 span,
@@ -27,11 +27,11 @@ impl NodeError {
     }
 
     /// The error of a variable, whose form is itself, if there is one.
-    pub fn of_variable(error: MaybeSpan) -> Option<NodeError> {
+    pub fn of_variable(error: MaybeInterval) -> Option<NodeError> {
         match error.get() {
             Some(span) => Some(NodeError {
                 span,
-                rest: Span::ZERO,
+                rest: FixedInterval::ZERO,
                 is_shown: false,
             }),
             None => None,
@@ -39,7 +39,7 @@ impl NodeError {
     }
 
     /// The narrower of a plain error and a form's with its rest.
-    pub fn narrower(plain: Span, by_form: Span, rest: Span) -> Option<NodeError> {
+    pub fn narrower(plain: FixedInterval, by_form: FixedInterval, rest: FixedInterval) -> Option<NodeError> {
         match by_form.is_narrower(plain) {
             Some(is_shown) => Some(NodeError {
                 span: if is_shown { by_form } else { plain },

@@ -9,7 +9,7 @@ use fx_flat::Nodes;
 use fx_num::Memory;
 use fx_program::Code;
 use fx_ranges::{Ranges, Unplanned};
-use fx_span::Span;
+use fx_search_numbers::FixedInterval;
 use fx_wanted::Wanted;
 use std::alloc::Global;
 
@@ -69,7 +69,7 @@ impl Plan {
 }
 
 /// The errors of the outputs.
-pub fn outputs_of<'a>(setting: &Setting<'_>, errors: &'a Errors) -> &'a [Span] {
+pub fn outputs_of<'a>(setting: &Setting<'_>, errors: &'a Errors) -> &'a [FixedInterval] {
     let function = setting.function;
     let from = setting.first_output();
     let to = from.saturating_add(function.demands.len());
@@ -216,7 +216,7 @@ pub fn find_plan_in<'a>(
     ranges: &'a Ranges,
     points: &'a [i32],
     wanted: Wanted,
-    boxes: &'a [Span],
+    boxes: &'a [FixedInterval],
 ) -> Result<Result<Plan, Unplanned>, Memory> {
     let setting = Setting {
         boxes,

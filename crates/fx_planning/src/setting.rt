@@ -7,7 +7,7 @@ use fx_fraction::Fraction;
 use fx_num::{Memory, bits};
 use fx_program::Code;
 use fx_ranges::{Ranges, Unplanned, codes_of, operands};
-use fx_span::{MaybeSpan, Span};
+use fx_search_numbers::{MaybeInterval, FixedInterval};
 use fx_wanted::Wanted;
 use std::alloc::Global;
 
@@ -23,7 +23,7 @@ pub struct Setting<'a> {
     pub points: &'a [i32],
     pub uses: &'a [u32],
     /// Where the error of each state lies.
-    pub boxes: &'a [Span],
+    pub boxes: &'a [FixedInterval],
     /// The words' width, and how they round.
     pub wanted: Wanted,
     pub goal: Goal<'a>,
@@ -109,7 +109,7 @@ impl Setting<'_> {
     }
 
     /// An error on the grid of its point, or on a coarser one where it has many bits.
-    fn on_grid_of(&self, error: Span, point: i32) -> Span {
+    fn on_grid_of(&self, error: FixedInterval, point: i32) -> FixedInterval {
         let most = self.ranges.grids().range_bits.saturating_sub(BITS_LESS);
         let few = most
             .saturating_add(error.e)
@@ -119,10 +119,10 @@ impl Setting<'_> {
 
     /// An error on the grid of its point, or on a coarser one where it has many bits: an input may err by far more than
     /// a word does, and products of such errors would leave 128 bits.
-    pub fn on_error_grid(&self, error: MaybeSpan, point: i32) -> MaybeSpan {
+    pub fn on_error_grid(&self, error: MaybeInterval, point: i32) -> MaybeInterval {
         match error.get() {
-            Some(error) => MaybeSpan::some(self.on_grid_of(error, point)),
-            None => MaybeSpan::NONE,
+            Some(error) => MaybeInterval::some(self.on_grid_of(error, point)),
+            None => MaybeInterval::NONE,
         }
     }
 
@@ -135,8 +135,8 @@ impl Setting<'_> {
     }
 
     /// The range of a node, if it has one.
-    pub fn range(&self, n: usize) -> MaybeSpan {
-        MaybeSpan::of(self.ranges.span(n))
+    pub fn range(&self, n: usize) -> MaybeInterval {
+        MaybeInterval::of(self.ranges.span(n))
     }
 
     /// The operands of an operation. One operand stands for both, and node 0 for those of what has none.
@@ -148,7 +148,7 @@ impl Setting<'_> {
     }
 
     /// Whether a node's word holds all of its range with this error.
-    pub fn fits(&self, n: usize, error: Span) -> Option<bool> {
+    pub fn fits(&self, n: usize, error: FixedInterval) -> Option<bool> {
         match self.point(n) {
             Some(point) => self.ranges.fits(n, error, point, self.wanted.width),
             None => None,

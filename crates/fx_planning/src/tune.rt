@@ -10,7 +10,7 @@ use crate::plan::{Plan, planned};
 use crate::setting::Setting;
 use fx_num::Memory;
 use fx_program::Code;
-use fx_span::{Real, RealSpan, word_at};
+use fx_search_numbers::{Rounded, RoundedInterval, word_at};
 use std::alloc::Global;
 use std::mem::replace;
 
@@ -25,17 +25,17 @@ const ROUNDS: usize = 2;
 pub struct Move {
     pub node: usize,
     pub units: i64,
-    pub bound: Real,
+    pub bound: Rounded,
 }
 
 /// The bound that an error's ends give.
-fn bound(ends: RealSpan) -> Real {
+fn bound(ends: RoundedInterval) -> Rounded {
     ends.lo.negative().max(ends.hi)
 }
 
 /// About the bound where a literal with this slope by unit is moved by so many units.
-pub fn bound_after(ends: RealSpan, slope: RealSpan, units: i64) -> Real {
-    let by = Real::of(i128::from(units), 0);
+pub fn bound_after(ends: RoundedInterval, slope: RoundedInterval, units: i64) -> Rounded {
+    let by = Rounded::of(i128::from(units), 0);
     let x = slope.lo.times(by);
     let y = slope.hi.times(by);
     let below = ends.lo.plus(x.min(y)).negative();
@@ -56,7 +56,7 @@ pub fn lesser(best: Option<Move>, other: Move) -> Option<Move> {
 
 /// By how many units a literal with this slope by unit has to be moved for the middle of the ends to come to zero, if it
 /// moves them.
-fn units_to_middle(slope: RealSpan, ends: RealSpan) -> Option<i64> {
+fn units_to_middle(slope: RoundedInterval, ends: RoundedInterval) -> Option<i64> {
     let twice = slope.lo.plus(slope.hi);
     if twice.is_zero() {
         None
@@ -69,10 +69,10 @@ fn units_to_middle(slope: RealSpan, ends: RealSpan) -> Option<i64> {
 fn with_move(
     best: Option<Move>,
     node: usize,
-    slope: RealSpan,
+    slope: RoundedInterval,
     units: i64,
-    ends: RealSpan,
-    limit: Real,
+    ends: RoundedInterval,
+    limit: Rounded,
 ) -> Option<Move> {
     let bound = bound_after(ends, slope, units);
     let is_move = units != 0 && units.unsigned_abs() <= MOVE_LIMIT.unsigned_abs();
@@ -87,12 +87,12 @@ fn with_move(
 fn better(
     best: Option<Move>,
     node: usize,
-    slope: RealSpan,
+    slope: RoundedInterval,
     f: i32,
-    ends: RealSpan,
-    limit: Real,
+    ends: RoundedInterval,
+    limit: Rounded,
 ) -> Option<Move> {
-    let slope = slope.scaled(Real::power(f.saturating_neg()));
+    let slope = slope.scaled(Rounded::power(f.saturating_neg()));
     match units_to_middle(slope, ends) {
         Some(units) => {
             let first = with_move(best, node, slope, units, ends, limit);
@@ -103,9 +103,9 @@ fn better(
 }
 
 /// The move that seems best for an output.
-fn best_move(codes: &[Code], slopes: &[RealSpan], ends: RealSpan) -> Option<Move> {
+fn best_move(codes: &[Code], slopes: &[RoundedInterval], ends: RoundedInterval) -> Option<Move> {
     let now = bound(ends);
-    let limit = now.minus(now.times(Real::power(-13)));
+    let limit = now.minus(now.times(Rounded::power(-13)));
     let mut best = None;
     for (n, (code, slope)) in codes.iter().zip(slopes).enumerate() {
         if let Code::Const { f, .. } = code {
@@ -194,13 +194,13 @@ fn tune_by(
     alloc: Global,
     setting: &Setting<'_>,
     plan: &mut Plan,
-    slopes: &[RealSpan],
+    slopes: &[RoundedInterval],
     j: usize,
     output: usize,
 ) -> Result<bool, Memory> {
     keep_ends(alloc, setting, plan, slopes, j, output)?;
     let best = match plan.errors.span(output) {
-        Some(error) => best_move(&plan.codes, slopes, RealSpan::of(error)),
+        Some(error) => best_move(&plan.codes, slopes, RoundedInterval::of(error)),
         None => None,
     };
     match best {

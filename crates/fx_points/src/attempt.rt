@@ -11,7 +11,7 @@ use crate::operation::{Factor, Rates, Room, input, product, quotient, sum};
 use fx_flat::Node;
 use fx_num::Memory;
 use fx_program::Round;
-use fx_span::Real;
+use fx_search_numbers::Rounded;
 use std::alloc::Global;
 
 /// What an attempt reads.
@@ -33,7 +33,7 @@ pub struct Task<'a> {
 #[derive(Drop)]
 pub struct Chosen {
     pub points: Vec<i8>,
-    pub cost: Real,
+    pub cost: Rounded,
 }
 
 /// The operands of a node, the left one first.
@@ -110,12 +110,12 @@ fn quotient_entry(
     before: &[Entry],
     a: u32,
     b: u32,
-    size: Real,
+    size: Rounded,
     room: Room,
 ) -> Option<Entry> {
     match (both_of(before, a, b), facts.get(b as usize)) {
         (Some((x, y)), Some(divisor)) => {
-            let inverse = Real::ONE.over(divisor.least);
+            let inverse = Rounded::ONE.over(divisor.least);
             Some(Entry::Listed(quotient(x, y, Rates { inverse, size }, room)))
         }
         _ => None,
@@ -215,7 +215,7 @@ fn set(points: &mut [i8], operand: Option<u32>, point: i8) {
 
 /// Gives the operands of a node the points that its choice asks for, if it has one. Answers the cost with that of an
 /// output added.
-fn hand_on(node: &Node, choice: Option<Choice>, points: &mut [i8], cost: Real) -> Real {
+fn hand_on(node: &Node, choice: Option<Choice>, points: &mut [i8], cost: Rounded) -> Rounded {
     match choice {
         Some(choice) => {
             let (left, right) = operands(node);
@@ -232,8 +232,8 @@ fn hand_on(node: &Node, choice: Option<Choice>, points: &mut [i8], cost: Real) -
 
 /// From the last node to the first, gives the operands the points that the node's own point asks for. Answers the
 /// summed cost of the outputs.
-fn hand_down(nodes: &[Node], entries: &[Entry], points: &mut [i8]) -> Real {
-    let mut cost = Real::ZERO;
+fn hand_down(nodes: &[Node], entries: &[Entry], points: &mut [i8]) -> Rounded {
+    let mut cost = Rounded::ZERO;
     for n in (0..points.len()).rev() {
         let point = i32::from(points[n]);
         cost = match (nodes.get(n), entries.get(n)) {

@@ -2,7 +2,7 @@
 ghost use Rattle.std.specs.Prelude.{◌≤◌};
 
 use fx_program::is_point;
-use fx_span::Real;
+use fx_search_numbers::Rounded;
 
 /// A point that a node may have.
 #[derive(Clone, Copy)]
@@ -10,7 +10,7 @@ pub struct Choice {
     /// The point.
     pub point: i8,
     /// The least cost that leads there.
-    pub cost: Real,
+    pub cost: Rounded,
     /// The point of the only or left operand then.
     pub left: i8,
     /// The point of the right operand then.
@@ -22,7 +22,7 @@ impl Choice {
     pub const POINTS: i32 = 8;
 
     /// A point, at which operands have the same.
-    pub fn alone(point: i8, cost: Real) -> Choice {
+    pub fn alone(point: i8, cost: Rounded) -> Choice {
         Choice {
             point,
             cost,
@@ -67,7 +67,7 @@ impl Choices {
     /// None yet.
     pub fn new() -> Choices {
         Choices {
-            list: [Choice::alone(0, Real::ZERO); 8],
+            list: [Choice::alone(0, Rounded::ZERO); 8],
             count: 0,
         }
     }

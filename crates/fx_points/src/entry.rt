@@ -1,6 +1,6 @@
 //! What is known of a node's point while its users' points are open.
 use crate::choice::{Choice, Choices};
-use fx_span::Real;
+use fx_search_numbers::Rounded;
 
 /// An exact literal, or its negation: any point from `least` to `greatest` costs nothing.
 #[derive(Clone, Copy)]
@@ -17,7 +17,7 @@ impl Exact {
         let coarsest = i32::from(self.least).max(from);
         let finest = i32::from(self.greatest).min(to);
         if coarsest <= finest {
-            Some(Choice::alone(finest as i8, Real::ZERO))
+            Some(Choice::alone(finest as i8, Rounded::ZERO))
         } else {
             None
         }
@@ -71,7 +71,7 @@ impl Entry {
     /// The cheapest, of equal costs the coarsest.
     pub fn best(&self) -> Option<Choice> {
         match self {
-            Entry::Exact(x) => Some(Choice::alone(x.least, Real::ZERO)),
+            Entry::Exact(x) => Some(Choice::alone(x.least, Rounded::ZERO)),
             Entry::Listed(list) => list.best(),
         }
     }

@@ -5,7 +5,7 @@ use crate::choice::{Choice, Choices};
 use crate::entry::{Entry, Exact};
 use fx_fraction::Fraction;
 use fx_num::raised;
-use fx_span::Real;
+use fx_search_numbers::Rounded;
 
 /// The numerator without its sign.
 fn top(c: Fraction) -> u64
@@ -36,16 +36,16 @@ fn exact_point(c: Fraction) -> Option<i8> {
 }
 
 /// How far the nearest word at a point is from a literal.
-fn nearest_miss(c: Fraction, f: i8) -> Real {
+fn nearest_miss(c: Fraction, f: i8) -> Rounded {
     let whole = raised(top(c), u32::from(f.clamp(0, 64).unsigned_abs()));
     let unit = raised(bottom(c), u32::from(f.clamp(-64, 0).unsigned_abs()));
     if unit == 0 {
-        return Real::INFINITE;
+        return Rounded::INFINITE;
     }
     let rest = whole % unit;
     let miss = rest.min(unit - rest);
-    let share = Real::of(miss as i128, 0).over(Real::of(unit as i128, 0));
-    share.times(Real::power(-i32::from(f)))
+    let share = Rounded::of(miss as i128, 0).over(Rounded::of(unit as i128, 0));
+    share.times(Rounded::power(-i32::from(f)))
 }
 
 /// The points of a literal.

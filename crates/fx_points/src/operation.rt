@@ -5,7 +5,7 @@
 use crate::choice::{Choice, Choices, cheaper};
 use crate::entry::{Entry, Exact};
 use fx_program::Round;
-use fx_span::Real;
+use fx_search_numbers::Rounded;
 
 /// How far the points of a node may go.
 #[derive(Clone, Copy)]
@@ -19,17 +19,17 @@ pub struct Room {
 }
 
 /// What a floor at a point may lose.
-fn unit(f: i8) -> Real {
-    Real::power(-i32::from(f))
+fn unit(f: i8) -> Rounded {
+    Rounded::power(-i32::from(f))
 }
 
 /// What the nearest word at a point is off at most.
-fn half_unit(f: i8) -> Real {
-    Real::power(-1 - i32::from(f))
+fn half_unit(f: i8) -> Rounded {
+    Rounded::power(-1 - i32::from(f))
 }
 
 /// The points of an input, which is read with one floor and errs twice as far as it is given.
-pub fn input(error: Real, cap: i8) -> Choices {
+pub fn input(error: Rounded, cap: i8) -> Choices {
     let given = error.plus(error);
     Choices::down_from(i32::from(cap), Choice::POINTS, |f| {
         Some(Choice::alone(f, unit(f).plus(given)))
@@ -80,11 +80,11 @@ pub fn sum(a: &Entry, b: &Entry, room: Room) -> Option<Choices> {
 }
 
 /// What a product's shift loses at point `f`, if it may have the shift.
-fn product_loss(shift: i32, f: i8, room: Room) -> Option<Real> {
+fn product_roundoff(shift: i32, f: i8, room: Room) -> Option<Rounded> {
     if shift > 2 * i32::from(room.width) - 2 {
         None
     } else if shift == 0 {
-        Some(Real::ZERO)
+        Some(Rounded::ZERO)
     } else {
         Some(match room.round {
             Round::Floor => unit(f),
@@ -99,16 +99,16 @@ fn least_shift(least: i8, x: i8, f: i8) -> i32 {
 }
 
 /// The choice of the product of an exact literal and `x` at point `f`: the literal's point is the least that keeps all.
-fn scaled_choice(literal: Exact, size: Real, x: &Choice, f: i8, room: Room) -> Option<Choice> {
+fn scaled_choice(literal: Exact, size: Rounded, x: &Choice, f: i8, room: Room) -> Option<Choice> {
     let shift = least_shift(literal.least, x.point, f);
     let wanted = i32::from(f) - i32::from(x.point);
     match (
-        product_loss(shift, f, room),
+        product_roundoff(shift, f, room),
         literal.at(wanted.saturating_add(shift)),
     ) {
-        (Some(loss), Some(factor)) => Some(Choice {
+        (Some(roundoff), Some(factor)) => Some(Choice {
             point: f,
-            cost: size.times(x.cost).plus(loss),
+            cost: size.times(x.cost).plus(roundoff),
             left: factor.point,
             right: x.point,
         }),
@@ -117,7 +117,7 @@ fn scaled_choice(literal: Exact, size: Real, x: &Choice, f: i8, room: Room) -> O
 }
 
 /// The choice of the product of an exact literal and another node at point `f`.
-fn scaled_at(literal: Exact, size: Real, other: &Choices, f: i8, room: Room) -> Option<Choice> {
+fn scaled_at(literal: Exact, size: Rounded, other: &Choices, f: i8, room: Room) -> Option<Choice> {
     let mut best = None;
     for x in other.as_slice() {
         best = cheaper(best, scaled_choice(literal, size, x, f, room));
@@ -126,7 +126,7 @@ fn scaled_at(literal: Exact, size: Real, other: &Choices, f: i8, room: Room) -> 
 }
 
 /// The points of the product of an exact literal, on the left, and another node.
-fn scaled(literal: Exact, size: Real, other: &Choices, room: Room) -> Option<Choices> {
+fn scaled(literal: Exact, size: Rounded, other: &Choices, room: Room) -> Option<Choices> {
     match other.finest() {
         Some(finest) => {
             let all = i32::from(finest.point) + i32::from(literal.greatest);
@@ -140,12 +140,12 @@ fn scaled(literal: Exact, size: Real, other: &Choices, room: Room) -> Option<Cho
 }
 
 /// The choice of a product at point `f`, which costs so much before its shift.
-fn product_at(x: &Choice, y: &Choice, cost: Real, f: i8, room: Room) -> Option<Choice> {
+fn product_at(x: &Choice, y: &Choice, cost: Rounded, f: i8, room: Room) -> Option<Choice> {
     let shift = i32::from(x.point) + i32::from(y.point) - i32::from(f);
-    match product_loss(shift, f, room) {
-        Some(loss) => Some(Choice {
+    match product_roundoff(shift, f, room) {
+        Some(roundoff) => Some(Choice {
             point: f,
-            cost: cost.plus(loss),
+            cost: cost.plus(roundoff),
             left: x.point,
             right: y.point,
         }),
@@ -154,7 +154,7 @@ fn product_at(x: &Choice, y: &Choice, cost: Real, f: i8, room: Room) -> Option<C
 }
 
 /// The points of a product whose operands have these points.
-fn product_of(x: &Choice, y: &Choice, cost: Real, room: Room) -> Choices {
+fn product_of(x: &Choice, y: &Choice, cost: Rounded, room: Room) -> Choices {
     let top = (i32::from(x.point) + i32::from(y.point)).min(i32::from(room.cap));
     Choices::down_from(top, Choice::POINTS, |f| product_at(x, y, cost, f, room))
 }
@@ -174,7 +174,7 @@ fn whole_product(a: Factor, b: Factor, room: Room) -> Option<Choices> {
 #[derive(Clone, Copy)]
 pub struct Factor<'a> {
     pub entry: &'a Entry,
-    pub size: Real,
+    pub size: Rounded,
 }
 
 /// The points of a product.
@@ -215,9 +215,9 @@ fn divided_at(a: &Choices, b: Exact, rates: Rates, f: i8, width: i8) -> Option<C
 #[derive(Clone, Copy)]
 pub struct Rates {
     /// One over the least size of the divisor.
-    pub inverse: Real,
+    pub inverse: Rounded,
     /// The size of the quotient.
-    pub size: Real,
+    pub size: Rounded,
 }
 
 impl Rates {

@@ -7,7 +7,7 @@ use fx_fraction::{Fraction, to_fraction};
 use fx_lowering::code_at;
 use fx_num::Memory;
 use fx_program::{Code, Round, is_point};
-use fx_span::{nearest, word_at};
+use fx_search_numbers::{nearest, word_at};
 use std::alloc::Global;
 
 /// The nearest word of a number at a point.

@@ -7,7 +7,7 @@
 use crate::coefficients::Coefficients;
 use fx_flat::Node;
 use fx_num::{Dyadic, bits, floor_shift, left_fits};
-use fx_span::{Grids, MaybeSpan, Span, product};
+use fx_search_numbers::{Grids, MaybeInterval, FixedInterval, product};
 
 /// What a form has beside its coefficients, which stand in a row of `Coefficients`.
 #[derive(Clone, Copy)]
@@ -15,7 +15,7 @@ pub struct RangeForm {
     /// The grid of the coefficients.
     pub e: u32,
     /// Where the value less the sum lies.
-    pub rest: Span,
+    pub rest: FixedInterval,
     /// Where a product's operands are centred.
     pub centre_a: Dyadic,
     pub centre_b: Dyadic,
@@ -27,7 +27,7 @@ pub struct RangeForm {
 
 impl RangeForm {
     /// The form of a value that is a rest alone.
-    pub fn of_rest(rest: Span) -> RangeForm {
+    pub fn of_rest(rest: FixedInterval) -> RangeForm {
         RangeForm {
             e: 0,
             rest,
@@ -39,7 +39,7 @@ impl RangeForm {
     }
 
     /// The form with this rest, whose coefficients on the grid `e` have so many places less.
-    fn cut(self, rest: Option<Span>, e: u32, places: u32, grids: Grids) -> Option<RangeForm> {
+    fn cut(self, rest: Option<FixedInterval>, e: u32, places: u32, grids: Grids) -> Option<RangeForm> {
         match rest {
             Some(rest) => Some(RangeForm {
                 e: e.saturating_sub(places),
@@ -121,7 +121,7 @@ pub fn mix_of(node: &Node, form: &RangeForm, a: u32, b: u32) -> Option<Mix> {
 }
 
 /// A number of few bits near the middle of a range.
-pub fn middle_of(range: Span, grids: Grids) -> Option<Dyadic> {
+pub fn middle_of(range: FixedInterval, grids: Grids) -> Option<Dyadic> {
     match range.lo.checked_add(range.hi) {
         Some(twice) => {
             let middle = floor_shift(twice, 1);
@@ -163,8 +163,8 @@ impl Centres {
 }
 
 /// The range that has this end alone.
-fn end_alone(end: i128, e: u32) -> Span {
-    Span {
+fn end_alone(end: i128, e: u32) -> FixedInterval {
+    FixedInterval {
         lo: end,
         hi: end,
         e,
@@ -172,7 +172,7 @@ fn end_alone(end: i128, e: u32) -> Span {
 }
 
 /// A number of few bits near that point of a range.
-pub fn centre_at(range: Span, at: Centre, grids: Grids) -> Option<Dyadic> {
+pub fn centre_at(range: FixedInterval, at: Centre, grids: Grids) -> Option<Dyadic> {
     match at {
         Centre::Middle => middle_of(range, grids),
         Centre::Low => middle_of(end_alone(range.lo, range.e), grids),
@@ -182,10 +182,10 @@ pub fn centre_at(range: Span, at: Centre, grids: Grids) -> Option<Dyadic> {
 }
 
 /// A rest and the sum of the row's coefficients by what is said of each input.
-pub fn weighted(row: &[i128], e: u32, rest: Span, inputs: &[Span]) -> Option<Span> {
-    let mut sum = MaybeSpan::some(rest);
+pub fn weighted(row: &[i128], e: u32, rest: FixedInterval, inputs: &[FixedInterval]) -> Option<FixedInterval> {
+    let mut sum = MaybeInterval::some(rest);
     for (m, span) in row.iter().zip(inputs) {
-        sum = sum.plus_scaled(*m, e, MaybeSpan::some(*span));
+        sum = sum.plus_scaled(*m, e, MaybeInterval::some(*span));
     }
     sum.get()
 }
@@ -272,10 +272,10 @@ fn cut_at(
 }
 
 /// A sum with so many times an input, if both are there.
-fn with_off(sum: MaybeSpan, off: Option<i128>, e: u32, input: Option<&Span>) -> MaybeSpan {
+fn with_off(sum: MaybeInterval, off: Option<i128>, e: u32, input: Option<&FixedInterval>) -> MaybeInterval {
     match off {
-        Some(off) => sum.plus_scaled(off, e, MaybeSpan::of(input.copied())),
-        None => MaybeSpan::NONE,
+        Some(off) => sum.plus_scaled(off, e, MaybeInterval::of(input.copied())),
+        None => MaybeInterval::NONE,
     }
 }
 
@@ -285,14 +285,14 @@ fn cut_row(
     n: usize,
     e: u32,
     places: u32,
-    rest: Span,
-    inputs: &[Span],
-) -> Option<Span> {
+    rest: FixedInterval,
+    inputs: &[FixedInterval],
+) -> Option<FixedInterval> {
     let half = match left_fits(1, places.saturating_sub(1)) {
         Some(half) => half,
         None => return None,
     };
-    let mut sum = MaybeSpan::some(rest);
+    let mut sum = MaybeInterval::some(rest);
     for k in 0..coefficients.width() {
         let off = cut_at(coefficients, n, k, half, places);
         sum = with_off(sum, off, e, inputs.get(k));
@@ -313,7 +313,7 @@ pub fn write_row(
     (a, b): (usize, usize),
     mix: Mix,
     form: RangeForm,
-    inputs: &[Span],
+    inputs: &[FixedInterval],
     grids: Grids,
 ) -> Option<RangeForm> {
     match mix_rows(coefficients, n, a, b, mix) {

@@ -15,7 +15,7 @@
 //!
 //! Whoever chooses the points is given plain numbers: up to which point a range fits a word (`Ranges::cap`), sizes, and
 //! whether a node has a code at a point (`has_code`). What the errors are then is worked out by `fx_planning`, of the
-//! same numbers (`fx_span`).
+//! same numbers (`fx_search_numbers`).
 //!
 //! A mantissa that leaves 128 bits ends the attempt, never the search, and `Grids` has coarser grids to take then. The
 //! trap: a point that a code can't have, as where a shift leaves its limits, is found before any error is.

@@ -9,7 +9,7 @@ use fx_expr::Function;
 use fx_flat::{Node, Nodes};
 use fx_fraction::Fraction;
 use fx_num::{Dyadic, GREATEST_POINT, LEAST_POINT, Memory, bits};
-use fx_span::{Grids, MaybeSpan, Span, fits_word, range_between, range_of};
+use fx_search_numbers::{Grids, MaybeInterval, FixedInterval, fits_word, range_between, range_of};
 use std::alloc::Global;
 
 /// There is no plan: this node is the first for which the pass has nothing to say.
@@ -28,7 +28,7 @@ impl Unplanned {
 }
 
 /// The greatest point at which a range fits a word of so many bits, from -64 to 62.
-fn highest_point(span: Span, width: u32) -> i32 {
+fn highest_point(span: FixedInterval, width: u32) -> i32 {
     let size = span.size();
     let free = i64::from(width).saturating_add(i64::from(span.e));
     let highest = free.saturating_sub(i64::from(bits(size)));
@@ -54,7 +54,7 @@ fn dyadic(size: u128, e: u32) -> Option<Dyadic> {
 #[derive(Drop)]
 pub struct Ranges {
     grids: Grids,
-    spans: Vec<Span>,
+    spans: Vec<FixedInterval>,
     forms: Vec<Option<RangeForm>>,
     coefficients: Coefficients,
     /// The centres of each node's operands, in the middle from the list's end on.
@@ -78,7 +78,7 @@ impl Ranges {
         }
     }
 
-    fn push(&mut self, span: Span, form: Option<RangeForm>) -> Result<(), Memory> {
+    fn push(&mut self, span: FixedInterval, form: Option<RangeForm>) -> Result<(), Memory> {
         self.spans.push(span)?;
         self.forms.push(form)?;
         Ok(())
@@ -110,7 +110,7 @@ impl Ranges {
     }
 
     /// The range of a node.
-    pub fn span(&self, n: usize) -> Option<Span> {
+    pub fn span(&self, n: usize) -> Option<FixedInterval> {
         self.spans.get(n).copied()
     }
 
@@ -125,7 +125,7 @@ impl Ranges {
     }
 
     /// The rest of a node's form, which is its range where it has none.
-    fn rest(&self, n: usize) -> Option<Span> {
+    fn rest(&self, n: usize) -> Option<FixedInterval> {
         match self.forms.get(n) {
             Some(Some(form)) => Some(form.rest),
             _ => self.span(n),
@@ -149,8 +149,8 @@ impl Ranges {
     }
 
     /// Whether a word at a point holds whatever of the node's range has such an error.
-    pub fn fits(&self, n: usize, error: Span, point: i32, width: u32) -> Option<bool> {
-        let held = MaybeSpan::of(self.span(n)).plus(MaybeSpan::some(error));
+    pub fn fits(&self, n: usize, error: FixedInterval, point: i32, width: u32) -> Option<bool> {
+        let held = MaybeInterval::of(self.span(n)).plus(MaybeInterval::some(error));
         match held.get() {
             Some(held) => Some(fits_word(held, point, width)),
             None => None,
@@ -175,7 +175,7 @@ impl Ranges {
 }
 
 /// The range of a quotient.
-fn quotient_range(a: Span, b: Span, grids: Grids) -> Option<Span> {
+fn quotient_range(a: FixedInterval, b: FixedInterval, grids: Grids) -> Option<FixedInterval> {
     if b.is_clear() {
         let places = i64::from(grids.range_bits)
             .saturating_add(i64::from(bits(b.least_size())))
@@ -189,7 +189,7 @@ fn quotient_range(a: Span, b: Span, grids: Grids) -> Option<Span> {
 }
 
 /// The range of an operation whose operands have these, before it is rounded.
-fn unrounded_range(node: &Node, a: Span, b: Span, grids: Grids) -> Option<Span> {
+fn unrounded_range(node: &Node, a: FixedInterval, b: FixedInterval, grids: Grids) -> Option<FixedInterval> {
     match node {
         Node::Neg { .. } => a.negative(),
         Node::Add { .. } => a.plus(b),
@@ -201,7 +201,7 @@ fn unrounded_range(node: &Node, a: Span, b: Span, grids: Grids) -> Option<Span> 
 }
 
 /// A range, if there is one, with as many places as the grids allow.
-fn rounded(range: Option<Span>, grids: Grids) -> Option<Span> {
+fn rounded(range: Option<FixedInterval>, grids: Grids) -> Option<FixedInterval> {
     match range {
         Some(range) => Some(grids.rounded(range)),
         None => None,
@@ -209,7 +209,7 @@ fn rounded(range: Option<Span>, grids: Grids) -> Option<Span> {
 }
 
 /// The ranges of both operands of an operation.
-fn operand_ranges(ranges: &Ranges, node: &Node) -> Option<(Span, Span)> {
+fn operand_ranges(ranges: &Ranges, node: &Node) -> Option<(FixedInterval, FixedInterval)> {
     let (a, b) = match operands(node) {
         Some((a, b)) => (ranges.span(a), ranges.span(b)),
         None => (None, None),
@@ -221,7 +221,7 @@ fn operand_ranges(ranges: &Ranges, node: &Node) -> Option<(Span, Span)> {
 }
 
 /// The plain range of an operation.
-fn plain_range(ranges: &Ranges, node: &Node) -> Option<Span> {
+fn plain_range(ranges: &Ranges, node: &Node) -> Option<FixedInterval> {
     match operand_ranges(ranges, node) {
         Some((a, b)) => rounded(unrounded_range(node, a, b, ranges.grids), ranges.grids),
         None => None,
@@ -231,9 +231,9 @@ fn plain_range(ranges: &Ranges, node: &Node) -> Option<Span> {
 /// An operand of a product.
 #[derive(Clone, Copy)]
 struct Factor {
-    range: Span,
+    range: FixedInterval,
     /// The rest of its form.
-    rest: Span,
+    rest: FixedInterval,
     centre: Dyadic,
 }
 
@@ -253,12 +253,12 @@ fn centred_factor(ranges: &Ranges, a: usize, at: Centre) -> Option<Factor> {
 }
 
 /// The rest of the form of a product.
-fn product_rest(a: Factor, b: Factor) -> MaybeSpan {
-    let left = MaybeSpan::some(a.rest).scaled(b.centre);
-    let right = MaybeSpan::some(b.rest).scaled(a.centre);
-    let both = MaybeSpan::single(a.centre).scaled(b.centre);
-    let off_a = MaybeSpan::some(a.range).minus(MaybeSpan::single(a.centre));
-    let off_b = MaybeSpan::some(b.range).minus(MaybeSpan::single(b.centre));
+fn product_rest(a: Factor, b: Factor) -> MaybeInterval {
+    let left = MaybeInterval::some(a.rest).scaled(b.centre);
+    let right = MaybeInterval::some(b.rest).scaled(a.centre);
+    let both = MaybeInterval::single(a.centre).scaled(b.centre);
+    let off_a = MaybeInterval::some(a.range).minus(MaybeInterval::single(a.centre));
+    let off_b = MaybeInterval::some(b.range).minus(MaybeInterval::single(b.centre));
     left.plus(right).minus(both).plus(off_a.times(off_b))
 }
 
@@ -288,7 +288,7 @@ fn next_product_form(ranges: &Ranges, a: usize, b: usize) -> Option<RangeForm> {
 }
 
 /// The rest of the form of an operation but a product, by those of its operands.
-fn linear_rest(node: &Node, a: MaybeSpan, b: MaybeSpan) -> MaybeSpan {
+fn linear_rest(node: &Node, a: MaybeInterval, b: MaybeInterval) -> MaybeInterval {
     match node {
         Node::Neg { .. } => a.negative(),
         Node::Add { .. } => a.plus(b),
@@ -299,8 +299,8 @@ fn linear_rest(node: &Node, a: MaybeSpan, b: MaybeSpan) -> MaybeSpan {
 
 /// The form of an operation but a product, before its row is written.
 fn linear_form(ranges: &Ranges, node: &Node, a: usize, b: usize) -> Option<RangeForm> {
-    let a = MaybeSpan::of(ranges.rest(a));
-    let b = MaybeSpan::of(ranges.rest(b));
+    let a = MaybeInterval::of(ranges.rest(a));
+    let b = MaybeInterval::of(ranges.rest(b));
     match linear_rest(node, a, b).get() {
         Some(rest) => Some(RangeForm::of_rest(rest)),
         None => None,
@@ -335,7 +335,7 @@ fn write_form(ranges: &mut Ranges, n: usize, node: &Node, a: usize, b: usize) ->
 }
 
 /// The range that a form with a written row shows.
-fn shown_range(ranges: &Ranges, n: usize, form: &RangeForm) -> Option<Span> {
+fn shown_range(ranges: &Ranges, n: usize, form: &RangeForm) -> Option<FixedInterval> {
     let row = ranges.coefficients.row(n);
     let sum = weighted(row, form.e, form.rest, &ranges.spans);
     rounded(sum, ranges.grids)
@@ -348,7 +348,7 @@ fn written_form(
     node: &Node,
     a: usize,
     b: usize,
-) -> Option<(RangeForm, Span)> {
+) -> Option<(RangeForm, FixedInterval)> {
     match write_form(ranges, n, node, a, b) {
         Some(form) => match shown_range(ranges, n, &form) {
             Some(range) => Some((form, range)),
@@ -359,7 +359,7 @@ fn written_form(
 }
 
 /// The narrower of two ranges, and whether it is the second.
-fn narrower(first: Span, second: Span) -> Option<(Span, bool)> {
+fn narrower(first: FixedInterval, second: FixedInterval) -> Option<(FixedInterval, bool)> {
     match second.is_narrower(first) {
         Some(true) => Some((second, true)),
         Some(false) => Some((first, false)),
@@ -368,7 +368,7 @@ fn narrower(first: Span, second: Span) -> Option<(Span, bool)> {
 }
 
 /// The narrower of an operation's plain range and its form's, with the form.
-fn with_form(plain: Span, form: RangeForm, by_form: Span) -> Option<(Span, Option<RangeForm>)> {
+fn with_form(plain: FixedInterval, form: RangeForm, by_form: FixedInterval) -> Option<(FixedInterval, Option<RangeForm>)> {
     match narrower(plain, by_form) {
         Some((range, shows_range)) => Some((
             range,
@@ -387,8 +387,8 @@ fn formed_range(
     n: usize,
     node: &Node,
     (a, b): (usize, usize),
-    plain: Span,
-) -> Option<(Span, Option<RangeForm>)> {
+    plain: FixedInterval,
+) -> Option<(FixedInterval, Option<RangeForm>)> {
     match written_form(ranges, n, node, a, b) {
         Some((form, by_form)) => with_form(plain, form, by_form),
         None => {
@@ -409,7 +409,7 @@ fn operation_range(
     ranges: &mut Ranges,
     n: usize,
     node: &Node,
-) -> Option<(Span, Option<RangeForm>)> {
+) -> Option<(FixedInterval, Option<RangeForm>)> {
     match (plain_range(ranges, node), operands(node)) {
         (Some(plain), Some(both)) => if may_have_form(ranges, node, both) {
             formed_range(ranges, n, node, both, plain)
@@ -421,7 +421,7 @@ fn operation_range(
 }
 
 /// The range of an input.
-fn input_range(function: &Function, k: usize, grids: Grids) -> Option<Span> {
+fn input_range(function: &Function, k: usize, grids: Grids) -> Option<FixedInterval> {
     match function.inputs.as_slice().get(k) {
         Some(input) => range_of(input.lo, input.hi, grids),
         None => None,
@@ -433,11 +433,11 @@ fn variable_range(
     ranges: &mut Ranges,
     n: usize,
     k: usize,
-    range: Option<Span>,
-) -> Option<(Span, Option<RangeForm>)> {
+    range: Option<FixedInterval>,
+) -> Option<(FixedInterval, Option<RangeForm>)> {
     match range {
         Some(range) => if ranges.coefficients.put(n, k, 1) {
-            Some((range, Some(RangeForm::of_rest(Span::ZERO))))
+            Some((range, Some(RangeForm::of_rest(FixedInterval::ZERO))))
         } else {
             None
         },
@@ -446,7 +446,7 @@ fn variable_range(
 }
 
 /// The range of a literal, which has no form.
-fn literal_range(c: Fraction, grids: Grids) -> Option<(Span, Option<RangeForm>)> {
+fn literal_range(c: Fraction, grids: Grids) -> Option<(FixedInterval, Option<RangeForm>)> {
     match range_between(c, c, grids) {
         Some(range) => Some((range, None)),
         None => None,
@@ -457,10 +457,10 @@ fn literal_range(c: Fraction, grids: Grids) -> Option<(Span, Option<RangeForm>)>
 fn any_range(
     function: &Function,
     ranges: &mut Ranges,
-    boxes: &[Span],
+    boxes: &[FixedInterval],
     n: usize,
     node: &Node,
-) -> Option<(Span, Option<RangeForm>)> {
+) -> Option<(FixedInterval, Option<RangeForm>)> {
     match node {
         Node::Input { k } => {
             let range = input_range(function, *k as usize, ranges.grids);
@@ -477,10 +477,10 @@ fn any_range(
 fn node_range(
     function: &Function,
     ranges: &mut Ranges,
-    boxes: &[Span],
+    boxes: &[FixedInterval],
     n: usize,
     node: &Node,
-) -> Option<(Span, Option<RangeForm>)> {
+) -> Option<(FixedInterval, Option<RangeForm>)> {
     match any_range(function, ranges, boxes, n, node) {
         Some((range, form)) => if bits(range.size()) > 62 {
             None
@@ -495,7 +495,7 @@ fn node_range(
 fn add_ranges(
     function: &Function,
     list: &[Node],
-    boxes: &[Span],
+    boxes: &[FixedInterval],
     ranges: &mut Ranges,
 ) -> Result<Option<Unplanned>, Memory> {
     for n in 0..list.len() {
@@ -511,7 +511,7 @@ fn add_ranges(
 fn filled(
     function: &Function,
     list: &[Node],
-    boxes: &[Span],
+    boxes: &[FixedInterval],
     mut ranges: Ranges,
 ) -> Result<Result<Ranges, Unplanned>, Memory> {
     match add_ranges(function, list, boxes, &mut ranges) {
@@ -537,7 +537,7 @@ pub fn find_ranges_in(
     function: &Function,
     nodes: &Nodes,
     grids: Grids,
-    boxes: &[Span],
+    boxes: &[FixedInterval],
 ) -> Result<Result<Ranges, Unplanned>, Memory> {
     find_centred_ranges(alloc, function, nodes, grids, boxes, &[])
 }
@@ -548,7 +548,7 @@ pub fn find_centred_ranges(
     function: &Function,
     nodes: &Nodes,
     grids: Grids,
-    boxes: &[Span],
+    boxes: &[FixedInterval],
     centres: &[Centres],
 ) -> Result<Result<Ranges, Unplanned>, Memory> {
     let list = nodes.list.as_slice();
@@ -565,7 +565,7 @@ pub fn find_centred_ranges(
 }
 
 /// The narrower of a node's plain range and its form's, and whether it is the form's.
-fn own_range(ranges: &Ranges, n: usize, node: &Node) -> Option<(Span, bool)> {
+fn own_range(ranges: &Ranges, n: usize, node: &Node) -> Option<(FixedInterval, bool)> {
     match (plain_range(ranges, node), ranges.form(n)) {
         (Some(plain), Some(form)) => match shown_range(ranges, n, &form) {
             Some(by_form) => narrower(plain, by_form),
@@ -581,8 +581,8 @@ fn narrowest(
     ranges: &Ranges,
     n: usize,
     node: &Node,
-    by_templates: Option<Span>,
-) -> Option<(Span, bool, bool)> {
+    by_templates: Option<FixedInterval>,
+) -> Option<(FixedInterval, bool, bool)> {
     match (own_range(ranges, n, node), by_templates) {
         (Some((own, by_form)), Some(range)) => match narrower(own, range) {
             Some((best, is_new)) => Some((best, by_form && !is_new, is_new)),
@@ -595,7 +595,7 @@ fn narrowest(
 
 impl Ranges {
     /// Takes another range for a node.
-    pub fn put_span(&mut self, n: usize, span: Span) {
+    pub fn put_span(&mut self, n: usize, span: FixedInterval) {
         if let Some(slot) = self.spans.get_mut(n) {
             *slot = span;
         }
@@ -609,7 +609,7 @@ impl Ranges {
     }
 
     /// Narrows the range of an operation after those of its operands, and answers whether templates show it.
-    pub fn narrow(&mut self, n: usize, node: &Node, by_templates: Option<Span>) -> bool {
+    pub fn narrow(&mut self, n: usize, node: &Node, by_templates: Option<FixedInterval>) -> bool {
         match narrowest(self, n, node, by_templates) {
             Some((span, by_form, is_by_templates)) => {
                 self.put_span(n, span);

@@ -3,10 +3,10 @@
 use crate::code::start_word;
 use fx_expr::Function;
 use fx_fraction::to_fraction;
-use fx_span::{Grids, Span, range_between, word_error};
+use fx_search_numbers::{Grids, FixedInterval, range_between, word_error};
 
 /// Where the start value of state `k` lies, outward on a grid.
-pub fn start_range(function: &Function, k: usize, grids: Grids) -> Option<Span> {
+pub fn start_range(function: &Function, k: usize, grids: Grids) -> Option<FixedInterval> {
     match function.states.as_slice().get(k) {
         Some(state) => {
             let start = to_fraction(state.start);
@@ -23,7 +23,7 @@ pub fn start_error(
     point: i32,
     width: u32,
     grids: Grids,
-) -> Option<Span> {
+) -> Option<FixedInterval> {
     match (
         function.states.as_slice().get(k),
         start_word(function, k, point, width),

@@ -140,7 +140,7 @@ impl<'a, const B: u32, L: SideBySide<B>> HeldStep<'a, B, L> {
         ensures whose { IfOk result (λ s. s.certified.now ≡ certified.now) }
         ensures can { IfOk result
             (λ s. CanHold L.HasRoom certified.now B s.registers s.lanes s.rows.items s.held s.filled) }
-        ensures settled { IfOk result (λ s. s.held ≡ 0) }
+        ensures none_held { IfOk result (λ s. s.held ≡ 0) }
         ensures start { OnOk result (start_words certified.now.program.codes ≡ []) }
     {
         certified.certified();
@@ -176,7 +176,7 @@ impl<'a, const B: u32, L: SideBySide<B>> RowStep for HeldStep<'a, B, L> {
 
     ghost can_run = { λ s. CanHold L.HasRoom s.certified.now B s.registers s.lanes s.rows.items s.held s.filled };
 
-    ghost is_settled = { λ s. s.held ≡ 0 };
+    ghost holds_none = { λ s. s.held ≡ 0 };
 
     ghost head = { λ s. line_of (names_from 1 s.certified.now.program.outputs) };
 
@@ -203,7 +203,7 @@ impl<'a, const B: u32, L: SideBySide<B>> RowStep for HeldStep<'a, B, L> {
         }
     }
 
-    fn settle(&mut self, page: &mut Page) {
+    fn put_held(&mut self, page: &mut Page) {
         if self.held == 0 {
             return;
         }
@@ -221,6 +221,6 @@ impl<'a, const B: u32, L: SideBySide<B>> RowStep for HeldStep<'a, B, L> {
         self.held = 0;
     }
 
-    ghost none = { λ s settled.
-        nothing_held s.certified.now.program s.certified.now.program.inputs s.held s.rows.items settled };
+    ghost none = { λ s none_held.
+        nothing_held s.certified.now.program s.certified.now.program.inputs s.held s.rows.items none_held };
 }

@@ -58,7 +58,7 @@ impl<'a, const B: u32> RowStep for CertifiedStep<'a, B> {
 
     ghost can_run = { λ s. CanStep s.certified.now B s.registers };
 
-    ghost is_settled = { λ _. ⊤ };
+    ghost holds_none = { λ _. ⊤ };
 
     ghost head = { λ s. line_of (names_from 1 s.certified.now.program.outputs) };
 
@@ -77,7 +77,7 @@ impl<'a, const B: u32> RowStep for CertifiedStep<'a, B> {
     }
 
     // Each row is printed at once.
-    fn settle(&mut self, _page: &mut Page) {}
+    fn put_held(&mut self, _page: &mut Page) {}
 
     ghost none = { λ s _. nothing_from s.certified.now.program s.registers.states };
 }

@@ -85,17 +85,17 @@ fn ask<P: Printer, S: Source<K>, K: Sink>(
 }
 
 // Has a printer append what it holds back where a read may follow.
-fn settle_before<P: Printer>(lines: &Lines, printer: &mut P, page: &mut Page)
+fn put_held_before<P: Printer>(lines: &Lines, printer: &mut P, page: &mut Page)
     requires ready { IsTrue lines.now.is_ready }
     requires can { P.can_take printer.old }
-    requires held { P.is_settled printer.old ⊎ HasRoom page.old }
+    requires held { P.holds_none printer.old ⊎ HasRoom page.old }
     ensures can { P.can_take printer.new }
-    ensures settled { GoesOut lines.now page.new → P.is_settled printer.new }
+    ensures none_held { GoesOut lines.now page.new → P.holds_none printer.new }
     ensures put { (text : List ℕ) × (page.new ≡ page.old ++ text)
         × ((rest : List (List ℕ)) → P.outcome printer.old rest ≡ behind_text text (P.outcome printer.new rest)) }
 {
     if !lines.holds_line() {
-        printer.settle(page);
+        printer.put_held(page);
     }
 }
 
@@ -110,9 +110,9 @@ pub(crate) fn next<P: Printer, S: Source<K>, K: Sink>(
     requires ready { IsTrue lines.old.is_ready }
     requires limit { lines.old.limit < 2 ^ 64 - 1 }
     requires can { P.can_take printer.old }
-    requires held { P.is_settled printer.old ⊎ HasRoom page.old }
+    requires held { P.holds_none printer.old ⊎ HasRoom page.old }
     ensures can { P.can_take printer.new }
-    ensures settled { position (λ b. b == 10) lines.old.held ≡ None → P.is_settled printer.new }
+    ensures none_held { position (λ b. b == 10) lines.old.held ≡ None → P.holds_none printer.new }
     ensures asked { (o : List (List ℕ) → Outcome P.Told) (left before : Option (List ℕ)) (count : ℕ)
         → Ran o (P.outcome printer.old) lines.old left (S.seen source.old).left before (K.seen sink.old).taken page.old
         count lines.old.limit
@@ -132,7 +132,7 @@ pub(crate) fn next<P: Printer, S: Source<K>, K: Sink>(
     ensures later { (S.seen source.old).faults ≤ (S.seen source.new).faults }
     ensures later_sink { (K.seen sink.old).faults ≤ (K.seen sink.new).faults }
 {
-    settle_before(lines, printer, page);
+    put_held_before(lines, printer, page);
     ask::<P, S, K>(lines, page, source, sink)
 }
 
@@ -145,7 +145,7 @@ pub(crate) fn take_line<P: Printer>(
     requires can { P.can_take printer.old }
     requires room { HasRoom page.old }
     ensures can { OnOk result (P.can_take printer.new) }
-    ensures held { OnOk result (P.is_settled printer.new ⊎ HasRoom page.new) }
+    ensures held { OnOk result (P.holds_none printer.new ⊎ HasRoom page.new) }
     ensures ready { OnOk result (lines.now.is_ready ≡ true) }
     ensures taken { IfOk result (λ is_row. (text : List ℕ) × (page.new ≡ page.old ++ text)
         × ((rest : List (List ℕ)) →
@@ -156,7 +156,7 @@ pub(crate) fn take_line<P: Printer>(
         IsBadLine P.told (P.outcome printer.old) lines.now text fault)) }
 {
     if !lines.ready() {
-        printer.settle(page);
+        printer.put_held(page);
         return Err(Stop::Bad(printer.too_long()));
     }
     printer.take(lines.line(), page)

@@ -6,7 +6,7 @@
 //! wrong with a line is a printer's own (`Flaw`, `told`). Both promise one record, `EndsRun` (`specs/Ending.antt`),
 //! over what comes of lines (`Outcome`), and so does every run of the crates above. What is printed goes into the block
 //! of a `Page`, and all of it is written before a line is asked for that isn't held whole. A printer may hold text back
-//! until then: it is told to `settle` first, and so it is before a line that is too long ends the run; before a line
+//! until then: it is told to put what it holds (`put_held`) first, and so it is before a line that is too long ends the run; before a line
 //! that `take` finds bad it settles by itself (`bad`). So each time that the source is asked, the sink has exactly the
 //! text of the whole lines that were taken (`prompt`, by `IsAnswered`). At Ok the whole text is written (`done`) and
 //! the input ended (`end`); after each fault stands what `IsDue` says: all before the first bad line, the text of

@@ -1,7 +1,7 @@
 //! What is printed of lines that come one at a time.
 //!
 //! A printer may hold text back, so that several rows can go through a program together. It prints what it holds when
-//! it is told to settle, which it is before each read that might wait. The trap: where a page has no room nothing is
+//! it is told to put it, which it is before each read that might wait. The trap: where a page has no room nothing is
 //! held back, so that what is written between two rows is always the text of whole lines.
 ghost use Rattle.std.specs.Prelude.{◌≡◌, ◌⊎◌, ℕ, List, [], ◌∷◌, ◌++◌, ◌<◌, length, option_map, IfOk, IfErr, OnOk};
 ghost use Rattle.fx_model.specs.Limits.{line_limit};
@@ -34,7 +34,7 @@ pub trait Printer {
     ghost can_take: { Self → Type 0 };
 
     // Whether nothing is held back.
-    ghost is_settled: { Self → Type 0 };
+    ghost holds_none: { Self → Type 0 };
 
     // What is held back, and what comes of these lines, if they are the next ones and the last.
     ghost outcome: { Self → List (List ℕ) → Outcome Told };
@@ -45,7 +45,7 @@ pub trait Printer {
         requires can { can_take self.old }
         requires room { HasRoom page.old }
         ensures can { OnOk result (can_take self.new) }
-        ensures held { OnOk result (is_settled self.new ⊎ (page.new ≡ page.old)) }
+        ensures held { OnOk result (holds_none self.new ⊎ (page.new ≡ page.old)) }
         ensures taken { IfOk result (λ is_row. (text : List ℕ) × (page.new ≡ page.old ++ text)
             × ((rest : List (List ℕ)) →
             outcome self.old (line.now ∷ rest) ≡ behind_lines 1 text (one is_row) (outcome self.new rest))) }
@@ -54,17 +54,17 @@ pub trait Printer {
             outcome self.old (line.now ∷ rest) ≡ behind_text text (stopped_lines (told fault))))) };
 
     /// Appends what is held back.
-    fn settle(&mut self, page: &mut Page)
+    fn put_held(&mut self, page: &mut Page)
         requires can { can_take self.old }
-        requires room { is_settled self.old ⊎ HasRoom page.old }
+        requires room { holds_none self.old ⊎ HasRoom page.old }
         ensures can { can_take self.new }
-        ensures settled { is_settled self.new }
+        ensures none_held { holds_none self.new }
         ensures put { (text : List ℕ) × (page.new ≡ page.old ++ text)
             × ((rest : List (List ℕ)) → outcome self.old rest ≡ behind_text text (outcome self.new rest)) };
 
     /// What is wrong with a line that is longer than a line may be, whatever it holds.
     fn too_long(&self) -> Self::Flaw
-        ensures { is_settled self.now → (line : List ℕ) (rest : List (List ℕ)) → line_limit < length line
+        ensures { holds_none self.now → (line : List ℕ) (rest : List (List ℕ)) → line_limit < length line
             → outcome self.now (line ∷ rest) ≡ stopped_lines (told result) };
 
     /// What is wrong where no line is left.
@@ -72,5 +72,5 @@ pub trait Printer {
         ensures { (outcome self.now []).bad ≡ option_map (λ f. (0, told f)) result };
 
     // Where nothing is held back and no line is left nothing is printed.
-    ghost none: { (s : Self) → is_settled s → ((outcome s []).text ≡ []) × ((outcome s []).rows ≡ 0) };
+    ghost none: { (s : Self) → holds_none s → ((outcome s []).text ≡ []) × ((outcome s []).rows ≡ 0) };
 }

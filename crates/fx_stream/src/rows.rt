@@ -40,7 +40,7 @@ pub trait RowStep {
     ghost can_run: { Self → Type 0 };
 
     // Whether no row is held back.
-    ghost is_settled: { Self → Type 0 };
+    ghost holds_none: { Self → Type 0 };
 
     // What stands before the rows.
     ghost head: { Self → List ℕ };
@@ -67,23 +67,23 @@ pub trait RowStep {
         ensures put { (text : List ℕ) × (page.new ≡ page.old ++ text)
             × ((rest : List (List rational.Decimal)) →
             printed self.old (row.now ∷ rest) ≡ text ++ printed self.new rest) }
-        ensures held { is_settled self.new ⊎ (page.new ≡ page.old) }
+        ensures held { holds_none self.new ⊎ (page.new ≡ page.old) }
         ensures function { meaning self.new ≡ meaning self.old }
         ensures before { head self.new ≡ head self.old };
 
     /// Carries out the rows that are held back, and appends what is printed of them.
-    fn settle(&mut self, page: &mut Page)
+    fn put_held(&mut self, page: &mut Page)
         requires can { can_run self.old }
-        requires room { is_settled self.old ⊎ HasRoom page.old }
+        requires room { holds_none self.old ⊎ HasRoom page.old }
         ensures can { can_run self.new }
-        ensures settled { is_settled self.new }
+        ensures none_held { holds_none self.new }
         ensures put { (text : List ℕ) × (page.new ≡ page.old ++ text)
             × ((rest : List (List rational.Decimal)) → printed self.old rest ≡ text ++ printed self.new rest) }
         ensures function { meaning self.new ≡ meaning self.old }
         ensures before { head self.new ≡ head self.old };
 
     // Where none is held back nothing is printed of no rows.
-    ghost none: { (s : Self) → is_settled s → printed s [] ≡ [] };
+    ghost none: { (s : Self) → holds_none s → printed s [] ≡ [] };
 }
 
 // The header and the rows as they come.
@@ -154,7 +154,7 @@ fn take_row<M: RowStep>(
     requires room { HasRoom page.old }
     requires row_room { length (M.meaning step.old).inputs ≤ vec_capacity row.old }
     ensures can { OnOk result (M.can_run step.new) }
-    ensures held { OnOk result (M.is_settled step.new ⊎ (page.new ≡ page.old)) }
+    ensures held { OnOk result (M.holds_none step.new ⊎ (page.new ≡ page.old)) }
     ensures function { OnOk result (M.meaning step.new ≡ M.meaning step.old) }
     ensures row_room { vec_capacity row.old ≤ vec_capacity row.new }
     ensures taken { IfOk result (λ is_row. (text : List ℕ) × (page.new ≡ page.old ++ text)
@@ -176,7 +176,7 @@ fn take_row<M: RowStep>(
             Ok(true)
         }
         Err(fault) => {
-            step.settle(page);
+            step.put_held(page);
             Err(stop_of(fault))
         }
     }
@@ -197,10 +197,10 @@ impl<M: RowStep + Drop> Printer for RowPrinter<M> {
     ghost told = { row_fault_of };
 
     ghost can_take = { λ s. M.can_run s.step
-        × MatchOption s.reader (M.is_settled s.step) (λ r. Serves r (M.meaning s.step))
+        × MatchOption s.reader (M.holds_none s.step) (λ r. Serves r (M.meaning s.step))
         × (length (M.meaning s.step).inputs ≤ vec_capacity s.row) };
 
-    ghost is_settled = { λ s. M.is_settled s.step };
+    ghost holds_none = { λ s. M.holds_none s.step };
 
     ghost outcome = { λ s ls. lines_outcome (M.meaning s.step) (M.head s.step) (M.printed s.step)
         (option_map reader_columns s.reader) ls };
@@ -225,8 +225,8 @@ impl<M: RowStep + Drop> Printer for RowPrinter<M> {
         }
     }
 
-    fn settle(&mut self, page: &mut Page) {
-        self.step.settle(page);
+    fn put_held(&mut self, page: &mut Page) {
+        self.step.put_held(page);
     }
 
     fn too_long(&self) -> RowFault {
@@ -241,8 +241,8 @@ impl<M: RowStep + Drop> Printer for RowPrinter<M> {
         }
     }
 
-    ghost none = { λ s settled. nothing_printed (M.meaning s.step) (M.head s.step) (M.printed s.step)
-        (M.none s.step settled) (option_map reader_columns s.reader) };
+    ghost none = { λ s none_held. nothing_printed (M.meaning s.step) (M.head s.step) (M.printed s.step)
+        (M.none s.step none_held) (option_map reader_columns s.reader) };
 }
 
 /// Runs the rows of a source, and writes their page before each read that might wait. Gives the number of rows.
@@ -255,7 +255,7 @@ pub fn run_steps<M: RowStep + Drop, S: Source<K>, K: Sink>(
 ) -> Result<u64, RunFault<RowFault>>
     requires limit { limit < 2 ^ 64 - 1 }
     requires can { M.can_run step }
-    requires settled { M.is_settled step }
+    requires none_held { M.holds_none step }
     ensures { let at = streams S.seen K.seen in
         EndsRun row_fault_of (lines_outcome (M.meaning step) (M.head step) (M.printed step) None) limit
         (at source.old sink.old) (at source.new sink.new) result }

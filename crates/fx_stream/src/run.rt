@@ -30,7 +30,7 @@ fn run_on<P: Printer, S: Source<K>, K: Sink>(
     requires limit { lines.old.limit < 2 ^ 64 - 1 }
     requires empty { page.old ≡ [] }
     requires can { P.can_take printer.old }
-    requires settled { P.is_settled printer.old }
+    requires none_held { P.holds_none printer.old }
     ensures { let at = streams S.seen K.seen in
         EndsRun P.told (P.outcome printer.old) lines.old.limit
         (at source.old sink.old) (at source.new sink.new) result }
@@ -58,7 +58,7 @@ pub fn run_lines<P: Printer, S: Source<K>, K: Sink>(
 ) -> Result<u64, RunFault<P::Flaw>>
     requires limit { limit < 2 ^ 64 - 1 }
     requires can { P.can_take printer.old }
-    requires settled { P.is_settled printer.old }
+    requires none_held { P.holds_none printer.old }
     ensures { let at = streams S.seen K.seen in
         EndsRun P.told (P.outcome printer.old) limit (at source.old sink.old) (at source.new sink.new) result }
 {

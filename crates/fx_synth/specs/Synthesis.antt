@@ -8,9 +8,9 @@ use Rattle.fx_wanted.specs.declared.wanted.Wanted.{Wanted}
 use Rattle.fx_analysis.specs.Attempts.{IsAcceptedAfter, tried_steps}
 use Rattle.fx_analysis.specs.PlainAttempt.{Attempt}
 use Rattle.fx_checker.specs.CertifiedView.{Accepted}
-use Rattle.fx_weight.specs.PlainClass.{Outside, outside_of}
-use Rattle.fx_weight.specs.OutsideView.{outside_view}
-use Rattle.fx_attempts.specs.Bounds.{attempted, promised_powers, AreNoGreater, AreSmaller, AreWithinPowers}
+use Rattle.fx_weight.specs.PlainClass.{Obstacle, obstacle_of}
+use Rattle.fx_weight.specs.ObstacleView.{obstacle_view}
+use Rattle.fx_plain_attempts.specs.Bounds.{attempted, promised_powers, AreNoGreater, AreSmaller, AreWithinPowers}
 use Rattle.fx_synth.specs.declared.fault.SynthFault.{SynthFault}
 use Rattle.fx_synth.specs.declared.fault.SynthFault.TheVariants.{NotFound, Memory}
 
@@ -30,13 +30,13 @@ pub record IsSynthesised (w : Wanted) (fn : Function) (a : Accepted) : Type 0 wh
 
 -- why nothing is found: neither plan serves the function, of which this keeps it from the plain one, and no attempt is
 -- accepted
-pub record IsUnfound (w : Wanted) (fn : Function) (reason : Outside) : Type 0 where
-  pub outside : outside_of w.width fn ≡ Some reason
+pub record IsUnfound (w : Wanted) (fn : Function) (reason : Obstacle) : Type 0 where
+  pub obstacle : obstacle_of w.width fn ≡ Some reason
   pub unpromised : promised_powers w.width fn ≡ None
   pub none_accepted : (steps : List Rewriting) → Contains (tried_steps w.tries fn) steps → (t : Attempt) →
       ¬ IsAcceptedAfter w fn steps t
 
 -- or there was no memory
 abbrev pub Explains : Wanted → Function → SynthFault → Type 0
-Explains w fn (NotFound outside) = IsUnfound w fn (outside_view outside)
+Explains w fn (NotFound obstacle) = IsUnfound w fn (obstacle_view obstacle)
 Explains w fn Memory = Unit {0}

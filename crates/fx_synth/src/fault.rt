@@ -1,7 +1,7 @@
 //! Why nothing was found.
 
 use fx_num::Memory;
-use fx_weight::Outside;
+use fx_weight::Obstacle;
 use std::error::Error;
 use std::fmt;
 
@@ -12,7 +12,7 @@ pub enum SynthFault {
     NotFound {
         /// The first node that isn't modest, else the first output that has a demanded end or too small a demanded
         /// error.
-        outside: Outside,
+        obstacle: Obstacle,
     },
     /// No memory was left.
     Memory,
@@ -22,10 +22,10 @@ impl fmt::Display for SynthFault {
     fn fmt<W: fmt::Write>(&self, f: &mut fmt::Formatter<W>) -> fmt::Result {
         match self {
             SynthFault::NotFound {
-                outside: Outside::Node { node },
+                obstacle: Obstacle::Node { node },
             } => write!(f, "not found: node {node}"),
             SynthFault::NotFound {
-                outside: Outside::Demand { output },
+                obstacle: Obstacle::Demand { output },
             } => write!(f, "not found: output {output}"),
             SynthFault::Memory => write!(f, "out of memory"),
         }

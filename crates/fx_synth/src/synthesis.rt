@@ -4,19 +4,19 @@ ghost use Rattle.fx_model.specs.LawfulProgram.{widths};
 ghost use Rattle.fx_inequalities.specs.Rewriting.{Rewriting};
 ghost use Rattle.fx_rules.specs.SingleSteps.{single_steps};
 ghost use Rattle.fx_checker.specs.Answers.{IsOffered};
-ghost use Rattle.fx_attempts.specs.Turns.{IsBestAfter, SuitsIfAny};
+ghost use Rattle.fx_plain_attempts.specs.Turns.{IsBestAfter, SuitsIfAny};
 ghost use Rattle.fx_wanted.specs.Asked.{tries_limit};
 ghost use Rattle.fx_synth.specs.Synthesis.{Explains, IsSynthesised};
 
 use crate::fault::SynthFault;
-use fx_attempts::{bounds_of, first_answer, taken, tried};
+use fx_plain_attempts::{bounds_of, first_answer, take_better, try_plainly};
 use fx_checker::Certified;
 use fx_expr::Function;
-use fx_feedback::certify_states;
+use fx_state_search::certify_states;
 use fx_num::{Dyadic, Memory};
-use fx_search::search;
+use fx_stateless_search::search;
 use fx_wanted::{Round, Wanted};
-use fx_weight::find_outside;
+use fx_weight::find_obstacle;
 use std::alloc::Global;
 
 // What a search finds: of a function with states what is certified at its limit, of others what keeps these bounds.
@@ -67,7 +67,7 @@ fn searched(
         IfOk result (IsBestAfter wanted function.now steps) }
 {
     let candidate = candidate_to(alloc, function, wanted, seed, &answer)?;
-    Ok(taken(answer, candidate))
+    Ok(take_better(answer, candidate))
 }
 
 // The best answer of all.
@@ -82,7 +82,7 @@ fn best_answer(
     requires suits { SuitsIfAny wanted function.now first }
     ensures { IfOk result (IsBestAfter wanted function.now (take wanted.tries (single_steps function.now))) }
 {
-    let answer = tried(alloc, function, wanted, first)?;
+    let answer = try_plainly(alloc, function, wanted, first)?;
     let best = searched(alloc, function, wanted, seed, answer)?;
     Ok(best)
 }
@@ -111,12 +111,12 @@ pub fn synthesise(
         tries,
         round,
     };
-    let outside = find_outside(alloc, function, width)?;
-    let first = first_answer(alloc, function, wanted, outside)?;
+    let obstacle = find_obstacle(alloc, function, width)?;
+    let first = first_answer(alloc, function, wanted, obstacle)?;
     match best_answer(alloc, function, wanted, seed, first)? {
         Some(certified) => Ok(certified),
-        None => match outside {
-            Some(outside) => Err(SynthFault::NotFound { outside }),
+        None => match obstacle {
+            Some(obstacle) => Err(SynthFault::NotFound { obstacle }),
             None => unreachable!(),
         },
     }

@@ -2,7 +2,7 @@
 use Rattle.std.proofs.Common.{◌≡◌, ℕ, zero, suc, ◌+◌, ◌<◌, true, false, ◌&&◌, List, [], ◌∷◌, ◌++◌, length, length-append, Result, Ok, Err, refl, sym, subst, ap, ap₂, ◌∙◌, arith, true≢false}
 use Rattle.fx_rational.specs.Dyadic.{Dyadic}
 use Rattle.fx_inequalities.specs.Formula.{Formula, formed, formula_fits}
-use Rattle.fx_judging.proofs.Judged.{both_again}
+use Rattle.fx_formulas.proofs.Judged.{both_again}
 use Rattle.std.specs.Result.{IsErrAnd}
 use Rattle.std.proofs.lemmas.Bool.{and_parts, false_from_ne_true}
 use Rattle.fx_template.specs.declared.affine.Affine.{Affine}

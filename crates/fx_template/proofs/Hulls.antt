@@ -4,8 +4,8 @@ use Rattle.std.proofs.lemmas.Bool.{and_parts}
 use Rattle.fx_rational.specs.Dyadic.{least, greatest}
 use Rattle.fx_rational.specs.Interval.{Interval}
 use Rattle.fx_inequalities.specs.Formula.{Span, formed, formula_fits}
-use Rattle.fx_judging.specs.Judging.{FormsSpan}
-use Rattle.fx_judging.proofs.Judged.{both_again}
+use Rattle.fx_formulas.specs.Judging.{FormsSpan}
+use Rattle.fx_formulas.proofs.Judged.{both_again}
 use Rattle.fx_template.specs.PlainRounds.{hull}
 
 pub hull_forms : (r v w : Interval) (s t : Span) → r ≡ record { lo = least v.lo w.lo; hi = greatest v.hi w.hi } →

@@ -4,9 +4,9 @@ use Rattle.fx_rational.specs.Dyadic.{Dyadic}
 use Rattle.fx_rational.specs.Interval.{Interval}
 use Rattle.fx_inequalities.specs.Formula.{Formula, Num, Sum, Difference, Product, Least, Greatest, formed, Span, point, span_sum, span_difference, span_product}
 use Rattle.fx_inequalities.specs.Affine.{weighted_sum}
-use Rattle.fx_judging.specs.Judging.{Forms, FormsSpan}
-use Rattle.fx_judging.specs.Places.{IsShort, IsShortSpan}
-use Rattle.fx_judging.proofs.Shorts.{formed_places}
+use Rattle.fx_formulas.specs.Judging.{Forms, FormsSpan}
+use Rattle.fx_formulas.specs.Places.{IsShort, IsShortSpan}
+use Rattle.fx_formulas.proofs.Shorts.{formed_places}
 use Rattle.fx_template.proofs.Indexes.{of_each}
 use Rattle.fx_template.specs.Combining.{HasNearProducts, HasNearSpan}
 

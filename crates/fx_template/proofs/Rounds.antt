@@ -8,15 +8,15 @@ use Rattle.fx_model.specs.Tree.{at}
 use Rattle.fx_inequalities.specs.Formula.{span}
 use Rattle.fx_inequalities.specs.Claim.{inside}
 use Rattle.fx_inequalities.specs.Certificate.{zero_interval}
-use Rattle.fx_judging.specs.Places.{IsShortSpan}
+use Rattle.fx_formulas.specs.Places.{IsShortSpan}
 use Rattle.fx_cert.specs.declared.side.Side.{Side}
 use Rattle.fx_cert.specs.declared.side.Side.TheVariants.{Value, Error}
 use Rattle.fx_conditions.proofs.Lawful.{short_ends, no_ends}
-use Rattle.fx_grid.specs.Narrow.{span_bounds}
-use Rattle.fx_grid.specs.Laws.{IsNarrowestOf}
-use Rattle.fx_grid.proofs.Narrowest.{narrowest_is}
-use Rattle.fx_grid.proofs.Quotients.{around_inside}
-use Rattle.fx_grid.proofs.Exacts.{grid_few}
+use Rattle.fx_outward.specs.Narrow.{span_bounds}
+use Rattle.fx_outward.specs.Laws.{IsNarrowestOf}
+use Rattle.fx_outward.proofs.Narrowest.{narrowest_is}
+use Rattle.fx_outward.proofs.Quotients.{around_inside}
+use Rattle.fx_outward.proofs.Exacts.{grid_few}
 use Rattle.fx_template.specs.Transitions.{IsModestTransition, Transition}
 use Rattle.fx_template.specs.PlainRounds.{Bounds, and_on, both_bounds, bounds_after, bounds_at_first, first_bounds, plain_rounds, raised_bound, raised_bounds, raised_span, template_grid, state_bound}
 use Rattle.fx_template.specs.Answers.{HasWrittenStates}

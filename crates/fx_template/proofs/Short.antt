@@ -5,8 +5,8 @@ use Rattle.fx_rational.specs.Dyadic.{Dyadic, zero_dyadic}
 use Rattle.fx_rational.specs.Interval.{Interval}
 use Rattle.fx_inequalities.specs.Formula.{Num, span}
 use Rattle.fx_inequalities.specs.Certificate.{zero_interval}
-use Rattle.fx_judging.specs.Places.{IsShort, IsShortSpan}
-use Rattle.fx_judging.proofs.Shorts.{short_within, short_sum, short_product, short_span_sum, short_span_difference, short_span_product, short_point, shorter_span}
+use Rattle.fx_formulas.specs.Places.{IsShort, IsShortSpan}
+use Rattle.fx_formulas.proofs.Shorts.{short_within, short_sum, short_product, short_span_sum, short_span_difference, short_span_product, short_point, shorter_span}
 use Rattle.fx_template.specs.AffineView.{LinearForm}
 use Rattle.fx_template.specs.Combining.{HasNearSpan, HasNearForm, scaled_form, product_form, bound_form}
 use Rattle.fx_template.specs.ShortForms.{IsShortLinear}

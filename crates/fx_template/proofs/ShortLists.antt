@@ -6,7 +6,7 @@ use Rattle.fx_rational.specs.Dyadic.{zero_dyadic}
 use Rattle.fx_model.specs.Tree.{at}
 use Rattle.fx_inequalities.specs.Formula.{Num}
 use Rattle.fx_inequalities.specs.Certificate.{NodeLine, Share, no_line}
-use Rattle.fx_judging.specs.Places.{IsShort}
+use Rattle.fx_formulas.specs.Places.{IsShort}
 use Rattle.fx_cert.specs.CertificateView.{line_view, lines_view, share_of, shares_of}
 use Rattle.fx_cert.specs.declared.certificate as code
 use Rattle.fx_conditions.specs.Limits.{AreShortShares, IsShortLine}

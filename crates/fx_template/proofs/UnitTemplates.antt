@@ -10,11 +10,11 @@ use Rattle.fx_inequalities.specs.Formula.{Num}
 use Rattle.fx_inequalities.specs.Certificate.{Template, no_template, zero_interval}
 use Rattle.fx_inequalities.specs.LawfulCertificate.{unit_vector}
 use Rattle.fx_bounds.proofs.Claims.{both_right}
-use Rattle.fx_judging.specs.Places.{IsShort}
+use Rattle.fx_formulas.specs.Places.{IsShort}
 use Rattle.fx_conditions.specs.Limits.{AreShortTemplates, IsShortTemplate}
 use Rattle.fx_cert.specs.declared.side.Side.{Side}
 use Rattle.fx_template_conditions.specs.KeptTemplates.{kept_template}
-use Rattle.fx_grid.specs.Grid.{is_small}
+use Rattle.fx_outward.specs.Grid.{is_small}
 use Rattle.fx_cert.proofs.Units.{unit_length}
 use Rattle.fx_template.specs.Listed.{first_untrue}
 use Rattle.fx_template.specs.Transitions.{Transition}

@@ -11,9 +11,9 @@ use Rattle.fx_inequalities.specs.LawfulCertificate.{unit_vector}
 use Rattle.fx_cert.specs.declared.side.Side.{Side}
 use Rattle.fx_cert.specs.declared.side.Side.TheVariants.{Value, Error}
 use Rattle.fx_template_conditions.specs.KeptTemplates.{kept_template, next_template}
-use Rattle.fx_grid.specs.Grid.{is_small, error_grid}
-use Rattle.fx_grid.specs.Narrow.{narrowest, span_bounds}
-use Rattle.fx_grid.specs.declared.fault.Why.{Why}
+use Rattle.fx_outward.specs.Grid.{is_small, error_grid}
+use Rattle.fx_outward.specs.Narrow.{narrowest, span_bounds}
+use Rattle.fx_outward.specs.declared.fault.Why.{Why}
 use Rattle.fx_template.specs.Listed.{each_below, first_untrue, or_else, tabulate}
 use Rattle.fx_template.specs.Transitions.{Transition}
 

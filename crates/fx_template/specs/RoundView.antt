@@ -4,7 +4,7 @@ use Rattle.fx_rational.specs.Interval.{Interval}
 use Rattle.fx_model.specs.Tree.{at}
 use Rattle.fx_inequalities.specs.Formula.{span}
 use Rattle.fx_inequalities.specs.Certificate.{zero_interval}
-use Rattle.fx_judging.specs.Places.{IsShortSpan}
+use Rattle.fx_formulas.specs.Places.{IsShortSpan}
 use Rattle.fx_template.specs.PlainRounds as model
 use Rattle.fx_template.specs.declared.round.Bounds.{Bounds}
 

@@ -1,7 +1,7 @@
 -- How many binary places the numbers of a form have at most.
 use Rattle.std.specs.Prelude.{ℕ}
 use Rattle.fx_inequalities.specs.Formula.{span}
-use Rattle.fx_judging.specs.Places.{IsShort, IsShortSpan}
+use Rattle.fx_formulas.specs.Places.{IsShort, IsShortSpan}
 use Rattle.fx_template.specs.AffineView.{LinearForm}
 use Rattle.fx_template.specs.Combining.{coef_in}
 

@@ -11,7 +11,7 @@ use Rattle.fx_cert.specs.CertificateView.{lines_view}
 use Rattle.fx_template.specs.AffineView.{LinearForm, Planned}
 use Rattle.fx_flat.specs.declared.node.Nodes.{Nodes}
 use Rattle.fx_template.specs.Listed.{tabulate}
-use Rattle.fx_reach.specs.declared.transition.Transition as code
+use Rattle.fx_template_reach.specs.declared.transition.Transition as code
 
 -- the node of the first next state is `next`
 pub record Transition : Type 0 where

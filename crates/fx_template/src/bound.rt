@@ -1,14 +1,14 @@
 //! Where what a form stands for lies.
 
 ghost use Rattle.std.specs.Prelude.{◌≡◌, length};
-ghost use Rattle.fx_judging.specs.Judging.{FormsSpan};
+ghost use Rattle.fx_formulas.specs.Judging.{FormsSpan};
 ghost use Rattle.fx_template.specs.AffineView.{linear_form};
 ghost use Rattle.fx_template.specs.Combining.{HasNearSpan, bound_form};
 
 use crate::affine::Affine;
 use crate::product::scaled;
 use fx_num::Interval;
-use fx_judging::{interval, plus};
+use fx_formulas::{interval, plus};
 
 /// The rest and the products of coefficients and ranges, summed.
 pub fn aff_bound(a: &Affine, ranges: &[Interval]) -> Option<Interval>

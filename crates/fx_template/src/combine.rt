@@ -3,7 +3,7 @@
 ghost use Rattle.std.specs.Prelude.{◌≡◌, ◌∷◌, [], ◌++◌, ◌+◌, ℕ, IsTrue, length, MatchResult};
 ghost use Rattle.fx_rational.specs.Dyadic as model;
 ghost use Rattle.fx_inequalities.specs.Formula.{Formula, Num, Product, Sum, formed, formula_fits};
-ghost use Rattle.fx_judging.specs.Judging.{Forms, FormsSpan};
+ghost use Rattle.fx_formulas.specs.Judging.{Forms, FormsSpan};
 ghost use Rattle.fx_template.specs.AffineView.{linear_form};
 ghost use Rattle.fx_template.specs.AffineAnswers.{IsAffineFault, IsFormed};
 ghost use Rattle.fx_template.specs.Combining.{FormulaForm, HasNearForm, HasNearProducts, coefs_fit, formed_coefs, product_form, scaled_form, sum_form};
@@ -12,7 +12,7 @@ use crate::affine::{Affine, AffineFault};
 use crate::coefs::Coefs;
 use crate::product::{product, product_rest, scaled};
 use fx_num::{Dyadic, Interval};
-use fx_judging::{interval, number, plus, sum};
+use fx_formulas::{interval, number, plus, sum};
 use std::alloc::Global;
 
 /// Appends a coefficient.

@@ -19,8 +19,8 @@ use fx_cert::{Side, Template};
 use fx_expr::Items;
 use fx_flat::Nodes;
 use fx_num::Memory;
-use fx_proposal::propose_templates;
-use fx_reach::Transition;
+use fx_template_candidates::propose_templates;
+use fx_template_reach::Transition;
 use fx_template_conditions::template_judgement;
 use std::alloc::Global;
 

@@ -7,7 +7,7 @@ ghost use Rattle.fx_flat.specs.NodeOf.{nodes_in};
 ghost use Rattle.fx_program.specs.CodeView.{round_of};
 ghost use Rattle.fx_analysis.specs.Blame.{NamesAbsent};
 ghost use Rattle.fx_analysis.specs.PlainErrors.{plain_errors};
-ghost use Rattle.fx_grid.specs.Narrowed.{HasFewPlaces};
+ghost use Rattle.fx_outward.specs.Narrowed.{HasFewPlaces};
 
 use crate::affine::Affine;
 use crate::plan::PlannedNodes;

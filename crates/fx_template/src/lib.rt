@@ -14,7 +14,7 @@
 //! Beyond exactly where a mantissa leaves 128 bits, or Memory, with more than sixteen coefficients alone (`IsFormed`);
 //! `aff_bound` is where a form's value lies. Of exponents all but `aff_add` ask what a product of dyadics asks, which
 //! forms of at most 2^19 places meet (`aff_places`). `PlannedNodes` are a plan, node by node; `roundoff` makes one
-//! without forms, of the errors of `fx_analysis`. `synth` forms templates and plan together, in `fx_feedback`.
+//! without forms, of the errors of `fx_analysis`. `synth` forms templates and plan together, in `fx_state_search`.
 //!
 //! # Inside
 //!

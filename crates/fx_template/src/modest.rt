@@ -9,7 +9,7 @@ ghost use Rattle.fx_model.specs.LawfulProgram.{IsPoint};
 ghost use Rattle.fx_model.specs.Tree.{at};
 ghost use Rattle.fx_rational.specs.Dyadic.{zero_dyadic};
 ghost use Rattle.fx_inequalities.specs.Formula.{Num, span};
-ghost use Rattle.fx_judging.specs.Places.{IsShort, IsShortSpan};
+ghost use Rattle.fx_formulas.specs.Places.{IsShort, IsShortSpan};
 ghost use Rattle.fx_cert.specs.CertificateView.{form_view, line_view, lines_view, shares_of};
 ghost use Rattle.fx_conditions.specs.Limits.{AreShortLines, AreShortShares, AreShortSharesIfAny, IsShortForm, IsShortFormIfAny, IsShortLine};
 ghost use Rattle.fx_template.specs.Transitions.{IsModestTransition, transition_in};
@@ -17,7 +17,7 @@ ghost use Rattle.fx_template.specs.Transitions.{IsModestTransition, transition_i
 use fx_cert::{Form, NodeLine, Share};
 use fx_expr::Items;
 use fx_num::{Dyadic, GREATEST_POINT, INPUT_LIMIT, Interval, LEAST_POINT, NODE_LIMIT, STATE_LIMIT};
-use fx_reach::Transition;
+use fx_template_reach::Transition;
 
 /// How many binary places a number has at most.
 const PLACES: u32 = 96;

@@ -14,7 +14,7 @@ use fx_cert::{Form, NodeLine};
 use fx_expr::Items;
 use fx_flat::Nodes;
 use fx_num::{Dyadic, Interval, Memory};
-use fx_reach::Transition;
+use fx_template_reach::Transition;
 use std::alloc::{AllocError, Global};
 
 /// Interval `n` of a list, and 0 past its end.

@@ -1,4 +1,4 @@
-//! Products of what formulas come to, as `fx_judging` has them, but of all exponents that a product of dyadics may
+//! Products of what formulas come to, as `fx_formulas` has them, but of all exponents that a product of dyadics may
 //! have.
 //!
 //! The formulas promise that exponents are near enough; the numbers at hand are tested, so that no call asks it of
@@ -10,11 +10,11 @@ ghost use Rattle.fx_rational.specs.Dyadic.{dyadic_product, product_fits};
 ghost use Rattle.fx_rational.specs.Interval.{interval_product, interval_product_fits};
 ghost use Rattle.fx_inequalities.specs.Formula.{Formula, Num, Product, Span, point, span, span_difference, span_product};
 ghost use Rattle.fx_inequalities.specs.OperationSpans.{product_rest};
-ghost use Rattle.fx_judging.specs.Judging.{Forms, FormsSpan};
+ghost use Rattle.fx_formulas.specs.Judging.{Forms, FormsSpan};
 ghost use Rattle.fx_template.specs.Combining.{HasNearProducts, HasNearSpan};
 
 use fx_num::{Dyadic, Interval, dmul, imul};
-use fx_judging::{interval, minus, number, plus, point};
+use fx_formulas::{interval, minus, number, plus, point};
 
 /// Whether the exponent of a product is one that a dyadic can have.
 fn is_near(x: Dyadic, y: Dyadic) -> bool

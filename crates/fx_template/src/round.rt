@@ -5,7 +5,7 @@ ghost use Rattle.std.specs.Option.{option_map};
 ghost use Rattle.fx_model.specs.Tree.{at};
 ghost use Rattle.fx_rational.specs.Dyadic.{greatest, least};
 ghost use Rattle.fx_inequalities.specs.Formula.{Span};
-ghost use Rattle.fx_judging.specs.Judging.{FormsSpan};
+ghost use Rattle.fx_formulas.specs.Judging.{FormsSpan};
 ghost use Rattle.fx_cert.specs.CertificateView.{templates_in};
 ghost use Rattle.fx_conditions.specs.Limits.{AreShortTemplates};
 ghost use Rattle.fx_template.specs.Transitions.{IsModestTransition, transition_in};
@@ -14,10 +14,10 @@ ghost use Rattle.fx_template.specs.RoundView.{AreShortBoth, AreShortBounds, boun
 
 use crate::unit::{bound_at, unit_templates};
 use fx_cert::{Side, Template, error_at, range_at};
-use fx_grid::{Why, error_grid, narrowest_round};
+use fx_outward::{Why, error_grid, round_outward};
 use fx_num::{Interval, Memory, greatest, least};
-use fx_judging::interval;
-use fx_reach::Transition;
+use fx_formulas::interval;
+use fx_template_reach::Transition;
 use fx_template_conditions::template_bound_of;
 use std::alloc::Global;
 
@@ -114,7 +114,7 @@ fn raised_bound(
 {
     let left = template_bound_of(templates, side, &t.lines, t.inputs, t.states, t.next, i);
     let held = hull(interval(bound_at(bounds, i)), left);
-    narrowest_round(held, template_grid(t, side, i))
+    round_outward(held, template_grid(t, side, i))
 }
 
 /// The new bounds of all unit templates, where each is there.

@@ -2,8 +2,8 @@
 
 ghost use Rattle.std.specs.Prelude.{◌≡◌, ◌+◌, ◌<◌, ◌&&◌, List};
 ghost use Rattle.fx_inequalities.specs.Claim.{Claim};
-ghost use Rattle.fx_grid.specs.Grid.{is_small};
-ghost use Rattle.fx_judging.specs.Judging.{judged};
+ghost use Rattle.fx_outward.specs.Grid.{is_small};
+ghost use Rattle.fx_formulas.specs.Judging.{judged};
 ghost use Rattle.fx_cert.specs.CertificateView.{templates_in};
 ghost use Rattle.fx_conditions.specs.Limits.{AreShortTemplates};
 ghost use Rattle.fx_template.specs.Listed.{first_untrue};
@@ -14,10 +14,10 @@ ghost use Rattle.fx_template.specs.RoundView.{bounds_in};
 use crate::round::Bounds;
 use crate::unit::bound_at;
 use fx_cert::{Side, Template};
-use fx_grid::is_small;
+use fx_outward::is_small;
 use fx_num::Interval;
-use fx_judging::Judgement;
-use fx_reach::Transition;
+use fx_formulas::Judgement;
+use fx_template_reach::Transition;
 use fx_template_conditions::template_judgement;
 
 /// Whether comparisons fit and are true.

@@ -1,8 +1,8 @@
 -- Short boxes, as products ask for them.
 use Rattle.std.proofs.Common.{ℕ, List, arith}
 use Rattle.fx_inequalities.specs.Certificate.{StartBox}
-use Rattle.fx_judging.specs.Places.{IsShortSpan}
-use Rattle.fx_judging.proofs.Shorts.{shorter_span}
+use Rattle.fx_formulas.specs.Places.{IsShortSpan}
+use Rattle.fx_formulas.proofs.Shorts.{shorter_span}
 use Rattle.fx_conditions.specs.Limits.{AreShortBoxes}
 use Rattle.fx_cert.specs.declared.side.Side.{Side}
 use Rattle.fx_cert.specs.declared.side.Side.TheVariants.{Value, Error}

@@ -3,8 +3,8 @@ use Rattle.std.proofs.Common.{◌≡◌, Option, Some, None, IfSome, IsTrue, ref
 use Rattle.fx_rational.specs.Dyadic.{Dyadic, dyadic_product, dyadic_difference, difference_fits, product_fits, fits_128}
 use Rattle.fx_rational.specs.Interval.{Interval, interval_product, interval_product_fits}
 use Rattle.fx_inequalities.specs.Formula.{Formula, Num, Difference, Product, Span, point, span_product, formed, formula_fits}
-use Rattle.fx_judging.specs.Judging.{Forms, FormsSpan}
-use Rattle.fx_judging.proofs.Judged.{both_again, difference_forms, product_forms, times_forms}
+use Rattle.fx_formulas.specs.Judging.{Forms, FormsSpan}
+use Rattle.fx_formulas.proofs.Judged.{both_again, difference_forms, product_forms, times_forms}
 
 pub number_forms : (d : Dyadic) → IsTrue (fits_128 d.m) → Forms (Some d) (Num d)
 unfolding formula_fits formed

@@ -9,9 +9,9 @@ use Rattle.fx_model.specs.Tree.{at}
 use Rattle.fx_inequalities.specs.Formula.{Formula, Num, Sum, Difference, Product, Span, point, span_sum, span_product}
 use Rattle.fx_inequalities.specs.Certificate.{Share, Template, no_template}
 use Rattle.fx_inequalities.specs.Affine.{Templates, left_over, templates_of, shared_sum, sum_of, unit_coef}
-use Rattle.fx_judging.specs.Judging.{Forms}
-use Rattle.fx_judging.specs.Places.{IsShort}
-use Rattle.fx_judging.proofs.Shorts.{short_difference, short_product, short_sum}
+use Rattle.fx_formulas.specs.Judging.{Forms}
+use Rattle.fx_formulas.specs.Places.{IsShort}
+use Rattle.fx_formulas.proofs.Shorts.{short_difference, short_product, short_sum}
 use Rattle.fx_cert.specs.declared.certificate.Share as written
 use Rattle.fx_cert.specs.CertificateView.{share_of, shares_of}
 use Rattle.fx_template_conditions.specs.Coefficients.{AreFormed, AreLeft, AreUnits}

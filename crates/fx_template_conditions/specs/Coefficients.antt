@@ -4,8 +4,8 @@ use Rattle.fx_rational.specs.Dyadic.{Dyadic, zero_dyadic}
 use Rattle.fx_model.specs.Tree.{at}
 use Rattle.fx_inequalities.specs.Affine.{unit_coef}
 use Rattle.fx_inequalities.specs.Formula.{Formula, Num}
-use Rattle.fx_judging.specs.Judging.{Forms}
-use Rattle.fx_judging.specs.Places.{IsShort}
+use Rattle.fx_formulas.specs.Judging.{Forms}
+use Rattle.fx_formulas.specs.Places.{IsShort}
 
 -- the first n numbers are what these formulas come to, which are short
 pub record AreFormed (xs : List (Option Dyadic)) (n : ℕ) (c : ℕ → Formula) : Type 0 where

@@ -7,8 +7,8 @@ ghost use Rattle.fx_rational.specs.Dyadic.{fits_128, zero_dyadic};
 ghost use Rattle.fx_inequalities.specs.Certificate.{no_template};
 ghost use Rattle.fx_inequalities.specs.Formula.{Difference, Formula, Num, Product, Span, point, span_product};
 ghost use Rattle.fx_inequalities.specs.Affine.{bound_by_templates, left_over, shared_sum, templates_of, unit_coef, weighted_sum};
-ghost use Rattle.fx_judging.specs.Judging.{Forms, FormsSpan};
-ghost use Rattle.fx_judging.specs.Places.{IsShort, IsShortSpan};
+ghost use Rattle.fx_formulas.specs.Judging.{Forms, FormsSpan};
+ghost use Rattle.fx_formulas.specs.Places.{IsShort, IsShortSpan};
 ghost use Rattle.fx_cert.specs.CertificateView.{form_view as form_view, lines_view, shares_of, templates_in};
 ghost use Rattle.fx_template_conditions.specs.Coefficients.{AreFormed, AreLeft, AreUnits};
 ghost use Rattle.fx_template_conditions.specs.ShortTimes.{AreTimes, HasRoom};
@@ -19,7 +19,7 @@ use crate::quick::{ShortTimes, less_raised, short_times, times_ends};
 use fx_cert::{Form, NodeLine, Share, Side, Template, coef_at};
 use fx_conditions::{bound_of, scaled, scaled_number, side_of};
 use fx_num::{Dyadic, INPUT_LIMIT, Interval, STATE_LIMIT};
-use fx_judging::{difference, number, plus, point, times};
+use fx_formulas::{difference, number, plus, point, times};
 
 /// The most variables: all inputs and states.
 pub const VARIABLES: usize = (INPUT_LIMIT + STATE_LIMIT) as usize;

@@ -8,8 +8,8 @@ ghost use Rattle.fx_inequalities.specs.Affine.{error_at, range_at};
 ghost use Rattle.fx_inequalities.specs.Condition as conditions;
 ghost use Rattle.fx_inequalities.specs.Condition.{first_fault_of, first_some};
 ghost use Rattle.fx_inequalities.specs.NodeConditions.{node_conditions, word_claims};
-ghost use Rattle.fx_judging.specs.Judging.{judged};
-ghost use Rattle.fx_judging.specs.FaultView.{condition_fault_of};
+ghost use Rattle.fx_formulas.specs.Judging.{judged};
+ghost use Rattle.fx_formulas.specs.FaultView.{condition_fault_of};
 ghost use Rattle.fx_word.specs.Words.{IsWidth};
 ghost use Rattle.fx_cert.specs.CertificateView.{certificate_of, lines_view};
 ghost use Rattle.fx_conditions.specs.MatchView.{code_in, node_in};
@@ -23,7 +23,7 @@ use fx_conditions::{Matched, divisor_judgement, word_judgement, zero_fraction};
 use fx_expr::Function;
 use fx_fraction::{Fraction, to_fraction};
 use fx_num::Interval;
-use fx_judging::{
+use fx_formulas::{
     ConditionFault, ConditionKind, Judgement, Part, difference, fault, number, reaches, word_value,
 };
 

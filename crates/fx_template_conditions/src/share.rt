@@ -12,9 +12,9 @@ ghost use Rattle.fx_inequalities.specs.Formula.{Num, span};
 ghost use Rattle.fx_inequalities.specs.Affine.{bound_by_templates, form_of, of_line, templates_of};
 ghost use Rattle.fx_inequalities.specs.Condition as conditions;
 ghost use Rattle.fx_inequalities.specs.NodeConditions.{error_claims, form_claims, range_claims};
-ghost use Rattle.fx_judging.specs.Judging.{FormsSpan, judged};
-ghost use Rattle.fx_judging.specs.Places.{IsShortSpan};
-ghost use Rattle.fx_judging.specs.FaultView.{condition_fault_of};
+ghost use Rattle.fx_formulas.specs.Judging.{FormsSpan, judged};
+ghost use Rattle.fx_formulas.specs.Places.{IsShortSpan};
+ghost use Rattle.fx_formulas.specs.FaultView.{condition_fault_of};
 ghost use Rattle.fx_cert.specs.CertificateView.{certificate_of, form_view as form_view, lines_view, shares_of, templates_in};
 ghost use Rattle.fx_conditions.specs.MatchView.{code_in, node_in};
 ghost use Rattle.fx_cert.specs.Sides.{side_at, side_rest};
@@ -25,7 +25,7 @@ use fx_cert::{Certificate, Form, NodeLine, Share, Side, Template, error_at, rang
 use fx_conditions::{Matched, error_judgement, form_at, form_judgement, range_judgement, within};
 use fx_expr::Function;
 use fx_num::Interval;
-use fx_judging::{ConditionFault, ConditionKind, Judgement, Part, fault, interval, untrue};
+use fx_formulas::{ConditionFault, ConditionKind, Judgement, Part, fault, interval, untrue};
 
 /// A form's own rest.
 fn own_rest(side: &Side, form: &Form) -> Option<Interval>

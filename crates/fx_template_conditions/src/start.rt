@@ -7,7 +7,7 @@ ghost use Rattle.fx_inequalities.specs.Accepted.{start_of};
 ghost use Rattle.fx_inequalities.specs.Claim.{AboveFraction, BelowFraction, inside};
 ghost use Rattle.fx_inequalities.specs.Formula.{Difference, Num, point, span, span_product, word_at, zero_span};
 ghost use Rattle.fx_inequalities.specs.Affine.{templates_of, weighted_sum};
-ghost use Rattle.fx_judging.specs.Judging.{FormsSpan, judged};
+ghost use Rattle.fx_formulas.specs.Judging.{FormsSpan, judged};
 ghost use Rattle.fx_cert.specs.CertificateView.{boxes_in, templates_in};
 ghost use Rattle.fx_conditions.specs.Limits.{AreShortBoxes, AreShortTemplates};
 ghost use Rattle.fx_cert.specs.declared.side.Side.TheVariants as sides;
@@ -18,7 +18,7 @@ use fx_conditions::{bound_of, template_coef_of, zero_fraction};
 use fx_expr::Function;
 use fx_fraction::{Fraction, to_fraction};
 use fx_num::Interval;
-use fx_judging::{
+use fx_formulas::{
     Judgement, difference, interval, lies_in, number, plus, point, reaches, times, word_value, zero,
 };
 

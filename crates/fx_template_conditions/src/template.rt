@@ -5,7 +5,7 @@ ghost use Rattle.fx_model.specs.Tree.{at};
 ghost use Rattle.fx_inequalities.specs.Certificate.{no_template};
 ghost use Rattle.fx_inequalities.specs.Formula.{Product, point, span_product, zero_span};
 ghost use Rattle.fx_inequalities.specs.Affine.{affine_at, bound_by_templates, sum_of, templates_of, weighted_sum};
-ghost use Rattle.fx_judging.specs.Judging.{Forms, FormsSpan, judged};
+ghost use Rattle.fx_formulas.specs.Judging.{Forms, FormsSpan, judged};
 ghost use Rattle.fx_cert.specs.CertificateView.{lines_view, shares_of, templates_in};
 ghost use Rattle.fx_template_conditions.specs.Coefficients.{AreFormed};
 ghost use Rattle.fx_template_conditions.specs.KeptTemplates.{kept_template, next_template};
@@ -16,7 +16,7 @@ use crate::bound::{VARIABLES, bound_by_templates};
 use fx_cert::{Form, NodeLine, Share, Side, StartBox, Template, coef_at};
 use fx_conditions::{bound_of, coef_of, side_rest_of, template_coef_of};
 use fx_num::{Dyadic, Interval};
-use fx_judging::{Judgement, interval, lies_in, number, plus, point, product, sum, times, zero};
+use fx_formulas::{Judgement, interval, lies_in, number, plus, point, product, sum, times, zero};
 
 /// The shares of template `i`.
 fn shares_at(templates: &[Template], i: u32) -> &[Share]

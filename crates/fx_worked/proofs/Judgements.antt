@@ -6,8 +6,8 @@ use Rattle.fx_rational.specs.Dyadic.{dyadic_value, dyadic_sum, dyadic_difference
 use Rattle.fx_inequalities.specs.Formula.{Span, Num, Sum, formula_value, formed, formula_fits, span, span_sum}
 use Rattle.fx_inequalities.specs.Claim.{BelowFraction, Clear}
 use Rattle.fx_inequalities.specs.NodeConditions.{quotient_claims}
-use Rattle.fx_judging.specs.declared.judgement.Judgement.TheVariants.{Holds, Fails, Beyond}
-use Rattle.fx_judging.specs.Judging.{judged}
+use Rattle.fx_formulas.specs.declared.judgement.Judgement.TheVariants.{Holds, Fails, Beyond}
+use Rattle.fx_formulas.specs.Judging.{judged}
 
 -- from a / 2^b to c / 2^e
 abbrev sp : ℤ → ℕ → ℤ → ℕ → Span

@@ -1,7 +1,7 @@
 use Rattle.std.proofs.Common.{◌∙◌, to_z, of_z, ap}
 use Rattle.std.specs.Int.{w128}
 use Rattle.std.proofs.lemmas.Int.{to_z-of_z}
-use Rattle.fx_grid.specs.Grid.{lowest_dyadic}
+use Rattle.fx_outward.specs.Grid.{lowest_dyadic}
 use Rattle.fx_calm.proofs.Units.{ceil_one}
 use Rattle.fx_calm.proofs.line.whole_units.Goals as goal
 

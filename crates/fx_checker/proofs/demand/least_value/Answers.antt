@@ -1,7 +1,7 @@
 use Rattle.std.proofs.Common.{subst}
 use Rattle.fx_rational.specs.Interval.{Interval}
 use Rattle.fx_inequalities.specs.Formula.{Num, Sum}
-use Rattle.fx_judging.specs.Judging.{Forms}
+use Rattle.fx_formulas.specs.Judging.{Forms}
 use Rattle.fx_checker.proofs.demand.least_value.Goals as goal
 
 pub returns : goal.returns

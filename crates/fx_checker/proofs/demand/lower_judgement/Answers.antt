@@ -3,7 +3,7 @@ use Rattle.std.specs.Option.{option_map}
 use Rattle.fx_rational.specs.Decimal.{Decimal, decimal_value}
 use Rattle.fx_inequalities.specs.Formula.{Sum, span, span_sum}
 use Rattle.fx_inequalities.specs.Accepted.{lower_claims}
-use Rattle.fx_judging.specs.Judging.{judged}
+use Rattle.fx_formulas.specs.Judging.{judged}
 use Rattle.fx_checker.proofs.demand.lower_judgement.Goals as goal
 
 pub returns-in-Some : goal.returns-in-Some

@@ -1,6 +1,6 @@
 use Rattle.std.proofs.Common.{ap, ◌∙◌}
 use Rattle.fx_model.specs.Machine.{Program}
-use Rattle.fx_judging.specs.Judging.{judged}
+use Rattle.fx_formulas.specs.Judging.{judged}
 use Rattle.fx_cert.specs.CertificateView.{lines_view}
 use Rattle.fx_template_conditions.specs.KeptTemplates.{kept_template}
 use Rattle.fx_checker.proofs.templates.keeps_template.Goals as goal

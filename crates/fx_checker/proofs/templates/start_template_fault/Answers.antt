@@ -3,8 +3,8 @@ use Rattle.std.specs.Option.{option_map}
 use Rattle.fx_inequalities.specs.Accepted.{start_template_claims}
 use Rattle.fx_inequalities.specs.Affine.{templates_of}
 use Rattle.fx_inequalities.specs.Condition as conditions
-use Rattle.fx_judging.specs.Judging.{judged}
-use Rattle.fx_judging.specs.FaultView.{condition_fault_of}
+use Rattle.fx_formulas.specs.Judging.{judged}
+use Rattle.fx_formulas.specs.FaultView.{condition_fault_of}
 use Rattle.fx_cert.specs.CertificateView.{certificate_of}
 use Rattle.fx_template_conditions.specs.Boxes.{box_at}
 use Rattle.fx_cert.specs.declared.side.Side.{Side}

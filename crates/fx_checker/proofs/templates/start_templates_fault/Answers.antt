@@ -1,5 +1,5 @@
 use Rattle.std.proofs.Common.{◌<◌, length}
-use Rattle.fx_judging.specs.FaultView.{condition_fault_of}
+use Rattle.fx_formulas.specs.FaultView.{condition_fault_of}
 use Rattle.fx_cert.specs.CertificateView.{certificate_of}
 use Rattle.fx_checker.specs.TemplateFaults.{templates_by, start_template_condition}
 use Rattle.fx_checker.proofs.Each.{found_at, none_at}

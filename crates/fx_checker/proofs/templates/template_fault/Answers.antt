@@ -1,8 +1,8 @@
 use Rattle.std.proofs.Common.{◌≡◌, ◌-◌, length, sym, subst, ◌∙◌}
 use Rattle.std.specs.Option.{option_map}
 use Rattle.fx_inequalities.specs.Condition as conditions
-use Rattle.fx_judging.specs.Judging.{judged}
-use Rattle.fx_judging.specs.FaultView.{condition_fault_of}
+use Rattle.fx_formulas.specs.Judging.{judged}
+use Rattle.fx_formulas.specs.FaultView.{condition_fault_of}
 use Rattle.fx_cert.specs.CertificateView.{certificate_of}
 use Rattle.fx_cert.specs.declared.side.Side.{Side}
 use Rattle.fx_cert.specs.declared.side.Side.TheVariants as sides

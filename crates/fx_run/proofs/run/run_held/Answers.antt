@@ -15,5 +15,5 @@ returns g c =
     ends-told row_fault_of (λ ls. lines_outcome a.function (line_of (names_from 1 a.program.outputs))
     (λ rows. lines_from a.program (first_rows a.program.inputs s.held s.rows.items ++ rows) []) None ls)
     (run_outcome b.function b.program)
-    (held_outcome_is a b s.held s.rows.items c.in-Ok.ensures.whose c.in-Ok.ensures.settled c.in-Ok.ensures.start
+    (held_outcome_is a b s.held s.rows.items c.in-Ok.ensures.whose c.in-Ok.ensures.none_held c.in-Ok.ensures.start
     c.rows_law.ensures) _ _ _ _ c.run_steps.ensures

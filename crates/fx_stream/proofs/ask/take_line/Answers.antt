@@ -4,12 +4,12 @@ use Rattle.fx_stream.proofs.ask.take_line.Goals as goal
 
 pub returns-then-not-ready-clause-bad : goal.returns-then-not-ready-clause-bad
 returns-then-not-ready-clause-bad g c =
-    let put = c.settle.ensures.put in (
+    let put = c.put_held.ensures.put in (
       put.0,
       put.1,
       long-bad g.P.Printer.told (g.P.Printer.outcome c.args.printer.now)
-          (g.P.Printer.outcome c.settle.new.self) c.args.lines.now put.0 c.too_long.result
-          (sym (sym c.ready.ensures ∙ c.if-not-ready.true)) put.2 (c.too_long.ensures c.settle.ensures.settled),
+          (g.P.Printer.outcome c.put_held.new.self) c.args.lines.now put.0 c.too_long.result
+          (sym (sym c.ready.ensures ∙ c.if-not-ready.true)) put.2 (c.too_long.ensures c.put_held.ensures.none_held),
     )
 
 pub returns-clause-bad : goal.returns-clause-bad

@@ -4,10 +4,10 @@ use Rattle.fx_stream.proofs.run.run_on.Goals as goal
 
 pub lines-init : goal.lines-init
 lines-init g c = record {
-  so_far = run_starts _ _ _ _ (g.met.P.Printer.none c.args.printer.now c.requires.settled).0 c.requires.fresh
+  so_far = run_starts _ _ _ _ (g.met.P.Printer.none c.args.printer.now c.requires.none_held).0 c.requires.fresh
       c.requires.empty;
   can = c.requires.can;
-  held = inl c.requires.settled;
+  held = inl c.requires.none_held;
   later = omega arith;
   later_sink = omega arith;
 }
@@ -54,7 +54,7 @@ returns-in-Ok-End g c =
     let so_far = c.lines.invariant.so_far in
     ends_run (ended so_far (c.in-Ok-End.ensures.asked _ _ _ _ so_far.ran) c.next.ensures.grown
     (c.next.ensures.prompt _ _ _ _ so_far.ran) g.P.Printer.told c.in-Ok-End.field-0-is
-    (λ none. g.met.P.Printer.none c.next.new.printer (c.next.ensures.settled none)) c.number-in-Ok-End.ensures
+    (λ none. g.met.P.Printer.none c.next.new.printer (c.next.ensures.none_held none)) c.number-in-Ok-End.ensures
     c.end_at.ensures) (record {
       read_fault = search rules;
       write_fault = search rules;

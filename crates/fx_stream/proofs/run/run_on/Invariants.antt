@@ -10,7 +10,7 @@ invariant-lines g l = record {
       (g.K.Sink.seen l.initial.sink).taken (g.K.Sink.seen l.sink).taken l.page l.count l.initial.lines.limit
       (g.S.Source.seen l.initial.source).asked (g.S.Source.seen l.source).asked;
   can : g.P.Printer.can_take l.printer;
-  held : g.P.Printer.is_settled l.printer ⊎ HasRoom l.page;
+  held : g.P.Printer.holds_none l.printer ⊎ HasRoom l.page;
   later : (g.S.Source.seen l.initial.source).faults ≤ (g.S.Source.seen l.source).faults;
   later_sink : (g.K.Sink.seen l.initial.sink).faults ≤ (g.K.Sink.seen l.sink).faults;
 }

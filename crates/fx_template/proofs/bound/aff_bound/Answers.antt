@@ -3,7 +3,7 @@ use Rattle.std.proofs.lemmas.List.{get_or_default}
 use Rattle.fx_model.specs.Tree.{at}
 use Rattle.fx_inequalities.specs.Formula.{point, span, span_product}
 use Rattle.fx_inequalities.specs.Certificate.{zero_interval}
-use Rattle.fx_judging.specs.Judging.{FormsSpan}
+use Rattle.fx_formulas.specs.Judging.{FormsSpan}
 use Rattle.fx_template.specs.AffineView.{linear_form}
 use Rattle.fx_template.specs.Combining.{bound_form, coef_in}
 use Rattle.fx_template.proofs.Near.{near_summand}

@@ -1,4 +1,4 @@
-use Rattle.fx_judging.specs.Judging.{FormsSpan}
+use Rattle.fx_formulas.specs.Judging.{FormsSpan}
 use Rattle.fx_template.specs.AffineView.{linear_form}
 use Rattle.fx_template.specs.Combining.{bound_form}
 use Rattle.fx_template.proofs.bound.aff_bound.Given as goal

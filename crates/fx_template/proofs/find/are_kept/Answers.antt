@@ -1,6 +1,6 @@
 use Rattle.std.proofs.Common.{◌≡◌, ◌∙◌, ℕ, true, inl, inr, subst, sym, arith}
 use Rattle.std.proofs.lemmas.Bool.{cases_lt}
-use Rattle.fx_judging.specs.Judging.{judged}
+use Rattle.fx_formulas.specs.Judging.{judged}
 use Rattle.fx_cert.specs.CertificateView.{lines_view, templates_in}
 use Rattle.fx_template_conditions.specs.KeptTemplates.{kept_template}
 use Rattle.fx_template.specs.Transitions.{transition_in}

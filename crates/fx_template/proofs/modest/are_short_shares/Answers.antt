@@ -4,7 +4,7 @@ use borrow.Author.Count.{below_more}
 use Rattle.fx_model.specs.Tree.{at}
 use Rattle.fx_inequalities.specs.Certificate.{Share}
 use Rattle.fx_inequalities.specs.Formula.{Num}
-use Rattle.fx_judging.specs.Places.{IsShort}
+use Rattle.fx_formulas.specs.Places.{IsShort}
 use Rattle.fx_cert.specs.CertificateView.{share_of, shares_of}
 use Rattle.fx_template.proofs.ShortLists.{all_shares, each_share, no_share, share_at}
 use Rattle.fx_template.proofs.modest.are_short_shares.Goals as goal

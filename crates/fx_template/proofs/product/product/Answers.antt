@@ -1,6 +1,6 @@
 use Rattle.std.proofs.Common.{subst, inl, inr}
-use Rattle.fx_judging.specs.Judging.{Forms}
-use Rattle.fx_judging.proofs.Judged.{product_forms, product_none}
+use Rattle.fx_formulas.specs.Judging.{Forms}
+use Rattle.fx_formulas.proofs.Judged.{product_forms, product_none}
 use Rattle.fx_template.proofs.Near.{near_factors}
 use Rattle.fx_template.proofs.product.product.Goals as goal
 

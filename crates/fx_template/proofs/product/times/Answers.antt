@@ -1,6 +1,6 @@
 use Rattle.std.proofs.Common.{subst, inl, inr}
-use Rattle.fx_judging.specs.Judging.{FormsSpan}
-use Rattle.fx_judging.proofs.Judged.{times_forms, times_none}
+use Rattle.fx_formulas.specs.Judging.{FormsSpan}
+use Rattle.fx_formulas.proofs.Judged.{times_forms, times_none}
 use Rattle.fx_template.proofs.Near.{near_ends}
 use Rattle.fx_template.proofs.product.times.Goals as goal
 

@@ -1,5 +1,5 @@
 use Rattle.std.proofs.Common.{subst, inl, inr}
-use Rattle.fx_judging.specs.Judging.{FormsSpan}
+use Rattle.fx_formulas.specs.Judging.{FormsSpan}
 use Rattle.fx_template.proofs.Hulls.{hull_forms, hull_none}
 use Rattle.fx_template.proofs.round.hull.Goals as goal
 

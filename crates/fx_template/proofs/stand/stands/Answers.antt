@@ -1,9 +1,9 @@
 use Rattle.std.proofs.Common.{◌∙◌, ◌&&◌, Bool, ap, sym}
 use Rattle.fx_rational.specs.Interval.{Interval}
-use Rattle.fx_judging.specs.Judging.{judged}
+use Rattle.fx_formulas.specs.Judging.{judged}
 use Rattle.fx_cert.specs.CertificateView.{lines_view}
 use Rattle.fx_template_conditions.specs.KeptTemplates.{kept_template}
-use Rattle.fx_grid.specs.Grid.{is_small}
+use Rattle.fx_outward.specs.Grid.{is_small}
 use Rattle.fx_template.specs.Transitions.{transition_in}
 use Rattle.fx_template.specs.PlainRounds.{are_met, unit_templates}
 use Rattle.fx_template.proofs.stand.stands.Goals as goal

@@ -1,6 +1,6 @@
 use Rattle.std.proofs.Common.{ℕ, ◌+◌, ◌<◌, arith}
 use Rattle.fx_inequalities.specs.Affine.{left_over, templates_of, shared_sum, weighted_sum}
-use Rattle.fx_judging.specs.Places.{IsShort}
+use Rattle.fx_formulas.specs.Places.{IsShort}
 use Rattle.fx_cert.specs.CertificateView.{lines_view, templates_in, shares_of}
 use Rattle.fx_cert.specs.Sides.{side_at}
 use Rattle.fx_template_conditions.proofs.Shares.{left_short}

@@ -2,8 +2,8 @@ use Rattle.std.proofs.Common.{◌≡◌, ℕ, ◌<◌, length, subst, arith, rul
 use Rattle.fx_rational.specs.Dyadic.{Dyadic, zero_dyadic}
 use Rattle.fx_model.specs.Tree.{at}
 use Rattle.fx_inequalities.specs.Formula.{Num}
-use Rattle.fx_judging.specs.Judging.{Forms}
-use Rattle.fx_judging.proofs.Shorts.{short_within}
+use Rattle.fx_formulas.specs.Judging.{Forms}
+use Rattle.fx_formulas.proofs.Shorts.{short_within}
 use Rattle.fx_template_conditions.proofs.Shares.{set_formed}
 use Rattle.fx_template_conditions.proofs.bound.form_coefs.Goals as goal
 

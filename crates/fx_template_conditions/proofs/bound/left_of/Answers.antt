@@ -2,8 +2,8 @@ use Rattle.std.proofs.Common.{Option, sym, subst, arith}
 use Rattle.fx_rational.specs.Dyadic.{Dyadic, zero_dyadic}
 use Rattle.fx_model.specs.Tree.{at}
 use Rattle.fx_inequalities.specs.Formula.{Num, Product}
-use Rattle.fx_judging.specs.Judging.{Forms}
-use Rattle.fx_judging.proofs.Shorts.{short_within}
+use Rattle.fx_formulas.specs.Judging.{Forms}
+use Rattle.fx_formulas.proofs.Shorts.{short_within}
 use Rattle.fx_template_conditions.proofs.bound.left_of.Goals as goal
 
 pub returns : goal.returns

@@ -1,5 +1,5 @@
 use Rattle.std.proofs.Common.{subst}
-use Rattle.fx_judging.specs.Judging.{FormsSpan}
+use Rattle.fx_formulas.specs.Judging.{FormsSpan}
 use Rattle.fx_template_conditions.proofs.Quickly.{times_are}
 use Rattle.fx_template_conditions.proofs.bound.quick_bound.Goals as goal
 

@@ -1,7 +1,7 @@
 use Rattle.std.proofs.Common.{Option, Some, IfSome, sym, subst, ◌∙◌}
 use Rattle.fx_rational.specs.Dyadic.{Dyadic}
 use Rattle.fx_inequalities.specs.Formula.{Num}
-use Rattle.fx_judging.specs.Judging.{Forms}
+use Rattle.fx_formulas.specs.Judging.{Forms}
 use Rattle.fx_template_conditions.specs.declared.quick.ShortTimes.{ShortTimes}
 use Rattle.fx_template_conditions.specs.ShortTimes.{AreTimes, HasRoom}
 use Rattle.fx_template_conditions.proofs.Quickly.{less_forms, number_forms}

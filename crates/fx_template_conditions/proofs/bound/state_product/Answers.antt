@@ -1,8 +1,8 @@
 use Rattle.std.proofs.Common.{subst, sym, arith}
 use Rattle.fx_inequalities.specs.Formula.{point}
 use Rattle.fx_inequalities.specs.Affine.{templates_of}
-use Rattle.fx_judging.specs.Judging.{Forms}
-use Rattle.fx_judging.proofs.Shorts.{short_within, short_point}
+use Rattle.fx_formulas.specs.Judging.{Forms}
+use Rattle.fx_formulas.proofs.Shorts.{short_within, short_point}
 use Rattle.fx_cert.specs.CertificateView.{templates_in}
 use Rattle.fx_conditions.proofs.Shorts.{bound_short}
 use Rattle.fx_template_conditions.proofs.bound.state_product.Goals as goal

@@ -2,7 +2,7 @@ use Rattle.std.proofs.Common.{List, ap, sym, subst, ◌∙◌}
 use Rattle.fx_rational.specs.Dyadic.{Dyadic, zero_dyadic}
 use Rattle.fx_model.specs.Tree.{at}
 use Rattle.fx_inequalities.specs.Formula.{Num}
-use Rattle.fx_judging.specs.Places.{IsShort}
+use Rattle.fx_formulas.specs.Places.{IsShort}
 use Rattle.fx_cert.specs.CertificateView.{templates_in}
 use Rattle.fx_conditions.proofs.Shorts.{template_coef_short}
 use Rattle.fx_template_conditions.proofs.Shares.{unit_template_is, other_template_is}

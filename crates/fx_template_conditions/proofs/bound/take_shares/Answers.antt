@@ -3,8 +3,8 @@ use Rattle.std.proofs.Math.Seq.{take-length}
 use Rattle.fx_model.specs.Tree.{at}
 use Rattle.fx_inequalities.specs.Formula.{Num}
 use Rattle.fx_inequalities.specs.Affine.{left_over, templates_of}
-use Rattle.fx_judging.specs.Judging.{Forms}
-use Rattle.fx_judging.specs.Places.{IsShort}
+use Rattle.fx_formulas.specs.Judging.{Forms}
+use Rattle.fx_formulas.specs.Places.{IsShort}
 use Rattle.fx_cert.specs.declared.certificate.Share as written
 use Rattle.fx_cert.specs.CertificateView.{templates_in, share_of, shares_of}
 use Rattle.fx_template_conditions.proofs.Shares.{left_more, next_shares, share_short}

@@ -2,7 +2,7 @@ use Rattle.std.proofs.Common.{ℕ, ◌+◌, ◌<◌, ◌≤◌, length, List, Op
 use Rattle.fx_rational.specs.Dyadic.{Dyadic, zero_dyadic}
 use Rattle.fx_model.specs.Tree.{at}
 use Rattle.fx_inequalities.specs.Formula.{Num, Difference, Product}
-use Rattle.fx_judging.specs.Judging.{Forms}
+use Rattle.fx_formulas.specs.Judging.{Forms}
 use Rattle.fx_template_conditions.specs.Coefficients.{AreLeft}
 use Rattle.fx_template_conditions.proofs.Shares.{set_left}
 use Rattle.fx_template_conditions.proofs.bound.take_template.Goals as goal

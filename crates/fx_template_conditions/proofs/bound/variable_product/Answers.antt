@@ -1,7 +1,7 @@
 use Rattle.std.proofs.Common.{subst, sym, arith}
 use Rattle.fx_inequalities.specs.Formula.{point}
-use Rattle.fx_judging.specs.Judging.{Forms}
-use Rattle.fx_judging.proofs.Shorts.{short_within, short_point}
+use Rattle.fx_formulas.specs.Judging.{Forms}
+use Rattle.fx_formulas.proofs.Shorts.{short_within, short_point}
 use Rattle.fx_cert.specs.CertificateView.{lines_view}
 use Rattle.fx_cert.specs.Sides.{side_at}
 use Rattle.fx_conditions.proofs.Shorts.{side_short}

@@ -1,7 +1,7 @@
 use Rattle.std.proofs.Common.{ℕ, ◌≤◌}
 use Rattle.fx_inequalities.specs.Formula.{Formula, Span}
 use Rattle.fx_inequalities.specs.Affine.{weighted_sum}
-use Rattle.fx_judging.specs.Judging.{FormsSpan}
+use Rattle.fx_formulas.specs.Judging.{FormsSpan}
 use Rattle.fx_cert.specs.CertificateView.{lines_view}
 use Rattle.fx_template_conditions.specs.Coefficients.{AreFormed}
 use Rattle.fx_cert.specs.Sides.{side_at}

@@ -1,7 +1,7 @@
 use Rattle.std.proofs.Common.{◌≡◌, ◌+◌, [], ◌∷◌, ◌++◌, take, subst, sym, arith}
 use Rattle.fx_inequalities.specs.Formula.{Num, point, span_product}
 use Rattle.fx_inequalities.specs.Affine.{templates_of, shared_sum}
-use Rattle.fx_judging.specs.Places.{IsShort}
+use Rattle.fx_formulas.specs.Places.{IsShort}
 use Rattle.fx_cert.specs.declared.certificate.Share as written
 use Rattle.fx_cert.specs.CertificateView.{templates_in, share_of, shares_of}
 use Rattle.fx_template_conditions.proofs.Shares.{shared_more, next_shares, share_short}

@@ -1,7 +1,7 @@
 use Rattle.std.proofs.Common.{take}
 use Rattle.fx_inequalities.specs.Formula.{Span}
 use Rattle.fx_inequalities.specs.Affine.{templates_of, shared_sum}
-use Rattle.fx_judging.specs.Judging.{FormsSpan}
+use Rattle.fx_formulas.specs.Judging.{FormsSpan}
 use Rattle.fx_cert.specs.CertificateView.{templates_in, shares_of}
 use Rattle.fx_template_conditions.proofs.bound.with_shares.Given as goal
 

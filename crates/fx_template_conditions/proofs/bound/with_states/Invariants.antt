@@ -1,8 +1,8 @@
 use Rattle.std.proofs.Common.{ℕ, ◌<◌}
 use Rattle.fx_inequalities.specs.Formula.{Formula, Span}
 use Rattle.fx_inequalities.specs.Affine.{templates_of, weighted_sum}
-use Rattle.fx_judging.specs.Judging.{FormsSpan}
-use Rattle.fx_judging.specs.Places.{IsShort}
+use Rattle.fx_formulas.specs.Judging.{FormsSpan}
+use Rattle.fx_formulas.specs.Places.{IsShort}
 use Rattle.fx_cert.specs.CertificateView.{templates_in}
 use Rattle.fx_template_conditions.specs.Coefficients.{AreLeft}
 use Rattle.fx_template_conditions.proofs.bound.with_states.Given as goal

@@ -8,8 +8,8 @@ use Rattle.fx_inequalities.specs.Certificate.{no_line}
 use Rattle.fx_inequalities.specs.Condition as conditions
 use Rattle.fx_inequalities.specs.Condition.{Fault, first_some}
 use Rattle.fx_inequalities.specs.NodeConditions.{variables, form_claims, divisor_claims, range_claims, error_claims, word_claims}
-use Rattle.fx_judging.specs.FaultView.{condition_fault_of}
-use Rattle.fx_judging.specs.Judging.{judged}
+use Rattle.fx_formulas.specs.FaultView.{condition_fault_of}
+use Rattle.fx_formulas.specs.Judging.{judged}
 use Rattle.fx_cert.specs.CertificateView.{certificate_of}
 use Rattle.fx_conditions.specs.MatchView.{code_in, node_in}
 use Rattle.fx_template_conditions.proofs.Nodes.{fault_at, five}

@@ -2,7 +2,7 @@ use Rattle.std.proofs.Common.{◌≡◌, ℤ, Some, subst}
 use Rattle.std.specs.Int.{w32}
 use Rattle.std.proofs.lemmas.Int.{to_z-of_z}
 use Rattle.fx_inequalities.specs.NodeConditions.{form_claims}
-use Rattle.fx_judging.specs.Judging.{judged}
+use Rattle.fx_formulas.specs.Judging.{judged}
 use Rattle.fx_cert.specs.CertificateView.{form_view as form_view, lines_view}
 use Rattle.fx_conditions.specs.MatchView.{code_in, node_in}
 use Rattle.fx_template_conditions.proofs.share.form_fault.Goals as goal

@@ -4,7 +4,7 @@ use Rattle.fx_model.specs.Tree.{at}
 use Rattle.fx_inequalities.specs.Claim.{inside}
 use Rattle.fx_inequalities.specs.Formula.{Num, Span}
 use Rattle.fx_inequalities.specs.Affine.{bound_by_templates, of_line, templates_of}
-use Rattle.fx_judging.specs.Judging.{judged}
+use Rattle.fx_formulas.specs.Judging.{judged}
 use Rattle.fx_cert.specs.CertificateView.{form_view as form_view, lines_view, templates_in, shares_of}
 use Rattle.fx_cert.specs.Sides.{side_at, side_rest}
 use Rattle.fx_cert.specs.declared.side.Side.TheVariants as sides

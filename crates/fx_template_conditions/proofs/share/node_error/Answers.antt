@@ -6,7 +6,7 @@ use Rattle.fx_inequalities.specs.Certificate.{Form, no_line}
 use Rattle.fx_inequalities.specs.Formula.{span}
 use Rattle.fx_inequalities.specs.Affine.{form_of}
 use Rattle.fx_inequalities.specs.NodeConditions.{error_claims}
-use Rattle.fx_judging.specs.Judging.{judged}
+use Rattle.fx_formulas.specs.Judging.{judged}
 use Rattle.fx_cert.specs.CertificateView.{certificate_of, form_view as form_view}
 use Rattle.fx_conditions.specs.MatchView.{code_in, node_in}
 use Rattle.fx_template_conditions.proofs.share.node_error.Goals as goal

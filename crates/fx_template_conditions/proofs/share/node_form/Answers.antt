@@ -6,7 +6,7 @@ use Rattle.fx_model.specs.Tree.{at}
 use Rattle.fx_inequalities.specs.Certificate.{Form, no_line}
 use Rattle.fx_inequalities.specs.Condition as conditions
 use Rattle.fx_inequalities.specs.NodeConditions.{form_claims}
-use Rattle.fx_judging.specs.FaultView.{condition_fault_of}
+use Rattle.fx_formulas.specs.FaultView.{condition_fault_of}
 use Rattle.fx_cert.specs.CertificateView.{form_view as form_view, lines_view}
 use Rattle.fx_conditions.specs.MatchView.{code_in, node_in}
 use Rattle.fx_template_conditions.proofs.share.node_form.Goals as goal

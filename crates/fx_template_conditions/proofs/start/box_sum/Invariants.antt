@@ -1,6 +1,6 @@
 use Rattle.fx_inequalities.specs.Formula.{zero_span}
 use Rattle.fx_inequalities.specs.Affine.{templates_of, weighted_sum}
-use Rattle.fx_judging.specs.Judging.{FormsSpan}
+use Rattle.fx_formulas.specs.Judging.{FormsSpan}
 use Rattle.fx_cert.specs.CertificateView.{boxes_in, templates_in}
 use Rattle.fx_template_conditions.specs.Boxes.{box_at}
 use Rattle.fx_template_conditions.proofs.start.box_sum.Given as goal

@@ -4,7 +4,7 @@ use Rattle.std.proofs.lemmas.Int.{to_z-of_z}
 use Rattle.fx_inequalities.specs.Accepted.{start_of}
 use Rattle.fx_inequalities.specs.Claim.{AboveFraction, BelowFraction}
 use Rattle.fx_inequalities.specs.Formula.{Difference, Span, word_at}
-use Rattle.fx_judging.specs.Judging.{judged}
+use Rattle.fx_formulas.specs.Judging.{judged}
 use Rattle.fx_cert.specs.CertificateView.{boxes_in}
 use Rattle.fx_template_conditions.specs.Boxes.{box_at}
 use Rattle.fx_cert.specs.declared.side.Side.TheVariants as sides

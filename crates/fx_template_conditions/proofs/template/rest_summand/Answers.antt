@@ -1,7 +1,7 @@
 use Rattle.std.proofs.Common.{arith}
 use Rattle.fx_inequalities.specs.Formula.{point}
 use Rattle.fx_inequalities.specs.Affine.{affine_at, templates_of}
-use Rattle.fx_judging.proofs.Shorts.{short_within, short_point}
+use Rattle.fx_formulas.proofs.Shorts.{short_within, short_point}
 use Rattle.fx_cert.specs.CertificateView.{lines_view, templates_in}
 use Rattle.fx_cert.specs.Sides.{side_rest}
 use Rattle.fx_conditions.proofs.Shorts.{template_coef_short, side_rest_short}

@@ -1,6 +1,6 @@
 use Rattle.std.proofs.Common.{arith}
 use Rattle.fx_inequalities.specs.Affine.{affine_at, templates_of}
-use Rattle.fx_judging.proofs.Shorts.{short_within}
+use Rattle.fx_formulas.proofs.Shorts.{short_within}
 use Rattle.fx_cert.specs.CertificateView.{lines_view, templates_in}
 use Rattle.fx_conditions.proofs.Shorts.{coef_short, template_coef_short}
 use Rattle.fx_template_conditions.proofs.template.summand.Goals as goal

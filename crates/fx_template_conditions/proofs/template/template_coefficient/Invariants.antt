@@ -1,7 +1,7 @@
 use Rattle.std.proofs.Common.{◌+◌}
 use Rattle.fx_inequalities.specs.Formula.{Product}
 use Rattle.fx_inequalities.specs.Affine.{affine_at, templates_of, sum_of}
-use Rattle.fx_judging.specs.Judging.{Forms}
+use Rattle.fx_formulas.specs.Judging.{Forms}
 use Rattle.fx_cert.specs.CertificateView.{lines_view, templates_in}
 use Rattle.fx_template_conditions.proofs.template.template_coefficient.Given as goal
 

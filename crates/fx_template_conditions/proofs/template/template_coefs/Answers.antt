@@ -4,7 +4,7 @@ use Rattle.fx_inequalities.specs.Affine.{affine_at, templates_of, sum_of}
 use Rattle.fx_cert.specs.CertificateView.{lines_view, templates_in}
 use Rattle.fx_conditions.proofs.Shorts.{coef_short, template_coef_short}
 use Rattle.fx_template_conditions.proofs.Shares.{set_formed, sum_short, all_formed}
-use Rattle.fx_judging.proofs.Shorts.{short_product}
+use Rattle.fx_formulas.proofs.Shorts.{short_product}
 use Rattle.fx_template_conditions.proofs.template.template_coefs.Goals as goal
 
 pub loop-j-preserved : goal.loop-j-preserved

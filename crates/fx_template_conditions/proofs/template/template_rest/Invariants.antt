@@ -1,7 +1,7 @@
 use Rattle.std.proofs.Common.{◌+◌}
 use Rattle.fx_inequalities.specs.Formula.{zero_span}
 use Rattle.fx_inequalities.specs.Affine.{affine_at, templates_of, weighted_sum}
-use Rattle.fx_judging.specs.Judging.{FormsSpan}
+use Rattle.fx_formulas.specs.Judging.{FormsSpan}
 use Rattle.fx_cert.specs.CertificateView.{lines_view, templates_in}
 use Rattle.fx_cert.specs.Sides.{side_rest}
 use Rattle.fx_template_conditions.proofs.template.template_rest.Given as goal

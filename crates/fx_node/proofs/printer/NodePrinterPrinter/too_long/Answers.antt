@@ -5,5 +5,5 @@ use Rattle.fx_node.proofs.printer.NodePrinterPrinter.too_long.Goals as goal
 
 pub returns : goal.returns
 returns g c =
-    λ settled line rest long. long_stops c.args.self.now.node
+    λ none_held line rest long. long_stops c.args.self.now.node
     (option_map node_columns c.args.self.now.reader) line rest long
