@@ -25,9 +25,9 @@ entries_left names words (with_value id v) false = entries_in names words None
 entries_left names words (without_value id) false = entries_in names words (Some id)
 
 -- the entries_in are there, no name stands twice, and what is required is among them
-abbrev pub passes : List Rule → List Entry → Now → Option (List Entry) → Bool
-passes R seen now None = false
-passes R seen now (Some ps) = stand_once seen (entry_now now ++ ps) && has_required R (seen ++ (entry_now now ++ ps))
+abbrev pub words_pass : List Rule → List Entry → Now → Option (List Entry) → Bool
+words_pass R seen now None = false
+words_pass R seen now (Some ps) = stand_once seen (entry_now now ++ ps) && has_required R (seen ++ (entry_now now ++ ps))
 
 abbrev pub is_waiting : Now → Bool
 is_waiting settled_now = false
@@ -35,7 +35,7 @@ is_waiting (with_value id v) = false
 is_waiting (without_value id) = true
 
 pub passes-settle : (R : List Rule) (seen : List Entry) (now : Now) (r : Option (List Entry)) → is_waiting now ≡ false →
-    passes R seen now r ≡ (can_settle seen now && passes R (seen ++ entry_now now) settled_now r)
+    words_pass R seen now r ≡ (can_settle seen now && words_pass R (seen ++ entry_now now) settled_now r)
 unfolding stand_once
 passes-settle R seen now None e = sym (and-false (can_settle seen now))
 passes-settle R seen settled_now (Some ps) e =
@@ -47,17 +47,17 @@ passes-settle R seen (with_value id v) (Some ps) e =
 passes-settle R seen (without_value id) (Some ps) e = absurd (cc)
 
 pub passes-entry : (R : List Rule) (seen : List Entry) (p : Entry) (r : Option (List Entry)) →
-    passes R seen (with_value p.0 p.1) r ≡ passes R seen settled_now (with_entry p r)
+    words_pass R seen (with_value p.0 p.1) r ≡ words_pass R seen settled_now (with_entry p r)
 passes-entry R seen p None = refl
 passes-entry R seen p (Some ps) = refl
 
 pub passes-waiting : (R : List Rule) (seen : List Entry) (id : Bytes) (r : Option (List Entry)) →
-    passes R seen (without_value id) r ≡ passes R seen settled_now r
+    words_pass R seen (without_value id) r ≡ words_pass R seen settled_now r
 passes-waiting R seen id None = refl
 passes-waiting R seen id (Some ps) = refl
 
 pub passes-twice : (R : List Rule) (seen : List Entry) (p : Entry) (r : Option (List Entry)) →
-    has_entry p.0 seen ≡ true → passes R seen settled_now (with_entry p r) ≡ false
+    has_entry p.0 seen ≡ true → words_pass R seen settled_now (with_entry p r) ≡ false
 unfolding stand_once
 passes-twice R seen p None e = refl
 passes-twice R seen p (Some ps) e =
@@ -79,14 +79,14 @@ module _ (name : Bytes) (names : List Bytes) (R : List Rule) (L : IsLeaf names R
   Claim words = (seen : List Entry) (now : Now) (b later : Bool) → IsKnownNow R now →
       b ≡ has_entry file_id (seen ++ entry_now now)
       → is_nil (faults_from name R (walk_at seen now (position_of b) later) words)
-      ≡ passes R seen now (entries_left names words now later)
+      ≡ words_pass R seen now (entries_left names words now later)
 
   pub claim-end : Claim []
   unfolding entries_in stand_once
   claim-end seen now b later known b_is =
       end-test name R seen now (position_of b) later L.no_defaults known ∙ by_now now later where
         by_now : (n : Now) (t : Bool) →
-            (can_settle seen n && has_required R (seen ++ entry_now n)) ≡ passes R seen n (entries_left names [] n t)
+            (can_settle seen n && has_required R (seen ++ entry_now n)) ≡ words_pass R seen n (entries_left names [] n t)
         by_now settled_now true = refl
         by_now settled_now false = refl
         by_now (with_value id v) true =
@@ -107,7 +107,7 @@ module _ (name : Bytes) (names : List Bytes) (R : List Rule) (L : IsLeaf names R
       → word_fault (leaf_shape name R) [] later (waiting_now now) word (held_rows seen now) ≡ []
       → is_nil (faults_from name R (walk_at seen now (position_of b) later) (word ∷ rest))
       ≡ (can_settle seen now &&
-      passes R (seen ++ entry_now now) settled_now
+      words_pass R (seen ++ entry_now now) settled_now
       (with_entry (file_entry word) (entries_left names rest (with_value file_id word) later)))
   file-claim word rest ih seen now true later known b_is plain no_flag =
       tail-more name R (walk_at seen now 2 later) word rest
@@ -134,7 +134,7 @@ module _ (name : Bytes) (names : List Bytes) (R : List Rule) (L : IsLeaf names R
   pub later-word : (word : Bytes) (rest : List Bytes) → Claim rest → (seen : List Entry) (now : Now) (b : Bool) →
       IsKnownNow R now → b ≡ has_entry file_id (seen ++ entry_now now)
       → is_nil (faults_from name R (walk_at seen now (position_of b) true) (word ∷ rest))
-      ≡ passes R seen now (entries_left names (word ∷ rest) now true)
+      ≡ words_pass R seen now (entries_left names (word ∷ rest) now true)
   later-word word rest ih seen settled_now b known b_is =
       file-claim word rest ih seen settled_now b true known b_is (λ position. refl) refl
       ∙ sym (passes-settle R seen settled_now (Some (map file_entry (word ∷ rest))) refl)
@@ -149,7 +149,7 @@ module _ (name : Bytes) (names : List Bytes) (R : List Rule) (L : IsLeaf names R
       IsKnownNow R now → b ≡ has_entry file_id (seen ++ entry_now now)
       → ends_options word ≡ true →
       is_nil (faults_from name R (walk_at seen now (position_of b) false) (word ∷ rest))
-      ≡ passes R seen now (entries_left names rest now true)
+      ≡ words_pass R seen now (entries_left names rest now true)
   ends-claim word rest ih seen now b known b_is e =
       tail-more name R (walk_at seen now (position_of b) false) word rest
       ∙ ap₂ (λ (t : Bool) w. t && is_nil (faults_from name R w rest))
@@ -175,7 +175,7 @@ module _ (name : Bytes) (names : List Bytes) (R : List Rule) (L : IsLeaf names R
       IsKnownNow R now → b ≡ has_entry file_id (seen ++ entry_now now) → is_waiting now ≡ false
       → ends_options word ≡ false → (id v : Bytes) → long_of word ≡ Some (id, Some v) → IsOption R id
       → is_nil (faults_from name R (walk_at seen now (position_of b) false) (word ∷ rest))
-      ≡ passes R seen now (with_entry (id, v) (entries_in names rest None))
+      ≡ words_pass R seen now (with_entry (id, v) (entries_in names rest None))
   joined-claim word rest ih seen now b known b_is calm goes_on id v is_long O =
       let S = seen ++ entry_now now in
       tail-more name R (walk_at seen now (position_of b) false) word rest
@@ -198,7 +198,7 @@ module _ (name : Bytes) (names : List Bytes) (R : List Rule) (L : IsLeaf names R
       IsKnownNow R now → b ≡ has_entry file_id (seen ++ entry_now now) → is_waiting now ≡ false
       → ends_options word ≡ false → (id : Bytes) → long_of word ≡ Some (id, None) → IsOption R id
       → is_nil (faults_from name R (walk_at seen now (position_of b) false) (word ∷ rest))
-      ≡ passes R seen now (entries_in names rest (Some id))
+      ≡ words_pass R seen now (entries_in names rest (Some id))
   apart-claim word rest ih seen now b known b_is calm goes_on id is_long O =
       let S = seen ++ entry_now now in
       let O_known : IsKnown R id = record { long = Some id; index = None; required = O.required; by_id = O.by_id } in
@@ -217,7 +217,7 @@ module _ (name : Bytes) (names : List Bytes) (R : List Rule) (L : IsLeaf names R
       IsKnownNow R (without_value id) → b ≡ has_entry file_id (seen ++ entry_now (without_value id))
       → is_dashed word ≡ false →
       is_nil (faults_from name R (walk_at seen (without_value id) (position_of b) false) (word ∷ rest))
-      ≡ passes R seen (without_value id) (with_entry (id, word) (entries_in names rest None))
+      ≡ words_pass R seen (without_value id) (with_entry (id, word) (entries_in names rest None))
   value-claim word rest ih seen id b known b_is plain =
       tail-more name R (walk_at seen (without_value id) (position_of b) false) word rest
       ∙ ap₂ (λ (t : Bool) w. t && is_nil (faults_from name R w rest))
@@ -234,19 +234,19 @@ module _ (name : Bytes) (names : List Bytes) (R : List Rule) (L : IsLeaf names R
       is_waiting now ≡ false
       → ends_options word ≡ false → is_dashed word ≡ true
       → is_nil (faults_from name R (walk_at seen now (position_of b) false) (word ∷ rest))
-      ≡ passes R seen now (after_option names (option_parts word) (entries_in names rest))
+      ≡ words_pass R seen now (after_option names (option_parts word) (entries_in names rest))
   flag-claim word rest flagged ih seen now b known b_is calm goes_on dashed = by_long (long_of word) refl
-      ∙ ap (λ l. passes R seen now (after_option names l (entries_in names rest))) (parts-same word) where
+      ∙ ap (λ l. words_pass R seen now (after_option names l (entries_in names rest))) (parts-same word) where
         by_long : (l : Option (Bytes × Option Bytes)) → long_of word ≡ l →
             is_nil (faults_from name R (walk_at seen now (position_of b) false) (word ∷ rest))
-            ≡ passes R seen now (after_option names l (entries_in names rest))
+            ≡ words_pass R seen now (after_option names l (entries_in names rest))
         by_long None e =
             dead word rest seen now b
             (short-turn name names R L seen now known (position_of b) word goes_on dashed e flagged)
         by_long (Some (id, value_named)) e = by_name (is_among id names) refl value_named e where
           by_name : (t : Bool) → is_among id names ≡ t → (o : Option Bytes) → long_of word ≡ Some (id, o)
               → is_nil (faults_from name R (walk_at seen now (position_of b) false) (word ∷ rest))
-              ≡ passes R seen now (if t then option_value id o (entries_in names rest) else None)
+              ≡ words_pass R seen now (if t then option_value id o (entries_in names rest) else None)
           by_name false g o e =
               dead word rest seen now b
               (unknown-turn name names R L seen now known (position_of b) word goes_on (id, o) e g)
@@ -286,15 +286,15 @@ module _ (name : Bytes) (names : List Bytes) (R : List Rule) (L : IsLeaf names R
       is_waiting now ≡ false
       → waiting_now now ≡ idle → entries_left names rest now true ≡ Some (map file_entry rest)
       → is_nil (faults_from name R (walk_at seen now (position_of b) false) (word ∷ rest))
-      ≡ passes R seen now (after_word names word rest (entries_in names rest) None)
+      ≡ words_pass R seen now (after_word names word rest (entries_in names rest) None)
   calm-word word rest flagged ih seen now b known b_is calm no_wait all_files =
       by_ends (ends_options word) refl (is_dashed word) refl where
         by_ends : (t : Bool) → ends_options word ≡ t → (d : Bool) → is_dashed word ≡ d
             → is_nil (faults_from name R (walk_at seen now (position_of b) false) (word ∷ rest))
-            ≡ passes R seen now (if t then Some (map file_entry rest) else if d
+            ≡ words_pass R seen now (if t then Some (map file_entry rest) else if d
             then after_option names (option_parts word) (entries_in names rest)
             else with_entry (file_entry word) (entries_in names rest None))
-        by_ends true e d f = ends-claim word rest ih seen now b known b_is e ∙ ap (passes R seen now) all_files
+        by_ends true e d f = ends-claim word rest ih seen now b known b_is e ∙ ap (words_pass R seen now) all_files
         by_ends false e true f = flag-claim word rest flagged ih seen now b known b_is calm e f
         by_ends false e false f =
             file-claim word rest ih seen now b false known b_is
@@ -313,11 +313,11 @@ module _ (name : Bytes) (names : List Bytes) (R : List Rule) (L : IsLeaf names R
       (seen : List Entry) (id : Bytes) (b : Bool) → IsKnownNow R (without_value id) →
       b ≡ has_entry file_id (seen ++ entry_now (without_value id))
       → is_nil (faults_from name R (walk_at seen (without_value id) (position_of b) false) (word ∷ rest))
-      ≡ passes R seen (without_value id) (after_word names word rest (entries_in names rest) (Some id))
+      ≡ words_pass R seen (without_value id) (after_word names word rest (entries_in names rest) (Some id))
   waiting-word word rest flagged ih seen id b known b_is = by_dash (is_dashed word) refl (ends_options word) refl where
     by_dash : (d : Bool) → is_dashed word ≡ d → (t : Bool) → ends_options word ≡ t
         → is_nil (faults_from name R (walk_at seen (without_value id) (position_of b) false) (word ∷ rest))
-        ≡ passes R seen (without_value id) (if d then None else with_entry (id, word) (entries_in names rest None))
+        ≡ words_pass R seen (without_value id) (if d then None else with_entry (id, word) (entries_in names rest None))
     by_dash false f t e = value-claim word rest ih seen id b known b_is f
     by_dash true f true e = ends-claim word rest ih seen (without_value id) b known b_is e
     by_dash true f false e = flag-dead word rest flagged seen id b known e f
@@ -339,5 +339,5 @@ module _ (name : Bytes) (names : List Bytes) (R : List Rule) (L : IsLeaf names R
   -- the command takes the words exactly where they are such a list with no name twice and all that is required
   pub leaf-takes : (words : List Bytes) → AllHaveFirstFlag words
       → is_nil (faults_from name R (walk_at [] settled_now 1 false) words)
-      ≡ passes R [] settled_now (entries_in names words None)
+      ≡ words_pass R [] settled_now (entries_in names words None)
   leaf-takes words flagged = claim words flagged [] settled_now false false tt refl

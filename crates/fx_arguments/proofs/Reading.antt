@@ -14,7 +14,7 @@ use Rattle.fx_arguments.specs.declared.command.WordFault.TheVariants.{Usage, Mem
 use Rattle.fx_arguments.specs.Grammar.{Bytes, Entry, entries_in, have_values, once, stand_once, value_named}
 use Rattle.fx_arguments.proofs.Pending.{has_required, is_nil, settled_now}
 use Rattle.fx_arguments.proofs.OneWord.{AllHaveFirstFlag}
-use Rattle.fx_arguments.proofs.AllWords.{leaf-takes, passes}
+use Rattle.fx_arguments.proofs.AllWords.{leaf-takes, words_pass}
 use Rattle.fx_arguments.proofs.FoundRows.{first-value, leaf-rows}
 use Rattle.fx_arguments.proofs.Options.{option_names, options-are-taken, options_rules}
 use Rattle.fx_arguments.proofs.Commands.{IsCommand, IsNone, after-another, no-words, which-command}
@@ -36,7 +36,7 @@ module _ (name : Bytes) (C : IsCommand name) (rest : List Bytes) where
 
   passes-where-taken : AllHaveFirstFlag rest →
       is_nil (fault_of fixd_app (name ∷ rest))
-      ≡ passes (options_rules C.options) [] settled_now (entries_in names rest None)
+      ≡ words_pass (options_rules C.options) [] settled_now (entries_in names rest None)
   passes-where-taken flagged = C.faults rest
       ∙ leaf-takes name names (options_rules C.options) (options-are-taken C.options C.apart) rest flagged
 
@@ -55,7 +55,7 @@ module _ (name : Bytes) (C : IsCommand name) (rest : List Bytes) where
       (λ id. first_of id (rows_after (options_rules C.options) [] rest))) o) C.known
 
   made-where-it-passes : (r : Option (List Entry)) → entries_in names rest None ≡ r →
-      passes (options_rules C.options) [] settled_now r ≡ true
+      words_pass (options_rules C.options) [] settled_now r ≡ true
       → lawful_command name names (λ id. first_of id (rows_after (options_rules C.options) [] rest)) ≡ made_of r
   made-where-it-passes None e h = absurd (cc)
   made-where-it-passes (Some ps) e h =
@@ -66,7 +66,7 @@ module _ (name : Bytes) (C : IsCommand name) (rest : List Bytes) where
       ∙ ap (λ (b : Bool). option_and_then (λ entries. lawful_command name names (value_named entries)) (if b
       then Some ps else None)) (sym parts.0)
 
-  none-where-it-fails : (r : Option (List Entry)) → passes (options_rules C.options) [] settled_now r ≡ false →
+  none-where-it-fails : (r : Option (List Entry)) → words_pass (options_rules C.options) [] settled_now r ≡ false →
       made_of r ≡ None
   none-where-it-fails None e = refl
   none-where-it-fails (Some ps) e = by_once (stand_once [] ps) e where

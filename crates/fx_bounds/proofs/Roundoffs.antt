@@ -88,7 +88,7 @@ right_lost w f p s e =
     (floor_lost (floor_div w (2 ^ s)) f (times (whole w) (unit (pos s))) (shift_floors w s))
 
 -- a shift to the left loses nothing
-pub left_is : (w f p : ℤ) (s : ℕ) → f ≡ p +ℤ pos s → Equal (word_value (w *ℤ pos (2 ^ s)) f) (word_value w p)
+left_is : (w f p : ℤ) (s : ℕ) → f ≡ p +ℤ pos s → Equal (word_value (w *ℤ pos (2 ^ s)) f) (word_value w p)
 left_is w f p s e =
     let sum : Equal (unit f) (times (unit p) (unit (pos s))) = rw e (unit_sum p (pos s)) in
     equal_trans (word_is (w *ℤ pos (2 ^ s)) f) (equal_trans (times_same (whole_product w (pos (2 ^ s))) sum)

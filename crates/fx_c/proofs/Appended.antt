@@ -19,7 +19,7 @@ use Rattle.fx_c.specs.Around.{opening, closing}
 
 -- ---- what is rounded
 -- an expression between the two
-pub rounded_text : (bits : ℕ) (r : Round) (e : Wide) (s : ℕ) →
+rounded_text : (bits : ℕ) (r : Round) (e : Wide) (s : ℕ) →
     c_wide_text bits (c_rounded r e s) ≡ opening bits r s ++ (c_wide_text bits e ++ closing bits r s)
 rounded_text bits Floor e zero = sym (append-nil (c_wide_text bits e))
 rounded_text bits Nearest e zero = sym (append-nil (c_wide_text bits e))

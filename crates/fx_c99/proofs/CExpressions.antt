@@ -54,21 +54,21 @@ same_power s t e = by (compared s t)
     by (inr (inl q)) = q
     by (inr (inr l)) = let p = pow-lt l in absurd (omega (arith, p, e))
 
--- ---- what each begins with
-pub begins : (b : ℕ) (e : Wide) (r : List ℕ) → IsCWide e →
+-- ---- what each expression_begins with
+pub expression_begins : (b : ℕ) (e : Wide) (r : List ℕ) → IsCWide e →
     (get_or (c_wide_text b e ++ r) 0 0 ≡ 40)
     ⊎ ((get_or (c_wide_text b e ++ r) 0 0 ≡ 102) × (get_or (c_wide_text b e ++ r) 5 0 ≡ 102))
-begins b (Widened n) r c = inl refl
-begins b (Power s) r c = inl (by (nat_lt s 63))
+expression_begins b (Widened n) r c = inl refl
+expression_begins b (Power s) r c = inl (by (nat_lt s 63))
   where
     by : (x : Bool) → get_or (cond x (codes "(" ++ (working_text b ++ (codes ")" ++ decimal (2 ^ s))))
         (codes "((" ++ (working_text b ++ (codes ")1 << " ++ (decimal s ++ codes ")")))) ++ r) 0 0 ≡ 40
     by true = refl
     by false = refl
-begins b (Negated e) r c = inl refl
-begins b (Two o e f) r c = inl refl
-begins b (Shifted Left e s) r c = absurd c
-begins b (Shifted Right e s) r c = inr (refl, refl)
+expression_begins b (Negated e) r c = inl refl
+expression_begins b (Two o e f) r c = inl refl
+expression_begins b (Shifted Left e s) r c = absurd c
+expression_begins b (Shifted Right e s) r c = inr (refl, refl)
 
 kind : Wide → ℕ
 kind (Widened n) = 0
@@ -110,7 +110,7 @@ kind_at b (Power s) r c = by (nat_lt s 63) refl
 kind_at b (Negated e) r c = refl
 kind_at b (Two o e f) r c =
     let t = operator_text o ++ (c_wide_text b f ++ (41 ∷ r)) in
-    ap kind_back (two_onto b o e f r) ∙ by (c_wide_text b e ++ t) (begins b e t c.0)
+    ap kind_back (two_onto b o e f r) ∙ by (c_wide_text b e ++ t) (expression_begins b e t c.0)
   where
     by : (x : List ℕ) → (get_or x 0 0 ≡ 40) ⊎ ((get_or x 0 0 ≡ 102) × (get_or x 5 0 ≡ 102)) → kind_back (40 ∷ x) ≡ 4
     by x (inl p) = paren_kind x p

@@ -13,7 +13,7 @@ use Rattle.fx_c99.specs.Working.{is_plain, working_bits}
 use Rattle.fx_c99.specs.CText.{type_text, c_wide_text, c_cast_text, literal_text, c_value_text, c_let_text, assignment_text, placed, start_text, starts_text}
 use Rattle.fx_c99.specs.CWritable.{IsCWide, IsCValue, AreCLets, AreShortWords}
 use Rattle.fx_c99.proofs.Words.{one_type}
-use Rattle.fx_c99.proofs.CExpressions.{begins, one_c_wide}
+use Rattle.fx_c99.proofs.CExpressions.{expression_begins, one_c_wide}
 
 true_false : true ≡ false → ⊥
 true_false e = cc
@@ -69,7 +69,7 @@ one_literal (pos m) (negsuc n) r s p q h = absurd (no_sign m n (59 ∷ r) (59 �
 one_literal (negsuc m) (pos n) r s p q h = absurd (no_sign n m (59 ∷ s) (59 ∷ r) q (sym h))
 one_literal (negsuc m) (negsuc n) r s p q h = one_negative m n r s p q h
 
--- no literal begins with a parenthesis
+-- no literal expression_begins with a parenthesis
 no_cast : (w : ℤ) (r : List ℕ) → unsigned_abs w < 2 ^ 64 → get_or (literal_text w ++ r) 0 0 ≡ 40 → ⊥
 no_cast (pos m) r lt h =
     let d : is_ascii_digit 40 ≡ true = ap is_ascii_digit (sym h) ∙ first_digit m r lt in true_false (sym d)
@@ -107,7 +107,7 @@ one_element k j r s p q h =
 -- an expression is no element
 no_element : (b c : ℕ) (e : Wide) (r : List ℕ) → IsCWide e → nat_eq 40 c ≡ false → nat_eq 102 c ≡ false →
     get_or (c_wide_text b e ++ r) 0 0 ≡ c → ⊥
-no_element b c e r p x y h = by (begins b e r p)
+no_element b c e r p x y h = by (expression_begins b e r p)
   where
     by : (get_or (c_wide_text b e ++ r) 0 0 ≡ 40)
         ⊎ ((get_or (c_wide_text b e ++ r) 0 0 ≡ 102) × (get_or (c_wide_text b e ++ r) 5 0 ≡ 102)) → ⊥

@@ -29,7 +29,7 @@ use Rattle.fx_statements.specs.OfProgram.{input_words}
 use Rattle.fx_c99.specs.CHeader.{point, input_word, start_word}
 
 -- ---- points
-pub points_are : (ps : List ℤ) → All IsPoint ps → (k : ℕ) → IsPoint (at (pos 0) ps k)
+points_are : (ps : List ℤ) → All IsPoint ps → (k : ℕ) → IsPoint (at (pos 0) ps k)
 points_are [] h k = record { low = omega (arith, ints); high = omega (arith, ints) }
 points_are (p ∷ ps) h zero = h 0 (pos 0) (omega arith)
 points_are (p ∷ ps) h (suc k) = points_are ps (λ j d lt. h (suc j) d (omega arith)) k
@@ -69,16 +69,16 @@ line_written v r e n (l ∷ ls) h zero = h.0.1
 line_written v r e n (l ∷ ls) h (suc k) = line_written v r e (n + 1) ls h.1 k
 
 -- the mantissa and the exponent of a bound
-pub record IsShort (d : Dyadic) : Type 0 where
+pub record IsShortEnd (d : Dyadic) : Type 0 where
   pub small : unsigned_abs d.m < 2 ^ 62
   pub places : d.e ≤ 96
 
-farthest_short : (i : Interval) → IsWrittenInterval i → (b : Bool) → IsShort (cond b i.hi (negated i.lo))
+farthest_short : (i : Interval) → IsWrittenInterval i → (b : Bool) → IsShortEnd (cond b i.hi (negated i.lo))
 farthest_short i w true = record { small = w.1.small; places = w.1.places }
 farthest_short i w false = record { small = rw (size-neg_ℤ i.lo.m) w.0.small; places = w.0.places }
 
-pub bound_short : (p : Program) (cert : Certificate) → IsLawfulCertificate cert → (j : ℕ) → IsShort (bound_dyadic p cert j)
-bound_short p cert h j =
+pub certified_bound_short : (p : Program) (cert : Certificate) → IsLawfulCertificate cert → (j : ℕ) → IsShortEnd (bound_dyadic p cert j)
+certified_bound_short p cert h j =
     let i = (at no_line cert.lines (output_code p j)).error in
     farthest_short i (line_written (cert.inputs + cert.states) (length cert.templates) (length cert.error_templates) 0
     cert.lines h.lines (output_code p j)) (is_dyadic_at_most (negated i.lo) i.hi)
@@ -156,7 +156,7 @@ ends_true end within (i ∷ is) h = (
 )
 
 -- so the words of ends are words of the program
-pub ends_fit : StartLaw → StepLaw → (rewrite : Rewrites) (fn : Function) (p : Program) (cert : Certificate) →
+ends_fit : StartLaw → StepLaw → (rewrite : Rewrites) (fn : Function) (p : Program) (cert : Certificate) →
     IsCertified rewrite fn p cert → AreInputs fn.inputs →
     (end : Input → Rational) → ((i : Input) → IsInput i → AtMost i.lo (end i) × AtMost (end i) i.hi) →
     end no_input ≡ whole (pos 0) → (k : ℕ) → k < p.inputs →

@@ -11,20 +11,20 @@ use Rattle.fx_inequalities.specs.NodeConditions.{no_input}
 use Rattle.fx_inequalities.specs.Accepted.{no_state, output_code, bound_dyadic}
 use Rattle.fx_c99.specs.CHeader.{point, input_word, start_word, macro_text, of_element, element_comment, input_comment, state_comment, output_comment, count_macros, output_macros, input_group, state_group, output_group, opening_text, declarations_text, header_text}
 use Rattle.fx_c99.specs.CHeaderMeaning.{Defines, SaysInput, SaysState, SaysOutput}
-use Rattle.fx_c99.proofs.HeaderLines.{IsLine, IsLines, Part, behind, alone, both, front, rest, within, numbered_are, macro_is, defines, defines_in}
+use Rattle.fx_c99.proofs.HeaderLines.{IsLine, IsLines, IsPart, line_behind, one_line, both_lines, front, rest, within, numbered_are, macro_is, defines, defines_in}
 use Rattle.fx_c99.proofs.HeaderNumbers.{number_read}
 
 -- ---- each piece is of whole lines
 comment_is : (array : List ℕ) (k : ℕ) (says : List ℕ) → IsLine says → IsLines (element_comment array k says)
 comment_is array k says e =
     let c = codes "]" ++ says in let b = decimal k ++ c in let a = codes "[" ++ b in
-    alone (element_comment array k says) (behind (codes "\n/* ") (array ++ a) (behind array a
-    (behind (codes "[") b (behind (decimal k) c (behind (codes "]") says e)))))
+    one_line (element_comment array k says) (line_behind (codes "\n/* ") (array ++ a) (line_behind array a
+    (line_behind (codes "[") b (line_behind (decimal k) c (line_behind (codes "]") says e)))))
 
 named_is : (array : List ℕ) (k : ℕ) (name says : List ℕ) → IsLine says →
     IsLines (element_comment array k (codes ", " ++ (name ++ says)))
 named_is array k name says e =
-    comment_is array k (codes ", " ++ (name ++ says)) (behind (codes ", ") (name ++ says) (behind name says e))
+    comment_is array k (codes ", " ++ (name ++ says)) (line_behind (codes ", ") (name ++ says) (line_behind name says e))
 
 input_comment_is : (k : ℕ) (name : List ℕ) → IsLines (input_comment k name)
 input_comment_is k name =
@@ -45,20 +45,20 @@ opening_is : (title : List ℕ) (n : ℕ) → IsLines (opening_text title n)
 opening_is title n =
     let e = codes "_H\n\n#include <stdint.h>\n\n" in let d = title ++ e in let c = codes "_H\n#define FIXD_" ++ d in
     let b = title ++ c in let a = codes " */\n#ifndef FIXD_" ++ b in let w = decimal n ++ a in
-    alone (opening_text title n) (behind (codes "/* ") (title ++ (codes ", width " ++ w))
-    (behind title (codes ", width " ++ w) (behind (codes ", width ") w (behind (decimal n) a
-    (behind (codes " */\n#ifndef FIXD_") b (behind title c (behind (codes "_H\n#define FIXD_") d
-    (behind title e record { front = codes "_H\n\n#include <stdint.h>\n"; is = refl }))))))))
+    one_line (opening_text title n) (line_behind (codes "/* ") (title ++ (codes ", width " ++ w))
+    (line_behind title (codes ", width " ++ w) (line_behind (codes ", width ") w (line_behind (decimal n) a
+    (line_behind (codes " */\n#ifndef FIXD_") b (line_behind title c (line_behind (codes "_H\n#define FIXD_") d
+    (line_behind title e record { front = codes "_H\n\n#include <stdint.h>\n"; is = refl }))))))))
 
 -- two and three macros
 two_are : (title what other : List ℕ) (v w : ℤ) → IsLines (macro_text title what v ++ macro_text title other w)
 two_are title what other v w =
-    both (macro_text title what v) (macro_text title other w) (macro_is title what v) (macro_is title other w)
+    both_lines (macro_text title what v) (macro_text title other w) (macro_is title what v) (macro_is title other w)
 
 three_are : (title what other third : List ℕ) (u v w : ℤ) →
     IsLines (macro_text title what u ++ (macro_text title other v ++ macro_text title third w))
 three_are title what other third u v w =
-    both (macro_text title what u) (macro_text title other v ++ macro_text title third w) (macro_is title what u)
+    both_lines (macro_text title what u) (macro_text title other v ++ macro_text title third w) (macro_is title what u)
     (two_are title other third v w)
 
 counts_are : (title : List ℕ) (n inputs states outputs : ℕ) → IsLines (count_macros title n inputs states outputs)
@@ -70,15 +70,15 @@ counts_are title n inputs states outputs =
     } in
     let rest = macro_text title (codes "INPUTS") (pos inputs) ++ (macro_text title (codes "STATES") (pos states)
     ++ macro_text title (codes "OUTPUTS") (pos outputs)) in
-    both comment (macro_text title (codes "WIDTH") (pos n) ++ rest) (alone comment first)
-    (both (macro_text title (codes "WIDTH") (pos n)) rest (macro_is title (codes "WIDTH") (pos n))
+    both_lines comment (macro_text title (codes "WIDTH") (pos n) ++ rest) (one_line comment first)
+    (both_lines (macro_text title (codes "WIDTH") (pos n)) rest (macro_is title (codes "WIDTH") (pos n))
     (three_are title (codes "INPUTS") (codes "STATES") (codes "OUTPUTS") (pos inputs) (pos states) (pos outputs)))
 
 pub input_is : (fn : Function) (p : Program) (k : ℕ) → IsLines (input_group fn p k)
 input_is fn p k =
     let i = at no_input fn.inputs k in let f = point p k in let name = of_element (codes "INPUT") k in
     let least = input_word i.lo f in let greatest = input_word i.hi f in
-    both (input_comment k i.name) (macro_text p.name (name (codes "_POINT")) f
+    both_lines (input_comment k i.name) (macro_text p.name (name (codes "_POINT")) f
     ++ (macro_text p.name (name (codes "_LEAST")) least ++ macro_text p.name (name (codes "_GREATEST")) greatest))
     (input_comment_is k i.name)
     (three_are p.name (name (codes "_POINT")) (name (codes "_LEAST")) (name (codes "_GREATEST")) f least greatest)
@@ -87,29 +87,29 @@ pub state_is : (fn : Function) (p : Program) (k : ℕ) → IsLines (state_group 
 state_is fn p k =
     let name = (at no_state fn.states k).name in let f = point p (p.inputs + k) in
     let what = of_element (codes "STATE") k in
-    both (state_comment k name) (macro_text p.name (what (codes "_POINT")) f
+    both_lines (state_comment k name) (macro_text p.name (what (codes "_POINT")) f
     ++ macro_text p.name (what (codes "_START")) (start_word p k)) (state_comment_is k name)
     (two_are p.name (what (codes "_POINT")) (what (codes "_START")) f (start_word p k))
 
 pub output_is : (p : Program) (bounds : List Dyadic) (j : ℕ) → IsLines (output_group p bounds j)
 output_is p bounds j =
     let b = at zero_dyadic bounds j in let f = point p (output_code p j) in let name = of_element (codes "OUTPUT") j in
-    both (output_comment j) (macro_text p.name (name (codes "_POINT")) f
+    both_lines (output_comment j) (macro_text p.name (name (codes "_POINT")) f
     ++ (macro_text p.name (name (codes "_BOUND")) b.m ++ macro_text p.name (name (codes "_BOUND_POINT")) (pos b.e)))
     (output_comment_is j)
     (three_are p.name (name (codes "_POINT")) (name (codes "_BOUND")) (name (codes "_BOUND_POINT")) f b.m (pos b.e))
 
 -- ---- what a group says
 -- a macro that stands in it
-pub macro_in : (text title what : List ℕ) (v : ℤ) → Part text (macro_text title what v) → IsWord 64 v → Defines text title what v
+pub macro_in : (text title what : List ℕ) (v : ℤ) → IsPart text (macro_text title what v) → IsWord 64 v → Defines text title what v
 macro_in text title what v p fits =
     defines_in text (macro_text title what v) title what v p (defines title what v (number_read v fits))
 
--- three macros behind a comment
+-- three macros line_behind a comment
 record Three (text a b c : List ℕ) : Type 0 where
-  first : Part text a
-  second : Part text b
-  third : Part text c
+  first : IsPart text a
+  second : IsPart text b
+  third : IsPart text c
 
 three_in : (comment a b c : List ℕ) → IsLines comment → IsLines a → IsLines b → Three (comment ++ (a ++ (b ++ c))) a b c
 three_in comment a b c is a_is b_is =
@@ -173,7 +173,7 @@ output_says p cert j place small few =
     }
 
 -- ---- what a part says, the whole says
-pub input_in : (fn : Function) (p : Program) (text piece : List ℕ) (k : ℕ) → Part text piece → SaysInput fn p piece k →
+pub input_in : (fn : Function) (p : Program) (text piece : List ℕ) (k : ℕ) → IsPart text piece → SaysInput fn p piece k →
     SaysInput fn p text k
 input_in fn p text piece k part says = record {
   place = defines_in text piece _ _ _ part says.place;
@@ -181,13 +181,13 @@ input_in fn p text piece k part says = record {
   greatest = defines_in text piece _ _ _ part says.greatest;
 }
 
-pub state_in : (p : Program) (text piece : List ℕ) (k : ℕ) → Part text piece → SaysState p piece k → SaysState p text k
+pub state_in : (p : Program) (text piece : List ℕ) (k : ℕ) → IsPart text piece → SaysState p piece k → SaysState p text k
 state_in p text piece k part says = record {
   place = defines_in text piece _ _ _ part says.place;
   start = defines_in text piece _ _ _ part says.start;
 }
 
-pub output_in : (p : Program) (cert : Certificate) (text piece : List ℕ) (j : ℕ) → Part text piece →
+pub output_in : (p : Program) (cert : Certificate) (text piece : List ℕ) (j : ℕ) → IsPart text piece →
     SaysOutput p cert piece j → SaysOutput p cert text j
 output_in p cert text piece j part says = record {
   place = defines_in text piece _ _ _ part says.place;
@@ -197,11 +197,11 @@ output_in p cert text piece j part says = record {
 
 -- ---- the pieces of a header
 pub record Pieces (text counts inputs states outputs declarations : List ℕ) : Type 0 where
-  pub counts_in : Part text counts
-  pub inputs_in : Part text inputs
-  pub states_in : Part text states
-  pub outputs_in : Part text outputs
-  pub declarations_in : Part text declarations
+  pub counts_in : IsPart text counts
+  pub inputs_in : IsPart text inputs
+  pub states_in : IsPart text states
+  pub outputs_in : IsPart text outputs
+  pub declarations_in : IsPart text declarations
 
 pieces : (o a b c d e : List ℕ) → IsLines o → IsLines a → IsLines b → IsLines c → IsLines d →
     Pieces (o ++ (a ++ (b ++ (c ++ (d ++ e))))) a b c d e

@@ -14,9 +14,9 @@ use Rattle.fx_c99.specs.CText.{step_head, reset_head}
 use Rattle.fx_c99.specs.CHeader.{point, bounds_of, macro_text, count_macros, input_group, state_group, output_macros, output_group, reset_declaration, declarations_text, c_header_of}
 use Rattle.fx_c99.specs.CHeaderMeaning.{HasLine, Defines, SaysOutput}
 use Rattle.fx_c99.specs.Laws.{HeaderLaw}
-use Rattle.fx_c99.proofs.HeaderLines.{IsLine, IsLines, behind, alone, none, front, rest, within, numbered_part, line_of, line_in, macro_is, defines_in}
+use Rattle.fx_c99.proofs.HeaderLines.{IsLine, IsLines, line_behind, one_line, none, front, rest, within, numbered_part, line_of, line_in, macro_is, defines_in}
 use Rattle.fx_c99.proofs.HeaderNumbers.{count_fits, point_fits, mantissa_fits}
-use Rattle.fx_c99.proofs.HeaderWords.{point_is, start_fits, bound_short, lows_fit, highs_fit}
+use Rattle.fx_c99.proofs.HeaderWords.{point_is, start_fits, certified_bound_short, lows_fit, highs_fit}
 use Rattle.fx_c99.proofs.Headers.{macro_in, input_says, state_says, output_says, input_in, state_in, output_in, input_is, state_is, output_is, pieces_of}
 
 -- ---- the counts
@@ -40,7 +40,7 @@ counts_say p lawful =
     let d = macro_text p.name (codes "OUTPUTS") (pos p.outputs) in
     let text = count_macros p.name p.width p.inputs p.states p.outputs in
     let from_c = c ++ d in let from_b = b ++ from_c in let from_a = a ++ from_b in
-    let at_a = rest comment from_a (alone comment first) in
+    let at_a = rest comment from_a (one_line comment first) in
     let at_b = within text from_a from_b at_a (rest a from_b (macro_is p.name (codes "WIDTH") (pos p.width))) in
     let at_c = within text from_b from_c at_b (rest b from_c (macro_is p.name (codes "INPUTS") (pos p.inputs))) in
     let at_d = within text from_c d at_c (rest c d (macro_is p.name (codes "STATES") (pos p.states))) in
@@ -64,7 +64,7 @@ abbrev below : List ℕ
 below = codes "\n#ifdef __cplusplus\n}\n#endif\n\n#endif\n"
 
 above_is : IsLines above
-above_is = alone above record { front = codes "\n#ifdef __cplusplus\nextern \"C\" {\n#endif\n"; is = refl }
+above_is = one_line above record { front = codes "\n#ifdef __cplusplus\nextern \"C\" {\n#endif\n"; is = refl }
 
 -- a head and a semicolon
 declared : (head below : List ℕ) → HasLine (head ++ (codes ";\n" ++ below)) (head ++ codes ";")
@@ -77,8 +77,8 @@ reset_is title n states = by (nat_eq states 0)
   where
     by : (b : Bool) → IsLines (cond b [] (reset_head title n states ++ codes ";\n"))
     by true = none
-    by false = alone (reset_head title n states ++ codes ";\n")
-        (behind (reset_head title n states) (codes ";\n") record { front = codes ";"; is = refl })
+    by false = one_line (reset_head title n states ++ codes ";\n")
+        (line_behind (reset_head title n states) (codes ";\n") record { front = codes ";"; is = refl })
 
 reset_declared : (title : List ℕ) (n states : ℕ) → 0 < states →
     HasLine (reset_declaration title n states) (reset_head title n states ++ codes ";")
@@ -149,7 +149,7 @@ header_says start step rewrite fn p cert c inputs =
       output = λ j lt. output_in p cert text (output_group p bounds j) j
           (within text _ (output_group p bounds j) parts.outputs_in
           (numbered_part (output_group p bounds) (output_is p bounds) p.outputs j lt))
-          (output_group_says p cert j lt (let short = bound_short p cert c.certificate j in
+          (output_group_says p cert j lt (let short = certified_bound_short p cert c.certificate j in
           output_says p cert j (point_fits (point p (output_code p j)) (point_is p lawful (output_code p j)))
           (mantissa_fits (bound_dyadic p cert j).m short.small)
           (count_fits (bound_dyadic p cert j).e (omega (arith, short.places)))));

@@ -24,7 +24,7 @@ use Rattle.fx_calm.specs.Summands.{IsSummand, sum_of}
 use Rattle.fx_calm.specs.declared.sum.Sum.{Sum}
 use Rattle.fx_calm.specs.declared.sum.Sum.TheVariants.{States, Sizes, Adds, Values}
 use Rattle.fx_calm.specs.SumOf.{sum_value, weight_of, size_of, summand_of, IsSum, IsNarrowSummand}
-use Rattle.fx_calm.proofs.Sizes.{IsUnsigned, greater_unsigned, top_at_most}
+use Rattle.fx_calm.proofs.Sizes.{HasNoSign, greater_unsigned, top_at_most}
 
 -- ---- one summand
 pub narrow_product : (s b t d : ℕ) → s < 2 ^ 62 → 0 < b → b < 2 ^ 62 → t < 2 ^ 62 → 0 < d → d ≤ 10 ^ 18 →
@@ -48,13 +48,13 @@ product_is s b t d p q = (λ i. record { top = s * t; bottom = sym (suc_pred b p
 abbrev pub worth : Function → Sum → Term → Rational
 worth fn sum x = times (size_of x) (weight_of fn sum x)
 
-product_value : (s w : Rational) → IsUnsigned s → IsUnsigned w →
+product_value : (s w : Rational) → HasNoSign s → HasNoSign w →
     over (pos (unsigned_abs s.top * unsigned_abs w.top)) (bottom s * bottom w) ≡ times s w
 unfolding times
 product_value s w p q = (λ i. over (p i *ℤ q i) (bottom s * bottom w))
 
 -- ---- terms have no sign
-weight_unsigned : (fn : Function) (sum : Sum) (x : Term) → IsUnsigned (weight_of fn sum x)
+weight_unsigned : (fn : Function) (sum : Sum) (x : Term) → HasNoSign (weight_of fn sum x)
 weight_unsigned fn States (Alone s) = refl
 weight_unsigned fn Sizes (Alone s) = refl
 weight_unsigned fn Adds (Alone s) = refl
@@ -69,7 +69,7 @@ weight_unsigned fn Adds (OfInput k s) = greater_unsigned _ _ refl refl
 weight_unsigned fn (Values n) (OfInput k s) = greater_unsigned _ _ refl refl
 
 abbrev pub IsUnsignedTerm : Term → Type 0
-IsUnsignedTerm x = IsUnsigned (size_of x)
+IsUnsignedTerm x = HasNoSign (size_of x)
 
 one : (P : Term → Type 0) (x : Term) → P x → All P (x ∷ [])
 one P x h = All-cons P x [] h (All-nil P)

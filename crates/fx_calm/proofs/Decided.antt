@@ -79,10 +79,10 @@ pub record IsGoing (turn : ℕ) (s : ℤ) (now old : List Summand) (limit : ℕ)
   pub low : negsuc (2 ^ 70) ≤ℤ s
   pub high : s ≤ℤ pos (2 ^ 70)
 
-pub begins : (xs ys : List Summand) (limit n : ℕ) (s : ℤ) → All IsSummand xs → length xs ≤ 64 → ys ≡ rests 1 xs →
+pub comparison_begins : (xs ys : List Summand) (limit n : ℕ) (s : ℤ) → All IsSummand xs → length xs ≤ 64 → ys ≡ rests 1 xs →
     n ≡ digits 1 xs → s ≡ pos n -ℤ pos limit → limit < 2 ^ 64 → n ≤ 2 ^ 68 → IsGoing 0 s ys xs limit
 unfolding enough
-begins xs ys limit n s summands few r d e l m = record {
+comparison_begins xs ys limit n s summands few r d e l m = record {
   rest = (λ i. decided 2605 (first i) (r i)) ∙ law xs limit summands few;
   summands = subst (All IsRest) (sym r) (rests_are 1 xs (λ j x lt. (let p = summands j x lt in (p.some, p.few))));
   low = omega (arith, ints, e, l, m);
@@ -109,11 +109,11 @@ ends_under turn k s now old limit h l same e g =
     ∙ decided_under (2605 - (turn + 1)) s now e (ap (λ (n : ℕ). int_le (s +ℤ pos n) (pos 0)) (sym same) ∙ g))
     ∙ h.rest
 
-pub goes_on : (turn n k : ℕ) (s z : ℤ) (now next old : List Summand) (limit : ℕ) → IsGoing turn s now old limit →
+pub comparison_goes_on : (turn n k : ℕ) (s z : ℤ) (now next old : List Summand) (limit : ℕ) → IsGoing turn s now old limit →
     turn < 2605 → length now ≤ 64 → k ≡ left now → int_le (pos 1) s ≡ false → int_le (s +ℤ pos k) (pos 0) ≡ false →
     next ≡ rests 10 now → n ≡ digits 10 now → n ≤ 2 ^ 68 → z ≡ pos 10 *ℤ s +ℤ pos n →
     IsGoing (turn + 1) z next old limit
-goes_on turn n k s z now next old limit h l few same e g r d m is =
+comparison_goes_on turn n k s z now next old limit h l few same e g r d m is =
     let a = above s e in let b = below s k g in let c = left_few now in record {
       rest = (λ i. decided (2605 - (turn + 1)) (shown i) (r i))
           ∙ sym (ap (λ (t : ℕ). decided t s now) (one_less turn l)
@@ -134,9 +134,9 @@ goes_on turn n k s z now next old limit h l few same e g r d m is =
     below : (s : ℤ) (k : ℕ) → int_le (s +ℤ pos k) (pos 0) ≡ false → pos 1 ≤ℤ (s +ℤ pos k)
     below s k e = grind (arith, ints, e)
 
-pub ends : (turn : ℕ) (s : ℤ) (now old : List Summand) (limit : ℕ) → IsGoing turn s now old limit → turn ≡ 2605 →
+pub comparison_ends : (turn : ℕ) (s : ℤ) (now old : List Summand) (limit : ℕ) → IsGoing turn s now old limit → turn ≡ 2605 →
     int_le s (pos 0) ≡ is_at_most (sum_of old) (whole (pos limit))
-ends turn s now old limit h e = sym (ap (λ (t : ℕ). decided t s now) none ∙ decided_end s now) ∙ h.rest
+comparison_ends turn s now old limit h e = sym (ap (λ (t : ℕ). decided t s now) none ∙ decided_end s now) ∙ h.rest
   where
     none : 2605 - turn ≡ 0
     none = omega (arith, e)

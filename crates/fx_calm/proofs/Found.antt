@@ -16,7 +16,7 @@ use Rattle.fx_calm.specs.declared.sum.Sum.TheVariants.{States, Sizes, Adds, Valu
 use Rattle.fx_calm.specs.declared.limit.Limit.TheVariants.{Starts, Inputs, Literals, Sums, Errors}
 use Rattle.fx_calm.specs.LimitOf.{count_of, IsLeast, IsLeastOfBoth, IsTame}
 use Rattle.fx_calm.specs.NumbersOf.{calm_numbers, has_form, HasExponents}
-use Rattle.fx_calm.proofs.Limits.{AllWithin, within_more, starts_from, starts_give, sizes_from, sizes_give, values_from, values_give, errors_from, errors_give, contracting_from, contracting_give}
+use Rattle.fx_calm.proofs.Limits.{AreAllWithin, within_more, starts_from, starts_give, sizes_from, sizes_give, values_from, values_give, errors_from, errors_give, contracting_from, contracting_give}
 
 -- ---- a first place by what is known of it
 same_order : (a b : ℕ) → a ≤ b → b ≤ a → a ≡ b
@@ -100,7 +100,7 @@ module _ (n : ℕ) (fn : Function) (some : Contains widths n) (lawful : IsLawful
       list_all is_contracting (next_trees fn) ≡ true
   contracting w h few =
       let e : w ≡ 0 = omega (arith, few) in
-      contracting_from fn (subst (λ (k : ℕ). AllWithin fn (Sums States) k) e (h.holds few))
+      contracting_from fn (subst (λ (k : ℕ). AreAllWithin fn (Sums States) k) e (h.holds few))
 
   -- ---- starts
   pub not_started : (q : ℕ) → IsLeastOfBoth fn Starts (Sums Adds) 0 23 q → 23 < q → IsCalm n fn → ⊥

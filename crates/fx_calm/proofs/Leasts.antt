@@ -17,12 +17,12 @@ pub none_more : (fn : Function) (limit : Limit) (i first w : ℕ) → NoneBefore
 none_more fn limit i first w h e j p q =
     ⊎_elim (λ (l : j < w). h j p l) (λ (s : j ≡ w). ap (is_within fn limit i) s ∙ e) (before_or_last j w q)
 
-pub found_at : (fn : Function) (limit : Limit) (i first last w : ℕ) → first ≤ w → w < last + 1 →
+found_at : (fn : Function) (limit : Limit) (i first last w : ℕ) → first ≤ w → w < last + 1 →
     is_within fn limit i w ≡ true → NoneBefore fn limit i first w → IsLeastAt fn limit i first last w
 found_at fn limit i first last w p q e h =
     record { from_first = p; to_last = omega (arith, q); holds = λ l. e; none_before = h }
 
-pub none_found : (fn : Function) (limit : Limit) (i first last w : ℕ) → first ≤ last + 1 → w ≡ last + 1 →
+none_found : (fn : Function) (limit : Limit) (i first last w : ℕ) → first ≤ last + 1 → w ≡ last + 1 →
     NoneBefore fn limit i first w → IsLeastAt fn limit i first last (last + 1)
 none_found fn limit i first last w p e h = record {
   from_first = p;

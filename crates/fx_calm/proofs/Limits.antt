@@ -129,10 +129,10 @@ output_each p fn enough e i l =
     omega (arith, n, l))
 
 -- ---- the definition's conditions, both ways
-abbrev pub AllWithin : Function → Limit → ℕ → Type 0
-AllWithin fn limit w = AreWithin fn limit (count_of fn limit) w
+abbrev pub AreAllWithin : Function → Limit → ℕ → Type 0
+AreAllWithin fn limit w = AreWithin fn limit (count_of fn limit) w
 
-pub starts_from : (fn : Function) (w : ℕ) → AllWithin fn Starts w → AllWithin fn (Sums Adds) w →
+pub starts_from : (fn : Function) (w : ℕ) → AreAllWithin fn Starts w → AreAllWithin fn (Sums Adds) w →
     bounds_starts fn w ≡ true
 starts_from fn w h g =
     let p = all_from (λ (s : function.State). is_below_power (magnitude s.start) (pos w)) fn.states no_state h in
@@ -140,22 +140,22 @@ starts_from fn w h g =
     (λ i. p i && q i)
 
 pub starts_give : (fn : Function) (w : ℕ) → bounds_starts fn w ≡ true →
-    AllWithin fn Starts w × AllWithin fn (Sums Adds) w
+    AreAllWithin fn Starts w × AreAllWithin fn (Sums Adds) w
 starts_give fn w e =
     let p = and_parts _ _ e in (
       (λ i l. all_at (λ (s : function.State). is_below_power (magnitude s.start) (pos w)) fn.states i no_state p.0 l),
       next_at (λ (t : Tree). is_below_power (plus (input_reaches fn t) (literal_sizes t)) (pos w)) fn p.1,
     )
 
-pub sizes_from : (fn : Function) (w : ℕ) → AllWithin fn (Sums Sizes) w → bounds_sizes fn w ≡ true
+pub sizes_from : (fn : Function) (w : ℕ) → AreAllWithin fn (Sums Sizes) w → bounds_sizes fn w ≡ true
 sizes_from fn w h = result_all (λ (t : Tree). is_below_power (plus (input_sizes t) (state_sizes t)) (pos w)) fn h
 
-pub sizes_give : (fn : Function) (w : ℕ) → bounds_sizes fn w ≡ true → AllWithin fn (Sums Sizes) w
+pub sizes_give : (fn : Function) (w : ℕ) → bounds_sizes fn w ≡ true → AreAllWithin fn (Sums Sizes) w
 sizes_give fn w e = result_each (λ (t : Tree). is_below_power (plus (input_sizes t) (state_sizes t)) (pos w)) fn e
 
 -- m is one more than the number w
-pub values_from : (fn : Function) (q w m : ℕ) → outputs fn ≤ length fn.results → m - 1 ≡ w → AllWithin fn Inputs w →
-    AllWithin fn Literals w → AllWithin fn (Sums (Values (q + 2))) w → bounds_values fn q m ≡ true
+pub values_from : (fn : Function) (q w m : ℕ) → outputs fn ≤ length fn.results → m - 1 ≡ w → AreAllWithin fn Inputs w →
+    AreAllWithin fn Literals w → AreAllWithin fn (Sums (Values (q + 2))) w → bounds_values fn q m ≡ true
 values_from fn q w m enough is h g k =
     let p = all_from (λ (i : function.Input). is_below_power (plus (reach_of i) i.err) (pos w)) fn.inputs no_input h in
     let r = all_from (λ (t : Tree). are_literals_below (power_value (pos w)) t) fn.results no_tree g in
@@ -171,8 +171,8 @@ values_from fn q w m enough is h g k =
     ∙ (λ i. p i && r i && s i)
 
 pub values_give : (fn : Function) (q w m : ℕ) → outputs fn ≤ length fn.results → m - 1 ≡ w →
-    bounds_values fn q m ≡ true → AllWithin fn Inputs w × AllWithin fn Literals w ×
-    AllWithin fn (Sums (Values (q + 2))) w
+    bounds_values fn q m ≡ true → AreAllWithin fn Inputs w × AreAllWithin fn Literals w ×
+    AreAllWithin fn (Sums (Values (q + 2))) w
 values_give fn q w m enough is e =
     let moved =
     ap (λ (n : ℕ). list_all (λ (i : function.Input). is_below_power (plus (reach_of i) i.err) (pos n)) fn.inputs &&
@@ -189,11 +189,11 @@ values_give fn q w m enough is e =
           (pos w)) fn enough p.1,
     )
 
-pub errors_from : (fn : Function) (f w : ℕ) → AllWithin fn (Errors f) w → bounds_errors fn (pos (1 + w) -ℤ pos f) ≡ true
+pub errors_from : (fn : Function) (f w : ℕ) → AreAllWithin fn (Errors f) w → bounds_errors fn (pos (1 + w) -ℤ pos f) ≡ true
 errors_from fn f w h =
     all_from (λ (i : function.Input). is_below_power (plus i.err i.err) (pos (1 + w) -ℤ pos f)) fn.inputs no_input h
 
-pub errors_give : (fn : Function) (f w : ℕ) → bounds_errors fn (pos (1 + w) -ℤ pos f) ≡ true → AllWithin fn (Errors f) w
+pub errors_give : (fn : Function) (f w : ℕ) → bounds_errors fn (pos (1 + w) -ℤ pos f) ≡ true → AreAllWithin fn (Errors f) w
 errors_give fn f w e =
     λ i l. all_at (λ (x : function.Input). is_below_power (plus x.err x.err)
     (pos (1 + w) -ℤ pos f)) fn.inputs i no_input e l
@@ -218,10 +218,10 @@ contracting_test x =
         le_of_times (whole_above 2 (omega arith))
         (ordered (gap l) (by_quotes {ρ = x ∷ h ∷ []} (search quotes depth 20) (search quotes depth 20) refl))
 
-pub contracting_from : (fn : Function) → AllWithin fn (Sums States) 0 → list_all is_contracting (next_trees fn) ≡ true
+pub contracting_from : (fn : Function) → AreAllWithin fn (Sums States) 0 → list_all is_contracting (next_trees fn) ≡ true
 contracting_from fn h =
     next_all is_contracting fn (λ i l. contracting_test (state_sizes (at no_tree fn.results (outputs fn + i))) ∙ h i l)
 
-pub contracting_give : (fn : Function) → list_all is_contracting (next_trees fn) ≡ true → AllWithin fn (Sums States) 0
+pub contracting_give : (fn : Function) → list_all is_contracting (next_trees fn) ≡ true → AreAllWithin fn (Sums States) 0
 contracting_give fn e = λ i l. sym (contracting_test (state_sizes (at no_tree fn.results (outputs fn + i))))
     ∙ next_at is_contracting fn e i l

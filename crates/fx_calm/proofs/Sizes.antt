@@ -47,18 +47,18 @@ units_code f t b some =
     (λ i. (t * 2 ^ f + less i) / sym (suc_pred b some) i) ∙ sym (ceil_natural (t * 2 ^ f) (pred b))
 
 -- ---- their tops have no sign to lose
-abbrev pub IsUnsigned : Rational → Type 0
-IsUnsigned q = pos (unsigned_abs q.top) ≡ q.top
+abbrev pub HasNoSign : Rational → Type 0
+HasNoSign q = pos (unsigned_abs q.top) ≡ q.top
 
-pub greater_unsigned : (x y : Rational) → IsUnsigned x → IsUnsigned y → IsUnsigned (greater x y)
+pub greater_unsigned : (x y : Rational) → HasNoSign x → HasNoSign y → HasNoSign (greater x y)
 greater_unsigned x y h g = by (is_at_most y x)
   where
-    by : (t : Bool) → IsUnsigned (if t then x else y)
+    by : (t : Bool) → HasNoSign (if t then x else y)
     by true = h
     by false = g
 
 -- one that is at most 2^k has a top of at most its bottom times 2^k
-pub top_at_most : (q : Rational) (k : ℕ) → IsUnsigned q → AtMost q (power k) → unsigned_abs q.top ≤ bottom q * 2 ^ k
+pub top_at_most : (q : Rational) (k : ℕ) → HasNoSign q → AtMost q (power k) → unsigned_abs q.top ≤ bottom q * 2 ^ k
 top_at_most q k u h = by q.top (unsigned_abs q.top) (bottom q) (2 ^ k) u h.at_most
   where
     by : (t : ℤ) (n b p : ℕ) → pos n ≡ t → (t *ℤ pos 1) ≤ℤ (pos p *ℤ pos b) → n ≤ b * p

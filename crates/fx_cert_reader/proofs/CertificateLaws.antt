@@ -20,8 +20,8 @@ use Rattle.fx_text.proofs.LinesLaws.{following, lines_spelling}
 use Rattle.fx_cert_reader.specs.CountsView.{AreCertificateSizes, AreTemplateCounts}
 use Rattle.fx_cert_reader.specs.LineReading.{CertificateSizes, TemplateCounts, certificate_headline_at, certificate_sizes_at, step_count_at, step_at, start_at, template_counts_at, node_at}
 use Rattle.fx_cert_reader.specs.CertificateReading.{steps_at, all_templates_at, certificate_at, certificate_lines, certificate_in}
-use Rattle.fx_cert_reader.proofs.CertificateLines.{headline_fields, headline_law, sizes_fields, sizes_law, step_count_fields, step_count_law, step_law, start_law, template_counts_fields, template_counts_law}
-use Rattle.fx_cert_reader.proofs.NodeLines.{IsNode, node_law}
+use Rattle.fx_cert_reader.proofs.CertificateLines.{certificate_headline_fields, certificate_headline_law, certificate_sizes_fields, certificate_sizes_law, step_count_fields, step_count_law, step_law, start_law, template_counts_fields, template_counts_law}
+use Rattle.fx_cert_reader.proofs.NodeLines.{IsNodeLine, node_law}
 use Rattle.fx_cert_reader.proofs.TemplateLaws.{templates_take, templates_again}
 
 -- ---- steps
@@ -145,20 +145,20 @@ all_templates_law n k = record { takes = takes; again = again }
 nodes_law : (v templates error_templates n count : ℕ) → templates ≤ template_limit → error_templates ≤ template_limit
     → IsOneSpelling (lines_by (node_at v templates error_templates) n count)
     (flat_map (λ l. line_text (node_fields l l.form))) (λ ls. (length ls ≡ count) ×
-    AreEach (IsNode v templates error_templates) following 0 ls)
+    AreEach (IsNodeLine v templates error_templates) following 0 ls)
 nodes_law v templates error_templates n count few few_errors =
     lines_spelling (node_at v templates error_templates) (λ l. node_fields l l.form)
-    (IsNode v templates error_templates)
+    (IsNodeLine v templates error_templates)
     (λ i. node_law v templates error_templates i (omega arith) (omega arith)) n count
 
 written_lines : (v templates error_templates n : ℕ) (lines : List NodeLine) →
-    AreEach (IsNode v templates error_templates) following n lines → AreWrittenLines v templates error_templates n lines
+    AreEach (IsNodeLine v templates error_templates) following n lines → AreWrittenLines v templates error_templates n lines
 written_lines v templates error_templates n [] h = tt
 written_lines v templates error_templates n (l ∷ lines) (h, hs) =
     ((h.range, h.error, h.form), written_lines v templates error_templates (n + 1) lines hs)
 
 each_node : (v templates error_templates n : ℕ) (lines : List NodeLine) →
-    AreWrittenLines v templates error_templates n lines → AreEach (IsNode v templates error_templates) following n lines
+    AreWrittenLines v templates error_templates n lines → AreEach (IsNodeLine v templates error_templates) following n lines
 each_node v templates error_templates n [] h = tt
 each_node v templates error_templates n (l ∷ lines) (h, hs) =
     (record { range = h.0; error = h.1; form = h.2 }, each_node v templates error_templates (n + 1) lines hs)
@@ -180,12 +180,12 @@ abbrev node_lines : Certificate → List ℕ
 node_lines c = flat_map (λ l. line_text (node_fields l l.form)) c.lines
 
 in_parts : (c : Certificate) (rest : List ℕ) →
-    certificate_text c ++ rest ≡ line_text (headline_fields tt)
-    ++ (line_text (sizes_fields (sizes_in c))
+    certificate_text c ++ rest ≡ line_text (certificate_headline_fields tt)
+    ++ (line_text (certificate_sizes_fields (sizes_in c))
     ++ (steps_text c.steps ++ (start_lines c
     ++ (all_templates_text c.states (c.templates, c.error_templates) ++ (node_lines c ++ rest)))))
 in_parts c rest =
-    regroup (line_text (headline_fields tt)) (line_text (sizes_fields (sizes_in c)))
+    regroup (line_text (certificate_headline_fields tt)) (line_text (certificate_sizes_fields (sizes_in c)))
     (line_text (step_count_fields (length c.steps))) (step_lines c.steps) (start_lines c)
     (line_text (template_counts_fields (counts_of (c.templates, c.error_templates))))
     (templates_text c.states c.templates) (templates_text c.states c.error_templates) (node_lines c) rest
@@ -203,9 +203,9 @@ takes n text x e =
     let i = sizes.0.inputs in let k = sizes.0.states in let s = n + 3 + length steps.0 in
     let r = length templates.0.0 in let f = length templates.0.1 in
     let th =
-    (line_spelling certificate_headline_at headline_fields (λ _. Unit {0}) headline_law n).takes text head hh in
+    (line_spelling certificate_headline_at certificate_headline_fields (λ _. Unit {0}) certificate_headline_law n).takes text head hh in
     let ts =
-    (line_spelling certificate_sizes_at sizes_fields AreCertificateSizes sizes_law (n + 1)).takes head.1 sizes hs in
+    (line_spelling certificate_sizes_at certificate_sizes_fields AreCertificateSizes certificate_sizes_law (n + 1)).takes head.1 sizes hs in
     let tt' = (steps_law (n + 2)).takes sizes.1 steps ht in
     let tb = (starts_law s k).takes steps.1 starts hb in
     let tr = (all_templates_law (s + k) k).takes starts.1 templates hr in
@@ -220,10 +220,10 @@ takes n text x e =
       error_templates = templates.0.1;
       lines = lines.0;
     } in
-    let told : line_text (sizes_fields sizes.0) ≡ line_text (sizes_fields (sizes_in c)) =
-    ap (λ m. line_text (sizes_fields (record { inputs = i; states = k; count = m }))) (sym tl.1.0) in
-    let whole = th.0 ∙ ap (λ t. line_text (headline_fields tt) ++ t) (ts.0 ∙ ap (λ l. l ++ sizes.1) told
-    ∙ ap (λ t. line_text (sizes_fields (sizes_in c)) ++ t)
+    let told : line_text (certificate_sizes_fields sizes.0) ≡ line_text (certificate_sizes_fields (sizes_in c)) =
+    ap (λ m. line_text (certificate_sizes_fields (record { inputs = i; states = k; count = m }))) (sym tl.1.0) in
+    let whole = th.0 ∙ ap (λ t. line_text (certificate_headline_fields tt) ++ t) (ts.0 ∙ ap (λ l. l ++ sizes.1) told
+    ∙ ap (λ t. line_text (certificate_sizes_fields (sizes_in c)) ++ t)
     (tt'.0 ∙ ap (λ t. steps_text steps.0 ++ t) (tb.0
     ∙ ap (λ t. start_lines c ++ t) (tr.0 ∙ ap (λ t. all_templates_text k templates.0 ++ t) tl.0)))) in
     let made : (c, lines.1) ≡ x = cc in
@@ -265,11 +265,11 @@ again n c rest h =
     let f = length c.error_templates in
     let t5 = node_lines c ++ rest in let t4 = all_templates_text k (c.templates, c.error_templates) ++ t5 in
     let t3 = start_lines c ++ t4 in let t2 = steps_text c.steps ++ t3 in
-    let t1 = line_text (sizes_fields (sizes_in c)) ++ t2 in
+    let t1 = line_text (certificate_sizes_fields (sizes_in c)) ++ t2 in
     ap (certificate_at n) (in_parts c rest)
-    ∙ one_by_one n c (line_text (headline_fields tt) ++ t1) t1 t2 t3 t4 t5 rest
-    ((line_spelling certificate_headline_at headline_fields (λ _. Unit {0}) headline_law n).again tt t1 tt)
-    ((line_spelling certificate_sizes_at sizes_fields AreCertificateSizes sizes_law (n + 1)).again (sizes_in c) t2
+    ∙ one_by_one n c (line_text (certificate_headline_fields tt) ++ t1) t1 t2 t3 t4 t5 rest
+    ((line_spelling certificate_headline_at certificate_headline_fields (λ _. Unit {0}) certificate_headline_law n).again tt t1 tt)
+    ((line_spelling certificate_sizes_at certificate_sizes_fields AreCertificateSizes certificate_sizes_law (n + 1)).again (sizes_in c) t2
     (record {
       some_input = h.some_input;
       inputs = h.inputs;

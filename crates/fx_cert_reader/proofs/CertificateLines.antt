@@ -26,9 +26,9 @@ use Rattle.fx_cert_reader.specs.LineReading.{CertificateSizes, TemplateCounts, c
 use Rattle.fx_cert_reader.proofs.PathLaws.{path_law, clean_path}
 
 -- ---- parts of lines
--- some fields, and then the fields behind them
-pub behind : {a b c : Line} (xs : Line) → a ≡ xs ++ b → b ≡ c → a ≡ xs ++ c
-behind xs p q = p ∙ ap (λ line. xs ++ line) q
+-- some fields, and then the fields part_behind them
+pub part_behind : {a b c : Line} (xs : Line) → a ≡ xs ++ b → b ≡ c → a ≡ xs ++ c
+part_behind xs p q = p ∙ ap (λ line. xs ++ line) q
 
 -- two parts of a line are fields
 pub clean_append : (xs ys : Line) → AllByRecursion IsField xs → AllByRecursion IsField ys →
@@ -44,12 +44,12 @@ clean_dyadics [] h = tt
 clean_dyadics (d ∷ ds) (h, hs) = (IsField-dyadic_text d h, clean_dyadics ds hs)
 
 -- ---- the headline
-abbrev pub headline_fields : Unit {0} → Line
-headline_fields _ = codes "fixd" ∷ codes "certificate" ∷ codes "1" ∷ []
+abbrev pub certificate_headline_fields : Unit {0} → Line
+certificate_headline_fields _ = codes "fixd" ∷ codes "certificate" ∷ codes "1" ∷ []
 
-pub headline_law : IsLineOf certificate_headline_at headline_fields (λ _. Unit {0})
+pub certificate_headline_law : IsLineOf certificate_headline_at certificate_headline_fields (λ _. Unit {0})
 unfolding certificate_headline_at
-headline_law = record {
+certificate_headline_law = record {
   takes = λ line x e. (takes line x e, tt);
   again = λ x h. again;
   clean = λ x h. (word_fixd, (word_certificate, (word_1, tt)));
@@ -64,7 +64,7 @@ headline_law = record {
     word_1 : IsField (codes "1")
     word_1 = record { spaces = search rules; line_feeds = search rules }
 
-    takes : (line : Line) (x : Unit {0}) → certificate_headline_at line ≡ Ok x → line ≡ headline_fields x
+    takes : (line : Line) (x : Unit {0}) → certificate_headline_at line ≡ Ok x → line ≡ certificate_headline_fields x
     takes line x e =
         on_ok _ _ x e (λ a ha e.
         on_ok _ _ x e (λ b hb e.
@@ -74,7 +74,7 @@ headline_law = record {
         (front (word_takes (codes "certificate") a b hb)
         (front (word_takes (codes "1") b c hc) (ended_is c d hd)))))))
 
-    again : certificate_headline_at (headline_fields tt) ≡ Ok tt
+    again : certificate_headline_at (certificate_headline_fields tt) ≡ Ok tt
     again =
         rw (
           word_again (codes "fixd") (codes "certificate" ∷ codes "1" ∷ []),
@@ -83,15 +83,15 @@ headline_law = record {
         ) refl
 
 -- ---- counts
-abbrev pub sizes_fields : CertificateSizes → Line
-sizes_fields s = codes "sizes" ∷ decimal s.inputs ∷ decimal s.states ∷ decimal s.count ∷ []
+abbrev pub certificate_sizes_fields : CertificateSizes → Line
+certificate_sizes_fields s = codes "sizes" ∷ decimal s.inputs ∷ decimal s.states ∷ decimal s.count ∷ []
 
-pub sizes_law : IsLineOf certificate_sizes_at sizes_fields AreCertificateSizes
+pub certificate_sizes_law : IsLineOf certificate_sizes_at certificate_sizes_fields AreCertificateSizes
 unfolding certificate_sizes_at
-sizes_law = record { takes = takes; again = again; clean = clean }
+certificate_sizes_law = record { takes = takes; again = again; clean = clean }
   where
     takes : (line : Line) (s : CertificateSizes) → certificate_sizes_at line ≡ Ok s →
-        (line ≡ sizes_fields s) × AreCertificateSizes s
+        (line ≡ certificate_sizes_fields s) × AreCertificateSizes s
     takes line s e =
         on_ok _ _ s e (λ rest hr e.
         on_ok _ _ s e (λ i hi e.
@@ -102,12 +102,12 @@ sizes_law = record { takes = takes; again = again; clean = clean }
         let pk = count_takes 0 state_limit i.1 k (omega arith) hk in
         let pn = count_takes (i.0 + k.0) node_limit k.1 n (omega arith) hn in
         let made : record { inputs = i.0; states = k.0; count = n.0 } ≡ s = cc in
-        subst (λ s. (line ≡ sizes_fields s) × AreCertificateSizes s) made (
+        subst (λ s. (line ≡ certificate_sizes_fields s) × AreCertificateSizes s) made (
           front (word_takes (codes "sizes") line rest hr) (front pi.0 (front pk.0 (front pn.0 (ended_is n.1 d hd)))),
           record { some_input = pi.1; inputs = pi.2; states = pk.2; enough = pn.1; count = pn.2 },
         ))))))
 
-    again : (s : CertificateSizes) → AreCertificateSizes s → certificate_sizes_at (sizes_fields s) ≡ Ok s
+    again : (s : CertificateSizes) → AreCertificateSizes s → certificate_sizes_at (certificate_sizes_fields s) ≡ Ok s
     again s h =
         rw (
           word_again (codes "sizes") (decimal s.inputs ∷ decimal s.states ∷ decimal s.count ∷ []),
@@ -120,7 +120,7 @@ sizes_law = record { takes = takes; again = again; clean = clean }
     word_sizes : IsField (codes "sizes")
     word_sizes = record { spaces = search rules; line_feeds = search rules }
 
-    clean : (s : CertificateSizes) → AreCertificateSizes s → AreFields (sizes_fields s)
+    clean : (s : CertificateSizes) → AreCertificateSizes s → AreFields (certificate_sizes_fields s)
     clean s h =
         let i = h.inputs in let k = h.states in let n = h.count in (
           word_sizes,
@@ -277,7 +277,7 @@ start_law = record { takes = takes; again = again; clean = clean }
         let made : record { range = g.0; error = i.0 } ≡ b = cc in
         subst (λ b. (line ≡ start_fields b) × IsWrittenBox b) made (
           front (word_takes (codes "start") line rest hr)
-              (behind (interval_fields g.0) tg.0 (behind (interval_fields i.0) ti.0 (ended_is i.1 d hd))),
+              (part_behind (interval_fields g.0) tg.0 (part_behind (interval_fields i.0) ti.0 (ended_is i.1 d hd))),
           (tg.1, ti.1),
         )))))
 

@@ -25,7 +25,7 @@ use Rattle.fx_text.proofs.DyadicLaws.{IsField-dyadic_text, dyadic_takes, dyadic_
 use Rattle.fx_cert_reader.specs.FieldReading.{shares_at, by_at}
 use Rattle.fx_cert_reader.specs.LineReading.{box_template_at, template_at, plain_at, form_at, formed_at, node_at}
 use Rattle.fx_cert_reader.proofs.ShareLaws.{shares_law, by_law, clean_shares, clean_by}
-use Rattle.fx_cert_reader.proofs.CertificateLines.{behind, clean_append, clean_interval, clean_dyadics}
+use Rattle.fx_cert_reader.proofs.CertificateLines.{part_behind, clean_append, clean_interval, clean_dyadics}
 
 -- ---- templates
 -- unit template i of k, among templates up to the end
@@ -46,10 +46,10 @@ box_law k end i small = record { takes = takes; again = again; clean = clean }
         on_ok _ _ r e (λ d hd e.
         let tb = interval_takes rest b hb in let ts = (shares_law end small).takes b.1 s hs in
         let made : record { coefs = unit_vector k i; bound = b.0; shares = s.0 } ≡ r = cc in
-        let shares : b.1 ≡ share_fields s.0 = behind (share_fields s.0) ts.0 (ended_is s.1 d hd)
+        let shares : b.1 ≡ share_fields s.0 = part_behind (share_fields s.0) ts.0 (ended_is s.1 d hd)
         ∙ append-nil (share_fields s.0) in
         subst (λ r. (line ≡ box_fields r) × IsBox k end i r) made (
-          front (word_takes (codes "box") line rest hr) (behind (interval_fields b.0) tb.0 shares),
+          front (word_takes (codes "box") line rest hr) (part_behind (interval_fields b.0) tb.0 shares),
           record { coefs = refl; bound = tb.1; shares = ts.1 },
         )))))
 
@@ -92,9 +92,9 @@ template_law k end small = record { takes = takes; again = again; clean = clean 
         let tc = (dyadics_spelling k).takes rest c hc in let tb = interval_takes c.1 b hb in
         let ts = (shares_law end small).takes b.1 s hs in
         let made : record { coefs = c.0; bound = b.0; shares = s.0 } ≡ r = cc in
-        let shares : b.1 ≡ share_fields s.0 = behind (share_fields s.0) ts.0 (ended_is s.1 d hd)
+        let shares : b.1 ≡ share_fields s.0 = part_behind (share_fields s.0) ts.0 (ended_is s.1 d hd)
         ∙ append-nil (share_fields s.0) in
-        let fields = behind (map dyadic_text c.0) tc.0 (behind (interval_fields b.0) tb.0 shares)
+        let fields = part_behind (map dyadic_text c.0) tc.0 (part_behind (interval_fields b.0) tb.0 shares)
         ∙ sym (regroup (map dyadic_text c.0) (interval_fields b.0) (share_fields s.0)) in
         subst (λ r. (line ≡ template_fields r) × IsWrittenTemplate k end r) made (
           front (word_takes (codes "row") line rest hr) fields,
@@ -129,12 +129,12 @@ template_law k end small = record { takes = takes; again = again; clean = clean 
 
 -- ---- nodes
 -- what is asked of the line of node n
-pub record IsNode (v templates error_templates n : ℕ) (l : NodeLine) : Type 0 where
+pub record IsNodeLine (v templates error_templates n : ℕ) (l : NodeLine) : Type 0 where
   pub range : IsWrittenInterval l.range
   pub error : IsWrittenInterval l.error
   pub form : IsFormIfAny v templates error_templates n l.form
 
--- behind the word of a line
+-- part_behind the word of a line
 abbrev boxes : NodeLine → Line
 boxes l = interval_fields l.range ++ interval_fields l.error
 
@@ -177,11 +177,11 @@ form_takes v templates error_templates line f small small_errors e =
       range_by = r.0;
       error_by = s.0;
     } ≡ f = cc in
-    let errors : r.1 ≡ by_fields s.0 = behind (by_fields s.0) ts.0 (ended_is s.1 d hd) ∙ append-nil (by_fields s.0) in
+    let errors : r.1 ≡ by_fields s.0 = part_behind (by_fields s.0) ts.0 (ended_is s.1 d hd) ∙ append-nil (by_fields s.0) in
     let fields =
-    front ta.0 (front tb.0 (behind (map dyadic_text c.0) tc.0
-    (behind (interval_fields p.0) tp.0
-    (behind (interval_fields q.0) tq.0 (behind (by_fields r.0) tr.0 errors))))) in
+    front ta.0 (front tb.0 (part_behind (map dyadic_text c.0) tc.0
+    (part_behind (interval_fields p.0) tp.0
+    (part_behind (interval_fields q.0) tq.0 (part_behind (by_fields r.0) tr.0 errors))))) in
     subst (λ f. (line ≡ form_fields f) × IsWrittenForm v templates error_templates f) made (
       fields ∙ sym (form_parts (record {
         centre_a = a.0;
@@ -240,9 +240,9 @@ clean_form v templates error_templates f small small_errors h =
       ),
     )
 
--- behind plain
+-- part_behind plain
 plain_takes : (v templates error_templates n : ℕ) (line : Line) (l : NodeLine) → plain_at line ≡ Ok l →
-    (codes "plain" ∷ line ≡ node_fields l l.form) × IsNode v templates error_templates n l
+    (codes "plain" ∷ line ≡ node_fields l l.form) × IsNodeLine v templates error_templates n l
 unfolding plain_at
 plain_takes v templates error_templates n line l e =
     on_ok _ _ l e (λ g hg e.
@@ -250,16 +250,16 @@ plain_takes v templates error_templates n line l e =
     on_ok _ _ l e (λ d hd e.
     let tg = interval_takes line g hg in let th = interval_takes g.1 h hh in
     let made : record { range = g.0; error = h.0; form = None } ≡ l = cc in
-    subst (λ l. (codes "plain" ∷ line ≡ node_fields l l.form) × IsNode v templates error_templates n l) made (
+    subst (λ l. (codes "plain" ∷ line ≡ node_fields l l.form) × IsNodeLine v templates error_templates n l) made (
       ap (λ fs. codes "plain" ∷ fs)
-          (behind (interval_fields g.0) tg.0 (behind (interval_fields h.0) th.0 (ended_is h.1 d hd))),
+          (part_behind (interval_fields g.0) tg.0 (part_behind (interval_fields h.0) th.0 (ended_is h.1 d hd))),
       record { range = tg.1; error = th.1; form = tt },
     ))))
 
--- behind form
+-- part_behind form
 formed_takes : (v templates error_templates n : ℕ) (line : Line) (l : NodeLine) → templates < 2 ^ 32 →
     error_templates < 2 ^ 32 → v ≤ n → formed_at v templates error_templates line ≡ Ok l →
-    (codes "form" ∷ line ≡ node_fields l l.form) × IsNode v templates error_templates n l
+    (codes "form" ∷ line ≡ node_fields l l.form) × IsNodeLine v templates error_templates n l
 unfolding formed_at
 formed_takes v templates error_templates n line l small small_errors le e =
     on_ok _ _ l e (λ g hg e.
@@ -268,19 +268,19 @@ formed_takes v templates error_templates n line l small small_errors le e =
     let tg = interval_takes line g hg in let th = interval_takes g.1 h hh in
     let tf = form_takes v templates error_templates h.1 f small small_errors hf in
     let made : record { range = g.0; error = h.0; form = Some f } ≡ l = cc in
-    subst (λ l. (codes "form" ∷ line ≡ node_fields l l.form) × IsNode v templates error_templates n l) made (
-      ap (λ fs. codes "form" ∷ fs) (behind (interval_fields g.0) tg.0 (behind (interval_fields h.0) th.0 tf.0)),
+    subst (λ l. (codes "form" ∷ line ≡ node_fields l l.form) × IsNodeLine v templates error_templates n l) made (
+      ap (λ fs. codes "form" ∷ fs) (part_behind (interval_fields g.0) tg.0 (part_behind (interval_fields h.0) th.0 tf.0)),
       record { range = tg.1; error = th.1; form = (le, tf.1) },
     ))))
 
 pub node_law : (v templates error_templates n : ℕ) → templates < 2 ^ 32 → error_templates < 2 ^ 32 →
-    IsLineOf (node_at v templates error_templates n) (λ l. node_fields l l.form) (IsNode v templates error_templates n)
+    IsLineOf (node_at v templates error_templates n) (λ l. node_fields l l.form) (IsNodeLine v templates error_templates n)
 unfolding node_at plain_at formed_at
 node_law v templates error_templates n small small_errors =
     record { takes = takes; again = λ l h. again l l.form refl h; clean = λ l h. clean l l.form refl h }
   where
     takes : (line : Line) (l : NodeLine) → node_at v templates error_templates n line ≡ Ok l →
-        (line ≡ node_fields l l.form) × IsNode v templates error_templates n l
+        (line ≡ node_fields l l.form) × IsNodeLine v templates error_templates n l
     takes line l e =
         on_ok _ _ l e (λ kind hk e.
         let whole = field_is line kind hk in
@@ -299,7 +299,7 @@ node_law v templates error_templates n small small_errors =
               ]
         ])
 
-    again : (l : NodeLine) (form : Option Form) → l.form ≡ form → IsNode v templates error_templates n l →
+    again : (l : NodeLine) (form : Option Form) → l.form ≡ form → IsNodeLine v templates error_templates n l →
         node_at v templates error_templates n (node_fields l form) ≡ Ok l
     again l None e h =
         rw (
@@ -327,13 +327,13 @@ node_law v templates error_templates n small small_errors =
     word_form : IsField (codes "form")
     word_form = record { spaces = search rules; line_feeds = search rules }
 
-    clean_boxes : (l : NodeLine) → IsNode v templates error_templates n l →
+    clean_boxes : (l : NodeLine) → IsNodeLine v templates error_templates n l →
         AllByRecursion IsField (interval_fields l.range ++ interval_fields l.error)
     clean_boxes l h =
         clean_append (interval_fields l.range) (interval_fields l.error) (clean_interval l.range h.range)
         (clean_interval l.error h.error)
 
-    clean : (l : NodeLine) (form : Option Form) → l.form ≡ form → IsNode v templates error_templates n l →
+    clean : (l : NodeLine) (form : Option Form) → l.form ≡ form → IsNodeLine v templates error_templates n l →
         AreFields (node_fields l form)
     clean l None e h = (word_plain, clean_boxes l h)
     clean l (Some f) e h =

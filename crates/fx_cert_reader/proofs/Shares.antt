@@ -102,9 +102,9 @@ abbrev counted : ℕ → ℕ × Line → Shares
 counted end count = many (share_at end) above count.0 0 count.1
 
 -- so what is read of a count is told by the count up to one more than there are templates
-pub few : (end : ℕ) (line : Line) → end < 2 ^ 32 → shares_at end line ≡ few_shares_at end line
+pub few_shares : (end : ℕ) (line : Line) → end < 2 ^ 32 → shares_at end line ≡ few_shares_at end line
 unfolding shares_at few_shares_at size_at size_up_to
-few end line small = by (field_at line)
+few_shares end line small = by (field_at line)
   where
     positive : (n : ℕ) (rest : Line) (b : Bool) → int_le (pos n) (pos (end + 1)) ≡ b →
         counted end (n, rest) ≡ (cond b (done (n, rest)) (done (end + 1, rest)) >>= counted end)

@@ -101,7 +101,7 @@ seen_in_front f (x ∷ xs) zero d h = refl
 seen_in_front f (x ∷ xs) (suc i) d h =
     let e : suc i + 1 ≡ suc (i + 1) = omega arith in rw e (seen_in_front f xs i d (omega (arith, h)))
 
-pub seen_at : {X Y : Type 0} (f : X → Y) (xs : List X) (i : ℕ) (d : X) → i < length xs →
+seen_at : {X Y : Type 0} (f : X → Y) (xs : List X) (i : ℕ) (d : X) → i < length xs →
     get_or (map f xs) i (f d) ≡ f (get_or xs i d)
 seen_at f [] i d h = absurd (omega (arith, h))
 seen_at f (x ∷ xs) zero d h = refl

@@ -63,8 +63,8 @@ pub record IsFolded {X : Type 0} (none : X) (step : List X → Node →
   pub ordered : IsInPlace i s k node
 
 -- values behind its operands change nothing for a node
-abbrev pub IsKept : {X : Type 0} → (List X → Node → X) → ℕ → ℕ → Type 0
-IsKept {X} step i s =
+abbrev pub IsKeptPair : {X : Type 0} → (List X → Node → X) → ℕ → ℕ → Type 0
+IsKeptPair {X} step i s =
     (ws more : List X) (node : Node) → IsInPlace i s (length ws) node → step ws node ≡ step (ws ++ more) node
 
 -- a fold takes each node's value behind those before it
@@ -81,7 +81,7 @@ pub record AreFolded {X : Type 0} (none : X) (step : List X → Node →
   pub pairs : ArePairs (IsFolded none step i s all) (length ws) nodes rest
 
 pub folded : {X : Type 0} (none : X) (step : List X → Node → X) (after : List Node → List X → List X) (i s : ℕ) →
-    IsFold step after → IsKept step i s →
+    IsFold step after → IsKeptPair step i s →
     (nodes : List Node) (ws : List X) → AreInPlace i s (length ws) nodes →
     AreFolded none step i s nodes ws (after nodes ws)
 folded none step after i s fold kept [] ws h = record { rest = []; is = fold.ends ws ∙ sym (append-nil ws); pairs = tt }

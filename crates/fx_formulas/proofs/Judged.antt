@@ -47,7 +47,7 @@ op_forms fit op None x y f g h j k =
     λ all. h (ap₂ fit j.1 k.1 ∙ (and_parts (formula_fits f && formula_fits g) (fit (formed f) (formed g)) all).1)
 
 -- and of which one doesn't
-pub first_none : (f g : Formula) (b : Bool) → Forms None f → (formula_fits f && formula_fits g && b) ≡ true → ⊥
+first_none : (f g : Formula) (b : Bool) → Forms None f → (formula_fits f && formula_fits g && b) ≡ true → ⊥
 first_none f g b h all = h (three (formula_fits f) (formula_fits g) b all).0
 
 pub second_none : (f g : Formula) (b : Bool) → Forms None g → (formula_fits f && formula_fits g && b) ≡ true → ⊥
@@ -99,7 +99,7 @@ pub point_forms : (x : Dyadic) (f : Formula) → Forms (Some x) f → FormsSpan 
 point_forms x f h =
     (both_again (formula_fits f) (formula_fits f) h.0 h.0, ap (λ (y : Dyadic). record { lo = y; hi = y }) h.1)
 
-pub point_none : (f : Formula) → Forms None f → FormsSpan None (point f)
+point_none : (f : Formula) → Forms None f → FormsSpan None (point f)
 point_none f h = λ all. h (and_parts (formula_fits f) (formula_fits f) all).0
 
 -- every mantissa of both ends fits

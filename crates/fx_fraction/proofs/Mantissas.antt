@@ -65,7 +65,7 @@ short_number_is text tail count whole size places end r some =
     }
 
 -- what the reader of any text gives, of the digits `s` behind the first `count` of the text
-pub record Read (text tail : List ℕ) (count : ℕ) (s : Significant) (places end : ℕ) : Type 0 where
+pub record IsReadMantissa (text tail : List ℕ) (count : ℕ) (s : Significant) (places end : ℕ) : Type 0 where
   pub count_is : count ≡ digit_count text
   pub within : count ≤ length text
   pub short : length text < 2 ^ 63
@@ -78,7 +78,7 @@ pub record Read (text tail : List ℕ) (count : ℕ) (s : Significant) (places e
   pub rest : drop end tail ≡ behind_part tail
 
 pub mantissa_is : (text tail : List ℕ) (count : ℕ) (s : Significant) (places end : ℕ) →
-    Read text tail count s places end → 0 < count + places → IsMantissa text s places (count + end)
+    IsReadMantissa text tail count s places end → 0 < count + places → IsMantissa text s places (count + end)
 mantissa_is text tail count s places end r some =
     let t = tail_is text tail count r.count_is r.tail_is in
     let long = t.long in

@@ -10,9 +10,9 @@ use Rattle.fx_rational.proofs.Lowest.{suc_pred}
 use Rattle.fx_rational.specs.Decimal.{Decimal, decimal_value, quantised}
 
 -- `v << s`
-pub left_is : (v : ℤ) (s : ℕ) → s < 127 → FitsSigned w128 v → FitsSigned w128 (v *ℤ pos (2 ^ s)) →
+pub shifted_left_is : (v : ℤ) (s : ℕ) → s < 127 → FitsSigned w128 v → FitsSigned w128 (v *ℤ pos (2 ^ s)) →
     to_z w128 ((of_z w128 v * 2 ^ s) % 2 ^ 128) ≡ v *ℤ pos (2 ^ s)
-left_is v s lt f g =
+shifted_left_is v s lt f g =
     let p : FitsSigned w128 (pos (2 ^ s)) = record { sfits = pow_below s 127 lt } in
     wrapping_mul_is w128 v (pos (2 ^ s)) f p ∙ int_wrap_fits w128 (v *ℤ pos (2 ^ s)) g
 

@@ -160,15 +160,15 @@ pub unit_fits : (x : ℤ) → unsigned_abs x ≤ 2 ^ 62 * 10 ^ 18 → FitsSigned
 unit_fits (pos n) h = record { sfits = omega arith }
 unit_fits (negsuc n) h = record { sfits = omega arith }
 
-pub sum_fits : (x y : ℤ) → unsigned_abs x ≤ 2 ^ 62 * 10 ^ 18 → unsigned_abs y ≤ 2 ^ 62 * 10 ^ 18 →
+pub short_sum_fits : (x y : ℤ) → unsigned_abs x ≤ 2 ^ 62 * 10 ^ 18 → unsigned_abs y ≤ 2 ^ 62 * 10 ^ 18 →
     FitsSigned w128 (x +ℤ y)
-sum_fits x y h k =
+short_sum_fits x y h k =
     fits_between (x +ℤ y) (omega (arith, ints, in_bounds x h, in_bounds y k))
     (omega (arith, ints, in_bounds x h, in_bounds y k))
 
-pub difference_fits : (x y : ℤ) → unsigned_abs x ≤ 2 ^ 62 * 10 ^ 18 → unsigned_abs y ≤ 2 ^ 62 * 10 ^ 18 →
+pub short_difference_fits : (x y : ℤ) → unsigned_abs x ≤ 2 ^ 62 * 10 ^ 18 → unsigned_abs y ≤ 2 ^ 62 * 10 ^ 18 →
     FitsSigned w128 (x -ℤ y)
-difference_fits x y h k =
+short_difference_fits x y h k =
     fits_between (x -ℤ y) (omega (arith, ints, in_bounds x h, in_bounds y k))
     (omega (arith, ints, in_bounds x h, in_bounds y k))
 

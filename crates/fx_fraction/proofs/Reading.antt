@@ -142,30 +142,30 @@ read_is text body s places end z r b m e gives =
     ∙ ap (λ (xs : List ℕ). decimal_from (unsigned_of (sign_of text) xs)) b
 
 -- the exponent that is kept
-pub record IsNear (z : ℤ) : Type 0 where
+pub record IsNearWord (z : ℤ) : Type 0 where
   pub low : negsuc (2 ^ 64) ≤ℤ z
   pub high : z ≤ℤ pos (2 ^ 64)
 
-signed_near : (b : Bool) (v : ℕ) → IsNear (signed b (saturated v))
+signed_near : (b : Bool) (v : ℕ) → IsNearWord (signed b (saturated v))
 signed_near true v = record { low = omega (arith, ints); high = omega (arith, ints) }
 signed_near false v = record { low = omega (arith, ints); high = omega (arith, ints) }
 
-near : (p : Option Power) → IsNear (kept_exponent p)
+near : (p : Option Power) → IsNearWord (kept_exponent p)
 near None = record { low = omega (arith, ints); high = omega (arith, ints) }
 near (Some p) = signed_near (is_minus p.sign) (digits_value 10 p.digits)
 
-pub exponent_near : (text : List ℕ) (z : ℤ) → exponent_kept text ≡ Some z → IsNear z
-exponent_near text z e = let p = some_mapped kept_exponent (power_of text) z e in subst IsNear p.2 (near p.0)
+pub exponent_near : (text : List ℕ) (z : ℤ) → exponent_kept text ≡ Some z → IsNearWord z
+exponent_near text z e = let p = some_mapped kept_exponent (power_of text) z e in subst IsNearWord p.2 (near p.0)
 
 -- the places less the exponent, in 128 bits
-abbrev pub in_128 : ℕ → ℤ → ℤ
-in_128 places z = to_z w128 (of_z w128 (to_z w128 places -ℤ to_z w128 (of_z w128 z)))
+abbrev pub number_in_128 : ℕ → ℤ → ℤ
+number_in_128 places z = to_z w128 (of_z w128 (to_z w128 places -ℤ to_z w128 (of_z w128 z)))
 
-pub places_is : (places : ℕ) (z : ℤ) → places < 2 ^ 63 → IsNear z → in_128 places z ≡ pos places -ℤ z
+pub places_is : (places : ℕ) (z : ℤ) → places < 2 ^ 63 → IsNearWord z → number_in_128 places z ≡ pos places -ℤ z
 places_is places z short n = let l = n.low in let h = n.high in omega (arith, ints)
 
-pub places_near : (places : ℕ) (z : ℤ) → places < 2 ^ 63 → IsNear z →
-    (negsuc (2 ^ 65) ≤ℤ in_128 places z) × (in_128 places z ≤ℤ pos (2 ^ 65))
+pub places_near : (places : ℕ) (z : ℤ) → places < 2 ^ 63 → IsNearWord z →
+    (negsuc (2 ^ 65) ≤ℤ number_in_128 places z) × (number_in_128 places z ≤ℤ pos (2 ^ 65))
 places_near places z short n =
     let l = n.low in
     let h = n.high in

@@ -28,7 +28,7 @@ joined a m d r two five h =
     grind arith in
     before ∙ ap (λ (k : ℕ). a * ((two * five) * 10) + k * five) h ∙ behind
 
-pub one_more : (a m n d r : ℕ) → 5 * m ≡ d * 2 ^ n + r →
+one_more : (a m n d r : ℕ) → 5 * m ≡ d * 2 ^ n + r →
     a * 10 ^ suc n + m * 5 ^ suc n ≡ (a * 10 + d) * 10 ^ n + r * 5 ^ n
 one_more a m n d r h =
     ap (λ (k : ℕ). a * k + m * 5 ^ suc n) (pow-suc 10 n ∙ ap (λ (k : ℕ). k * 10) (tens n))
@@ -73,7 +73,7 @@ some_rest m ends odd e =
     let p = pow_pos ends in let k = mul-le 1 1 m (2 ^ ends) (omega (arith, odd)) p in omega (arith, e, k)
 
 -- ---- all digits
-pub spelled : (a n ends m : ℕ) → 0 < a → m < 2 ^ n → (0 < n → m % 2 ≡ 1) → a * 10 ^ n + m * 5 ^ n < 2 ^ 64
+spelled : (a n ends m : ℕ) → 0 < a → m < 2 ^ n → (0 < n → m % 2 ≡ 1) → a * 10 ^ n + m * 5 ^ n < 2 ^ 64
     → decimal (a * 10 ^ n + m * 5 ^ n) ≡ decimal a ++ glyphs (digits_after (n + ends) (m * 2 ^ ends))
 spelled a zero ends m some below odd small =
     let z : m ≡ 0 = omega (arith, below) in

@@ -12,7 +12,7 @@ use Rattle.fx_model.specs.Tree.{at}
 use Rattle.fx_word.specs.Words.{IsSomeWord}
 use Rattle.fx_machine.specs.Codes.{Computes, IsUnstuckCode, word_of}
 use Rattle.fx_machine.proofs.Alone.{alone, goes_alone}
-use Rattle.fx_machine.proofs.Codes.{Runs, runs_neg, runs_add, runs_sub, runs_mul, runs_div, runs_copy, runs_const, runs_input, at_map_any}
+use Rattle.fx_machine.proofs.Codes.{RunsCode, runs_neg, runs_add, runs_sub, runs_mul, runs_div, runs_copy, runs_const, runs_input, at_map_any}
 use Rattle.fx_lanes.specs.WordsSideBySide.{added, subtracted, multiplied, divided, copied}
 use Rattle.fx_lanes.specs.RowsSideBySide.{AreWordsAt, AreWordsOf, GoesInLanes, row_at, lane}
 use Rattle.fx_lanes.proofs.Sixteen.{side_at, sides_all, each_all, some_at, row_number, row_length, replicate_at}
@@ -32,7 +32,7 @@ module _ {n : ℕ} {code : Code} {vs : List (List ℤ)} (goes : GoesInLanes n co
     pub are : {r : List ℤ} → r ≡ ws → AreWordsOf n code vs r
 
   each : (f : ℤ → ℤ) (x : List ℤ) → length x ≡ 16 →
-      ((k : ℕ) → k < 16 → Runs n code [] [] (lane k vs) (f (at (pos 0) x k))) → Made (map f x)
+      ((k : ℕ) → k < 16 → RunsCode n code [] [] (lane k vs) (f (at (pos 0) x k))) → Made (map f x)
   each f x many run = record {
     fits = each_all (IsWord n) f x many (λ k lt. (run k lt).fits);
     are = λ e. record {
@@ -42,7 +42,7 @@ module _ {n : ℕ} {code : Code} {vs : List (List ℤ)} (goes : GoesInLanes n co
   }
 
   both : (f : ℤ → ℤ → ℤ) (x y : List ℤ) → length x ≡ 16 → length y ≡ 16 →
-      ((k : ℕ) → k < 16 → Runs n code [] [] (lane k vs) (f (at (pos 0) x k) (at (pos 0) y k))) → Made (zip2 f x y)
+      ((k : ℕ) → k < 16 → RunsCode n code [] [] (lane k vs) (f (at (pos 0) x k) (at (pos 0) y k))) → Made (zip2 f x y)
   both f x y mx my run = record {
     fits = sides_all (IsWord n) f x y mx my (λ k lt. (run k lt).fits);
     are = λ e. record {

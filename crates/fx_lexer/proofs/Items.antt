@@ -50,7 +50,7 @@ there (x ∷ text) zero lt = omega arith
 there (x ∷ text) (suc k) lt = let h = there text k lt in omega arith
 
 -- a run of ASCII bytes is cut between characters
-pub run_is : (p : ℕ → Bool) (ascii : (c : ℕ) → p c ≡ true → c < 128) (xs : List ℕ) → 0 < length xs →
+run_is : (p : ℕ → Bool) (ascii : (c : ℕ) → p c ≡ true → c < 128) (xs : List ℕ) → 0 < length xs →
     p (get_or xs 0 0) ≡ true → IsItem xs (prefix_len p xs)
 run_is p ascii xs lt e =
     let b = begins p xs lt e in

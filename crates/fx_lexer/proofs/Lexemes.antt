@@ -11,24 +11,24 @@ use Rattle.fx_lexer.proofs.Items.{IsItem}
 use Rattle.fx_lexer.specs.Tokens.{Lexeme, Lexemes, before, first_item, lexeme_of, place_of, tokens_from, tokens_of}
 
 -- tokens before what the rest gives
-abbrev pub with_front : List Lexeme → Lexemes → Lexemes
-with_front front (Ok ts) = Ok (front ++ ts)
-with_front front (Err e) = Err e
+abbrev pub with_front_lexemes : List Lexeme → Lexemes → Lexemes
+with_front_lexemes front (Ok ts) = Ok (front ++ ts)
+with_front_lexemes front (Err e) = Err e
 
 -- the loop has these tokens, and what it makes of the rest is the whole
 pub record IsOn (front : List Lexeme) (at : ℕ) (fresh : Bool) (text : List ℕ) (whole : Lexemes) : Type 0 where
   pub items : ℕ
   pub enough : length text ≤ items
-  pub same : with_front front (tokens_from items at fresh text) ≡ whole
+  pub same : with_front_lexemes front (tokens_from items at fresh text) ≡ whole
 
 -- a token moves over to the front
 regroup : (front : List Lexeme) (t : Lexeme) (r : Lexemes) →
-    with_front front (before t r) ≡ with_front (front ++ t ∷ []) r
+    with_front_lexemes front (before t r) ≡ with_front_lexemes (front ++ t ∷ []) r
 regroup front t (Ok ts) = ap (λ (us : List Lexeme). Ok us) (sym (append_assoc front (t ∷ []) ts))
 regroup front t (Err e) = refl
 
 -- none before
-no_front : (r : Lexemes) → with_front [] r ≡ r
+no_front : (r : Lexemes) → with_front_lexemes [] r ≡ r
 no_front (Ok ts) = refl
 no_front (Err e) = refl
 
@@ -49,14 +49,14 @@ module _ (front : List Lexeme) (at : ℕ) (fresh : Bool) (whole : Lexemes) where
   takes [] item kind some e k lt h = absurd (omega arith)
   takes (c ∷ cs) item kind some e k lt h = by h.items h.enough h.same
     where
-      by : (items : ℕ) → length (c ∷ cs) ≤ items → with_front front (tokens_from items at fresh (c ∷ cs)) ≡ whole
+      by : (items : ℕ) → length (c ∷ cs) ≤ items → with_front_lexemes front (tokens_from items at fresh (c ∷ cs)) ≡ whole
           → IsOn (front ++ record { kind = kind; text = take item.len (c ∷ cs); at = at; fresh = fresh } ∷ [])
           (at + item.len) false (drop item.len (c ∷ cs)) whole
       by zero le same = absurd (omega arith)
       by (suc items) le same =
           let after = tokens_from items (at + item.len) false (drop item.len (c ∷ cs)) in
           let t : Lexeme = record { kind = kind; text = take item.len (c ∷ cs); at = at; fresh = fresh } in
-          let one : with_front front (tokens_from (suc items) at fresh (c ∷ cs)) ≡ with_front front (before t after) =
+          let one : with_front_lexemes front (tokens_from (suc items) at fresh (c ∷ cs)) ≡ with_front_lexemes front (before t after) =
           rw (e, k) refl in
           record {
             items = items;
@@ -73,13 +73,13 @@ module _ (front : List Lexeme) (at : ℕ) (fresh : Bool) (whole : Lexemes) where
   skips [] item some e k lt h = absurd (omega arith)
   skips (c ∷ cs) item some e k lt h = by h.items h.enough h.same
     where
-      by : (items : ℕ) → length (c ∷ cs) ≤ items → with_front front (tokens_from items at fresh (c ∷ cs)) ≡ whole
+      by : (items : ℕ) → length (c ∷ cs) ≤ items → with_front_lexemes front (tokens_from items at fresh (c ∷ cs)) ≡ whole
           → IsOn front (at + item.len) (fresh || has_line_feed (take item.len (c ∷ cs))) (drop item.len (c ∷ cs)) whole
       by zero le same = absurd (omega arith)
       by (suc items) le same =
           let after = tokens_from items (at + item.len) (fresh ||
           has_line_feed (take item.len (c ∷ cs))) (drop item.len (c ∷ cs)) in
-          let one : with_front front (tokens_from (suc items) at fresh (c ∷ cs)) ≡ with_front front after =
+          let one : with_front_lexemes front (tokens_from (suc items) at fresh (c ∷ cs)) ≡ with_front_lexemes front after =
           rw (e, k) refl in
           record { items = items; enough = omega (arith, length-drop item.len (c ∷ cs)); same = sym one ∙ same }
 
@@ -91,7 +91,7 @@ module _ (front : List Lexeme) (at : ℕ) (fresh : Bool) (whole : Lexemes) where
   fails [] kind end some e ends h = absurd (omega arith)
   fails (c ∷ cs) kind end some e ends h = by h.items h.enough h.same
     where
-      by : (items : ℕ) → length (c ∷ cs) ≤ items → with_front front (tokens_from items at fresh (c ∷ cs)) ≡ whole
+      by : (items : ℕ) → length (c ∷ cs) ≤ items → with_front_lexemes front (tokens_from items at fresh (c ∷ cs)) ≡ whole
           → whole ≡ Err (record { at = place_of kind at end; kind = kind })
       by zero le same = absurd (omega arith)
       by (suc items) le same =
@@ -104,7 +104,7 @@ unfolding tokens_from
 is_over front at fresh (c ∷ cs) whole e h = absurd (omega arith)
 is_over front at fresh [] whole e h = by h.items h.same
   where
-    by : (items : ℕ) → with_front front (tokens_from items at fresh []) ≡ whole → whole ≡ Ok front
+    by : (items : ℕ) → with_front_lexemes front (tokens_from items at fresh []) ≡ whole → whole ≡ Ok front
     by zero same = sym same ∙ ap (λ (ts : List Lexeme). Ok ts) (append-nil front)
     by (suc items) same = sym same ∙ ap (λ (ts : List Lexeme). Ok ts) (append-nil front)
 

@@ -25,7 +25,7 @@ pub record FollowSoFar (h : Frame) (cs : List Code) (n : ℕ) (ps : List ℤ) : 
   pub goes_on : InOrder h [] cs → InOrder h ps (drop n cs)
   pub comes_from : InOrder h ps (drop n cs) → InOrder h [] cs
 
-pub begins : (h : Frame) (cs : List Code) → FollowSoFar h cs 0 []
+begins : (h : Frame) (cs : List Code) → FollowSoFar h cs 0 []
 begins h cs = record {
   count = refl;
   points = All-nil IsPoint;
@@ -35,7 +35,7 @@ begins h cs = record {
 }
 
 -- one more code, c, of the point f
-pub goes_on : {h : Frame} {cs : List Code} {n : ℕ} {ps : List ℤ} (c : Code) (f : ℤ) → FollowSoFar h cs n ps →
+goes_on : {h : Frame} {cs : List Code} {n : ℕ} {ps : List ℤ} (c : Code) (f : ℤ) → FollowSoFar h cs n ps →
     drop n cs ≡ c ∷ drop (n + 1) cs → MayFollow h ps c → f ≡ point_of c ps → FollowSoFar h cs (n + 1) (ps ++ f ∷ [])
 goes_on {h} {cs} {n} {ps} c f s front follows is =
     let same : with_point ps c ≡ ps ++ f ∷ [] = ap (λ (f : ℤ). ps ++ f ∷ []) (sym is) in
@@ -51,7 +51,7 @@ goes_on {h} {cs} {n} {ps} c f s front follows is =
     }
 
 -- a code that may not follow
-pub ends : {h : Frame} {cs : List Code} {n : ℕ} {ps : List ℤ} (c : Code) → FollowSoFar h cs n ps →
+ends : {h : Frame} {cs : List Code} {n : ℕ} {ps : List ℤ} (c : Code) → FollowSoFar h cs n ps →
     drop n cs ≡ c ∷ drop (n + 1) cs → ¬ MayFollow h ps c → ¬ InOrder h [] cs
 ends {h} {cs} {n} {ps} c s front not all = not (subst (InOrder h ps) front (s.goes_on all)).0
 
@@ -74,7 +74,7 @@ ends_behind h codes i d ps qs s lt same not =
     (subst (λ (qs : List ℤ). ¬ MayFollow h qs (code_of (get_or codes i d))) same not)
 
 -- no code is left: all may stand as they do, and these are their points
-pub is_done : {h : Frame} {cs : List Code} {n : ℕ} {ps : List ℤ} → FollowSoFar h cs n ps → length cs ≤ n →
+is_done : {h : Frame} {cs : List Code} {n : ℕ} {ps : List ℤ} → FollowSoFar h cs n ps → length cs ≤ n →
     InOrder h [] cs × (ps ≡ points_of cs)
 is_done {h} {cs} {n} {ps} s le =
     let none = drop_of_length-le cs le in (

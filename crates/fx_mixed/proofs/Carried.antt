@@ -62,7 +62,7 @@ next_counted p ws counts many =
     let a = length-drop p.outputs (drop (first_copy p) ws) in let b = length-drop (first_copy p) ws in omega arith
 
 -- a next state's word is that of its copy
-pub next_at : (p : Program) (ws : List ℤ) (k : ℕ) → HasLawfulCounts p →
+next_at : (p : Program) (ws : List ℤ) (k : ℕ) → HasLawfulCounts p →
     at (pos 0) (step_taken p ws).next k ≡ at (pos 0) ws ((length p.codes - p.states) + k)
 next_at p ws k counts =
     let enough = counts.enough in

@@ -7,7 +7,7 @@ use Rattle.fx_mixed.specs.Packed.{IsPlaced, PlaceLaw, packed_word, place_of, unp
 use Rattle.fx_mixed.specs.Banks.{IsBank, Stored, stored_of}
 
 -- word k of the bank b stands at p, in n bits
-pub record IsFound (b : Inside) (k p n : ℕ) : Type 0 where
+pub record IsFoundPlace (b : Inside) (k p n : ℕ) : Type 0 where
   pub place : p ≡ place_of b.widths.items k
   pub width : n ≡ at 0 b.widths.items k
   pub room : p + n / 8 ≤ length b.bytes.items
@@ -15,7 +15,7 @@ pub record IsFound (b : Inside) (k p n : ℕ) : Type 0 where
 
 -- so it is where a bank's contract says it
 pub found : {b : Inside} {s : Stored} {k p n : ℕ} → PlaceLaw → IsBank b → stored_of b ≡ s → k < length s.widths →
-    p ≡ place_of s.widths k → n ≡ at 0 s.widths k → IsFound b k p n
+    p ≡ place_of s.widths k → n ≡ at 0 s.widths k → IsFoundPlace b k p n
 found {b} {s} {k} {p} {n} law bank view lt ep en =
     let ns = b.widths.items in let bs = b.bytes.items in
     let inside : k < length ns = subst (λ (t : Stored). k < length t.widths) (sym view) lt in
@@ -33,7 +33,7 @@ found {b} {s} {k} {p} {n} law bank view lt ep en =
     }
 
 -- what is written there is that word, and no other changes
-pub set_there : {b : Inside} {k p n : ℕ} {w v : ℤ} {bs : List ℕ} → IsFound b k p n → IsWord (at 0 b.widths.items k) w →
+pub set_there : {b : Inside} {k p n : ℕ} {w v : ℤ} {bs : List ℕ} → IsFoundPlace b k p n → IsWord (at 0 b.widths.items k) w →
     v ≡ w → bs ≡ take p b.bytes.items ++ packed_word n v ++ drop (p + n / 8) b.bytes.items →
     unpacked b.widths.items bs ≡ set (unpacked b.widths.items b.bytes.items) k w
 set_there {b} {k} {w = w} f word ev e =

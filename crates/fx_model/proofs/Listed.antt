@@ -8,5 +8,5 @@ pub next_line : (line : ℕ → List ℕ) (m n : ℕ) → n < m →
 next_line line m n l = let e : m - n ≡ suc (m - (n + 1)) = omega (arith, l) in rw e refl
 
 -- none is left
-pub no_line : (line : ℕ → List ℕ) (m : ℕ) (sent : List ℕ) → sent ++ numbered_lines line m (m - m) ≡ sent
+no_line : (line : ℕ → List ℕ) (m : ℕ) (sent : List ℕ) → sent ++ numbered_lines line m (m - m) ≡ sent
 no_line line m sent = let e : m - m ≡ 0 = omega arith in rw e (append-nil sent)

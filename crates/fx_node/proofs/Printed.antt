@@ -22,7 +22,7 @@ pub record HasRun (p : Program) (before : List Event) (zs : List (List ℤ)) (u 
   pub last : run.last ≡ get_or zs u []
 
 -- and goes on over those to come
-pub record GoesOn (p : Program) (es : List Event) (zs : List (List ℤ)) (u : ℕ) : Type 0 where
+pub record GoesOnBehind (p : Program) (es : List Event) (zs : List (List ℤ)) (u : ℕ) : Type 0 where
   pub run : Run ℤ
   pub on : run_of (machine_step p) (given_values (rows_of es u)) (get_or zs u []) ≡ Some run
 
@@ -50,7 +50,7 @@ record EventStep (p : Program) (e : Event) (es : List Event) (zs : List (List �
   steps : machine_step p (map decimal_value e.row) (get_or zs e.unit []) ≡ Some made
   on : run_of (machine_step p) (given_values (rows_of es e.unit)) made.next ≡ Some later
 
-event_step : (p : Program) (e : Event) (es : List Event) (zs : List (List ℤ)) → GoesOn p (e ∷ es) zs e.unit →
+event_step : (p : Program) (e : Event) (es : List Event) (zs : List (List ℤ)) → GoesOnBehind p (e ∷ es) zs e.unit →
     EventStep p e es zs
 event_step p e es zs h =
     let f =
@@ -98,13 +98,13 @@ module _ (p : Program) (before : List Event) (e : Event) (es : List Event) (zs :
           }
 
   -- and goes on from them
-  goes_on : ((u : ℕ) → u < length zs → GoesOn p (e ∷ es) zs u) → (u : ℕ) → u < length zs → GoesOn p es next u
+  goes_on : ((u : ℕ) → u < length zs → GoesOnBehind p (e ∷ es) zs u) → (u : ℕ) → u < length zs → GoesOnBehind p es next u
   unfolding next
   goes_on on u below = by (e.unit == u) refl
     where
-      by : (b : Bool) → (e.unit == u) ≡ b → GoesOn p es (set zs e.unit s.made.next) u
+      by : (b : Bool) → (e.unit == u) ≡ b → GoesOnBehind p es (set zs e.unit s.made.next) u
       by true t =
-          subst (GoesOn p es (set zs e.unit s.made.next)) (same_unit e.unit u t)
+          subst (GoesOnBehind p es (set zs e.unit s.made.next)) (same_unit e.unit u t)
           record {
             run = s.later;
             on =
@@ -137,7 +137,7 @@ texts ls = concat (map (λ (l : UnitLine). l.text) ls)
 -- the lines by the units' state words are the lines of their runs
 lines_are : (p : Program) (before es : List Event) (zs : List (List ℤ)) → All (λ (e : Event). e.unit < length zs) es →
     ((u : ℕ) → u < length zs → HasRun p before zs u)
-    → ((u : ℕ) → u < length zs → GoesOn p es zs u) → lines_from p es zs ≡ texts (lines_behind p before es)
+    → ((u : ℕ) → u < length zs → GoesOnBehind p es zs u) → lines_from p es zs ≡ texts (lines_behind p before es)
 unfolding lines_from texts next
 lines_are p before [] zs units runs on = refl
 lines_are p before (e ∷ es) zs units runs on =

@@ -7,8 +7,8 @@ use Rattle.fx_rational.specs.Rational.{Rational}
 use Rattle.fx_model.specs.Function.{Run, Step, run_of}
 
 -- a step's outputs before those of the run behind it
-abbrev pub joined : Step ℤ → Run ℤ → Run ℤ
-joined s r = record { outputs = s.outputs ∷ r.outputs; last = r.last }
+abbrev pub joined_run : Step ℤ → Run ℤ → Run ℤ
+joined_run s r = record { outputs = s.outputs ∷ r.outputs; last = r.last }
 
 -- the first step of a run, and the run behind it
 pub record FirstStep (first : Option (Step ℤ)) (behind : Step ℤ → Option (Run ℤ)) (run : Run ℤ) : Type 0 where
@@ -16,17 +16,17 @@ pub record FirstStep (first : Option (Step ℤ)) (behind : Step ℤ → Option (
   pub later : Run ℤ
   pub steps : first ≡ Some made
   pub goes_on : behind made ≡ Some later
-  pub all : joined made later ≡ run
+  pub all : joined_run made later ≡ run
 
 pub first_step : (first : Option (Step ℤ)) (behind : Step ℤ → Option (Run ℤ)) (run : Run ℤ) →
-    option_and_then (λ s. option_map (joined s) (behind s)) first ≡ Some run → FirstStep first behind run
+    option_and_then (λ s. option_map (joined_run s) (behind s)) first ≡ Some run → FirstStep first behind run
 first_step None behind run e = absurd cc
 first_step (Some s) behind run e = second (behind s) refl e
   where
-    second : (o : Option (Run ℤ)) → behind s ≡ o → option_map (joined s) o ≡ Some run → FirstStep (Some s) behind run
+    second : (o : Option (Run ℤ)) → behind s ≡ o → option_map (joined_run s) o ≡ Some run → FirstStep (Some s) behind run
     second None h e = absurd cc
     second (Some later) h e =
-        record { made = s; later = later; steps = refl; goes_on = h; all = same_Some (joined s later) run e }
+        record { made = s; later = later; steps = refl; goes_on = h; all = same_Some (joined_run s later) run e }
 
 module _ (step : List Rational → List ℤ → Option (Step ℤ)) where
   -- a run, and one step more

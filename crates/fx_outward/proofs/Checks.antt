@@ -57,10 +57,10 @@ if_fitting_some g e b claims p q k is =
         ∙ ap (λ (i : Interval). list_all fits (claims i)) k.0)
 
 -- ---- words
-pub word_high : (w f : ℤ) (k : ℕ) (o : Option Dyadic) → f ≡ pos k → Forms o (Num (dyadic w k)) → Forms o (word_at w f)
+word_high : (w f : ℤ) (k : ℕ) (o : Option Dyadic) → f ≡ pos k → Forms o (Num (dyadic w k)) → Forms o (word_at w f)
 word_high w f k o e h = subst (λ (z : ℤ). Forms o (word_at w z)) (sym e) h
 
-pub word_low : (w f : ℤ) (k : ℕ) (o : Option Dyadic) → f ≡ negsuc k →
+word_low : (w f : ℤ) (k : ℕ) (o : Option Dyadic) → f ≡ negsuc k →
     Forms o (Num (record { m = w *ℤ pos (2 ^ suc k); e = 0 })) → Forms o (word_at w f)
 word_low w f k o e h = subst (λ (z : ℤ). Forms o (word_at w z)) (sym e) h
 

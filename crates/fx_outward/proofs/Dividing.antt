@@ -54,11 +54,11 @@ ratio_bottom a b h =
     ∙ ap (λ (k : ℕ). k * unsigned_abs b.m) (power_bottom a.e)
     ∙ (let e : 2 ^ a.e * unsigned_abs b.m ≡ unsigned_abs b.m * 2 ^ a.e = omega arith in e)
 
-pub below_end : (a b : Dyadic) (f : ℤ) → 0 < unsigned_abs b.m →
+pub quotient_below_end : (a b : Dyadic) (f : ℤ) → 0 < unsigned_abs b.m →
     lowest_dyadic (floor_div ((a.m *ℤ pos (2 ^ b.e)) *ℤ pos (2 ^ error_grid f)) (unsigned_abs b.m * 2 ^ a.e) -ℤ pos
     (units_below f)) (error_grid f)
     ≡ grid_down (error_grid f) (minus (ratio (dyadic_value a) (dyadic_value b)) (unit_value f))
-below_end a b f h =
+quotient_below_end a b f h =
     let e = error_grid f in
     ap₂ (λ (z : ℤ) (k : ℕ). lowest_dyadic (floor_div (z *ℤ pos (2 ^ e)) k -ℤ pos (units_below f)) e)
     (sym (ratio_top a b)) (sym (ratio_bottom a b h)) ∙ exact_down (ratio (dyadic_value a) (dyadic_value b)) f
@@ -69,9 +69,9 @@ turned_floor a b f =
     lowest_dyadic (floor_div ((neg_ℤ a.m *ℤ pos (2 ^ b.e)) *ℤ pos (2 ^ error_grid f))
     (unsigned_abs b.m * 2 ^ a.e) -ℤ pos (units_below f)) (error_grid f)
 
-pub above_end : (a b : Dyadic) (f : ℤ) → 0 < unsigned_abs b.m →
+pub quotient_above_end : (a b : Dyadic) (f : ℤ) → 0 < unsigned_abs b.m →
     turned (turned_floor a b f) ≡ grid_up (error_grid f) (plus (ratio (dyadic_value a) (dyadic_value b)) (unit_value f))
-above_end a b f h =
+quotient_above_end a b f h =
     let e = error_grid f in
     ap₂ (λ (z : ℤ) (k : ℕ). turned (lowest_dyadic (floor_div (z *ℤ pos (2 ^ e)) k -ℤ pos (units_below f)) e))
     (neg_ℤ-*ℤ a.m (pos (2 ^ b.e)) ∙ ap neg_ℤ (sym (ratio_top a b))) (sym (ratio_bottom a b h))

@@ -25,8 +25,8 @@ spread q d k r = by_quotes {ρ = q ∷ d ∷ k ∷ r ∷ []} (search quotes dept
 abbrev pub left_of : ℤ → ℕ → ℕ
 left_of v d = unsigned_abs (v -ℤ floor_div v d *ℤ pos d)
 
-pub left_is : (v : ℤ) (d : ℕ) → 0 < d → (v ≡ floor_div v d *ℤ pos d +ℤ pos (left_of v d)) × (left_of v d < d)
-left_is v d some = by (v -ℤ floor_div v d *ℤ pos d) refl
+pub remainder_is : (v : ℤ) (d : ℕ) → 0 < d → (v ≡ floor_div v d *ℤ pos d +ℤ pos (left_of v d)) × (left_of v d < d)
+remainder_is v d some = by (v -ℤ floor_div v d *ℤ pos d) refl
   where
     by : (z : ℤ) → v -ℤ floor_div v d *ℤ pos d ≡ z →
         (v ≡ floor_div v d *ℤ pos d +ℤ pos (unsigned_abs z)) × (unsigned_abs z < d)
@@ -36,7 +36,7 @@ left_is v d some = by (v -ℤ floor_div v d *ℤ pos d) refl
 
 pub cancelled : (v : ℤ) (d k : ℕ) → 0 < d → 0 < k → floor_div (v *ℤ pos k) (d * k) ≡ floor_div v d
 cancelled v d k some more =
-    let h = left_is v d some in let r = left_of v d in
+    let h = remainder_is v d some in let r = left_of v d in
     floor_only (v *ℤ pos k) (floor_div v d) (d * k) (r * k) (ap (λ (z : ℤ). z *ℤ pos k) h.0
     ∙ spread (floor_div v d) (pos d) (pos k) (pos r)) (mul-lt-mul_of_pos_right {m = r} {n = d} {k = k} h.1 more)
 
@@ -49,7 +49,7 @@ joined_less h l p q a b = let m = mul-le (suc h) p q p a (omega arith) in omega 
 
 pub nested : (v : ℤ) (d k : ℕ) → 0 < d → 0 < k → floor_div v (d * k) ≡ floor_div (floor_div v d) k
 nested v d k some more =
-    let h = left_is v d some in let g = left_is (floor_div v d) k more in let r = left_of v d in
+    let h = remainder_is v d some in let g = remainder_is (floor_div v d) k more in let r = left_of v d in
     let s = left_of (floor_div v d) k in let q = floor_div (floor_div v d) k in
     let less : s * d + r < d * k = let l = joined_less s r d k g.1 h.1 in omega (arith, l) in
     floor_only v q (d * k) (s * d + r) (h.0 ∙ ap (λ (z : ℤ). z *ℤ pos d +ℤ pos r) g.0

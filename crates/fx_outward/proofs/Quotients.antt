@@ -15,8 +15,8 @@ use Rattle.fx_bounds.proofs.Claims.{positive_above, negative_above, both_left, b
 use Rattle.fx_outward.specs.Narrow.{ratio, lesser_value, greater_value, positive_bounds, quotient_bounds, is_apart, span_bounds, Bounds}
 
 -- ---- tests
-pub both : {a b : Bool} → a ≡ true → b ≡ true → (a && b) ≡ true
-both p q = rw (p, q) refl
+pub both_true : {a b : Bool} → a ≡ true → b ≡ true → (a && b) ≡ true
+both_true p q = rw (p, q) refl
 
 -- ---- the lesser and the greater of two
 pub below_lesser : (x a b : Rational) → AtMost x (lesser_value a b) ↔ (AtMost x a × AtMost x b)
@@ -66,14 +66,14 @@ pub record Around (c : Span) (b : Bounds) : Type 0 where
 
 pub around_inside : (s c : Span) → Around c (span_bounds s) ↔ (list_all holds (inside s c) ≡ true)
 around_inside s c = (
-  λ h. both (at_most_holds h.low) (both (at_most_holds h.high) refl),
+  λ h. both_true (at_most_holds h.low) (both_true (at_most_holds h.high) refl),
   λ h. record {
     low = at_most_true _ _ (both_left _ _ h);
     high = at_most_true _ _ (both_left _ _ (both_right (holds (Below c.lo s.lo)) _ h));
   },
 )
 
--- both ends above zero
+-- both_true ends above zero
 pub record IsAbove (b : Span) : Type 0 where
   pub lo : Above (formula_value b.lo)
   pub hi : Above (formula_value b.hi)
@@ -97,9 +97,9 @@ positive_around a b c above =
     let k2 = Below a.hi (Product c.hi b.lo) in
     let k3 = Below a.hi (Product c.hi b.hi) in (
       λ h. let p = l.0 h.low in let q = g.0 h.high in
-          both (at_most_holds (l0.0 p.0))
-          (both (at_most_holds (l1.0 p.1))
-          (both (at_most_holds (g0.0 q.0)) (both (at_most_holds (g1.0 q.1)) refl))),
+          both_true (at_most_holds (l0.0 p.0))
+          (both_true (at_most_holds (l1.0 p.1))
+          (both_true (at_most_holds (g0.0 q.0)) (both_true (at_most_holds (g1.0 q.1)) refl))),
       λ h.
           let r1 = both_right (holds k0) (list_all holds (k1 ∷ k2 ∷ k3 ∷ [])) h in
           let r2 = both_right (holds k1) (list_all holds (k2 ∷ k3 ∷ [])) r1 in
@@ -130,7 +130,7 @@ flipped_lo b h =
     (by_quotes {ρ = formula_value b.lo ∷ []} {b = minus (whole (pos 0)) (formula_value b.lo)} (search quotes depth 20)
     (search quotes depth 20) refl))
 
--- what a test of both ends says
+-- what a test of both_true ends says
 apart_parts : (p q r s : Bool) → ((p && q) || (r && s)) ≡ true → ((p ≡ true) × (q ≡ true)) ⊎ ((r ≡ true) × (s ≡ true))
 apart_parts true true r s e = inl (refl, refl)
 apart_parts true false r s e = inr (both_left r s e, both_right r s e)

@@ -88,7 +88,7 @@ bounded : (z : ℤ) → unsigned_abs z < 2 ^ 126 → (neg_ℤ (pos (2 ^ 126)) �
 bounded (pos n) l = (omega (arith, ints, l), omega (arith, ints, l))
 bounded (negsuc n) l = (omega (arith, ints, l), omega (arith, ints, l))
 
-pub sum_in : (a b : ℤ) → unsigned_abs a < 2 ^ 126 → unsigned_abs b < 2 ^ 126 → fits_128 (a +ℤ b) ≡ true
+sum_in : (a b : ℤ) → unsigned_abs a < 2 ^ 126 → unsigned_abs b < 2 ^ 126 → fits_128 (a +ℤ b) ≡ true
 sum_in a b h k =
     let p = bounded a h in let q = bounded b k in let pl = p.0 in let ph = p.1 in let ql = q.0 in let qh = q.1 in
     fits_in (a +ℤ b) (record { low = omega (arith, ints, pl, ql); high = omega (arith, ints, ph, qh) })

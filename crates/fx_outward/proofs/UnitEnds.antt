@@ -16,7 +16,7 @@ use Rattle.fx_outward.specs.Exact.{scaled_top, scaled_bottom, unit_bottom}
 use Rattle.fx_outward.specs.Wide.{units_below}
 use Rattle.fx_outward.proofs.Ends.{floor_only, turned, trimmed_neg}
 use Rattle.fx_outward.proofs.Exacts.{over_down, unit_some, input_value}
-use Rattle.fx_outward.proofs.LongDivision.{left_of, left_is, cancelled}
+use Rattle.fx_outward.proofs.LongDivision.{left_of, remainder_is, cancelled}
 use Rattle.fx_outward.proofs.Quotients.{below_lesser, above_greater, below_ratio, above_ratio, ratio_back}
 use Rattle.fx_outward.proofs.Spelling.{down_same}
 
@@ -26,7 +26,7 @@ move q d r u = int.by_quotes {ρ = q ∷ d ∷ r ∷ u ∷ []} (search int.quote
 
 floor_less : (v : ℤ) (d u : ℕ) → 0 < d → floor_div (v -ℤ pos u *ℤ pos d) d ≡ floor_div v d -ℤ pos u
 floor_less v d u some =
-    let h = left_is v d some in let r = left_of v d in
+    let h = remainder_is v d some in let r = left_of v d in
     floor_only (v -ℤ pos u *ℤ pos d) (floor_div v d -ℤ pos u) d r (ap (λ (z : ℤ). z -ℤ pos u *ℤ pos d) h.0
     ∙ move (floor_div v d) (pos d) (pos r) (pos u)) h.1
 

@@ -22,7 +22,7 @@ on_when true r s y e f g = f refl e
 on_when false r s y e f g = g refl e
 
 -- a choice of an Ok and a fault
-pub passed : {A E : Type 0} (b : Bool) (x y : A) (f : E) → cond b (Ok x) (Err f) ≡ Ok y → (b ≡ true) × (x ≡ y)
+passed : {A E : Type 0} (b : Bool) (x y : A) (f : E) → cond b (Ok x) (Err f) ≡ Ok y → (b ≡ true) × (x ≡ y)
 passed true x y f e = (refl, cc)
 passed false x y f e = absurd cc
 

@@ -32,7 +32,7 @@ good_tree : (i k m : ℕ) (t : Option Tree) (h n : ℕ) → IsTree i k m t h n �
 good_tree i k m None h n p e = let apart : (h ≡ 201) → ⊥ = search (rules, tests) in absurd (apart p)
 good_tree i k m (Some t) h n p e = (p.0, omega (arith, p.1, p.2), p.3)
 
-pub record IsBody (b : Body) : Type 0 where
+pub record IsSoundBody (b : Body) : Type 0 where
   pub names : length b.names ≡ b.inputs + b.states + length b.temps
   pub temps : length b.temps ≤ 1000
   pub back : ReferBack b.inputs b.states 0 b.temps
@@ -40,12 +40,12 @@ pub record IsBody (b : Body) : Type 0 where
   pub named : All (λ t. IsName t.name) b.temps
   pub nodes : b.nodes ≡ counted_nodes (temp_nodes b.temps)
 
-read_ok : (end : ℕ) (b : Body) (outside : Bool) (ts : Tokens) (x : Operand × Tokens) → IsBody b → AreSound ts →
+read_ok : (end : ℕ) (b : Body) (outside : Bool) (ts : Tokens) (x : Operand × Tokens) → IsSoundBody b → AreSound ts →
     expr_at (known_of end b) outside 200 ts ≡ Ok x
     → IsOperand b.inputs b.states (length b.temps) x.0 × AreSound x.1
 read_ok end b outside ts x p s e = expr_ok (known_of end b) (length b.temps) p.names outside 200 ts x s e
 
-whole_ok : (end : ℕ) (b : Body) (ts : Tokens) (x : Operand × Tokens) → IsBody b → AreSound ts → whole_at end b ts ≡ Ok x
+whole_ok : (end : ℕ) (b : Body) (ts : Tokens) (x : Operand × Tokens) → IsSoundBody b → AreSound ts → whole_at end b ts ≡ Ok x
     → IsGood b.inputs b.states (length b.temps) (tree_or x.0.tree) x.0.nodes × AreSound x.1
 unfolding whole_at
 whole_ok end b ts x p s e = on_ok _ _ x e (λ y ye e. on_if (is_high y.0) _ _ x e (λ on e. absurd cc) (λ off e.
@@ -80,8 +80,8 @@ typed_ok end ts us s e = on_if (next_head ts ==ₕ heads.Colon) _ _ us e
     (λ r re e. subst AreSound (same_ok r.1 us e) (real_ok end (drop 1 ts) r (sound_drop 1 ts s) re)))
     (λ off e. subst AreSound (same_ok ts us e) s)
 
-with_temp_ok : (b : Body) (name : Text) (x : Operand) → length b.temps + 1 ≤ 1000 → IsName name → IsBody b →
-    IsGood b.inputs b.states (length b.temps) (tree_or x.tree) x.nodes → IsBody (with_temp b name x)
+with_temp_ok : (b : Body) (name : Text) (x : Operand) → length b.temps + 1 ≤ 1000 → IsName name → IsSoundBody b →
+    IsGood b.inputs b.states (length b.temps) (tree_or x.tree) x.nodes → IsSoundBody (with_temp b name x)
 with_temp_ok b name x few n p g =
     let t : model.Temp = record { name = name; tree = tree_or x.tree } in
     record {
@@ -98,8 +98,8 @@ with_temp_ok b name x few n p g =
 abbrev Same : Body → Body → Type 0
 Same b c = (c.inputs ≡ b.inputs) × (c.states ≡ b.states)
 
-val_ok : (end : ℕ) (b : Body) (ts : Tokens) (x : Body × Tokens) → IsBody b → AreSound ts → val_at end b ts ≡ Ok x →
-    (IsBody x.0 × Same b x.0) × AreSound x.1
+val_ok : (end : ℕ) (b : Body) (ts : Tokens) (x : Body × Tokens) → IsSoundBody b → AreSound ts → val_at end b ts ≡ Ok x →
+    (IsSoundBody x.0 × Same b x.0) × AreSound x.1
 unfolding val_at
 val_ok end b ts x p s e =
     on_ok _ _ x e (λ t te e. on_ok _ _ x e
@@ -108,14 +108,14 @@ val_ok end b ts x p s e =
     let v = want_ok end heads.Equals c q (typed_ok end t.1 c w.2 ce) qe in
     let r = whole_ok end b q.1 y p v.2 ye in
     let few = free_ok 1000 (length b.temps) b.names t.0 u p.temps ue in
-    subst (λ (z : Body × Tokens). (IsBody z.0 × Same b z.0) ×
+    subst (λ (z : Body × Tokens). (IsSoundBody z.0 × Same b z.0) ×
     AreSound z.1) (same_ok (with_temp b t.0.text y.0, past_semicolon y.1) x e)
     ((with_temp_ok b t.0.text y.0 few (is_name t.0 w.0 w.1) p r.0, (refl, refl)), sound_semicolon y.1 r.1))))))
 
-pub vals_ok : (end : ℕ) (b : Body) (ts : Tokens) (x : Body × Tokens) → IsBody b → AreSound ts → vals_at end b ts ≡ Ok x →
-    (IsBody x.0 × Same b x.0) × AreSound x.1
+pub vals_ok : (end : ℕ) (b : Body) (ts : Tokens) (x : Body × Tokens) → IsSoundBody b → AreSound ts → vals_at end b ts ≡ Ok x →
+    (IsSoundBody x.0 × Same b x.0) × AreSound x.1
 unfolding vals_at
-vals_ok end b ts x p s e = repeat_ok (λ c. IsBody c × Same b c) (stands_next heads.Val) (behind (val_at end))
+vals_ok end b ts x p s e = repeat_ok (λ c. IsSoundBody c × Same b c) (stands_next heads.Val) (behind (val_at end))
     (λ c ts x p s e. let r = val_ok end c (drop 1 ts) x p.0 (sound_drop 1 ts s) e in
     ((r.0.0, (r.0.1.0 ∙ p.1.0, r.0.1.1 ∙ p.1.1)), r.1))
     (suc (length ts)) b ts x (p, (refl, refl)) s e
@@ -125,7 +125,7 @@ pub record AreResults (b : Body) (r : Results) : Type 0 where
   pub low : All IsLow r.trees
   pub nodes : r.nodes ≡ counted_nodes (temp_nodes b.temps + all_tree_nodes r.trees)
 
-single_ok : (end word : ℕ) (b : Body) (ts : Tokens) (x : Results × Tokens) → IsBody b → AreSound ts →
+single_ok : (end word : ℕ) (b : Body) (ts : Tokens) (x : Results × Tokens) → IsSoundBody b → AreSound ts →
     single_at end word b ts ≡ Ok x → ((length x.0.trees ≡ 1) × AreResults b x.0) × AreSound x.1
 unfolding single_at
 single_ok end word b ts x p s e = on_ok _ _ x e (λ y ye e. on_if (is_high y.0) _ _ x e (λ on e. absurd cc) (λ off e.
@@ -144,7 +144,7 @@ single_ok end word b ts x p s e = on_ok _ _ x e (λ y ye e. on_if (is_high y.0) 
       r.1,
     )))
 
-element_ok : (end first reals : ℕ) (b : Body) (r : Results) (ts : Tokens) (x : Results × Tokens) → IsBody b →
+element_ok : (end first reals : ℕ) (b : Body) (r : Results) (ts : Tokens) (x : Results × Tokens) → IsSoundBody b →
     AreResults b r → AreSound ts → element_at end first reals b r ts ≡ Ok x → AreResults b x.0 × AreSound x.1
 unfolding element_at
 element_ok end first reals b r ts x p q s e =
@@ -160,7 +160,7 @@ element_ok end first reals b r ts x p q s e =
       o.1,
     )))
 
-tuple_ok : (end reals : ℕ) (b : Body) (ts : Tokens) (x : Results × Tokens) → IsBody b → AreSound ts →
+tuple_ok : (end reals : ℕ) (b : Body) (ts : Tokens) (x : Results × Tokens) → IsSoundBody b → AreSound ts →
     tuple_at end reals b ts ≡ Ok x → ((length x.0.trees ≡ reals) × AreResults b x.0) × AreSound x.1
 unfolding tuple_at
 tuple_ok end reals b ts x p s e =
@@ -176,7 +176,7 @@ tuple_ok end reals b ts x p s e =
     AreSound z.1) (same_ok y x e) ((n, r.0), r.1))
     (λ off e. absurd cc)))
 
-pub result_ok : (end word reals : ℕ) (b : Body) (ts : Tokens) (x : Results × Tokens) → 1 ≤ reals → IsBody b → AreSound ts →
+pub result_ok : (end word reals : ℕ) (b : Body) (ts : Tokens) (x : Results × Tokens) → 1 ≤ reals → IsSoundBody b → AreSound ts →
     result_at end word reals b ts ≡ Ok x → ((length x.0.trees ≡ reals) × AreResults b x.0) × AreSound x.1
 unfolding result_at
 result_ok end word reals b ts x some p s e = on_if (nat_lt reals 2) _ _ x e

@@ -24,7 +24,7 @@ use Rattle.fx_parser.proofs.NodeCounts.{all_nodes}
 use Rattle.fx_parser.proofs.SoundTokens.{tokens_sound}
 use Rattle.fx_parser.proofs.SoundSubjects.{is_name, require_ok}
 use Rattle.fx_parser.proofs.SoundFronts.{Params, params_ok, AreStates, states_ok, type_ok}
-use Rattle.fx_parser.proofs.SoundBodies.{IsBody, vals_ok, result_ok}
+use Rattle.fx_parser.proofs.SoundBodies.{IsSoundBody, vals_ok, result_ok}
 use Rattle.fx_parser.proofs.SoundDemands.{AreDemands, demands_ok, maybe_ok}
 
 -- ---- functions
@@ -97,7 +97,7 @@ body_ok end word f ts x p s e =
       refl,
       p.subjects.2,
     ) (require_word_ok end f.subjects ts r s re) ie in
-    let start : IsBody (body_of f) = record {
+    let start : IsSoundBody (body_of f) = record {
       names = omega (arith, p.declared.0);
       temps = omega arith;
       back = tt {0};

@@ -119,7 +119,7 @@ is_name t e s = by t.kind e s where
   by kinds.Word e s = never _ (no_name_word t.text).apart e
   by kinds.Sign e s = never _ (no_name_sign t.text).apart e
 
-pub is_number : (t : Lexeme) → (head_of t ==ₕ heads.Number) ≡ true → IsSound t → IsSize (decimal t.text)
+is_number : (t : Lexeme) → (head_of t ==ₕ heads.Number) ≡ true → IsSound t → IsSize (decimal t.text)
 unfolding head_of
 is_number t e s = by t.kind e s where
   by : (k : TokenKind) → eqb (head_number (by_kind k t.text)) 2 ≡ true → IsSoundText k t.text → IsSize (decimal t.text)

@@ -151,7 +151,7 @@ pub first_done : {A : Type 0} (n : ℕ) (done left whole : List A) → whole ≡
     take n whole ≡ done
 first_done n done left whole e l = ap (take n) e ∙ ap (λ k. take k (done ++ left)) (sym l) ∙ take-append_seam done left
 
-pub all_done : {A : Type 0} (n : ℕ) (done whole : List A) → whole ≡ done ++ [] → length done ≤ n → take n whole ≡ done
+all_done : {A : Type 0} (n : ℕ) (done whole : List A) → whole ≡ done ++ [] → length done ≤ n → take n whole ≡ done
 all_done n done whole e l = ap (take n) (e ∙ append-nil done) ∙ take_all n done l
   where
     take_all : {A : Type 0} (n : ℕ) (xs : List A) → length xs ≤ n → take n xs ≡ xs

@@ -32,7 +32,7 @@ all_at p xs k d e l = AllPass-from_list_all p xs e k d l
 pub le_of_test : (a b : ℕ) → nat_le a b ≡ true → a ≤ b
 le_of_test a b e = grind arith
 
-pub below_whole : {x : Rational} (k : ℕ) → is_below_power x (pos k) ≡ true → AtMost x (power k)
+below_whole : {x : Rational} (k : ℕ) → is_below_power x (pos k) ≡ true → AtMost x (power k)
 below_whole {x} k e = le_trans (below_power {x = x} (pos k) e) (le_of_equal (whole_value_is k))
 
 -- what is found among the first 64 is true

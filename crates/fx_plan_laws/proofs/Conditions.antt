@@ -104,7 +104,7 @@ five : (a b c d e : Condition) → fault_of a ≡ None → fault_of b ≡ None �
     fault_of e ≡ None → first_fault_of (a ∷ b ∷ c ∷ d ∷ e ∷ []) ≡ None
 five a b c d e p q r s t = rw (p, q, r, s, t) refl
 
-pub no_form : (v k : ℕ) (ls : List NodeLine) (l : NodeLine) → at no_line ls k ≡ l → l.form ≡ None →
+no_form : (v k : ℕ) (ls : List NodeLine) (l : NodeLine) → at no_line ls k ≡ l → l.form ≡ None →
     form_of v ls k ≡ None
 no_form v k ls l e none = by (ltb k v)
   where

@@ -16,7 +16,7 @@ use Rattle.fx_plan_laws.proofs.Powers.{power_more, unit_value_is}
 use Rattle.fx_plan_laws.proofs.Values.{magnitude_nonneg}
 use Rattle.fx_plan_laws.specs.Bounds.{Bound, units_up, shifted_up, error_box, state_bound, input_bound, const_bound, product_bound}
 use Rattle.fx_plan_laws.specs.Calm.{Numbers, reach_of}
-use Rattle.fx_plan_laws.proofs.Bounding.{product_range, product_error}
+use Rattle.fx_plan_laws.proofs.Bounding.{product_range_bound, product_error_bound}
 use Rattle.fx_plan_laws.proofs.Rounded.{units_below, units_least, shifted_below}
 
 -- ---- what is known of the numbers of a calm function
@@ -201,13 +201,13 @@ module _ (c : Numbers) (y : ℕ) (room : HasRoom c y) (x : Rational) (b : Bound)
   product_is : IsProduct c y (record { r = s; e = t + 1 }) (magnitude x) w e
   product_is = record {
     range =
-        le_trans (product_range (whole (pos s)) (whole (pos k)) (whole (pos b.r)) (power c.f) (magnitude x) w
+        le_trans (product_range_bound (whole (pos s)) (whole (pos k)) (whole (pos b.r)) (power c.f) (magnitude x) w
         (power (c.m - 1)) (power_above c.f) (whole_nonneg b.r)
         (magnitude_nonneg x) range_units literal factor.range factor.few small)
         (plus_le (le_refl _) room_range);
     error =
         le_trans (le_of_equal (natural_sum t 1))
-        (le_trans (plus_le (product_error (whole (pos t)) (whole (pos k)) (whole (pos b.r)) (whole (pos b.e))
+        (le_trans (plus_le (product_error_bound (whole (pos t)) (whole (pos k)) (whole (pos b.r)) (whole (pos b.e))
         (power c.f) (magnitude x) e (power (c.m - 1)) (power (y + 3)) (power_above c.f) (whole_nonneg b.e)
         (magnitude_nonneg x) error_units literal factor.error factor.few factor.small) (le_refl (whole (pos 1))))
         (ordered (gap room_error)

@@ -33,15 +33,15 @@ use Rattle.fx_plan_laws.proofs.NodeClaims.{IsSpacious, limit_few, same_inside, t
 use Rattle.fx_plan_laws.proofs.Units.{small_units}
 
 -- the range and the error of a bound, at the point f
-abbrev pub range_of : ℕ → Bound → Span
-range_of f b = span (units f b.r)
+abbrev pub bound_range : ℕ → Bound → Span
+bound_range f b = span (units f b.r)
 
-abbrev pub error_of : ℕ → Bound → Span
-error_of f b = span (units f b.e)
+abbrev pub bound_error : ℕ → Bound → Span
+bound_error f b = span (units f b.e)
 
 -- WordTooSmall
-pub word_met : (n : ℕ) (c : Numbers) (b : Bound) → IsSpacious n c → IsLimited c b →
-    AreMet (word_claims n (pos c.f) (range_of c.f b) (error_of c.f b))
+word_met : (n : ℕ) (c : Numbers) (b : Bound) → IsSpacious n c → IsLimited c b →
+    AreMet (word_claims n (pos c.f) (bound_range c.f b) (bound_error c.f b))
 word_met n c b space l =
     let lf = limit_few n c space in let r = l.r in let e = l.e in let w = space.width in let m = space.most in
     let small_range = small_units c.f b.r (omega (arith, r, lf)) in
@@ -83,10 +83,10 @@ module _ (n : ℕ) (fn : Function) (c : Numbers) (bs : List Bound) (cert : Certi
   line_at a lt = ap (λ (ls : List NodeLine). at no_line ls a) has.lines
       ∙ get_or-map (calm_line c.f) bs a no_bound no_line (omega (arith, lt, long))
 
-  range_is : (a : ℕ) → a < k → range_at cert.lines a ≡ range_of c.f (at no_bound bs a)
+  range_is : (a : ℕ) → a < k → range_at cert.lines a ≡ bound_range c.f (at no_bound bs a)
   range_is a lt = ap (λ (l : NodeLine). span l.range) (line_at a lt)
 
-  error_is : (a : ℕ) → a < k → error_at cert.lines a ≡ error_of c.f (at no_bound bs a)
+  error_is : (a : ℕ) → a < k → error_at cert.lines a ≡ bound_error c.f (at no_bound bs a)
   error_is a lt = ap (λ (l : NodeLine). span l.error) (line_at a lt)
 
   before : (a : ℕ) → a < k → IsLimited c (at no_bound bs a)
@@ -94,81 +94,81 @@ module _ (n : ℕ) (fn : Function) (c : Numbers) (bs : List Bound) (cert : Certi
 
   range_met : (node : Node) → IsInPlace (length fn.inputs) (length fn.states) k node →
       IsNarrowNode node × IsUndivided node → IsLimited c (node_bound c fn.inputs bs node) →
-      AreMet (plain_range_claims fn cert node (range_of c.f (node_bound c fn.inputs bs node)))
+      AreMet (plain_range_claims fn cert node (bound_range c.f (node_bound c fn.inputs bs node)))
   range_met (Input j) o w l = input_range n c space (at no_input fn.inputs j) (narrow j no_input o.1) (roomy j o.1) l.r
   range_met (State j) o w l =
-      subst (λ (i : Interval). AreMet (inside (span i) (range_of c.f (state_bound c)))) (sym (has.templates j o.1))
+      subst (λ (i : Interval). AreMet (inside (span i) (bound_range c.f (state_bound c)))) (sym (has.templates j o.1))
       (same_inside n c space (state_bound c).r l.r)
   range_met (Const x) o w l = const_range n c space x w.0 l
   range_met (Neg a) o w l =
-      subst (λ (s : Span). AreMet (inside (span_difference zero_span s) (range_of c.f (at no_bound bs a))))
+      subst (λ (s : Span). AreMet (inside (span_difference zero_span s) (bound_range c.f (at no_bound bs a))))
       (sym (range_is a o.1)) (turned_inside n c space (at no_bound bs a).r l.r)
   range_met (Add a b) o w l =
       let x = at no_bound bs a in let y = at no_bound bs b in
-      subst (λ (s : Span). AreMet (inside (span_sum s (range_at cert.lines b)) (range_of c.f (sum_bound x y))))
+      subst (λ (s : Span). AreMet (inside (span_sum s (range_at cert.lines b)) (bound_range c.f (sum_bound x y))))
       (sym (range_is a o.1))
-      (subst (λ (s : Span). AreMet (inside (span_sum (range_of c.f x) s) (range_of c.f (sum_bound x y))))
+      (subst (λ (s : Span). AreMet (inside (span_sum (bound_range c.f x) s) (bound_range c.f (sum_bound x y))))
       (sym (range_is b o.2)) (sum_inside n c space x.r y.r l.r))
   range_met (Sub a b) o w l =
       let x = at no_bound bs a in let y = at no_bound bs b in
-      subst (λ (s : Span). AreMet (inside (span_difference s (range_at cert.lines b)) (range_of c.f (sum_bound x y))))
+      subst (λ (s : Span). AreMet (inside (span_difference s (range_at cert.lines b)) (bound_range c.f (sum_bound x y))))
       (sym (range_is a o.1))
-      (subst (λ (s : Span). AreMet (inside (span_difference (range_of c.f x) s) (range_of c.f (sum_bound x y))))
+      (subst (λ (s : Span). AreMet (inside (span_difference (bound_range c.f x) s) (bound_range c.f (sum_bound x y))))
       (sym (range_is b o.2)) (difference_inside n c space x.r y.r l.r))
   range_met (Mul a b) o w l =
       let x = at no_bound bs a in let y = at no_bound bs b in
-      subst (λ (s : Span). AreMet (range_of_product s (range_at cert.lines b) (range_of c.f (product_bound c.f x y))))
+      subst (λ (s : Span). AreMet (range_of_product s (range_at cert.lines b) (bound_range c.f (product_bound c.f x y))))
       (sym (range_is a o.1))
-      (subst (λ (s : Span). AreMet (range_of_product (range_of c.f x) s (range_of c.f (product_bound c.f x y))))
+      (subst (λ (s : Span). AreMet (range_of_product (bound_range c.f x) s (bound_range c.f (product_bound c.f x y))))
       (sym (range_is b o.2)) (product_inside n c space x.r y.r (before a o.1).r (before b o.2).r l.r))
   range_met (Div a b) o w l = absurd w.1
   range_met (Copy a) o w l =
-      subst (λ (s : Span). AreMet (inside s (range_of c.f (at no_bound bs a)))) (sym (range_is a o.1))
+      subst (λ (s : Span). AreMet (inside s (bound_range c.f (at no_bound bs a)))) (sym (range_is a o.1))
       (same_inside n c space (at no_bound bs a).r l.r)
 
   error_met : (r : Round) (node : Node) → IsInPlace (length fn.inputs) (length fn.states) k node →
       IsNarrowNode node × IsUndivided node → IsLimited c (node_bound c fn.inputs bs node) →
       (let x = node_bound c fn.inputs bs node in
-      AreMet (plain_error_claims fn cert node (calm_code r fn c.f node) (pos c.f) (range_of c.f x)
-      (error_of c.f x)))
+      AreMet (plain_error_claims fn cert node (calm_code r fn c.f node) (pos c.f) (bound_range c.f x)
+      (bound_error c.f x)))
   error_met r (Input j) o w l =
       input_error n c space (at no_input fn.inputs j) (narrow j no_input o.1) (roomy j o.1) l.e
   error_met r (State j) o w l =
-      subst (λ (i : Interval). AreMet (inside (span i) (error_of c.f (state_bound c))))
+      subst (λ (i : Interval). AreMet (inside (span i) (bound_error c.f (state_bound c))))
       (sym (has.error_templates j o.1)) (same_inside n c space (state_bound c).e l.e)
   error_met r (Const x) o w l = const_error n c space x w.0 l
   error_met r (Neg a) o w l =
-      subst (λ (s : Span). AreMet (inside (span_difference zero_span s) (error_of c.f (at no_bound bs a))))
+      subst (λ (s : Span). AreMet (inside (span_difference zero_span s) (bound_error c.f (at no_bound bs a))))
       (sym (error_is a o.1)) (turned_inside n c space (at no_bound bs a).e l.e)
   error_met r (Add a b) o w l =
       let x = at no_bound bs a in let y = at no_bound bs b in let z = roundoff_at (pos c.f) (pos 0) in
       subst (λ (h : Span). AreMet
-      (inside (span_sum (span_sum (span_sum h (error_at cert.lines b)) z) z) (error_of c.f (sum_bound x y)))) (sym
+      (inside (span_sum (span_sum (span_sum h (error_at cert.lines b)) z) z) (bound_error c.f (sum_bound x y)))) (sym
       (error_is a o.1))
       (subst (λ (h : Span). AreMet
-      (inside (span_sum (span_sum (span_sum (error_of c.f x) h) z) z) (error_of c.f (sum_bound x y)))) (sym
+      (inside (span_sum (span_sum (span_sum (bound_error c.f x) h) z) z) (bound_error c.f (sum_bound x y)))) (sym
       (error_is b o.2)) (sum_error_inside n c space x.e y.e l.e))
   error_met r (Sub a b) o w l =
       let x = at no_bound bs a in let y = at no_bound bs b in let z = roundoff_at (pos c.f) (pos 0) in
       subst (λ (h : Span). AreMet
       (inside (span_difference (span_sum (span_difference h (error_at cert.lines b)) z) z)
-      (error_of c.f (sum_bound x y)))) (sym (error_is a o.1))
+      (bound_error c.f (sum_bound x y)))) (sym (error_is a o.1))
       (subst (λ (h : Span). AreMet
-      (inside (span_difference (span_sum (span_difference (error_of c.f x) h) z) z) (error_of c.f (sum_bound x y))))
+      (inside (span_difference (span_sum (span_difference (bound_error c.f x) h) z) z) (bound_error c.f (sum_bound x y))))
       (sym (error_is b o.2)) (difference_error_inside n c space x.e y.e l.e))
   error_met r (Mul a b) o w l =
       let x = at no_bound bs a in let y = at no_bound bs b in let z = product_bound c.f x y in
       subst (λ (m : NodeLine). AreMet
       (error_of_product r c.f (span m.range) (span m.error) (range_at cert.lines b) (error_at cert.lines b)
-      (error_of c.f z))) (sym (line_at a o.1))
+      (bound_error c.f z))) (sym (line_at a o.1))
       (subst (λ (m : NodeLine). AreMet
-      (error_of_product r c.f (range_of c.f x) (error_of c.f x) (span m.range) (span m.error) (error_of c.f z)))
+      (error_of_product r c.f (bound_range c.f x) (bound_error c.f x) (span m.range) (span m.error) (bound_error c.f z)))
       (sym (line_at b o.2))
       (product_error_inside n c space r x.r y.r x.e y.e (before a o.1).r (before b o.2).r (before a o.1).e
       (before b o.2).e l.e))
   error_met r (Div a b) o w l = absurd w.1
   error_met r (Copy a) o w l =
-      subst (λ (s : Span). AreMet (inside (span_sum s (roundoff_at (pos c.f) (pos 0))) (error_of c.f (at no_bound bs a))))
+      subst (λ (s : Span). AreMet (inside (span_sum s (roundoff_at (pos c.f) (pos 0))) (bound_error c.f (at no_bound bs a))))
       (sym (error_is a o.1)) (copied_inside n c space (at no_bound bs a).e l.e)
 
 -- ---- all conditions of one node
@@ -201,10 +201,10 @@ node_faults n r fn c bs cert ps k node x space has limited narrow roomy point h 
     let no_div : AreMet (divisor_claims cert.lines node) = subst AreMet (sym (no_divisor cert node whole)) none_met in
     let back = sym h.is in
     node_met n fn cert ps k node (calm_code r fn c.f node) (calm_line c.f x) (pos c.f) l refl point no_div
-    (subst (λ (y : Bound). AreMet (plain_range_claims fn cert node (range_of c.f y))) back range)
+    (subst (λ (y : Bound). AreMet (plain_range_claims fn cert node (bound_range c.f y))) back range)
     (subst (λ (y : Bound). AreMet
-    (plain_error_claims fn cert node (calm_code r fn c.f node) (pos c.f) (range_of c.f y)
-    (error_of c.f y))) back error) (word_met n c x space own)
+    (plain_error_claims fn cert node (calm_code r fn c.f node) (pos c.f) (bound_range c.f y)
+    (bound_error c.f y))) back error) (word_met n c x space own)
 
 -- ---- Shape and Shift
 shaped : (r : Round) (fn : Function) (f : ℕ) (node : Node) → same_shape node (calm_code r fn f node) ≡ true

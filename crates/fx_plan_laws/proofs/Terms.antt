@@ -31,11 +31,11 @@ total_append w (x ∷ xs) ys =
     (by_quotes {ρ = w x ∷ total w xs ∷ total w ys ∷ []} (search quotes depth 20) (search quotes depth 20) refl)
 
 -- r is at most p times what the terms are worth, and s for each
-pub record IsWithin (p : Rational) (w : Term → Rational) (s : ℕ) (xs : List Term) (r : ℕ) : Type 0 where
+pub record IsTotalWithin (p : Rational) (w : Term → Rational) (s : ℕ) (xs : List Term) (r : ℕ) : Type 0 where
   pub within : AtMost (whole (pos r)) (plus (times p (total w xs)) (whole (pos (length xs * s))))
 
 pub one_within : (p : Rational) (w : Term → Rational) (s : ℕ) (x : Term) (r : ℕ) →
-    AtMost (whole (pos r)) (plus (times p (w x)) (whole (pos s))) → IsWithin p w s (x ∷ []) r
+    AtMost (whole (pos r)) (plus (times p (w x)) (whole (pos s))) → IsTotalWithin p w s (x ∷ []) r
 one_within p w s x r h =
     record {
       within =
@@ -48,8 +48,8 @@ one_within p w s x r h =
     once : (s : ℕ) → s ≡ 1 * s
     once s = omega arith
 
-pub both_within : {p : Rational} {w : Term → Rational} {s : ℕ} (xs ys : List Term) (r t : ℕ) → IsWithin p w s xs r →
-    IsWithin p w s ys t → IsWithin p w s (xs ++ ys) (r + t)
+pub both_within : {p : Rational} {w : Term → Rational} {s : ℕ} (xs ys : List Term) (r t : ℕ) → IsTotalWithin p w s xs r →
+    IsTotalWithin p w s ys t → IsTotalWithin p w s (xs ++ ys) (r + t)
 both_within {p} {w} {s} xs ys r t h g = record {
   within =
       le_trans (le_of_equal (natural_sum r t)) (le_trans (plus_le h.within g.within)
@@ -92,8 +92,8 @@ error_roundoff c y = 2 ^ c.m + 2 ^ (y + 3)
 
 -- ---- trees
 pub record IsBounded (c : Numbers) (y : ℕ) (is : List function.Input) (xs : List Term) (b : Bound) : Type 0 where
-  pub range : IsWithin (power c.f) (range_worth c is) (range_roundoff c) xs b.r
-  pub error : IsWithin (whole (pos 1)) (error_worth c y) (error_roundoff c y) xs b.e
+  pub range : IsTotalWithin (power c.f) (range_worth c is) (range_roundoff c) xs b.r
+  pub error : IsTotalWithin (whole (pos 1)) (error_worth c y) (error_roundoff c y) xs b.e
 
 module _ (c : Numbers) (y : ℕ) (is : List function.Input) (room : HasRoom c y) (roomy : (k : ℕ) → k < length is →
     IsRoomyInput c (at no_input is k)) where

@@ -58,39 +58,39 @@ error_parts c y (OfState k s ∷ xs) =
     (search quotes depth 20) (search quotes depth 20) refl)
 
 -- ---- sizes aren't negative
-pub record AreSizes (xs : List Term) : Type 0 where
+pub record AreTermSizes (xs : List Term) : Type 0 where
   pub inputs : Nonneg (total input_size xs)
   pub states : Nonneg (total state_size xs)
 
 one_nonneg : {x : Rational} → Nonneg x → Nonneg (plus x (whole (pos 0)))
 one_nonneg h = nonneg_plus h (whole_nonneg 0)
 
-joined : (xs ys : List Term) → AreSizes xs → AreSizes ys → AreSizes (xs ++ ys)
+joined : (xs ys : List Term) → AreTermSizes xs → AreTermSizes ys → AreTermSizes (xs ++ ys)
 joined xs ys h g = record {
   inputs = le_trans (nonneg_plus h.inputs g.inputs) (le_of_equal (equal_sym (total_append input_size xs ys)));
   states = le_trans (nonneg_plus h.states g.states) (le_of_equal (equal_sym (total_append state_size xs ys)));
 }
 
-none_sized : AreSizes []
+none_sized : AreTermSizes []
 none_sized = record { inputs = whole_nonneg 0; states = whole_nonneg 0 }
 
-no_size : (s : Rational) → AreSizes (Alone s ∷ [])
+no_size : (s : Rational) → AreTermSizes (Alone s ∷ [])
 no_size s = record { inputs = one_nonneg (whole_nonneg 0); states = one_nonneg (whole_nonneg 0) }
 
-input_sized : (k : ℕ) (s : Rational) → Nonneg s → AreSizes (OfInput k s ∷ [])
+input_sized : (k : ℕ) (s : Rational) → Nonneg s → AreTermSizes (OfInput k s ∷ [])
 input_sized k s h = record { inputs = one_nonneg h; states = one_nonneg (whole_nonneg 0) }
 
-state_sized : (k : ℕ) (s : Rational) → Nonneg s → AreSizes (OfState k s ∷ [])
+state_sized : (k : ℕ) (s : Rational) → Nonneg s → AreTermSizes (OfState k s ∷ [])
 state_sized k s h = record { inputs = one_nonneg (whole_nonneg 0); states = one_nonneg h }
 
-product_sized : (a b : Tree) → AreSizes (scaled_term a b ∷ [])
+product_sized : (a b : Tree) → AreTermSizes (scaled_term a b ∷ [])
 product_sized (tree.Literal x) (tree.Input k) = input_sized k (magnitude x) (magnitude_nonneg x)
 product_sized (tree.Literal x) (tree.State k) = state_sized k (magnitude x) (magnitude_nonneg x)
 product_sized (tree.Input k) (tree.Literal x) = input_sized k (magnitude x) (magnitude_nonneg x)
 product_sized (tree.State k) (tree.Literal x) = state_sized k (magnitude x) (magnitude_nonneg x)
 product_sized a b = no_size (whole (pos 0))
 
-pub sized : (t : Tree) → AreSizes (terms_of t)
+sized : (t : Tree) → AreTermSizes (terms_of t)
 sized (tree.Literal x) = no_size (magnitude x)
 sized (tree.Input k) = input_sized k (whole (pos 1)) (whole_nonneg 1)
 sized (tree.State k) = state_sized k (whole (pos 1)) (whole_nonneg 1)

@@ -105,7 +105,7 @@ small_unit f E up few =
     unit_few : (f E : ℕ) → E ≤ 126 → 2 ^ (E - f) < 2 ^ 127
     unit_few f E few = power_small (omega (arith, few))
 
-pub small_roundoff : (f E s : ℕ) → f ≤ E → E ≤ 126 → IsSmallSpan E (2 ^ (E - f)) (roundoff_at (pos f) (pos s))
+small_roundoff : (f E s : ℕ) → f ≤ E → E ≤ 126 → IsSmallSpan E (2 ^ (E - f)) (roundoff_at (pos f) (pos s))
 small_roundoff f E zero up few = zero_interval_small E (2 ^ (E - f)) (power_small (omega (arith, few)))
 small_roundoff f E (suc s) up few = record {
   lo =

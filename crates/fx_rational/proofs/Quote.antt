@@ -1,10 +1,10 @@
 -- A quote of a whole number over the variables ρ, found by `search quotes`.
 use Rattle.std.proofs.Common.{◌≡◌, ℕ, refl, sym, ◌∙◌, pos, ℤ, ◌+ℤ◌, ◌*ℤ◌, neg_ℤ, List, ◌∷◌, true}
-use Rattle.fx_rational.proofs.IntegerRing.{Polynomial, var, lit, add, sub, mul, neg, value_in, normal_form, vanishes, ring}
+use Rattle.fx_rational.proofs.IntegerRing.{Polynomial, var, lit, add, sub, mul, neg, polynomial_value, normal_form, vanishes, ring}
 
 pub record Quote (ρ : List ℤ) (z : ℤ) : Type 0 where
   pub quote : Polynomial
-  pub is : value_in quote ρ ≡ z
+  pub is : polynomial_value quote ρ ≡ z
 
 abbrev pub q_add : {ρ : List ℤ} {a b : ℤ} → Quote ρ a → Quote ρ b → Quote ρ (a +ℤ b)
 q_add {ρ} {a} {b} p q = record { quote = add p.quote q.quote; is = λ i. p.is i +ℤ q.is i }

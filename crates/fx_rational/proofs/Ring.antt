@@ -1,6 +1,6 @@
 -- Identities of fractions, by those of whole numbers at tops and bottoms.
 use Rattle.std.proofs.Common.{◌≡◌, ℕ, zero, suc, pred, ◌*◌, refl, sym, ap, subst₂, ◌∙◌, arith, pos, ℤ, ◌+ℤ◌, ◌*ℤ◌, neg_ℤ, List, [], ◌∷◌, true}
-use Rattle.fx_rational.proofs.IntegerRing.{Polynomial, var, lit, add, sub, mul, neg, at, value_in, normal_form, vanishes, ring}
+use Rattle.fx_rational.proofs.IntegerRing.{Polynomial, var, lit, add, sub, mul, neg, at, polynomial_value, normal_form, vanishes, ring}
 use Rattle.fx_rational.specs.Rational.{Rational, bottom, whole, over, plus, negative, minus, times, Equal}
 
 abbrev pub nth : List Rational → ℕ → Rational
@@ -56,7 +56,7 @@ pub suc_pred : (a b : ℕ) → suc (pred (suc a * suc b)) ≡ suc a * suc b
 suc_pred a b = grind arith
 
 denominator_is : (e : Polynomial) (ρ : List Rational) →
-    value_in (denominator_of e) (tops_and_bottoms ρ) ≡ pos (bottom (value_said e ρ))
+    polynomial_value (denominator_of e) (tops_and_bottoms ρ) ≡ pos (bottom (value_said e ρ))
 unfolding over plus minus times negative
 denominator_is (var i) ρ = at_bottom ρ i
 denominator_is (lit k) ρ = refl
@@ -69,7 +69,7 @@ denominator_is (mul a b) ρ = (λ i. denominator_is a ρ i *ℤ denominator_is b
 denominator_is (neg a) ρ = denominator_is a ρ
 
 numerator_is : (e : Polynomial) (ρ : List Rational) →
-    value_in (numerator_of e) (tops_and_bottoms ρ) ≡ (value_said e ρ).top
+    polynomial_value (numerator_of e) (tops_and_bottoms ρ) ≡ (value_said e ρ).top
 unfolding over plus minus times negative
 numerator_is (var i) ρ = at_top ρ i
 numerator_is (lit k) ρ = refl

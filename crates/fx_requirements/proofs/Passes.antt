@@ -8,11 +8,11 @@ use Rattle.fx_requirements.specs.Views.{subject_of}
 use Rattle.fx_grammar.specs.Ranges as ranges
 use Rattle.fx_grammar.specs.Ranges.{all_pass}
 
-abbrev pub Outcome : Type 0
-Outcome = Result (Unit {0}) SourceFault
+abbrev pub PassOutcome : Type 0
+PassOutcome = Result (Unit {0}) SourceFault
 
 module _ (bad : ranges.Subject → Bool) (faulty : ℕ →
-    SourceFault) (xs : List Subject) (i : ℕ) (d : Subject) (whole : Outcome) (lt : i
+    SourceFault) (xs : List Subject) (i : ℕ) (d : Subject) (whole : PassOutcome) (lt : i
     < length xs) (same : all_pass bad faulty (map subject_of (drop i xs)) ≡ whole) where
   front : all_pass bad faulty (subject_of (get_or xs i d) ∷ map subject_of (drop (i + 1) xs)) ≡ whole
   front = (let e : drop i xs ≡ get_or xs i d ∷ drop (i + 1) xs = rw add-one (drop-cons xs i d lt) in
@@ -29,7 +29,7 @@ module _ (bad : ranges.Subject → Bool) (faulty : ℕ →
       ≡ all_pass bad faulty (map subject_of (drop (i + 1) xs)) = rw p refl in sym front ∙ e)
 
 pub all_passed : (bad : ranges.Subject → Bool) (faulty : ℕ →
-    SourceFault) (xs : List Subject) (i : ℕ) (whole : Outcome) → length xs ≤ i →
+    SourceFault) (xs : List Subject) (i : ℕ) (whole : PassOutcome) → length xs ≤ i →
     all_pass bad faulty (map subject_of (drop i xs)) ≡ whole → whole ≡ Ok tt
 unfolding all_pass
 all_passed bad faulty xs i whole le same =

@@ -36,10 +36,10 @@ module _ (names : List Text) (text : Text) where
       (λ lt. absurd (omega arith)) in
       rw (p, le-ltb (length names) (length names) (omega arith)) refl
 
-pub name_at : (subjects : List Subject) (i : ℕ) (d : Subject) (text : Text) (b : Bool) → i < length subjects →
+pub subject_name_at : (subjects : List Subject) (i : ℕ) (d : Subject) (text : Text) (b : Bool) → i < length subjects →
     bytes_eq (get_or subjects i d).name.now text ≡ b →
     bytes_eq (get_or (names_of (map subject_of subjects)) i []) text ≡ b
-name_at subjects i d text b lt e =
+subject_name_at subjects i d text b lt e =
     let le : i < length (map subject_of subjects) = simp length-map lt in
     rw (
       get_or-map (λ s. s.name) (map subject_of subjects) i (subject_of d) [] le,

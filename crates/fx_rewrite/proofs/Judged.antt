@@ -16,7 +16,7 @@ use Rattle.fx_rewrite.specs.declared.matching.Match.{Match}
 use Rattle.fx_rewrite.specs.declared.fault.StepFault.TheVariants as faults
 
 -- rewriting where a tree is found and the rule has an outcome
-pub rewrite_is : (f : Function) (s : Rewriting) (old : Tree) (o : Turned) → found f s.place s.path ≡ Some old →
+rewrite_is : (f : Function) (s : Rewriting) (old : Tree) (o : Turned) → found f s.place s.path ≡ Some old →
     turned s.rule old ≡ o → rewrite f s ≡ after f s o
 rewrite_is f s old o there is = ap (option_and_then (λ old. after f s (turned s.rule old))) there ∙ ap (after f s) is
 

@@ -43,7 +43,7 @@ folds_as (Some f) z q e = by (f (or_zero z.l) (or_zero z.k)) refl e
     by (Some v) is e = kept v is (fits_literal (lowest v)) refl e
 
 -- what a rule becomes, both sizes, and that its letters can be moved
-pub record Matches (n : ℕ) (r : Rule) (old : Tree) (z : rules.Found) (q : Rational) (sizes : Sizes) : Type 0 where
+pub record MatchesRule (n : ℕ) (r : Rule) (old : Tree) (z : rules.Found) (q : Rational) (sizes : Sizes) : Type 0 where
   pub becomes : turned n old ≡ rules.Becomes (filled (letters_of z q) (pattern_of r.right))
   pub less : sizes.old ≡ size_of old
   pub more : sizes.new ≡ size_of (filled (letters_of z q) (pattern_of r.right))
@@ -53,7 +53,7 @@ pub record Matches (n : ℕ) (r : Rule) (old : Tree) (z : rules.Found) (q : Rati
 pub matches : (n : ℕ) (r : Rule) (old : Tree) (z : rules.Found) (q : Rational) (sizes : Sizes) →
     table.rule n ≡ Some (rule_of r) → matched (pattern_of r.left) old nothing ≡ Some z →
     Literal q ≡ folded_by (folding_of r.folding) (or_zero z.l) (or_zero z.k) → AreSizes sizes r z → IsMovable r →
-    Matches n r old z q sizes
+    MatchesRule n r old z q sizes
 matches n r old z q sizes is m f s movable =
     let g = folds_as (folding_of r.folding) z q f in
     let left = (there (pattern_of r.left) old nothing z (letters_of z q) m (holds_found z q)).0 in

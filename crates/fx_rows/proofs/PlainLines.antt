@@ -22,8 +22,8 @@ onto-none x [] field = refl
 onto-none x (p ∷ ps) field = ap (λ q. q ∷ ps) (append_assoc field (x ∷ []) p)
 
 -- the answer that is wanted of a front of fields, the bytes of the field at hand and what is left
-abbrev pub Gives : State → List (List ℕ) → List ℕ → List ℕ → Type 0
-Gives s fields field xs =
+abbrev pub GivesFields : State → List (List ℕ) → List ℕ → List ℕ → Type 0
+GivesFields s fields field xs =
     next_record default_config s fields field xs ≡ Some (fields ++ onto field (pieces xs), st.StartRecord, [])
 
 after_comma : (fields : List (List ℕ)) (field : List ℕ) (ps : List (List ℕ)) →
@@ -46,8 +46,8 @@ no_field_yet (x ∷ xs) = by (x == 44) where
 -- the byte goes on as in a field
 one_byte : (s : State) (fields : List (List ℕ)) (field : List ℕ) (c : ℕ) (rest : List ℕ) →
     step default_config s c ≡ in_field default_config c
-    → (c == 13) || (c == 10) ≡ false → Gives st.StartField (fields ++ field ∷ []) [] rest →
-    Gives st.InField fields (field ++ c ∷ []) rest → Gives s fields field (c ∷ rest)
+    → (c == 13) || (c == 10) ≡ false → GivesFields st.StartField (fields ++ field ∷ []) [] rest →
+    GivesFields st.InField fields (field ++ c ∷ []) rest → GivesFields s fields field (c ∷ rest)
 unfolding next_record
 one_byte s fields field c rest like ends comma other = ap moved like ∙ by (c == 44) where
   moved : State × Action → Option Read
@@ -88,7 +88,7 @@ start_record_open c quote ends = choice ((c == 13) || (c == 10)) _ _ ends ∙ ch
 
 -- so many bytes, from inside a record
 inside : (s : State) → ends_at_end s ≡ true → Open s → (fields : List (List ℕ)) (field xs : List ℕ) →
-    list_any is_special xs ≡ false → Gives s fields field xs
+    list_any is_special xs ≡ false → GivesFields s fields field xs
 unfolding next_record
 inside s ends open_ fields field [] plain =
     ap (λ b. if b then Some (fields ++ (field ∷ []), st.StartRecord, []) else None) ends
@@ -127,7 +127,7 @@ unfolding next_record
 stripped_fields [] plain = refl
 stripped_fields (c ∷ rest) plain = ap (option_map (λ (p : Read). p.0)) (plain_record c rest plain)
 
-pub plain_line : (line : List ℕ) → list_any is_special (strip_bom line) ≡ false →
+plain_line : (line : List ℕ) → list_any is_special (strip_bom line) ≡ false →
     line_fields line ≡ plain_fields (strip_bom line)
 plain_line line plain = stripped_fields (strip_bom line) plain
 

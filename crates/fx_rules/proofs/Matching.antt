@@ -16,14 +16,14 @@ Is None v = Unit {0}
 Is (Some x) v = x ≡ v
 
 -- the same of all letters
-pub record Holds (z : Found) (s : Letters) : Type 0 where
+pub record HoldsLetters (z : Found) (s : Letters) : Type 0 where
   pub a : Is z.a s.a
   pub b : Is z.b s.b
   pub c : Is z.c s.c
   pub l : Is z.l s.l
   pub k : Is z.k s.k
 
-pub holds_nothing : (s : Letters) → Holds nothing s
+pub holds_nothing : (s : Letters) → HoldsLetters nothing s
 holds_nothing s = record { a = tt {0}; b = tt {0}; c = tt {0}; l = tt {0}; k = tt {0} }
 
 leaf_is : (o : Option Tree) → Is o (or_leaf o)
@@ -34,7 +34,7 @@ zero_is : (o : Option Rational) → Is o (or_zero o)
 zero_is None = tt {0}
 zero_is (Some q) = refl
 
-pub holds_found : (z : Found) (q : Rational) → Holds z (letters_of z q)
+pub holds_found : (z : Found) (q : Rational) → HoldsLetters z (letters_of z q)
 holds_found z q = record {
   a = leaf_is z.a;
   b = leaf_is z.b;
@@ -60,27 +60,27 @@ was_number None q v h i = tt {0}
 was_number (Some r) q v h i = same_literal r q (same_tree_true (Literal r) (Literal q) h) ∙ i
 
 -- a pattern was found in a tree: whatever letters hold of what is known then, make the tree, and hold of what was known
-pub there : (p : Pattern) (e : Tree) (z n : Found) (s : Letters) → matched p e z ≡ Some n → Holds n s →
-    (e ≡ filled s p) × Holds z s
+pub there : (p : Pattern) (e : Tree) (z n : Found) (s : Letters) → matched p e z ≡ Some n → HoldsLetters n s →
+    (e ≡ filled s p) × HoldsLetters z s
 there A e z n s i h =
     let t = kept (may_be z.a e) (record z { a = Some e }) n i in
-    let g : Holds (record z { a = Some e }) s = subst (λ (x : Found). Holds x s) (sym t.1) h in
+    let g : HoldsLetters (record z { a = Some e }) s = subst (λ (x : Found). HoldsLetters x s) (sym t.1) h in
     (g.a, record { a = was z.a e s.a t.0 g.a; b = g.b; c = g.c; l = g.l; k = g.k })
 there B e z n s i h =
     let t = kept (may_be z.b e) (record z { b = Some e }) n i in
-    let g : Holds (record z { b = Some e }) s = subst (λ (x : Found). Holds x s) (sym t.1) h in
+    let g : HoldsLetters (record z { b = Some e }) s = subst (λ (x : Found). HoldsLetters x s) (sym t.1) h in
     (g.b, record { a = g.a; b = was z.b e s.b t.0 g.b; c = g.c; l = g.l; k = g.k })
 there C e z n s i h =
     let t = kept (may_be z.c e) (record z { c = Some e }) n i in
-    let g : Holds (record z { c = Some e }) s = subst (λ (x : Found). Holds x s) (sym t.1) h in
+    let g : HoldsLetters (record z { c = Some e }) s = subst (λ (x : Found). HoldsLetters x s) (sym t.1) h in
     (g.c, record { a = g.a; b = g.b; c = was z.c e s.c t.0 g.c; l = g.l; k = g.k })
 there L (Literal q) z n s i h =
     let t = kept (may_be_number z.l q) (record z { l = Some q }) n i in
-    let g : Holds (record z { l = Some q }) s = subst (λ (x : Found). Holds x s) (sym t.1) h in
+    let g : HoldsLetters (record z { l = Some q }) s = subst (λ (x : Found). HoldsLetters x s) (sym t.1) h in
     (ap Literal g.l, record { a = g.a; b = g.b; c = g.c; l = was_number z.l q s.l t.0 g.l; k = g.k })
 there K (Literal q) z n s i h =
     let t = kept (may_be_number z.k q) (record z { k = Some q }) n i in
-    let g : Holds (record z { k = Some q }) s = subst (λ (x : Found). Holds x s) (sym t.1) h in
+    let g : HoldsLetters (record z { k = Some q }) s = subst (λ (x : Found). HoldsLetters x s) (sym t.1) h in
     (ap Literal g.k, record { a = g.a; b = g.b; c = g.c; l = g.l; k = was_number z.k q s.k t.0 g.k })
 there (table.Negation p) (Negation x) z n s i h =
     let one = there p x z n s i h in (ap Negation one.0, one.1)
@@ -126,17 +126,17 @@ may_number None v h = refl
 may_number (Some r) v h = ap (λ x. may_be_number (Some r) x) (sym h) ∙ same_tree_refl (Literal r)
 
 -- a pattern with letters that hold of what is known is found, and they hold then too
-pub record Finds (p : Pattern) (s : Letters) (z : Found) : Type 0 where
+pub record FindsLetters (p : Pattern) (s : Letters) (z : Found) : Type 0 where
   pub next : Found
   pub is : matched p (filled s p) z ≡ Some next
-  pub holds : Holds next s
+  pub holds : HoldsLetters next s
 
-two_found : (p q : Pattern) (s : Letters) (z : Found) (one : Finds p s z) → Finds q s one.next →
-    (m : Found) × (option_and_then (matched q (filled s q)) (matched p (filled s p) z) ≡ Some m) × Holds m s
+two_found : (p q : Pattern) (s : Letters) (z : Found) (one : FindsLetters p s z) → FindsLetters q s one.next →
+    (m : Found) × (option_and_then (matched q (filled s q)) (matched p (filled s p) z) ≡ Some m) × HoldsLetters m s
 two_found p q s z one two =
     (two.next, ap (option_and_then (matched q (filled s q))) one.is ∙ two.is, two.holds)
 
-pub found : (p : Pattern) (s : Letters) (z : Found) → finds_all p ≡ true → Holds z s → Finds p s z
+pub found : (p : Pattern) (s : Letters) (z : Found) → finds_all p ≡ true → HoldsLetters z s → FindsLetters p s z
 found A s z f h = record {
   next = record z { a = Some s.a };
   is = ap (λ t. if t then Some (record z { a = Some s.a }) else None) (may z.a s.a h.a);

@@ -17,8 +17,8 @@ abbrev pub KeepsRefers : Tree → Tree → Type 0
 KeepsRefers old new = (i k m : ℕ) → RefersBelow i k m old → RefersBelow i k m new
 
 -- a row keeps both
-abbrev pub IsSound : Rule → Type 0
-IsSound r = (s : Letters) → IsFolded r.folding s →
+abbrev pub IsSoundRule : Rule → Type 0
+IsSoundRule r = (s : Letters) → IsFolded r.folding s →
     SameTrees (filled s r.left) (filled s r.right) × KeepsRefers (filled s r.left) (filled s r.right)
 
 -- what is folded
@@ -34,7 +34,7 @@ SameMade (Some f) s t = s.made ≡ t.made
 -- a row is a rule
 pub record IsRule (r : Rule) : Type 0 where
   -- it keeps the value, and refers to no more
-  pub sound : IsSound r
+  pub sound : IsSoundRule r
   -- the letters of the right side, and those that are folded, stand on the left
   pub finds : finds_all r.left ≡ true
   pub value : (s t : Letters) → filled s r.left ≡ filled t r.left → value r.folding s ≡ value r.folding t

@@ -58,6 +58,6 @@ false_apart r a b h e = by (same_tree a b) refl where
   by false s = refl
   by true s = absurd (let k = h (same_tree_true a b s) in grind rules)
 
-pub decided : (r : Bool) (a b : Tree) → (IsTrue r ↔ (a ≡ b)) → r ≡ same_tree a b
-decided true a b h = let e : a ≡ b = h.0 (search rules) in rw e (sym (same_tree_refl b))
-decided false a b h = sym (false_apart false a b h.1 refl)
+pub same_tree_decided : (r : Bool) (a b : Tree) → (IsTrue r ↔ (a ≡ b)) → r ≡ same_tree a b
+same_tree_decided true a b h = let e : a ≡ b = h.0 (search rules) in rw e (sym (same_tree_refl b))
+same_tree_decided false a b h = sym (false_apart false a b h.1 refl)

@@ -69,12 +69,12 @@ pub names_length : (i n : ℕ) → length (names_from i n) ≡ n
 names_length i zero = refl
 names_length i (suc n) = ap suc (names_length (i + 1) n)
 
-pub name_at : (i n j : ℕ) → j < n → get_or (names_from i n) j [] ≡ codes "out" ++ decimal (i + j)
-name_at i zero j lt = absurd (omega arith)
-name_at i (suc n) zero lt = let e : i ≡ i + 0 = omega arith in ap (λ k. codes "out" ++ decimal k) e
-name_at i (suc n) (suc j) lt =
+pub output_name_at : (i n j : ℕ) → j < n → get_or (names_from i n) j [] ≡ codes "out" ++ decimal (i + j)
+output_name_at i zero j lt = absurd (omega arith)
+output_name_at i (suc n) zero lt = let e : i ≡ i + 0 = omega arith in ap (λ k. codes "out" ++ decimal k) e
+output_name_at i (suc n) (suc j) lt =
     let e : i + 1 + j ≡ i + suc j = omega arith in
-    name_at (i + 1) n j (omega arith) ∙ ap (λ k. codes "out" ++ decimal k) e
+    output_name_at (i + 1) n j (omega arith) ∙ ap (λ k. codes "out" ++ decimal k) e
 
 -- ---- the words of a step
 texts_length : (n : ℕ) (ws fs : List ℤ) → length ws ≡ n → length fs ≡ n → length (word_texts ws fs) ≡ n
@@ -127,8 +127,8 @@ pub text_told : (p : Program) (ws : List ℤ) (j : ℕ) → IsLawfulProgram p �
 text_told p ws j lawful many lt word point = rw (word, point) (field_at p ws j lawful many lt)
 
 -- an output's point is one
-pub point_at : (p : Program) (j : ℕ) → IsLawfulProgram p → j < p.outputs → IsPoint (at (pos 0) (output_points p) j)
-point_at p j lawful lt =
+pub output_point_at : (p : Program) (j : ℕ) → IsLawfulProgram p → j < p.outputs → IsPoint (at (pos 0) (output_points p) j)
+output_point_at p j lawful lt =
     let many = points_many p lawful in
     All-get_or IsPoint (output_points p) j (pos 0) (omega arith)
     (All-take IsPoint p.outputs (drop (first_copy p) (points_of p.codes))

@@ -72,7 +72,7 @@ result_more c m old out comma new some p q r =
 
 -- ---- what is rounded
 -- an expression between the two
-pub rounded_text : (r : Round) (e : Wide) (s : ℕ) →
+rounded_text : (r : Round) (e : Wide) (s : ℕ) →
     wide_text (rounded r e s) ≡ opening r s ++ (wide_text e ++ closing r s)
 rounded_text Floor e s = refl
 rounded_text Nearest e zero = refl

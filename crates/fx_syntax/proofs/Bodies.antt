@@ -17,10 +17,10 @@ use Rattle.fx_syntax.specs.Bodies as syntax
 use Rattle.fx_syntax.specs.Bodies.{with_temps, IsWholeExpr, IsMaybeTyped, IsVal, IsElement, IsResult, single, tuple}
 use Rattle.fx_syntax.proofs.Outcomes.{OnOk, done, failed, and_then, choose, weaken, with_both, steps, on_true, on_false}
 use Rattle.fx_syntax.proofs.Marks.{mark, same_head, next_is, is_next, not_next, next_head_is, behind_is, next_shorter, real_shorter, want_spells, want_reads, real_spells, real_reads, semicolon_spells, semicolon_reads}
-use Rattle.fx_syntax.proofs.Repeats.{Seen, Any, keeps_any, Spells, Keeps, many_spells, many_reads, many_fits, listed_spells, listed_reads, listed_shorter, behind_run_shorter}
+use Rattle.fx_syntax.proofs.Repeats.{Seen, Any, keeps_any, SpellsEach, KeepsEach, many_spells, many_reads, many_fits, listed_spells, listed_reads, listed_shorter, behind_run_shorter}
 use Rattle.fx_syntax.proofs.Fronts.{free_spells, free_reads}
 use Rattle.fx_syntax.proofs.Operands.{operand_of, size, low_is, low_not_high, tree_is}
-use Rattle.fx_syntax.proofs.Chains.{Follows, follows, Begins, begins_follows, begins_no_val, expr_begins, open_begins, expr_shorter}
+use Rattle.fx_syntax.proofs.Chains.{FollowsChain, follows, BeginsChain, begins_follows, begins_no_val, expr_begins, open_begins, expr_shorter}
 use Rattle.fx_syntax.proofs.Expressions.{expr_spells, expr_ends}
 use Rattle.fx_syntax.proofs.ExpressionReads.{Stops, stops_next, expr_reads}
 
@@ -94,7 +94,7 @@ whole_spells scope temps end ts =
 
 -- nothing goes on behind it
 pub whole_stops : {scope : Scope} {ts : Tokens} {x : Tree} {rest : Tokens} → IsWholeExpr scope ts x rest →
-    Follows rest → Stops true rest
+    FollowsChain rest → Stops true rest
 whole_stops {rest = rest} i f = record { term = f.term; sum = by (next_head rest ==ₕ heads.Plus) f.plus }
   where
     by : (p : Bool) → p ≡ false → (p || ((next_head rest ==ₕ heads.Minus) && not (is_fresh rest))) ≡ false
@@ -136,7 +136,7 @@ semicolon_shorter (written n) = let a = next_shorter n.next in omega arith
 abbrev HasRoom : List Temp → Type 0
 HasRoom temps = length temps ≤ 1000
 
-val_spells : (scope : Scope) (end : ℕ) → Spells (body_at scope) HasRoom (IsVal scope) (val_at end)
+val_spells : (scope : Scope) (end : ℕ) → SpellsEach (body_at scope) HasRoom (IsVal scope) (val_at end)
 unfolding val_at
 val_spells scope end before room ts =
     and_then (want_spells end heads.Name ts) (λ t n.
@@ -166,7 +166,7 @@ val_spells scope end before room ts =
       };
     }))))))
 
-val_room : (scope : Scope) → Keeps HasRoom (IsVal scope)
+val_room : (scope : Scope) → KeepsEach HasRoom (IsVal scope)
 val_room scope before ts after us i =
     subst HasRoom (sym i.value) (let e = length-append before (record { name = i.name.text; tree = i.tree } ∷ []) in
     let few = i.few in omega arith)
@@ -180,12 +180,12 @@ vals_spell scope end ts =
 
 -- what is behind an expression that a semicolon may end
 ends_stop : {scope : Scope} {es : Tokens} {x : Tree} {ts rest : Tokens} → IsWholeExpr scope es x ts →
-    IsMaybeSemicolon ts rest → Follows rest → Stops true ts
+    IsMaybeSemicolon ts rest → FollowsChain rest → Stops true ts
 ends_stop i left_out f = whole_stops i f
 ends_stop i (written n) f = stops_next true n.next refl refl
 
 val_reads : (scope : Scope) (end : ℕ) (before : List Temp) (ts : Tokens) (after : List Temp) (rest : Tokens) →
-    IsVal scope before ts after rest → Follows rest →
+    IsVal scope before ts after rest → FollowsChain rest →
     val_at end (body_at scope before) ts ≡ Ok (body_at scope after, rest)
 unfolding val_at
 val_reads scope end before ts after rest i f =
@@ -204,21 +204,21 @@ val_shorter scope before ts after rest i =
     let a = next_shorter i.name_next in let b = typed_shorter i.typed in let c = next_shorter i.equals.next in
     let d = expr_shorter i.tree_is.expression in let e = semicolon_shorter i.semicolon in omega arith
 
-val_follows : (ts : Tokens) (t : Lexeme) (us : Tokens) → IsNext heads.Val ts t us → Follows ts
+val_follows : (ts : Tokens) (t : Lexeme) (us : Tokens) → IsNext heads.Val ts t us → FollowsChain ts
 val_follows ts t us n = follows ts heads.Val (next_head_is n) refl refl refl
 
 pub vals_read : (scope : Scope) (end : ℕ) {ts : Tokens} {temps : List Temp} {rest : Tokens} →
-    IsRun (IsBehind heads.Val (IsVal scope)) [] ts temps rest → Begins rest →
+    IsRun (IsBehind heads.Val (IsVal scope)) [] ts temps rest → BeginsChain rest →
     vals_at end (body_at scope []) ts ≡ Ok (body_at scope temps, rest)
 unfolding vals_at
 vals_read scope end i b =
-    many_reads (body_at scope) (IsVal scope) (val_at end) Follows (val_reads scope end)
+    many_reads (body_at scope) (IsVal scope) (val_at end) FollowsChain (val_reads scope end)
     (val_shorter scope) heads.Val val_follows i (begins_follows b) (begins_no_val b)
 
 pub vals_follow : (scope : Scope) (end : ℕ) {ts : Tokens} {temps : List Temp} {rest : Tokens} →
-    IsRun (IsBehind heads.Val (IsVal scope)) [] ts temps rest → Begins rest → Follows ts
+    IsRun (IsBehind heads.Val (IsVal scope)) [] ts temps rest → BeginsChain rest → FollowsChain ts
 vals_follow scope end i b =
-    many_fits (body_at scope) (IsVal scope) (val_at end) Follows (val_reads scope end)
+    many_fits (body_at scope) (IsVal scope) (val_at end) FollowsChain (val_reads scope end)
     (val_shorter scope) heads.Val val_follows i (begins_follows b)
 
 -- ---- results
@@ -272,7 +272,7 @@ single_spells scope temps end word ts =
     })))
 
 element_spells : (scope : Scope) (temps : List Temp) (end first reals : ℕ) →
-    Spells (results_of (sizes temps)) Any (IsElement (with_temps scope temps))
+    SpellsEach (results_of (sizes temps)) Any (IsElement (with_temps scope temps))
     (element_at end first reals (body_at scope temps))
 unfolding element_at results
 element_spells scope temps end first reals before any ts =
@@ -324,7 +324,7 @@ result_spells scope temps end word reals ts some = choose (nat_lt reals 2)
 -- ---- the other way
 
 pub result_begins : {scope : Scope} {reals : ℕ} {ts : Tokens} {xs : List Tree} {rest : Tokens} →
-    IsResult scope reals ts xs rest → Begins ts
+    IsResult scope reals ts xs rest → BeginsChain ts
 result_begins (single one i) = expr_begins i.expression
 result_begins (tuple two o i same) = open_begins o.next
 

@@ -88,13 +88,13 @@ more_product_shorter scope room x ts z us (over' n t) =
 -- ---- how an expression begins
 
 -- neither a semicolon nor an operation but a minus stands here
-pub record Follows (ts : Tokens) : Type 0 where
+pub record FollowsChain (ts : Tokens) : Type 0 where
   pub semicolon : (next_head ts ==ₕ heads.Semicolon) ≡ false
   pub term : ((next_head ts ==ₕ heads.Star) || (next_head ts ==ₕ heads.Slash)) ≡ false
   pub plus : (next_head ts ==ₕ heads.Plus) ≡ false
 
 pub follows : (ts : Tokens) (h : Head) → next_head ts ≡ h → (h ==ₕ heads.Semicolon) ≡ false →
-    ((h ==ₕ heads.Star) || (h ==ₕ heads.Slash)) ≡ false → (h ==ₕ heads.Plus) ≡ false → Follows ts
+    ((h ==ₕ heads.Star) || (h ==ₕ heads.Slash)) ≡ false → (h ==ₕ heads.Plus) ≡ false → FollowsChain ts
 follows ts h e a b c = record {
   semicolon = subst (λ g. (g ==ₕ heads.Semicolon) ≡ false) (sym e) a;
   term = subst (λ g. ((g ==ₕ heads.Star) || (g ==ₕ heads.Slash)) ≡ false) (sym e) b;
@@ -102,43 +102,43 @@ follows ts h e a b c = record {
 }
 
 -- an expression begins here: a number, a name, a parenthesis or a minus
-pub data Begins (ts : Tokens) : Type 0 where
-  begins : (h : Head) → next_head ts ≡ h → (h ==ₕ heads.Val) ≡ false → Follows ts → Begins ts
+pub data BeginsChain (ts : Tokens) : Type 0 where
+  begins : (h : Head) → next_head ts ≡ h → (h ==ₕ heads.Val) ≡ false → FollowsChain ts → BeginsChain ts
 
 begin : (h : Head) {ts : Tokens} {t : Lexeme} {us : Tokens} → IsNext h ts t us → (h ==ₕ heads.Val) ≡ false →
     (h ==ₕ heads.Semicolon) ≡ false → ((h ==ₕ heads.Star) || (h ==ₕ heads.Slash)) ≡ false → (h ==ₕ heads.Plus) ≡ false →
-    Begins ts
+    BeginsChain ts
 begin h {ts} n v a b c = begins h (next_head_is n) v (follows ts h (next_head_is n) a b c)
 
 atom_begins : {scope : Scope} {room : ℕ} {ts : Tokens} {x : Tree} {rest : Tokens} → IsAtom scope room ts x rest →
-    Begins ts
+    BeginsChain ts
 atom_begins (number i) = begin heads.Number i.next refl refl refl refl
 atom_begins (name n c m) = begin heads.Name n refl refl refl refl
 atom_begins (parens n e c) = begin heads.Open n.next refl refl refl refl
 
 factor_begins : {scope : Scope} {room : ℕ} {ts : Tokens} {x : Tree} {rest : Tokens} → IsFactor scope room ts x rest →
-    Begins ts
+    BeginsChain ts
 factor_begins (one_atom i) = atom_begins i
 factor_begins (negative n i) = begin heads.Minus n.next refl refl refl refl
 factor_begins (negated_atom n f i) = begin heads.Minus n.next refl refl refl refl
 
 term_begins : {scope : Scope} {room : ℕ} {ts : Tokens} {x : Tree} {rest : Tokens} → IsTerm scope room ts x rest →
-    Begins ts
+    BeginsChain ts
 term_begins (one_factor i) = factor_begins i
 term_begins (product e n t) = term_begins e
 term_begins (quotient e n t) = term_begins e
 
 pub expr_begins : {scope : Scope} {outside : Bool} {room : ℕ} {ts : Tokens} {x : Tree} {rest : Tokens} →
-    IsExpr scope outside room ts x rest → Begins ts
+    IsExpr scope outside room ts x rest → BeginsChain ts
 expr_begins (one_term i) = term_begins i
 expr_begins (sum e n t) = expr_begins e
 expr_begins (difference e n f t) = expr_begins e
 
-pub open_begins : {ts : Tokens} {t : Lexeme} {us : Tokens} → IsNext heads.Open ts t us → Begins ts
+pub open_begins : {ts : Tokens} {t : Lexeme} {us : Tokens} → IsNext heads.Open ts t us → BeginsChain ts
 open_begins n = begin heads.Open n refl refl refl refl
 
-pub begins_no_val : {ts : Tokens} → Begins ts → (next_head ts ==ₕ heads.Val) ≡ false
+pub begins_no_val : {ts : Tokens} → BeginsChain ts → (next_head ts ==ₕ heads.Val) ≡ false
 begins_no_val (begins h e v f) = subst (λ g. (g ==ₕ heads.Val) ≡ false) (sym e) v
 
-pub begins_follows : {ts : Tokens} → Begins ts → Follows ts
+pub begins_follows : {ts : Tokens} → BeginsChain ts → FollowsChain ts
 begins_follows (begins h e v f) = f

@@ -378,10 +378,10 @@ range_reads s x i = (
     true_is : (b : Bool) → b ≡ true → b ≡ true
     true_is b e = e
 
-pub passes : (fails : Subject → Bool) (faulty : ℕ → SourceFault) (s : Subject) (subjects : Subjects) → fails s ≡ false →
+pub subject_passes : (fails : Subject → Bool) (faulty : ℕ → SourceFault) (s : Subject) (subjects : Subjects) → fails s ≡ false →
     all_pass fails faulty subjects ≡ Ok tt → all_pass fails faulty (s ∷ subjects) ≡ Ok tt
 unfolding all_pass
-passes fails faulty s subjects e f = when_false _ _ e ∙ f
+subject_passes fails faulty s subjects e f = when_false _ _ e ∙ f
 
 record Ranged (lacks empties : ℕ → SourceFault) (subjects : Subjects) (inputs : List Input) : Type 0 where
   lacking : all_pass is_lacking lacks subjects ≡ Ok tt
@@ -396,8 +396,8 @@ ranged lacks empties (one_more {s = s} {x = x} {subjects = subjects} {inputs = i
     let a = range_reads s x i in
     let b = ranged lacks empties others in
     record {
-      lacking = passes is_lacking lacks s subjects a.0 b.lacking;
-      empty = passes is_empty_range empties s subjects a.1 b.empty;
+      lacking = subject_passes is_lacking lacks s subjects a.0 b.lacking;
+      empty = subject_passes is_empty_range empties s subjects a.1 b.empty;
       same = ap (λ y. y ∷ map declared_input subjects) a.2 ∙ ap (λ ys. x ∷ ys) b.same;
     }
 

@@ -14,7 +14,7 @@ use Rattle.fx_grammar.specs.Ranges.{Subject, Subjects, is_said, or_zero, all_pas
 use Rattle.fx_grammar.specs.Ensuring.{declared_demand, is_empty_demand, demands_at, unsaid}
 use Rattle.fx_syntax.specs.Ensuring.{IsDemandOf, AreDemandsOf, none, one_more}
 use Rattle.fx_syntax.proofs.Outcomes.{OnOk, answered, done, and_then, steps}
-use Rattle.fx_syntax.proofs.Conditions.{pass_spells, passes}
+use Rattle.fx_syntax.proofs.Conditions.{pass_spells, subject_passes}
 
 -- ---- two ends in order
 
@@ -88,7 +88,7 @@ all_ordered : (faulty : ℕ → SourceFault) {subjects : Subjects} {demands : Li
 unfolding all_pass
 all_ordered faulty none = refl
 all_ordered faulty (one_more {s = s} {d = d} {subjects = subjects} i others) =
-    passes is_empty_demand faulty s subjects (demand_ordered s d i) (all_ordered faulty others)
+    subject_passes is_empty_demand faulty s subjects (demand_ordered s d i) (all_ordered faulty others)
 
 all_declared : {subjects : Subjects} {demands : List Demand} → AreDemandsOf subjects demands →
     demands ≡ map declared_demand subjects

@@ -10,14 +10,14 @@ use Rattle.fx_syntax.specs.Conditions.{IsSimple}
 use Rattle.fx_syntax.specs.Ensuring.{IsOutput, IsOutputs, one, several, AreDemandsOf, IsEnsuring, IsMaybeEnsuring, left_out, written}
 use Rattle.fx_syntax.proofs.Outcomes.{OnOk, done, failed, and_then, choose, weaken, steps, on_true, on_false}
 use Rattle.fx_syntax.proofs.Marks.{mark, same_head, next_is, is_next, not_next, behind_is, next_shorter, want_spells, want_reads}
-use Rattle.fx_syntax.proofs.Repeats.{itself, as_seen, from_seen, Any, keeps_any, Spells, separated_spells, separated_reads, listed_spells, listed_reads, separated_shorter, listed_shorter}
+use Rattle.fx_syntax.proofs.Repeats.{itself, as_seen, from_seen, Any, keeps_any, SpellsEach, separated_spells, separated_reads, listed_spells, listed_reads, separated_shorter, listed_shorter}
 use Rattle.fx_syntax.proofs.Conditions.{condition_spells, simple_reads, simple_step}
 use Rattle.fx_syntax.proofs.Demands.{all_free, free_demands}
 
-demand_spells : (end : ℕ) → Spells itself Any IsSimple (condition_at end)
+demand_spells : (end : ℕ) → SpellsEach itself Any IsSimple (condition_at end)
 demand_spells end s any ts = as_seen (condition_spells end s ts)
 
-output_spells : (end : ℕ) → Spells itself Any IsOutput (output_at end)
+output_spells : (end : ℕ) → SpellsEach itself Any IsOutput (output_at end)
 unfolding output_at
 output_spells end s any ts = as_seen (
     and_then (want_spells end heads.Name ts) (λ t n.

@@ -14,7 +14,7 @@ use Rattle.fx_syntax.specs.Runs.{IsListed}
 use Rattle.fx_syntax.specs.Fronts.{IsTyped, IsParam, IsState, IsStates, none, listed, IsOneReal, IsType, single, several}
 use Rattle.fx_syntax.proofs.Outcomes.{OnOk, done, failed, and_then, choose, weaken, steps, on_true, on_false}
 use Rattle.fx_syntax.proofs.Marks.{mark, same_head, next_is, is_next, not_next, behind_is, next_shorter, want_spells, want_reads, real_spells, real_reads, real_shorter, signed_spells, signed_reads, signed_shorter}
-use Rattle.fx_syntax.proofs.Repeats.{itself, as_seen, from_seen, Any, keeps_any, Spells, Keeps, listed_spells, listed_reads, listed_shorter, listed_keeps}
+use Rattle.fx_syntax.proofs.Repeats.{itself, as_seen, from_seen, Any, keeps_any, SpellsEach, KeepsEach, listed_spells, listed_reads, listed_shorter, listed_keeps}
 
 -- ---- names that are new
 
@@ -44,7 +44,7 @@ free_reads limit count names t lt e =
 abbrev pub HasRoom : Subjects → Type 0
 HasRoom subjects = length subjects ≤ 64
 
-pub param_spells : (end : ℕ) → Spells itself HasRoom IsParam (param_at end)
+pub param_spells : (end : ℕ) → SpellsEach itself HasRoom IsParam (param_at end)
 unfolding param_at
 param_spells end s room ts = as_seen (
     and_then (want_spells end heads.Name ts) (λ t n.
@@ -59,7 +59,7 @@ param_spells end s room ts = as_seen (
       value = refl;
     }))))))
 
-pub param_room : Keeps HasRoom IsParam
+pub param_room : KeepsEach HasRoom IsParam
 param_room s ts more us i =
     subst HasRoom (sym i.value) (let e = length-append s (new_subject i.name ∷ []) in let few = i.few in omega arith)
 
@@ -86,7 +86,7 @@ param_shorter s ts more us i = typed_shorter i.typed
 abbrev HasPlace : Declared → Type 0
 HasPlace d = length d.states ≤ 32
 
-pub state_spells : (end : ℕ) → Spells itself HasPlace IsState (declared_state end)
+pub state_spells : (end : ℕ) → SpellsEach itself HasPlace IsState (declared_state end)
 unfolding declared_state
 state_spells end h room ts = as_seen (
     and_then (want_spells end heads.Name ts) (λ t n.
@@ -108,7 +108,7 @@ state_spells end h room ts = as_seen (
       value = refl;
     }))))))))
 
-state_room : Keeps HasPlace IsState
+state_room : KeepsEach HasPlace IsState
 state_room h ts more us i =
     subst HasPlace (sym i.value)
     (let e = length-append h.states (record { name = i.name.text; start = decimal_value i.start } ∷ []) in
@@ -185,7 +185,7 @@ declared_names {inputs = inputs} (listed n i) =
 
 -- ---- type
 
-pub one_spells : (end first states : ℕ) → Spells itself Any (IsOneReal states) (one_real end first states)
+pub one_spells : (end first states : ℕ) → SpellsEach itself Any (IsOneReal states) (one_real end first states)
 unfolding one_real
 one_spells end first states n any ts = as_seen (
     and_then (real_spells end ts) (λ r real.

@@ -109,13 +109,13 @@ temp_at end scope k =
     ap (λ n. meant (known_of end scope) (n + k)) (length-append scope.inputs scope.states) ∙ rw (e, f, same) refl
 
 -- what the definition takes a name for
-pub record IsFound (end : ℕ) (scope : Scope) (name : Text) (k : ℕ) : Type 0 where
+pub record IsFoundName (end : ℕ) (scope : Scope) (name : Text) (k : ℕ) : Type 0 where
   pub tree : Tree
   pub is : IsMeant scope name tree
   pub same : meant (known_of end scope) k ≡ tree
 
 pub meant_spells : (end : ℕ) (scope : Scope) (name : Text) (k : ℕ) → name_place (all_names scope) name ≡ Some k →
-    IsFound end scope name k
+    IsFoundName end scope name k
 meant_spells end scope name k e =
     by (name_place scope.inputs name) (name_place scope.states name) (name_place scope.temps name) refl refl refl
     (sym (all_place scope name) ∙ e)
@@ -123,7 +123,7 @@ meant_spells end scope name k e =
     by : (p q r : Option ℕ) → name_place scope.inputs name ≡ p → name_place scope.states name ≡ q →
         name_place scope.temps name ≡ r
         → behind_place (length (scope.inputs ++ scope.states)) (behind_place (length scope.inputs) p q) r ≡ Some k →
-        IsFound end scope name k
+        IsFoundName end scope name k
     by (Some i) q r pe qe re e =
         let same : i ≡ k = cc in
         record {

@@ -44,12 +44,12 @@ unroll end n d c ts e = when_true _ _ (ap (λ k. not (eqb k 0)) e ∙ is_open d)
 -- ---- what one step reads
 
 -- behind an open parenthesis or an &&: another parenthesis, or a condition
-pub data IsWanted (d : ℕ) (s : Subjects) (ts : Tokens) : Conditions → Tokens → Type 0 where
-  opens : {t : Lexeme} {us : Tokens} → IsNext heads.Open ts t us → IsWanted d s ts (wanting (d + 1) s) us
-  says : {after : Subjects} {rest : Tokens} → IsSimple s ts after rest → IsWanted d s ts (having d after) rest
+pub data IsWantedNesting (d : ℕ) (s : Subjects) (ts : Tokens) : Conditions → Tokens → Type 0 where
+  opens : {t : Lexeme} {us : Tokens} → IsNext heads.Open ts t us → IsWantedNesting d s ts (wanting (d + 1) s) us
+  says : {after : Subjects} {rest : Tokens} → IsSimple s ts after rest → IsWantedNesting d s ts (having d after) rest
 
 wanted_spells : (end d : ℕ) (s : Subjects) (ts : Tokens) →
-    OnOk (λ x. IsWanted d s ts x.0 x.1) (conditions_step end (wanting d s) ts)
+    OnOk (λ x. IsWantedNesting d s ts x.0 x.1) (conditions_step end (wanting d s) ts)
 unfolding conditions_step
 wanted_spells end d s [] = failed
 wanted_spells end d s (t ∷ ts) = choose (head_of t ==ₕ heads.Open)
@@ -57,12 +57,12 @@ wanted_spells end d s (t ∷ ts) = choose (head_of t ==ₕ heads.Open)
     (λ e. and_then (condition_spells end s (t ∷ ts)) (λ x i. done (says i)))
 
 -- behind a condition: a parenthesis that closes, or an &&
-pub data IsRead (d : ℕ) (s : Subjects) (ts : Tokens) : Conditions → Tokens → Type 0 where
-  closes : {t : Lexeme} {us : Tokens} → IsNext heads.Close ts t us → IsRead d s ts (having (d - 1) s) us
-  joins : {t : Lexeme} {us : Tokens} → IsNext heads.And ts t us → IsRead d s ts (wanting d s) us
+pub data IsReadNesting (d : ℕ) (s : Subjects) (ts : Tokens) : Conditions → Tokens → Type 0 where
+  closes : {t : Lexeme} {us : Tokens} → IsNext heads.Close ts t us → IsReadNesting d s ts (having (d - 1) s) us
+  joins : {t : Lexeme} {us : Tokens} → IsNext heads.And ts t us → IsReadNesting d s ts (wanting d s) us
 
 read_spells : (end d : ℕ) (s : Subjects) (ts : Tokens) →
-    OnOk (λ x. IsRead d s ts x.0 x.1) (conditions_step end (having d s) ts)
+    OnOk (λ x. IsReadNesting d s ts x.0 x.1) (conditions_step end (having d s) ts)
 unfolding conditions_step
 read_spells end d s [] = failed
 read_spells end d s (t ∷ ts) = choose (head_of t ==ₕ heads.Close)
@@ -70,7 +70,7 @@ read_spells end d s (t ∷ ts) = choose (head_of t ==ₕ heads.Close)
     (λ e. choose (head_of t ==ₕ heads.And) (λ f. done (joins (record { tokens = refl; is = same_head _ _ f })))
     (λ f. failed))
 
-wanted_shorter : (d : ℕ) (s : Subjects) (ts : Tokens) (c : Conditions) (us : Tokens) → IsWanted d s ts c us →
+wanted_shorter : (d : ℕ) (s : Subjects) (ts : Tokens) (c : Conditions) (us : Tokens) → IsWantedNesting d s ts c us →
     length us < length ts
 wanted_shorter d s ts c us (opens n) = next_shorter n
 wanted_shorter d s ts c us (says i) = (simple_step s ts _ us i).shorter
@@ -92,7 +92,7 @@ record IsClosed (end d : ℕ) (s : Subjects) (ts : Tokens) (n : ℕ) (y : Condit
 
 -- so with at most k turns, from a condition that is due, after its first step, and from behind one
 record Closes (end k : ℕ) : Type 0 where
-  due : (n d : ℕ) (s : Subjects) (ts : Tokens) (x y : Conditions × Tokens) → n ≤ k → IsWanted (suc d) s ts x.0 x.1 →
+  due : (n d : ℕ) (s : Subjects) (ts : Tokens) (x y : Conditions × Tokens) → n ≤ k → IsWantedNesting (suc d) s ts x.0 x.1 →
       loop end n x.0 x.1 ≡ Ok y → length x.1 < n → IsClosed end d s ts n y
   met : (n d : ℕ) (s between : Subjects) (ts us : Tokens) (y : Conditions × Tokens) → n ≤ k →
       IsCondition s ts between us → loop end n (having (suc d) between) us ≡ Ok y → length us < n →
@@ -112,7 +112,7 @@ module _ (end k : ℕ) (more : Closes end k) where
   opened zero d s ts us t y le o e lt = absurd (omega arith)
   opened (suc n) d s ts us t y le o e lt =
       turn end n (suc d) (wanting (suc d + 1) s) us y (omega arith) e (λ x step go.
-      let w : IsWanted (suc (suc d)) s us x.0 x.1 =
+      let w : IsWantedNesting (suc (suc d)) s us x.0 x.1 =
       (wanted_spells end (suc (suc d)) s us).at x
       (ap (λ e'. conditions_step end (wanting e' s) us) (let q : suc (suc d) ≡ suc d + 1 = omega arith in q)
       ∙ step) in
@@ -145,7 +145,7 @@ module _ (end k : ℕ) (more : Closes end k) where
       turn end n d (having (suc d) between) us y refl e
       (λ x step go. by x go ((read_spells end (suc d) between us).at x step))
     where
-      by : (x : Conditions × Tokens) → loop end n x.0 x.1 ≡ Ok y → IsRead (suc d) between us x.0 x.1 →
+      by : (x : Conditions × Tokens) → loop end n x.0 x.1 ≡ Ok y → IsReadNesting (suc d) between us x.0 x.1 →
           IsClosed end d s ts (suc n) y
       by x go r = at x.0 x.1 go r
         where
@@ -171,7 +171,7 @@ module _ (end k : ℕ) (more : Closes end k) where
                 same = others.same;
               })
 
-          at : (c : Conditions) (vs : Tokens) → loop end n c vs ≡ Ok y → IsRead (suc d) between us c vs →
+          at : (c : Conditions) (vs : Tokens) → loop end n c vs ≡ Ok y → IsReadNesting (suc d) between us c vs →
               IsClosed end d s ts (suc n) y
           at c vs go (closes {t = t} {us = vs'} close) =
               let less = next_shorter close in
@@ -192,7 +192,7 @@ module _ (end k : ℕ) (more : Closes end k) where
               let less = next_shorter a in joined n t vs (omega arith) a go (omega arith)
 
   due_more : (n d : ℕ) (s : Subjects) (ts : Tokens) (c : Conditions) (us : Tokens) (y : Conditions × Tokens) →
-      n ≤ suc k → IsWanted (suc d) s ts c us → loop end n c us ≡ Ok y → length us < n → IsClosed end d s ts n y
+      n ≤ suc k → IsWantedNesting (suc d) s ts c us → loop end n c us ≡ Ok y → length us < n → IsClosed end d s ts n y
   due_more n d s ts c us y le (opens o) e lt = opened n d s ts us _ y le o e lt
   due_more n d s ts c us y le (says {after = after} i) e lt = met_more n d s after ts us y le (simple i) e lt
 

@@ -89,12 +89,12 @@ both_none sign None = refl
 both_none sign (Some x) = refl
 
 -- an operation of a sign whose height and nodes are those of its operands and one more
-pub record IsOperation (sign : Head) (x y z : Tree) : Type 0 where
+pub record IsOperationOf (sign : Head) (x y z : Tree) : Type 0 where
   pub tree : operation sign x y ≡ z
   pub height : height z ≡ suc (max (height x) (height y))
   pub size : size z ≡ 1 + size x + size y
 
-pub joined_is : (sign : Head) (x y z : Tree) → IsOperation sign x y z →
+pub joined_is : (sign : Head) (x y z : Tree) → IsOperationOf sign x y z →
     combined_operand sign (operand_of x) (operand_of y) ≡ operand_of z
 unfolding made
 joined_is sign x y z i = same_operand (by (low_or_high (height x)) (low_or_high (height y))) higher nodes

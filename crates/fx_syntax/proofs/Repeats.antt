@@ -43,24 +43,24 @@ pub from_seen : {A : Type 0} {Is : A → Tokens → Type 0} {r : Parsed A} → O
 from_seen {Is = Is} p = weaken (λ x seen. subst (λ a. Is a x.1) (sym seen.same) seen.is) p
 
 -- each item that is read behind a lawful start is in the grammar
-abbrev pub Spells : {A S : Type 0} → (A → S) → (A → Type 0) → GrammarRule A → (S → Tokens → Parsed S) → Type 0
-Spells view Fit Item item = (a : _) → Fit a → (ts : Tokens) → OnOk (Seen view (Item a ts)) (item (view a) ts)
+abbrev pub SpellsEach : {A S : Type 0} → (A → S) → (A → Type 0) → GrammarRule A → (S → Tokens → Parsed S) → Type 0
+SpellsEach view Fit Item item = (a : _) → Fit a → (ts : Tokens) → OnOk (Seen view (Item a ts)) (item (view a) ts)
 
 -- nothing is asked of a start
 abbrev pub Any : {A : Type 0} → A → Type 0
 Any a = Unit {0}
 
 -- an item gives a lawful start of the next
-abbrev pub Keeps : {A : Type 0} → (A → Type 0) → GrammarRule A → Type 0
-Keeps Fit Item = (a : _) (ts : Tokens) (b : _) (us : Tokens) → Item a ts b us → Fit b
+abbrev pub KeepsEach : {A : Type 0} → (A → Type 0) → GrammarRule A → Type 0
+KeepsEach Fit Item = (a : _) (ts : Tokens) (b : _) (us : Tokens) → Item a ts b us → Fit b
 
-pub keeps_any : {A : Type 0} (Item : GrammarRule A) → Keeps Any Item
+pub keeps_any : {A : Type 0} (Item : GrammarRule A) → KeepsEach Any Item
 keeps_any Item a ts b us i = tt {0}
 
 module _ {A S : Type 0} (view : A → S) (Fit : A → Type 0) (Item : GrammarRule A) (goes_on : S → Tokens →
     Bool) (step : S → Tokens → Parsed S)
     (one : (a : A) → Fit a → (ts : Tokens) → goes_on (view a) ts ≡ true →
-    OnOk (Seen view (Item a ts)) (step (view a) ts)) (keeps : Keeps Fit Item) where
+    OnOk (Seen view (Item a ts)) (step (view a) ts)) (keeps : KeepsEach Fit Item) where
   pub repeat_spells : (n : ℕ) (a : A) → Fit a → (ts : Tokens) →
       OnOk (Seen view (IsRun Item a ts)) (repeat goes_on step n (view a) ts)
   unfolding repeat
@@ -114,7 +114,7 @@ module _ {A S : Type 0} (view : A → S) (Item : GrammarRule A) (goes_on : S →
 -- ---- items with a sign between
 
 module _ {A S : Type 0} (view : A → S) (Fit : A → Type 0) (Item : GrammarRule A) (item : S → Tokens →
-    Parsed S) (spells : Spells view Fit Item item) (keeps : Keeps Fit Item) where
+    Parsed S) (spells : SpellsEach view Fit Item item) (keeps : KeepsEach Fit Item) where
   pub behind_spells : (head : Head) → (head ==ₕ heads.End) ≡ false → (a : A) → Fit a → (ts : Tokens) →
       stands_next head (view a) ts ≡ true → OnOk (Seen view (IsBehind head Item a ts)) (behind item (view a) ts)
   behind_spells head some a fit ts e =
@@ -126,13 +126,13 @@ module _ {A S : Type 0} (view : A → S) (Fit : A → Type 0) (Item : GrammarRul
       }) (spells a fit (drop 1 ts))
 
   pub many_spells : (head : Head) → (head ==ₕ heads.End) ≡ false →
-      Spells view Fit (IsRun (IsBehind head Item)) (λ s ts. repeated (stands_next head) (behind item) s ts)
+      SpellsEach view Fit (IsRun (IsBehind head Item)) (λ s ts. repeated (stands_next head) (behind item) s ts)
   many_spells head some a fit ts =
       repeat_spells view Fit (IsBehind head Item) (stands_next head) (behind item) (behind_spells head some)
       (λ a ts b us i. keeps a i.behind b us i.item) (suc (length ts)) a fit ts
 
   pub separated_spells : (head : Head) → (head ==ₕ heads.End) ≡ false →
-      Spells view Fit (IsSeparated head Item) (separated head item)
+      SpellsEach view Fit (IsSeparated head Item) (separated head item)
   unfolding separated
   separated_spells head some a fit ts =
       and_then (spells a fit ts) (λ x first.
@@ -145,7 +145,7 @@ module _ {A S : Type 0} (view : A → S) (Fit : A → Type 0) (Item : GrammarRul
       })
       (many_spells head some first.value (keeps _ _ _ _ first.is) x.1)))
 
-  pub listed_spells : (end : ℕ) → Spells view Fit (IsListed Item) (λ s ts. listed item end s ts)
+  pub listed_spells : (end : ℕ) → SpellsEach view Fit (IsListed Item) (λ s ts. listed item end s ts)
   unfolding listed
   listed_spells end a fit ts =
       and_then (separated_spells heads.Comma refl a fit ts) (λ x items.

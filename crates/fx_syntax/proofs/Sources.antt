@@ -16,12 +16,12 @@ use Rattle.fx_syntax.specs.Laws.{ReadIsSpelled, SpelledIsRead, OneMeaning, IsSou
 use Rattle.fx_model.proofs.Steps.{on_ok}
 use Rattle.fx_syntax.proofs.Outcomes.{OnOk, done, failed, and_then, choose, weaken, steps, on_true, on_false}
 use Rattle.fx_syntax.proofs.Marks.{mark, same_head, next_is, is_next, not_next, behind_is, next_shorter, want_spells, want_reads}
-use Rattle.fx_syntax.proofs.Repeats.{Seen, itself, as_seen, from_seen, Any, keeps_any, Spells, Takes, repeat_spells, repeat_reads, many_spells, many_reads, separated_spells, separated_reads, separated_shorter}
+use Rattle.fx_syntax.proofs.Repeats.{Seen, itself, as_seen, from_seen, Any, keeps_any, SpellsEach, Takes, repeat_spells, repeat_reads, many_spells, many_reads, separated_spells, separated_reads, separated_shorter}
 use Rattle.fx_syntax.proofs.Functions.{def_spells, def_reads, def_shorter}
 
 -- ---- imports
 
-dot_spells : (end : ℕ) → Spells itself Any IsPart (dot_at end)
+dot_spells : (end : ℕ) → SpellsEach itself Any IsPart (dot_at end)
 unfolding dot_at
 dot_spells end u any ts =
     as_seen (and_then (want_spells end heads.Name ts) (λ n next. done (record { name = n.0; next = next })))
@@ -31,7 +31,7 @@ dot_reads : (end : ℕ) (u : Unit {0}) (ts : Tokens) (v : Unit {0}) (us : Tokens
 unfolding dot_at
 dot_reads end u ts v us i = steps _ (want_reads end i.next) refl
 
-import_spells : (end : ℕ) → Spells itself Any (IsSeparated heads.Dot IsPart) (import_at end)
+import_spells : (end : ℕ) → SpellsEach itself Any (IsSeparated heads.Dot IsPart) (import_at end)
 unfolding import_at
 import_spells end u any ts =
     separated_spells itself Any IsPart (dot_at end) (dot_spells end) (keeps_any IsPart) heads.Dot refl u any ts

@@ -19,21 +19,21 @@ near_factors x y f g (_, _, near) h k =
     omega arith
 
 -- those of intervals
-pub record AreNear (v w : Interval) : Type 0 where
+pub record AreNearIntervals (v w : Interval) : Type 0 where
   pub ll : v.lo.e + w.lo.e ≤ 2 ^ 20
   pub lh : v.lo.e + w.hi.e ≤ 2 ^ 20
   pub hl : v.hi.e + w.lo.e ≤ 2 ^ 20
   pub hh : v.hi.e + w.hi.e ≤ 2 ^ 20
 
 pub near_ends : (v w : Interval) (s t : Span) → HasNearSpan (span_product s t) → FormsSpan (Some v) s →
-    FormsSpan (Some w) t → AreNear v w
+    FormsSpan (Some w) t → AreNearIntervals v w
 near_ends v w s t near h k =
     by near.lo
     (ap (λ (i : Interval). i.lo.e) h.1) (ap (λ (i : Interval). i.hi.e) h.1) (ap (λ (i : Interval). i.lo.e) k.1)
     (ap (λ (i : Interval). i.hi.e) k.1)
   where
     by : HasNearProducts (span_product s t).lo → v.lo.e ≡ (formed s.lo).e → v.hi.e ≡ (formed s.hi).e →
-        w.lo.e ≡ (formed t.lo).e → w.hi.e ≡ (formed t.hi).e → AreNear v w
+        w.lo.e ≡ (formed t.lo).e → w.hi.e ≡ (formed t.hi).e → AreNearIntervals v w
     by (((_, _, ll), (_, _, lh)), ((_, _, hl), (_, _, hh))) a b c d =
         record { ll = omega arith; lh = omega arith; hl = omega arith; hh = omega arith }
 

@@ -28,7 +28,7 @@ few_places Value t i m = omega arith
 few_places Error t i m = grid_few (at (pos 0) t.points (t.inputs + i)) (m.points (t.inputs + i))
 
 -- a new bound is the narrowest
-pub raised_is : (side : Side) (t : Transition) (bounds : List Interval) (i : ℕ) (g : Interval) → IsModestTransition t →
+raised_is : (side : Side) (t : Transition) (bounds : List Interval) (i : ℕ) (g : Interval) → IsModestTransition t →
     raised_bound side t bounds i ≡ Ok g →
     IsNarrowestOf (template_grid side t i) (λ b. inside (raised_span side t bounds i) (span b)) g
 raised_is side t bounds i g m made =

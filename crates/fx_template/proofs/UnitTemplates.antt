@@ -40,7 +40,7 @@ unit_templates_short k bounds h =
     (λ i lt. record { coefs = λ j. unit_short k i j lt; bound = h i; shares = tt })
 
 -- template i of them
-pub unit_template_at : (k : ℕ) (bounds : List Interval) (i : ℕ) (d : Template) → i < k →
+unit_template_at : (k : ℕ) (bounds : List Interval) (i : ℕ) (d : Template) → i < k →
     get_or (unit_templates k bounds) i d ≡ unit_template k (at zero_interval bounds i) i
 unit_template_at k bounds i d lt = tabulate_at (λ i. unit_template k (at zero_interval bounds i) i) k i d lt
 

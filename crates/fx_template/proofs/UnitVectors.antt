@@ -70,7 +70,7 @@ behind i (suc d) = let same : suc (suc i + d) ≡ suc i + suc d = omega arith in
     ∙ ap (λ xs. zeros i ++ record { m = pos 1; e = 0 } ∷ xs) (zeros_more d))
 
 -- a unit vector has its entries
-pub unit_is : (k i : ℕ) → i < k → tabulate k (unit_entry i) ≡ unit_vector k i
+unit_is : (k i : ℕ) → i < k → tabulate k (unit_entry i) ≡ unit_vector k i
 unit_is k i lt = let same : suc i + (k - (i + 1)) ≡ k = omega (arith, lt) in
     subst (λ (m : ℕ). tabulate m (unit_entry i) ≡ unit_vector k i) same (behind i (k - (i + 1)))
 

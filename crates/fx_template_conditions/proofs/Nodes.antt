@@ -20,8 +20,8 @@ abbrev pub fault_at : Kind → ℕ → Bool → List Claim → Option Fault
 fault_at kind n test claims = fault_of (record { kind = kind; part = OfNode; index = n; test = test; claims = claims })
 
 -- the first of the five, of v variables and at point f
-abbrev pub faults : Function → ℕ → Certificate → ℕ → Node → Code → ℕ → ℤ → Option Fault
-faults fn w cert n node c v f =
+abbrev pub node_condition_faults : Function → ℕ → Certificate → ℕ → Node → Code → ℕ → ℤ → Option Fault
+node_condition_faults fn w cert n node c v f =
     let ls = cert.lines in let l = at no_line ls n in let form = form_of v ls n in
     first_some (fault_at condition.Form n true (form_claims v ls l node c f form))
     (first_some (fault_at condition.Divisor n true (divisor_claims ls node))
@@ -31,7 +31,7 @@ faults fn w cert n node c v f =
 
 pub five : (fn : Function) (w : ℕ) (ps : List ℤ) (cert : Certificate) (n : ℕ) (node : Node) (c : Code) (v : ℕ) (f : ℤ) →
     variables fn ≡ v → at (pos 0) ps n ≡ f
-    → first_fault_of (node_conditions fn w ps cert n node c) ≡ faults fn w cert n node c v f
+    → first_fault_of (node_conditions fn w ps cert n node c) ≡ node_condition_faults fn w cert n node c v f
 five fn w ps cert n node c v f e h =
     let g = at (pos 0) ps n in let u = variables fn in let ls = cert.lines in let l = at no_line ls n in
     let form = form_of u ls n in
@@ -40,4 +40,4 @@ five fn w ps cert n node c v f e h =
     (first_some (fault_at condition.Range n true (range_claims fn cert l node form))
     (first_some (fault_at condition.Error n true (error_claims fn cert l node c g form)) o))))
     (first_some_none (fault_at condition.WordTooSmall n true (word_claims w g (range_at ls n) (error_at ls n))))
-    ∙ ap (λ (m : ℕ). faults fn w cert n node c m g) e ∙ ap (λ (m : ℤ). faults fn w cert n node c v m) h
+    ∙ ap (λ (m : ℕ). node_condition_faults fn w cert n node c m g) e ∙ ap (λ (m : ℤ). node_condition_faults fn w cert n node c v m) h

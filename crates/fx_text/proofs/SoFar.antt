@@ -22,7 +22,7 @@ unfolding lines_by
 begins_behind view read first count rows text =
     record { so_far = (let e : count - 0 ≡ count = omega arith in rw e refl); few = omega arith; within = omega arith }
 
-pub begins : {A X : Type 0} (view : X → A) (read : ℕ → Line → Result A TextKind) (first count : ℕ) (text : List ℕ) →
+begins : {A X : Type 0} (view : X → A) (read : ℕ → Line → Result A TextKind) (first count : ℕ) (text : List ℕ) →
     SoFar view read first count (lines_by read first count text) 0 [] 0 text
 unfolding lines_by
 begins view read first count text = record {

@@ -9,12 +9,12 @@ use Rattle.fx_model.proofs.Steps.{on_ok}
 use Rattle.fx_text.proofs.LineLaws.{text_ended-is}
 
 -- what a reader of the front makes of all of a text; where the text has to be over, the value's own lines say
-abbrev pub all_by : {A : Type 0} → (List ℕ → Result (A × List ℕ) TextFault) → (A → ℕ) → List ℕ → Result A TextFault
-all_by read end text = read text >>= λ x. text_ended_at (end x.0) x.1 >>= λ _. Ok x.0
+abbrev pub whole_text_by : {A : Type 0} → (List ℕ → Result (A × List ℕ) TextFault) → (A → ℕ) → List ℕ → Result A TextFault
+whole_text_by read end text = read text >>= λ x. text_ended_at (end x.0) x.1 >>= λ _. Ok x.0
 
 -- what is read of a whole text is spelled so
 pub all_takes : {A : Type 0} {read : List ℕ → Result (A × List ℕ) TextFault} {write : A → List ℕ} {Is : A →
-    Type 0} (end : A → ℕ) → IsOneSpelling read write Is → (text : List ℕ) (a : A) → all_by read end text ≡ Ok a →
+    Type 0} (end : A → ℕ) → IsOneSpelling read write Is → (text : List ℕ) (a : A) → whole_text_by read end text ≡ Ok a →
     (text ≡ write a) × Is a
 all_takes {A} {read} {write} {Is} end law text a e =
     on_ok {A = A × List ℕ} _ _ a e (λ x hx e.
@@ -26,7 +26,7 @@ all_takes {A} {read} {write} {Is} end law text a e =
 
 -- what may be spelled is read from its text
 pub all_again : {A : Type 0} {read : List ℕ → Result (A × List ℕ) TextFault} {write : A → List ℕ} {Is : A →
-    Type 0} (end : A → ℕ) → IsOneSpelling read write Is → (a : A) → Is a → all_by read end (write a) ≡ Ok a
+    Type 0} (end : A → ℕ) → IsOneSpelling read write Is → (a : A) → Is a → whole_text_by read end (write a) ≡ Ok a
 unfolding text_ended_at
 all_again {A} {read} {write} {Is} end law a h =
     let e : read (write a) ≡ Ok (a, []) = ap read (sym (append-nil (write a))) ∙ law.again a [] h in rw e refl

@@ -14,11 +14,11 @@ use Rattle.fx_flat.proofs.Ordered.{node_list, ordered_at}
 use Rattle.fx_weight.specs.Weights.{weights_of, node_weight, is_modest, first_immodest}
 use Rattle.fx_weight.specs.WeightOf.{weight_of, weights_in}
 use Rattle.fx_weight.specs.declared.weight.Weight.{Weight}
-use Rattle.fx_weight.proofs.Turns.{IsWalked, turn_on, walk_stops}
+use Rattle.fx_weight.proofs.Turns.{IsWeighed, turn_on, walk_stops}
 
 module _ (n : ℕ) (fn : Function) (nodes : List Node) (ws vs : List Weight) (i : ℕ) (x : Node) (valid : IsValid fn)
     (same : nodes_in nodes ≡ nodes_of fn) (lt : i < length nodes) (is : x ≡ get_or nodes i x) (handed : vs ≡ ws)
-    (walked : IsWalked n fn.inputs (nodes_of fn) (weights_of n fn) i (weights_in ws)) where
+    (walked : IsWeighed n fn.inputs (nodes_of fn) (weights_of n fn) i (weights_in ws)) where
   here : (i < length (nodes_of fn)) × (get_or (nodes_of fn) i (node_of x) ≡ node_of x)
   here = seen_at node_of nodes (nodes_of fn) i x same lt is
 
@@ -43,11 +43,11 @@ module _ (n : ℕ) (fn : Function) (nodes : List Node) (ws vs : List Weight) (i 
   pub turned : (y : Weight) (all : List Weight) → IsWordWidth n → all ≡ ws ++ y ∷ [] →
       (weight_of y ≡ node_weight n fn.inputs (weights_in vs) (node_of x)) ×
       (is_modest (node_of x) (node_weight n fn.inputs (weights_in vs) (node_of x)) ≡ true) →
-      IsWalked n fn.inputs (nodes_of fn) (weights_of n fn) (i + 1) (weights_in all)
+      IsWeighed n fn.inputs (nodes_of fn) (weights_of n fn) (i + 1) (weights_in all)
   turned y all width pushed made =
       let own = subst (λ (xs : List Weight). (weight_of y ≡ node_weight n fn.inputs (weights_in xs) (node_of x)) ×
       (is_modest (node_of x) (node_weight n fn.inputs (weights_in xs) (node_of x)) ≡ true)) handed made in
-      subst (IsWalked n fn.inputs (nodes_of fn) (weights_of n fn) (i + 1))
+      subst (IsWeighed n fn.inputs (nodes_of fn) (weights_of n fn) (i + 1))
       (sym (ap weights_in pushed ∙ map_push weight_of ws y))
       (turn_on n fn.inputs (length fn.states) (nodes_of fn) (weights_of n fn) i (weights_in ws) (node_of x)
       (weight_of y) width here.0 here.1 walked (node_list fn valid).ordered own)

@@ -3,7 +3,7 @@ use Rattle.std.specs.Int.{w128}
 use Rattle.std.proofs.lemmas.Int.{to_z-of_z}
 use Rattle.std.proofs.lemmas.List.{length-map}
 use Rattle.fx_calm.specs.Summands.{rest}
-use Rattle.fx_calm.proofs.Decided.{begins, ready_summand, ready_rest, ends_over, ends_under, goes_on, ends}
+use Rattle.fx_calm.proofs.Decided.{comparison_begins, ready_summand, ready_rest, ends_over, ends_under, comparison_goes_on, comparison_ends}
 use Rattle.fx_calm.proofs.long_division.adds_up_to.Goals as goal
 
 pub turn-requires-clause-ready : goal.turn-requires-clause-ready
@@ -14,7 +14,7 @@ pub loop-turn-init : goal.loop-turn-init
 loop-turn-init c =
     let fits : to_z w128 (of_z w128 c.start-s.result) ≡ c.start-s.result =
     to_z-of_z w128 c.start-s.result (search rules) in
-    begins c.args.summands.now c.turn.new.summands c.args.limit c.turn.result
+    comparison_begins c.args.summands.now c.turn.new.summands c.args.limit c.turn.result
     (to_z w128 (of_z w128 c.start-s.result)) c.requires.summands c.requires.few c.turn.ensures.rests
     c.turn.ensures.digits (fits ∙ c.start-s.ensures)
     (let f = c.ranges.limit.fits in omega (arith, f)) c.turn.ensures.small
@@ -47,7 +47,7 @@ loop-turn-preserved c =
     let l = length-map c.args.summands.now (rest 1) in
     let f = c.requires.few in
     omega (arith, a, b, l, f)) in
-    goes_on c.loop-turn._turn c.turn-in-loop-turn.result c.left.result (to_z w128 c.loop-turn.s-bits)
+    comparison_goes_on c.loop-turn._turn c.turn-in-loop-turn.result c.left.result (to_z w128 c.loop-turn.s-bits)
     (to_z w128 (of_z w128 c.next-s.result)) c.loop-turn.summands c.turn-in-loop-turn.new.summands c.args.summands.now
     c.args.limit c.loop-turn.invariant c.loop-turn-test.true few c.left.ensures.value c.if-s-ge1.false
     (sym c.is_under.ensures ∙ c.if-is_under.false) c.turn-in-loop-turn.ensures.rests c.turn-in-loop-turn.ensures.digits
@@ -56,5 +56,5 @@ loop-turn-preserved c =
 pub returns : goal.returns
 returns c =
     let past = c.loop-turn-test.false in let ends-at = c.loop-turn.auto._turn-end in
-    ends c.loop-turn._turn (to_z w128 c.loop-turn.s-bits) c.loop-turn.summands c.args.summands.now c.args.limit
+    comparison_ends c.loop-turn._turn (to_z w128 c.loop-turn.s-bits) c.loop-turn.summands c.args.summands.now c.args.limit
     c.loop-turn.invariant (omega (arith, past, ends-at))

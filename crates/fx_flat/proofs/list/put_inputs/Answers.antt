@@ -3,11 +3,11 @@ use Rattle.fx_model.specs.Nodes.{inputs_from}
 use Rattle.fx_flat.specs.declared.node.Node.TheVariants.{Input}
 use Rattle.fx_flat.specs.NodeOf.{nodes_in}
 use Rattle.fx_flat.proofs.Growth.{inputs_one_more}
-use Rattle.fx_flat.proofs.Pushing.{pushed}
+use Rattle.fx_flat.proofs.Pushing.{pushed_nodes}
 use Rattle.fx_flat.proofs.list.put_inputs.Goals as goal
 
 pub loop-k-preserved : goal.loop-k-preserved
 loop-k-preserved c =
     let items : c.push.new.self.items ≡ c.loop-k.list.items ++ Input c.loop-k.k ∷ [] = c.in_ok-push.ensures.items in
-    rw items (pushed c.loop-k.list.items (Input c.loop-k.k) (nodes_in c.args.list.now.items) (inputs_from 0 c.loop-k.k)
+    rw items (pushed_nodes c.loop-k.list.items (Input c.loop-k.k) (nodes_in c.args.list.now.items) (inputs_from 0 c.loop-k.k)
     (inputs_from 0 (c.loop-k.k + 1)) c.loop-k.invariant (inputs_one_more c.loop-k.k))

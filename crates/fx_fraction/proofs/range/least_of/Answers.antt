@@ -3,7 +3,7 @@ use Rattle.std.specs.Prelude.{int_le}
 use Rattle.std.specs.Int.{w128}
 use Rattle.std.proofs.lemmas.Int.{to_z-of_z}
 use Rattle.fx_fraction.specs.Units.{smallest_units}
-use Rattle.fx_fraction.proofs.Ranges.{above_is, difference_fits, unit_fits}
+use Rattle.fx_fraction.proofs.Ranges.{above_is, short_difference_fits, unit_fits}
 use Rattle.fx_fraction.proofs.range.least_of.Goals as goal
 
 pub returns : goal.returns
@@ -16,7 +16,7 @@ returns c = λ g few.
     let s : to_z w128 (of_z w128 (to_z w128 (of_z w128 x) -ℤ to_z w128 (of_z w128 y))) ≡ x -ℤ y =
     ap (λ v. to_z w128 (of_z w128 v)) e
     ∙ to_z-of_z w128 (x -ℤ y)
-    (difference_fits x y c.smallest_units.ensures.small c.smallest_units-2.ensures.small) in
+    (short_difference_fits x y c.smallest_units.ensures.small c.smallest_units-2.ensures.small) in
     ap (λ v. int_le v (smallest_units g)) s
     ∙ above_is g c.args.lo c.args.err x y
     (smallest_units g) c.smallest_units.ensures.value c.smallest_units-2.ensures.value refl few

@@ -3,7 +3,7 @@ use Rattle.std.specs.Prelude.{int_le}
 use Rattle.std.specs.Int.{w128}
 use Rattle.std.proofs.lemmas.Int.{to_z-of_z}
 use Rattle.fx_fraction.specs.Units.{smallest_units}
-use Rattle.fx_fraction.proofs.Ranges.{below_is, sum_fits, unit_fits}
+use Rattle.fx_fraction.proofs.Ranges.{below_is, short_sum_fits, unit_fits}
 use Rattle.fx_fraction.proofs.range.most_of.Goals as goal
 
 pub returns : goal.returns
@@ -15,7 +15,7 @@ returns c = λ g few.
     rw (to_z-of_z w128 x fx, to_z-of_z w128 y fy) refl in
     let s : to_z w128 (of_z w128 (to_z w128 (of_z w128 x) +ℤ to_z w128 (of_z w128 y))) ≡ x +ℤ y =
     ap (λ v. to_z w128 (of_z w128 v)) e
-    ∙ to_z-of_z w128 (x +ℤ y) (sum_fits x y c.smallest_units.ensures.small c.smallest_units-2.ensures.small) in
+    ∙ to_z-of_z w128 (x +ℤ y) (short_sum_fits x y c.smallest_units.ensures.small c.smallest_units-2.ensures.small) in
     ap (λ v. int_le (smallest_units g) v) s
     ∙ below_is g c.args.hi c.args.err x y
     (smallest_units g) c.smallest_units.ensures.value c.smallest_units-2.ensures.value refl few

@@ -5,7 +5,7 @@ use Rattle.fx_rational.specs.Rational.{floor_div}
 use Rattle.fx_outward.specs.Grid.{lowest_dyadic, error_grid}
 use Rattle.fx_outward.specs.Wide.{IsEnd, units_below}
 use Rattle.fx_outward.proofs.Casts.{back}
-use Rattle.fx_outward.proofs.Dividing.{above_end, turned_floor}
+use Rattle.fx_outward.proofs.Dividing.{quotient_above_end, turned_floor}
 use Rattle.fx_outward.proofs.divide.above.Goals as goal
 
 pub returns : goal.returns
@@ -19,5 +19,5 @@ returns c =
     subst (IsEnd c.opposite_less.result)
     (λ i. lowest_dyadic (floor_div ((neg_ℤ (m i) *ℤ pos (2 ^ (p i))) *ℤ pos (2 ^ error_grid (f32 i)))
     (d i * 2 ^ (k i)) -ℤ pos (units_below (f32 i))) (error_grid (f32 i))) c.opposite_less.ensures in
-    subst (IsEnd c.opposite.result) (above_end c.args.a c.args.b f some)
+    subst (IsEnd c.opposite.result) (quotient_above_end c.args.a c.args.b f some)
     (c.opposite.ensures (turned_floor c.args.a c.args.b f) floor)

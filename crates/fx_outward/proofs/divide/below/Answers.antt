@@ -5,7 +5,7 @@ use Rattle.fx_rational.specs.Rational.{floor_div}
 use Rattle.fx_outward.specs.Grid.{lowest_dyadic, error_grid}
 use Rattle.fx_outward.specs.Wide.{IsEnd, units_below}
 use Rattle.fx_outward.proofs.Casts.{back}
-use Rattle.fx_outward.proofs.Dividing.{below_end}
+use Rattle.fx_outward.proofs.Dividing.{quotient_below_end}
 use Rattle.fx_outward.proofs.divide.below.Goals as goal
 
 pub returns : goal.returns
@@ -17,5 +17,5 @@ returns c =
     let some = subst (λ (n : ℕ). 0 < n) d c.positive_mantissa-d.ensures.some in
     subst (IsEnd c.quotient_less.result)
     ((λ i. lowest_dyadic (floor_div ((m i *ℤ pos (2 ^ (p i))) *ℤ pos (2 ^ error_grid (f32 i))) (d i * 2 ^ (k i)) -ℤ pos
-    (units_below (f32 i))) (error_grid (f32 i))) ∙ below_end c.args.a c.args.b f some)
+    (units_below (f32 i))) (error_grid (f32 i))) ∙ quotient_below_end c.args.a c.args.b f some)
     c.quotient_less.ensures

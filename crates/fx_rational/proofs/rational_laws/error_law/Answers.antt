@@ -1,9 +1,9 @@
-use Rattle.fx_rational.proofs.ErrorIdentities.{product_error, centred_product, quotient_error}
+use Rattle.fx_rational.proofs.ErrorIdentities.{product_error_identity, centred_product, quotient_error_identity}
 use Rattle.fx_rational.proofs.rational_laws.error_law.Goals as goal
 
 pub returns : goal.returns
 returns c = record {
-  product = product_error;
+  product = product_error_identity;
   centred = centred_product;
-  quotient = quotient_error;
+  quotient = quotient_error_identity;
 }

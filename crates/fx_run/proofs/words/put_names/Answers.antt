@@ -2,7 +2,7 @@ use Rattle.std.proofs.Common.{◌≡◌, ◌+◌, ◌<◌, ◌++◌, ap, sym, �
 use Rattle.std.specs.Prelude.{codes}
 use Rattle.std.proofs.lemmas.Bool.Decides.{nat_tests}
 use Rattle.fx_model.specs.Page.{line_of, names_from}
-use Rattle.fx_run.proofs.Fields.{rest_of_line, field_put, all_fields, names_length, name_at}
+use Rattle.fx_run.proofs.Fields.{rest_of_line, field_put, all_fields, names_length, output_name_at}
 use Rattle.fx_run.proofs.words.put_names.Goals as goal
 
 pub loop-j-preserved : goal.loop-j-preserved
@@ -14,7 +14,7 @@ loop-j-preserved c =
       line = ap (λ t. t ++ rest_of_line (drop (j + 1) all)) c.put_name.ensures.written
           ∙ field_put all c.args.count j (codes "out" ++ decimal (j + 1)) c.loop-j.page c.args.page.now
           (names_length 1 c.args.count) lt
-          (name_at 1 c.args.count j lt ∙ ap (λ k. codes "out" ++ decimal k) number) c.loop-j.invariant.line;
+          (output_name_at 1 c.args.count j lt ∙ ap (λ k. codes "out" ++ decimal k) number) c.loop-j.invariant.line;
       short = omega (arith, c.loop-j.invariant.short, c.put_name.ensures.short);
     }
 

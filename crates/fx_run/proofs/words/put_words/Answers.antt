@@ -6,7 +6,7 @@ use Rattle.fx_model.specs.Machine.{output_points}
 use Rattle.fx_model.specs.LawfulProgram.{IsPoint}
 use Rattle.fx_model.specs.Page.{line_of, word_texts}
 use Rattle.fx_machine.specs.Steps.{step_taken}
-use Rattle.fx_run.proofs.Fields.{rest_of_line, field_put, no_field, all_fields, fields_length, text_told, point_at}
+use Rattle.fx_run.proofs.Fields.{rest_of_line, field_put, no_field, all_fields, fields_length, text_told, output_point_at}
 use Rattle.fx_run.proofs.words.put_words.Goals as goal
 
 pub loop-j-init : goal.loop-j-init
@@ -27,7 +27,7 @@ put_word-requires-clause-point g c =
     let lt : c.loop-j.j < p.outputs =
     grind (arith, nat_tests, c.loop-j-test.true, c.output_count-count.ensures.value) in
     let point = to_z-of_z w32 c.output_at-word.result.1 (search rules) ∙ c.output_at-word.ensures.point in
-    subst IsPoint (sym point) (point_at p c.loop-j.j c.output_count-count.ensures.lawful lt)
+    subst IsPoint (sym point) (output_point_at p c.loop-j.j c.output_count-count.ensures.lawful lt)
 
 pub loop-j-preserved : goal.loop-j-preserved
 loop-j-preserved g c =
