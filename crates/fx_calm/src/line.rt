@@ -16,9 +16,9 @@ use crate::limit::start_at;
 use crate::magnitude::units;
 use fx_cert::{NodeLine, StartBox, Template, unit_vector};
 use fx_expr::{Function, Items};
-use fx_outward::up_quotient;
-use fx_num::{Dyadic, Interval, Memory};
 use fx_lowering::state_count;
+use fx_num::{Dyadic, Interval, Memory};
+use fx_outward::up_quotient;
 use std::alloc::Global;
 
 /// `m` units `2^-f`, in lowest terms.

@@ -14,8 +14,8 @@ ghost use Rattle.fx_calm.specs.SumOf.{IsWeight};
 
 use fx_expr::{Function, Input};
 use fx_fraction::{Decimal, Fraction, ten_to};
-use fx_outward::{denominator, numerator};
 use fx_num::raised;
+use fx_outward::{denominator, numerator};
 
 /// The number `top / bottom`, which isn't negative.
 #[derive(Clone, Copy, Debug)]

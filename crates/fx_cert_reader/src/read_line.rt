@@ -17,7 +17,9 @@ use crate::path::path;
 use crate::share::{shares, shares_if_any};
 use fx_cert::{Form, NodeLine, StartBox, Template, unit_vector};
 use fx_expr::Items;
-use fx_num::{INPUT_LIMIT, Interval, NODE_LIMIT, PLACE_END, STATE_LIMIT, STEP_LIMIT, TEMPLATE_LIMIT};
+use fx_num::{
+    INPUT_LIMIT, Interval, NODE_LIMIT, PLACE_END, STATE_LIMIT, STEP_LIMIT, TEMPLATE_LIMIT,
+};
 use fx_rewrite::RULE_COUNT;
 use fx_step::Step;
 use fx_text::{

@@ -19,8 +19,8 @@ mod judgement;
 
 pub use condition::{ConditionFault, ConditionKind, Part};
 pub use formula::{
-    clear, difference, ends, interval, is_above, is_at_most, is_below, lies_in, roundoff, minus,
-    near_roundoff, number, opposite, plus, point, product, quotient, reaches, reduced, sum, times,
-    unit, word_value, words, zero,
+    clear, difference, ends, interval, is_above, is_at_most, is_below, lies_in, minus,
+    near_roundoff, number, opposite, plus, point, product, quotient, reaches, reduced, roundoff,
+    sum, times, unit, word_value, words, zero,
 };
 pub use judgement::{Judgement, fault, untrue};

@@ -16,12 +16,12 @@ ghost use Rattle.fx_mixed.specs.Packed.{packed};
 ghost use Rattle.fx_statements.specs.Widths.{FitWidths};
 ghost use Rattle.fx_mixed.specs.Mixing.{IsMixed, IsStored, IsTurned, first_word, first_words, states_among, widths_of};
 
+use crate::Bank;
 use crate::turn::turn_at;
 use crate::widths::least_widths;
 use fx_checker::Certified;
 use fx_fraction::Decimal;
 use fx_num::Memory;
-use crate::Bank;
 use fx_program::{Code, Program};
 use fx_run::StepWords;
 use fx_sound::{start_law, step_law};

@@ -1,8 +1,8 @@
 //! Words in a bank, as a code reads them.
 ghost use Rattle.std.specs.Prelude.{◌≡◌, ◌+◌, ◌≤◌, length, take, drop};
 
-use fx_machine::Words;
 use crate::Bank;
+use fx_machine::Words;
 use fx_word::Word;
 
 /// So many words of a bank, from one of them on.

@@ -14,12 +14,12 @@ ghost use Rattle.fx_machine.specs.Steps.{step_taken};
 ghost use Rattle.fx_statements.specs.Widths.{FitWidths};
 ghost use Rattle.fx_mixed.specs.Mixing.{IsStored, IsTurned, carried, states_among};
 
+use crate::Bank;
 use crate::place::Places;
 use fx_checker::Certified;
 use fx_fraction::Decimal;
 use fx_machine::code_word;
 use fx_model::in_range_law;
-use crate::Bank;
 use fx_program::{Code, Program};
 use fx_sound::step_law;
 use fx_widths::{own_width_law, states_fit_law};

@@ -24,10 +24,10 @@ use crate::parts::quotient_less;
 use crate::quotient::{both_above, both_below, high, is_below, low};
 use crate::rounding::ends;
 use crate::wide::opposite;
-use fx_num::{Dyadic, Interval, greatest, least};
 use fx_formulas::{
     Judgement, clear, difference, interval, minus, number, plus, quotient, sum, times, unit, zero,
 };
+use fx_num::{Dyadic, Interval, greatest, least};
 
 /// Whether it stays a number of 128 bits with the other sign.
 fn is_turnable(m: i128) -> bool

@@ -19,9 +19,9 @@ use crate::quotient::{high, low};
 use crate::rounding::ends;
 use crate::wide::{rest, signed, wide_down, wide_up};
 use fx_expr::Input;
+use fx_formulas::{difference, number, reduced, sum, unit};
 use fx_fraction::{Fraction, dyadic_le, fneg, to_fraction};
 use fx_num::{Dyadic, Interval, left_fits, raised};
-use fx_formulas::{difference, number, reduced, sum, unit};
 
 /// The numerator of `c * 2^f`.
 fn top_of(c: Fraction, f: i32) -> i128

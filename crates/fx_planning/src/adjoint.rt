@@ -22,7 +22,13 @@ fn range_of(ranges: &Ranges, a: usize) -> RoundedInterval {
 }
 
 /// Hands what an operation is worth on to its operands.
-fn hand_on(slopes: &mut [RoundedInterval], ranges: &Ranges, n: usize, node: &Node, own: RoundedInterval) {
+fn hand_on(
+    slopes: &mut [RoundedInterval],
+    ranges: &Ranges,
+    n: usize,
+    node: &Node,
+    own: RoundedInterval,
+) {
     match node {
         Node::Neg { a } => add(slopes, *a, own.negative()),
         Node::Copy { a } => add(slopes, *a, own),

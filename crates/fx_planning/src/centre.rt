@@ -8,7 +8,7 @@ use crate::setting::Setting;
 use fx_flat::Node;
 use fx_num::{floor_shift, left_fits};
 use fx_program::Code;
-use fx_search_numbers::{MaybeInterval, FixedInterval, word_at, word_error};
+use fx_search_numbers::{FixedInterval, MaybeInterval, word_at, word_error};
 
 /// A literal's word at a point, and by how much it differs from the literal.
 #[derive(Clone, Copy)]

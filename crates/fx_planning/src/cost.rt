@@ -7,7 +7,7 @@ use crate::ends::end_excess;
 use crate::setting::Setting;
 use fx_expr::Demand;
 use fx_fraction::{Decimal, to_fraction};
-use fx_search_numbers::{Rounded, FixedInterval};
+use fx_search_numbers::{FixedInterval, Rounded};
 
 /// What bounds are measured by: those of another plan.
 #[derive(Clone, Copy)]
@@ -48,7 +48,12 @@ fn reference(goal: Goal<'_>, j: usize) -> Rounded {
 }
 
 /// How far an output is from what is demanded of it: at least 1, and 1 where all of it is kept.
-fn demand_excess(demand: Demand, range: Option<FixedInterval>, error: FixedInterval, bound: Rounded) -> Rounded {
+fn demand_excess(
+    demand: Demand,
+    range: Option<FixedInterval>,
+    error: FixedInterval,
+    bound: Rounded,
+) -> Rounded {
     let by_error = match demand.err {
         Some(d) => Rounded::ONE.max(bound.over(about(d))),
         None => Rounded::ONE,

@@ -11,7 +11,7 @@ use fx_expr::Demand;
 use fx_fraction::{Decimal, to_fraction};
 use fx_num::Memory;
 use fx_program::Code;
-use fx_search_numbers::{Rounded, RoundedInterval, FixedInterval, ceil_at, floor_at};
+use fx_search_numbers::{FixedInterval, Rounded, RoundedInterval, ceil_at, floor_at};
 use std::alloc::Global;
 
 /// How often a word is moved for one output: the first move is cut to whole units.
@@ -63,7 +63,11 @@ fn downward(end: Option<Decimal>, values: FixedInterval) -> Rounded {
 
 /// By how much an output's error has to move up for its values to keep the demanded lower end, and how far down for the
 /// upper one. Zero where they are kept, and where an end doesn't fit: the checker judges what is found.
-pub fn moves_wanted(demand: Demand, range: FixedInterval, error: FixedInterval) -> (Rounded, Rounded) {
+pub fn moves_wanted(
+    demand: Demand,
+    range: FixedInterval,
+    error: FixedInterval,
+) -> (Rounded, Rounded) {
     let values = if demand.lo.is_none() && demand.hi.is_none() {
         None
     } else {
@@ -76,7 +80,12 @@ pub fn moves_wanted(demand: Demand, range: FixedInterval, error: FixedInterval) 
 }
 
 /// What an output's ends cost: 1 where they are kept, and the more the further they are left, by the error's size.
-pub fn end_excess(demand: Demand, range: FixedInterval, error: FixedInterval, bound: Rounded) -> Rounded {
+pub fn end_excess(
+    demand: Demand,
+    range: FixedInterval,
+    error: FixedInterval,
+    bound: Rounded,
+) -> Rounded {
     let (up, down) = moves_wanted(demand, range, error);
     let passed = up.max(down);
     if passed.is_zero() {
@@ -99,7 +108,13 @@ fn units_for(slope: RoundedInterval, by: Rounded) -> Option<i64> {
 }
 
 /// The move of one literal that shifts an error by so much, up or down, if its slope by unit has a sign.
-fn push(node: usize, slope: RoundedInterval, ends: RoundedInterval, by: Rounded, is_up: bool) -> Option<Move> {
+fn push(
+    node: usize,
+    slope: RoundedInterval,
+    ends: RoundedInterval,
+    by: Rounded,
+    is_up: bool,
+) -> Option<Move> {
     match units_for(slope, by) {
         Some(size) => {
             let is_rising = Rounded::ZERO < slope.lo;

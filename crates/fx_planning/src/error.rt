@@ -10,7 +10,7 @@ use crate::setting::Setting;
 use fx_num::{Memory, left_fits};
 use fx_program::{Code, Kind};
 use fx_ranges::{Mix, RangeForm, Ranges, Unplanned, mix_of, weighted};
-use fx_search_numbers::{MaybeInterval, FixedInterval, reading_error, word_error};
+use fx_search_numbers::{FixedInterval, MaybeInterval, reading_error, word_error};
 use std::alloc::Global;
 
 /// What the second pass says of all nodes.
@@ -133,7 +133,12 @@ fn product_error(
 }
 
 /// The plain error of an operation but a quotient, before it is rounded.
-fn unrounded_error(setting: &Setting<'_>, errors: &Errors, code: &Code, point: i32) -> MaybeInterval {
+fn unrounded_error(
+    setting: &Setting<'_>,
+    errors: &Errors,
+    code: &Code,
+    point: i32,
+) -> MaybeInterval {
     match &code.kind() {
         Kind::Mul { r, a, b, s } => {
             let roundoff = shift_roundoff(*r, i64::from(*s), point);
@@ -145,7 +150,12 @@ fn unrounded_error(setting: &Setting<'_>, errors: &Errors, code: &Code, point: i
 }
 
 /// The plain error of an operation but a quotient, on the grid of its point.
-pub fn plain_error(setting: &Setting<'_>, errors: &Errors, code: &Code, point: i32) -> MaybeInterval {
+pub fn plain_error(
+    setting: &Setting<'_>,
+    errors: &Errors,
+    code: &Code,
+    point: i32,
+) -> MaybeInterval {
     setting.on_error_grid(unrounded_error(setting, errors, code, point), point)
 }
 
@@ -168,7 +178,12 @@ fn cut_off(
 }
 
 /// A sum with so much of a variable's error, on this grid.
-fn with_share(sum: MaybeInterval, share: Option<i128>, e: u32, error: MaybeInterval) -> MaybeInterval {
+fn with_share(
+    sum: MaybeInterval,
+    share: Option<i128>,
+    e: u32,
+    error: MaybeInterval,
+) -> MaybeInterval {
     match share {
         Some(m) => sum.plus_scaled(m, e, error),
         None => MaybeInterval::NONE,

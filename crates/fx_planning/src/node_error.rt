@@ -1,6 +1,6 @@
 //! What the second pass says of one node.
 
-use fx_search_numbers::{MaybeInterval, FixedInterval};
+use fx_search_numbers::{FixedInterval, MaybeInterval};
 
 /// What is said of one node.
 #[derive(Clone, Copy)]
@@ -39,7 +39,11 @@ impl NodeError {
     }
 
     /// The narrower of a plain error and a form's with its rest.
-    pub fn narrower(plain: FixedInterval, by_form: FixedInterval, rest: FixedInterval) -> Option<NodeError> {
+    pub fn narrower(
+        plain: FixedInterval,
+        by_form: FixedInterval,
+        rest: FixedInterval,
+    ) -> Option<NodeError> {
         match by_form.is_narrower(plain) {
             Some(is_shown) => Some(NodeError {
                 span: if is_shown { by_form } else { plain },

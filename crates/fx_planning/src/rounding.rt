@@ -1,7 +1,7 @@
 //! What the shifts of codes lose, and what a quotient is off.
 
 use fx_program::Round;
-use fx_search_numbers::{MaybeInterval, FixedInterval, unit_on};
+use fx_search_numbers::{FixedInterval, MaybeInterval, unit_on};
 
 /// From a unit of a point below zero to one above it, or to zero.
 fn units(point: i32, e: u32, is_above: bool) -> MaybeInterval {

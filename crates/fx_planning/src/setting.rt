@@ -7,7 +7,7 @@ use fx_fraction::Fraction;
 use fx_num::{Memory, bits};
 use fx_program::Code;
 use fx_ranges::{Ranges, Unplanned, codes_of, operands};
-use fx_search_numbers::{MaybeInterval, FixedInterval};
+use fx_search_numbers::{FixedInterval, MaybeInterval};
 use fx_wanted::Wanted;
 use std::alloc::Global;
 

@@ -7,7 +7,7 @@
 use crate::coefficients::Coefficients;
 use fx_flat::Node;
 use fx_num::{Dyadic, bits, floor_shift, left_fits};
-use fx_search_numbers::{Grids, MaybeInterval, FixedInterval, product};
+use fx_search_numbers::{FixedInterval, Grids, MaybeInterval, product};
 
 /// What a form has beside its coefficients, which stand in a row of `Coefficients`.
 #[derive(Clone, Copy)]
@@ -39,7 +39,13 @@ impl RangeForm {
     }
 
     /// The form with this rest, whose coefficients on the grid `e` have so many places less.
-    fn cut(self, rest: Option<FixedInterval>, e: u32, places: u32, grids: Grids) -> Option<RangeForm> {
+    fn cut(
+        self,
+        rest: Option<FixedInterval>,
+        e: u32,
+        places: u32,
+        grids: Grids,
+    ) -> Option<RangeForm> {
         match rest {
             Some(rest) => Some(RangeForm {
                 e: e.saturating_sub(places),
@@ -182,7 +188,12 @@ pub fn centre_at(range: FixedInterval, at: Centre, grids: Grids) -> Option<Dyadi
 }
 
 /// A rest and the sum of the row's coefficients by what is said of each input.
-pub fn weighted(row: &[i128], e: u32, rest: FixedInterval, inputs: &[FixedInterval]) -> Option<FixedInterval> {
+pub fn weighted(
+    row: &[i128],
+    e: u32,
+    rest: FixedInterval,
+    inputs: &[FixedInterval],
+) -> Option<FixedInterval> {
     let mut sum = MaybeInterval::some(rest);
     for (m, span) in row.iter().zip(inputs) {
         sum = sum.plus_scaled(*m, e, MaybeInterval::some(*span));
@@ -272,7 +283,12 @@ fn cut_at(
 }
 
 /// A sum with so many times an input, if both are there.
-fn with_off(sum: MaybeInterval, off: Option<i128>, e: u32, input: Option<&FixedInterval>) -> MaybeInterval {
+fn with_off(
+    sum: MaybeInterval,
+    off: Option<i128>,
+    e: u32,
+    input: Option<&FixedInterval>,
+) -> MaybeInterval {
     match off {
         Some(off) => sum.plus_scaled(off, e, MaybeInterval::of(input.copied())),
         None => MaybeInterval::NONE,

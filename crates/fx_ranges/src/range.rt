@@ -9,7 +9,7 @@ use fx_expr::Function;
 use fx_flat::{Node, Nodes};
 use fx_fraction::Fraction;
 use fx_num::{Dyadic, GREATEST_POINT, LEAST_POINT, Memory, bits};
-use fx_search_numbers::{Grids, MaybeInterval, FixedInterval, fits_word, range_between, range_of};
+use fx_search_numbers::{FixedInterval, Grids, MaybeInterval, fits_word, range_between, range_of};
 use std::alloc::Global;
 
 /// There is no plan: this node is the first for which the pass has nothing to say.
@@ -189,7 +189,12 @@ fn quotient_range(a: FixedInterval, b: FixedInterval, grids: Grids) -> Option<Fi
 }
 
 /// The range of an operation whose operands have these, before it is rounded.
-fn unrounded_range(node: &Node, a: FixedInterval, b: FixedInterval, grids: Grids) -> Option<FixedInterval> {
+fn unrounded_range(
+    node: &Node,
+    a: FixedInterval,
+    b: FixedInterval,
+    grids: Grids,
+) -> Option<FixedInterval> {
     match node {
         Node::Neg { .. } => a.negative(),
         Node::Add { .. } => a.plus(b),
@@ -368,7 +373,11 @@ fn narrower(first: FixedInterval, second: FixedInterval) -> Option<(FixedInterva
 }
 
 /// The narrower of an operation's plain range and its form's, with the form.
-fn with_form(plain: FixedInterval, form: RangeForm, by_form: FixedInterval) -> Option<(FixedInterval, Option<RangeForm>)> {
+fn with_form(
+    plain: FixedInterval,
+    form: RangeForm,
+    by_form: FixedInterval,
+) -> Option<(FixedInterval, Option<RangeForm>)> {
     match narrower(plain, by_form) {
         Some((range, shows_range)) => Some((
             range,

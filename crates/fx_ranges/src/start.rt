@@ -3,7 +3,7 @@
 use crate::code::start_word;
 use fx_expr::Function;
 use fx_fraction::to_fraction;
-use fx_search_numbers::{Grids, FixedInterval, range_between, word_error};
+use fx_search_numbers::{FixedInterval, Grids, range_between, word_error};
 
 /// Where the start value of state `k` lies, outward on a grid.
 pub fn start_range(function: &Function, k: usize, grids: Grids) -> Option<FixedInterval> {

@@ -7,8 +7,8 @@ ghost use Rattle.fx_rows.specs.Places.{places_of};
 ghost use Rattle.fx_rows.specs.UnitColumn.{column_after, column_among, column_of};
 
 use crate::blanks::trimmed;
-use csv::ByteRecord;
 use crate::record_of;
+use csv::ByteRecord;
 use fx_num::Memory;
 use std::alloc::Global;
 

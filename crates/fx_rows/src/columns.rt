@@ -11,9 +11,9 @@ ghost use Rattle.fx_rows.specs.Places.{places_of, kept_of};
 
 use crate::blanks::trimmed;
 use crate::fault::{MEMORY, RowFault, RowKind, line_fault};
+use crate::record_of;
 use csv::ByteRecord;
 use fx_expr::{Function, Input, Items};
-use crate::record_of;
 use fx_num::Memory;
 use indexmap::IndexMap;
 use std::alloc::Global;

@@ -38,12 +38,12 @@ mod row;
 mod skip;
 mod unit;
 
-pub use line::{Record, plain_line_law, plain_text, record_of, unmarked_line_law};
-pub use pieces::{Pieces, piece_from};
 pub use column::{Column, find_column};
 pub use columns::{Columns, read_header};
 pub use fault::{RowFault, RowKind};
 pub use law::rows_in_range_law;
+pub use line::{Record, plain_line_law, plain_text, record_of, unmarked_line_law};
+pub use pieces::{Pieces, piece_from};
 pub use reader::RowReader;
 pub use row::read_row;
 pub use unit::{UnitKind, read_unit};

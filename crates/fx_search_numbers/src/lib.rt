@@ -17,13 +17,14 @@
 //! trap: intervals are exact, and grow by each product, unless somebody rounds them (`Grids::rounded`, `FixedInterval::outward`).
 #![tactic(auto)]
 
+mod fixed_interval;
 mod grid;
 mod literal;
 mod maybe;
 mod rounded;
 mod rounded_interval;
-mod fixed_interval;
 
+pub use fixed_interval::{FixedInterval, product};
 pub use grid::Grids;
 pub use literal::{
     ceil_at, fits_word, floor_at, input_error, nearest, range_between, range_of, reading_error,
@@ -32,4 +33,3 @@ pub use literal::{
 pub use maybe::MaybeInterval;
 pub use rounded::Rounded;
 pub use rounded_interval::RoundedInterval;
-pub use fixed_interval::{FixedInterval, product};

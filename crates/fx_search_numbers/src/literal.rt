@@ -1,7 +1,7 @@
 //! Fractions and decimals on grids: their floors, the words of literals, and the errors of those words.
 
-use crate::grid::Grids;
 use crate::fixed_interval::FixedInterval;
+use crate::grid::Grids;
 use fx_fraction::{Decimal, Fraction, to_fraction};
 use fx_num::{Dyadic, bits, ceil_shift, floor_shift, left_fits};
 

@@ -1,7 +1,7 @@
 //! Intervals of rounded numbers.
 
-use crate::rounded::Rounded;
 use crate::fixed_interval::FixedInterval;
+use crate::rounded::Rounded;
 
 /// The numbers from one to another.
 #[derive(Clone, Copy, Debug)]

@@ -11,13 +11,13 @@ use crate::sides::{OfErrors, OfValues};
 use crate::task::Task;
 use fx_cert::{Share, StartBox};
 use fx_checker::{Certified, judge_candidate};
-use fx_simplex::Budget;
 use fx_expr::Items;
 use fx_flat::Nodes;
 use fx_num::Memory;
 use fx_planning::Plan;
 use fx_ranges::Ranges;
-use fx_search_numbers::{Grids, FixedInterval};
+use fx_search_numbers::{FixedInterval, Grids};
+use fx_simplex::Budget;
 use fx_writing::{Kept, plan_lines, write_with_states};
 use std::alloc::Global;
 
@@ -88,7 +88,11 @@ fn backed_off(
 }
 
 /// The boxes in which the states start, by value and by error.
-fn start_boxes(alloc: Global, values: &[FixedInterval], errors: &[FixedInterval]) -> Result<Vec<StartBox>, Memory> {
+fn start_boxes(
+    alloc: Global,
+    values: &[FixedInterval],
+    errors: &[FixedInterval],
+) -> Result<Vec<StartBox>, Memory> {
     let ranges = intervals(alloc, values)?;
     let words = intervals(alloc, errors)?;
     let mut boxes = Vec::new(alloc);

@@ -10,12 +10,12 @@ ghost use Rattle.fx_checker.specs.Answers.{IsAnswerFor, IsOffered};
 use crate::attempt::certified;
 use crate::task::Task;
 use fx_checker::Certified;
-use fx_simplex::Budget;
 use fx_expr::Function;
 use fx_flat::{Node, Nodes, flatten};
 use fx_moves::{Draft, clean_all};
 use fx_num::{Memory, dle};
 use fx_search_numbers::Grids;
+use fx_simplex::Budget;
 use fx_wanted::Wanted;
 use std::alloc::Global;
 

@@ -7,13 +7,13 @@
 use crate::boxes::span_of;
 use crate::task::Task;
 use fx_cert::{Form, NodeLine, Share, Template};
-use fx_simplex::{Apart, Budget, Combination, ScaledTemplates, pool_of, take_apart};
 use fx_expr::Items;
 use fx_flat::Nodes;
 use fx_num::{Dyadic, Interval, Memory, dle, lowest, outward};
 use fx_ranges::Ranges;
-use fx_template_reach::magnitude;
 use fx_search_numbers::FixedInterval;
+use fx_simplex::{Apart, Budget, Combination, ScaledTemplates, pool_of, take_apart};
+use fx_template_reach::magnitude;
 use fx_writing::range_lines;
 use std::alloc::Global;
 

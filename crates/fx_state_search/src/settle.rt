@@ -7,11 +7,11 @@
 use crate::boxes::{hold_all, intervals, next_boxes};
 use crate::task::Task;
 use fx_cert::{NodeLine, Side};
-use fx_simplex::Budget;
 use fx_num::Memory;
+use fx_search_numbers::FixedInterval;
+use fx_simplex::Budget;
 use fx_template_candidates::{Proposal, propose_templates_within};
 use fx_template_reach::Transition;
-use fx_search_numbers::FixedInterval;
 use std::alloc::Global;
 
 /// So often boxes are widened, at most.

@@ -11,7 +11,7 @@ use fx_num::{Dyadic, Memory};
 use fx_planning::{Cost, Plan, bound, find_plan};
 use fx_points::{NodeFacts, PointFault, choose_points};
 use fx_ranges::{Ranges, Unplanned, find_ranges};
-use fx_search_numbers::{Grids, Rounded, FixedInterval, input_error};
+use fx_search_numbers::{FixedInterval, Grids, Rounded, input_error};
 use std::alloc::Global;
 
 /// So often points are chosen again, at most.

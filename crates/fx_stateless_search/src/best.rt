@@ -10,7 +10,7 @@ use crate::task::Task;
 use fx_moves::Draft;
 use fx_num::Memory;
 use fx_planning::Cost;
-use fx_search_numbers::{Grids, Rounded, FixedInterval};
+use fx_search_numbers::{FixedInterval, Grids, Rounded};
 use std::alloc::Global;
 use std::mem::replace;
 

@@ -215,7 +215,11 @@ fn certify_draft(
 }
 
 /// What the source as it stands gives, for want of a program by any steps.
-fn certify_source(alloc: Global, task: Task<'_>, held: &[Dyadic]) -> Result<Option<Certified>, Memory>
+fn certify_source(
+    alloc: Global,
+    task: Task<'_>,
+    held: &[Dyadic],
+) -> Result<Option<Certified>, Memory>
     ensures { IfOk result (IsOffered task.entry.wanted task.entry.source.now) }
 {
     let source = Draft::new(alloc, task.source)?;

@@ -9,11 +9,11 @@ ghost use Rattle.fx_wanted.specs.Asked.{tries_limit};
 ghost use Rattle.fx_synth.specs.Synthesis.{Explains, IsSynthesised};
 
 use crate::fault::SynthFault;
-use fx_plain_attempts::{bounds_of, first_answer, take_better, try_plainly};
 use fx_checker::Certified;
 use fx_expr::Function;
-use fx_state_search::certify_states;
 use fx_num::{Dyadic, Memory};
+use fx_plain_attempts::{bounds_of, first_answer, take_better, try_plainly};
+use fx_state_search::certify_states;
 use fx_stateless_search::search;
 use fx_wanted::{Round, Wanted};
 use fx_weight::find_obstacle;

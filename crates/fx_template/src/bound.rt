@@ -7,8 +7,8 @@ ghost use Rattle.fx_template.specs.Combining.{HasNearSpan, bound_form};
 
 use crate::affine::Affine;
 use crate::product::scaled;
-use fx_num::Interval;
 use fx_formulas::{interval, plus};
+use fx_num::Interval;
 
 /// The rest and the products of coefficients and ranges, summed.
 pub fn aff_bound(a: &Affine, ranges: &[Interval]) -> Option<Interval>

@@ -11,8 +11,8 @@ ghost use Rattle.fx_template.specs.Combining.{FormulaForm, HasNearForm, HasNearP
 use crate::affine::{Affine, AffineFault};
 use crate::coefs::Coefs;
 use crate::product::{product, product_rest, scaled};
-use fx_num::{Dyadic, Interval};
 use fx_formulas::{interval, number, plus, sum};
+use fx_num::{Dyadic, Interval};
 use std::alloc::Global;
 
 /// Appends a coefficient.

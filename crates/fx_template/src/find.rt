@@ -8,20 +8,20 @@ ghost use Rattle.fx_template.specs.Transitions.{IsModestTransition, transition_i
 ghost use Rattle.fx_template.specs.Templates.{AreCountedTemplates, AreKept, AreWrittenBounds};
 ghost use Rattle.fx_template.specs.Answers.{HasWrittenBounds, HasWrittenStates, IsInvariant, NamesFallen, found_in};
 
+use crate::PlannedNodes;
 use crate::format::are_templates;
 use crate::planned::step_by_plan;
 use crate::round::plain_rounds;
 use crate::stand::{first_fallen, is_met};
 use crate::template::{FoundTemplates, TemplateFault};
 use crate::unit::unit_templates;
-use crate::PlannedNodes;
 use fx_cert::{Side, Template};
 use fx_expr::Items;
 use fx_flat::Nodes;
 use fx_num::Memory;
 use fx_template_candidates::propose_templates;
-use fx_template_reach::Transition;
 use fx_template_conditions::template_judgement;
+use fx_template_reach::Transition;
 use std::alloc::Global;
 
 /// Whether one step keeps each of these templates.

@@ -9,8 +9,8 @@ ghost use Rattle.fx_cert.specs.CertificateView.{shares_of, template_view, templa
 ghost use Rattle.fx_template.specs.Templates.{AreCountedTemplates, AreWrittenBounds, IsCountedTemplate};
 
 use fx_cert::{Share, Template, unit_coef};
-use fx_outward::is_small;
 use fx_num::{Dyadic, Interval, TEMPLATE_LIMIT};
+use fx_outward::is_small;
 
 /// How many templates a certificate has at most, as lists count.
 const TEMPLATES: usize = TEMPLATE_LIMIT as usize;

@@ -53,11 +53,11 @@ pub use affine::{Affine, AffineFault};
 pub use bound::aff_bound;
 pub use coefs::Coefs;
 pub use combine::{aff_add, aff_mul, aff_scale};
+pub use find::{find_templates, templates_over};
 pub use formless::roundoff;
+pub use modest::is_modest;
 pub use places::aff_places;
 pub use plan::PlannedNodes;
-pub use find::{find_templates, templates_over};
-pub use modest::is_modest;
 pub use planned::step_by_plan;
 pub use template::{FoundTemplates, TemplateFault};
 

@@ -13,8 +13,8 @@ ghost use Rattle.fx_inequalities.specs.OperationSpans.{product_rest};
 ghost use Rattle.fx_formulas.specs.Judging.{Forms, FormsSpan};
 ghost use Rattle.fx_template.specs.Combining.{HasNearProducts, HasNearSpan};
 
-use fx_num::{Dyadic, Interval, dmul, imul};
 use fx_formulas::{interval, minus, number, plus, point};
+use fx_num::{Dyadic, Interval, dmul, imul};
 
 /// Whether the exponent of a product is one that a dyadic can have.
 fn is_near(x: Dyadic, y: Dyadic) -> bool

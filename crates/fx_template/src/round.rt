@@ -14,11 +14,11 @@ ghost use Rattle.fx_template.specs.RoundView.{AreShortBoth, AreShortBounds, boun
 
 use crate::unit::{bound_at, unit_templates};
 use fx_cert::{Side, Template, error_at, range_at};
-use fx_outward::{Why, error_grid, round_outward};
-use fx_num::{Interval, Memory, greatest, least};
 use fx_formulas::interval;
-use fx_template_reach::Transition;
+use fx_num::{Interval, Memory, greatest, least};
+use fx_outward::{Why, error_grid, round_outward};
 use fx_template_conditions::template_bound_of;
+use fx_template_reach::Transition;
 use std::alloc::Global;
 
 /// The bounds of the unit templates and of the unit error templates.

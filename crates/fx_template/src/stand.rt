@@ -14,11 +14,11 @@ ghost use Rattle.fx_template.specs.RoundView.{bounds_in};
 use crate::round::Bounds;
 use crate::unit::bound_at;
 use fx_cert::{Side, Template};
-use fx_outward::is_small;
-use fx_num::Interval;
 use fx_formulas::Judgement;
-use fx_template_reach::Transition;
+use fx_num::Interval;
+use fx_outward::is_small;
 use fx_template_conditions::template_judgement;
+use fx_template_reach::Transition;
 
 /// Whether comparisons fit and are true.
 pub fn is_met(judgement: Judgement) -> bool

@@ -1,9 +1,11 @@
 //! All templates of a try: chains one after the other, as long as there is place, and exchanges where they end early.
 
 use fx_cert::Share;
-use fx_simplex::{Budget, ScaledTemplates, exchange};
 use fx_num::{Dyadic, Memory, TEMPLATE_LIMIT};
-use fx_template_reach::{Ahead, Chain, Costs, Linear, Pool, find_closing, room, times_of, wanted_length};
+use fx_simplex::{Budget, ScaledTemplates, exchange};
+use fx_template_reach::{
+    Ahead, Chain, Costs, Linear, Pool, find_closing, room, times_of, wanted_length,
+};
 use std::alloc::Global;
 use std::mem::replace;
 

@@ -6,8 +6,8 @@
 use crate::build::{free_chains, once, put_exchanged, taken};
 use crate::rungs::Rung;
 use fx_cert::Share;
-use fx_simplex::{Budget, ScaledTemplates, costs_at_most};
 use fx_num::{Memory, TEMPLATE_LIMIT};
+use fx_simplex::{Budget, ScaledTemplates, costs_at_most};
 use fx_template_reach::{Ahead, Chain, Linear, PLACES, Pool, Templates, room_part, unit_cost};
 use std::alloc::Global;
 

@@ -5,9 +5,9 @@ use crate::ends::Ends;
 use crate::system::System;
 use crate::tries::{Goal, Solved, put_bounds};
 use fx_cert::{Share, Side, Template};
-use fx_simplex::Budget;
 use fx_expr::Items;
 use fx_num::{Dyadic, Interval, Memory, left_fits};
+use fx_simplex::Budget;
 use fx_template_reach::{
     Chain, Linear, Pool, Transition, in_units, moved, moved_interval, unit_at, units_of,
 };

@@ -5,8 +5,8 @@
 //! next to nothing.
 
 use crate::left::Left;
-use fx_simplex::{entry_of, take_row};
 use fx_num::Memory;
+use fx_simplex::{entry_of, take_row};
 use std::alloc::Global;
 use std::mem::replace;
 

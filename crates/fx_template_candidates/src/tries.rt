@@ -8,8 +8,8 @@ use crate::ends::Ends;
 use crate::ladder::{Building, place};
 use crate::rungs::{RUNGS, Rung};
 use crate::system::System;
-use fx_simplex::{Budget, ScaledTemplates, exchange};
 use fx_num::{Interval, Memory, left_fits};
+use fx_simplex::{Budget, ScaledTemplates, exchange};
 use fx_template_reach::{Chain, Costs, Linear, Pole, Pool, pole_templates, poles_of, to_float};
 use std::alloc::Global;
 

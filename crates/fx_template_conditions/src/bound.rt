@@ -18,8 +18,8 @@ ghost use Rattle.fx_conditions.specs.Limits.{AreShortLines, AreShortShares, AreS
 use crate::quick::{ShortTimes, less_raised, short_times, times_ends};
 use fx_cert::{Form, NodeLine, Share, Side, Template, coef_at};
 use fx_conditions::{bound_of, scaled, scaled_number, side_of};
-use fx_num::{Dyadic, INPUT_LIMIT, Interval, STATE_LIMIT};
 use fx_formulas::{difference, number, plus, point, times};
+use fx_num::{Dyadic, INPUT_LIMIT, Interval, STATE_LIMIT};
 
 /// The most variables: all inputs and states.
 pub const VARIABLES: usize = (INPUT_LIMIT + STATE_LIMIT) as usize;

@@ -21,11 +21,11 @@ use crate::start::box_interval;
 use fx_cert::{Certificate, NodeLine, Side, StartBox, error_at, range_at};
 use fx_conditions::{Matched, divisor_judgement, word_judgement, zero_fraction};
 use fx_expr::Function;
-use fx_fraction::{Fraction, to_fraction};
-use fx_num::Interval;
 use fx_formulas::{
     ConditionFault, ConditionKind, Judgement, Part, difference, fault, number, reaches, word_value,
 };
+use fx_fraction::{Fraction, to_fraction};
+use fx_num::Interval;
 
 /// The earlier fault.
 pub fn first(a: Option<ConditionFault>, b: Option<ConditionFault>) -> Option<ConditionFault>

@@ -24,8 +24,8 @@ use crate::bound::{bound_by_templates, form_coefs};
 use fx_cert::{Certificate, Form, NodeLine, Share, Side, Template, error_at, range_at};
 use fx_conditions::{Matched, error_judgement, form_at, form_judgement, range_judgement, within};
 use fx_expr::Function;
-use fx_num::Interval;
 use fx_formulas::{ConditionFault, ConditionKind, Judgement, Part, fault, interval, untrue};
+use fx_num::Interval;
 
 /// A form's own rest.
 fn own_rest(side: &Side, form: &Form) -> Option<Interval>

@@ -16,11 +16,11 @@ ghost use Rattle.fx_template_conditions.specs.Boxes.{box_at};
 use fx_cert::{Side, StartBox, Template};
 use fx_conditions::{bound_of, template_coef_of, zero_fraction};
 use fx_expr::Function;
-use fx_fraction::{Fraction, to_fraction};
-use fx_num::Interval;
 use fx_formulas::{
     Judgement, difference, interval, lies_in, number, plus, point, reaches, times, word_value, zero,
 };
+use fx_fraction::{Fraction, to_fraction};
+use fx_num::Interval;
 
 /// The box of state `s`.
 fn box_of(starts: &[StartBox], side: &Side, s: u32) -> Option<Interval>

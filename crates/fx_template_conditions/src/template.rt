@@ -15,8 +15,8 @@ ghost use Rattle.fx_conditions.specs.Limits.{AreShortLines, AreShortTemplates};
 use crate::bound::{VARIABLES, bound_by_templates};
 use fx_cert::{Form, NodeLine, Share, Side, StartBox, Template, coef_at};
 use fx_conditions::{bound_of, coef_of, side_rest_of, template_coef_of};
-use fx_num::{Dyadic, Interval};
 use fx_formulas::{Judgement, interval, lies_in, number, plus, point, product, sum, times, zero};
+use fx_num::{Dyadic, Interval};
 
 /// The shares of template `i`.
 fn shares_at(templates: &[Template], i: u32) -> &[Share]

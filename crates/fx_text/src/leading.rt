@@ -2,9 +2,9 @@
 ghost use Rattle.std.specs.Prelude.{◌≡◌, ◌<◌, ◌≤◌, IfSome, IsTrue, length, slice_index};
 ghost use Rattle.fx_text.specs.Leading.{IsLeading, IsEnd, sign_end};
 
+use crate::cut_at;
 use crate::digits::unsigned_at;
 use fx_fraction::{Decimal, fewest_places, read_decimal};
-use crate::cut_at;
 
 // Where a minus ends, if one stands first.
 #[inline]

@@ -39,7 +39,6 @@ mod lines;
 mod numeral;
 mod print;
 
-pub use leading::leading_decimal;
 pub use cut::{Fields, cut_at, line_at};
 pub use fault::{TextFault, TextKind};
 pub use field::{count, dyadic, dyadics, ended, interval, number, place, small, word};
@@ -47,6 +46,7 @@ pub use law::{
     count_law, dyadic_law, dyadics_law, integer_law, interval_law, line_law, line_text_law,
     number_law, place_law, whole_law, word_law,
 };
+pub use leading::leading_decimal;
 pub use line::{fields_at, text_ended};
 pub use lines::{LineReader, read_lines, read_more_lines};
 pub use numeral::{integer, whole};

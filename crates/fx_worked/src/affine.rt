@@ -4,8 +4,8 @@ ghost use Rattle.std.specs.Prelude.{◌^◌};
 ghost use Rattle.fx_inequalities.specs.Formula.{Num, span};
 ghost use Rattle.fx_formulas.specs.Places.{IsShort, IsShortSpan};
 
-use fx_template::{Affine, AffineFault, Coefs, aff_add, aff_mul, aff_places, aff_scale};
 use fx_num::{Dyadic, Interval};
+use fx_template::{Affine, AffineFault, Coefs, aff_add, aff_mul, aff_places, aff_scale};
 use std::alloc::Global;
 use std::process::Abort;
 use std::test::Fail;

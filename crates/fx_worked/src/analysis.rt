@@ -1,7 +1,6 @@
 //! A plan of given ranges and points.
 
 use crate::sources::{GREAT, function_of};
-use fx_template::roundoff;
 use fx_analysis::{points, ranges};
 use fx_expr::Items;
 use fx_flat::flatten;
@@ -9,6 +8,7 @@ use fx_num::{Dyadic, Interval};
 use fx_program::Round;
 use fx_rewrite::apply;
 use fx_step::Step;
+use fx_template::roundoff;
 use std::test::Fail;
 
 // The product reaches 1.6 * 10^19, which no certificate can hold. Rule 5 takes the eighth of the second factor first.

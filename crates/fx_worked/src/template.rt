@@ -1,10 +1,13 @@
 //! Templates that one step keeps, for a plan with forms.
 
 use crate::sources::{AVERAGER, function_of};
-use fx_template::{Affine, Coefs, FoundTemplates, PlannedNodes, find_templates, is_modest, step_by_plan, templates_over};
 use fx_cert::Template;
 use fx_flat::{Nodes, flatten};
 use fx_num::{Dyadic, Interval, dle};
+use fx_template::{
+    Affine, Coefs, FoundTemplates, PlannedNodes, find_templates, is_modest, step_by_plan,
+    templates_over,
+};
 use std::alloc::Global;
 use std::process::Abort;
 use std::test::Fail;

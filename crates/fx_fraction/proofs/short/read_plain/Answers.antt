@@ -8,7 +8,7 @@ pub returns : goal.returns
 returns c =
     let n = c.in_ok-number.number in
     IfSome_then c.fewest_places.result c.fewest_places.ensures (λ d keeps.
-        sym (plain_is c.args.text.now c.behind_sign-body.result.now n.size n.places n.end c.behind_sign-body.ensures
-        c.in_ok-number.ensures (omega arith))
-        ∙ ap (λ b. within_limits b (trimmed n.size n.places)) (sym c.is_negative.ensures)
-        ∙ keeps)
+    sym (plain_is c.args.text.now c.behind_sign-body.result.now n.size n.places n.end c.behind_sign-body.ensures
+    c.in_ok-number.ensures (omega arith))
+    ∙ ap (λ b. within_limits b (trimmed n.size n.places)) (sym c.is_negative.ensures)
+    ∙ keeps)
