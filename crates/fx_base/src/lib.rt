@@ -14,8 +14,8 @@
 //! before (`asked`). `put_all` appends all (`all`) or, where a write failed, a front (`front`, `cause`). The kinds in
 //! memory `BytesIn`, `CleanIn`, `BytesOut`, `Silent` and `Papers` say what each call gives and leaves (`count`,
 //! `after`) and which fails (`fails`; of `BytesOut` want of memory may fail others; `CleanIn` and `Silent` never fail).
-//! Real streams and files, `StdIn`, `StdOut`, `StdErr` and `Files`, are what both programs hand on: they tell nothing, so
-//! no clause says that a stream gives what it holds.
+//! Real streams and files, `StdIn`, `StdOut`, `StdErr` and `Files`, are what both programs hand on: they tell nothing,
+//! so no clause says that a stream gives what it holds.
 //!
 //! *The lines of a source, one at a time.* `next_line` answers a line as soon as the bytes taken hold its end and reads
 //! only where they hold none (`lazy`); whatever comes behind the bytes taken, the line is the first of their lines, of

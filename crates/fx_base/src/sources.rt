@@ -3,9 +3,9 @@
 //! A source tells what is `seen` of it, and may tell the bytes still to come (`left`). Callers are generic, so what
 //! they prove of a source that tells holds of the bytes of a real stream, which tells nothing. Whoever feeds a source
 //! may look at a sink before more bytes come, so each read is shown that sink: what a caller owes by then can be said
-//! of the moments that a source notes (`asked`). `BytesIn` comes in pieces and fails at chosen calls, to show that a caller
-//! gives the same bytes whatever the pieces; `CleanIn` never fails. The trap: a method here that states clauses of its
-//! own has to repeat the trait's.
+//! of the moments that a source notes (`asked`). `BytesIn` comes in pieces and fails at chosen calls, to show that a
+//! caller gives the same bytes whatever the pieces; `CleanIn` never fails. The trap: a method here that states clauses
+//! of its own has to repeat the trait's.
 ghost use Rattle.std.specs.Prelude.{◌≡◌, ◌≤◌, ◌↔◌, [], length, drop, min, Contains, IsErr, IfOk, OnErr, IsOkAnd, Some};
 ghost use Rattle.std.specs.Io.{ReadsAtMost};
 ghost use Rattle.std.specs.Io.KnownBytes.{ReadConsumes};

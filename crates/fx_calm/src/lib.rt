@@ -44,7 +44,7 @@ ghost use Rattle.fx_calm.specs.Summands.{SumLaw};
 pub use fault::CalmFault;
 pub use plan::calm_plan;
 
-/// So many digits decide.
+/// A sum's digits decide, as many as are looked at.
 pub fn sum_law()
     ensures { SumLaw }
 {}

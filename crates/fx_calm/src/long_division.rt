@@ -6,7 +6,7 @@ ghost use Rattle.fx_calm.specs.Summands.{IsSummand, IsReady, sum_of, digit, rest
 
 use crate::summand::Summand;
 
-/// So many digits decide: 64 denominators of 122 bits, and 7 bits for their count, make 2,605 digits of three bits.
+/// How many digits decide: 64 denominators of 122 bits, and 7 bits for their count, make 2,605 digits of three bits.
 const DIGITS: u32 = 2605;
 
 /// How often the bottom goes into `c` times the top.

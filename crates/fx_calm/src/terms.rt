@@ -21,9 +21,9 @@ use fx_num::Memory;
 pub enum Term {
     /// A literal that stands alone.
     Alone { size: Magnitude },
-    /// So many times input `k`.
+    /// `size` times input `k`.
     OfInput { k: u32, size: Magnitude },
-    /// So many times state `k`.
+    /// `size` times state `k`.
     OfState { k: u32, size: Magnitude },
 }
 

@@ -81,7 +81,7 @@ fn source_line(line: u32, text: &[u8]) -> Result<(u32, &[u8]), TextFault>
     Ok((count, rest))
 }
 
-/// So many bytes and the text behind their line feed.
+/// The first `count` bytes, and the text behind the line feed that follows.
 #[tactic(auto, unfolding(crate::specs::BundleReading::source_at))]
 fn source_at(line: u32, count: u32, text: &[u8]) -> Result<(&[u8], &[u8]), TextFault>
     ensures value { ReadsAll (λ x. (x.0.now, x.1.now)) result (source_at line count text.now) }

@@ -6,7 +6,7 @@ use fx_step::Step;
 use fx_text::{Fields, LineReader, TextKind};
 use std::alloc::Global;
 
-/// So many steps.
+/// Reads the lines of `count` steps.
 #[derive(Drop)]
 pub struct StepLines {
     pub count: u32,
@@ -125,7 +125,7 @@ impl LineReader for TemplateLines {
     }
 }
 
-/// So many nodes, over so many variables.
+/// Reads the lines of nodes over so many variables.
 #[derive(Drop)]
 pub struct NodeLines {
     pub variables: u32,

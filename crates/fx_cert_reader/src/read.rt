@@ -73,7 +73,7 @@ fn template_counts_line(
     Ok((counts, rest))
 }
 
-/// So many templates: a box for each state, and the further ones.
+/// The templates that are counted: a box for each state, and the further ones.
 #[tactic(auto, unfolding(crate::specs::CertificateReading::templates_at))]
 fn templates_at<'a>(
     alloc: Global,

@@ -47,7 +47,7 @@ fn share(fields: &mut Fields<'_>, end: u32, least: u32) -> Result<Share, TextKin
     })
 }
 
-/// So many shares of templates below `end`.
+/// `count` shares of templates below `end`.
 fn shares_of_count(
     alloc: Global,
     fields: &mut Fields<'_>,

@@ -5,7 +5,7 @@ use crate::Bank;
 use fx_machine::Words;
 use fx_word::Word;
 
-/// So many words of a bank, from one of them on.
+/// A run of a bank's words, from one of them on.
 #[derive(Clone, Copy, Debug)]
 pub(crate) struct Places<'a> {
     pub(crate) bank: &'a Bank,

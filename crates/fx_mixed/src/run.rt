@@ -20,13 +20,9 @@ use fx_base::{Sink, Source};
 use fx_checker::Certified;
 use fx_expr::Function;
 use fx_fraction::Decimal;
-use fx_rows::RowFault;
-use fx_run::{put_header, put_words, rows_law};
+use fx_run::{RunFault, put_header, put_words, rows_law};
 use fx_stream::{Page, RowStep, run_steps};
 use std::alloc::Global;
-
-/// Why a run over the rows of an input ended before the input did.
-pub type MixedFault = fx_stream::RunFault<RowFault>;
 
 // Carries out a row, and puts its line.
 fn turn_row(mixed: &mut Mixed, row: &[Decimal], page: &mut Page)
@@ -90,7 +86,7 @@ pub fn run_mixed<S: Source<K>, K: Sink>(
     source: &mut S,
     sink: &mut K,
     limit: u64,
-) -> Result<u64, MixedFault>
+) -> Result<u64, RunFault>
     requires limit { limit < 2 ^ 64 - 1 }
     ensures ends { let at = streams S.seen K.seen in
         EndsRun row_fault_of (run_outcome certified.now.function certified.now.program) limit
@@ -100,7 +96,7 @@ pub fn run_mixed<S: Source<K>, K: Sink>(
     certified.certified();
     rows_law(certified);
     let Ok(mixed) = Mixed::new(alloc, certified) else {
-        return Err(MixedFault::Memory);
+        return Err(RunFault::Memory);
     };
     run_steps(alloc, mixed, source, sink, limit)
 }

@@ -15,10 +15,10 @@ use fx_num::Memory;
 use rand_core::Rng;
 use std::alloc::Global;
 
-/// About so many steps factor two terms that stand side by side,
+/// How many steps factor two terms that stand side by side, about.
 const FACTOR_STEPS: usize = 8;
 
-/// and so many bring a term past another.
+/// How many steps bring a term past another, about.
 const SWAP_STEPS: usize = 3;
 
 /// A factor that two products have: its paths in both.
@@ -321,6 +321,14 @@ pub fn terms(e: &Expr) -> Option<(&Expr, &Expr)> {
 pub fn terms_at<'a>(draft: &'a Draft, site: &Site) -> Option<(&'a Expr, &'a Expr)> {
     match draft.at(site) {
         Some(e) => terms(e),
+        None => None,
+    }
+}
+
+/// The operand of this number of what stands at a site.
+pub fn operand_at<'a>(draft: &'a Draft, site: &Site, number: u8) -> Option<&'a Expr> {
+    match draft.at(site) {
+        Some(e) => operand(e, number),
         None => None,
     }
 }

@@ -32,6 +32,7 @@
 mod cleaning;
 mod draft;
 mod drawing;
+mod expand;
 mod factor;
 mod forms;
 mod moves;
@@ -39,6 +40,7 @@ mod mutation;
 mod orders;
 mod rule;
 mod site;
+mod take_out;
 mod trail;
 
 pub use cleaning::clean_all;

@@ -12,7 +12,7 @@ use fx_num::Memory;
 use rand_core::Rng;
 use std::alloc::Global;
 
-/// So often a place and a move are drawn before a random move is given up.
+/// How often a place and a move are drawn before a random move is given up.
 const DRAWS: u32 = 10;
 
 /// At most so many sums are looked at for one that can be factored, times the operations of the function.

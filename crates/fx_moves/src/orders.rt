@@ -11,10 +11,10 @@ use std::alloc::Global;
 /// A function with more variables than these has no forms.
 const MOST_VARIABLES: usize = 16;
 
-/// So many variables at most stand in any order,
+/// How many variables stand in any order, at most.
 const PERMUTED: usize = 3;
 
-/// and of more than these so many begin an order.
+/// How many of more variables begin an order.
 const BEGUN: usize = 6;
 
 /// How many variables a function has: its inputs and its temps.

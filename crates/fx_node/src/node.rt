@@ -104,7 +104,7 @@ impl<'a, const B: u32> Model for UnitRuns<'a, B> {
 }
 
 impl<'a, const B: u32> UnitRuns<'a, B> {
-    /// So many units before their first rows. All room is made here.
+    /// A node of `count` units before their first rows. All room is made here.
     pub fn new(
         alloc: Global,
         certified: &'a Certified,

@@ -58,7 +58,7 @@ fn better(answer: Certified, candidate: Certified) -> Certified
     }
 }
 
-// The same where there may be no candidate.
+// The better of an answer and a candidate, where there may be none.
 fn better_of(answer: Certified, candidate: Option<Certified>) -> Certified
     requires { AreForOne (Some answer) candidate }
     ensures { IsTaken (Some answer) candidate (Some result) }

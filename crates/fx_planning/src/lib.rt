@@ -2,8 +2,9 @@
 //!
 //! # Contract
 //!
-//! `find_plan` makes words and errors at given points, and what they cost. Nothing rests on what it finds: `fx_stateless_search`
-//! calls it at each choice of points, `fx_state_search` as `find_plan_in`, and `check` judges what is written of a plan.
+//! `find_plan` makes words and errors at given points, and what they cost. Nothing rests on what it finds:
+//! `fx_stateless_search` calls it at each choice of points, `fx_state_search` as `find_plan_in`, and `check` judges
+//! what is written of a plan.
 //!
 //! # Inside
 //!

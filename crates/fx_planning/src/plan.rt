@@ -24,7 +24,7 @@ pub struct Plan {
 }
 
 impl Plan {
-    /// That of these codes, which err so.
+    /// The plan of these codes, which err so.
     fn of(setting: &Setting<'_>, codes: Vec<Code>, errors: Errors) -> Plan {
         let cost = cost_of(setting, outputs_of(setting, &errors));
         Plan {

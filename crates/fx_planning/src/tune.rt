@@ -54,8 +54,8 @@ pub fn lesser(best: Option<Move>, other: Move) -> Option<Move> {
     }
 }
 
-/// By how many units a literal with this slope by unit has to be moved for the middle of the ends to come to zero, if it
-/// moves them.
+/// By how many units a literal with this slope by unit has to be moved for the middle of the ends to come to zero, if
+/// it moves them.
 fn units_to_middle(slope: RoundedInterval, ends: RoundedInterval) -> Option<i64> {
     let twice = slope.lo.plus(slope.hi);
     if twice.is_zero() {

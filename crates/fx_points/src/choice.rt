@@ -18,7 +18,7 @@ pub struct Choice {
 }
 
 impl Choice {
-    /// So many points of a node are looked at.
+    /// How many points of a node are looked at.
     pub const POINTS: i32 = 8;
 
     /// A point, at which operands have the same.

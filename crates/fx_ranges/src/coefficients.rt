@@ -14,7 +14,7 @@ pub struct Coefficients {
 }
 
 impl Coefficients {
-    /// So many rows of so many zeros, and None where their count leaves its type.
+    /// `count` rows of `width` zeros, and None where their number leaves its type.
     pub fn new(alloc: Global, count: usize, width: usize) -> Result<Option<Coefficients>, Memory> {
         match count.checked_mul(width) {
             Some(size) => {

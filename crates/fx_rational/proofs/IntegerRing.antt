@@ -1,5 +1,5 @@
--- A normaliser of polynomial expressions over ℤ: `ring ρ a b refl` proves `polynomial_value a ρ ≡ polynomial_value b ρ` where the two
--- have one normal form.
+-- A normaliser of polynomial expressions over ℤ: `ring ρ a b refl` proves `polynomial_value a ρ ≡ polynomial_value b ρ`
+-- where the two have one normal form.
 use Rattle.std.proofs.Common.{◌≡◌, ℕ, zero, suc, refl, sym, ap, subst, ◌∙◌, arith, pos, negsuc, ℤ, ◌+ℤ◌, ◌-ℤ◌, ◌*ℤ◌, neg_ℤ, List, [], ◌∷◌, Bool, true, false, T, ltb, eqb, eqb→eq}
 use Rattle.std.proofs.lemmas.Int.{ints}
 use lib.IntN.{*ℤ_comm}

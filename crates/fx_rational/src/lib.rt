@@ -1,5 +1,5 @@
-//! Numbers that proofs speak of: rationals without bound, what is written of them as dyadics, intervals and decimals, and
-//! the laws of whole numbers below them.
+//! Numbers that proofs speak of: rationals without bound, what is written of them as dyadics, intervals and decimals,
+//! and the laws of whole numbers below them.
 //!
 //! # Contract
 //!

@@ -1,7 +1,7 @@
 //! Letters moved from the tree that a step takes out into the one that it puts in.
 //!
-//! A letter that stands once on a rule's right side needs no copy. So a step at the root of a great tree takes no longer
-//! than one at a small one, but for letters that stand twice.
+//! A letter that stands once on a rule's right side needs no copy. So a step at the root of a great tree takes no
+//! longer than one at a small one, but for letters that stand twice.
 ghost use Rattle.std.specs.Prelude.{◌≡◌, Some};
 ghost use Rattle.fx_expr.specs.TreeOf.{tree};
 ghost use Rattle.fx_rewrite.specs.FoundOf.{found_of};

@@ -1,5 +1,5 @@
--- What each row of the table of rules has: it keeps value and names, its left side finds its letters, and they settle its
--- right side.
+-- What each row of the table of rules has: it keeps value and names, its left side finds its letters, and they settle
+-- its right side.
 use Rattle.std.proofs.Common.{◌≡◌, ℕ, List, [], ◌∷◌, true, Option, Some, None}
 use Rattle.fx_rational.specs.Rational.{Rational}
 use Rattle.fx_rational.specs.Laws.{SameOption}

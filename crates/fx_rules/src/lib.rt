@@ -3,8 +3,8 @@
 //! # Contract
 //!
 //! What a rule of the table (`fx_model/specs/Rules`) makes of a tree, what a step makes of a function, the single steps
-//! in order; docs/formats.md has the table in words. `rewrite_law`: rewriting gives exactly what the rules say (`exact`),
-//! and a valid function stays valid and keeps its meaning (`keeps`).
+//! in order; docs/formats.md has the table in words. `rewrite_law`: rewriting gives exactly what the rules say
+//! (`exact`), and a valid function stays valid and keeps its meaning (`keeps`).
 //!
 //! # Inside
 //!

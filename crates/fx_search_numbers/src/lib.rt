@@ -3,9 +3,9 @@
 //!
 //! # Contract
 //!
-//! Intervals over one exponent (`FixedInterval`), grids with how many places a range or an error is kept, the words of literals,
-//! and rounded numbers that rank choices (`Rounded`). Nothing is promised but that each call returns. Numbers that leave
-//! 128 bits end an attempt and nothing else.
+//! Intervals over one exponent (`FixedInterval`), grids with how many places a range or an error is kept, the words of
+//! literals, and rounded numbers that rank choices (`Rounded`). Nothing is promised but that each call returns. Numbers
+//! that leave 128 bits end an attempt and nothing else.
 //!
 //! # Inside
 //!
@@ -13,8 +13,9 @@
 //! compares more than it writes. Fractions and decimals come onto grids (`range_between`), with the words of literals
 //! (`nearest`), what those err (`word_error`), and what a width holds (`fits_word`).
 //!
-//! No number has a floating point. A long formula is written with `MaybeInterval`, whose operations take none as well. The
-//! trap: intervals are exact, and grow by each product, unless somebody rounds them (`Grids::rounded`, `FixedInterval::outward`).
+//! No number has a floating point. A long formula is written with `MaybeInterval`, whose operations take none as well.
+//! The trap: intervals are exact, and grow by each product, unless somebody rounds them (`Grids::rounded`,
+//! `FixedInterval::outward`).
 #![tactic(auto)]
 
 mod fixed_interval;

@@ -1,6 +1,6 @@
 //! How much work exchanges may still be.
 
-/// So many products the exchanges of one synthesis may come to.
+/// How many products the exchanges of one synthesis may come to.
 const MOST: u64 = 1 << 32;
 
 /// What is left of the work that exchanges may come to, in products.

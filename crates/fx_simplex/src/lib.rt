@@ -4,8 +4,8 @@
 //!
 //! `exchange` takes a template apart by others, by the simplex step in floating point, with an inverse made anew at
 //! each turn, within a budget, and `take_apart` what a node takes of the states. It is given the templates, and looks
-//! no step ahead; `fx_template_candidates` asks it for ends and gaps of chains, `fx_state_search` for the shares of nodes. Nothing is
-//! promised of the shares: whoever takes them tests the bound that they show.
+//! no step ahead; `fx_template_candidates` asks it for ends and gaps of chains, `fx_state_search` for the shares of
+//! nodes. Nothing is promised of the shares: whoever takes them tests the bound that they show.
 //!
 //! # Inside
 //!

@@ -21,7 +21,7 @@ use fx_simplex::Budget;
 use fx_writing::{Kept, plan_lines, write_with_states};
 use std::alloc::Global;
 
-/// So often points are chosen again, at most.
+/// How often points are chosen again, at most.
 const TURNS: u32 = 12;
 
 /// Points, and a plan at them with error boxes that stand.

@@ -275,7 +275,7 @@ fn make_room(nodes: &[Node], points: &mut [i32], caps: &mut [i32], n: usize, wid
     true
 }
 
-/// So often operands are made coarser, at most.
+/// How often operands are made coarser, at most.
 const TURNS: u32 = 4;
 
 /// By how much more than its width a product drops at most where it is of a literal: what the literal's word is off is

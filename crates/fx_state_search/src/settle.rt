@@ -14,7 +14,7 @@ use fx_template_candidates::{Proposal, propose_templates_within};
 use fx_template_reach::Transition;
 use std::alloc::Global;
 
-/// So often boxes are widened, at most.
+/// How often boxes are widened, at most.
 const TURNS: u32 = 32;
 
 /// One kind of boxes, with what is found in them.

@@ -14,7 +14,7 @@ use fx_ranges::{Ranges, Unplanned, find_ranges};
 use fx_search_numbers::{FixedInterval, Grids, Rounded, input_error};
 use std::alloc::Global;
 
-/// So often points are chosen again, at most.
+/// How often points are chosen again, at most.
 const TURNS: u32 = 8;
 
 /// A point for each node, and the plan at these points.

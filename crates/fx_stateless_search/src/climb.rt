@@ -24,23 +24,23 @@ const RANDOM_STARTS: u32 = 4;
 pub struct Style {
     /// The limits of its drafts' steps.
     limits: Limits,
-    /// At most so many random moves lead from a draft to another.
+    /// How many random moves lead from a draft to another, at most.
     moves: u32,
-    /// Up to this one the first drafts begin at the source,
+    /// How many drafts begin at the source before any other.
     first_starts: u32,
-    /// and some more from this one on,
+    /// The first of the later drafts that begin at the source again.
     later_start: u32,
-    /// up to here.
+    /// The last of these.
     last_start: u32,
-    /// After so many tries without gain one of the best is taken up again.
+    /// After how many tries without gain one of the best is taken up again.
     patience: u32,
-    /// A dearer draft is taken up only with at most so many steps.
+    /// How many steps a dearer draft that is taken up has, at most.
     warm_steps: usize,
-    /// So many of the best are kept.
+    /// How many of the best are kept.
     kept: usize,
-    /// So many plans are looked at in polishing them,
+    /// How many plans are looked at in polishing them, whatever the tries.
     pub plans: u32,
-    /// and so many more for each try so far.
+    /// How many plans more are looked at for each try so far.
     pub plans_a_try: u32,
 }
 

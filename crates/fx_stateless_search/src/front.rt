@@ -60,7 +60,7 @@ impl Trial {
 #[derive(Drop)]
 pub struct Front {
     list: Vec<Trial>,
-    /// So many are kept.
+    /// How many are kept.
     most: usize,
 }
 

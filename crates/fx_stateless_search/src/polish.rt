@@ -64,7 +64,7 @@ fn moved_centres(
 }
 
 impl<'a> Polish<'a> {
-    /// So many plans of a function are looked at, at most.
+    /// A polish of a function that looks at `budget` plans, at most.
     pub fn new(alloc: Global, task: Task<'a>, function: &'a Function, budget: u32) -> Polish<'a> {
         Polish {
             alloc,

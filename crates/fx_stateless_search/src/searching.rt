@@ -21,7 +21,7 @@ use rand_pcg::Pcg32;
 use std::alloc::Global;
 use std::mem::replace;
 
-/// So many plans are looked at in polishing a draft again, on coarser grids.
+/// How many plans are looked at in polishing a draft again, on coarser grids.
 const PLANS: u32 = 256;
 
 /// A try looks at so many drafts of the wide climb,

@@ -13,7 +13,7 @@ use fx_num::Memory;
 use fx_planning::Cost;
 use std::alloc::Global;
 
-/// So many costs are kept.
+/// How many costs are kept.
 const SLOTS: usize = 4096;
 
 /// A cost, and the number of its function.

@@ -23,7 +23,7 @@ pub struct Task<'a> {
     pub references: &'a [Rounded],
 }
 
-/// So many tries at most serve a function of so many nodes, and the first one always.
+/// How many of these tries serve a function of so many nodes: the first one always.
 pub fn affordable(nodes: u32, tries: u32) -> u32 {
     if nodes <= MANY_NODES {
         tries

@@ -9,7 +9,7 @@ use std::alloc::Global;
 /// How many binary places a template's share in itself has.
 const OWN_PLACES: u32 = 40;
 
-/// So many times the bound of a template.
+/// The bound of a template, a number of times.
 #[derive(Clone, Copy)]
 struct Term {
     template: usize,

@@ -449,8 +449,8 @@ impl System {
         Ok(())
     }
 
-    /// Takes bounds on from guesses, which are widened where that is too little, until one step keeps them. Whether some
-    /// are found.
+    /// Takes bounds on from guesses, which are widened where that is too little, until one step keeps them. Whether
+    /// some are found.
     fn solve_from(&self, alloc: Global, bounds: &mut Vec<Ends>) -> Result<bool, Memory> {
         let first = Vec::from_slice(alloc, bounds)?;
         self.fix(alloc, bounds)?;

@@ -77,7 +77,7 @@ pub fn room(width: i128, shift: i32) -> i128 {
     moved_down(width, shift).unwrap_or(0)
 }
 
-/// So many parts of a width.
+/// `parts` of `whole` parts of a width.
 pub fn room_part(width: i128, parts: i128, whole: i128) -> i128 {
     width.saturating_mul(parts).checked_div(whole).unwrap_or(0)
 }
@@ -234,7 +234,7 @@ fn growing_times(alloc: Global, end: usize, g: usize, most: usize) -> Result<Vec
     Ok(times)
 }
 
-/// So many times one after the other.
+/// The first `count` times.
 fn first_times(alloc: Global, count: usize) -> Result<Vec<usize>, Memory> {
     let mut times = Vec::new(alloc);
     for t in 0..count {

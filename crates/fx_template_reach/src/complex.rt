@@ -43,7 +43,7 @@ impl Complex {
         }
     }
 
-    /// So many times the number.
+    /// `factor` times the number.
     pub fn scaled(self, factor: f64) -> Complex {
         Complex {
             re: self.re * factor,

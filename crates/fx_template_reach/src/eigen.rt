@@ -9,7 +9,7 @@ use crate::float::greater_of;
 use fx_num::Memory;
 use std::alloc::Global;
 
-/// So many steps each eigenvalue may take, about.
+/// How many steps each eigenvalue may take, about.
 const STEPS: usize = 40;
 
 /// What is less than this part of its neighbours is zero.

@@ -2,19 +2,19 @@
 //!
 //! # Contract
 //!
-//! Why these three, `fx_template_reach`, `fx_simplex` and `fx_template_candidates`, are apart: each answers one question about templates
-//! (sums of the states), and can change inside while the others stay: *how far does a template come at best?* (this
-//! one), *what is the cheapest sum of templates that are there?* (`fx_simplex`), *which templates, with which bounds?*
-//! (`fx_template_candidates`). A `Transition` is one step of the states as templates see it, made of a node list with its points
-//! and lines (`over`). `look_ahead` follows a template's images, what inputs and rests add to each, and what is left of
-//! the start: where these lead, of which the far end is guessed, is about the least bound that a certificate could
-//! have, and so a measure for all that follows; `wanted_length` tells where a chain of images may be closed,
-//! `find_closing` whether it can be closed behind a template, and how often the template's image takes that template
-//! then, `times_of` which templates of a chain are kept. `poles_of` finds the poles that fade slowly, with the left
-//! eigenvector of each, and `pole_templates` so many directions of each pole's plane that a step loses at most a given
-//! part of what it shrinks by; both guess in floating point (docs/states.md). A `Pool` keeps templates, with the shares
-//! that others work out. Which chains there are, it doesn't choose. But for the fields of a step nothing is promised
-//! but that it returns.
+//! Why these three, `fx_template_reach`, `fx_simplex` and `fx_template_candidates`, are apart: each answers one
+//! question about templates (sums of the states), and can change inside while the others stay: *how far does a template
+//! come at best?* (this one), *what is the cheapest sum of templates that are there?* (`fx_simplex`), *which templates,
+//! with which bounds?* (`fx_template_candidates`). A `Transition` is one step of the states as templates see it, made
+//! of a node list with its points and lines (`over`). `look_ahead` follows a template's images, what inputs and rests
+//! add to each, and what is left of the start: where these lead, of which the far end is guessed, is about the least
+//! bound that a certificate could have, and so a measure for all that follows; `wanted_length` tells where a chain of
+//! images may be closed, `find_closing` whether it can be closed behind a template, and how often the template's image
+//! takes that template then, `times_of` which templates of a chain are kept. `poles_of` finds the poles that fade
+//! slowly, with the left eigenvector of each, and `pole_templates` so many directions of each pole's plane that a step
+//! loses at most a given part of what it shrinks by; both guess in floating point (docs/states.md). A `Pool` keeps
+//! templates, with the shares that others work out. Which chains there are, it doesn't choose. But for the fields of a
+//! step nothing is promised but that it returns.
 //!
 //! # Inside
 //!

@@ -74,8 +74,8 @@ impl Ends {
         }
     }
 
-    /// Products with entries of a template, outward. A single number goes to the nearest unit: what drives a template by
-    /// that alone then does so for ever, and what fades comes to nothing.
+    /// Products with entries of a template, outward. A single number goes to the nearest unit: what drives a template
+    /// by that alone then does so for ever, and what fades comes to nothing.
     fn rounded(self) -> Option<Ends> {
         if self.lo == self.hi {
             let nearest = rounded(Some(self.lo));
@@ -117,7 +117,7 @@ pub struct Linear {
     starts: Vec<Ends>,
     /// Sizes are whole with so many binary places.
     pub scale: i32,
-    /// So many bits fewer templates and bounds have: in units of the states coefficients of a step are longer.
+    /// How many bits fewer templates and bounds have: in units of the states coefficients of a step are longer.
     pub spared: u8,
 }
 

@@ -27,7 +27,7 @@ const DIRECTIONS: usize = 256;
 /// In so many bins what drives a plane is collected by its direction.
 const BINS: usize = 512;
 
-/// So many steps are looked at, at most.
+/// How many steps are looked at, at most.
 const STEPS: usize = 16384;
 
 /// How far a plane reaches at least, where the states are about as wide as 1: what nothing drives has templates, too.

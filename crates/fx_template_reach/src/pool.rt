@@ -16,7 +16,7 @@ pub struct Pool {
     pub templates: Templates,
     /// Reaches are whole with so many binary places.
     pub scale: i32,
-    /// So many bits fewer coefficients and bounds have.
+    /// How many bits fewer coefficients and bounds have.
     pub spared: u8,
     /// Coefficients, template after template.
     coefs: Vec<Dyadic>,

@@ -8,7 +8,7 @@ use crate::linear::Linear;
 use fx_num::{Dyadic, Interval, Memory, left_fits, lowest};
 use std::alloc::Global;
 
-/// So many steps a response is followed.
+/// How many steps a response is followed.
 const STEPS: usize = 4096;
 
 /// The greatest unit, as a power of two.

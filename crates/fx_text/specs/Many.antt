@@ -1,4 +1,4 @@
--- So many values, one behind the other, each read by one reader.
+-- A counted row of values, one behind the other, each read by one reader.
 use Rattle.std.specs.Prelude.{ℕ, zero, suc, ◌+◌, List, [], ◌∷◌, ◌++◌, Result, Ok}
 use Rattle.fx_rational.specs.Dyadic.{Dyadic}
 use Rattle.fx_text.specs.declared.fault.TextKind.{TextKind}

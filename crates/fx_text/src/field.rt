@@ -118,7 +118,7 @@ pub fn interval(fields: &mut Fields<'_>) -> Result<(Dyadic, Dyadic), TextKind>
     Ok((lo, hi))
 }
 
-/// So many dyadics, each as `dyadic`. Memory where none was left.
+/// `count` dyadics, each as `dyadic`. Memory where none was left.
 pub fn dyadics(alloc: Global, fields: &mut Fields<'_>, count: u32) -> Result<Vec<Dyadic>, TextKind>
     ensures value { GivesFields (λ ds. ds.items) result fields.new (dyadics_at count fields.old) }
     ensures written { IfOk result (λ ds. All IsWritten ds.items) }

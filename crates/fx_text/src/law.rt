@@ -44,7 +44,7 @@ pub fn dyadic_law()
     ensures { DyadicLaw }
 {}
 
-/// So many dyadics have one spelling.
+/// A row of dyadics has one spelling.
 pub fn dyadics_law()
     ensures { DyadicsLaw }
 {}

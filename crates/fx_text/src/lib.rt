@@ -1,5 +1,5 @@
-//! Lines, fields, whole numbers and dyadics of the project's texts, and the number that stands first in a row's text: how
-//! each is read, and how it is printed.
+//! Lines, fields, whole numbers and dyadics of the project's texts, and the number that stands first in a row's text:
+//! how each is read, and how it is printed.
 //!
 //! # Contract
 //!
@@ -13,8 +13,8 @@
 //!
 //! `leading_decimal` reads a number of up to 19 digits, without plus and power of ten, where it stands; any other is
 //! cut at its comma and goes to `read_decimal`. It answers the decimal and where it ends: the text up to there is that
-//! decimal's, and there a comma stands or the text ends (`IsLeading`). Of None no clause speaks: it comes where the text
-//! up to the comma is no number, or one that no `Decimal` has.
+//! decimal's, and there a comma stands or the text ends (`IsLeading`). Of None no clause speaks: it comes where the
+//! text up to the comma is no number, or one that no `Decimal` has.
 //!
 //! # Inside
 //!

@@ -23,7 +23,7 @@ pub trait LineReader {
     // What the definitions make of it.
     ghost Told: { Type 0 };
 
-    // That of what was read.
+    // What the definitions make of a value that was read.
     ghost told: { Self.Value → Told };
 
     // How many lines there are.
@@ -65,7 +65,7 @@ fn numbered_line<'a, R: LineReader>(
     Ok((value, rest))
 }
 
-/// So many lines from line `first` on, behind what was read before, and the text behind them.
+/// The reader's lines from line `first` on, behind what was read before, and the text behind them.
 pub fn read_more_lines<'a, R: LineReader>(
     reader: &R,
     alloc: Global,
@@ -92,7 +92,7 @@ pub fn read_more_lines<'a, R: LineReader>(
     Ok((found, rest))
 }
 
-/// So many lines from line `first` on, and the text behind them.
+/// The reader's lines from line `first` on, and the text behind them.
 pub fn read_lines<'a, R: LineReader>(
     reader: &R,
     alloc: Global,

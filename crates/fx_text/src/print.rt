@@ -53,7 +53,7 @@ pub fn put_interval(out: &mut Vec<u8>, lo: Dyadic, hi: Dyadic) -> Result<(), All
     put_dyadic(out, hi)
 }
 
-/// So many dyadics, each behind a space.
+/// Prints each of these dyadics behind a space.
 pub fn put_dyadics(out: &mut Vec<u8>, ds: &[Dyadic]) -> Result<(), AllocError>
     ensures { OnOk result (out.new.items ≡ out.old.items ++ flat_map (λ d. 32 ∷ dyadic_text d) ds.now) }
 {

@@ -38,7 +38,7 @@ static PARTS: [Part; 9] = [
     Part { range: (-8192, 8192), error: (-10, 0), coefs: (4096, 4096), rest: 0, error_rest: (-4, 0) },
 ];
 
-/// So many parts of 8192.
+/// `count` parts of 8192.
 fn parts(count: i128) -> Dyadic {
     Dyadic::new(count, 13)
 }
