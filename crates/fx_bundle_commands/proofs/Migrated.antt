@@ -3,7 +3,7 @@ use Rattle.std.proofs.Common.{◌≡◌, refl, sym}
 use Rattle.fx_model.specs.Function.{Function}
 use Rattle.fx_model.specs.Machine.{Program}
 use Rattle.fx_model.specs.Versions.{second_version}
-use Rattle.fx_cert.specs.BundleView.{Parts, IsLawfulBundle}
+use Rattle.fx_cert_text.specs.BundleView.{Parts, IsLawfulBundle}
 use Rattle.fx_program.proofs.Versions.{second_spelled}
 use Rattle.fx_bundle_commands.specs.Opening.{IsAcceptedAs}
 use Rattle.fx_bundle_commands.specs.commands.Migrate.{IsMigrated}

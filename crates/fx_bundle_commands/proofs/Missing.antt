@@ -4,7 +4,7 @@ use Rattle.std.specs.Prelude.{IsSomeAnd}
 use Rattle.fx_base.specs.Shelf.{Files, IsMissing}
 use Rattle.fx_base.specs.Views.{ShelfView}
 use Rattle.fx_model.specs.Function.{Function}
-use Rattle.fx_cert.specs.BundleView.{Parts}
+use Rattle.fx_cert_text.specs.BundleView.{Parts}
 use Rattle.fx_ends.specs.Ends.{End, status_of}
 use Rattle.fx_bundle_commands.specs.Outside.{Outside, IfFile}
 use Rattle.fx_bundle_commands.specs.Opening as opening

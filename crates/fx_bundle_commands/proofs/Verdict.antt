@@ -8,9 +8,9 @@ use Rattle.fx_inequalities.specs.Condition.{Fault}
 use Rattle.fx_rules.specs.Steps.{rewrite}
 use Rattle.fx_lexer.specs.declared.fault.SourceFault.{SourceFault}
 use Rattle.fx_text.specs.declared.fault.TextFault.{TextFault}
-use Rattle.fx_cert.specs.BundleView.{Parts}
-use Rattle.fx_cert_reader.specs.BundleReading.{bundle_in}
-use Rattle.fx_cert_reader.specs.Laws.{BundleAgain}
+use Rattle.fx_cert_text.specs.BundleView.{Parts}
+use Rattle.fx_cert_text.specs.BundleReading.{bundle_in}
+use Rattle.fx_cert_text.specs.Laws.{BundleAgain}
 use Rattle.fx_ends.specs.Ends.{End, NoMemory, OverLimit, BadBundle, Misread, Rejected}
 use Rattle.fx_bundle_commands.specs.Outside.{Outside, IfFile}
 use Rattle.fx_bundle_commands.specs.Opening.{Spells, meaning_of, IsBundle, IsAcceptedAs, OpeningEnds, unread, long, no_bundle, misread, rejected, no_memory, OpensThen, unopened, opened}

@@ -3,7 +3,7 @@ use Rattle.std.specs.Prelude.{◌≡◌, ◌≢◌, ◌⊎◌, ℕ, List, Some}
 use Rattle.fx_base.specs.Causes.{Rose}
 use Rattle.fx_base.specs.Shelf.{Files, paper_of}
 use Rattle.fx_model.specs.Function.{Function}
-use Rattle.fx_cert.specs.BundleView.{Parts}
+use Rattle.fx_cert_text.specs.BundleView.{Parts}
 use Rattle.fx_ends.specs.Ends.{End, NoMemory}
 use Rattle.fx_bundle_commands.specs.Outside.{Outside}
 use Rattle.fx_bundle_commands.specs.Opening.{IsBundle, IsAcceptedAs}

@@ -11,8 +11,8 @@ use Rattle.fx_rules.specs.Steps.{rewrite}
 use Rattle.fx_lexer.specs.declared.fault.SourceFault.{SourceFault}
 use Rattle.fx_grammar.specs.Sources.{parsed}
 use Rattle.fx_text.specs.declared.fault.TextFault.{TextFault}
-use Rattle.fx_cert.specs.BundleView.{Parts, IsLawfulBundle, text_of}
-use Rattle.fx_cert_reader.specs.BundleReading.{bundle_in}
+use Rattle.fx_cert_text.specs.BundleView.{Parts, IsLawfulBundle, text_of}
+use Rattle.fx_cert_text.specs.BundleReading.{bundle_in}
 use Rattle.fx_bundle_commands.specs.Outside.{Outside, AreUntouched, IfFile}
 use Rattle.fx_ends.specs.Ends.{End, Rejected, Misread, BadBundle, ReadFault, NoMemory, OverLimit}
 

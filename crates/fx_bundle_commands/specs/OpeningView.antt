@@ -14,8 +14,8 @@ use Rattle.fx_checker.specs.CertifiedView.{Accepted}
 use Rattle.fx_formulas.specs.FaultView.{condition_fault_of}
 use Rattle.fx_checker.specs.declared.fault.CheckFault.{CheckFault}
 use Rattle.fx_checker.specs.declared.fault.CheckFault.TheVariants as checks
-use Rattle.fx_cert.specs.BundleView.{Parts, IsLawfulBundle}
-use Rattle.fx_cert_reader.specs.BundleReading.{bundle_in}
+use Rattle.fx_cert_text.specs.BundleView.{Parts, IsLawfulBundle}
+use Rattle.fx_cert_text.specs.BundleReading.{bundle_in}
 use Rattle.fx_ends.specs.Ends.{End, Done, Usage, NotFound, Rejected, Misread, BadBundle, ReadFault, WriteFault, OverLimit, NoMemory}
 use Rattle.fx_bundle_commands.specs.Opening.{Spells, meaning_of, IsAcceptedAs, IsBundle}
 

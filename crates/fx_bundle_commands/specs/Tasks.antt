@@ -6,7 +6,7 @@ use Rattle.fx_base.specs.Shelf.{Files}
 use Rattle.fx_base.specs.Text.{lines_in}
 use Rattle.fx_model.specs.Function.{Function}
 use Rattle.fx_model.specs.Machine.{Program}
-use Rattle.fx_cert.specs.BundleView.{Parts}
+use Rattle.fx_cert_text.specs.BundleView.{Parts}
 use Rattle.fx_rows.specs.ReadRows.{read_rows}
 use Rattle.fx_stream.specs.Ending.{Streams}
 use Rattle.fx_stream.specs.Promise.{IsAnswered}

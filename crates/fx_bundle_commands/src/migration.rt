@@ -3,13 +3,13 @@
 //! It is the text of the bundle with another version and all else as it was, so that it is accepted too.
 ghost use Rattle.std.specs.Prelude.{◌≡◌, ◌≤◌, IfOk, length};
 ghost use Rattle.fx_model.specs.Limits.{source_limit};
-ghost use Rattle.fx_cert.specs.BundleView.{IsLawfulBundle, text_of};
+ghost use Rattle.fx_cert_text.specs.BundleView.{IsLawfulBundle, text_of};
 ghost use Rattle.fx_bundle_commands.specs.Opening.{IsAcceptedAs};
 ghost use Rattle.fx_bundle_commands.specs.OpeningView.{with_source};
 ghost use Rattle.fx_bundle_commands.specs.commands.Migrate.{IsMigrated, migrated};
 
 use crate::opening::Opened;
-use fx_cert::print_bundle;
+use fx_cert_text::print_bundle;
 use fx_num::Memory;
 use std::alloc::Global;
 

@@ -14,8 +14,7 @@ ghost use Rattle.fx_bundle_commands.specs.Opening.{OpeningEnds};
 ghost use Rattle.fx_bundle_commands.specs.OpeningView.{IsOpened, IsReadAs, ReadingEnds, check_end, read_end};
 
 use fx_base::{InFault, Shelf, read_file};
-use fx_cert::Bundle;
-use fx_cert_reader::{bundle_text_law, read_bundle};
+use fx_cert_text::{Bundle, bundle_text_law, read_bundle};
 use fx_checker::{Certified, CheckFault, check};
 use fx_ends::End;
 use fx_expr::Items;

@@ -3,8 +3,8 @@ use Rattle.std.proofs.Common.{◌≡◌, ◌⊎◌, ℕ, Option, Some, None, ref
 use Rattle.std.specs.Prelude.{⊤}
 use Rattle.fx_base.specs.Causes.{Rose}
 use Rattle.fx_base.specs.Views.{SinkView}
-use Rattle.fx_cert.specs.BundleView.{Parts}
-use Rattle.fx_cert_reader.specs.Laws.{BundleAgain}
+use Rattle.fx_cert_text.specs.BundleView.{Parts}
+use Rattle.fx_cert_text.specs.Laws.{BundleAgain}
 use Rattle.fx_model.specs.Function.{Function}
 use Rattle.fx_stream.proofs.Grown.{none_grown}
 use Rattle.fx_ends.specs.Ends.{End, Done, Usage, NoMemory, status_of}

@@ -6,7 +6,7 @@ use Rattle.fx_model.specs.Function.{Function, Input, Run}
 use Rattle.fx_model.specs.Machine.{Program, machine_run}
 use Rattle.fx_model.specs.Rows.{IsInRange}
 use Rattle.fx_inequalities.specs.Certificate.{Certificate}
-use Rattle.fx_cert.specs.BundleView.{Parts}
+use Rattle.fx_cert_text.specs.BundleView.{Parts}
 use Rattle.fx_widths.specs.LeastWidths.{least_widths}
 use Rattle.fx_c99.specs.OfProgram.{c_text_of}
 use Rattle.fx_c99.specs.Runs.{DoesSteps, c_text_run}

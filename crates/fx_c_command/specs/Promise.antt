@@ -4,7 +4,7 @@ use Rattle.fx_base.specs.Causes.{Rose}
 use Rattle.fx_base.specs.Shelf.{IsMissing}
 use Rattle.fx_base.specs.Views.{SourceView, SinkView, ShelfView}
 use Rattle.fx_model.specs.Function.{Function}
-use Rattle.fx_cert.specs.BundleView.{Parts}
+use Rattle.fx_cert_text.specs.BundleView.{Parts}
 use Rattle.fx_stream.specs.Promise.{Grows}
 use Rattle.fx_ends.specs.Ends.{End, Done, Usage, status_of, line_of}
 use Rattle.fx_ends.specs.Notes.{AreNotes}

@@ -16,7 +16,7 @@ use crate::printed::{printed_text, text_law};
 use crate::words::{TextRequest, request_of};
 use fx_base::{Shelf, Sink, Status};
 use fx_bundle_commands::{open, print_text};
-use fx_cert_reader::bundle_text_law;
+use fx_cert_text::bundle_text_law;
 use fx_ends::End;
 use std::alloc::Global;
 

@@ -9,7 +9,7 @@ use Rattle.fx_base.specs.Requests.{Request, AsksInOrder}
 use Rattle.fx_base.specs.Views.{ShelfView}
 use Rattle.fx_base.proofs.Noting.{none_noted}
 use Rattle.fx_base.proofs.Requested.{none_asked}
-use Rattle.fx_cert_reader.specs.Laws.{BundleAgain}
+use Rattle.fx_cert_text.specs.Laws.{BundleAgain}
 use Rattle.fx_rows.specs.ReadRows.{RowsInRangeLaw}
 use Rattle.fx_node.specs.Events.{EventsInRangeLaw}
 use Rattle.fx_stream.specs.Promise.{Grows}

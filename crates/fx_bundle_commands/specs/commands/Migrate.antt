@@ -5,7 +5,7 @@ use Rattle.fx_model.specs.Function.{Function}
 use Rattle.fx_model.specs.Machine.{machine_run}
 use Rattle.fx_model.specs.Versions.{second_version}
 use Rattle.fx_inequalities.specs.Accepted.{certified_bound}
-use Rattle.fx_cert.specs.BundleView.{Parts, IsLawfulBundle}
+use Rattle.fx_cert_text.specs.BundleView.{Parts, IsLawfulBundle}
 use Rattle.fx_bundle_commands.specs.Opening.{IsAcceptedAs}
 
 -- the bundle with the second version of its program, and all else as it is

@@ -2,7 +2,7 @@
 -- the input.
 use Rattle.std.specs.Prelude.{ℕ, List}
 use Rattle.fx_model.specs.Function.{Function, Input}
-use Rattle.fx_cert.specs.BundleView.{Parts}
+use Rattle.fx_cert_text.specs.BundleView.{Parts}
 use Rattle.fx_node.specs.Events.{LineFlaw, InRow, InUnit}
 use Rattle.fx_node.specs.NodePage.{UnitsLaw, node_outcome}
 use Rattle.fx_stream.specs.Ending.{Streams}

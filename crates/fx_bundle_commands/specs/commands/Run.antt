@@ -1,6 +1,6 @@
 -- What `run FILE` does: it runs the rows of the input, and prints their page.
 use Rattle.fx_model.specs.Function.{Function}
-use Rattle.fx_cert.specs.BundleView.{Parts}
+use Rattle.fx_cert_text.specs.BundleView.{Parts}
 use Rattle.fx_run.specs.Printed.{RowsLaw, run_outcome}
 use Rattle.fx_stream.specs.Ending.{Streams}
 use Rattle.fx_ends.specs.Ends.{End, BadRow}

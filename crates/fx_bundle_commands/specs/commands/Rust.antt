@@ -3,7 +3,7 @@ use Rattle.std.specs.Prelude.{ℕ, List}
 use Rattle.fx_model.specs.Function.{Function}
 use Rattle.fx_model.specs.Machine.{Program}
 use Rattle.fx_inequalities.specs.Certificate.{Certificate}
-use Rattle.fx_cert.specs.BundleView.{Parts}
+use Rattle.fx_cert_text.specs.BundleView.{Parts}
 use Rattle.fx_statements.specs.OfProgram.{routine_of}
 use Rattle.fx_statements.specs.Runs.{DoesSteps}
 use Rattle.fx_statements.specs.RustText.{rust_text}

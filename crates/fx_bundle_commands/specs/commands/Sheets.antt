@@ -5,7 +5,7 @@ use Rattle.fx_base.specs.Calls.{AppendsFront}
 use Rattle.fx_base.specs.Causes.{Rose}
 use Rattle.fx_base.specs.Views.{SinkView}
 use Rattle.fx_model.specs.Function.{Function}
-use Rattle.fx_cert.specs.BundleView.{Parts, text_of}
+use Rattle.fx_cert_text.specs.BundleView.{Parts, text_of}
 use Rattle.fx_ends.specs.Ends.{End, Done, WriteFault, NoMemory}
 use Rattle.fx_bundle_commands.specs.declared.commands.sheet.Sheet.{Sheet}
 use Rattle.fx_bundle_commands.specs.declared.commands.sheet.Sheet.TheVariants.{Bounds, Table, SecondVersion, Widths, Rust}

@@ -3,7 +3,7 @@
 //! A new text is a variant here and an arm of `print_sheet`, with its row in `specs/commands/Sheets`. The trap: a text
 //! that is made in memory is made whole before anything is written, so where memory lacks nothing is written.
 ghost use Rattle.std.specs.Prelude.{◌≡◌};
-ghost use Rattle.fx_cert.specs.BundleView.{IsLawfulBundle};
+ghost use Rattle.fx_cert_text.specs.BundleView.{IsLawfulBundle};
 ghost use Rattle.fx_ends.specs.EndView.{end_of};
 ghost use Rattle.fx_bundle_commands.specs.Calls.{PrintsFile, desk};
 ghost use Rattle.fx_bundle_commands.specs.Opening.{IsAcceptedAs};

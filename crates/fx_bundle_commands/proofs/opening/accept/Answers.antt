@@ -1,6 +1,6 @@
 use Rattle.std.proofs.Common.{◌≡◌, sym, ap, subst, ◌∙◌, ◌⊎◌, Err}
 use Rattle.fx_lexer.specs.Faults as source
-use Rattle.fx_cert.specs.BundleView.{bundle_of}
+use Rattle.fx_cert_text.specs.BundleView.{bundle_of}
 use Rattle.fx_bundle_commands.specs.OpeningView.{IsReadAs}
 use Rattle.fx_bundle_commands.proofs.Accepting.{text_ends, source_ends, check_ends, meant}
 use Rattle.fx_bundle_commands.proofs.opening.accept.Goals as goal

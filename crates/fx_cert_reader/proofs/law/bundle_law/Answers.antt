@@ -1,5 +1,0 @@
-use Rattle.fx_cert_reader.proofs.BundleLaws.{bundle_law}
-use Rattle.fx_cert_reader.proofs.law.bundle_law.Goals as goal
-
-pub returns : goal.returns
-returns c = bundle_law
