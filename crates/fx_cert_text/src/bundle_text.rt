@@ -13,8 +13,9 @@ ghost use Rattle.fx_cert_text.specs.BundleView.{bundle_of, IsLawfulBundle};
 ghost use Rattle.fx_cert.specs.CertificateView.{certificate_of};
 ghost use Rattle.fx_cert_text.specs.BundleReading.{section_at, version_of, headline_at, source_count_at, source_line, source_at, source_lines, counted_source_at, program_lines, proof_lines, program_section_at, certificate_section_at, bundle_body_at, bundle_at, bundle_in};
 
+use crate::bundle::Bundle;
 use crate::read::{certificate_at, certificate_lines};
-use fx_cert::{Bundle, Certificate};
+use fx_cert::Certificate;
 use fx_expr::Items;
 use fx_num::SOURCE_LIMIT;
 use fx_program::{Program, program_at};

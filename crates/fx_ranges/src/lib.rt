@@ -25,9 +25,11 @@ mod code;
 mod coefficients;
 mod form;
 mod range;
+mod ranges;
 mod start;
 
 pub use code::{codes_of, has_code};
 pub use form::{Centre, Centres, Mix, RangeForm, mix_of, operands, weighted};
-pub use range::{Ranges, Unplanned, find_centred_ranges, find_ranges, find_ranges_in};
+pub use range::{Unplanned, find_centred_ranges, find_ranges, find_ranges_in};
+pub use ranges::Ranges;
 pub use start::{start_error, start_range};

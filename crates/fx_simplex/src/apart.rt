@@ -1,7 +1,8 @@
 //! Taking a combination of the variables apart by templates that stand, for the line of a node.
 
-use crate::basis::{ScaledTemplates, exchange};
+use crate::basis::exchange;
 use crate::budget::Budget;
+use crate::scaled_templates::ScaledTemplates;
 use fx_cert::{Share, Template};
 use fx_expr::Items;
 use fx_num::{Dyadic, Interval, Memory, dsub};

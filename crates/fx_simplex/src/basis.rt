@@ -7,12 +7,10 @@
 
 use crate::budget::Budget;
 use crate::inverse::{entry_of, inverse};
+use crate::scaled_templates::{ScaledTemplates, scaled, scaled_size};
 use fx_cert::Share;
 use fx_num::Memory;
-use fx_template_reach::{
-    PLACES, Pool, SHARE_BITS, SHARE_PLACES, dyadic_near, power_of_two, size_of, to_float,
-    whole_near,
-};
+use fx_template_reach::{SHARE_BITS, SHARE_PLACES, dyadic_near, size_of, to_float, whole_near};
 use std::alloc::Global;
 
 /// What a template has to gain to come into the basis.
@@ -23,16 +21,6 @@ const LEAST_PIVOT: f64 = 1.0e-9;
 
 /// Times that differ by less are as good as one.
 const SLACK: f64 = 1.0e-12;
-
-/// The templates of a pool in coordinates in which each costs 1.
-#[derive(Drop)]
-pub struct ScaledTemplates<'a> {
-    pool: &'a Pool,
-    /// What each template costs.
-    costs: Vec<f64>,
-    /// The entries, template after template.
-    entries: Vec<f64>,
-}
 
 /// A basis: its templates, each with a sign.
 #[derive(Drop)]
@@ -45,90 +33,6 @@ struct Basis {
 pub struct Exchanged {
     pub cost: i128,
     pub shares: Vec<Share>,
-}
-
-/// A unit of a template's entries.
-fn entry_unit() -> f64 {
-    power_of_two(-(PLACES as i32))
-}
-
-/// Puts a template in coordinates in which each state costs 1, over a divisor, behind others.
-fn push_scaled(
-    entries: &mut Vec<f64>,
-    template: &[i128],
-    costs: &[f64],
-    divisor: f64,
-) -> Result<(), Memory> {
-    let unit = entry_unit();
-    for j in 0..template.len().min(costs.len()) {
-        entries.push(to_float(template[j]) * unit * (costs[j] / divisor))?;
-    }
-    Ok(())
-}
-
-/// A template in coordinates in which each state costs 1, over a divisor.
-fn scaled(
-    alloc: Global,
-    template: &[i128],
-    costs: &[f64],
-    divisor: f64,
-) -> Result<Vec<f64>, Memory> {
-    let mut scaled = Vec::new(alloc);
-    push_scaled(&mut scaled, template, costs, divisor)?;
-    Ok(scaled)
-}
-
-/// What a template costs on the unit templates.
-fn scaled_size(template: &[i128], costs: &[f64]) -> f64 {
-    let unit = entry_unit();
-    let mut total = 0.0;
-    for j in 0..template.len().min(costs.len()) {
-        total = total + size_of(to_float(template[j]) * unit * costs[j]);
-    }
-    total
-}
-
-/// What the templates of a pool cost.
-fn costs_of(alloc: Global, pool: &Pool) -> Result<Vec<f64>, Memory> {
-    let mut costs = Vec::new(alloc);
-    for i in 0..pool.templates.len() {
-        costs.push(to_float(pool.cost(i).max(1)))?;
-    }
-    Ok(costs)
-}
-
-/// The entries of the templates of a pool in coordinates in which each costs 1.
-fn entries_of(alloc: Global, pool: &Pool, costs: &[f64]) -> Result<Vec<f64>, Memory> {
-    let mut entries = Vec::new(alloc);
-    for i in 0..costs.len() {
-        push_scaled(&mut entries, pool.templates.template(i), costs, costs[i])?;
-    }
-    Ok(entries)
-}
-
-impl<'a> ScaledTemplates<'a> {
-    /// The templates of a pool.
-    pub fn of(alloc: Global, pool: &'a Pool) -> Result<ScaledTemplates<'a>, Memory> {
-        let costs = costs_of(alloc, pool)?;
-        let entries = entries_of(alloc, pool, &costs)?;
-        Ok(ScaledTemplates {
-            pool,
-            costs,
-            entries,
-        })
-    }
-
-    /// How many states the templates are of.
-    pub fn states(&self) -> usize {
-        self.pool.templates.states
-    }
-
-    /// Template `i`.
-    fn template(&self, i: usize) -> &[f64] {
-        let from = i.saturating_mul(self.states());
-        let to = from.saturating_add(self.states());
-        self.entries.as_slice().get(from..to).unwrap_or(&[])
-    }
 }
 
 /// The sum of the products of two rows.

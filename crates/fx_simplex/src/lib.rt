@@ -20,8 +20,10 @@ mod apart;
 mod basis;
 mod budget;
 mod inverse;
+mod scaled_templates;
 
 pub use apart::{Apart, Combination, pool_of, take_apart};
-pub use basis::{Exchanged, ScaledTemplates, costs_at_most, exchange};
+pub use basis::{Exchanged, costs_at_most, exchange};
 pub use budget::Budget;
 pub use inverse::{entry_of, take_row};
+pub use scaled_templates::ScaledTemplates;

@@ -98,10 +98,14 @@ fn is_worth(ahead: &Ahead, template: &[i128], widths: &[i128]) -> bool {
     }
 }
 
-/// How wide the chains' first templates reach.
-fn widths_of(alloc: Global, chains: &[Chain]) -> Result<Vec<i128>, Memory> {
+/// How wide the first template of each of the first `count` chains reaches.
+pub(crate) fn widths_of(
+    alloc: Global,
+    chains: &[Chain],
+    count: usize,
+) -> Result<Vec<i128>, Memory> {
     let mut widths = Vec::new(alloc);
-    for chain in chains {
+    for chain in chains.iter().take(count) {
         widths.push(chain.ahead.templates.width(0))?;
     }
     Ok(widths)
@@ -152,7 +156,7 @@ pub fn add_output_chains(
     units: &[u32],
     chains: &mut Vec<Chain>,
 ) -> Result<(), Memory> {
-    let widths = widths_of(alloc, chains)?;
+    let widths = widths_of(alloc, chains, chains.len())?;
     for node in t.next.saturating_sub(t.outputs)..t.next {
         add_output_chain(alloc, t, linear, node, units, &widths, chains)?;
     }

@@ -4,6 +4,7 @@
 //! Each builds templates and solves them for bounds; what comes close to the reaches is taken, else the best.
 
 use crate::build::build;
+use crate::chains::widths_of;
 use crate::ends::Ends;
 use crate::ladder::{Building, place};
 use crate::rungs::{RUNGS, Rung};
@@ -274,15 +275,6 @@ fn is_better(best: &Option<Solved>, solved: &Solved) -> bool {
         Some(best) => solved.quality < best.quality,
         None => true,
     }
-}
-
-/// How wide the states reach.
-fn widths_of(alloc: Global, chains: &[Chain], states: usize) -> Result<Vec<i128>, Memory> {
-    let mut widths = Vec::new(alloc);
-    for chain in chains.iter().take(states) {
-        widths.push(chain.ahead.templates.width(0))?;
-    }
-    Ok(widths)
 }
 
 /// The greatest of these widths.
