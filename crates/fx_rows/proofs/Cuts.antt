@@ -1,5 +1,5 @@
 -- Pieces, one after the other.
-use Rattle.std.proofs.Common.{◌≡◌, ℕ, ◌+◌, ◌-◌, ◌<◌, ◌≤◌, zero, suc, List, [], ◌∷◌, ◌++◌, Some, None, true, false, eqb, Bor, length, take, drop, map, set, get_or, refl, ap, ◌∙◌, sym, arith, append_assoc, drop-cons, add-one, length-drop}
+use Rattle.std.proofs.Common.{◌≡◌, ℕ, ◌+◌, ◌-◌, ◌<◌, ◌≤◌, zero, suc, List, [], ◌∷◌, ◌++◌, Some, None, Bor, length, take, drop, map, set, get_or, refl, ap, ◌∙◌, sym, arith, append_assoc, add-one}
 use Rattle.std.proofs.lemmas.Grind.{common_steps}
 use Rattle.std.proofs.lemmas.List.{take_more_set, map-append}
 use Rattle.csv.specs.Records.{field_at}

@@ -39,7 +39,7 @@ abbrev pub unit_named : ℕ → List ℕ → Option ℕ
 unit_named units text =
     if is_unit_text text && nat_lt (digits_value 10 text) units then Some (digits_value 10 text) else None
 
--- the same of the field at the unit's column, if there is one
+-- the unit that the field at the units' column names, where there is one
 abbrev pub unit_in_field : ℕ → Option (List ℕ) → Option ℕ
 unit_in_field units None = None
 unit_in_field units (Some field) = unit_named units (without_blanks field)

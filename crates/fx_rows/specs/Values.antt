@@ -19,7 +19,7 @@ abbrev pub value_in_range : Input → Result Decimal NumberFault → Result Deci
 value_in_range i (Err fault) = Err BadNumber
 value_in_range i (Ok d) = if is_given i (decimal_value d) then Ok d else Err OutOfRange
 
--- the same of the field at the input's column, if there is one
+-- the value of the field at an input's column, if there is one, or what is wrong with it
 abbrev pub field_value : Input → Option (List ℕ) → Result Decimal RowKind
 field_value i None = Err TooFew
 field_value i (Some f) = value_in_range i (decimal_of (without_blanks f))

@@ -28,6 +28,7 @@ mod blanks;
 mod column;
 mod columns;
 mod fault;
+mod inputs;
 mod law;
 mod line;
 mod order;

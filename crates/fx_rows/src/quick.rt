@@ -15,7 +15,7 @@ ghost use Rattle.fx_rows.specs.Results.{IsRowRead};
 ghost use Rattle.fx_rows.specs.Values.{row_of_fields};
 
 use crate::fault::LINE_LIMIT;
-use crate::order::Order;
+use crate::inputs::InputColumns;
 use crate::skip::{behind_piece, is_plain_left, skip_columns};
 use crate::unmarked_line_law;
 use fx_fraction::{Decimal, Range};
@@ -40,18 +40,19 @@ fn value_in(text: &[u8], range: &Range) -> Option<(Decimal, usize)>
 fn read_columns(
     line: &[u8],
     order: &[u32],
-    places: &[u32],
-    ranges: &[Range],
+    columns: &InputColumns<'_>,
     row: &mut [Decimal],
 ) -> Option<()>
-    requires many { length places.now ≡ length ranges.now }
-    requires long { length row.old ≡ length ranges.now }
-    requires each { All (λ i. i < length ranges.now) order.now }
+    requires long { length row.old ≡ length columns.now.ranges.now }
+    requires each { All (λ i. i < length columns.now.ranges.now) order.now }
     ensures long { length row.new ≡ length row.old }
     ensures plain { OnSome result (list_any is_special line.now ≡ false) }
-    ensures values { OnSome result ((is : List Input) → AreRangesOf is ranges.now
-        → (k : ℕ) → k < length order.now → HasValue is places.now (pieces line.now) row.new (slice_index order.now k)) }
+    ensures values { OnSome result ((is : List Input) → AreRangesOf is columns.now.ranges.now
+        → (k : ℕ) → k < length order.now
+        → HasValue is columns.now.places.now (pieces line.now) row.new (slice_index order.now k)) }
 {
+    let places = columns.places;
+    let ranges = columns.ranges;
     let mut rest = Some(line);
     let mut column = 0usize;
     for (k, input) in order.iter().enumerate() {
@@ -96,20 +97,15 @@ fn is_usual(line: &[u8]) -> bool
 }
 
 /// Reads the values of a row whose columns are as plain as nearly all are. False says nothing of the line.
-pub(crate) fn read_quick(
-    line: &[u8],
-    order: &Order,
-    places: &[u32],
-    ranges: &[Range],
-    row: &mut Vec<Decimal>,
-) -> bool
-    requires many { length places.now ≡ length ranges.now }
+pub(crate) fn read_quick(line: &[u8], columns: &InputColumns<'_>, row: &mut Vec<Decimal>) -> bool
     ensures short { IsTrue result → length line.now ≤ line_limit }
     ensures no_return { IsTrue result → list_any is_return line.now ≡ false }
-    ensures read { IsTrue result → (is : List Input) → AreRangesOf is ranges.now →
-        IsRowRead (Ok true) row.new.items (row_of_fields is places.now (line_fields line.now)) }
+    ensures read { IsTrue result → (is : List Input) → AreRangesOf is columns.now.ranges.now →
+        IsRowRead (Ok true) row.new.items (row_of_fields is columns.now.places.now (line_fields line.now)) }
     ensures kept { vec_capacity row.old ≤ vec_capacity row.new }
 {
+    let order = columns.order;
+    let ranges = columns.ranges;
     let inputs = order.inputs.as_slice();
     if inputs.is_empty() || order.count != ranges.len() {
         return false;
@@ -117,7 +113,7 @@ pub(crate) fn read_quick(
     if !is_usual(line) || !fill(row, ranges.len()) {
         return false;
     }
-    if read_columns(line, inputs, places, ranges, row.as_mut_slice()).is_none() {
+    if read_columns(line, inputs, columns, row.as_mut_slice()).is_none() {
         return false;
     }
     unmarked_line_law(line);

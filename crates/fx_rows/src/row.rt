@@ -7,7 +7,7 @@ ghost use Rattle.fx_rational.specs.Decimal.{decimal_value};
 ghost use Rattle.fx_model.specs.Function as model;
 ghost use Rattle.fx_model.specs.Function.{Input};
 ghost use Rattle.fx_model.specs.Rows.{IsInRange};
-ghost use Rattle.fx_model.specs.Limits.{input_limit, line_limit};
+ghost use Rattle.fx_model.specs.Limits.{line_limit};
 ghost use Rattle.fx_rows.specs.Line.{line_fields, is_return, is_special, pieces};
 ghost use Rattle.fx_rows.specs.Seen.{seen};
 ghost use Rattle.fx_rows.specs.Header.{columns_of, HasPlaces};
@@ -18,6 +18,7 @@ ghost use Rattle.fx_rows.specs.Values.{field_value, values_from, row_of, row_of_
 use crate::blanks::trimmed;
 use crate::columns::Columns;
 use crate::fault::{LINE_LIMIT, MEMORY, RowFault, RowKind, line_fault};
+use crate::inputs::InputColumns;
 use crate::order::Order;
 use crate::quick::read_quick;
 use crate::reader::{RowReader, ranges_of};
@@ -74,18 +75,17 @@ fn add_value(
 // columns rise.
 fn read_along(
     text: &[u8],
-    places: &[u32],
-    ranges: &[Range],
+    columns: &InputColumns<'_>,
     row: &mut Vec<Decimal>,
 ) -> Result<(), RowFault>
-    requires many { length places.now ≡ length ranges.now }
-    requires few { length ranges.now ≤ input_limit }
-    requires empty { row.old.items ≡ [] }
-    ensures read { (is : List Input) → AreRangesOf is ranges.now →
-        IsRead result row.new.items (values_from 0 is places.now (pieces text.now)) }
-    ensures room { IfErr result (λ e. e.kind ≡ kind.Memory → vec_capacity row.old < length ranges.now) }
+    requires { row.old.items ≡ [] }
+    ensures read { (is : List Input) → AreRangesOf is columns.now.ranges.now →
+        IsRead result row.new.items (values_from 0 is columns.now.places.now (pieces text.now)) }
+    ensures room { IfErr result (λ e. e.kind ≡ kind.Memory → vec_capacity row.old < length columns.now.ranges.now) }
     ensures kept { vec_capacity row.old ≤ vec_capacity row.new }
 {
+    let places = columns.places;
+    let ranges = columns.ranges;
     let mut rest = Some(text);
     let mut column = 0usize;
     for (i, range) in ranges.iter().enumerate() {
@@ -98,21 +98,20 @@ fn read_along(
     Ok(())
 }
 
-// The same from fields that are found in any order at once.
+// Reads the values of the inputs into `row`, which is empty, from fields that are found in any order at once.
 fn read_values(
     fields: &Record,
-    places: &[u32],
-    ranges: &[Range],
+    columns: &InputColumns<'_>,
     row: &mut Vec<Decimal>,
 ) -> Result<(), RowFault>
-    requires many { length places.now ≡ length ranges.now }
-    requires few { length ranges.now ≤ input_limit }
-    requires empty { row.old.items ≡ [] }
-    ensures read { (is : List Input) → AreRangesOf is ranges.now →
-        IsRead result row.new.items (values_from 0 is places.now (seen fields.now)) }
-    ensures room { IfErr result (λ e. e.kind ≡ kind.Memory → vec_capacity row.old < length ranges.now) }
+    requires { row.old.items ≡ [] }
+    ensures read { (is : List Input) → AreRangesOf is columns.now.ranges.now →
+        IsRead result row.new.items (values_from 0 is columns.now.places.now (seen fields.now)) }
+    ensures room { IfErr result (λ e. e.kind ≡ kind.Memory → vec_capacity row.old < length columns.now.ranges.now) }
     ensures kept { vec_capacity row.old ≤ vec_capacity row.new }
 {
+    let places = columns.places;
+    let ranges = columns.ranges;
     for (i, range) in ranges.iter().enumerate() {
         let place = places[i] as usize;
         add_value(range, fields.get(place), i as u32, row)?;
@@ -132,66 +131,59 @@ fn are_rising(places: &[u32]) -> bool {
     true
 }
 
-// The same of a text that isn't empty, by its pieces.
+// Reads the values of the inputs into `row`, which is empty, from the pieces of a text: by a walk where the columns
+// rise, and else by a table.
 fn read_pieces(
     text: &[u8],
-    places: &[u32],
-    ranges: &[Range],
+    columns: &InputColumns<'_>,
     row: &mut Vec<Decimal>,
 ) -> Result<(), RowFault>
-    requires many { length places.now ≡ length ranges.now }
-    requires few { length ranges.now ≤ input_limit }
-    requires empty { row.old.items ≡ [] }
-    ensures read { (is : List Input) → AreRangesOf is ranges.now →
-        IsRead result row.new.items (values_from 0 is places.now (pieces text.now)) }
-    ensures room { IfErr result (λ e. e.kind ≡ kind.Memory → vec_capacity row.old < length ranges.now) }
+    requires { row.old.items ≡ [] }
+    ensures read { (is : List Input) → AreRangesOf is columns.now.ranges.now →
+        IsRead result row.new.items (values_from 0 is columns.now.places.now (pieces text.now)) }
+    ensures room { IfErr result (λ e. e.kind ≡ kind.Memory → vec_capacity row.old < length columns.now.ranges.now) }
     ensures kept { vec_capacity row.old ≤ vec_capacity row.new }
 {
-    if are_rising(places) {
-        read_along(text, places, ranges, row)
+    if are_rising(columns.places) {
+        read_along(text, columns, row)
     } else {
-        read_table(text, places, ranges, row)
+        read_table(text, columns, row)
     }
 }
 
-// The table of the pieces is large, and only made where it serves.
+// Reads the values of the inputs into `row`, which is empty, from a table of the pieces of a text. The table is large,
+// and only made where it serves.
 #[inline(never)]
 fn read_table(
     text: &[u8],
-    places: &[u32],
-    ranges: &[Range],
+    columns: &InputColumns<'_>,
     row: &mut Vec<Decimal>,
 ) -> Result<(), RowFault>
-    requires many { length places.now ≡ length ranges.now }
-    requires few { length ranges.now ≤ input_limit }
-    requires empty { row.old.items ≡ [] }
-    ensures read { (is : List Input) → AreRangesOf is ranges.now →
-        IsRead result row.new.items (values_from 0 is places.now (pieces text.now)) }
-    ensures room { IfErr result (λ e. e.kind ≡ kind.Memory → vec_capacity row.old < length ranges.now) }
+    requires { row.old.items ≡ [] }
+    ensures read { (is : List Input) → AreRangesOf is columns.now.ranges.now →
+        IsRead result row.new.items (values_from 0 is columns.now.places.now (pieces text.now)) }
+    ensures room { IfErr result (λ e. e.kind ≡ kind.Memory → vec_capacity row.old < length columns.now.ranges.now) }
     ensures kept { vec_capacity row.old ≤ vec_capacity row.new }
 {
     let fields = Record::Plain(Pieces::of(text));
-    read_values(&fields, places, ranges, row)
+    read_values(&fields, columns, row)
 }
 
-// The same of any line, by `csv`. False at a blank line.
+// Reads the values of any line into `row`, which is empty, by `csv`. False at a blank line.
 #[inline(never)]
 fn read_record(
     alloc: Global,
     line: &[u8],
-    places: &[u32],
-    ranges: &[Range],
+    columns: &InputColumns<'_>,
     row: &mut Vec<Decimal>,
 ) -> Result<bool, RowFault>
-    requires many { length places.now ≡ length ranges.now }
-    requires few { length ranges.now ≤ input_limit }
-    requires empty { row.old.items ≡ [] }
-    ensures read { (is : List Input) → AreRangesOf is ranges.now →
-        IsRowRead result row.new.items (row_of_fields is places.now (line_fields line.now)) }
+    requires { row.old.items ≡ [] }
+    ensures read { (is : List Input) → AreRangesOf is columns.now.ranges.now →
+        IsRowRead result row.new.items (row_of_fields is columns.now.places.now (line_fields line.now)) }
     ensures kept { vec_capacity row.old ≤ vec_capacity row.new }
 {
     match record_of(alloc, line) {
-        Ok(Some(record)) => match read_values(&Record::Parsed(record), places, ranges, row) {
+        Ok(Some(record)) => match read_values(&Record::Parsed(record), columns, row) {
             Ok(()) => Ok(true),
             Err(fault) => Err(fault),
         },
@@ -200,31 +192,29 @@ fn read_record(
     }
 }
 
-// The same, by its pieces where they are its fields.
+// Reads the values of a line without a return into `row`, which is empty: by its pieces where they are its fields, and
+// else by `csv`. False at a blank line.
 fn read_line(
     alloc: Global,
     line: &[u8],
-    places: &[u32],
-    ranges: &[Range],
+    columns: &InputColumns<'_>,
     row: &mut Vec<Decimal>,
 ) -> Result<bool, RowFault>
-    requires many { length places.now ≡ length ranges.now }
-    requires few { length ranges.now ≤ input_limit }
     requires empty { row.old.items ≡ [] }
     requires no_return { list_any is_return line.now ≡ false }
-    ensures read { (is : List Input) → AreRangesOf is ranges.now →
-        IsRowRead result row.new.items (row_of_fields is places.now (line_fields line.now)) }
+    ensures read { (is : List Input) → AreRangesOf is columns.now.ranges.now →
+        IsRowRead result row.new.items (row_of_fields is columns.now.places.now (line_fields line.now)) }
     ensures room { list_any is_special line.now ≡ false →
-        IfErr result (λ e. e.kind ≡ kind.Memory → vec_capacity row.old < length ranges.now) }
+        IfErr result (λ e. e.kind ≡ kind.Memory → vec_capacity row.old < length columns.now.ranges.now) }
     ensures kept { vec_capacity row.old ≤ vec_capacity row.new }
 {
     let Some(text) = plain_text(line) else {
-        return read_record(alloc, line, places, ranges, row);
+        return read_record(alloc, line, columns, row);
     };
     if text.is_empty() {
         return Ok(false);
     }
-    match read_pieces(text, places, ranges, row) {
+    match read_pieces(text, columns, row) {
         Ok(()) => Ok(true),
         Err(fault) => Err(fault),
     }
@@ -232,16 +222,17 @@ fn read_line(
 
 // Reads a line that is one number, for one input at the first column, as nearly every line is where there is one input.
 // No other test of the line is due then. False leaves the row empty.
-fn read_one(line: &[u8], places: &[u32], ranges: &[Range], row: &mut Vec<Decimal>) -> bool
-    requires many { length places.now ≡ length ranges.now }
-    requires empty { row.old.items ≡ [] }
+fn read_one(line: &[u8], columns: &InputColumns<'_>, row: &mut Vec<Decimal>) -> bool
+    requires { row.old.items ≡ [] }
     ensures short { IsTrue result → length line.now ≤ line_limit }
     ensures no_return { IsTrue result → list_any is_return line.now ≡ false }
-    ensures read { IsTrue result → (is : List Input) → AreRangesOf is ranges.now →
-        IsRowRead (Ok true) row.new.items (row_of_fields is places.now (line_fields line.now)) }
+    ensures read { IsTrue result → (is : List Input) → AreRangesOf is columns.now.ranges.now →
+        IsRowRead (Ok true) row.new.items (row_of_fields is columns.now.places.now (line_fields line.now)) }
     ensures left { result ≡ false → row.new.items ≡ [] }
     ensures kept { vec_capacity row.old ≤ vec_capacity row.new }
 {
+    let places = columns.places;
+    let ranges = columns.ranges;
     if ranges.len() != 1 || places[0] != 0 || line.len() > LINE_LIMIT {
         return false;
     }
@@ -255,36 +246,32 @@ fn read_one(line: &[u8], places: &[u32], ranges: &[Range], row: &mut Vec<Decimal
     row.push(given).is_ok()
 }
 
-// Reads the values of any line at these places, and answers false at a blank one.
+// Reads the values of any line at these columns, and answers false at a blank one.
 fn read_by(
     alloc: Global,
     line: &[u8],
-    order: &Order,
-    places: &[u32],
-    ranges: &[Range],
+    columns: &InputColumns<'_>,
     row: &mut Vec<Decimal>,
 ) -> Result<bool, RowFault>
-    requires many { length places.now ≡ length ranges.now }
-    requires few { length ranges.now ≤ input_limit }
-    ensures read { (f : model.Function) → AreRangesOf f.inputs ranges.now →
-        IsRowRead result row.new.items (row_of f places.now line.now) }
+    ensures read { (f : model.Function) → AreRangesOf f.inputs columns.now.ranges.now →
+        IsRowRead result row.new.items (row_of f columns.now.places.now line.now) }
     ensures room { list_any is_special line.now ≡ false →
-        IfErr result (λ e. e.kind ≡ kind.Memory → vec_capacity row.old < length ranges.now) }
+        IfErr result (λ e. e.kind ≡ kind.Memory → vec_capacity row.old < length columns.now.ranges.now) }
     ensures kept { vec_capacity row.old ≤ vec_capacity row.new }
-    ensures in_range { (f : model.Function) → AreRangesOf f.inputs ranges.now →
+    ensures in_range { (f : model.Function) → AreRangesOf f.inputs columns.now.ranges.now →
         IfOk result (λ b. IsTrue b → IsInRange f.inputs (map decimal_value row.new.items)) }
 {
-    if read_quick(line, order, places, ranges, row) {
+    if read_quick(line, columns, row) {
         return Ok(true);
     }
     row.clear();
-    if read_one(line, places, ranges, row) {
+    if read_one(line, columns, row) {
         return Ok(true);
     }
     if let Some(kind) = line_fault(line) {
         return Err(RowFault { kind, input: 0 });
     }
-    read_line(alloc, line, places, ranges, row)
+    read_line(alloc, line, columns, row)
 }
 
 impl RowReader {
@@ -306,14 +293,12 @@ impl RowReader {
             IsInRange function.now.inputs (map decimal_value row.new.items)) }
     {
         function.keeps();
-        read_by(
-            alloc,
-            line,
-            &self.order,
-            self.places.as_slice(),
-            self.ranges.as_slice(),
-            row,
-        )
+        let inputs = InputColumns {
+            places: self.places.as_slice(),
+            ranges: self.ranges.as_slice(),
+            order: &self.order,
+        };
+        read_by(alloc, line, &inputs, row)
     }
 }
 
@@ -332,14 +317,15 @@ pub fn read_row(
 {
     function.keeps();
     match ranges_of(alloc, function.inputs.as_slice()) {
-        Ok(ranges) => read_by(
-            alloc,
-            line,
-            &Order::none(alloc, 0),
-            columns.places.as_slice(),
-            ranges.as_slice(),
-            row,
-        ),
+        Ok(ranges) => {
+            let order = Order::none(alloc, 0);
+            let inputs = InputColumns {
+                places: columns.places.as_slice(),
+                ranges: ranges.as_slice(),
+                order: &order,
+            };
+            read_by(alloc, line, &inputs, row)
+        }
         Err(Memory) => {
             row.clear();
             Err(MEMORY)

@@ -17,24 +17,25 @@ returns-clause-no_return c =
 
 pub returns-clause-read : goal.returns-clause-read
 returns-clause-read c = λ yes is h.
+    let columns = c.args.columns.now in
     let ins = c.as_slice-inputs.result.now in
     let read = c.read_columns.ensures in
-    let many = as-many-ranges is c.args.ranges.now h in
-    let long : c.fill.new.row.len ≡ length c.args.ranges.now = c.fill.ensures.long c.if-not-fill.false in
+    let many = as-many-ranges is columns.ranges.now h in
+    let long : c.fill.new.row.len ≡ length columns.ranges.now = c.fill.ensures.long c.if-not-fill.false in
     let kept : c.fill.new.row.len ≡ length c.read_columns.new.row =
     omega (arith, read.long, c.as_mut_slice.ensures.len) in
     let any : 0 < length ins = (let some = eqb-false (length ins) 0 (sym c.is_empty.ensures ∙ c.if-is_empty.false) in
     omega (arith, some)) in
     let ordered : IsOrder (length is) ins =
     subst (λ n. IsOrder n ins) (c.if-order-ranges.false
-    ∙ sym many) (subst (IsOrder c.args.order.now.count) (sym c.as_slice-inputs.ensures) c.args.order.now.ordered) in
+    ∙ sym many) (subst (IsOrder columns.order.now.count) (sym c.as_slice-inputs.ensures) columns.order.now.ordered) in
     let items : take c.fill.new.row.len
     (c.read_columns.new.row ++ drop (length c.read_columns.new.row) c.fill.new.row.items) ≡ c.read_columns.new.row =
     ap (λ n. take n (c.read_columns.new.row ++ drop (length c.read_columns.new.row) c.fill.new.row.items)) kept
     ∙ take-append_seam c.read_columns.new.row (drop (length c.read_columns.new.row) c.fill.new.row.items) in
     subst (λ (row : List Decimal). IsRowRead (Ok true) row
-    (row_of_fields is c.args.places.now (line_fields c.args.line.now))) (sym items)
-    (row_placed is c.args.places.now c.args.line.now ins c.read_columns.new.row (line_fields c.args.line.now)
-    (omega (arith, c.requires.many, many)) (omega (arith, kept, long, many))
+    (row_of_fields is columns.places.now (line_fields c.args.line.now))) (sym items)
+    (row_placed is columns.places.now c.args.line.now ins c.read_columns.new.row (line_fields c.args.line.now)
+    (omega (arith, columns.many, many)) (omega (arith, kept, long, many))
     (c.is_usual.ensures.some c.if-not-is_usual.false) c.unmarked_line_law.ensures ordered any
     (on_some c.read_columns.result c.if-is_none.ensures read.values is h))

@@ -19,11 +19,11 @@ returns-clause-no_return c = λ _. no_return c.args.line.now c.in-Ok.given c.in-
 
 pub returns-clause-read : goal.returns-clause-read
 returns-clause-read c = λ yes is h.
-    let ps = c.args.places.now in
-    let one : length c.args.ranges.now ≡ 1 = omega (arith, c.if-ranges-ne1.false) in
-    let x = range-at is c.args.ranges.now h 0 no_range (omega arith) in
+    let ps = c.args.columns.now.places.now in
+    let one : length c.args.columns.now.ranges.now ≡ 1 = omega (arith, c.if-ranges-ne1.false) in
+    let x = range-at is c.args.columns.now.ranges.now h 0 no_range (omega arith) in
     let first : get_or ps 0 0 ≡ 0 = omega (arith, c.if-places-ne0.false) in
-    let many = as-many-ranges is c.args.ranges.now h in
+    let many = as-many-ranges is c.args.columns.now.ranges.now h in
     let inputs : is ≡ x.0 ∷ [] = x.1 ∙ ap (λ l. x.0 ∷ l) (drop_all 1 is (omega arith)) in
     let places : ps ≡ 0 ∷ [] = place-at ps 0 (omega arith) ∙ ap (λ l. get_or ps 0 0 ∷ l) (drop_all 1 ps (omega arith))
     ∙ ap (λ n. n ∷ []) first in
