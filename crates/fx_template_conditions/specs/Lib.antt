@@ -1,4 +1,5 @@
 pub mod Coefficients
 pub mod Boxes
+pub mod CertificateSide
 pub mod KeptTemplates
 pub mod ShortTimes

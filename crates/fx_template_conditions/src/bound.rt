@@ -1,23 +1,23 @@
 //! Where a combination of the variables lies, by templates and shares of templates.
 
-ghost use Rattle.std.specs.Prelude.{◌≡◌, ◌+◌, ◌<◌, ◌≤◌, ◌^◌, ℕ, length, None, Some, IfSome, IsTrue};
+ghost use Rattle.std.specs.Prelude.{◌≡◌, ◌+◌, ◌<◌, ◌≤◌, ℕ, length, None, Some, IfSome, IsTrue};
 ghost use Rattle.fx_model.specs.Tree.{at};
 ghost use Rattle.fx_rational.specs.Dyadic as model;
 ghost use Rattle.fx_rational.specs.Dyadic.{fits_128, zero_dyadic};
-ghost use Rattle.fx_inequalities.specs.Certificate.{no_template};
 ghost use Rattle.fx_inequalities.specs.Formula.{Difference, Formula, Num, Product, Span, point, span_product};
-ghost use Rattle.fx_inequalities.specs.Affine.{bound_by_templates, left_over, shared_sum, templates_of, unit_coef, weighted_sum};
+ghost use Rattle.fx_inequalities.specs.Affine.{left_over, shared_sum, unit_coef, weighted_sum};
 ghost use Rattle.fx_formulas.specs.Judging.{Forms, FormsSpan};
 ghost use Rattle.fx_formulas.specs.Places.{IsShort, IsShortSpan};
-ghost use Rattle.fx_cert.specs.CertificateView.{form_view as form_view, lines_view, shares_of, templates_in};
+ghost use Rattle.fx_cert.specs.CertificateView.{form_view as form_view, shares_of};
+ghost use Rattle.fx_template_conditions.specs.CertificateSide.{bound_on, spans_on, templates_on};
 ghost use Rattle.fx_template_conditions.specs.Coefficients.{AreFormed, AreLeft, AreUnits};
 ghost use Rattle.fx_template_conditions.specs.ShortTimes.{AreTimes, HasRoom};
-ghost use Rattle.fx_cert.specs.Sides.{side_at};
-ghost use Rattle.fx_conditions.specs.Limits.{AreShortLines, AreShortShares, AreShortTemplates, IsShortForm};
+ghost use Rattle.fx_conditions.specs.Limits.{AreShortShares, IsShortForm};
 
 use crate::quick::{ShortTimes, less_raised, short_times, times_ends};
-use fx_cert::{Form, NodeLine, Share, Side, Template, coef_at};
-use fx_conditions::{bound_of, scaled, scaled_number, side_of};
+use crate::side::CertificateSide;
+use fx_cert::{Form, Share, coef_at};
+use fx_conditions::{scaled, scaled_number};
 use fx_formulas::{difference, number, plus, point, times};
 use fx_num::{Dyadic, INPUT_LIMIT, Interval, STATE_LIMIT};
 
@@ -49,33 +49,29 @@ fn coefficient(coefs: &[Option<Dyadic>], j: u32) -> Option<Dyadic>
 
 /// Coefficient `j` times what stands for variable `j`.
 fn variable_product(
+    side: &CertificateSide<'_>,
     coefs: &[Option<Dyadic>],
-    side: &Side,
-    lines: &[NodeLine],
     j: u32,
 ) -> Option<Interval>
-    requires { AreShortLines (lines_view lines.now) }
     ensures { (n : ℕ) (c : ℕ → Formula) → j < n → AreFormed coefs.now n c →
-        FormsSpan result (span_product (point (c j)) (side_at side.now (lines_view lines.now) j)) }
+        FormsSpan result (span_product (point (c j)) (spans_on side.now j)) }
 {
-    times(point(coefficient(coefs, j)), side_of(side, lines, j))
+    side.keeps();
+    times(point(coefficient(coefs, j)), side.variable(j))
 }
 
 /// With the inputs by their own spans.
 fn with_inputs(
+    side: &CertificateSide<'_>,
     start: Option<Interval>,
     coefs: &[Option<Dyadic>],
-    side: &Side,
-    lines: &[NodeLine],
-    inputs: u32,
 ) -> Option<Interval>
-    requires { AreShortLines (lines_view lines.now) }
-    ensures { (n : ℕ) (c : ℕ → Formula) (z : Span) → inputs ≤ n → AreFormed coefs.now n c → FormsSpan start z →
-        FormsSpan result (weighted_sum z inputs c (side_at side.now (lines_view lines.now))) }
+    ensures { (n : ℕ) (c : ℕ → Formula) (z : Span) → side.now.inputs ≤ n → AreFormed coefs.now n c →
+        FormsSpan start z → FormsSpan result (weighted_sum z side.now.inputs c (spans_on side.now)) }
 {
     let mut total = start;
-    for j in 0..inputs {
-        total = plus(total, variable_product(coefs, side, lines, j));
+    for j in 0..side.inputs() {
+        total = plus(total, variable_product(side, coefs, j));
     }
     total
 }
@@ -105,31 +101,28 @@ fn bound_times(times: Dyadic, bound: Option<Interval>) -> Option<Interval>
 }
 
 /// The bound of a share's template, so many times.
-fn share_bound(templates: &[Template], states: u32, share: Share) -> Option<Interval>
-    requires templates { AreShortTemplates (templates_in templates.now) }
-    requires times { IsShort 96 (Num share.times) }
+fn share_bound(side: &CertificateSide<'_>, share: Share) -> Option<Interval>
+    requires { IsShort 96 (Num share.times) }
     ensures { FormsSpan result
-        (span_product (point (Num share.times))
-        ((templates_of states (templates_in templates.now)).bound share.template)) }
+        (span_product (point (Num share.times)) ((templates_on side.now).bound share.template)) }
 {
-    bound_times(share.times, bound_of(templates, states, share.template))
+    side.keeps();
+    bound_times(share.times, side.bound(share.template))
 }
 
 /// With the shares of templates.
 fn with_shares(
+    side: &CertificateSide<'_>,
     start: Option<Interval>,
-    templates: &[Template],
-    states: u32,
     shares: &[Share],
 ) -> Option<Interval>
-    requires templates { AreShortTemplates (templates_in templates.now) }
     requires shares { AreShortShares (shares_of shares.now) }
     ensures { (z : Span) → FormsSpan start z →
-        FormsSpan result (shared_sum z (templates_of states (templates_in templates.now)) (shares_of shares.now)) }
+        FormsSpan result (shared_sum z (templates_on side.now) (shares_of shares.now)) }
 {
     let mut total = start;
     for share in shares {
-        total = plus(total, share_bound(templates, states, *share));
+        total = plus(total, share_bound(side, *share));
     }
     total
 }
@@ -224,101 +217,73 @@ fn unit_coefs(units: &[Dyadic], i: u32) -> &[Dyadic]
     &units[CENTRE - i as usize..]
 }
 
-/// The coefficients of a template that is no unit template.
-fn coefs_of(templates: &[Template], i: u32) -> &[Dyadic]
-    ensures { result.now ≡ (at no_template (templates_in templates.now) i).coefs }
-{
-    match templates.get(i as usize) {
-        Some(template) => template.coefs.as_slice(),
-        None => &[],
-    }
-}
-
 /// What a share leaves of the coefficients of the states.
 fn take_share(
+    side: &CertificateSide<'_>,
     coefs: &mut [Option<Dyadic>; VARIABLES],
-    inputs: u32,
-    templates: &[Template],
-    states: u32,
     share: Share,
     units: &[Dyadic],
 )
     requires units { AreUnits units.now }
     requires long { length units.now ≡ 192 }
-    requires templates { AreShortTemplates (templates_in templates.now) }
     requires times { IsShort 96 (Num share.times) }
-    requires few { inputs + states ≤ 96 }
-    ensures { (c : ℕ → Formula) → AreLeft coefs.old inputs states c →
-        AreLeft coefs.new inputs states
-        (λ k. Difference (c k) (Product (Num share.times)
-        ((templates_of states (templates_in templates.now)).coef share.template k))) }
+    ensures { (c : ℕ → Formula) → AreLeft coefs.old side.now.inputs side.now.states c →
+        AreLeft coefs.new side.now.inputs side.now.states
+        (λ k. Difference (c k) (Product (Num share.times) ((templates_on side.now).coef share.template k))) }
 {
+    side.keeps();
+    let inputs = side.inputs();
+    let states = side.states();
     if share.template < states {
         let unit = unit_coefs(units, share.template);
         take_template(coefs, inputs, unit, states, share.times);
     } else {
-        let template = coefs_of(templates, share.template);
+        let template = side.coefs(share.template);
         take_template(coefs, inputs, template, states, share.times);
     }
 }
 
 /// What the shares leave of them.
 fn take_shares(
+    side: &CertificateSide<'_>,
     coefs: &mut [Option<Dyadic>; VARIABLES],
-    inputs: u32,
-    templates: &[Template],
-    states: u32,
     shares: &[Share],
 )
-    requires templates { AreShortTemplates (templates_in templates.now) }
     requires shares { AreShortShares (shares_of shares.now) }
-    requires few { inputs + states ≤ 96 }
-    ensures { (c : ℕ → Formula) → AreLeft coefs.old inputs states c →
-        AreLeft coefs.new inputs states
-        (λ k. left_over (c k) (templates_of states (templates_in templates.now)) (shares_of shares.now) k) }
+    ensures { (c : ℕ → Formula) → AreLeft coefs.old side.now.inputs side.now.states c →
+        AreLeft coefs.new side.now.inputs side.now.states
+        (λ k. left_over (c k) (templates_on side.now) (shares_of shares.now) k) }
 {
     let units = units();
     for share in shares {
-        take_share(coefs, inputs, templates, states, *share, &units);
+        take_share(side, coefs, *share, &units);
     }
 }
 
 /// What is left of state `k`, times the bound of its own template.
-fn state_product(
-    lefts: &[Option<Dyadic>],
-    inputs: u32,
-    templates: &[Template],
-    states: u32,
-    k: u32,
-) -> Option<Interval>
-    requires templates { AreShortTemplates (templates_in templates.now) }
-    requires few { inputs + k < 2 ^ 32 }
-    ensures { (c : ℕ → Formula) → k < states → AreLeft lefts.now inputs states c → IsShort 192 (c k) →
-        FormsSpan result (span_product (point (c k)) ((templates_of states (templates_in templates.now)).bound k)) }
+fn state_product(side: &CertificateSide<'_>, lefts: &[Option<Dyadic>], k: u32) -> Option<Interval>
+    requires within { k < side.now.states }
+    ensures { (c : ℕ → Formula) → AreLeft lefts.now side.now.inputs side.now.states c → IsShort 192 (c k) →
+        FormsSpan result (span_product (point (c k)) ((templates_on side.now).bound k)) }
 {
-    times(
-        point(coefficient(lefts, inputs + k)),
-        bound_of(templates, states, k),
-    )
+    side.keeps();
+    let left = coefficient(lefts, side.inputs() + k);
+    times(point(left), side.bound(k))
 }
 
 /// With what is left of the states, by their own templates.
 fn with_states(
+    side: &CertificateSide<'_>,
     start: Option<Interval>,
     lefts: &[Option<Dyadic>],
-    inputs: u32,
-    templates: &[Template],
-    states: u32,
 ) -> Option<Interval>
-    requires templates { AreShortTemplates (templates_in templates.now) }
-    requires few { inputs + states ≤ 96 }
-    ensures { (c : ℕ → Formula) (z : Span) → AreLeft lefts.now inputs states c →
-        ((k : ℕ) → k < states → IsShort 192 (c k)) → FormsSpan start z →
-        FormsSpan result (weighted_sum z states c (templates_of states (templates_in templates.now)).bound) }
+    ensures { (c : ℕ → Formula) (z : Span) → AreLeft lefts.now side.now.inputs side.now.states c →
+        ((k : ℕ) → k < side.now.states → IsShort 192 (c k)) → FormsSpan start z →
+        FormsSpan result (weighted_sum z side.now.states c (templates_on side.now).bound) }
 {
     let mut total = start;
-    for k in 0..states {
-        total = plus(total, state_product(lefts, inputs, templates, states, k));
+    for k in 0..side.states() {
+        total = plus(total, state_product(side, lefts, k));
     }
     total
 }
@@ -326,25 +291,18 @@ fn with_states(
 /// Where what begins with `start` lies, and goes on with these coefficients times the variables. The shares are taken
 /// from the states' coefficients in their place.
 pub fn bound_by_templates(
+    side: &CertificateSide<'_>,
     start: Option<Interval>,
     coefs: &mut [Option<Dyadic>; VARIABLES],
-    side: &Side,
-    lines: &[NodeLine],
-    inputs: u32,
-    templates: &[Template],
-    states: u32,
     shares: &[Share],
 ) -> Option<Interval>
-    requires lines { AreShortLines (lines_view lines.now) }
-    requires templates { AreShortTemplates (templates_in templates.now) }
     requires shares { AreShortShares (shares_of shares.now) }
-    requires few { inputs + states ≤ 96 }
-    ensures { (c : ℕ → Formula) (z : Span) → AreFormed coefs.old (inputs + states) c → FormsSpan start z →
-        FormsSpan result (bound_by_templates inputs states c z (side_at side.now (lines_view lines.now))
-        (templates_of states (templates_in templates.now)) (shares_of shares.now)) }
+    ensures { (c : ℕ → Formula) (z : Span) → AreFormed coefs.old (side.now.inputs + side.now.states) c →
+        FormsSpan start z → FormsSpan result (bound_on side.now c z (shares_of shares.now)) }
 {
-    let first = with_inputs(start, &*coefs, side, lines, inputs);
-    let second = with_shares(first, templates, states, shares);
-    take_shares(coefs, inputs, templates, states, shares);
-    with_states(second, &*coefs, inputs, templates, states)
+    side.keeps();
+    let first = with_inputs(side, start, &*coefs);
+    let second = with_shares(side, first, shares);
+    take_shares(side, coefs, shares);
+    with_states(side, second, &*coefs)
 }

@@ -18,9 +18,11 @@ mod bound;
 mod node;
 mod quick;
 mod share;
+mod side;
 mod start;
 mod template;
 
 pub use node::{first, node_fault};
+pub use side::CertificateSide;
 pub use start::{start_judgement, start_template_judgement};
 pub use template::{template_bound_of, template_judgement};

@@ -1,6 +1,6 @@
 //! The first fault of a node's conditions.
 
-ghost use Rattle.std.specs.Prelude.{◌≡◌, ◌+◌, ◌≤◌, ◌<◌, ℤ, pos, length, List};
+ghost use Rattle.std.specs.Prelude.{◌≡◌, ℤ, pos, List};
 ghost use Rattle.std.specs.Option.{option_map};
 ghost use Rattle.fx_model.specs.Tree.{at};
 ghost use Rattle.fx_model.specs.LawfulProgram.{IsPoint};
@@ -14,18 +14,12 @@ ghost use Rattle.fx_word.specs.Words.{IsWidth};
 ghost use Rattle.fx_cert.specs.CertificateView.{certificate_of, lines_view};
 ghost use Rattle.fx_conditions.specs.MatchView.{code_in, node_in};
 ghost use Rattle.fx_conditions.specs.Limits.{IsShortCertificate};
-ghost use Rattle.fx_cert.specs.declared.side.Side.TheVariants as sides;
 
-use crate::share::{node_error, node_form, node_range};
-use crate::start::box_interval;
-use fx_cert::{Certificate, NodeLine, Side, StartBox, error_at, range_at};
-use fx_conditions::{Matched, divisor_judgement, word_judgement, zero_fraction};
+use crate::share::{node_error, node_form, node_range, variable_count};
+use fx_cert::{Certificate, NodeLine, error_at, range_at};
+use fx_conditions::{Matched, divisor_judgement, word_judgement};
 use fx_expr::Function;
-use fx_formulas::{
-    ConditionFault, ConditionKind, Judgement, Part, difference, fault, number, reaches, word_value,
-};
-use fx_fraction::{Fraction, to_fraction};
-use fx_num::Interval;
+use fx_formulas::{ConditionFault, ConditionKind, Judgement, Part, fault};
 
 /// The earlier fault.
 pub fn first(a: Option<ConditionFault>, b: Option<ConditionFault>) -> Option<ConditionFault>
@@ -56,22 +50,17 @@ pub fn node_fault(
     m: &Matched,
     place: i32,
     n: u32,
-    inputs: u32,
-    states: u32,
 ) -> Option<ConditionFault>
     requires width { IsWidth width }
     requires point { IsPoint place }
     requires short { IsShortCertificate (certificate_of certificate.now) }
-    requires inputs { inputs ≡ length function.now.inputs }
-    requires states { states ≡ length function.now.states }
-    requires variables { inputs + states ≤ 96 }
     ensures { (ps : List ℤ) → at (pos 0) ps n ≡ place →
         option_map condition_fault_of result
         ≡ first_fault_of (node_conditions function.now width ps (certificate_of certificate.now) n (node_in m.now)
         (code_in m.now)) }
 {
     let lines = certificate.lines.as_slice();
-    let form = node_form(lines, inputs + states, m, place, n);
+    let form = node_form(lines, variable_count(function), m, place, n);
     let divisor = fault(
         ConditionKind::Divisor,
         Part::Node,
@@ -82,13 +71,13 @@ pub fn node_fault(
         ConditionKind::Range,
         Part::Node,
         n,
-        node_range(function, certificate, m, n, inputs, states),
+        node_range(function, certificate, m, n),
     );
     let error = fault(
         ConditionKind::Error,
         Part::Node,
         n,
-        node_error(function, certificate, m, place, n, inputs, states),
+        node_error(function, certificate, m, place, n),
     );
     let word = fault(
         ConditionKind::WordTooSmall,

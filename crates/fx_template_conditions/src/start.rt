@@ -6,15 +6,17 @@ ghost use Rattle.fx_rational.specs.Rational.{Rational, lowest};
 ghost use Rattle.fx_inequalities.specs.Accepted.{start_of};
 ghost use Rattle.fx_inequalities.specs.Claim.{AboveFraction, BelowFraction, inside};
 ghost use Rattle.fx_inequalities.specs.Formula.{Difference, Num, point, span, span_product, word_at, zero_span};
-ghost use Rattle.fx_inequalities.specs.Affine.{templates_of, weighted_sum};
+ghost use Rattle.fx_inequalities.specs.Affine.{weighted_sum};
 ghost use Rattle.fx_formulas.specs.Judging.{FormsSpan, judged};
-ghost use Rattle.fx_cert.specs.CertificateView.{boxes_in, templates_in};
-ghost use Rattle.fx_conditions.specs.Limits.{AreShortBoxes, AreShortTemplates};
+ghost use Rattle.fx_cert.specs.CertificateView.{boxes_in};
+ghost use Rattle.fx_conditions.specs.Limits.{AreShortBoxes};
 ghost use Rattle.fx_cert.specs.declared.side.Side.TheVariants as sides;
 ghost use Rattle.fx_template_conditions.specs.Boxes.{box_at};
+ghost use Rattle.fx_template_conditions.specs.CertificateSide.{templates_on};
 
-use fx_cert::{Side, StartBox, Template};
-use fx_conditions::{bound_of, template_coef_of, zero_fraction};
+use crate::side::CertificateSide;
+use fx_cert::{Side, StartBox};
+use fx_conditions::zero_fraction;
 use fx_expr::Function;
 use fx_formulas::{
     Judgement, difference, interval, lies_in, number, plus, point, reaches, times, word_value, zero,
@@ -30,7 +32,7 @@ fn box_of(starts: &[StartBox], side: &Side, s: u32) -> Option<Interval>
 }
 
 /// The box of state `s`, as it is written.
-pub fn box_interval(starts: &[StartBox], side: &Side, s: u32) -> Interval
+fn box_interval(starts: &[StartBox], side: &Side, s: u32) -> Interval
     ensures { span result ≡ box_at side.now (boxes_in starts.now) s }
 {
     match starts.get(s as usize) {
@@ -43,65 +45,42 @@ pub fn box_interval(starts: &[StartBox], side: &Side, s: u32) -> Interval
 }
 
 /// Coefficient `s` of template `i` times the box of state `s`.
-fn box_summand(
-    templates: &[Template],
-    states: u32,
-    side: &Side,
-    starts: &[StartBox],
-    i: u32,
-    s: u32,
-) -> Option<Interval>
+fn box_summand(side: &CertificateSide<'_>, starts: &[StartBox], i: u32, s: u32) -> Option<Interval>
     requires starts { AreShortBoxes (boxes_in starts.now) }
-    requires templates { AreShortTemplates (templates_in templates.now) }
     ensures { FormsSpan result
-        (span_product (point ((templates_of states (templates_in templates.now)).coef i s))
-        (box_at side.now (boxes_in starts.now) s)) }
+        (span_product (point ((templates_on side.now).coef i s)) (box_at side.now.which (boxes_in starts.now) s)) }
 {
-    times(
-        point(template_coef_of(templates, states, i, s)),
-        box_of(starts, side, s),
-    )
+    side.keeps();
+    times(point(side.coef(i, s)), box_of(starts, side.which(), s))
 }
 
 /// Template `i` of the boxes.
-fn box_sum(
-    templates: &[Template],
-    states: u32,
-    side: &Side,
-    starts: &[StartBox],
-    i: u32,
-) -> Option<Interval>
+fn box_sum(side: &CertificateSide<'_>, starts: &[StartBox], i: u32) -> Option<Interval>
     requires starts { AreShortBoxes (boxes_in starts.now) }
-    requires templates { AreShortTemplates (templates_in templates.now) }
     ensures { FormsSpan result
-        (weighted_sum zero_span states ((templates_of states (templates_in templates.now)).coef i)
-        (box_at side.now (boxes_in starts.now))) }
+        (weighted_sum zero_span side.now.states ((templates_on side.now).coef i)
+        (box_at side.now.which (boxes_in starts.now))) }
 {
     let mut total = zero();
-    for s in 0..states {
-        total = plus(total, box_summand(templates, states, side, starts, i, s));
+    for s in 0..side.states() {
+        total = plus(total, box_summand(side, starts, i, s));
     }
     total
 }
 
 /// The start meets template `i`.
 pub fn start_template_judgement(
-    templates: &[Template],
-    states: u32,
-    side: &Side,
+    side: &CertificateSide<'_>,
     starts: &[StartBox],
     i: u32,
 ) -> Judgement
     requires starts { AreShortBoxes (boxes_in starts.now) }
-    requires templates { AreShortTemplates (templates_in templates.now) }
-    ensures { let rs = templates_of states (templates_in templates.now) in
-        result ≡ judged (inside (weighted_sum zero_span states (rs.coef i) (box_at side.now (boxes_in starts.now)))
+    ensures { let rs = templates_on side.now in
+        result ≡ judged (inside
+        (weighted_sum zero_span side.now.states (rs.coef i) (box_at side.now.which (boxes_in starts.now)))
         (rs.bound i)) }
 {
-    lies_in(
-        box_sum(templates, states, side, starts, i),
-        bound_of(templates, states, i),
-    )
+    lies_in(box_sum(side, starts, i), side.bound(i))
 }
 
 /// The declared start of state `k`.

@@ -2,11 +2,12 @@ use Rattle.std.proofs.Common.{◌≡◌, ℕ, ◌+◌, List, [], ◌∷◌, ◌+
 use Rattle.std.proofs.Math.Seq.{take-length}
 use Rattle.fx_model.specs.Tree.{at}
 use Rattle.fx_inequalities.specs.Formula.{Num}
-use Rattle.fx_inequalities.specs.Affine.{left_over, templates_of}
+use Rattle.fx_inequalities.specs.Affine.{left_over}
 use Rattle.fx_formulas.specs.Judging.{Forms}
 use Rattle.fx_formulas.specs.Places.{IsShort}
 use Rattle.fx_cert.specs.declared.certificate.Share as written
-use Rattle.fx_cert.specs.CertificateView.{templates_in, share_of, shares_of}
+use Rattle.fx_cert.specs.CertificateView.{share_of, shares_of}
+use Rattle.fx_template_conditions.specs.CertificateSide.{templates_on}
 use Rattle.fx_template_conditions.proofs.Shares.{left_more, next_shares, share_short}
 use Rattle.fx_template_conditions.proofs.bound.take_shares.Goals as goal
 
@@ -19,7 +20,7 @@ take_share-requires-clause-times c =
 pub loop-share-preserved : goal.loop-share-preserved
 loop-share-preserved c = λ f left j lt.
     let n = c.loop-share.share-index in let xs = c.args.shares.now in let s = c.share-item.result in
-    let rs = templates_of c.args.states (templates_in c.args.templates.now) in
+    let rs = templates_on c.args.side.now in
     let next = next_shares xs n s (omega arith) in
     let same =
     subst (λ (x : written.Share). shares_of (take (n + 1) xs) ≡ shares_of (take n xs) ++ share_of x ∷ [])
@@ -32,8 +33,8 @@ loop-share-preserved c = λ f left j lt.
 pub returns : goal.returns
 returns c = λ f left j lt.
     let n = c.loop-share.share-index in let xs = c.args.shares.now in
-    let rs = templates_of c.args.states (templates_in c.args.templates.now) in
+    let rs = templates_on c.args.side.now in
     let end : n ≡ length xs = omega (arith, c.loop-share.auto.share-index-end, c.loop-share-test.false) in
     let all : take n xs ≡ xs = ap (λ (m : ℕ). take m xs) end ∙ take-length xs in
-    subst (λ (ys : List written.Share). Forms (at None c.loop-share.coefs (c.args.inputs + j))
+    subst (λ (ys : List written.Share). Forms (at None c.loop-share.coefs (c.args.side.now.inputs + j))
     (left_over (f j) rs (shares_of ys) j)) all (c.loop-share.invariant f left j lt)

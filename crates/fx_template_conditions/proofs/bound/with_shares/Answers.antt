@@ -1,14 +1,15 @@
 use Rattle.std.proofs.Common.{◌≡◌, ◌+◌, [], ◌∷◌, ◌++◌, take, subst, sym, arith}
 use Rattle.fx_inequalities.specs.Formula.{Num, point, span_product}
-use Rattle.fx_inequalities.specs.Affine.{templates_of, shared_sum}
+use Rattle.fx_inequalities.specs.Affine.{shared_sum}
 use Rattle.fx_formulas.specs.Places.{IsShort}
 use Rattle.fx_cert.specs.declared.certificate.Share as written
-use Rattle.fx_cert.specs.CertificateView.{templates_in, share_of, shares_of}
+use Rattle.fx_cert.specs.CertificateView.{share_of, shares_of}
+use Rattle.fx_template_conditions.specs.CertificateSide.{templates_on}
 use Rattle.fx_template_conditions.proofs.Shares.{shared_more, next_shares, share_short}
 use Rattle.fx_template_conditions.proofs.bound.with_shares.Goals as goal
 
-pub share_bound-requires-clause-times : goal.share_bound-requires-clause-times
-share_bound-requires-clause-times c =
+pub share_bound-requires : goal.share_bound-requires
+share_bound-requires c =
     let n = c.loop-share.share-index in let s = c.share-item.result in
     subst (λ (x : written.Share). IsShort 96 (Num x.times)) (sym c.share-item.is)
     (share_short c.args.shares.now n s c.requires.shares (omega arith))
@@ -16,7 +17,7 @@ share_bound-requires-clause-times c =
 pub loop-share-preserved : goal.loop-share-preserved
 loop-share-preserved c = λ z start.
     let n = c.loop-share.share-index in let xs = c.args.shares.now in let s = c.share-item.result in
-    let rs = templates_of c.args.states (templates_in c.args.templates.now) in
+    let rs = templates_on c.args.side.now in
     let next = next_shares xs n s (omega arith) in
     let same =
     subst (λ (x : written.Share). shares_of (take (n + 1) xs) ≡ shares_of (take n xs) ++ share_of x ∷ [])

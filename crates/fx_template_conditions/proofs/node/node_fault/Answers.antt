@@ -1,4 +1,4 @@
-use Rattle.std.proofs.Common.{◌≡◌, ℤ, true, ◌+◌, sym, subst, ◌∙◌}
+use Rattle.std.proofs.Common.{◌≡◌, ℤ, true, refl, sym, subst, ◌∙◌}
 use Rattle.std.specs.Int.{w32}
 use Rattle.std.specs.Option.{option_map}
 use Rattle.std.proofs.lemmas.Int.{to_z-of_z}
@@ -18,15 +18,14 @@ use Rattle.fx_template_conditions.proofs.node.node_fault.Goals as goal
 pub returns : goal.returns
 returns c = λ ps h.
     let a = c.args in let fn = a.function.now in let cert = certificate_of a.certificate.now in let n = a.n in
-    let v = a.inputs + a.states in
+    let v = variables fn in
     let node = node_in a.m.now in let code = code_in a.m.now in let l = at no_line cert.lines n in
     let form = form_of v cert.lines n in let p = to_z-of_z w32 a.place c.ranges.place in
-    let vs : variables fn ≡ v = sym (λ i. c.requires.inputs i + c.requires.states i) in
     let form_is : option_map condition_fault_of c.node_form-form.result
     ≡ fault_at conditions.Form n true (form_claims v cert.lines l node code a.place form) =
     subst (λ (f : ℤ). option_map condition_fault_of c.node_form-form.result
     ≡ fault_at conditions.Form n true (form_claims v cert.lines l node code f form)) p
-    (rw c.as_slice-lines.ensures at c.node_form-form.ensures) in
+    (rw (c.as_slice-lines.ensures, c.variable_count.ensures) at c.node_form-form.ensures) in
     let divisor = c.fault-divisor.ensures (divisor_claims cert.lines node) c.divisor_judgement.ensures in
     let range = c.fault-range.ensures (range_claims fn cert l node form) c.node_range.ensures in
     let error_is =
@@ -43,4 +42,4 @@ returns c = λ ps h.
     let four = c.first.ensures ∙ (λ i. first_some (error i) (word i)) in
     let three = c.first-2.ensures ∙ (λ i. first_some (range i) (four i)) in
     let two = c.first-3.ensures ∙ (λ i. first_some (divisor i) (three i)) in
-    c.first-4.ensures ∙ (λ i. first_some (form_is i) (two i)) ∙ sym (five fn a.width ps cert n node code v a.place vs h)
+    c.first-4.ensures ∙ (λ i. first_some (form_is i) (two i)) ∙ sym (five fn a.width ps cert n node code v a.place refl h)

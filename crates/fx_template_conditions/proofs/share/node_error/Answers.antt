@@ -1,11 +1,11 @@
-use Rattle.std.proofs.Common.{◌≡◌, ℤ, ◌+◌, Option, Some, subst, sym}
+use Rattle.std.proofs.Common.{◌≡◌, ℤ, Option, Some, None, subst}
 use Rattle.std.specs.Int.{w32}
 use Rattle.std.proofs.lemmas.Int.{to_z-of_z}
 use Rattle.fx_model.specs.Tree.{at}
 use Rattle.fx_inequalities.specs.Certificate.{Form, no_line}
-use Rattle.fx_inequalities.specs.Formula.{span}
+use Rattle.fx_inequalities.specs.Formula.{Span, span}
 use Rattle.fx_inequalities.specs.Affine.{form_of}
-use Rattle.fx_inequalities.specs.NodeConditions.{error_claims}
+use Rattle.fx_inequalities.specs.NodeConditions.{error_claims, plain_error_claims, variables}
 use Rattle.fx_formulas.specs.Judging.{judged}
 use Rattle.fx_cert.specs.CertificateView.{certificate_of, form_view as form_view}
 use Rattle.fx_conditions.specs.MatchView.{code_in, node_in}
@@ -13,17 +13,31 @@ use Rattle.fx_template_conditions.proofs.share.node_error.Goals as goal
 
 pub returns-in-Some : goal.returns-in-Some
 returns-in-Some c =
-    let a = c.args in let cert = certificate_of a.certificate.now in let l = at no_line cert.lines a.n in
-    let form = form_view c.in-Some.form.now in
-    let range : span l.range ≡ span c.range_at-range.result =
-    sym (rw c.as_slice-lines.ensures at c.range_at-range.ensures) in
-    let error : span l.error ≡ span c.error_at-error.result =
-    sym (rw c.as_slice-lines.ensures at c.error_at-error.ensures) in
-    let is_form : Some form ≡ form_of (a.inputs + a.states) cert.lines a.n =
-    rw c.as_slice-lines.ensures at c.in-Some.ensures in
+    let a = c.args in let fn = a.function.now in let cert = certificate_of a.certificate.now in
+    let l = at no_line cert.lines a.n in let form = form_view c.in-Some.form.now in
+    let claims = λ (f : ℤ) (o : Option Form). error_claims fn cert l (node_in a.m.now) (code_in a.m.now) f o in
+    let is_form : Some form ≡ form_of (variables fn) cert.lines a.n =
+    rw (c.as_slice-lines.ensures, c.variable_count.ensures) at c.in-Some.ensures in
     let judgement =
-    subst (λ (f : ℤ). c.formed_error.result
-    ≡ judged (error_claims a.function.now cert l (node_in a.m.now) (code_in a.m.now) f (Some form)))
-    (to_z-of_z w32 a.place c.ranges.place) (c.formed_error.ensures l range error) in
-    subst (λ (o : Option Form). c.formed_error.result
-    ≡ judged (error_claims a.function.now cert l (node_in a.m.now) (code_in a.m.now) a.place o)) is_form judgement
+    subst (λ (f : ℤ). c.formed_error.result ≡ judged (claims f (Some form))) (to_z-of_z w32 a.place c.ranges.place)
+    c.formed_error.ensures in
+    subst (λ (o : Option Form). c.formed_error.result ≡ judged (claims a.place o)) is_form judgement
+
+pub returns-in-None : goal.returns-in-None
+returns-in-None c =
+    let a = c.args in let fn = a.function.now in let cert = certificate_of a.certificate.now in
+    let l = at no_line cert.lines a.n in let node = node_in a.m.now in let code = code_in a.m.now in
+    let is_none : None ≡ form_of (variables fn) cert.lines a.n =
+    rw (c.as_slice-lines.ensures, c.variable_count.ensures) at c.in-None.ensures in
+    let range : span c.range_at-range.result ≡ span l.range = rw c.as_slice-lines.ensures at c.range_at-range.ensures in
+    let error : span c.error_at-error.result ≡ span l.error = rw c.as_slice-lines.ensures at c.error_at-error.ensures in
+    let claims = λ (f : ℤ) (t u : Span). plain_error_claims fn cert node code f t u in
+    let placed =
+    subst (λ (f : ℤ). c.error_judgement.result
+    ≡ judged (claims f (span c.range_at-range.result) (span c.error_at-error.result)))
+    (to_z-of_z w32 a.place c.ranges.place) c.error_judgement.ensures in
+    let ranged =
+    subst (λ (t : Span). c.error_judgement.result ≡ judged (claims a.place t (span c.error_at-error.result))) range
+    placed in
+    subst (λ (o : Option Form). c.error_judgement.result ≡ judged (error_claims fn cert l node code a.place o)) is_none
+    (subst (λ (t : Span). c.error_judgement.result ≡ judged (claims a.place (span l.range) t)) error ranged)
