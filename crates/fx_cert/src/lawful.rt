@@ -20,13 +20,13 @@ use fx_num::{
     Dyadic, HEIGHT_LIMIT, INPUT_LIMIT, Interval, NODE_LIMIT, PLACE_END, STATE_LIMIT, STEP_LIMIT,
     TEMPLATE_LIMIT,
 };
-use fx_step::Step;
+use fx_step::{RULE_COUNT, Step};
 
 /// How many binary places a number has at most.
 const PLACES: u32 = 96;
 
 /// The number of the last rewriting rule.
-const LAST_RULE: u8 = 30;
+const LAST_RULE: u8 = RULE_COUNT as u8;
 
 /// How many templates a certificate has at most, as lists count.
 const TEMPLATES: usize = TEMPLATE_LIMIT as usize;

@@ -20,8 +20,7 @@ use fx_expr::Items;
 use fx_num::{
     INPUT_LIMIT, Interval, NODE_LIMIT, PLACE_END, STATE_LIMIT, STEP_LIMIT, TEMPLATE_LIMIT,
 };
-use fx_rewrite::RULE_COUNT;
-use fx_step::Step;
+use fx_step::{RULE_COUNT, Step};
 use fx_text::{
     Fields, TextKind, count, dyadic, dyadics, ended, interval as ends, place, small, word,
 };

@@ -6,8 +6,8 @@ ghost use Rattle.fx_rewrite.specs.FirstOf.{Begins};
 
 use crate::found::Found;
 use crate::judge::admit;
-use crate::table::RULE_COUNT;
 use fx_expr::{Expr, Function, at};
+use fx_step::RULE_COUNT;
 
 // As a step counts them.
 const LAST_RULE: u8 = RULE_COUNT as u8;

@@ -34,4 +34,3 @@ mod table;
 pub use change::apply;
 pub use cursor::SingleSteps;
 pub use fault::StepFault;
-pub use table::RULE_COUNT;

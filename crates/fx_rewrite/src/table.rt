@@ -14,9 +14,6 @@ use crate::pattern::Letter::{A, B, C, K, L, Made};
 use crate::pattern::Part::One;
 use crate::pattern::{Folding, Part, Pattern, Rule};
 
-/// The rules count from 1 to this.
-pub const RULE_COUNT: i32 = 30;
-
 /// A rule that makes no literal, whose letters are copied.
 fn plain(left: Pattern, right: Pattern) -> Rule
     ensures { result ≡ record {

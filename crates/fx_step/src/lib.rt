@@ -14,4 +14,4 @@
 
 mod step;
 
-pub use step::{Step, copied_steps};
+pub use step::{RULE_COUNT, Step, copied_steps};

@@ -4,6 +4,9 @@ use fx_expr::Items;
 use fx_num::Memory;
 use std::alloc::Global;
 
+/// The number of the last rewriting rule. They count from 1.
+pub const RULE_COUNT: i32 = 30;
+
 /// By the rule of this number, from 1 on, at the end of a path in the tree at this place: temps and then results.
 #[derive(Debug, Drop)]
 pub struct Step {
