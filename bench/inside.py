@@ -23,10 +23,9 @@ BODY = """\
 #![tactic(auto)]
 
 use fx_analysis::plain_attempt;
-use fx_cert::print_bundle;
+use fx_cert_text::{print_bundle, read_bundle};
 use fx_expr::Function;
 use fx_parser::parse;
-use fx_cert_reader::read_bundle;
 use fx_program::Round;
 use fx_rewrite::{SingleSteps, apply};
 use fx_step::Step;
