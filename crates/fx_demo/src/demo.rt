@@ -14,7 +14,8 @@ use fx_checker::Certified;
 use fx_expr::Function;
 use fx_num::Memory;
 use fx_run::{RunFault, run_rows};
-use fx_synth::{Round, SynthFault, synthesise};
+use fx_synth::{SynthFault, synthesise};
+use fx_wanted::{Round, Wanted};
 use fx_weight::find_obstacle;
 use std::alloc::Global;
 
@@ -39,7 +40,12 @@ fn program_of(alloc: Global, n: u32) -> Result<Certified, Memory>
     ensures { IfOk result (IsProgram n) }
 {
     let function = served_function(alloc, n)?;
-    match synthesise(alloc, &function, 32, 0, 200, Round::Floor) {
+    let wanted = Wanted {
+        width: 32,
+        tries: 200,
+        round: Round::Floor,
+    };
+    match synthesise(alloc, &function, wanted, 0) {
         Ok(certified) => {
             certified.certified();
             Ok(certified)

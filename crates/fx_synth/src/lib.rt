@@ -21,6 +21,5 @@ mod synthesis;
 
 pub use fault::SynthFault;
 pub use fx_moves::draw;
-pub use fx_wanted::Round;
 pub use fx_weight::Obstacle;
 pub use synthesis::synthesise;

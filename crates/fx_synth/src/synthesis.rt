@@ -15,7 +15,7 @@ use fx_num::{Dyadic, Memory};
 use fx_plain_attempts::{bounds_of, first_answer, take_better, try_plainly};
 use fx_state_search::certify_states;
 use fx_stateless_search::search;
-use fx_wanted::{Round, Wanted};
+use fx_wanted::Wanted;
 use fx_weight::find_obstacle;
 use std::alloc::Global;
 
@@ -87,31 +87,24 @@ fn best_answer(
     Ok(best)
 }
 
-/// A certified program of this width and rounding for the function.
+/// A certified program of the width and rounding that are wanted, for the function.
 ///
 /// Where the plain plan serves the function, or else the calm plan, it is the first answer. The plain attempt and those
-/// after each of the first `tries` single steps follow in their order, and then what a search finds in as many tries,
-/// with the choices that the seed gives. One takes the answer's place where it is no worse at any output and better at
-/// some.
+/// after each of the first single steps, as many as tries are wanted, follow in their order, and then what a search
+/// finds in as many tries, with the choices that the seed gives. One takes the answer's place where it is no worse at
+/// any output and better at some.
 pub fn synthesise(
     alloc: Global,
     function: &Function,
-    width: u32,
+    wanted: Wanted,
     seed: u64,
-    tries: u32,
-    round: Round,
 ) -> Result<Certified, SynthFault>
-    requires width { Contains widths width }
-    requires tries { tries ≤ tries_limit }
-    ensures found { IfOk result (IsSynthesised (record { width = width; tries = tries; round = round }) function.now) }
-    ensures not_found { IfErr result (Explains (record { width = width; tries = tries; round = round }) function.now) }
+    requires width { Contains widths wanted.width }
+    requires tries { wanted.tries ≤ tries_limit }
+    ensures found { IfOk result (IsSynthesised wanted function.now) }
+    ensures not_found { IfErr result (Explains wanted function.now) }
 {
-    let wanted = Wanted {
-        width,
-        tries,
-        round,
-    };
-    let obstacle = find_obstacle(alloc, function, width)?;
+    let obstacle = find_obstacle(alloc, function, wanted.width)?;
     let first = first_answer(alloc, function, wanted, obstacle)?;
     match best_answer(alloc, function, wanted, seed, first)? {
         Some(certified) => Ok(certified),

@@ -3,8 +3,7 @@
 //! # Contract
 //!
 //! `Wanted` has the width, the tries and the way to round, from the words of a call to what is promised of its answer;
-//! `IsLawfulWanted` says which may be asked for. One option more is one field more here, and one parameter more of
-//! `synthesise` of `fx_synth`.
+//! `IsLawfulWanted` says which may be asked for. One option more is one field more here.
 //!
 //! # Inside
 //!
