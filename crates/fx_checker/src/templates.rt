@@ -18,7 +18,7 @@ use fx_cert::{Certificate, Side, Template};
 use fx_expr::Function;
 use fx_formulas::{ConditionFault, ConditionKind, Judgement, Part, fault};
 use fx_program::Program;
-use fx_template_conditions::{start_template_judgement, template_judgement};
+use fx_template_conditions::{CertificateSide, start_template_judgement, template_judgement};
 
 /// The templates of the one kind or the other.
 fn templates_by<'a>(certificate: &'a Certificate, side: &Side) -> &'a [Template]
@@ -39,6 +39,28 @@ fn next_node(program: &Program) -> u32
     program.codes.len() as u32 - program.states
 }
 
+/// The values or the errors of a certificate, over the inputs and states of a program.
+fn side_by<'a>(program: &Program, certificate: &'a Certificate, side: &Side) -> CertificateSide<'a>
+    requires short { IsShortCertificate (certificate_of certificate.now) }
+    ensures { let p = program.now in let cert = certificate_of certificate.now in
+        result ≡ record {
+          which = side.now;
+          lines = cert.lines;
+          templates = templates_by side.now cert;
+          inputs = p.inputs;
+          states = p.states;
+        } }
+{
+    program.keeps();
+    CertificateSide::new(
+        *side,
+        certificate.lines.as_slice(),
+        templates_by(certificate, side),
+        program.inputs,
+        program.states,
+    )
+}
+
 /// Whether one step keeps template `i`.
 fn keeps_template(program: &Program, certificate: &Certificate, side: &Side, i: u32) -> Judgement
     requires short { IsShortCertificate (certificate_of certificate.now) }
@@ -46,16 +68,8 @@ fn keeps_template(program: &Program, certificate: &Certificate, side: &Side, i: 
         result ≡ judged (kept_template p.inputs p.states (length p.codes - p.states) cert.lines
         (templates_by side.now cert) side.now i) }
 {
-    program.keeps();
-    template_judgement(
-        templates_by(certificate, side),
-        side,
-        certificate.lines.as_slice(),
-        program.inputs,
-        program.states,
-        next_node(program),
-        i,
-    )
+    let own = side_by(program, certificate, side);
+    template_judgement(&own, next_node(program), i)
 }
 
 /// Whether the start meets template `i`.
@@ -70,13 +84,8 @@ fn starts_in_template(
         result ≡ judged (start_template_claims p.states (templates_of p.states (templates_by side.now cert))
         (box_at side.now cert.starts) i) }
 {
-    start_template_judgement(
-        templates_by(certificate, side),
-        program.states,
-        side,
-        certificate.starts.as_slice(),
-        i,
-    )
+    let own = side_by(program, certificate, side);
+    start_template_judgement(&own, certificate.starts.as_slice(), i)
 }
 
 /// The Row or ErrorRow `i`.
