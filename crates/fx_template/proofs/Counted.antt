@@ -2,12 +2,12 @@
 use Rattle.std.proofs.Common.{◌≡◌, ℕ, ◌+◌, ◌<◌, ◌≤◌, List, length, Option, Some, None, inl, inr, refl, sym, ap, subst, ◌∙◌, arith}
 use Rattle.std.specs.Option.{option_map}
 use Rattle.std.proofs.lemmas.Bool.{cases_lt}
-use Rattle.std.proofs.lemmas.List.{get_or_default, get_or_past}
+use Rattle.std.proofs.lemmas.List.{get_or_past}
 use Rattle.fx_rational.specs.Dyadic.{zero_dyadic}
 use Rattle.fx_rational.specs.Interval.{IsWrittenInterval}
 use Rattle.fx_model.specs.Tree.{at}
 use Rattle.fx_inequalities.specs.Certificate.{Template, no_template}
-use Rattle.fx_inequalities.specs.LawfulCertificate.{unit_vector}
+use Rattle.fx_inequalities.specs.LawfulCertificate.{AreWrittenTemplates}
 use Rattle.fx_conditions.specs.Limits.{AreShortTemplates, IsShortTemplate}
 use Rattle.fx_cert.specs.declared.side.Side.TheVariants.{Value, Error}
 use Rattle.fx_conditions.proofs.Lawful.{short_coefs, short_ends, short_shares, no_short_template}
@@ -17,23 +17,24 @@ use Rattle.fx_template.specs.PlainRounds.{Bounds, bounds_at_first, first_fallen,
 use Rattle.fx_template.specs.Templates.{AreCountedTemplates, AreKept, AreWrittenBounds, IsCountedTemplate}
 use Rattle.fx_template.specs.Answers.{Found, HasWrittenBounds, HasWrittenStates, IsInvariant}
 use Rattle.fx_template.proofs.UnitTemplates.{unit_templates_counted, unit_templates_kept, unit_templates_written}
-use Rattle.fx_template.proofs.UnitVectors.{units_from}
 use Rattle.fx_template.proofs.Rounds.{first_written, rounds_written}
 
--- ---- counted
-pub counted_all : (k : ℕ) (templates : List Template) → k ≤ length templates → length templates ≤ 512 →
-    ((i : ℕ) → i < length templates → IsCountedTemplate k (length templates) (at no_template templates i)) →
-    ((i : ℕ) → i < length templates → i < k → (at no_template templates i).coefs ≡ unit_vector k i) →
+-- ---- templates that a text can spell
+pub written_counted : (k : ℕ) (templates : List Template) → AreWrittenTemplates k templates →
     AreCountedTemplates k templates
-counted_all k templates enough few each units = record {
-  enough = enough;
-  few = few;
-  units = units_from k 0 templates (λ i lt less. let same : i ≡ i + 0 = omega arith in
-      units i lt (omega (arith, less)) ∙ ap (λ n. unit_vector k n) same);
-  each =
-      λ i d lt. subst (IsCountedTemplate k (length templates)) (get_or_default templates i no_template d lt)
-      (each i lt);
+written_counted k templates h = record {
+  enough = h.enough;
+  few = h.few;
+  units = h.units;
+  each = λ i d lt. record {
+    coefs = (h.each i d lt).coefs;
+    written = (h.each i d lt).written;
+    shares = (h.each i d lt).shares;
+  };
 }
+
+pub written_bounds : (k : ℕ) (templates : List Template) → AreWrittenTemplates k templates → AreWrittenBounds templates
+written_bounds k templates h = λ i d lt. (h.each i d lt).bound
 
 -- ---- short
 short_template : (k count : ℕ) (r : Template) → IsCountedTemplate k count r → IsWrittenInterval r.bound →

@@ -5,7 +5,6 @@ pub mod Fronts
 pub mod Agreement
 mod Worked
 pub mod Lists
-pub mod UnitVectors
 pub mod UnitTemplates
 pub mod Rounds
 pub mod Hulls

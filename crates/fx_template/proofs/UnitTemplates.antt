@@ -16,13 +16,13 @@ use Rattle.fx_cert.specs.declared.side.Side.{Side}
 use Rattle.fx_template_conditions.specs.KeptTemplates.{kept_template}
 use Rattle.fx_outward.specs.Grid.{is_small}
 use Rattle.fx_cert.proofs.Units.{unit_length}
+use Rattle.fx_cert.proofs.UnitVectors.{entry_at, entry_whole, entry_written, units_from}
 use Rattle.fx_template.specs.Listed.{first_untrue}
 use Rattle.fx_template.specs.Transitions.{Transition}
 use Rattle.fx_template.specs.PlainRounds.{are_met, stands, unit_template, unit_templates}
 use Rattle.fx_template.specs.Templates.{AreCountedTemplates, AreKept, AreWrittenBounds, IsCountedTemplate}
 use Rattle.fx_template.specs.RoundView.{AreShortBounds}
 use Rattle.fx_template.proofs.Lists.{all_true, tabulate_all, tabulate_at, tabulate_length}
-use Rattle.fx_template.proofs.UnitVectors.{entry_at, entry_whole, entry_written, units_from}
 
 unit_short : (k i j : ℕ) → i < k → IsShort 96 (Num (at zero_dyadic (unit_vector k i) j))
 unit_short k i j lt = elim (cases_lt j k) [

@@ -9,13 +9,12 @@ ghost use Rattle.fx_template.specs.Templates.{AreCountedTemplates, AreKept, AreW
 ghost use Rattle.fx_template.specs.Answers.{HasWrittenBounds, HasWrittenStates, IsInvariant, NamesFallen, found_in};
 
 use crate::PlannedNodes;
-use crate::format::are_templates;
 use crate::planned::step_by_plan;
 use crate::round::plain_rounds;
 use crate::stand::{first_fallen, is_met};
 use crate::template::{FoundTemplates, TemplateFault};
 use crate::unit::unit_templates;
-use fx_cert::{Side, Template};
+use fx_cert::{Side, Template, are_templates};
 use fx_expr::Items;
 use fx_flat::Nodes;
 use fx_num::Memory;

@@ -35,7 +35,6 @@ mod bound;
 mod coefs;
 mod combine;
 mod find;
-mod format;
 mod formless;
 mod modest;
 mod places;
