@@ -58,7 +58,11 @@ impl Ranges {
     }
 
     /// Adds a node's range, and its form if it has one.
-    pub(crate) fn push(&mut self, span: FixedInterval, form: Option<RangeForm>) -> Result<(), Memory> {
+    pub(crate) fn push(
+        &mut self,
+        span: FixedInterval,
+        form: Option<RangeForm>,
+    ) -> Result<(), Memory> {
         self.spans.push(span)?;
         self.forms.push(form)?;
         Ok(())
