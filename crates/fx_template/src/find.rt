@@ -12,7 +12,7 @@ use crate::PlannedNodes;
 use crate::format::are_templates;
 use crate::planned::step_by_plan;
 use crate::round::plain_rounds;
-use crate::stand::{first_fallen, is_met};
+use crate::stand::{first_fallen, is_met, side_with};
 use crate::template::{FoundTemplates, TemplateFault};
 use crate::unit::unit_templates;
 use fx_cert::{Side, Template};
@@ -31,10 +31,9 @@ fn are_kept(t: &Transition, side: &Side, templates: &[Template]) -> bool
     requires few { length templates.now ≤ 512 }
     ensures { result ≡ true → AreKept side.now (transition_in t.now) (templates_in templates.now) }
 {
+    let own = side_with(t, side, templates);
     for i in 0..templates.len() {
-        let kept = template_judgement(
-            templates, side, &t.lines, t.inputs, t.states, t.next, i as u32,
-        );
+        let kept = template_judgement(&own, t.next, i as u32);
         if !is_met(kept) {
             return false;
         }

@@ -12,6 +12,7 @@ ghost use Rattle.fx_template.specs.Transitions.{IsModestTransition, transition_i
 ghost use Rattle.fx_template.specs.PlainRounds.{bounds_after, bounds_at_first, first_bounds, hull, plain_rounds, raised_bound, raised_bounds, state_bound, template_grid, unit_templates};
 ghost use Rattle.fx_template.specs.RoundView.{AreShortBoth, AreShortBounds, bounds_in};
 
+use crate::stand::side_with;
 use crate::unit::{bound_at, unit_templates};
 use fx_cert::{Side, Template, error_at, range_at};
 use fx_formulas::interval;
@@ -112,7 +113,8 @@ fn raised_bound(
     requires short { AreShortTemplates (templates_in templates.now) }
     ensures { result ≡ raised_bound side.now (transition_in t.now) bounds.now i }
 {
-    let left = template_bound_of(templates, side, &t.lines, t.inputs, t.states, t.next, i);
+    let own = side_with(t, side, templates);
+    let left = template_bound_of(&own, t.next, i);
     let held = hull(interval(bound_at(bounds, i)), left);
     round_outward(held, template_grid(t, side, i))
 }

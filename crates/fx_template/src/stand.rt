@@ -17,7 +17,7 @@ use fx_cert::{Side, Template};
 use fx_formulas::Judgement;
 use fx_num::Interval;
 use fx_outward::is_small;
-use fx_template_conditions::template_judgement;
+use fx_template_conditions::{CertificateSide, template_judgement};
 use fx_template_reach::Transition;
 
 /// Whether comparisons fit and are true.
@@ -29,6 +29,26 @@ pub fn is_met(judgement: Judgement) -> bool
         Judgement::Fails => false,
         Judgement::Beyond => false,
     }
+}
+
+/// The values or the errors of a transition, with these templates.
+pub fn side_with<'c>(
+    t: &'c Transition<'_>,
+    side: &Side,
+    templates: &'c [Template],
+) -> CertificateSide<'c>
+    requires modest { IsModestTransition (transition_in t.now) }
+    requires short { AreShortTemplates (templates_in templates.now) }
+    ensures { let s = transition_in t.now in
+        result ≡ record {
+          which = side.now;
+          lines = s.lines;
+          templates = templates_in templates.now;
+          inputs = s.inputs;
+          states = s.states;
+        } }
+{
+    CertificateSide::new(*side, &t.lines, templates, t.inputs, t.states)
 }
 
 /// Whether both mantissas have at most 62 bits.
@@ -46,7 +66,8 @@ fn stands(t: &Transition, side: &Side, templates: &[Template], bounds: &[Interva
     requires within { i < t.now.states }
     ensures { result ≡ stands side.now (transition_in t.now) bounds.now i }
 {
-    let met = is_met(template_judgement(templates, side, &t.lines, t.inputs, t.states, t.next, i));
+    let own = side_with(t, side, templates);
+    let met = is_met(template_judgement(&own, t.next, i));
     is_small_interval(bound_at(bounds, i)) && met
 }
 

@@ -5,7 +5,7 @@ use Rattle.fx_inequalities.specs.Formula.{span}
 use Rattle.fx_inequalities.specs.Claim.{inside}
 use Rattle.fx_inequalities.specs.Certificate.{zero_interval}
 use Rattle.fx_formulas.specs.Judging.{FormsSpan}
-use Rattle.fx_cert.specs.CertificateView.{lines_view, templates_in}
+use Rattle.fx_template_conditions.specs.CertificateSide.{OneSide}
 use Rattle.fx_template_conditions.specs.KeptTemplates.{next_template}
 use Rattle.fx_outward.specs.Narrow.{narrowest, span_bounds}
 use Rattle.fx_outward.specs.declared.fault.Why.{Why}
@@ -18,9 +18,9 @@ returns c =
     let t = transition_in c.args.t.now in let side = c.args.side.now in let bounds = c.args.bounds.now in
     let i = c.args.i in let left = c.template_bound_of-left.result in
     let lined =
-    subst (λ ls. FormsSpan left
-    (next_template t.inputs t.states t.next (lines_view ls)
-    (templates_in c.args.templates.now) side i)) c.deref.ensures.value c.template_bound_of-left.ensures in
+    subst (λ (s : OneSide). FormsSpan left
+    (next_template s.inputs s.states t.next s.lines s.templates s.which i)) c.side_with-own.ensures
+    c.template_bound_of-left.ensures in
     let rowed =
     subst (λ rs. FormsSpan left
     (next_template t.inputs t.states t.next t.lines rs side i)) c.requires.templates lined in

@@ -1,7 +1,7 @@
 use Rattle.std.proofs.Common.{◌∙◌, ◌&&◌, Bool, ap, sym}
 use Rattle.fx_rational.specs.Interval.{Interval}
 use Rattle.fx_formulas.specs.Judging.{judged}
-use Rattle.fx_cert.specs.CertificateView.{lines_view}
+use Rattle.fx_template_conditions.specs.CertificateSide.{OneSide}
 use Rattle.fx_template_conditions.specs.KeptTemplates.{kept_template}
 use Rattle.fx_outward.specs.Grid.{is_small}
 use Rattle.fx_template.specs.Transitions.{transition_in}
@@ -15,8 +15,9 @@ returns-then-is_small_interval c =
     kept_template t.inputs t.states t.next t.lines
     (unit_templates t.states c.args.bounds.now) c.args.side.now c.args.i in
     let judged_is = c.template_judgement.ensures
-    ∙ (λ k. judged (kept_template t.inputs t.states t.next (lines_view (c.deref.ensures.value k))
-    (c.requires.templates k) c.args.side.now c.args.i)) in
+    ∙ (λ k. let s : OneSide = c.side_with-own.ensures k in
+    judged (kept_template s.inputs s.states t.next s.lines s.templates s.which c.args.i))
+    ∙ (λ k. judged (kept_template t.inputs t.states t.next t.lines (c.requires.templates k) c.args.side.now c.args.i)) in
     let small = ap (λ (x : Interval). is_small x.lo && is_small x.hi) (sym c.bound_at.ensures)
     ∙ sym c.is_small_interval.ensures ∙ c.if-is_small_interval.true in
     c.is_met-met.ensures claims judged_is ∙ sym (ap (λ (b : Bool). b && are_met claims) small)
