@@ -25,13 +25,12 @@ use fx_num::{Dyadic, INPUT_LIMIT, Interval, STATE_LIMIT};
 pub const VARIABLES: usize = (INPUT_LIMIT + STATE_LIMIT) as usize;
 
 /// The coefficients of a form.
-pub fn form_coefs(form: &Form, variables: u32) -> [Option<Dyadic>; VARIABLES]
-    requires form { IsShortForm (form_view form.now) }
-    requires few { variables ≤ 96 }
-    ensures { AreFormed result variables (λ j. Num (at zero_dyadic form.now.coefs j)) }
+pub fn form_coefs(side: &CertificateSide<'_>, form: &Form) -> [Option<Dyadic>; VARIABLES]
+    requires { IsShortForm (form_view form.now) }
+    ensures { AreFormed result (side.now.inputs + side.now.states) (λ j. Num (at zero_dyadic form.now.coefs j)) }
 {
     let mut coefs: [Option<Dyadic>; VARIABLES] = [None; VARIABLES];
-    for j in 0..variables {
+    for j in 0..side.variables() {
         coefs[j as usize] = number(coef_at(form.coefs.as_slice(), j));
     }
     coefs
@@ -170,22 +169,22 @@ fn left_of(
 
 /// What so many times a template leave of the coefficients of the states, which stand behind the inputs'.
 fn take_template(
+    side: &CertificateSide<'_>,
     coefs: &mut [Option<Dyadic>; VARIABLES],
-    inputs: u32,
     template: &[Dyadic],
-    states: u32,
     times: Dyadic,
 )
-    requires template { (k : ℕ) → k < states → IsShort 96 (Num (at zero_dyadic template.now k)) }
+    requires template { (k : ℕ) → k < side.now.states → IsShort 96 (Num (at zero_dyadic template.now k)) }
     requires times { IsShort 96 (Num times) }
-    requires few { inputs + states ≤ 96 }
-    ensures { (c : ℕ → Formula) → AreLeft coefs.old inputs states c →
-        AreLeft coefs.new inputs states
+    ensures { (c : ℕ → Formula) → AreLeft coefs.old side.now.inputs side.now.states c →
+        AreLeft coefs.new side.now.inputs side.now.states
         (λ k. Difference (c k) (Product (Num times) (Num (at zero_dyadic template.now k)))) }
 {
+    side.keeps();
     times.keeps();
     let short = short_times(times);
-    for k in 0..states {
+    let inputs = side.inputs();
+    for k in 0..side.states() {
         let j = inputs + k;
         // assigned in each arm, so that what is quick isn't copied
         match quick_left(&*coefs, j, template, k, &short) {
@@ -232,14 +231,13 @@ fn take_share(
         (λ k. Difference (c k) (Product (Num share.times) ((templates_on side.now).coef share.template k))) }
 {
     side.keeps();
-    let inputs = side.inputs();
     let states = side.states();
     if share.template < states {
         let unit = unit_coefs(units, share.template);
-        take_template(coefs, inputs, unit, states, share.times);
+        take_template(side, coefs, unit, share.times);
     } else {
         let template = side.coefs(share.template);
-        take_template(coefs, inputs, template, states, share.times);
+        take_template(side, coefs, template, share.times);
     }
 }
 

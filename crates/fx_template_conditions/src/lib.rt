@@ -5,7 +5,8 @@
 //!
 //! `node_fault` is the first fault of a node's five conditions, with or without shares of templates;
 //! `template_judgement`, `start_judgement` and `start_template_judgement` are what the comparisons of Row, ErrorRow and
-//! Start come to. All other conditions are `fx_checker`'s.
+//! Start come to. A `CertificateSide`, the values or the errors of a certificate, keeps in its type that its numbers
+//! are short and its variables few. All other conditions are `fx_checker`'s.
 //!
 //! # Inside
 //!

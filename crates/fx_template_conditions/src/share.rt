@@ -102,7 +102,7 @@ fn form_bound(side: &CertificateSide<'_>, form: &Form, shares: &[Share]) -> Opti
         FormsSpan result (bound_on side.now (λ j. Num (at zero_dyadic form.now.coefs j))
         (side_rest side.now.which (of_line l (Some (form_view form.now)))) (shares_of shares.now)) }
 {
-    let mut coefs = form_coefs(form, side.variables());
+    let mut coefs = form_coefs(side, form);
     bound_by_templates(side, own_rest(side.which(), form), &mut coefs, shares)
 }
 

@@ -43,8 +43,8 @@ impl<'c> Model for CertificateSide<'c> {
       states = s.states;
     } };
 
-    ghost invariant = { λ s. (AreShortLines (lines_view s.lines.now)) × (AreShortTemplates (templates_in s.templates.now))
-        × (s.inputs + s.states ≤ 96) };
+    ghost invariant = { λ s. (AreShortLines (lines_view s.lines.now))
+        × (AreShortTemplates (templates_in s.templates.now)) × (s.inputs + s.states ≤ 96) };
 }
 
 /// The coefficients of a template that is no unit template.

@@ -7,7 +7,7 @@ use Rattle.fx_template_conditions.specs.Coefficients.{AreLeft}
 use Rattle.fx_template_conditions.proofs.bound.take_template.Given as goal
 
 abbrev pub invariant-loop-k : goal.invariant-loop-k
-invariant-loop-k l = (c : ℕ → Formula) → AreLeft l.fn.coefs l.fn.inputs l.fn.states c →
-    (AreLeft l.coefs l.fn.inputs l.k
+invariant-loop-k l = (c : ℕ → Formula) → AreLeft l.fn.coefs l.fn.side.inputs l.fn.side.states c →
+    (AreLeft l.coefs l.fn.side.inputs l.k
     (λ i. Difference (c i) (Product (Num l.fn.times) (Num (at zero_dyadic l.fn.template i))))) × ((i : ℕ) →
-    l.k ≤ i → i < l.fn.states → Forms (at None l.coefs (l.fn.inputs + i)) (c i))
+    l.k ≤ i → i < l.fn.side.states → Forms (at None l.coefs (l.fn.side.inputs + i)) (c i))
