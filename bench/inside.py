@@ -8,6 +8,7 @@ of the processor of the greater number of calls less those of the smaller one. O
 machine.
 """
 import os
+import re
 import resource
 import shutil
 import subprocess
@@ -182,10 +183,10 @@ def built(folder):
                         ignore=shutil.ignore_patterns("out"))
     with open(os.path.join(ROOT, "crates.txt")) as file:
         lines = [line for line in file if not line.startswith("fx_cli:")]
-    below = next(line for line in lines if line.startswith("fx_demo:")).split(":")[1].strip()
+    below = " ".join(sorted(set(re.findall(r"^use (fx_\w+)", BODY, re.MULTILINE))))
     with open(os.path.join(folder, "crates.txt"), "w") as file:
         file.writelines(lines)
-        file.write(f"inside: fx_demo {below}\n")
+        file.write(f"inside: {below}\n")
     with open(os.path.join(folder, "HANDLES"), "w") as file:
         file.write("Handles allowed: none.\n")
     with open(os.path.join(crates, "inside", "src", "main.rt"), "w") as file:
