@@ -171,12 +171,6 @@ takes-long old new more bytes from whole none text long few held number ready en
       ended = λ e. absurd (cc);
     }
 
--- so many bytes are held behind those that were answered
-pub left-count : (held more bytes : List ℕ) (next : ℕ) → bytes ≡ drop next held ++ more →
-    length bytes ≡ length held - next + length more
-left-count held more bytes next whole =
-    ap length whole ∙ length-append (drop next held) more ∙ ap (λ n. n + length more) (length-drop next held)
-
 -- the next line's end, sought behind this one's
 pub ahead-of : (bytes : List ℕ) (n : ℕ) (place : Option ℕ) →
     place ≡ position is_feed (take (length bytes - n) (drop n bytes)) → place ≡ position is_feed (drop n bytes)

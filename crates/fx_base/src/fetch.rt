@@ -2,7 +2,7 @@
 //!
 //! Bytes that were searched for a line's end aren't searched again, so that a line in pieces of one byte stays linear.
 //! The trap: a line may be too long only with its mark and its carriage return, which are no part of it.
-ghost use Rattle.std.specs.Prelude.{◌≡◌, ◌≢◌, ℕ, List, ◌+◌, ◌-◌, ◌^◌, ◌<◌, ◌≤◌, ◌==◌, ◌++◌, ◌↔◌, min, length, position, IfOk, OnOk, OnErr, IsErrOf, None};
+ghost use Rattle.std.specs.Prelude.{◌≡◌, ◌≢◌, ℕ, List, ◌+◌, ◌-◌, ◌^◌, ◌<◌, ◌≤◌, ◌==◌, ◌++◌, ◌↔◌, min, length, position, IfOk, OnOk, IsErrOf, None};
 ghost use Rattle.std.specs.Io.KnownBytes.{Consumes};
 ghost use Rattle.fx_base.specs.Causes.{Rose};
 ghost use Rattle.fx_base.specs.declared.answers.LineFault.TheVariants.{ReadFault};

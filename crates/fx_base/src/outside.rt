@@ -3,7 +3,7 @@
 //! They count their faults and tell no bytes, so no clause says that a stream gives what it holds.
 //! The trap: a write of nothing is a fault here, or `put_all` would go round for ever.
 
-ghost use Rattle.std.specs.Prelude.{◌≤◌, ℕ, List, [], None};
+ghost use Rattle.std.specs.Prelude.{◌≤◌, [], None};
 ghost use Rattle.std.specs.Io.{ReadsAtMost, WritesAtMost};
 ghost use Rattle.fx_base.specs.Causes.{Rose, HasCause};
 ghost use Rattle.fx_base.specs.Sink.{WritesSome};

@@ -2,10 +2,8 @@
 //!
 //! The file is read whole, its text is read as a bundle, the bundle's source as a function, and then all conditions are
 //! looked at; the first cause ends it. The trap: want of memory may come at any stage, and is no fault of the bundle.
-ghost use Rattle.std.specs.Prelude.{◌≡◌, ◌≢◌, ◌⊎◌, ◌≤◌, length, IfOk, IfErr};
-ghost use Rattle.fx_base.specs.Shelf.{IfPaper};
+ghost use Rattle.std.specs.Prelude.{◌≡◌, ◌≢◌, ◌⊎◌, IfOk, IfErr};
 ghost use Rattle.fx_base.specs.Requests.{AsksInOrder};
-ghost use Rattle.fx_model.specs.Limits.{bundle_limit};
 ghost use Rattle.fx_text.specs.declared.fault.TextKind.TheVariants as texts;
 ghost use Rattle.fx_lexer.specs.declared.fault.SourceKind.TheVariants as sources;
 ghost use Rattle.fx_ends.specs.Ends as ends;

@@ -2,18 +2,17 @@
 //!
 //! A line has the code's number, its instruction and its point, and the ends of its range and of its error.
 //! The trap: a value prints as `m` alone where it has no binary places, as a bound does.
-ghost use Rattle.std.specs.Prelude.{◌≡◌, ◌++◌, ◌∷◌, [], ◌<◌, ◌≤◌, pos, length, map, OnOk, OnErr, IfOk};
+ghost use Rattle.std.specs.Prelude.{◌≡◌, ◌++◌, ◌∷◌, [], ◌<◌, length, map, OnOk, OnErr, IfOk};
 ghost use Rattle.std.specs.Fmt.{decimal, signed_decimal};
 ghost use Rattle.std.specs.Io.KnownBytes.{Appends};
 ghost use Rattle.fx_base.specs.Calls.{AppendsFront};
 ghost use Rattle.fx_base.specs.Causes.{HasCause};
 ghost use Rattle.fx_model.specs.LineText.{line_text, numbered_lines};
-ghost use Rattle.fx_model.specs.LawfulProgram.{IsLawfulProgram};
 ghost use Rattle.fx_model.specs.ProgramText.{instruction_name};
 ghost use Rattle.fx_model.specs.Tree.{at};
 ghost use Rattle.fx_inequalities.specs.Certificate.{no_line};
 ghost use Rattle.fx_program.specs.CodeView.{code_of};
-ghost use Rattle.fx_cert.specs.CertificateView.{line_view, lines_view};
+ghost use Rattle.fx_cert.specs.CertificateView.{line_view};
 ghost use Rattle.fx_ends.specs.EndView.{end_of};
 ghost use Rattle.fx_bundle_commands.specs.OpeningView.{IsSilent};
 ghost use Rattle.fx_bundle_commands.specs.commands.Sheets.{TextEnds};

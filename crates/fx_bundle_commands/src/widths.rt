@@ -4,7 +4,7 @@ ghost use Rattle.std.specs.Fmt.{decimal};
 ghost use Rattle.fx_model.specs.LineText.{line_text, numbered_lines};
 ghost use Rattle.fx_mixed.specs.Packed.{size_of};
 ghost use Rattle.fx_widths.specs.LeastWidths.{least_widths};
-ghost use Rattle.fx_bundle_commands.specs.commands.Widths.{bytes_line, width_line, widths_text};
+ghost use Rattle.fx_bundle_commands.specs.commands.Widths.{width_line, widths_text};
 
 use crate::table::{codes_of, name_at};
 use fx_checker::Certified;

@@ -2,7 +2,7 @@
 //!
 //! The trap: the copies of the outputs stand before those of the next states, and their text behind.
 
-ghost use Rattle.std.specs.Prelude.{◌≡◌, ◌++◌, ◌||◌, [], ◌+◌, ◌≤◌, ◌<◌, ◌^◌, length, map, codes, decimal, if◌then◌else◌, OnOk, IfOk};
+ghost use Rattle.std.specs.Prelude.{◌≡◌, ◌++◌, ◌||◌, [], ◌+◌, ◌≤◌, ◌<◌, ◌^◌, length, map, codes, if◌then◌else◌, OnOk, IfOk};
 ghost use Rattle.std.specs.List.{flat_map, list_any, range_with_len};
 ghost use Rattle.fx_program.specs.CodeView.{code_of};
 ghost use Rattle.fx_statements.specs.OfProgram.{stores_of};

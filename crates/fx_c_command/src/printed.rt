@@ -1,8 +1,7 @@
 //! The texts of what is certified.
 //!
 //! The trap: a text is made whole before anything is written, so where memory lacks nothing is.
-ghost use Rattle.std.specs.Prelude.{◌≡◌, ◌<◌, ◌≤◌, IfOk};
-ghost use Rattle.fx_inequalities.specs.Accepted.{bound_dyadic};
+ghost use Rattle.std.specs.Prelude.{◌≡◌, ◌<◌, IfOk};
 ghost use Rattle.fx_c99.specs.CHeader.{bounds_of, c_header_of};
 ghost use Rattle.fx_c99.specs.CHeaderMeaning.{SaysHeader};
 ghost use Rattle.fx_c_command.specs.Printed.{IsCFor, TextHolds, printed_text, c_source_of};

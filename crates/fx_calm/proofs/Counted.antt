@@ -4,7 +4,6 @@ use Rattle.std.specs.Prelude.{unsigned_abs, All, Result, Ok, Err, OnOk}
 use Rattle.std.proofs.lemmas.Bool.{and_parts}
 use Rattle.std.proofs.lemmas.Nat.{mul-le}
 use Rattle.std.proofs.lemmas.Int.{ints}
-use Rattle.std.proofs.Math.Nat.{mul-pos}
 use Rattle.std.proofs.lemmas.List.Elements.{All-nil, All-cons, All-append, All-head, All-tail}
 use Rattle.fx_rational.specs.Rational.{Rational, bottom, whole, over, plus, times, Equal, AtMost, is_at_most}
 use Rattle.fx_rational.proofs.Ring.{by_quotes, quotes}
@@ -27,13 +26,6 @@ use Rattle.fx_calm.specs.SumOf.{sum_value, weight_of, size_of, summand_of, IsSum
 use Rattle.fx_calm.proofs.Sizes.{HasNoSign, greater_unsigned, top_at_most}
 
 -- ---- one summand
-pub narrow_product : (s b t d : ℕ) → s < 2 ^ 62 → 0 < b → b < 2 ^ 62 → t < 2 ^ 62 → 0 < d → d ≤ 10 ^ 18 →
-    IsNarrowSummand (record { top = s * t; bottom = b * d })
-narrow_product s b t d ps pb qb pt pd qd =
-    let m = mul-le s t (2 ^ 62) (2 ^ 62) (omega (arith, ps)) (omega (arith, pt)) in
-    let n = mul-le b d (2 ^ 62) (10 ^ 18) (omega (arith, qb)) qd in
-    record { some = mul-pos {m = b} {n = d} pb pd; few = omega (arith, n); fits = omega (arith, m) }
-
 -- the summand of two sizes in code
 pub product_is : (s b t d : ℕ) → 0 < b → 0 < d →
     (let x : Summand = record { top = s * t; bottom = b * d } in

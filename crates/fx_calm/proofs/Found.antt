@@ -275,21 +275,6 @@ module _ (n : ℕ) (fn : Function) (some : Contains widths n) (lawful : IsLawful
               tested a b l = grind (arith, l)
 
 -- ---- the form
-pub no_form_temps : (fn : Function) → 0 < length fn.temps → false ≡ has_form fn
-no_form_temps fn l =
-    let e = not_none (length fn.temps) l in
-    (λ i. sym e i && nat_le 1 (length fn.states) && list_all is_short fn.results)
-  where
-    not_none : (n : ℕ) → 0 < n → nat_le n 0 ≡ false
-    not_none n l = grind (arith, l)
-
-pub no_form_states : (fn : Function) → length fn.temps ≤ 0 → length fn.states ≡ 0 → false ≡ has_form fn
-no_form_states fn t e =
-    let a = none (length fn.temps) t in (λ i. sym a i && nat_le 1 (sym e i) && list_all is_short fn.results)
-  where
-    none : (n : ℕ) → n ≤ 0 → nat_le n 0 ≡ true
-    none n l = grind (arith, l)
-
 pub form_is : (fn : Function) (r : Bool) → length fn.temps ≤ 0 → 0 < length fn.states →
     r ≡ list_all is_short fn.results → r ≡ has_form fn
 form_is fn r t s e =

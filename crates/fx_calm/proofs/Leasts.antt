@@ -32,15 +32,6 @@ none_found fn limit i first last w p e h = record {
 }
 
 -- ---- of one more
-pub least_of_none : (fn : Function) (limit : Limit) (first last : ℕ) → first ≤ last + 1 →
-    IsLeast fn limit first last 0 first
-least_of_none fn limit first last l = record {
-  from_first = omega arith;
-  to_last = l;
-  holds = λ p i lt. absurd (omega (arith, lt));
-  least = λ j p q h. p;
-}
-
 not_both : {b : Bool} → b ≡ true → b ≡ false → ⊥
 not_both p q = let z = sym p ∙ q in absurd cc
 

@@ -5,7 +5,7 @@ use Rattle.std.specs.Cmp.{both_ways}
 use Rattle.std.proofs.lemmas.Int.{ints}
 use Rattle.std.proofs.lemmas.Bool.{and_parts, cases_lt}
 use Rattle.std.proofs.lemmas.List.{length-map, get_or_past}
-use Rattle.std.proofs.lemmas.List.Elements.{All-nil, All-cons}
+use Rattle.std.proofs.lemmas.List.Elements.{All-nil}
 use Rattle.fx_rational.specs.Rational.{Rational, whole, plus, times, Equal, AtMost, is_at_most}
 use Rattle.fx_rational.proofs.Ring.{by_quotes, quotes}
 use Rattle.fx_rational.proofs.Laws.{equal_refl, equal_sym, equal_trans, le_trans, le_of_equal, plus_le, times_le, ordered}
@@ -113,27 +113,8 @@ module _ (fn : Function) (sum : Sum) (k : ℕ) (inputs : AreInputs fn.inputs) (t
       (equal_trans (summands_sum fn sum (terms_of t) (terms_unsigned t)) (total_is fn sum t)) p
 
 -- ---- inputs
-pub size_summand : (t b s d : ℕ) → 0 < b → b < 2 ^ 62 → t < 2 ^ 62 → s ≡ t → d ≡ b →
-    IsSummand (record { top = s; bottom = d })
-size_summand t b s d some few short e g = record {
-  some = omega (arith, some, g);
-  few = omega (arith, few, g);
-  fits = omega (arith, short, e);
-  small = omega (arith, some, short, e, g);
-}
-
 two_summands : (xs ys : List Summand) (x y : Summand) → xs ≡ [] → ys ≡ (xs ++ x ∷ []) ++ y ∷ [] → ys ≡ x ∷ y ∷ []
 two_summands xs ys x y none put = put ∙ ap (λ (zs : List Summand). (zs ++ x ∷ []) ++ y ∷ []) none
-
-pub input_summands : (xs ys : List Summand) (x y : Summand) → xs ≡ [] → ys ≡ (xs ++ x ∷ []) ++ y ∷ [] →
-    IsSummand x → IsSummand y →
-    All IsSummand ys
-input_summands xs ys x y none put p q =
-    subst (All IsSummand) (sym (two_summands xs ys x y none put))
-    (All-cons IsSummand x (y ∷ []) p (All-cons IsSummand y [] q (All-nil IsSummand)))
-
-pub input_few : (xs ys : List Summand) (x y : Summand) → xs ≡ [] → ys ≡ (xs ++ x ∷ []) ++ y ∷ [] → length ys ≤ 64
-input_few xs ys x y none put = let e = ap length (two_summands xs ys x y none put) in omega (arith, e)
 
 pub input_test : (xs ys : List Summand) (x y : Summand) (reach err : Rational) (r : Bool) (w n : ℕ) → xs ≡ [] →
     ys ≡ (xs ++ x ∷ []) ++ y ∷ [] → summand_value x ≡ reach → summand_value y ≡ magnitude err →

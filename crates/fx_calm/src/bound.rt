@@ -1,6 +1,6 @@
 //! The two whole numbers of a node, in units of the point.
 
-ghost use Rattle.std.specs.Prelude.{◌≡◌, ◌+◌, ◌*◌, ◌^◌, ◌≤◌, ◌+ℤ◌, ◌≤ℤ◌, pos};
+ghost use Rattle.std.specs.Prelude.{◌≡◌, ◌+◌, ◌*◌, ◌^◌, ◌≤◌, pos};
 ghost use Rattle.fx_rational.specs.Rational.{whole, AtMost};
 ghost use Rattle.fx_rational.specs.Decimal.{decimal_value};
 ghost use Rattle.fx_expr.specs.Parts.{input_of};

@@ -3,7 +3,7 @@
 //! A number that is enough for the first things is raised only where the next one asks for more, so that each is tried
 //! little more than once. That what was enough stays so is a fact of each limit.
 
-ghost use Rattle.std.specs.Prelude.{◌≡◌, ◌+◌, ◌<◌, ◌≤◌, false, true, IfOk};
+ghost use Rattle.std.specs.Prelude.{◌+◌, ◌<◌, ◌≤◌, IfOk};
 ghost use Rattle.fx_calm.specs.LimitOf.{count_of, is_within, IsReady, IsLeast, IsLeastAt, IsLeastOfBoth};
 
 use crate::limit::{Limit, count, is_within};

@@ -4,7 +4,6 @@ ghost use Rattle.std.specs.Prelude.{◌≡◌, ◌+◌, ◌^◌, ◌<◌, ◌≤
 ghost use Rattle.fx_rational.specs.Rational.{whole, plus, AtMost};
 ghost use Rattle.fx_rational.specs.Decimal.{decimal_value};
 ghost use Rattle.fx_model.specs.Tree.{at};
-ghost use Rattle.fx_inequalities.specs.NodeConditions.{no_input};
 ghost use Rattle.fx_inequalities.specs.Accepted.{start_of};
 ghost use Rattle.fx_expr.specs.TreeOf.{tree};
 ghost use Rattle.fx_expr.specs.Parts.{input_of};

@@ -1,6 +1,6 @@
 //! The lines of nodes, the boxes of states and the unit templates.
 
-ghost use Rattle.std.specs.Prelude.{◌≡◌, unsigned_abs, ◌+◌, ◌^◌, ◌<◌, ◌≤◌, length, [], map, All, IfOk};
+ghost use Rattle.std.specs.Prelude.{◌≡◌, unsigned_abs, ◌^◌, ◌<◌, ◌≤◌, length, [], map, IfOk};
 ghost use Rattle.fx_model.specs.Tree.{at};
 ghost use Rattle.fx_inequalities.specs.Accepted.{no_state, start_of};
 ghost use Rattle.fx_inequalities.specs.LawfulCertificate.{unit_vector};

@@ -2,7 +2,7 @@
 
 ghost use Rattle.std.specs.Prelude.{int_le, min, ◌≡◌, ◌+◌, ◌*◌, ◌^◌, ◌<◌, ◌≤◌, ◌≤ℤ◌, ◌+ℤ◌, ◌-ℤ◌, ◌*ℤ◌, pos, negsuc, length, All};
 ghost use Rattle.fx_rational.specs.Rational.{whole, is_at_most};
-ghost use Rattle.fx_calm.specs.Summands.{IsSummand, IsReady, sum_of, digit, rest, digits, rests, left, decided};
+ghost use Rattle.fx_calm.specs.Summands.{IsSummand, IsReady, sum_of, digit, rest, digits, rests, left};
 
 use crate::summand::Summand;
 

@@ -4,7 +4,6 @@ ghost use Rattle.std.specs.Prelude.{◌≡◌, ◌+◌, ◌*◌, ◌/◌, ◌-�
 ghost use Rattle.fx_rational.specs.Rational.{bottom, whole, is_at_most};
 ghost use Rattle.fx_rational.specs.Decimal.{decimal_value};
 ghost use Rattle.fx_model.specs.Function as model;
-ghost use Rattle.fx_inequalities.specs.NodeConditions.{no_input};
 ghost use Rattle.fx_expr.specs.Parts.{input_of};
 ghost use Rattle.fx_plan_laws.specs.Powers.{magnitude, greater, is_below_power};
 ghost use Rattle.fx_plan_laws.specs.Calm.{reach_of, reach_at};

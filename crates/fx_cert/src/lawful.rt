@@ -11,19 +11,16 @@ ghost use Rattle.fx_rational.specs.Dyadic.{IsWritten};
 ghost use Rattle.fx_rational.specs.Interval.{IsWrittenInterval};
 ghost use Rattle.fx_inequalities.specs.LawfulCertificate.{AreShares, AreSharesIfAny, AreWrittenLines, AreWrittenTemplates, IsFormIfAny, IsLawfulCertificate, IsWrittenBox, IsWrittenForm, IsWrittenStep, IsWrittenTemplate, unit_vector};
 ghost use Rattle.fx_step.specs.StepView.{step_view};
-ghost use Rattle.fx_cert.specs.CertificateView.{box_of, boxes_in, certificate_of, form_view, lines_view, shares_of, template_view, templates_in};
+ghost use Rattle.fx_cert.specs.CertificateView.{box_of, certificate_of, form_view, lines_view, shares_of, template_view, templates_in};
 
 use crate::certificate::{Certificate, Form, NodeLine, Share, StartBox, Template};
 use crate::lookup::unit_coef;
 use fx_expr::Items;
 use fx_num::{
-    Dyadic, HEIGHT_LIMIT, INPUT_LIMIT, Interval, NODE_LIMIT, PLACE_END, STATE_LIMIT, STEP_LIMIT,
-    TEMPLATE_LIMIT,
+    Dyadic, EXPONENT_LIMIT, HEIGHT_LIMIT, INPUT_LIMIT, Interval, NODE_LIMIT, PLACE_END,
+    STATE_LIMIT, STEP_LIMIT, TEMPLATE_LIMIT,
 };
 use fx_step::{RULE_COUNT, Step};
-
-/// How many binary places a number has at most.
-const PLACES: u32 = 96;
 
 /// The number of the last rewriting rule.
 const LAST_RULE: u8 = RULE_COUNT as u8;
@@ -44,7 +41,7 @@ fn is_written(d: Dyadic) -> bool
     ensures { IsTrue result → IsWritten d }
 {
     let size = d.m.unsigned_abs();
-    size < 1 << 62 && d.e <= PLACES && (d.e == 0 || size % 2 == 1)
+    size < 1 << 62 && d.e <= EXPONENT_LIMIT && (d.e == 0 || size % 2 == 1)
 }
 
 /// Whether a text can spell both ends of an interval.

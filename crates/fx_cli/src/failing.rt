@@ -2,7 +2,7 @@
 //!
 //! That a status has its cause is proved; here it is tried which call is the cause. A run ends with 6 or 7 exactly
 //! where the failing call was made, and else as it does where nothing fails.
-ghost use Rattle.std.specs.Prelude.{◌≤◌, ℕ, List, [], None, length};
+ghost use Rattle.std.specs.Prelude.{◌≤◌, [], None, length};
 ghost use Rattle.fx_base.specs.Causes.{Rose};
 
 use crate::tests::HALF;

@@ -2,7 +2,7 @@
 //!
 //! That it is so at every read is a clause of `fixd` (`prompt`), told of the moments that a source notes. This one
 //! notes them all.
-ghost use Rattle.std.specs.Prelude.{◌≡◌, ℕ, List, map, take, length, min, Some};
+ghost use Rattle.std.specs.Prelude.{◌≡◌, map, take, length, min, Some};
 ghost use Rattle.fx_base.specs.Moments.{Moment, Notes};
 
 use crate::tests::call;

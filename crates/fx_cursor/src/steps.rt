@@ -2,14 +2,14 @@
 //!
 //! A step gives its value and the tokens behind it. The trap: at the end of the tokens the fault is told at the text's
 //! length.
-ghost use Rattle.std.specs.Prelude.{◌≡◌, ◌≤◌, ◌<◌, ◌^◌, length, drop, OnOk, IfOk, codes, negsuc, ◌≤ℤ◌};
+ghost use Rattle.std.specs.Prelude.{◌≡◌, ◌≤◌, ◌<◌, length, drop, IfOk, codes};
 ghost use Rattle.std.specs.Prelude.{bytes_eq};
 ghost use Rattle.fx_lexer.specs.Faults.{GivesParsed};
 ghost use Rattle.fx_lexer.specs.Tokens.{lexeme_of};
 ghost use Rattle.fx_cursor.specs.Views.{lexemes};
 ghost use Rattle.fx_cursor.specs.Texts.{numeral_decimal};
 ghost use Rattle.fx_grammar.specs.Heads.{◌==ₕ◌};
-ghost use Rattle.fx_grammar.specs.Steps.{next_head, is_fresh, next_place, wrong, want, real_at, decimal, negative_decimal, numeral_at, signed_at, past_semicolon};
+ghost use Rattle.fx_grammar.specs.Steps.{next_head, is_fresh, next_place, wrong, want, real_at, numeral_at, signed_at, past_semicolon};
 
 use crate::numeral::Numeral;
 use fx_grammar::{Head, head_of};

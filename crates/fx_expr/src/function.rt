@@ -1,12 +1,12 @@
 //! A function, valid by its type.
-ghost use Rattle.std.specs.Prelude.{◌≡◌, ◌+◌, ◌<◌, ◌≤◌, length, map, None, Some, IfOk, IsSome, MatchOption, slice_get};
+ghost use Rattle.std.specs.Prelude.{◌≡◌, ◌+◌, ◌<◌, length, map, None, Some, IfOk, IsSome, MatchOption};
 ghost use Rattle.fx_expr.specs.TreeOf.{tree};
 ghost use Rattle.fx_expr.specs.Parts.{input_of, state_of, temp_of};
 ghost use Rattle.fx_model.specs.Nodes.{nodes_of};
 ghost use Rattle.fx_model.specs.Tree.{Tree};
 ghost use Rattle.fx_model.specs.Function as model;
 ghost use Rattle.fx_model.specs.Paths as paths;
-ghost use Rattle.fx_model.specs.Paths.{found, put, subtree, tree_at, temps_changed, results_changed, with_tree};
+ghost use Rattle.fx_model.specs.Paths.{found, tree_at, with_tree};
 ghost use Rattle.fx_expr.specs.LawfulFunction.{IsLawfulFunction};
 ghost use Rattle.fx_expr.specs.FunctionOf.{made_function};
 ghost use Rattle.fx_expr.specs.SizeOf.{size_of};

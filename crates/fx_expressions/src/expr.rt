@@ -2,14 +2,12 @@
 //!
 //! The recursion is that of the parentheses, at most 200. The trap: outside all of them a minus that begins its line
 //! doesn't go on, and a parenthesis behind a name on its line makes a call.
-ghost use Rattle.std.specs.Prelude.{◌≡◌, ◌≤◌, ◌<◌, ◌+◌, ◌^◌, length, drop, IfOk, option_map};
+ghost use Rattle.std.specs.Prelude.{◌≡◌, ◌≤◌, ◌<◌, ◌^◌, length, IfOk};
 ghost use Rattle.fx_lexer.specs.Faults.{GivesParsed};
 ghost use Rattle.fx_lexer.specs.Tokens.{lexeme_of};
-ghost use Rattle.fx_cursor.specs.Texts.{all_texts};
 ghost use Rattle.fx_cursor.specs.Views.{lexemes};
 ghost use Rattle.fx_expressions.specs.Views.{operand_of, known_in};
 ghost use Rattle.fx_expr.specs.TreeOf.{tree};
-ghost use Rattle.fx_grammar.specs.Steps.{name_place};
 ghost use Rattle.fx_grammar.specs.Expressions.{is_call, meant, named, closed, opened, atom_of, behind_minus, factor_of, term_of, sum_from, expr_at, inner_at, goes_on_product, goes_on_sum};
 ghost use Rattle.fx_grammar.specs.Operands as grammar;
 

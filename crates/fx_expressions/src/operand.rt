@@ -1,7 +1,7 @@
 //! Trees that are being read, with their height and the nodes that they make.
 //!
 //! A tree that is too high is no tree: its operands are dropped as they come, so that nothing deep is ever built.
-ghost use Rattle.std.specs.Prelude.{◌≡◌, ◌+◌, ◌≤◌, ◌<◌, ◌^◌, min, max, option_map, Ok};
+ghost use Rattle.std.specs.Prelude.{◌≡◌, ◌+◌, ◌<◌, min, max, option_map, Ok};
 ghost use Rattle.fx_lexer.specs.Faults.{GivesParsed};
 ghost use Rattle.fx_grammar.specs.Expressions.{literal};
 ghost use Rattle.fx_expressions.specs.Views.{operand_of};

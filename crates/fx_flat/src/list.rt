@@ -2,7 +2,7 @@
 //!
 //! Each call appends the nodes of its part and gives the number of the part's node, so that the list is built in one
 //! pass. No more than 4,000 nodes come, which the function keeps as its limit.
-ghost use Rattle.std.specs.Prelude.{◌≡◌, ◌+◌, ◌<◌, ◌≤◌, ◌∷◌, ◌++◌, length, map, IfOk, OnOk, []};
+ghost use Rattle.std.specs.Prelude.{◌≡◌, ◌+◌, ◌<◌, ◌≤◌, ◌∷◌, ◌++◌, length, IfOk, OnOk, []};
 ghost use Rattle.fx_model.specs.Function.{outputs};
 ghost use Rattle.fx_model.specs.Nodes.{nodes_of, nodes_after, flat, inputs_from, states_from, copies_of};
 ghost use Rattle.fx_model.specs.Valid.{RefersBelow};

@@ -1,5 +1,4 @@
 //! Nodes and their list.
-ghost use Rattle.std.specs.Prelude.{◌≡◌};
 
 use fx_expr::Items;
 use fx_fraction::Fraction;

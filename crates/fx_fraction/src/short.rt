@@ -4,10 +4,10 @@
 //! come. What is longer is read digit by digit. Nearly always there is no power of ten either, and then the decimal is
 //! there at once.
 
-ghost use Rattle.std.specs.Prelude.{◌≡◌, ◌+◌, ◌-◌, ◌<◌, ◌≤◌, ◌^◌, length, drop, IfSome, Ok};
+ghost use Rattle.std.specs.Prelude.{◌≡◌, ◌+◌, ◌-◌, ◌<◌, ◌≤◌, ◌^◌, length, IfSome, Ok};
 ghost use Rattle.std.specs.Str.Parse.{digits_value_after};
-ghost use Rattle.fx_fraction.specs.Numeral.{digit_count, first_digits, part_of, part_digits, behind_part};
-ghost use Rattle.fx_fraction.specs.DecimalOf.{trimmed, within_limits, decimal_of};
+ghost use Rattle.fx_fraction.specs.Numeral.{digit_count, first_digits};
+ghost use Rattle.fx_fraction.specs.DecimalOf.{decimal_of};
 ghost use Rattle.fx_fraction.specs.Kept.{Keeps, FitsFront, zeros_of};
 ghost use Rattle.fx_fraction.specs.ReadParts.{IsBelowTens, IsMantissa, IsShortNumber, IsShortPart};
 

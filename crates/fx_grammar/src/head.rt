@@ -3,7 +3,6 @@
 //! A rule asks for the next head alone: which sign or word it is, or that a name or a number stands there.
 
 ghost use Rattle.std.specs.Prelude.{◌≡◌};
-ghost use Rattle.std.specs.Prelude.{bytes_eq};
 ghost use Rattle.fx_lexer.specs.Tokens.{lexeme_of};
 ghost use Rattle.fx_grammar.specs.Heads.{head_of, sign_head, relation_of, word_head};
 

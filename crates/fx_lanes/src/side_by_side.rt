@@ -2,7 +2,7 @@
 //!
 //! The step is written and proved once over any type that holds them.
 
-ghost use Rattle.std.specs.Prelude.{◌≡◌, ◌≤◌, ◌*◌, ◌-◌, ◌<◌, ℤ, List, length, map, All, neg_ℤ, pos, replicate, Some};
+ghost use Rattle.std.specs.Prelude.{◌≡◌, ◌≤◌, ◌*◌, ◌-◌, ◌<◌, ℤ, List, map, All, neg_ℤ, pos, replicate, Some};
 ghost use Rattle.fx_model.specs.LawfulProgram.{IsShift};
 ghost use Rattle.fx_model.specs.Machine.{Floor, Nearest, IsWord};
 ghost use Rattle.fx_model.specs.Tree.{at};

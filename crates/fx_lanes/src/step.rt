@@ -2,11 +2,10 @@
 //!
 //! Contracts see a list of sixteen words for each code, whatever holds them.
 
-ghost use Rattle.std.specs.Prelude.{◌≡◌, ◌<◌, ◌≤◌, ◌*◌, ℕ, [], pos, map, length, IsSome, Some, IfOk};
+ghost use Rattle.std.specs.Prelude.{◌≡◌, ◌<◌, ◌*◌, ℕ, [], pos, map, length, IsSome, Some, IfOk};
 ghost use Rattle.fx_rational.specs.Decimal.{decimal_value};
 ghost use Rattle.fx_model.specs.Machine.{words_of, output_points};
 ghost use Rattle.fx_model.specs.Tree.{at};
-ghost use Rattle.fx_word.specs.Words.{IsWidth};
 ghost use Rattle.fx_machine.specs.Steps.{step_taken};
 ghost use Rattle.fx_lanes.specs.RowsSideBySide.{row_at, lane};
 

@@ -1,5 +1,5 @@
 //! Words in a bank, as a code reads them.
-ghost use Rattle.std.specs.Prelude.{◌≡◌, ◌+◌, ◌≤◌, length, take, drop};
+ghost use Rattle.std.specs.Prelude.{◌+◌, ◌≤◌, length, take, drop};
 
 use crate::Bank;
 use fx_machine::Words;

@@ -5,15 +5,13 @@
 ghost use Rattle.std.specs.Prelude.{◌≡◌, ◌-◌, ◌^◌, ◌<◌, ◌++◌, ◌∷◌, ℕ, List, map};
 ghost use Rattle.fx_rational.specs.Decimal.{decimal_value};
 ghost use Rattle.fx_rational.specs.Decimal as rational;
-ghost use Rattle.fx_model.specs.Machine.{machine_step};
 ghost use Rattle.fx_model.specs.Rows.{IsInRange};
-ghost use Rattle.fx_machine.specs.Steps.{step_taken};
 ghost use Rattle.fx_rows.specs.Faults.{row_fault_of};
 ghost use Rattle.fx_stream.specs.Ending.{EndsRun, streams};
-ghost use Rattle.fx_stream.specs.Rooms.{HasLineRoom, HasRoom, line_room};
+ghost use Rattle.fx_stream.specs.Rooms.{HasLineRoom};
 ghost use Rattle.fx_run.specs.Printed.{RowsLaw, run_outcome};
-ghost use Rattle.fx_run.specs.Steps.{lines_from, step_line};
-ghost use Rattle.fx_mixed.specs.Mixing.{IsTurned, carried, first_words, states_among};
+ghost use Rattle.fx_run.specs.Steps.{lines_from};
+ghost use Rattle.fx_mixed.specs.Mixing.{states_among};
 
 use crate::mixed::Mixed;
 use fx_base::{Sink, Source};

@@ -15,10 +15,6 @@ use Rattle.fx_node.specs.NodePage.{UnitLine, UnitRunLaw, UnitsApartLaw, event_li
 use Rattle.fx_node.proofs.Runs.{first_step, last_more, run_more}
 
 -- ---- a unit's rows
-own_row : Event → Bool → List (List Decimal)
-own_row e true = e.row ∷ []
-own_row e false = []
-
 -- one more event is one more row of its unit
 pub rows_more : (before : List Event) (e : Event) (u : ℕ) →
     rows_of (before ++ e ∷ []) u ≡ rows_of before u

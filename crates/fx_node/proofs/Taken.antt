@@ -1,6 +1,6 @@
 -- What one more line makes of what is printed.
 use Rattle.std.proofs.Common.{◌≡◌, ◌<◌, ◌+◌, ℕ, List, [], ◌∷◌, ◌++◌, map, length, get_or, set, Bool, true, false, Option, Some, None, refl, ap, sym, subst, ◌∙◌, arith}
-use Rattle.std.specs.Prelude.{Result, Ok, Err, codes, nat_lt, if◌then◌else◌}
+use Rattle.std.specs.Prelude.{Result, Err, codes, nat_lt, if◌then◌else◌}
 use Rattle.std.specs.List.{list_any}
 use Rattle.std.proofs.lemmas.Bool.{lt-ltb}
 use Rattle.std.proofs.lemmas.List.{get_or-set_same, length-set, map-set}
@@ -104,14 +104,6 @@ event_taken old new columns f n u row row' line same many row_same lt t reads =
     (unit_of (length old.registers) columns.unit line) more) (sym same)
     ∙ ap (λ n. after_line (row_of f columns.inputs line) (unit_of n columns.unit line) more) many ∙ reads more)
 
-pub line_skipped : (node : Units) (columns : NodeColumns) (row : List Decimal) (line : List ℕ) →
-    ReadsAs node columns line (event_then row None) → (rest : List (List ℕ))
-    → units_outcome node (Some columns) (line ∷ rest) ≡ behind_lines 1 [] 0 (units_outcome node (Some columns) rest)
-unfolding given_outcome
-line_skipped node columns row line reads rest =
-    let more = events_from node.accepted.function (length node.registers) columns rest in
-    ap (given_outcome node) (reads more) ∙ outcome-same _ _ _ (0 + length more.events) _ _ refl (omega arith) refl
-
 pub line_bad : (node : Units) (columns : NodeColumns) (flaw : LineFlaw) (line : List ℕ) →
     ReadsAs node columns line (λ more. flawed_here flaw) → (rest : List (List ℕ))
     → units_outcome node (Some columns) (line ∷ rest) ≡ behind_text [] (stopped_lines flaw)
@@ -138,25 +130,6 @@ unfolding read_outcome
 heads_as node line h e rest =
     let f = node.accepted.function in let n = length node.registers in
     ap (λ h. read_outcome node (after_header f n h rest (events_read f n rest))) e
-
-pub header_taken : (node : Units) (columns : NodeColumns) (line : List ℕ) →
-    node_header_of node.accepted.function line ≡ Ok (Some columns) → (rest : List (List ℕ))
-    → units_outcome node None (line ∷ rest)
-    ≡ behind_lines 1 (node_head node.accepted.program) 0 (units_outcome node (Some columns) rest)
-unfolding read_outcome
-header_taken node columns line e rest =
-    heads_as node line (Ok (Some columns)) e rest
-    ∙ outcome-same _ _ _ (0 + length
-    (events_from node.accepted.function (length node.registers) columns rest).events) _ _ refl (omega arith) refl
-
-pub header_skipped : (node : Units) (line : List ℕ) → node_header_of node.accepted.function line ≡ Ok None →
-    (rest : List (List ℕ))
-    → units_outcome node None (line ∷ rest) ≡ behind_lines 1 [] 0 (units_outcome node None rest)
-unfolding read_outcome
-header_skipped node line e rest =
-    heads_as node line (Ok None) e rest
-    ∙ outcome-same _ _ _ (0 + length
-    (events_read node.accepted.function (length node.registers) rest).given.events) _ _ refl (omega arith) refl
 
 pub header_bad : (node : Units) (flaw : LineFlaw) (line : List ℕ) →
     node_header_of node.accepted.function line ≡ Err flaw → (rest : List (List ℕ))

@@ -1,7 +1,7 @@
 //! A certified program with the registers of each of its units.
 //!
 //! All registers are made at once, before the first row, so that a turn takes no memory and refuses nothing.
-ghost use Rattle.std.specs.Prelude.{◌≡◌, ◌<◌, ◌≤◌, ◌++◌, ◌∷◌, [], ℕ, List, pos, length, map, replicate, IfOk};
+ghost use Rattle.std.specs.Prelude.{◌≡◌, ◌<◌, ◌≤◌, ◌++◌, ◌∷◌, [], List, pos, length, map, replicate, IfOk};
 ghost use Rattle.std.specs.Fmt.{decimal};
 ghost use Rattle.fx_rational.specs.Rational.{Rational};
 ghost use Rattle.fx_rational.specs.Decimal.{decimal_value};

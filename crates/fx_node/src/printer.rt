@@ -3,7 +3,7 @@
 //! What may be wrong with a header or a row comes first, and what is wrong with its unit behind it. No row is held
 //! back: each steps its own unit and is printed at once. The trap: the numbers of a row find their room before the
 //! first row.
-ghost use Rattle.std.specs.Prelude.{◌≡◌, ◌≢◌, ◌<◌, ◌≤◌, ◌⊎◌, ◌++◌, ◌∷◌, ℕ, List, [], false, length, map, codes, option_map, is_some, Some, None, Ok, Err, IfOk, IfErr, IfSome, OnOk};
+ghost use Rattle.std.specs.Prelude.{◌≡◌, ◌≢◌, ◌<◌, ◌≤◌, ◌⊎◌, ◌++◌, ◌∷◌, ℕ, List, false, length, map, codes, option_map, is_some, Some, None, Ok, Err, IfOk, IfErr, IfSome};
 ghost use Rattle.std.specs.List.{list_any};
 ghost use Rattle.std.specs.Vec.{vec_capacity};
 ghost use Rattle.fx_rational.specs.Decimal.{decimal_value};

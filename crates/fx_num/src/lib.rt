@@ -34,8 +34,8 @@ mod shift;
 pub use dyadic::{Dyadic, dadd, dle, dmul, dsub, lowest, round_down, round_up};
 pub use interval::{Interval, greatest, iadd, imul, inside, isub, least, outward};
 pub use limits::{
-    GREATEST_POINT, HEIGHT_LIMIT, INPUT_LIMIT, LEAST_POINT, NODE_LIMIT, OUTPUT_LIMIT, PLACE_END,
-    SOURCE_LIMIT, STATE_LIMIT, STEP_LIMIT, TEMP_LIMIT, TEMPLATE_LIMIT,
+    EXPONENT_LIMIT, GREATEST_POINT, HEIGHT_LIMIT, INPUT_LIMIT, LEAST_POINT, NODE_LIMIT,
+    OUTPUT_LIMIT, PLACE_END, SOURCE_LIMIT, STATE_LIMIT, STEP_LIMIT, TEMP_LIMIT, TEMPLATE_LIMIT,
 };
 pub use shift::{
     add_fits, bits, ceil_shift, floor_shift, left_fits, mul_fits, raised, short_two_to,

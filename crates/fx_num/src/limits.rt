@@ -36,5 +36,8 @@ pub const PLACE_END: u32 = 2000;
 /// The most templates, and the most error templates.
 pub const TEMPLATE_LIMIT: u32 = 512;
 
+/// The most binary places of a number that a text spells.
+pub const EXPONENT_LIMIT: u32 = 96;
+
 /// The most bytes of a source.
 pub const SOURCE_LIMIT: u32 = 1_048_576;

@@ -1,6 +1,6 @@
 //! Errors of literals and inputs.
 
-ghost use Rattle.std.specs.Prelude.{◌≡◌, ◌*◌, ◌+◌, ◌<◌, ◌≤◌, ◌^◌, ◌∷◌, [], ◌-ℤ◌, ◌*ℤ◌, neg_ℤ, pos, unsigned_abs, ℕ};
+ghost use Rattle.std.specs.Prelude.{◌≡◌, ◌*◌, ◌+◌, ◌<◌, ◌^◌, ◌∷◌, [], ◌-ℤ◌, ◌*ℤ◌, neg_ℤ, pos, unsigned_abs, ℕ};
 ghost use Rattle.fx_rational.specs.Rational.{Rational, bottom, lowest, negative, minus, scaled, floor, floor_div};
 ghost use Rattle.fx_model.specs.LawfulProgram.{IsPoint};
 ghost use Rattle.fx_inequalities.specs.Formula.{Formula, Num, Sum, Difference, formula_value, word_at, unit_at};

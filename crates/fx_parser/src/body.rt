@@ -2,20 +2,19 @@
 //!
 //! The nodes are counted as they come, up to one past the limit, so that no tree is walked again. The trap: the fault
 //! of a tree that is too high is found at the token behind its expression, and loses there to some others.
-ghost use Rattle.std.specs.Prelude.{◌≡◌, ◌≤◌, ◌<◌, ◌+◌, ◌^◌, length, map, min, option_map, IfOk, [], ◌∷◌, ◌++◌, Ok, None};
+ghost use Rattle.std.specs.Prelude.{◌≡◌, ◌≤◌, ◌<◌, ◌+◌, ◌^◌, length, map, min, IfOk, [], ◌∷◌, ◌++◌, Ok, None};
 ghost use Rattle.fx_lexer.specs.Faults.{GivesParsed};
 ghost use Rattle.fx_cursor.specs.Views.{lexemes};
 ghost use Rattle.fx_expressions.specs.Views.{operand_of};
 ghost use Rattle.fx_parser.specs.Views.{body_value, results_value, HasBodyRoom};
 ghost use Rattle.fx_parser.specs.Behind.{GoesOn, val_behind};
-ghost use Rattle.fx_cursor.specs.Texts.{all_texts};
 ghost use Rattle.fx_grammar.specs.Steps.{name_place};
 ghost use Rattle.fx_expr.specs.TreeOf.{tree};
 ghost use Rattle.fx_grammar.specs.Operands.{is_high};
 ghost use Rattle.fx_grammar.specs.Expressions.{expr_at};
-ghost use Rattle.fx_grammar.specs.Steps.{past_semicolon, free_at};
+ghost use Rattle.fx_grammar.specs.Steps.{past_semicolon};
 ghost use Rattle.fx_grammar.specs.Operands.{tree_or};
-ghost use Rattle.fx_grammar.specs.Bodies.{too_high, whole_at, typed_at, with_temp, val_at, vals_at, count_of, known_of, single_high, single_at, element_at, tuple_at, result_at};
+ghost use Rattle.fx_grammar.specs.Bodies.{too_high, whole_at, typed_at, with_temp, val_at, vals_at, known_of, single_high, single_at, element_at, tuple_at, result_at};
 
 use fx_cursor::{
     Names, Parsed, Rule, behind, free, listed, past_semicolon, peek, place_at, real, repeated,

@@ -1,15 +1,13 @@
 //! What stands before a function's body: its name, its parameters, its states and its type.
-ghost use Rattle.std.specs.Prelude.{◌≡◌, ◌≤◌, ◌<◌, ◌+◌, ◌^◌, ◌++◌, ◌∷◌, length, map, IfOk, [], IfNone, IfSome, Ok, None};
+ghost use Rattle.std.specs.Prelude.{◌≡◌, ◌≤◌, ◌<◌, ◌+◌, ◌++◌, ◌∷◌, length, IfOk, [], Ok, None};
 ghost use Rattle.fx_lexer.specs.Faults.{GivesParsed};
 ghost use Rattle.fx_lexer.specs.Tokens.{lexeme_of};
-ghost use Rattle.fx_cursor.specs.Texts.{all_texts};
 ghost use Rattle.fx_cursor.specs.Views.{lexemes};
 ghost use Rattle.fx_requirements.specs.Views.{subjects_of, IsNamed};
 ghost use Rattle.fx_parser.specs.Views.{declared_of, state_value, with_state};
-ghost use Rattle.fx_grammar.specs.Ranges.{names_of, new_subject};
-ghost use Rattle.fx_grammar.specs.Steps.{has_name, name_place, free_at, listed, real_at};
+ghost use Rattle.fx_grammar.specs.Ranges.{new_subject};
+ghost use Rattle.fx_grammar.specs.Steps.{name_place, listed};
 ghost use Rattle.fx_grammar.specs.Fronts.{param_at, declared_state, states_at, one_real, type_at, more_than};
-ghost use Rattle.fx_grammar.specs.Functions.{new_name};
 
 use fx_cursor::{
     Names, Numeral, Parsed, Rule, behind, free, listed, peek, place_at, real, signed, want,

@@ -1,13 +1,12 @@
 //! One function, from its name to the brace that closes it and its demands.
 ghost use Rattle.std.specs.Prelude.{◌≡◌, ◌≤◌, ◌<◌, ◌+◌, ◌-◌, ◌^◌, length, map, IfOk, Ok, None, []};
 ghost use Rattle.fx_lexer.specs.Faults.{GivesParsed};
-ghost use Rattle.fx_cursor.specs.Texts.{all_texts};
 ghost use Rattle.fx_cursor.specs.Views.{lexemes};
-ghost use Rattle.fx_requirements.specs.Views.{demand_value, subject_of, subjects_of};
+ghost use Rattle.fx_requirements.specs.Views.{demand_value, subject_of};
 ghost use Rattle.fx_parser.specs.Behind.{GoesOn, front_behind, with_reals};
-ghost use Rattle.fx_parser.specs.Views.{source_function_of, front_value, body_value, results_value, HasBodyRoom};
-ghost use Rattle.fx_grammar.specs.Steps.{has_name, name_place};
-ghost use Rattle.fx_grammar.specs.Functions.{front_at, body_of, require_word_at, within_nodes, ending_at, body_at};
+ghost use Rattle.fx_parser.specs.Views.{source_function_of, front_value, body_value, HasBodyRoom};
+ghost use Rattle.fx_grammar.specs.Steps.{name_place};
+ghost use Rattle.fx_grammar.specs.Functions.{front_at, require_word_at, within_nodes, ending_at, body_at};
 
 use crate::body::{Body, Results, Temp, outcome, vals};
 use crate::front::{Declared, State, params, states, type_at};

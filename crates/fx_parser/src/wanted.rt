@@ -1,10 +1,8 @@
 //! From bytes to the wanted function.
-ghost use Rattle.std.specs.Prelude.{◌≡◌, ◌<◌, ◌^◌, length, map, IfOk, Some, None};
-ghost use Rattle.std.specs.List.{All};
+ghost use Rattle.std.specs.Prelude.{◌<◌, ◌^◌, length, IfOk, Some, None};
 ghost use Rattle.std.specs.Option.{option_map};
 ghost use Rattle.fx_lexer.specs.Faults.{GivesParsed};
 ghost use Rattle.fx_grammar.specs.Sources.{chosen, functions_of, parsed};
-ghost use Rattle.fx_parser.specs.LawfulNames.{IsLawfulAndNamed};
 ghost use Rattle.fx_parser.specs.Choice.{IsChoice, wanted_in};
 ghost use Rattle.fx_parser.specs.Views.{source_function_of, source_functions_of, AreNamed};
 

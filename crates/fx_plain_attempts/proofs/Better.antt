@@ -1,8 +1,7 @@
 -- Bounds that are smaller, and answers that stand.
-use Rattle.std.proofs.Common.{◌≡◌, ◌∙◌, ◌≢◌, ◌⊎◌, ⊎_elim, ℕ, zero, suc, ◌+◌, ◌<◌, ◌≤◌, List, [], ◌∷◌, ◌++◌, map, take, append_assoc, append-nil, true, Option, Some, None, length, refl, sym, ap, subst, arith, inl, inr}
+use Rattle.std.proofs.Common.{◌≡◌, ◌∙◌, ◌⊎◌, ⊎_elim, ℕ, zero, suc, ◌+◌, ◌<◌, ◌≤◌, List, [], ◌∷◌, ◌++◌, map, take, append_assoc, append-nil, true, Option, Some, None, length, refl, sym, ap, subst, arith, inl, inr}
 use Rattle.std.specs.Prelude.{ℤ, IfSome}
 use Rattle.std.specs.List.{All, Contains}
-use Rattle.std.proofs.Math.Seq.{take-append_seam}
 use Rattle.std.proofs.lemmas.List.Elements.{All-nil, All-head, All-tail, All-cons, All-push, All-map, All-contains, filter_passes}
 use Rattle.fx_rational.proofs.Laws.{le_refl, le_trans, le_total}
 use Rattle.fx_model.specs.Function.{Function, outputs}
@@ -146,11 +145,6 @@ step_there fn done s left e =
 pub one_done : {A : Type 0} (xs : List A) (y : A) (ys : List A) → xs ++ y ∷ ys ≡ (xs ++ y ∷ []) ++ ys
 one_done xs y ys = sym (append_assoc xs (y ∷ []) ys)
 
--- so many of the first
-pub first_done : {A : Type 0} (n : ℕ) (done left whole : List A) → whole ≡ done ++ left → length done ≡ n →
-    take n whole ≡ done
-first_done n done left whole e l = ap (take n) e ∙ ap (λ k. take k (done ++ left)) (sym l) ∙ take-append_seam done left
-
 all_done : {A : Type 0} (n : ℕ) (done whole : List A) → whole ≡ done ++ [] → length done ≤ n → take n whole ≡ done
 all_done n done whole e l = ap (take n) (e ∙ append-nil done) ∙ take_all n done l
   where
@@ -198,19 +192,6 @@ module _ (w : Wanted) (fn : Function) where
             All-push (λ x. Resists w fn r (x ∷ [])) done s still.each
             (resists_own w fn (s ∷ []) o c r some h.suits out is);
       }
-
--- without attempts that may be accepted any answer stands
-pub stands_stateful : (w : Wanted) (fn : Function) (steps : List Rewriting) (o : Option Accepted) →
-    (fn.states ≡ [] → ⊥) → SuitsIfAny w fn o → IsBestAfter w fn steps o
-stands_stateful w fn steps o state suits = record { suits = suits; plain = never o []; each = all steps }
-  where
-    never : (o : Option Accepted) (steps : List Rewriting) → Resists w fn o steps
-    never None steps = λ t acc. state acc.stateless
-    never (Some a) steps = λ t acc beats. state acc.stateless
-
-    all : (xs : List Rewriting) → All (λ s. Resists w fn o (s ∷ [])) xs
-    all [] = All-nil _
-    all (x ∷ xs) = All-cons (λ s. Resists w fn o (s ∷ [])) x xs (never o (x ∷ [])) (all xs)
 
 -- ---- numbers up to one
 pub next_below : (P : ℕ → Type 0) (j : ℕ) → ((k : ℕ) → k < j → P k) → P j → (k : ℕ) → k < j + 1 → P k

@@ -2,7 +2,7 @@
 //!
 //! That a plan is accepted and which bounds it has are laws, by which the checker can answer nothing else but want of
 //! memory: whoever changes a plan before it is checked breaks the proof.
-ghost use Rattle.std.specs.Prelude.{◌≡◌, ◌≢◌, None, Contains, IfOk, IfSome, option_map};
+ghost use Rattle.std.specs.Prelude.{◌≡◌, None, Contains, IfOk, IfSome, option_map};
 ghost use Rattle.fx_model.specs.LawfulProgram.{widths};
 ghost use Rattle.fx_weight.specs.Laws.{IsInClass};
 ghost use Rattle.fx_weight.specs.ObstacleView.{obstacle_view};

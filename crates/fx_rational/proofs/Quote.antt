@@ -1,5 +1,5 @@
 -- A quote of a whole number over the variables ρ, found by `search quotes`.
-use Rattle.std.proofs.Common.{◌≡◌, ℕ, refl, sym, ◌∙◌, pos, ℤ, ◌+ℤ◌, ◌*ℤ◌, neg_ℤ, List, ◌∷◌, true}
+use Rattle.std.proofs.Common.{◌≡◌, refl, sym, ◌∙◌, pos, ℤ, ◌+ℤ◌, ◌*ℤ◌, neg_ℤ, List, ◌∷◌, true}
 use Rattle.fx_rational.proofs.IntegerRing.{Polynomial, var, lit, add, sub, mul, neg, polynomial_value, normal_form, vanishes, ring}
 
 pub record Quote (ρ : List ℤ) (z : ℤ) : Type 0 where
@@ -45,9 +45,6 @@ q8 = record { quote = var 8; is = refl }
 abbrev pub q9 : {x x0 x1 x2 x3 x4 x5 x6 x7 x8 : ℤ} {ρ : List ℤ} →
     Quote (x0 ∷ x1 ∷ x2 ∷ x3 ∷ x4 ∷ x5 ∷ x6 ∷ x7 ∷ x8 ∷ x ∷ ρ) x
 q9 = record { quote = var 9; is = refl }
-
-abbrev pub q_lit : {ρ : List ℤ} (n : ℕ) → Quote ρ (pos n)
-q_lit n = record { quote = lit (pos n); is = refl }
 
 abbrev pub q_zero : {ρ : List ℤ} → Quote ρ (pos 0)
 q_zero = record { quote = lit (pos 0); is = refl }

@@ -1,5 +1,5 @@
 -- The first step that is there at a path.
-use Rattle.std.proofs.Common.{◌≡◌, ℕ, suc, ◌+◌, ◌-◌, ◌<◌, ◌≤◌, Bool, cond, List, [], ◌∷◌, Option, Some, None, refl, ap, ◌∙◌, arith}
+use Rattle.std.proofs.Common.{◌≡◌, ℕ, suc, ◌+◌, ◌-◌, ◌≤◌, Bool, cond, List, [], ◌∷◌, Option, Some, None, refl, ap, ◌∙◌, arith}
 use Rattle.std.specs.Prelude.{is_some}
 use Rattle.std.specs.Option.{option_and_then}
 use Rattle.fx_model.specs.Function.{Function}
@@ -13,12 +13,6 @@ use Rattle.fx_rewrite.specs.FirstOf.{Begins}
 
 rules_split : (r : ℕ) → r ≤ rule_count → rules_from r ≡ r ∷ rules_from (r + 1)
 rules_split r h = let e : rule_count + 1 - r ≡ suc (rule_count + 1 - (r + 1)) = omega arith in ap (numbers_from r) e
-
-no_rules : (r : ℕ) → rule_count < r → rules_from r ≡ []
-no_rules r h = let e : rule_count + 1 - r ≡ 0 = omega arith in ap (numbers_from r) e
-
-pub no_rule_left : (f : Function) (place : ℕ) (path : List ℕ) (r : ℕ) → rule_count < r → Begins f place path r None
-no_rule_left f place path r h = ap (λ ns. there f (steps_by place path ns)) (no_rules r h)
 
 pub rule_is_there : (f : Function) (place : ℕ) (path : List ℕ) (r : ℕ) (h : Function) → r ≤ rule_count →
     rewrite f (record { place = place; path = path; rule = r }) ≡ Some h → Begins f place path r (Some r)

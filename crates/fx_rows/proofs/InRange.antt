@@ -60,9 +60,3 @@ row_in_range (Ok true) row is ps None many h = λ t. absurd h
 row_in_range (Ok true) row is ps (Some fields) many h =
     λ t. subst (λ (vs : List Decimal). IsInRange is (map decimal_value vs)) (sym h.1)
     (values_in_range 0 is ps fields many h.0)
-
-pub for_inputs : (r : Result Bool RowFault) (row : List Decimal) (is js : List Input) → is ≡ js →
-    IfOk r (λ b. IsTrue b → IsInRange is (map decimal_value row)) →
-    IfOk r (λ b. IsTrue b → IsInRange js (map decimal_value row))
-for_inputs r row is js e h =
-    subst (λ (x : List Input). IfOk r (λ b. IsTrue b → IsInRange x (map decimal_value row))) e h

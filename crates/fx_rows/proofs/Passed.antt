@@ -20,9 +20,6 @@ PassedTo text i = (k : ℕ) → k < i → (is_special (get_or text k 0) ≡ fals
 other : (c k : ℕ) → c ≢ k → eqb c k ≡ false
 other c k h = search (rules, tests)
 
-pub passed_one : (c : ℕ) → c ≢ 44 → c ≢ 34 → c ≢ 13 → c ≢ 10 → (is_special c ≡ false) × (eqb c 44 ≡ false)
-passed_one c comma quote ret feed = (rw (other c 34 quote, other c 13 ret, other c 10 feed) refl, other c 44 comma)
-
 -- what holds of each byte of a front, by its places
 front_all : (bad : ℕ → Bool) (text : List ℕ) (i : ℕ) → i ≤ length text →
     ((k : ℕ) → k < i → bad (get_or text k 0) ≡ false) → All (λ b. bad b ≡ false) (take i text)

@@ -136,10 +136,6 @@ pub whole_plain_line : (line : List ℕ) → list_any is_special line ≡ false 
 whole_plain_line line plain = plain_line line (strip_keeps is_special line plain)
 
 -- ---- the byte order mark
-both-true : (a b : Bool) → (a && b) ≡ false → (a ≡ true → b ≡ false)
-both-true true b e h = e
-both-true false b e h = absurd (cc)
-
 pub no-mark : (line : List ℕ) → has_mark line ≡ false → strip_bom line ≡ line
 unfolding strip_bom
 no-mark [] e = refl

@@ -1,21 +1,12 @@
 -- A name's column, field by field, and the unit of a line between its commas.
-use Rattle.std.proofs.Common.{◌≡◌, ℕ, zero, suc, ◌+◌, List, [], ◌∷◌, ◌++◌, ◌<◌, ◌≤◌, ◌&&◌, Bool, true, false, length, refl, arith, ap, sym, subst, ◌∙◌}
-use Rattle.std.specs.Prelude.{if◌then◌else◌, nat_lt, Option, None, Some, Result, Ok, Err}
-use Rattle.std.specs.List.{list_any}
+use Rattle.std.proofs.Common.{◌≡◌, ℕ, zero, suc, ◌+◌, List, [], ◌∷◌, ◌++◌, ◌<◌, ◌&&◌, Bool, true, false, length, refl, arith, ap, sym, subst, ◌∙◌}
+use Rattle.std.specs.Prelude.{if◌then◌else◌, nat_lt, Option, None, Some}
 use Rattle.std.specs.Str.Parse.{digits_value}
 use Rattle.std.proofs.lemmas.Bool.Decides.{nat_tests}
 use Rattle.std.specs.Str.{bytes_eq}
 use Rattle.csv.specs.Records.{field_at}
-use Rattle.fx_rational.specs.Decimal.{Decimal}
-use Rattle.fx_model.specs.Function.{Function}
-use Rattle.fx_model.specs.Limits.{line_limit}
-use Rattle.fx_rows.specs.Line.{is_return, line_fields, pieces, plain_fields}
+use Rattle.fx_rows.specs.Line.{line_fields, pieces, plain_fields}
 use Rattle.fx_rows.specs.Blanks.{without_blanks}
-use Rattle.fx_rows.specs.Faults.{RowFlaw, at_input}
-use Rattle.fx_rows.specs.Header.{column_names, header_of, header_of_fields}
-use Rattle.fx_rows.specs.Results.{IsRowRead}
-use Rattle.fx_rows.specs.Values.{Values, row_of, row_of_fields, stopped}
-use Rattle.fx_rows.specs.declared.fault.RowKind.TheVariants.{LineTooLong, StrayReturn}
 use Rattle.fx_rows.specs.Places.{places_of}
 use Rattle.fx_rows.specs.declared.column.Column.{Column}
 use Rattle.fx_rows.specs.UnitColumn.{column_after, column_among, is_unit_text, unit_in, unit_in_field, unit_of}
@@ -83,37 +74,3 @@ fields-below units place k (Some fields) e = field-below units k (field_at field
 -- a unit is one of those that there are
 pub unit-below : (units place k : ℕ) (line : List ℕ) → unit_of units place line ≡ Some k → k < units
 unit-below units place k line e = fields-below units place k (line_fields line) e
-
-whole-choice : (t u : Bool) (a b : RowFlaw) (row : List Decimal) (o : Option Values) →
-    IsRowRead (Ok true) row (if t then Some (stopped a) else if u then Some (stopped b) else o) → u ≡ false
-whole-choice true u a b row o h = absurd (let none : Some a ≡ None = h.0 in cc)
-whole-choice false true a b row o h = absurd (let none : Some b ≡ None = h.0 in cc)
-whole-choice false false a b row o h = refl
-
--- a row that is whole has no carriage return
-pub whole-no-return : (f : Function) (columns line : List ℕ) (row : List Decimal) →
-    IsRowRead (Ok true) row (row_of f columns line) → list_any is_return line ≡ false
-whole-no-return f columns line row h =
-    whole-choice (nat_lt line_limit (length line)) (list_any is_return line) (at_input LineTooLong 0)
-    (at_input StrayReturn 0) row (row_of_fields f.inputs columns (line_fields line)) h
-
--- a row that is whole is one, and nothing is wrong with it
-pub whole-row : (row : List Decimal) (o : Option Values) → IsRowRead (Ok true) row o →
-    o ≡ Some record { values = row; fault = None }
-whole-row row None h = absurd h
-whole-row row (Some v) h = ap (λ (vs : List Decimal). Some record { values = vs; fault = v.fault }) (sym h.1)
-    ∙ ap (λ (w : Option RowFlaw). Some record { values = row; fault = w }) h.0
-
-short-choice : (t u : Bool) (a b : RowFlaw) (r : Result (Option (List ℕ)) RowFlaw) (columns : List ℕ) →
-    (if t then Err a else if u then Err b else r) ≡ Ok (Some columns) → t ≡ false
-short-choice true u a b r columns e = absurd cc
-short-choice false u a b r columns e = refl
-
--- a line that is a header isn't too long
-pub header-short : (f : Function) (line columns : List ℕ) → header_of f line ≡ Ok (Some columns) →
-    length line ≤ line_limit
-header-short f line columns e =
-    let short : nat_lt line_limit (length line) ≡ false =
-    short-choice (nat_lt line_limit (length line)) (list_any is_return line) (at_input LineTooLong 0)
-    (at_input StrayReturn 0) (header_of_fields (column_names f) (line_fields line)) columns e in
-    grind (arith, nat_tests)

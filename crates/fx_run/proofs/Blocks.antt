@@ -68,10 +68,6 @@ first_row n k xs ys row filled within unfilled (inl e) put =
 first_row n k xs ys row filled within unfilled (inr was) put = absurd (let z : true ≡ false = sym was ∙ unfilled in cc)
 
 -- ---- their lines
--- no line stands for no row
-pub none_put : (p : Program) (page : List ℕ) → ArePut p [] page page
-none_put p page = ([], sym (append-nil page), λ rest. refl)
-
 -- the line of one row more
 pub one_put : (p : Program) (rows : List (List Decimal)) (row : List Decimal) (s : Step ℤ) (old mid new : List ℕ) →
     ArePut p rows old mid

@@ -2,7 +2,7 @@
 //!
 //! The trap: all sixteen go through a program together, so the places behind the last row have to hold rows in range
 //! too. The first row of all is therefore put in each place.
-ghost use Rattle.std.specs.Prelude.{◌≡◌, ◌⊎◌, ◌≤◌, ◌<◌, ◌+◌, ◌*◌, ◌++◌, ◌∷◌, ℕ, List, [], length, map, true, IsTrue};
+ghost use Rattle.std.specs.Prelude.{◌≡◌, ◌⊎◌, ◌≤◌, ◌<◌, ◌+◌, ◌*◌, ◌++◌, ◌∷◌, ℕ, List, [], length, map, IsTrue};
 ghost use Rattle.fx_rational.specs.Decimal.{decimal_value};
 ghost use Rattle.fx_model.specs.Function.{Input};
 ghost use Rattle.fx_model.specs.Rows.{IsInRange};

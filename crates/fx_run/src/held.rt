@@ -2,7 +2,7 @@
 //! the program side by side.
 //!
 //! Where it settles with few of them they go one after the other: sixteen lanes cost as much as three or four rows.
-ghost use Rattle.std.specs.Prelude.{◌≡◌, ◌⊎◌, ◌≤◌, ◌<◌, ◌*◌, ℕ, [], length, map, IfOk, OnOk};
+ghost use Rattle.std.specs.Prelude.{◌≡◌, ◌≤◌, ◌<◌, ◌*◌, [], length, map, IfOk, OnOk};
 ghost use Rattle.fx_rational.specs.Decimal.{decimal_value};
 ghost use Rattle.fx_model.specs.Machine.{start_words};
 ghost use Rattle.fx_model.specs.Rows.{IsInRange};

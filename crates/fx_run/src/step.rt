@@ -1,15 +1,15 @@
 //! A certified program as what a row does: the machine's step, and the line of its outputs.
 //!
 //! The state is carried in the registers from row to row, and no word of it is ever put back to its start.
-ghost use Rattle.std.specs.Prelude.{◌≡◌, ◌+◌, ◌≤◌, ◌++◌, ◌∷◌, [], List, map, length, Some};
+ghost use Rattle.std.specs.Prelude.{◌≡◌, ◌+◌, ◌≤◌, ◌++◌, map, length, Some};
 ghost use Rattle.fx_rational.specs.Decimal.{decimal_value};
 ghost use Rattle.fx_rational.specs.Decimal as rational;
-ghost use Rattle.fx_model.specs.Machine.{machine_step, output_points};
+ghost use Rattle.fx_model.specs.Machine.{machine_step};
 ghost use Rattle.fx_model.specs.Page.{line_of, names_from};
 ghost use Rattle.fx_model.specs.Rows.{IsInRange};
 ghost use Rattle.fx_machine.specs.Steps.{step_taken};
 ghost use Rattle.fx_checker.specs.CertifiedView.{IsStepReady};
-ghost use Rattle.fx_stream.specs.Rooms.{HasLineRoom, HasRoom, line_room};
+ghost use Rattle.fx_stream.specs.Rooms.{HasLineRoom, line_room};
 ghost use Rattle.fx_run.specs.Steps.{CanStep, lines_from, step_line};
 
 use crate::words::{put_header, put_words};

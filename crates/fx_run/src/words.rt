@@ -1,5 +1,5 @@
 //! The header and the line of a step's outputs, put on a page field by field.
-ghost use Rattle.std.specs.Prelude.{◌≡◌, ◌+◌, ◌*◌, ◌≤◌, ◌<◌, ℤ, List, pos, [], ◌∷◌, ◌++◌, length, codes, decimal};
+ghost use Rattle.std.specs.Prelude.{◌≡◌, ◌+◌, ◌≤◌, ◌<◌, ℤ, List, pos, [], ◌∷◌, ◌++◌, length, codes, decimal};
 ghost use Rattle.fx_model.specs.Machine.{output_points};
 ghost use Rattle.fx_model.specs.LawfulProgram.{IsLawfulProgram, IsPoint};
 ghost use Rattle.fx_model.specs.Page.{line_of, names_from, word_texts};

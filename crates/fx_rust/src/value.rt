@@ -2,10 +2,10 @@
 //!
 //! Each expression of type i128 is written by one function, and in parentheses of its own.
 
-ghost use Rattle.std.specs.Prelude.{◌≡◌, ◌++◌, ◌∷◌, [], codes, decimal, OnOk};
+ghost use Rattle.std.specs.Prelude.{◌≡◌, ◌++◌, ◌∷◌, codes, decimal, OnOk};
 ghost use Rattle.fx_model.specs.Machine as machine;
 ghost use Rattle.fx_program.specs.CodeView.{round_of, kind_of};
-ghost use Rattle.fx_statements.specs.Statements.{Plus, Minus, Over, Left, Widened, Negated, Two, Shifted};
+ghost use Rattle.fx_statements.specs.Statements.{Over, Left, Widened, Negated, Two, Shifted};
 ghost use Rattle.fx_statements.specs.RustText.{wide_text, value_text};
 ghost use Rattle.fx_statements.specs.OfProgram.{least_size, rounded, operand, product, value_for};
 

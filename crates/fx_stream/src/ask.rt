@@ -2,7 +2,7 @@
 //!
 //! Each says what it keeps of a run that stands, so that the loop only passes it on.
 //! The trap: a write that fails comes before the read, so it leaves the source untouched.
-ghost use Rattle.std.specs.Prelude.{◌≡◌, ◌≢◌, ◌⊎◌, ◌+◌, ◌-◌, ◌^◌, ◌<◌, ◌≤◌, ◌==◌, ◌++◌, ◌∷◌, [], ℕ, List, Option, None, true, not, length, position, IsTrue, IfOk, IfErr, OnOk, OnErr, IsErrOf, MatchResult};
+ghost use Rattle.std.specs.Prelude.{◌≡◌, ◌≢◌, ◌⊎◌, ◌+◌, ◌-◌, ◌^◌, ◌<◌, ◌≤◌, ◌==◌, ◌++◌, ◌∷◌, [], ℕ, List, Option, None, true, position, IsTrue, IfOk, IfErr, OnOk, OnErr, IsErrOf, MatchResult};
 ghost use Rattle.fx_base.specs.Causes.{Rose, HasCause};
 ghost use Rattle.fx_base.specs.Calls.{AppendsFront};
 ghost use Rattle.fx_base.specs.Moments.{HoldsEachTime};

@@ -3,7 +3,7 @@
 //! What a row does is behind the trait `RowStep`, so that the rows of a text are told apart from the machine.
 //! The trap: the numbers of a row find their room before the first row, and a row keeps it, so that only a line that
 //! `csv` has to read wants memory.
-ghost use Rattle.std.specs.Prelude.{◌≡◌, ◌≢◌, ℕ, List, [], ◌∷◌, ◌++◌, ◌<◌, ◌≤◌, ◌-◌, ◌^◌, ◌⊎◌, ◌↔◌, false, Err, length, map, option_map, IfOk, IfErr, IfSome, OnOk, IsErrOf, None};
+ghost use Rattle.std.specs.Prelude.{◌≡◌, ◌≢◌, ℕ, List, [], ◌∷◌, ◌++◌, ◌<◌, ◌≤◌, ◌-◌, ◌^◌, ◌⊎◌, false, Err, length, map, option_map, IfOk, IfErr, IfSome, OnOk, None};
 ghost use Rattle.std.specs.List.{list_any};
 ghost use Rattle.std.specs.Vec.{vec_capacity};
 ghost use Rattle.fx_rational.specs.Decimal.{decimal_value};
@@ -15,7 +15,7 @@ ghost use Rattle.fx_rows.specs.Ranges.{reader_columns, Serves};
 ghost use Rattle.fx_rows.specs.Faults.{row_fault_of};
 ghost use Rattle.fx_rows.specs.declared.fault.RowKind.TheVariants as kind;
 ghost use Rattle.fx_stream.specs.Rooms.{HasRoom};
-ghost use Rattle.fx_stream.specs.Outcome.{Outcome, behind_lines, one, behind_text, stopped_lines, IfBad};
+ghost use Rattle.fx_stream.specs.Outcome.{behind_lines, one, behind_text, stopped_lines, IfBad};
 ghost use Rattle.fx_stream.specs.Printed.{lines_outcome};
 ghost use Rattle.fx_stream.specs.Ending.{EndsRun, streams};
 ghost use Rattle.fx_stream.specs.declared.printer.Stop.TheVariants as stop;

@@ -1,8 +1,7 @@
 -- Coefficients one behind the other.
-use Rattle.std.proofs.Common.{◌≡◌, ℕ, zero, suc, ◌+◌, ◌<◌, true, false, ◌&&◌, List, [], ◌∷◌, ◌++◌, length, length-append, Result, Ok, Err, refl, sym, subst, ap, ap₂, ◌∙◌, arith, true≢false}
+use Rattle.std.proofs.Common.{◌≡◌, ℕ, zero, suc, ◌+◌, ◌<◌, true, false, ◌&&◌, List, [], ◌∷◌, length, length-append, Result, Ok, Err, refl, sym, subst, ap, ◌∙◌, arith, true≢false}
 use Rattle.fx_rational.specs.Dyadic.{Dyadic}
 use Rattle.fx_inequalities.specs.Formula.{Formula, formed, formula_fits}
-use Rattle.fx_formulas.proofs.Judged.{both_again}
 use Rattle.std.specs.Result.{IsErrAnd}
 use Rattle.std.proofs.lemmas.Bool.{and_parts, false_from_ne_true}
 use Rattle.fx_template.specs.declared.affine.Affine.{Affine}
@@ -16,19 +15,6 @@ use Rattle.fx_template.specs.Combining.{FormulaForm, coefs_fit, form_fits, forme
 pub record IsFront (out : List Dyadic) (j : ℕ) (c : ℕ → Formula) : Type 0 where
   pub fits : coefs_fit j c ≡ true
   pub formed : out ≡ formed_coefs j c
-
-pub front_start : (c : ℕ → Formula) → IsFront [] 0 c
-front_start c = record { fits = refl; formed = refl }
-
--- one more
-pub front_step : (out more : List Dyadic) (j : ℕ) (c : ℕ → Formula) → IsFront out j c → formula_fits (c j) ≡ true →
-    more ≡ out ++ formed (c j) ∷ [] → IsFront more (j + 1) c
-front_step out more j c front fits is =
-    let next : suc j ≡ j + 1 = omega arith in
-    subst (λ (k : ℕ). IsFront more k c) next (record {
-      fits = both_again (coefs_fit j c) (formula_fits (c j)) front.fits fits;
-      formed = is ∙ ap₂ (λ (xs ys : List Dyadic). xs ++ ys) front.formed refl;
-    })
 
 -- so many of them
 pub formed_length : (j : ℕ) (c : ℕ → Formula) → length (formed_coefs j c) ≡ j

@@ -29,12 +29,6 @@ tabulate_all P f n d none h i = elim (cases_lt i n) [
 ]
 
 -- ---- each below n
-pub each_more : {A E : Type 0} (f : ℕ → Result A E) (n : ℕ) (xs : List A) (x : A) → each_below n f ≡ Some xs →
-    f n ≡ Ok x → each_below (n + 1) f ≡ Some (xs ++ x ∷ [])
-each_more f n xs x e is =
-    let next : suc n ≡ n + 1 = omega arith in
-    subst (λ (m : ℕ). each_below m f ≡ Some (xs ++ x ∷ [])) next (λ i. and_one (e i) (is i))
-
 pub each_stops : {A E : Type 0} (f : ℕ → Result A E) (n : ℕ) (xs : List A) (e : E) → each_below n f ≡ Some xs →
     f n ≡ Err e → each_below (n + 1) f ≡ None
 each_stops f n xs e h is =
@@ -88,12 +82,6 @@ pub untrue_here : (p : ℕ → Bool) (n : ℕ) → first_untrue n p ≡ None →
 untrue_here p n h is =
     let next : suc n ≡ n + 1 = omega arith in
     subst (λ (m : ℕ). first_untrue m p ≡ Some n) next
-    (λ i. or_else (h i) (let o : Option ℕ = if is i then None else Some n in o))
-
-pub true_here : (p : ℕ → Bool) (n : ℕ) → first_untrue n p ≡ None → p n ≡ true → first_untrue (n + 1) p ≡ None
-true_here p n h is =
-    let next : suc n ≡ n + 1 = omega arith in
-    subst (λ (m : ℕ). first_untrue m p ≡ None) next
     (λ i. or_else (h i) (let o : Option ℕ = if is i then None else Some n in o))
 
 pub first_above : (p : ℕ → Bool) (n m i : ℕ) → first_untrue n p ≡ Some i → n ≤ m → first_untrue m p ≡ Some i

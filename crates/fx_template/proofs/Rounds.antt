@@ -125,13 +125,3 @@ rounds_written (suc n) t b m h = by (λ c w. rounds_written n t c m w) (bounds_a
         bounds_after t b ≡ o → AreWrittenBoth t (and_on (plain_rounds n t) o b)
     by go None e = h
     by go (Some c) e = go c (round_written t b c m e)
-
-pub rounds_short : (n : ℕ) (t : Transition) (b : Bounds) → IsModestTransition t → AreShortBoth b →
-    AreShortBoth (plain_rounds n t b)
-rounds_short zero t b m h = h
-rounds_short (suc n) t b m h = by (λ c w. rounds_short n t c m w) (bounds_after t b) refl
-  where
-    by : ((c : Bounds) → AreShortBoth c → AreShortBoth (plain_rounds n t c)) → (o : Option Bounds) →
-        bounds_after t b ≡ o → AreShortBoth (and_on (plain_rounds n t) o b)
-    by go None e = h
-    by go (Some c) e = go c (round_short t b c m e)

@@ -1,16 +1,14 @@
 -- Forms of dyadics with few places, as each is that a text can spell: their products are near.
-use Rattle.std.proofs.Common.{◌≡◌, ℕ, zero, suc, ◌+◌, ◌≤◌, ◌<◌, ◌^◌, List, [], ◌∷◌, length, ◌⊎◌, inl, inr, refl, arith}
+use Rattle.std.proofs.Common.{◌≡◌, ℕ, zero, suc, ◌≤◌, ◌<◌, ◌^◌, List, [], ◌∷◌, length, ◌⊎◌, inl, inr, refl, arith}
 use Rattle.fx_model.specs.Tree.{at}
 use Rattle.fx_rational.specs.Dyadic.{Dyadic, zero_dyadic}
 use Rattle.fx_rational.specs.Interval.{Interval}
 use Rattle.fx_inequalities.specs.Formula.{Num, span}
-use Rattle.fx_inequalities.specs.Certificate.{zero_interval}
 use Rattle.fx_formulas.specs.Places.{IsShort, IsShortSpan}
 use Rattle.fx_formulas.proofs.Shorts.{short_within, short_sum, short_product, short_span_sum, short_span_difference, short_span_product, short_point, shorter_span}
 use Rattle.fx_template.specs.AffineView.{LinearForm}
-use Rattle.fx_template.specs.Combining.{HasNearSpan, HasNearForm, scaled_form, product_form, bound_form}
+use Rattle.fx_template.specs.Combining.{HasNearForm, scaled_form, product_form}
 use Rattle.fx_template.specs.ShortForms.{IsShortLinear}
-use Rattle.fx_template.proofs.Indexes.{of_each}
 use Rattle.fx_template.proofs.Near.{near_places, near_span}
 
 -- half of the places that a dyadic can have
@@ -44,40 +42,13 @@ near_product n p q a b ranges centres h k pl ql ga gb ma mb =
           (short_span_product (short_span_difference ga (short_point ma)) (short_span_difference gb (short_point mb))));
     }
 
-pub near_bound : (n p : ℕ) (a : LinearForm) (ranges : List Interval) → IsShortLinear p a → p ≤ 2 ^ 19 →
-    ((j : ℕ) → IsShortSpan half (span (at zero_interval ranges j))) → HasNearSpan (bound_form a n ranges)
-near_bound n p a ranges h le k = near_span _ (summed n)
-  where
-    short : IsShortLinear half a
-    short = short_half h le
-
-    summed : (n : ℕ) → IsShortSpan (2 ^ 20) (bound_form a n ranges)
-    summed zero = shorter_span (2 ^ 20) (omega arith) short.rest
-    summed (suc n) = short_span_sum (summed n) (short_span_product (short_point (short.coefs n)) (k n))
-
 -- ---- ranges, one after the other
-pub no_ranges : (k : ℕ) → IsShortSpan half (span (at zero_interval [] k))
-no_ranges k = record { lo = record { few = omega arith }; hi = record { few = omega arith } }
-
-pub range_before : (i : Interval) (is : List Interval) → IsShortSpan half (span i) →
-    ((k : ℕ) → IsShortSpan half (span (at zero_interval is k))) → (k : ℕ) →
-    IsShortSpan half (span (at zero_interval (i ∷ is) k))
-range_before i is h rest zero = h
-range_before i is h rest (suc k) = rest k
-
 -- ---- the numbers of a form, one after the other
 pub record AreShortBefore (n j : ℕ) (ds : List Dyadic) : Type 0 where
   pub each : (k : ℕ) → k < j → (at zero_dyadic ds k).e ≤ n
 
 pub none_before : (n : ℕ) (ds : List Dyadic) → AreShortBefore n 0 ds
 none_before n ds = record { each = λ k below. absurd (omega (arith, below)) }
-
-pub one_more_before : (n m j : ℕ) (ds : List Dyadic) → AreShortBefore n j ds → n ≤ m → (at zero_dyadic ds j).e ≤ m →
-    AreShortBefore m (j + 1) ds
-one_more_before n m j ds h le last = record {
-  each = λ k below. of_each (λ i. (at zero_dyadic ds i).e ≤ m) j k (omega (arith, below)) (λ b. let e = h.each k b in
-      omega arith) last;
-}
 
 -- past the last stand zeros
 past_the_last : (ds : List Dyadic) (k : ℕ) → (k < length ds) ⊎ ((at zero_dyadic ds k).e ≡ 0)

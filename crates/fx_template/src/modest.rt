@@ -16,17 +16,17 @@ ghost use Rattle.fx_template.specs.Transitions.{IsModestTransition, transition_i
 
 use fx_cert::{Form, NodeLine, Share};
 use fx_expr::Items;
-use fx_num::{Dyadic, GREATEST_POINT, INPUT_LIMIT, Interval, LEAST_POINT, NODE_LIMIT, STATE_LIMIT};
+use fx_num::{
+    Dyadic, EXPONENT_LIMIT, GREATEST_POINT, INPUT_LIMIT, Interval, LEAST_POINT, NODE_LIMIT,
+    STATE_LIMIT,
+};
 use fx_template_reach::Transition;
-
-/// How many binary places a number has at most.
-const PLACES: u32 = 96;
 
 /// Whether it has so few places.
 fn is_short(d: Dyadic) -> bool
     ensures { IsTrue result ↔ IsShort 96 (Num d) }
 {
-    d.e <= PLACES
+    d.e <= EXPONENT_LIMIT
 }
 
 /// Whether both ends have.

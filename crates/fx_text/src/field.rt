@@ -3,7 +3,7 @@
 //! Each reader says by one clause that it reads what its definition reads, value and rest or fault, and by a second the
 //! range of what it gives. So a reader above is a chain of `?` over a `do` of definitions, and casts nothing.
 
-ghost use Rattle.std.specs.Prelude.{◌≡◌, ◌<◌, ◌≤◌, All, IfOk};
+ghost use Rattle.std.specs.Prelude.{◌<◌, ◌≤◌, All, IfOk};
 ghost use Rattle.fx_rational.specs.Dyadic.{IsWritten};
 ghost use Rattle.fx_text.specs.Reading.{IsWithin, Reads, ReadsRest, keyword_at, number_at, place_at, count_at, ended_at, dyadic_at, interval_at};
 ghost use Rattle.fx_text.specs.Lines.{GivesFields};
@@ -18,7 +18,7 @@ use std::alloc::Global;
 // What a dyadic's mantissa stays below, either side of zero.
 const MANTISSA_END: u128 = 1 << 62;
 
-const EXPONENT_LIMIT: u64 = 96;
+const EXPONENT_LIMIT: u64 = fx_num::EXPONENT_LIMIT as u64;
 
 /// A fixed word. BadLine where the field is missing or another.
 #[tactic(auto, unfolding(crate::specs::Reading::keyword_at))]

@@ -1,5 +1,5 @@
 //! The number that stands first in a text.
-ghost use Rattle.std.specs.Prelude.{◌≡◌, ◌<◌, ◌≤◌, IfSome, IsTrue, length, slice_index};
+ghost use Rattle.std.specs.Prelude.{◌≡◌, ◌<◌, ◌≤◌, IfSome, IsTrue, length};
 ghost use Rattle.fx_text.specs.Leading.{IsLeading, IsEnd, sign_end};
 
 use crate::cut_at;

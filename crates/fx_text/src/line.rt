@@ -4,7 +4,7 @@
 //! of a line's fields knows no number: its fault gets one by `map_err(|kind| TextFault::at(line, kind))`. The trap: a
 //! line without a line feed is refused before its fields are read, whatever they are.
 
-ghost use Rattle.std.specs.Prelude.{◌≡◌, []};
+ghost use Rattle.std.specs.Prelude.{[]};
 ghost use Rattle.fx_text.specs.Reading.{ReadsAll};
 ghost use Rattle.fx_text.specs.Lines.{fields_at, text_ended_at};
 
