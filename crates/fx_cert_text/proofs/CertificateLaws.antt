@@ -15,10 +15,11 @@ use Rattle.fx_text.specs.Spelling.{IsOneSpelling}
 use Rattle.fx_model.proofs.Steps.{on_ok}
 use Rattle.fx_text.proofs.DyadicLaws.{All-from_each, each-from_All}
 use Rattle.fx_text.proofs.LineLaws.{line_spelling}
+use Rattle.fx_text.proofs.TextLaws.{all_takes, all_again}
 use Rattle.fx_text.proofs.LinesLaws.{following, lines_spelling}
 use Rattle.fx_cert_text.specs.CountsView.{AreCertificateSizes, AreTemplateCounts}
 use Rattle.fx_cert_text.specs.LineReading.{CertificateSizes, TemplateCounts, certificate_headline_at, certificate_sizes_at, step_count_at, step_at, start_at, template_counts_at, node_at}
-use Rattle.fx_cert_text.specs.CertificateReading.{steps_at, all_templates_at, certificate_at}
+use Rattle.fx_cert_text.specs.CertificateReading.{steps_at, all_templates_at, certificate_at, certificate_lines, certificate_in}
 use Rattle.fx_cert_text.proofs.CertificateLines.{certificate_headline_fields, certificate_headline_law, certificate_sizes_fields, certificate_sizes_law, step_count_fields, step_count_law, step_law, start_law, template_counts_fields, template_counts_law}
 use Rattle.fx_cert_text.proofs.NodeLines.{IsNodeLine, node_law}
 use Rattle.fx_cert_text.proofs.TemplateLaws.{templates_take, templates_again}
@@ -290,3 +291,13 @@ again n c rest h =
 
 pub certificate_law : (n : ℕ) → IsOneSpelling (certificate_at n) certificate_text IsLawfulCertificate
 certificate_law n = record { takes = takes n; again = again n }
+
+-- ---- whole texts
+pub text_takes : (text : List ℕ) (c : Certificate) → certificate_in text ≡ Ok c →
+    (text ≡ certificate_text c) × IsLawfulCertificate c
+unfolding certificate_in
+text_takes text c e = all_takes (λ (c : Certificate). 1 + certificate_lines c) (certificate_law 1) text c e
+
+pub text_again : (c : Certificate) → IsLawfulCertificate c → certificate_in (certificate_text c) ≡ Ok c
+unfolding certificate_in
+text_again c h = all_again (λ (c : Certificate). 1 + certificate_lines c) (certificate_law 1) c h

@@ -4,7 +4,7 @@ use Rattle.fx_inequalities.specs.Rewriting.{Rewriting}
 use Rattle.fx_inequalities.specs.Certificate.{Certificate, Template}
 use Rattle.fx_text.specs.declared.fault.TextFault.{TextFault}
 use Rattle.fx_model.specs.Steps.{◌>>=◌}
-use Rattle.fx_text.specs.Lines.{line_by}
+use Rattle.fx_text.specs.Lines.{line_by, text_ended_at}
 use Rattle.fx_text.specs.Many.{lines_by, with_front}
 use Rattle.fx_cert_text.specs.LineReading.{certificate_headline_at, certificate_sizes_at, step_count_at, step_at, start_at, template_counts_at, box_template_at, template_at, node_at}
 
@@ -59,3 +59,10 @@ certificate_at n text = do
 abbrev pub certificate_lines : Certificate → ℕ
 certificate_lines c =
     4 + length c.steps + length c.starts + length c.templates + length c.error_templates + length c.lines
+
+-- all of a text
+unfoldable pub certificate_in : List ℕ → Result Certificate TextFault
+certificate_in text = do
+  c ← certificate_at 1 text
+  _ ← text_ended_at (1 + certificate_lines c.0) c.1
+  Ok c.0

@@ -2,10 +2,11 @@
 //!
 //! # Contract
 //!
-//! `print_bundle` gives the one text of a lawful bundle (`text`). `certificate_at` and `read_bundle` give the value that
-//! the text spells or its first fault, with its kind and line, but for want of memory (`value`, by `certificate_at` and
-//! `bundle_in`), and what they give is lawful (`lawful`). By `certificate_law`, `bundle_law` and `bundle_text_law` what
-//! is read is spelled so, and what is lawful is read from its text.
+//! `print_certificate` and `print_bundle` give the one text of a lawful value (`text`). `read_certificate` and
+//! `read_bundle` give the value that the text spells or its first fault, with its kind and line, but for want of memory
+//! (`value`, by `certificate_in` and `bundle_in`), and what they give is lawful (`lawful`). By `certificate_law`,
+//! `certificate_text_law`, `bundle_law` and `bundle_text_law` what is read is spelled so, and what is lawful is read
+//! from its text.
 //!
 //! # Inside
 //!
@@ -27,6 +28,6 @@ mod share;
 
 pub use bundle::Bundle;
 pub use bundle_text::read_bundle;
-pub use law::{bundle_law, bundle_text_law, certificate_law};
-pub use print::print_bundle;
-pub use read::certificate_at;
+pub use law::{bundle_law, bundle_text_law, certificate_law, certificate_text_law};
+pub use print::{print_bundle, print_certificate};
+pub use read::{certificate_at, read_certificate};

@@ -130,6 +130,25 @@ fn put_certificate(out: &mut Vec<u8>, certificate: &Certificate) -> Result<(), A
     Ok(())
 }
 
+fn text_of(alloc: Global, certificate: &Certificate) -> Result<Vec<u8>, AllocError>
+    ensures { IfOk result (λ text. text.items ≡ certificate_text (as_printed (certificate_of certificate.now))) }
+{
+    let mut out = Vec::new(alloc);
+    put_certificate(&mut out, certificate)?;
+    Ok(out)
+}
+
+/// The one text of a lawful certificate. Of another, what is printed is no text of a certificate.
+pub fn print_certificate(alloc: Global, certificate: &Certificate) -> Result<Vec<u8>, Memory>
+    ensures text { IsLawfulCertificate (certificate_of certificate.now) →
+        IfOk result (λ text. text.items ≡ certificate_text (certificate_of certificate.now)) }
+{
+    match text_of(alloc, certificate) {
+        Ok(text) => Ok(text),
+        Err(_) => Err(Memory),
+    }
+}
+
 /// The first line, with the version of the program.
 fn put_headline(out: &mut Vec<u8>, version: u32) -> Result<(), AllocError>
     ensures { OnOk result (out.new.items ≡ out.old.items

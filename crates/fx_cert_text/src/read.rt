@@ -12,7 +12,7 @@ ghost use Rattle.fx_text.specs.Lines.{line_by, Gives};
 ghost use Rattle.fx_cert.specs.CertificateView.{templates_in, certificate_of};
 ghost use Rattle.fx_cert_text.specs.CountsView.{certificate_sizes_of, template_counts_of, AreCertificateSizes, AreTemplateCounts};
 ghost use Rattle.fx_cert_text.specs.LineReading.{certificate_headline_at, certificate_sizes_at, step_count_at, template_counts_at};
-ghost use Rattle.fx_cert_text.specs.CertificateReading.{templates_at, steps_at, all_templates_at, certificate_at, certificate_lines};
+ghost use Rattle.fx_cert_text.specs.CertificateReading.{templates_at, steps_at, all_templates_at, certificate_at, certificate_lines, certificate_in};
 
 use crate::lines::{BoxLines, NodeLines, StartLines, StepLines, TemplateLines};
 use crate::read_line::{
@@ -22,7 +22,7 @@ use crate::read_line::{
 use fx_cert::{Certificate, Template};
 use fx_expr::Items;
 use fx_step::Step;
-use fx_text::{TextFault, fields_at, read_lines, read_more_lines};
+use fx_text::{TextFault, fields_at, read_lines, read_more_lines, text_ended};
 use std::alloc::Global;
 
 /// The first line, and the text behind it.
@@ -211,4 +211,15 @@ pub fn certificate_lines(certificate: &Certificate) -> u32
     let error_templates = certificate.error_templates.len() as u32;
     let lines = certificate.lines.len() as u32;
     4 + steps + starts + templates + error_templates + lines
+}
+
+/// The certificate that the text spells, or the first fault.
+#[tactic(auto, unfolding(crate::specs::CertificateReading::certificate_in))]
+pub fn read_certificate(alloc: Global, bytes: &[u8]) -> Result<Certificate, TextFault>
+    ensures value { Gives certificate_of result (certificate_in bytes.now) }
+    ensures lawful { IfOk result (λ c. IsLawfulCertificate (certificate_of c)) }
+{
+    let (certificate, rest) = certificate_at(alloc, 1, bytes)?;
+    text_ended(1 + certificate_lines(&certificate), rest)?;
+    Ok(certificate)
 }
