@@ -8,7 +8,7 @@ use Rattle.std.proofs.lemmas.Simd.{zip2_splat_left}
 use Rattle.std.proofs.lemmas.List.{length-map}
 use Rattle.std.proofs.lemmas.List.Elements.{All-head, All-tail, All-replicate}
 use Rattle.fx_model.specs.Machine.{Floor, Nearest, IsWord, shifted, rounded}
-use Rattle.fx_lanes.specs.WordsSideBySide.{AreLanes, added, subtracted, copied}
+use Rattle.fx_lanes.specs.WordsSideBySide.{AreLanes, copied}
 use Rattle.fx_lanes.proofs.Numbers.{word_fits}
 use Rattle.fx_lanes.proofs.Sixteen.{sides_many}
 use mir.Val.{hbits}
@@ -37,36 +37,31 @@ pub each_many : (f : ℤ → ℤ) {xs vs : List ℤ} → xs ≡ vs → length xs
 each_many f {xs} e a = ap (λ zs. length (map f zs)) (sym e) ∙ length-map xs f ∙ a
 
 -- ---- operations that are made modulo 2^w
+-- of numbers that are taken modulo 2^w an operation gives the same
+abbrev pub IsWrapped : Width → (ℤ → ℤ → ℤ) → Type 0
+IsWrapped w f = (x y : ℤ) → int_wrap w (f (int_wrap w x) (int_wrap w y)) ≡ int_wrap w (f x y)
+
+pub wrapped_sum : (w : Width) → IsWrapped w ◌+ℤ◌
+wrapped_sum w x y = int_wrap-add_left w x (int_wrap w y) ∙ int_wrap-add_right w x y
+
+pub wrapped_difference : (w : Width) → IsWrapped w ◌-ℤ◌
+wrapped_difference w x y = int_wrap-sub_right w (int_wrap w x) y ∙ int_wrap-add_left w x (neg_ℤ y)
+
 module _ (n : ℕ) (w : Width) (most : n ≤ suc (hbits w)) where
   wrapped_word : (v : ℤ) → IsWord n v → int_wrap w v ≡ v
   wrapped_word v h = int_wrap_fits w v (word_fits w n v most h)
 
-  wrapped_sum : (x y : ℤ) → int_wrap w (int_wrap w x +ℤ int_wrap w y) ≡ int_wrap w (x +ℤ y)
-  wrapped_sum x y = int_wrap-add_left w x (int_wrap w y) ∙ int_wrap-add_right w x y
-
-  wrapped_difference : (x y : ℤ) → int_wrap w (int_wrap w x -ℤ int_wrap w y) ≡ int_wrap w (x -ℤ y)
-  wrapped_difference x y = int_wrap-sub_right w (int_wrap w x) y ∙ int_wrap-add_left w x (neg_ℤ y)
-
-  sums_of_shifted : (sa sb : ℤ) (xs ys : List ℤ) → All (IsWord n) (added sa sb xs ys)
-      → zip2 (λ x y. int_wrap w (x +ℤ y)) (map (λ x. int_wrap w (shifted x sa)) xs)
-      (map (λ y. int_wrap w (shifted y sb)) ys) ≡ added sa sb xs ys
-  sums_of_shifted sa sb [] ys h = refl
-  sums_of_shifted sa sb (x ∷ xs) [] h = refl
-  sums_of_shifted sa sb (x ∷ xs) (y ∷ ys) h =
-      ap₂ ◌∷◌ (wrapped_sum (shifted x sa) (shifted y sb)
-      ∙ wrapped_word _ (All-head (IsWord n) (shifted x sa +ℤ shifted y sb) (added sa sb xs ys) h))
-      (sums_of_shifted sa sb xs ys (All-tail (IsWord n) (shifted x sa +ℤ shifted y sb) (added sa sb xs ys) h))
-
-  differences_of_shifted : (sa sb : ℤ) (xs ys : List ℤ) → All (IsWord n) (subtracted sa sb xs ys)
-      → zip2 (λ x y. int_wrap w (x -ℤ y)) (map (λ x. int_wrap w (shifted x sa)) xs)
-      (map (λ y. int_wrap w (shifted y sb)) ys) ≡ subtracted sa sb xs ys
-  differences_of_shifted sa sb [] ys h = refl
-  differences_of_shifted sa sb (x ∷ xs) [] h = refl
-  differences_of_shifted sa sb (x ∷ xs) (y ∷ ys) h =
-      ap₂ ◌∷◌ (wrapped_difference (shifted x sa) (shifted y sb)
-      ∙ wrapped_word _ (All-head (IsWord n) (shifted x sa -ℤ shifted y sb) (subtracted sa sb xs ys) h))
-      (differences_of_shifted sa sb xs ys
-      (All-tail (IsWord n) (shifted x sa -ℤ shifted y sb) (subtracted sa sb xs ys) h))
+  both_shifted : (f : ℤ → ℤ → ℤ) → IsWrapped w f → (sa sb : ℤ) (xs ys : List ℤ)
+      → All (IsWord n) (zip2 (λ x y. f (shifted x sa) (shifted y sb)) xs ys)
+      → zip2 (λ x y. int_wrap w (f x y)) (map (λ x. int_wrap w (shifted x sa)) xs)
+      (map (λ y. int_wrap w (shifted y sb)) ys) ≡ zip2 (λ x y. f (shifted x sa) (shifted y sb)) xs ys
+  both_shifted f wraps sa sb [] ys h = refl
+  both_shifted f wraps sa sb (x ∷ xs) [] h = refl
+  both_shifted f wraps sa sb (x ∷ xs) (y ∷ ys) h =
+      let more = zip2 (λ x y. f (shifted x sa) (shifted y sb)) xs ys in
+      let word = f (shifted x sa) (shifted y sb) in
+      ap₂ ◌∷◌ (wraps (shifted x sa) (shifted y sb) ∙ wrapped_word word (All-head (IsWord n) word more h))
+      (both_shifted f wraps sa sb xs ys (All-tail (IsWord n) word more h))
 
   copies_of : (s : ℤ) (xs : List ℤ) → All (IsWord n) (copied Floor s xs) →
       map (λ x. int_wrap w (shifted x s)) xs ≡ copied Floor s xs
@@ -88,28 +83,30 @@ module _ (n : ℕ) (w : Width) (most : n ≤ suc (hbits w)) where
       u ≡ map (λ x. int_wrap w (shifted x (to_z w32 (of_z w32 s)))) xs → u ≡ map (λ x. int_wrap w (shifted x s)) vs
   shifted_are {s} f e eu = eu ∙ ap₂ (λ d zs. map (λ x. int_wrap w (shifted x d)) zs) (to_z-of_z w32 s f) e
 
-  -- the same of vectors that are shown to be these
-  pub added_is : {sa sb : ℤ} {xs vs ys us u v r : List ℤ} → FitsSigned w32 sa → FitsSigned w32 sb → xs ≡ vs → ys ≡ us →
-      AreLanes n xs → AreLanes n ys → u ≡ map (λ x. int_wrap w (shifted x (to_z w32 (of_z w32 sa)))) xs →
-      v ≡ map (λ y. int_wrap w (shifted y (to_z w32 (of_z w32 sb)))) ys → r ≡ zip2 (λ x y. int_wrap w (x +ℤ y)) u v
-      → All (IsWord n) (added sa sb vs us) → Gives n r (added sa sb vs us)
-  added_is {sa} {sb} {vs} {us} fa fb e k g h eu ev er all = gives n _ (added sa sb vs us)
-      (er ∙ ap₂ (zip2 (λ x y. int_wrap w (x +ℤ y))) (shifted_are fa e eu) (shifted_are fb k ev)
-      ∙ sums_of_shifted sa sb vs us all) (both_many (λ x y. shifted x sa +ℤ shifted y sb) e k g.many h.many) all
+-- ---- the same of vectors that are shown to be these
+module _ (n : ℕ) (w : Width) (most : n ≤ suc (hbits w)) (f : ℤ → ℤ → ℤ) (wraps : IsWrapped w f) (sa sb : ℤ)
+    {xs vs ys us u v r : List ℤ} (er : r ≡ zip2 (λ x y. int_wrap w (f x y)) u v)
+    (eu : u ≡ map (λ x. int_wrap w (shifted x (to_z w32 (of_z w32 sa)))) xs)
+    (ev : v ≡ map (λ y. int_wrap w (shifted y (to_z w32 (of_z w32 sb)))) ys) (e : xs ≡ vs) (k : ys ≡ us)
+    (fa : FitsSigned w32 sa) (fb : FitsSigned w32 sb) (g : AreLanes n xs) (h : AreLanes n ys)
+    (all : All (IsWord n) (zip2 (λ x y. f (shifted x sa) (shifted y sb)) vs us)) where
+  pub combined_is : r ≡ zip2 (λ x y. f (shifted x sa) (shifted y sb)) vs us
+  combined_is =
+      er ∙ ap₂ (zip2 (λ x y. int_wrap w (f x y))) (shifted_are n w most fa e eu) (shifted_are n w most fb k ev)
+      ∙ both_shifted n w most f wraps sa sb vs us all
 
-  pub subtracted_is : {sa sb : ℤ} {xs vs ys us u v r : List ℤ} → FitsSigned w32 sa → FitsSigned w32 sb → xs ≡ vs →
-      ys ≡ us → AreLanes n xs → AreLanes n ys → u ≡ map (λ x. int_wrap w (shifted x (to_z w32 (of_z w32 sa)))) xs →
-      v ≡ map (λ y. int_wrap w (shifted y (to_z w32 (of_z w32 sb)))) ys → r ≡ zip2 (λ x y. int_wrap w (x -ℤ y)) u v
-      → All (IsWord n) (subtracted sa sb vs us) → Gives n r (subtracted sa sb vs us)
-  subtracted_is {sa} {sb} {vs} {us} fa fb e k g h eu ev er all = gives n _ (subtracted sa sb vs us)
-      (er ∙ ap₂ (zip2 (λ x y. int_wrap w (x -ℤ y))) (shifted_are fa e eu) (shifted_are fb k ev)
-      ∙ differences_of_shifted sa sb vs us all) (both_many (λ x y. shifted x sa -ℤ shifted y sb) e k g.many h.many) all
+  pub combined_are : AreLanes n r
+  combined_are =
+      (gives n r _ combined_is (both_many (λ x y. f (shifted x sa) (shifted y sb)) e k g.many h.many) all).are
 
-  pub copied_is : {s : ℤ} {xs vs r : List ℤ} → FitsSigned w32 s → xs ≡ vs → AreLanes n xs →
-      r ≡ map (λ x. int_wrap w (shifted x (to_z w32 (of_z w32 s)))) xs
-      → All (IsWord n) (copied Floor s vs) → Gives n r (copied Floor s vs)
-  copied_is {s} {vs} f e g er all = gives n _ (copied Floor s vs) (shifted_are f e er ∙ copies_of s vs all)
-      (each_many (λ x. shifted x s) e g.many) all
+module _ (n : ℕ) (w : Width) (most : n ≤ suc (hbits w)) (s : ℤ) {xs vs r : List ℤ}
+    (er : r ≡ map (λ x. int_wrap w (shifted x (to_z w32 (of_z w32 s)))) xs) (e : xs ≡ vs) (f : FitsSigned w32 s)
+    (g : AreLanes n xs) (all : All (IsWord n) (copied Floor s vs)) where
+  pub copied_is : r ≡ copied Floor s vs
+  copied_is = shifted_are n w most f e er ∙ copies_of n w most s vs all
+
+  pub copied_are : AreLanes n r
+  copied_are = (gives n r (copied Floor s vs) copied_is (each_many (λ x. shifted x s) e g.many) all).are
 
 module _ (n : ℕ) (w : Width) (most : n ≤ suc (hbits w)) {z xs vs r : List ℤ}
     (er : r ≡ zip2 (λ x y. int_wrap w (x -ℤ y)) z xs) (ez : z ≡ replicate 16 (pos 0)) (e : xs ≡ vs) (g : AreLanes n xs)
