@@ -1,14 +1,17 @@
 -- What the machine's operations give of words side by side, where a vector of w bits holds words of n.
-use Rattle.std.proofs.Common.{◌≡◌, ℕ, List, [], ◌∷◌, length, map, All, refl, sym, ap, ap₂, subst, ◌∙◌, arith, pos, ℤ, ◌+ℤ◌, ◌-ℤ◌, neg_ℤ, FitsSigned}
+use Rattle.std.proofs.Common.{◌≡◌, ℕ, suc, ◌≤◌, List, [], ◌∷◌, length, map, All, refl, sym, ap, ap₂, subst, ◌∙◌, arith, pos, ℤ, ◌+ℤ◌, ◌-ℤ◌, neg_ℤ, FitsSigned, to_z, of_z}
 use Rattle.std.specs.Prelude.{replicate}
-use Rattle.std.specs.Int.{Width, int_wrap}
+use Rattle.std.specs.Int.{Width, w32, int_wrap}
 use Rattle.std.specs.Simd.Lanes.{zip2}
-use Rattle.std.proofs.lemmas.Int.{ints, int_wrap-add_left, int_wrap-add_right, int_wrap-sub_right, int_wrap_fits}
-use Rattle.std.proofs.lemmas.Simd.{zip2_splat_left, length-zip2}
+use Rattle.std.proofs.lemmas.Int.{ints, to_z-of_z, int_wrap-add_left, int_wrap-add_right, int_wrap-sub_right, int_wrap_fits}
+use Rattle.std.proofs.lemmas.Simd.{zip2_splat_left}
 use Rattle.std.proofs.lemmas.List.{length-map}
 use Rattle.std.proofs.lemmas.List.Elements.{All-head, All-tail, All-replicate}
 use Rattle.fx_model.specs.Machine.{Floor, Nearest, IsWord, shifted, rounded}
-use Rattle.fx_lanes.specs.WordsSideBySide.{AreLanes, added, subtracted, copied}
+use Rattle.fx_lanes.specs.WordsSideBySide.{AreLanes, copied}
+use Rattle.fx_lanes.proofs.Numbers.{word_fits}
+use Rattle.fx_lanes.proofs.Sixteen.{sides_many}
+use mir.Val.{hbits}
 
 -- a vector holds these words, sixteen of n bits
 pub record Gives (n : ℕ) (held ws : List ℤ) : Type 0 where
@@ -21,46 +24,44 @@ gives n held ws e many h = record { is = e; are = subst (AreLanes n) (sym e) (re
 pub same_word : (n : ℕ) (held : List ℤ) (v : ℤ) → held ≡ replicate 16 v → IsWord n v → Gives n held (replicate 16 v)
 same_word n held v e h = gives n held (replicate 16 v) e refl (All-replicate (IsWord n) 16 v h)
 
--- ---- that there are sixteen
-pub both_many : {Z : Type 0} (f : ℤ → ℤ → Z) (xs vs ys us : List ℤ) → xs ≡ vs → ys ≡ us → length xs ≡ 16 →
-    length ys ≡ 16 → length (zip2 f vs us) ≡ 16
-both_many f xs vs ys us e k a b =
-    ap₂ (λ zs ts. length (zip2 f zs ts)) (sym e) (sym k) ∙ length-zip2 f xs ys (a ∙ sym b) ∙ a
+-- the same words in another vector
+pub gives_again : {n : ℕ} {held ws again : List ℤ} → again ≡ held → Gives n held ws → Gives n again ws
+gives_again {n} e h = record { is = e ∙ h.is; are = subst (AreLanes n) (sym e) h.are }
 
-pub each_many : (f : ℤ → ℤ) (xs vs : List ℤ) → xs ≡ vs → length xs ≡ 16 → length (map f vs) ≡ 16
-each_many f xs vs e a = ap (λ zs. length (map f zs)) (sym e) ∙ length-map xs f ∙ a
+-- ---- that there are sixteen
+pub both_many : {Z : Type 0} (f : ℤ → ℤ → Z) {xs vs ys us : List ℤ} → xs ≡ vs → ys ≡ us → length xs ≡ 16 →
+    length ys ≡ 16 → length (zip2 f vs us) ≡ 16
+both_many f {xs} {vs} {ys} {us} e k a b = ap₂ (λ zs ts. length (zip2 f zs ts)) (sym e) (sym k) ∙ sides_many f xs ys a b
+
+pub each_many : (f : ℤ → ℤ) {xs vs : List ℤ} → xs ≡ vs → length xs ≡ 16 → length (map f vs) ≡ 16
+each_many f {xs} e a = ap (λ zs. length (map f zs)) (sym e) ∙ length-map xs f ∙ a
 
 -- ---- operations that are made modulo 2^w
-module _ (n : ℕ) (w : Width) (fit : (v : ℤ) → IsWord n v → FitsSigned w v) where
+-- of numbers that are taken modulo 2^w an operation gives the same
+abbrev pub IsWrapped : Width → (ℤ → ℤ → ℤ) → Type 0
+IsWrapped w f = (x y : ℤ) → int_wrap w (f (int_wrap w x) (int_wrap w y)) ≡ int_wrap w (f x y)
+
+pub wrapped_sum : (w : Width) → IsWrapped w ◌+ℤ◌
+wrapped_sum w x y = int_wrap-add_left w x (int_wrap w y) ∙ int_wrap-add_right w x y
+
+pub wrapped_difference : (w : Width) → IsWrapped w ◌-ℤ◌
+wrapped_difference w x y = int_wrap-sub_right w (int_wrap w x) y ∙ int_wrap-add_left w x (neg_ℤ y)
+
+module _ (n : ℕ) (w : Width) (most : n ≤ suc (hbits w)) where
   wrapped_word : (v : ℤ) → IsWord n v → int_wrap w v ≡ v
-  wrapped_word v h = int_wrap_fits w v (fit v h)
+  wrapped_word v h = int_wrap_fits w v (word_fits w n v most h)
 
-  wrapped_sum : (x y : ℤ) → int_wrap w (int_wrap w x +ℤ int_wrap w y) ≡ int_wrap w (x +ℤ y)
-  wrapped_sum x y = int_wrap-add_left w x (int_wrap w y) ∙ int_wrap-add_right w x y
-
-  wrapped_difference : (x y : ℤ) → int_wrap w (int_wrap w x -ℤ int_wrap w y) ≡ int_wrap w (x -ℤ y)
-  wrapped_difference x y = int_wrap-sub_right w (int_wrap w x) y ∙ int_wrap-add_left w x (neg_ℤ y)
-
-  sums_of_shifted : (sa sb : ℤ) (xs ys : List ℤ) → All (IsWord n) (added sa sb xs ys)
-      → zip2 (λ x y. int_wrap w (x +ℤ y)) (map (λ x. int_wrap w (shifted x sa)) xs)
-      (map (λ y. int_wrap w (shifted y sb)) ys) ≡ added sa sb xs ys
-  sums_of_shifted sa sb [] ys h = refl
-  sums_of_shifted sa sb (x ∷ xs) [] h = refl
-  sums_of_shifted sa sb (x ∷ xs) (y ∷ ys) h =
-      ap₂ ◌∷◌ (wrapped_sum (shifted x sa) (shifted y sb)
-      ∙ wrapped_word _ (All-head (IsWord n) (shifted x sa +ℤ shifted y sb) (added sa sb xs ys) h))
-      (sums_of_shifted sa sb xs ys (All-tail (IsWord n) (shifted x sa +ℤ shifted y sb) (added sa sb xs ys) h))
-
-  differences_of_shifted : (sa sb : ℤ) (xs ys : List ℤ) → All (IsWord n) (subtracted sa sb xs ys)
-      → zip2 (λ x y. int_wrap w (x -ℤ y)) (map (λ x. int_wrap w (shifted x sa)) xs)
-      (map (λ y. int_wrap w (shifted y sb)) ys) ≡ subtracted sa sb xs ys
-  differences_of_shifted sa sb [] ys h = refl
-  differences_of_shifted sa sb (x ∷ xs) [] h = refl
-  differences_of_shifted sa sb (x ∷ xs) (y ∷ ys) h =
-      ap₂ ◌∷◌ (wrapped_difference (shifted x sa) (shifted y sb)
-      ∙ wrapped_word _ (All-head (IsWord n) (shifted x sa -ℤ shifted y sb) (subtracted sa sb xs ys) h))
-      (differences_of_shifted sa sb xs ys
-      (All-tail (IsWord n) (shifted x sa -ℤ shifted y sb) (subtracted sa sb xs ys) h))
+  both_shifted : (f : ℤ → ℤ → ℤ) → IsWrapped w f → (sa sb : ℤ) (xs ys : List ℤ)
+      → All (IsWord n) (zip2 (λ x y. f (shifted x sa) (shifted y sb)) xs ys)
+      → zip2 (λ x y. int_wrap w (f x y)) (map (λ x. int_wrap w (shifted x sa)) xs)
+      (map (λ y. int_wrap w (shifted y sb)) ys) ≡ zip2 (λ x y. f (shifted x sa) (shifted y sb)) xs ys
+  both_shifted f wraps sa sb [] ys h = refl
+  both_shifted f wraps sa sb (x ∷ xs) [] h = refl
+  both_shifted f wraps sa sb (x ∷ xs) (y ∷ ys) h =
+      let more = zip2 (λ x y. f (shifted x sa) (shifted y sb)) xs ys in
+      let word = f (shifted x sa) (shifted y sb) in
+      ap₂ ◌∷◌ (wraps (shifted x sa) (shifted y sb) ∙ wrapped_word word (All-head (IsWord n) word more h))
+      (both_shifted f wraps sa sb xs ys (All-tail (IsWord n) word more h))
 
   copies_of : (s : ℤ) (xs : List ℤ) → All (IsWord n) (copied Floor s xs) →
       map (λ x. int_wrap w (shifted x s)) xs ≡ copied Floor s xs
@@ -77,45 +78,50 @@ module _ (n : ℕ) (w : Width) (fit : (v : ℤ) → IsWord n v → FitsSigned w 
       ∙ wrapped_word _ (All-head (IsWord n) (neg_ℤ y) (map neg_ℤ ys) h)) (opposites ys
       (All-tail (IsWord n) (neg_ℤ y) (map neg_ℤ ys) h))
 
-  -- the same of vectors that are shown to be these; s and t are sa and sb as they are passed
-  pub added_is : (sa sb s t : ℤ) → s ≡ sa → t ≡ sb → (xs vs ys us u v r : List ℤ) → xs ≡ vs → ys ≡ us → length xs ≡ 16 →
-      length ys ≡ 16
-      → u ≡ map (λ x. int_wrap w (shifted x s)) xs → v ≡ map (λ y. int_wrap w (shifted y t)) ys →
-      r ≡ zip2 (λ x y. int_wrap w (x +ℤ y)) u v
-      → All (IsWord n) (added sa sb vs us) → Gives n r (added sa sb vs us)
-  added_is sa sb s t es et xs vs ys us u v r e k a b eu ev er h = gives n r (added sa sb vs us)
-      (er ∙ ap₂ (zip2 (λ x y. int_wrap w (x +ℤ y))) (eu ∙ ap₂ (λ d zs. map (λ x. int_wrap w (shifted x d)) zs) es e) (ev
-      ∙ ap₂ (λ d zs. map (λ x. int_wrap w (shifted x d)) zs) et k) ∙ sums_of_shifted sa sb vs us h)
-      (both_many (λ x y. shifted x sa +ℤ shifted y sb) xs vs ys us e k a b) h
+  -- words that are shifted, by a shift as it is passed on
+  shifted_are : {s : ℤ} {xs vs u : List ℤ} → FitsSigned w32 s → xs ≡ vs →
+      u ≡ map (λ x. int_wrap w (shifted x (to_z w32 (of_z w32 s)))) xs → u ≡ map (λ x. int_wrap w (shifted x s)) vs
+  shifted_are {s} f e eu = eu ∙ ap₂ (λ d zs. map (λ x. int_wrap w (shifted x d)) zs) (to_z-of_z w32 s f) e
 
-  pub subtracted_is : (sa sb s t : ℤ) → s ≡ sa → t ≡ sb → (xs vs ys us u v r : List ℤ) → xs ≡ vs → ys ≡ us →
-      length xs ≡ 16 → length ys ≡ 16
-      → u ≡ map (λ x. int_wrap w (shifted x s)) xs → v ≡ map (λ y. int_wrap w (shifted y t)) ys →
-      r ≡ zip2 (λ x y. int_wrap w (x -ℤ y)) u v
-      → All (IsWord n) (subtracted sa sb vs us) → Gives n r (subtracted sa sb vs us)
-  subtracted_is sa sb s t es et xs vs ys us u v r e k a b eu ev er h = gives n r (subtracted sa sb vs us)
-      (er ∙ ap₂ (zip2 (λ x y. int_wrap w (x -ℤ y))) (eu ∙ ap₂ (λ d zs. map (λ x. int_wrap w (shifted x d)) zs) es e) (ev
-      ∙ ap₂ (λ d zs. map (λ x. int_wrap w (shifted x d)) zs) et k) ∙ differences_of_shifted sa sb vs us h)
-      (both_many (λ x y. shifted x sa -ℤ shifted y sb) xs vs ys us e k a b) h
+-- ---- the same of vectors that are shown to be these
+module _ (n : ℕ) (w : Width) (most : n ≤ suc (hbits w)) (f : ℤ → ℤ → ℤ) (wraps : IsWrapped w f) (sa sb : ℤ)
+    {xs vs ys us u v r : List ℤ} (er : r ≡ zip2 (λ x y. int_wrap w (f x y)) u v)
+    (eu : u ≡ map (λ x. int_wrap w (shifted x (to_z w32 (of_z w32 sa)))) xs)
+    (ev : v ≡ map (λ y. int_wrap w (shifted y (to_z w32 (of_z w32 sb)))) ys) (e : xs ≡ vs) (k : ys ≡ us)
+    (fa : FitsSigned w32 sa) (fb : FitsSigned w32 sb) (g : AreLanes n xs) (h : AreLanes n ys)
+    (all : All (IsWord n) (zip2 (λ x y. f (shifted x sa) (shifted y sb)) vs us)) where
+  pub combined_is : r ≡ zip2 (λ x y. f (shifted x sa) (shifted y sb)) vs us
+  combined_is =
+      er ∙ ap₂ (zip2 (λ x y. int_wrap w (f x y))) (shifted_are n w most fa e eu) (shifted_are n w most fb k ev)
+      ∙ both_shifted n w most f wraps sa sb vs us all
 
-  pub copied_is : (s t : ℤ) → t ≡ s → (xs vs r : List ℤ) → xs ≡ vs → length xs ≡ 16 →
-      r ≡ map (λ x. int_wrap w (shifted x t)) xs
-      → All (IsWord n) (copied Floor s vs) → Gives n r (copied Floor s vs)
-  copied_is s t et xs vs r e a er h = gives n r (copied Floor s vs)
-      (er ∙ ap₂ (λ d zs. map (λ x. int_wrap w (shifted x d)) zs) et e
-      ∙ copies_of s vs h) (each_many (λ x. shifted x s) xs vs e a) h
+  pub combined_are : AreLanes n r
+  combined_are =
+      (gives n r _ combined_is (both_many (λ x y. f (shifted x sa) (shifted y sb)) e k g.many h.many) all).are
 
-  pub negated_is : (xs vs z r : List ℤ) → xs ≡ vs → length xs ≡ 16 → z ≡ replicate 16 (pos 0) →
-      r ≡ zip2 (λ x y. int_wrap w (x -ℤ y)) z xs
-      → All (IsWord n) (map neg_ℤ vs) → Gives n r (map neg_ℤ vs)
-  negated_is xs vs z r e a ez er h = gives n r (map neg_ℤ vs)
-      (er ∙ ap (λ zs. zip2 (λ x y. int_wrap w (x -ℤ y)) zs xs) ez
-      ∙ zip2_splat_left (λ x y. int_wrap w (x -ℤ y)) (pos 0) 16 xs a ∙ ap (map (λ y. int_wrap w (pos 0 -ℤ y))) e
-      ∙ opposites vs h)
-      (each_many neg_ℤ xs vs e a) h
+module _ (n : ℕ) (w : Width) (most : n ≤ suc (hbits w)) (s : ℤ) {xs vs r : List ℤ}
+    (er : r ≡ map (λ x. int_wrap w (shifted x (to_z w32 (of_z w32 s)))) xs) (e : xs ≡ vs) (f : FitsSigned w32 s)
+    (g : AreLanes n xs) (all : All (IsWord n) (copied Floor s vs)) where
+  pub copied_is : r ≡ copied Floor s vs
+  copied_is = shifted_are n w most f e er ∙ copies_of n w most s vs all
+
+  pub copied_are : AreLanes n r
+  copied_are = (gives n r (copied Floor s vs) copied_is (each_many (λ x. shifted x s) e g.many) all).are
+
+module _ (n : ℕ) (w : Width) (most : n ≤ suc (hbits w)) {z xs vs r : List ℤ}
+    (er : r ≡ zip2 (λ x y. int_wrap w (x -ℤ y)) z xs) (ez : z ≡ replicate 16 (pos 0)) (e : xs ≡ vs) (g : AreLanes n xs)
+    (all : All (IsWord n) (map neg_ℤ vs)) where
+  pub negated_is : r ≡ map neg_ℤ vs
+  negated_is =
+      er ∙ ap (λ zs. zip2 (λ x y. int_wrap w (x -ℤ y)) zs xs) ez
+      ∙ zip2_splat_left (λ x y. int_wrap w (x -ℤ y)) (pos 0) 16 xs g.many
+      ∙ ap (map (λ y. int_wrap w (pos 0 -ℤ y))) e ∙ opposites n w most vs all
+
+  pub negated_are : AreLanes n r
+  negated_are = (gives n r (map neg_ℤ vs) negated_is (each_many neg_ℤ e g.many) all).are
 
 -- ---- to the nearest
-pub nearest_is : (n s : ℕ) (xs vs r : List ℤ) → xs ≡ vs → length xs ≡ 16 → r ≡ map (λ x. rounded Nearest x (pos s)) xs
+pub nearest_is : {n : ℕ} (s : ℕ) {xs vs r : List ℤ} → xs ≡ vs → AreLanes n xs → r ≡ map (λ x. rounded Nearest x (pos s)) xs
     → All (IsWord n) (copied Nearest (pos s) vs) → Gives n r (copied Nearest (pos s) vs)
-nearest_is n s xs vs r e a er h = gives n r (copied Nearest (pos s) vs)
-    (er ∙ ap (map (λ x. rounded Nearest x (pos s))) e) (each_many (λ x. rounded Nearest x (pos s)) xs vs e a) h
+nearest_is {n} s {vs} e g er all = gives n _ (copied Nearest (pos s) vs)
+    (er ∙ ap (map (λ x. rounded Nearest x (pos s))) e) (each_many (λ x. rounded Nearest x (pos s)) e g.many) all

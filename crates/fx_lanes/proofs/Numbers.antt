@@ -13,16 +13,18 @@ use Rattle.fx_model.specs.Machine.{IsWord}
 use Rattle.fx_model.proofs.Wide.{Held, held, is_word_from, left_wide, product_wide}
 use Rattle.fx_word.proofs.Fits.{fits_64}
 use Rattle.fx_lanes.specs.WordsSideBySide.{AreNumbers, CanDivide}
+use mir.Val.{hbits}
 
--- ---- what fits 32 bits is a word of 32 bits, and fits 64
-pub fits_32 : (n : ℕ) (v : ℤ) → n ≤ 32 → IsWord n v → FitsSigned w32 v
-fits_32 n v le h =
-    by (2 ^ (n - 1)) v (pow-le-pow_right {n = 2} (lit≤ tt) {i = n - 1} {j = 31} (omega arith)) (held n v h)
+-- ---- a word fits a width that has as many bits
+pub word_fits : (w : Width) (n : ℕ) (v : ℤ) → n ≤ suc (hbits w) → IsWord n v → FitsSigned w v
+word_fits w n v le h =
+    by (2 ^ (n - 1)) v (pow-le-pow_right {n = 2} (lit≤ tt) {i = n - 1} {j = hbits w} (omega arith)) (held n v h)
   where
-    by : (m : ℕ) (v : ℤ) → m ≤ 2 ^ 31 → Held m v → FitsSigned w32 v
+    by : (m : ℕ) (v : ℤ) → m ≤ 2 ^ hbits w → Held m v → FitsSigned w v
     by m (pos a) p h = let l = h.high in record { sfits = omega (arith, ints) }
     by m (negsuc a) p h = let l = h.low in record { sfits = omega (arith, ints) }
 
+-- ---- what fits 32 bits is a word of 32 bits, and fits 64
 word_32 : (v : ℤ) → FitsSigned w32 v → IsWord 32 v
 word_32 (pos a) f =
     let p = f.sfits in is_word_from 32 (pos a) (record { low = omega (arith, ints); high = omega (arith, ints) })

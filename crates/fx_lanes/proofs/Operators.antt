@@ -57,19 +57,19 @@ differences_are w (x ∷ xs) (y ∷ ys) f g =
     ap₂ ◌∷◌ (wrapping_sub_is w x y (All-head (FitsSigned w) x xs f) (All-head (FitsSigned w) y ys g))
     (differences_are w xs ys (All-tail (FitsSigned w) x xs f) (All-tail (FitsSigned w) y ys g))
 
-pub sums : (w : Width) (xs vs ys us : List ℤ) → xs ≡ vs → ys ≡ us → AreNumbers w xs → AreNumbers w ys
-    → Shows w (map (to_z w) (zip2 (λ m n. (m + n) % 2 ^ bits w) (map (of_z w) xs) (map (of_z w) ys)))
-    (zip2 (λ x y. int_wrap w (x +ℤ y)) vs us)
-sums w xs vs ys us e k g h =
-    both_renamed w _ (zip2 (λ x y. int_wrap w (x +ℤ y))) xs vs ys us e k
-    (shows w _ _ (sums_are w xs ys g.fits h.fits) (sixteen_both w ◌+ℤ◌ xs ys g.many h.many))
+module _ {w : Width} {xs vs ys us : List ℤ} (e : xs ≡ vs) (k : ys ≡ us) (g : AreNumbers w xs) (h : AreNumbers w ys) where
+  pub sums : Shows w (map (to_z w) (zip2 (λ m n. (m + n) % 2 ^ bits w) (map (of_z w) xs) (map (of_z w) ys)))
+      (zip2 (λ x y. int_wrap w (x +ℤ y)) vs us)
+  sums =
+      both_renamed w _ (zip2 (λ x y. int_wrap w (x +ℤ y))) xs vs ys us e k
+      (shows w _ _ (sums_are w xs ys g.fits h.fits) (sixteen_both w ◌+ℤ◌ xs ys g.many h.many))
 
-pub differences : (w : Width) (xs vs ys us : List ℤ) → xs ≡ vs → ys ≡ us → AreNumbers w xs → AreNumbers w ys
-    → Shows w (map (to_z w) (zip2 (λ m n. (m + (2 ^ bits w - n)) % 2 ^ bits w) (map (of_z w) xs) (map (of_z w) ys)))
-    (zip2 (λ x y. int_wrap w (x -ℤ y)) vs us)
-differences w xs vs ys us e k g h =
-    both_renamed w _ (zip2 (λ x y. int_wrap w (x -ℤ y))) xs vs ys us e k
-    (shows w _ _ (differences_are w xs ys g.fits h.fits) (sixteen_both w ◌-ℤ◌ xs ys g.many h.many))
+  pub differences :
+      Shows w (map (to_z w) (zip2 (λ m n. (m + (2 ^ bits w - n)) % 2 ^ bits w) (map (of_z w) xs) (map (of_z w) ys)))
+      (zip2 (λ x y. int_wrap w (x -ℤ y)) vs us)
+  differences =
+      both_renamed w _ (zip2 (λ x y. int_wrap w (x -ℤ y))) xs vs ys us e k
+      (shows w _ _ (differences_are w xs ys g.fits h.fits) (sixteen_both w ◌-ℤ◌ xs ys g.many h.many))
 
 -- ---- shifts by as much in each lane
 shr_floor : (x : ℤ) (d : ℕ) → shr_z x d ≡ floor_div x d
@@ -96,18 +96,25 @@ raised_are w s le (x ∷ xs) f =
 bits_many : (w : Width) (xs : List ℤ) → length xs ≡ 16 → length (map (of_z w) xs) ≡ 16
 bits_many w xs many = length-map xs (of_z w) ∙ many
 
-pub lowered : (w : Width) (s : ℕ) (xs vs : List ℤ) → xs ≡ vs → AreNumbers w xs
-    → Shows w (map (to_z w) (zip2 (λ m k. of_z w (shr_z (to_z w m) (2 ^ k))) (map (of_z w) xs) (replicate 16 s)))
-    (map (λ x. floor_div x (2 ^ s)) vs)
-lowered w s xs vs e g = renamed w _ (map (λ x. floor_div x (2 ^ s))) xs vs e
+-- the numbers shifted to the right, and that those before fit
+pub record Lowered (w : Width) (s : ℕ) (shown vs : List ℤ) : Type 0 where
+  pub is : shown ≡ map (λ x. floor_div x (2 ^ s)) vs
+  pub are : AreNumbers w shown
+  pub fits : All (FitsSigned w) vs
+
+pub lowered : (w : Width) (s : ℕ) {xs vs : List ℤ} → xs ≡ vs → AreNumbers w xs
+    → Lowered w s (map (to_z w) (zip2 (λ m k. of_z w (shr_z (to_z w m) (2 ^ k))) (map (of_z w) xs) (replicate 16 s))) vs
+lowered w s {xs} {vs} e g =
+    let r = renamed w _ (map (λ x. floor_div x (2 ^ s))) xs vs e
     (shows w _ _ (ap (map (to_z w))
     (zip2_splat (λ m k. of_z w (shr_z (to_z w m) (2 ^ k))) (map (of_z w) xs) 16 s (bits_many w xs g.many))
-    ∙ lowered_are w s xs g.fits) (sixteen_lowered w (2 ^ s) xs g))
+    ∙ lowered_are w s xs g.fits) (sixteen_lowered w (2 ^ s) xs g)) in
+    record { is = r.is; are = r.are; fits = subst (All (FitsSigned w)) e g.fits }
 
-pub raised : (w : Width) (s : ℕ) → s < hbits w → (xs vs : List ℤ) → xs ≡ vs → AreNumbers w xs
+pub raised : (w : Width) (s : ℕ) → s < hbits w → {xs vs : List ℤ} → xs ≡ vs → AreNumbers w xs
     → Shows w (map (to_z w) (zip2 (λ m k. (m * 2 ^ k) % 2 ^ bits w) (map (of_z w) xs) (replicate 16 s)))
     (map (λ x. int_wrap w (x *ℤ pos (2 ^ s))) vs)
-raised w s le xs vs e g = renamed w _ (map (λ x. int_wrap w (x *ℤ pos (2 ^ s)))) xs vs e
+raised w s le {xs} {vs} e g = renamed w _ (map (λ x. int_wrap w (x *ℤ pos (2 ^ s)))) xs vs e
     (shows w _ _ (ap (map (to_z w))
     (zip2_splat (λ m k. (m * 2 ^ k) % 2 ^ bits w) (map (of_z w) xs) 16 s (bits_many w xs g.many))
     ∙ raised_are w s le xs g.fits) (sixteen_wrapped w (λ x. x *ℤ pos (2 ^ s)) xs g.many))
@@ -124,11 +131,11 @@ widely_raised_are s le (x ∷ xs) f =
     ∙ left_in_64 x s (omega arith) (fits_wide x fx) (raised_fits x s le fx))
     (widely_raised_are s le xs (All-tail (FitsSigned w32) x xs f))
 
-pub widely_raised : (s : ℕ) → s ≤ 32 → (xs vs : List ℤ) → xs ≡ vs → AreNumbers w32 xs
+pub widely_raised : (s : ℕ) → s ≤ 32 → {xs vs : List ℤ} → xs ≡ vs → AreNumbers w32 xs
     → Shows w64 (map (to_z w64)
     (zip2 (λ m k. (m * 2 ^ k) % 2 ^ 64) (map (λ m. of_z w64 (to_z w32 m)) (map (of_z w32) xs)) (replicate 16 s)))
     (map (λ x. x *ℤ pos (2 ^ s)) vs)
-widely_raised s le xs vs e g =
+widely_raised s le {xs} {vs} e g =
     let many : length (map (λ m. of_z w64 (to_z w32 m)) (map (of_z w32) xs)) ≡ 16 =
     length-map (map (of_z w32) xs) (λ m. of_z w64 (to_z w32 m)) ∙ bits_many w32 xs g.many in
     renamed w64 _ (map (λ x. x *ℤ pos (2 ^ s))) xs vs e
@@ -147,18 +154,18 @@ products_are (x ∷ xs) (y ∷ ys) f g =
     ∙ wrapping_mul_is w64 x y (fits_wide x fx) (fits_wide y gy) ∙ int_wrap_fits w64 (x *ℤ y) (product_fits x y fx gy))
     (products_are xs ys (All-tail (FitsSigned w32) x xs f) (All-tail (FitsSigned w32) y ys g))
 
-pub products : (xs vs ys us : List ℤ) → xs ≡ vs → ys ≡ us → AreNumbers w32 xs → AreNumbers w32 ys
+pub products : {xs vs ys us : List ℤ} → xs ≡ vs → ys ≡ us → AreNumbers w32 xs → AreNumbers w32 ys
     → Shows w64 (map (to_z w64)
     (zip2 (λ m n. (m * n) % 2 ^ 64) (map (λ m. of_z w64 (to_z w32 m)) (map (of_z w32) xs))
     (map (λ m. of_z w64 (to_z w32 m)) (map (of_z w32) ys)))) (zip2 ◌*ℤ◌ vs us)
-products xs vs ys us e k g h =
+products {xs} {vs} {ys} {us} e k g h =
     both_renamed w64 _ (zip2 ◌*ℤ◌) xs vs ys us e k
     (shows w64 _ _ (products_are xs ys g.fits h.fits) (sixteen_products xs ys g h))
 
 -- ---- from 64 bits to 32
-pub narrow_fits : (xs vs : List ℤ) → xs ≡ vs → All (FitsSigned w32) vs →
+pub narrow_fits : {xs vs : List ℤ} → xs ≡ vs → All (FitsSigned w32) vs →
     Each1 (λ m. FitsSigned w32 (to_z w64 m)) (map (of_z w64) xs)
-narrow_fits xs vs e f = by xs (subst (All (FitsSigned w32)) (sym e) f)
+narrow_fits {xs} {vs} e f = by xs (subst (All (FitsSigned w32)) (sym e) f)
   where
     by : (xs : List ℤ) → All (FitsSigned w32) xs → Each1 (λ m. FitsSigned w32 (to_z w64 m)) (map (of_z w64) xs)
     by [] f = tt
@@ -174,9 +181,9 @@ narrowed_are (x ∷ xs) f =
     ap₂ ◌∷◌ (ap (λ v. to_z w32 (of_z w32 v)) (to_z-of_z w64 x (fits_wide x fx)) ∙ to_z-of_z w32 x fx)
     (narrowed_are xs (All-tail (FitsSigned w32) x xs f))
 
-pub narrowed : (xs vs : List ℤ) → xs ≡ vs → length xs ≡ 16 → All (FitsSigned w32) vs →
+pub narrowed : {xs vs : List ℤ} → xs ≡ vs → length xs ≡ 16 → All (FitsSigned w32) vs →
     Shows w32 (map (to_z w32) (map (λ m. of_z w32 (to_z w64 m)) (map (of_z w64) xs))) vs
-narrowed xs vs e many f =
+narrowed {xs} {vs} e many f =
     let fx = subst (All (FitsSigned w32)) (sym e) f in
     renamed w32 _ (λ zs. zs) xs vs e (shows w32 _ _ (narrowed_are xs fx) (record { many = many; fits = fx }))
 
@@ -215,16 +222,16 @@ quotients_are (x ∷ xs) (y ∷ ys) f g h =
 divides_these : (xs vs ys us : List ℤ) → xs ≡ vs → ys ≡ us → CanDivide vs us → CanDivide xs ys
 divides_these xs vs ys us e k h = subst (CanDivide xs) (sym k) (subst (λ zs. CanDivide zs us) (sym e) h)
 
-pub quotients_fit : (xs vs ys us : List ℤ) → xs ≡ vs → ys ≡ us → AreNumbers w64 xs → AreNumbers w32 ys → CanDivide vs us
-    → Each2 (λ m n. (0 < n) × FitsSigned w64 (int_div (to_z w64 m) (to_z w64 n))) (map (of_z w64) xs)
-    (map (λ m. of_z w64 (to_z w32 m)) (map (of_z w32) ys))
-quotients_fit xs vs ys us e k g h c = quotients_fit_lanes xs ys g.fits h.fits (divides_these xs vs ys us e k c)
+module _ {xs vs ys us : List ℤ} (e : xs ≡ vs) (k : ys ≡ us) (g : AreNumbers w64 xs) (h : AreNumbers w32 ys)
+    (c : CanDivide vs us) where
+  pub quotients_fit : Each2 (λ m n. (0 < n) × FitsSigned w64 (int_div (to_z w64 m) (to_z w64 n))) (map (of_z w64) xs)
+      (map (λ m. of_z w64 (to_z w32 m)) (map (of_z w32) ys))
+  quotients_fit = quotients_fit_lanes xs ys g.fits h.fits (divides_these xs vs ys us e k c)
 
-pub quotients : (xs vs ys us : List ℤ) → xs ≡ vs → ys ≡ us → AreNumbers w64 xs → AreNumbers w32 ys → CanDivide vs us
-    → Shows w64 (map (to_z w64)
-    (zip2 (λ m n. of_z w64 (int_div (to_z w64 m) (to_z w64 n))) (map (of_z w64) xs)
-    (map (λ m. of_z w64 (to_z w32 m)) (map (of_z w32) ys)))) (zip2 int_div vs us)
-quotients xs vs ys us e k g h c =
-    let d = divides_these xs vs ys us e k c in
-    both_renamed w64 _ (zip2 int_div) xs vs ys us e k
-    (shows w64 _ _ (quotients_are xs ys g.fits h.fits d) (sixteen_quotients xs ys g h d))
+  pub quotients : Shows w64 (map (to_z w64)
+      (zip2 (λ m n. of_z w64 (int_div (to_z w64 m) (to_z w64 n))) (map (of_z w64) xs)
+      (map (λ m. of_z w64 (to_z w32 m)) (map (of_z w32) ys)))) (zip2 int_div vs us)
+  quotients =
+      let d = divides_these xs vs ys us e k c in
+      both_renamed w64 _ (zip2 int_div) xs vs ys us e k
+      (shows w64 _ _ (quotients_are xs ys g.fits h.fits d) (sixteen_quotients xs ys g h d))

@@ -2,17 +2,18 @@
 use Rattle.std.proofs.Common.{◌≡◌, ◌≢◌, ℕ, zero, suc, ◌-◌, ◌*◌, ◌^◌, ◌≤◌, List, [], ◌∷◌, length, map, All, refl, sym, ap, ap₂, subst, ◌∙◌, arith, pos, negsuc, ℤ, ◌+ℤ◌, ◌*ℤ◌, int_div, FitsSigned, Some}
 use Rattle.std.specs.Int.{w32, w64}
 use Rattle.std.specs.Simd.Lanes.{zip2}
+use Rattle.std.proofs.lemmas.List.{length-map}
 use Rattle.std.proofs.lemmas.List.Elements.{All-head, All-tail, All-weaker, All-nil, All-cons}
 use Rattle.fx_model.specs.Machine.{Round, IsWord, half, rounded, floor_divided}
 use Rattle.fx_model.proofs.Wide.{product_half_wide}
 use Rattle.fx_word.specs.Words.{IsSomeWord}
 use Rattle.fx_word.proofs.Fits.{fits_64}
 use Rattle.fx_lanes.specs.WordsSideBySide.{IsNarrow, AreLanes, CanDivide, multiplied, divided}
-use Rattle.fx_lanes.proofs.Numbers.{fits_32}
-use Rattle.fx_lanes.proofs.Lanewise.{Gives, gives, both_many, each_many}
+use Rattle.fx_lanes.proofs.Numbers.{word_fits}
+use Rattle.fx_lanes.proofs.Lanewise.{Gives, gives, gives_again, both_many}
 
-pub words_fit : (n : ℕ) → n ≤ 32 → (xs : List ℤ) → All (IsWord n) xs → All (FitsSigned w32) xs
-words_fit n le xs h = All-weaker (IsWord n) (FitsSigned w32) (λ v. fits_32 n v le) xs h
+words_fit : {n : ℕ} {held ws : List ℤ} → n ≤ 32 → Gives n held ws → All (FitsSigned w32) held
+words_fit {n} {held} le h = All-weaker (IsWord n) (FitsSigned w32) (λ v. word_fits w32 n v le) held h.are.words
 
 -- ---- products
 each_rounded : (r : Round) (s : ℕ) (xs ys : List ℤ) →
@@ -21,25 +22,25 @@ each_rounded r s [] ys = refl
 each_rounded r s (x ∷ xs) [] = refl
 each_rounded r s (x ∷ xs) (y ∷ ys) = ap (λ zs. rounded r (x *ℤ y) (pos s) ∷ zs) (each_rounded r s xs ys)
 
-pub rounded_products : (r : Round) (s : ℕ) (xs vs ys us p q : List ℤ) → xs ≡ vs → ys ≡ us → p ≡ zip2 ◌*ℤ◌ xs ys →
-    q ≡ map (λ x. rounded r x (pos s)) p → q ≡ multiplied r s vs us
-rounded_products r s xs vs ys us p q e k ep eq =
-    eq ∙ ap (map (λ x. rounded r x (pos s))) (ep ∙ ap₂ (zip2 ◌*ℤ◌) e k) ∙ each_rounded r s vs us
+-- the products p of two vectors, and q, which are these rounded
+module _ {n : ℕ} (r : Round) (s : ℕ) {xs vs ys us p q : List ℤ} (e : xs ≡ vs) (k : ys ≡ us) (g : AreLanes n xs)
+    (h : AreLanes n ys) (ep : p ≡ zip2 ◌*ℤ◌ xs ys) (eq : q ≡ map (λ x. rounded r x (pos s)) p)
+    (all : All (IsWord n) (multiplied r s vs us)) where
+  products_are : Gives n q (multiplied r s vs us)
+  products_are = gives n q (multiplied r s vs us)
+      (eq ∙ ap (map (λ x. rounded r x (pos s))) (ep ∙ ap₂ (zip2 ◌*ℤ◌) e k) ∙ each_rounded r s vs us)
+      (both_many (λ x y. rounded r (x *ℤ y) (pos s)) e k g.many h.many) all
 
-pub products_fit : (n : ℕ) → n ≤ 32 → (r : Round) (s : ℕ) (vs us q : List ℤ) → q ≡ multiplied r s vs us →
-    All (IsWord n) (multiplied r s vs us) → All (FitsSigned w32) q
-products_fit n le r s vs us q e h = subst (All (FitsSigned w32)) (sym e) (words_fit n le (multiplied r s vs us) h)
+  pub products_fit : n ≤ 32 → All (FitsSigned w32) q
+  products_fit le = words_fit le products_are
 
-pub multiplied_is : (n : ℕ) (r : Round) (s : ℕ) (xs vs ys us q z : List ℤ) → xs ≡ vs → ys ≡ us → length xs ≡ 16 →
-    length ys ≡ 16 → q ≡ multiplied r s vs us → z ≡ q
-    → All (IsWord n) (multiplied r s vs us) → Gives n z (multiplied r s vs us)
-multiplied_is n r s xs vs ys us q z e k a b eq ez h =
-    gives n z (multiplied r s vs us) (ez ∙ eq) (both_many (λ x y. rounded r (x *ℤ y) (pos s)) xs vs ys us e k a b) h
+  pub products_narrowed : {z : List ℤ} → z ≡ q → Gives n z (multiplied r s vs us)
+  products_narrowed ez = gives_again ez products_are
 
 -- room for a half
-pub room : (n s : ℕ) → IsNarrow n → s ≤ 2 * n - 2 → (xs ys p : List ℤ) → p ≡ zip2 ◌*ℤ◌ xs ys → AreLanes n xs →
+pub room : {n : ℕ} (s : ℕ) → IsNarrow n → s ≤ 2 * n - 2 → {xs ys p : List ℤ} → p ≡ zip2 ◌*ℤ◌ xs ys → AreLanes n xs →
     AreLanes n ys → All (FitsSigned w64) (map (λ x. x +ℤ half (pos s)) p)
-room n s width le xs ys p e g h =
+room {n} s width le {xs} {ys} e g h =
     subst (λ zs. All (FitsSigned w64) (map (λ x. x +ℤ half (pos s)) zs)) (sym e) (by xs ys g.words h.words)
   where
     by : (xs ys : List ℤ) → All (IsWord n) xs → All (IsWord n) ys →
@@ -96,10 +97,10 @@ divided_is n s (x ∷ xs) [] h = refl
 divided_is n s (x ∷ xs) (y ∷ ys) h =
     ap₂ ◌∷◌ (sym (divides_first n s x y xs ys h).gives) (divided_is n s xs ys (others n s x y xs ys h))
 
--- the dividends p, that are shown to be the words vs times 2^s
-pub can_divide : (n s : ℕ) → n ≤ 32 → (xs vs ys us p : List ℤ) → xs ≡ vs → ys ≡ us →
+-- the dividends p, that are the words of a vector times 2^s
+pub can_divide : (n s : ℕ) → n ≤ 32 → {xs vs ys us p : List ℤ} → xs ≡ vs → ys ≡ us →
     p ≡ map (λ x. x *ℤ pos (2 ^ s)) xs → All (IsSomeWord n) (divided s vs us) → CanDivide p ys
-can_divide n s le xs vs ys us p e k ep h =
+can_divide n s le {xs} {vs} {ys} {us} {p} e k ep h =
     subst (CanDivide p) (sym k)
     (subst (λ zs. CanDivide zs us) (sym (ep ∙ ap (map (λ x. x *ℤ pos (2 ^ s))) e))
     (can_divide_lanes n s le vs us h))
@@ -108,23 +109,20 @@ pub record Quotients (n s : ℕ) (vs us q : List ℤ) : Type 0 where
   pub some : map (λ x. Some x) q ≡ divided s vs us
   pub are : AreLanes n q
 
-pub quotients_are : (n s : ℕ) (xs vs ys us p q : List ℤ) → xs ≡ vs → ys ≡ us → length xs ≡ 16 → length ys ≡ 16 →
-    p ≡ map (λ x. x *ℤ pos (2 ^ s)) xs → q ≡ zip2 int_div p ys
-    → All (IsSomeWord n) (divided s vs us) → Quotients n s vs us q
-quotients_are n s xs vs ys us p q e k a b ep eq h =
-    let f = ep ∙ ap (map (λ x. x *ℤ pos (2 ^ s))) e in
-    let all : q ≡ zip2 int_div (map (λ x. x *ℤ pos (2 ^ s)) vs) us = eq ∙ ap₂ (zip2 int_div) f k in
-    let many : length p ≡ 16 = ap length ep ∙ each_many (λ x. x *ℤ pos (2 ^ s)) xs xs refl a in
-    record {
-      some = ap (map (λ x. Some x)) all ∙ divided_is n s vs us h;
-      are =
-          (gives n q _ all (both_many int_div p (map (λ x. x *ℤ pos (2 ^ s)) vs) ys us f k many b)
-          (quotients_are_words n s vs us h)).are;
-    }
+-- and q, which are the quotients
+module _ {n : ℕ} (s : ℕ) {xs vs ys us p q : List ℤ} (e : xs ≡ vs) (k : ys ≡ us) (g : AreLanes n xs) (h : AreLanes n ys)
+    (ep : p ≡ map (λ x. x *ℤ pos (2 ^ s)) xs) (eq : q ≡ zip2 int_div p ys) (all : All (IsSomeWord n) (divided s vs us))
+  where
+    quotients_are : Gives n q (zip2 int_div (map (λ x. x *ℤ pos (2 ^ s)) vs) us)
+    quotients_are =
+        let f = ep ∙ ap (map (λ x. x *ℤ pos (2 ^ s))) e in
+        let many : length p ≡ 16 = ap length ep ∙ length-map xs (λ x. x *ℤ pos (2 ^ s)) ∙ g.many in
+        gives n q _ (eq ∙ ap₂ (zip2 int_div) f k) (both_many int_div f k many h.many) (quotients_are_words n s vs us all)
 
-pub quotients_fit : (n : ℕ) → n ≤ 32 → (s : ℕ) (vs us q : List ℤ) → Quotients n s vs us q → All (FitsSigned w32) q
-quotients_fit n le s vs us q h = words_fit n le q h.are.words
+    pub quotients_fit : n ≤ 32 → All (FitsSigned w32) q
+    quotients_fit le = words_fit le quotients_are
 
-pub quotients_narrowed : (n s : ℕ) (vs us q r : List ℤ) → r ≡ q → Quotients n s vs us q → Quotients n s vs us r
-quotients_narrowed n s vs us q r e h =
-    record { some = ap (map (λ x. Some x)) e ∙ h.some; are = subst (AreLanes n) (sym e) h.are }
+    pub quotients_narrowed : {z : List ℤ} → z ≡ q → Quotients n s vs us z
+    quotients_narrowed ez =
+        let again = gives_again ez quotients_are in
+        record { some = ap (map (λ x. Some x)) again.is ∙ divided_is n s vs us all; are = again.are }

@@ -86,14 +86,21 @@ nearest_of w s some x f =
       to_z-of_z w (floor_div y 2) (floor_fits w y 2 fy),
     ) at e)
 
-pub nearest_is : (w : Width) (s : ℕ) → 1 ≤ s → (xs : List ℤ) → All (FitsSigned w) xs
+lowered_twice : (w : Width) (s : ℕ) → 1 ≤ s → (xs : List ℤ) → All (FitsSigned w) xs
     → zip2 (λ x y. int_wrap w (x -ℤ y)) (map (λ x. floor_div x (2 ^ (s - 1))) xs)
     (map (λ x. floor_div x (2 ^ 1)) (map (λ x. floor_div x (2 ^ (s - 1))) xs))
     ≡ map (λ x. rounded Nearest x (pos s)) xs
-nearest_is w s some [] f = refl
-nearest_is w s some (x ∷ xs) f =
+lowered_twice w s some [] f = refl
+lowered_twice w s some (x ∷ xs) f =
     ap₂ ◌∷◌ (nearest_of w s some x (All-head (FitsSigned w) x xs f))
-    (nearest_is w s some xs (All-tail (FitsSigned w) x xs f))
+    (lowered_twice w s some xs (All-tail (FitsSigned w) x xs f))
+
+pub nearest_is : (w : Width) (s : ℕ) → 1 ≤ s → (xs : List ℤ) → All (FitsSigned w) xs → {twice once r : List ℤ} →
+    twice ≡ map (λ x. floor_div x (2 ^ (s - 1))) xs → once ≡ map (λ x. floor_div x (2 ^ 1)) twice
+    → r ≡ zip2 (λ x y. int_wrap w (x -ℤ y)) twice once → r ≡ map (λ x. rounded Nearest x (pos s)) xs
+nearest_is w s some xs f et eo er =
+    er ∙ ap₂ (zip2 (λ x y. int_wrap w (x -ℤ y))) et (eo ∙ ap (map (λ x. floor_div x (2 ^ 1))) et)
+    ∙ lowered_twice w s some xs f
 
 -- with room for a half
 with_half : (s : ℕ) → 1 ≤ s → (x : ℤ) → FitsSigned w64 (x +ℤ half (pos s)) →

@@ -13,11 +13,20 @@ pub side_at : {Z : Type 0} (f : ℤ → ℤ → Z) (xs ys : List ℤ) (k : ℕ) 
     slice_index_or (zip2 f xs ys) k e ≡ f (at (pos 0) xs k) (at (pos 0) ys k)
 side_at f xs ys k e mx my lt = get_or-zip2 f xs ys k (pos 0) (pos 0) e (omega (arith, mx)) (omega (arith, my))
 
+pub sides_many : {Z : Type 0} (f : ℤ → ℤ → Z) (xs ys : List ℤ) → length xs ≡ 16 → length ys ≡ 16 →
+    length (zip2 f xs ys) ≡ 16
+sides_many f xs ys mx my = length-zip2 f xs ys (mx ∙ sym my) ∙ mx
+
 pub sides_all : {Z : Type 0} (P : Z → Type 0) (f : ℤ → ℤ → Z) (xs ys : List ℤ) → length xs ≡ 16 → length ys ≡ 16 →
     ((k : ℕ) → k < 16 → P (f (at (pos 0) xs k) (at (pos 0) ys k))) → All P (zip2 f xs ys)
 sides_all P f xs ys mx my h =
-    let many : length (zip2 f xs ys) ≡ 16 = length-zip2 f xs ys (mx ∙ sym my) ∙ mx in
+    let many = sides_many f xs ys mx my in
     λ k d lt. let l : k < 16 = omega (arith, many) in subst P (sym (side_at f xs ys k d mx my l)) (h k l)
+
+pub side_of_all : {Z : Type 0} (P : Z → Type 0) (d : Z) (f : ℤ → ℤ → Z) (xs ys : List ℤ) (k : ℕ) → length xs ≡ 16 →
+    length ys ≡ 16 → k < 16 → All P (zip2 f xs ys) → P (f (at (pos 0) xs k) (at (pos 0) ys k))
+side_of_all P d f xs ys k mx my lt h =
+    let many = sides_many f xs ys mx my in subst P (side_at f xs ys k d mx my lt) (h k d (omega (arith, many)))
 
 pub each_all : (P : ℤ → Type 0) (f : ℤ → ℤ) (xs : List ℤ) → length xs ≡ 16 →
     ((k : ℕ) → k < 16 → P (f (at (pos 0) xs k))) → All P (map f xs)
@@ -30,8 +39,7 @@ each_all P f xs mx h =
 pub some_at : (rs : List ℤ) (f : ℤ → ℤ → Option ℤ) (xs ys : List ℤ) (k : ℕ) → map (λ r. Some r) rs ≡ zip2 f xs ys →
     length xs ≡ 16 → length ys ≡ 16 → k < 16 → f (at (pos 0) xs k) (at (pos 0) ys k) ≡ Some (at (pos 0) rs k)
 some_at rs f xs ys k e mx my lt =
-    let many : length rs ≡ 16 = sym (length-map rs (λ r. Some r)) ∙ ap length e ∙ length-zip2 f xs ys (mx ∙ sym my)
-    ∙ mx in
+    let many : length rs ≡ 16 = sym (length-map rs (λ r. Some r)) ∙ ap length e ∙ sides_many f xs ys mx my in
     sym (side_at f xs ys k None mx my lt) ∙ ap (λ zs. slice_index_or zs k None) (sym e)
     ∙ at_map_any (λ r. Some r) rs k (pos 0) None (omega (arith, many))
 
@@ -45,12 +53,6 @@ row_ends n j lt = grind arith
 
 pub row_length : (n j : ℕ) (ds : List Decimal) → length ds ≡ 16 * n → j < 16 → length (row_at n j ds) ≡ n
 row_length n j ds many lt = let e = row_ends n j lt in length-chunk (j * n) n ds (omega (arith, many))
-
-pub any_default : {X : Type 0} (xs : List X) (k : ℕ) (c d : X) → k < length xs →
-    slice_index_or xs k c ≡ slice_index_or xs k d
-any_default [] k c d lt = absurd (omega arith)
-any_default (x ∷ xs) zero c d lt = refl
-any_default (x ∷ xs) (suc k) c d lt = any_default xs k c d (omega arith)
 
 -- one lane more
 pub filled_more : (words : List ℤ) (j : ℕ) (w : ℤ) (q : ℕ → Decimal → ℤ) → j < length words →

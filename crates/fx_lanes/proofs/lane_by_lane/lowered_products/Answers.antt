@@ -1,44 +1,22 @@
-use Rattle.std.proofs.Common.{◌≡◌, ◌*ℤ◌, SFits, pos, sym, ap₂, subst, ◌∙◌, arith, rules, to_z, of_z}
-use Rattle.std.specs.Int.{w64}
-use Rattle.std.proofs.lemmas.Int.{to_z-of_z}
-use Rattle.std.proofs.lemmas.List.{length-set}
-use Rattle.fx_model.specs.Machine.{Floor, IsWord, rounded}
-use Rattle.fx_model.specs.Tree.{at}
-use Rattle.fx_lanes.proofs.Filled.{filled_next, word_at, passed, product_fits, products_made}
+use Rattle.std.proofs.Common.{arith, rules}
+use Rattle.fx_model.specs.Machine.{Floor}
+use Rattle.fx_lanes.proofs.Filled.{product_next, product_operands, products_made}
 use Rattle.fx_lanes.proofs.lane_by_lane.lowered_products.Goals as goal
 
 pub lowered_product-requires : goal.lowered_product-requires
 lowered_product-requires g c =
-    let b = g.row.B in let r = c.requires in let v = c.args.v.now in let w = c.args.w.now in let k = c.loop-k.k in
-    let lt = c.loop-k-test.true in
-    let ev = passed b v k r.width.most r.left lt in
-    let ew = passed b w k r.width.most r.right lt in
-    record {
-      width = r.width;
-      left = subst (IsWord b) (sym ev) (word_at b v k r.left lt);
-      right = subst (IsWord b) (sym ew) (word_at b w k r.right lt);
-      shift = r.shift;
-      fits = product_fits b Floor c.args.s v w k _ _ r.left.many r.right.many lt ev ew r.fits;
-    }
+    let r = c.requires in
+    let p = product_operands c.loop-k.k r.width.most r.left r.right c.loop-k-test.true Floor c.args.s r.fits in
+    record { width = r.width; left = p.left; right = p.right; shift = r.shift; fits = p.fits }
 
 pub loop-k-preserved : goal.loop-k-preserved
 loop-k-preserved g c =
-    let b = g.row.B in let r = c.requires in let v = c.args.v.now in let w = c.args.w.now in let k = c.loop-k.k in
-    let lt = c.loop-k-test.true in
-    let ev = passed b v k r.width.most r.left lt in
-    let ew = passed b w k r.width.most r.right lt in
-    let s = c.args.s in let i = c.loop-k.invariant in let made = c.lowered_product.result in
-    let fits : SFits w64 made = search rules in
-    record {
-      many = length-set _ _ _ ∙ i.many;
-      filled =
-          filled_next c.loop-k.words k (to_z w64 (of_z w64 made))
-          (λ j z. z ≡ rounded Floor (at (pos 0) v j *ℤ at (pos 0) w j) (pos s)) (omega (arith, i.many, lt)) i.filled
-          (to_z-of_z w64 made fits ∙ c.lowered_product.ensures ∙ ap₂ (λ x y. rounded Floor (x *ℤ y) (pos s)) ev ew);
-    }
+    let r = c.requires in let l = c.loop-k in
+    product_next l.k r.width.most r.left r.right c.loop-k-test.true Floor c.args.s l.words c.lowered_product.result
+    (search rules) c.lowered_product.ensures l.invariant
 
 pub returns : goal.returns
 returns g c =
-    let r = c.requires in let i = c.loop-k.invariant in
-    products_made Floor c.args.s c.args.v.now c.args.w.now c.loop-k.words r.left.many r.right.many i.many
-    (λ j lt. i.filled j (omega (arith, c.loop-k-test.false)))
+    let l = c.loop-k in
+    products_made c.requires.left c.requires.right c.args.s l.k l.words (omega (arith, c.loop-k-test.false)) Floor
+    l.invariant

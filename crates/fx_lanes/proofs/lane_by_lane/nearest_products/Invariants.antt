@@ -1,10 +1,6 @@
-use Rattle.std.proofs.Common.{◌≡◌, ◌<◌, ◌*ℤ◌, ℕ, pos, length}
-use Rattle.fx_model.specs.Machine.{Nearest, rounded}
-use Rattle.fx_model.specs.Tree.{at}
+use Rattle.fx_model.specs.Machine.{Nearest}
+use Rattle.fx_lanes.proofs.Filled.{AreProducts}
 use Rattle.fx_lanes.proofs.lane_by_lane.nearest_products.Given as goal
 
 abbrev pub invariant-loop-k : goal.invariant-loop-k
-invariant-loop-k g l = record {
-  many : length l.words ≡ 16;
-  filled : (i : ℕ) → i < l.k → at (pos 0) l.words i ≡ rounded Nearest (at (pos 0) l.v i *ℤ at (pos 0) l.w i) (pos l.s);
-}
+invariant-loop-k g l = AreProducts Nearest l.s l.v l.w l.k l.words

@@ -3,7 +3,7 @@ use Rattle.std.specs.Prelude.{replicate}
 use Rattle.std.specs.Int.{w32}
 use Rattle.std.proofs.lemmas.Int.{to_z-of_z}
 use Rattle.fx_word.proofs.Fits.{shown_64}
-use Rattle.fx_lanes.proofs.Numbers.{fits_32}
+use Rattle.fx_lanes.proofs.Numbers.{word_fits}
 use Rattle.fx_lanes.proofs.Lanewise as lanewise
 use Rattle.fx_lanes.proofs.narrow.NarrowLanesSideBySide.splat.Goals as goal
 
@@ -13,4 +13,4 @@ invariant_of-result g c =
     let kept = shown_64 g.row.B v v (omega (arith, most)) refl r.word in
     (lanewise.same_word g.row.B _ v (c.all.ensures
     ∙ ap (replicate 16) (ap (λ x. to_z w32 (of_z w32 x)) kept
-    ∙ to_z-of_z w32 v (fits_32 g.row.B v most r.word))) r.word).are
+    ∙ to_z-of_z w32 v (word_fits w32 g.row.B v most r.word))) r.word).are

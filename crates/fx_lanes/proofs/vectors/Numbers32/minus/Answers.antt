@@ -1,13 +1,8 @@
-use Rattle.std.specs.Int.{w32}
 use Rattle.fx_lanes.proofs.Operators as operators
 use Rattle.fx_lanes.proofs.vectors.Numbers32.minus.Goals as goal
 
 pub invariant_of-result : goal.invariant_of-result
-invariant_of-result c =
-    (operators.differences w32 c.self.inside.lanes c.args.self c.other.inside.lanes c.args.other c.self.view_is
-    c.other.view_is c.self.invariant c.other.invariant).are
+invariant_of-result c = (operators.differences c.self.view_is c.other.view_is c.self.invariant c.other.invariant).are
 
 pub returns : goal.returns
-returns c =
-    (operators.differences w32 c.self.inside.lanes c.args.self c.other.inside.lanes c.args.other c.self.view_is
-    c.other.view_is c.self.invariant c.other.invariant).is
+returns c = (operators.differences c.self.view_is c.other.view_is c.self.invariant c.other.invariant).is

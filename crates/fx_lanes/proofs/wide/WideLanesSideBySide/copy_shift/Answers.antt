@@ -1,17 +1,9 @@
-use Rattle.std.specs.Int.{w32, w64}
-use Rattle.std.proofs.lemmas.Int.{to_z-of_z}
-use Rattle.fx_word.proofs.Fits.{fits_64}
-use Rattle.fx_lanes.proofs.Lanewise as lanewise
+use Rattle.std.specs.Int.{w64}
+use Rattle.fx_lanes.proofs.Lanewise.{copied_are, copied_is}
 use Rattle.fx_lanes.proofs.wide.WideLanesSideBySide.copy_shift.Goals as goal
 
 pub invariant_of-result : goal.invariant_of-result
-invariant_of-result g c =
-    (lanewise.copied_is g.row.B w64 (λ v. fits_64 g.row.B v c.requires.room.most) c.args.s _
-    (to_z-of_z w32 _ c.ranges.s) c.self.inside.lanes c.args.self _ c.self.view_is c.self.invariant.many
-    c.shifted.ensures c.requires.fits).are
+invariant_of-result g c = search (copied_are g.row.B w64 c.requires.room.most c.args.s)
 
 pub returns : goal.returns
-returns g c =
-    (lanewise.copied_is g.row.B w64 (λ v. fits_64 g.row.B v c.requires.room.most) c.args.s _
-    (to_z-of_z w32 _ c.ranges.s) c.self.inside.lanes c.args.self _ c.self.view_is c.self.invariant.many
-    c.shifted.ensures c.requires.fits).is
+returns g c = search (copied_is g.row.B w64 c.requires.room.most c.args.s)

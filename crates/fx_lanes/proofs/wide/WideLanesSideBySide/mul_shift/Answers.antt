@@ -1,47 +1,30 @@
-use Rattle.std.proofs.Common.{◌≡◌, ◌*ℤ◌, All, pos, sym, ap₂, subst, ◌∙◌}
-use Rattle.fx_model.specs.Machine.{Floor, IsWord, rounded}
-use Rattle.fx_lanes.specs.WordsSideBySide.{AreLanes, multiplied}
-use Rattle.fx_lanes.proofs.Filled.{are_numbers}
-use Rattle.fx_lanes.proofs.Lanewise.{both_many, gives}
+use Rattle.fx_model.specs.Machine.{Floor}
+use Rattle.fx_lanes.proofs.Filled.{are_numbers, array_products, arrays, multiplied_is}
+use Rattle.fx_lanes.proofs.Lanewise.{gives_again}
 use Rattle.fx_lanes.proofs.wide.WideLanesSideBySide.mul_shift.Goals as goal
 
 pub lowered_products-requires : goal.lowered_products-requires
 lowered_products-requires g c =
     let r = c.requires in
-    record {
-      width = r.room;
-      left = subst (AreLanes g.row.B) (sym c.array-v.ensures) c.self.invariant;
-      right = subst (AreLanes g.row.B) (sym c.array-w.ensures) c.other.invariant;
-      shift = r.shift;
-      fits =
-          subst (All (IsWord g.row.B))
-          (sym (ap₂ (multiplied Floor c.args.s) (c.array-v.ensures ∙ c.self.view_is) (c.array-w.ensures
-          ∙ c.other.view_is))) r.fits;
-    }
+    let a =
+    arrays c.array-v.ensures c.array-w.ensures c.self.view_is c.other.view_is c.self.invariant c.other.invariant in
+    let fits = array_products a c.args.s Floor r.fits in
+    record { width = r.room; left = a.left; right = a.right; shift = r.shift; fits = fits }
 
 pub of-requires : goal.of-requires
 of-requires g c =
-    let n = g.row.B in let r = c.requires in let s = c.args.s in
-    let e : c.lowered_products.result ≡ multiplied Floor s c.args.self c.args.other = c.lowered_products.ensures
-    ∙ ap₂ (multiplied Floor s) (c.array-v.ensures ∙ c.self.view_is) (c.array-w.ensures ∙ c.other.view_is) in
-    let many =
-    both_many (λ x y. rounded Floor (x *ℤ y)
-    (pos s)) c.self.inside.lanes c.args.self c.other.inside.lanes c.args.other c.self.view_is c.other.view_is
-    c.self.invariant.many c.other.invariant.many in
-    are_numbers n _ r.room.most (gives n _ _ e many r.fits).are
+    let a =
+    arrays c.array-v.ensures c.array-w.ensures c.self.view_is c.other.view_is c.self.invariant c.other.invariant in
+    are_numbers c.requires.room.most (multiplied_is a c.args.s Floor c.lowered_products.ensures c.requires.fits).are
 
 pub invariant_of-result : goal.invariant_of-result
 invariant_of-result g c =
-    let n = g.row.B in let r = c.requires in let s = c.args.s in
-    let e : c.lowered_products.result ≡ multiplied Floor s c.args.self c.args.other = c.lowered_products.ensures
-    ∙ ap₂ (multiplied Floor s) (c.array-v.ensures ∙ c.self.view_is) (c.array-w.ensures ∙ c.other.view_is) in
-    let many =
-    both_many (λ x y. rounded Floor (x *ℤ y)
-    (pos s)) c.self.inside.lanes c.args.self c.other.inside.lanes c.args.other c.self.view_is c.other.view_is
-    c.self.invariant.many c.other.invariant.many in
-    (gives n _ _ (c.of.ensures ∙ e) many r.fits).are
+    let a =
+    arrays c.array-v.ensures c.array-w.ensures c.self.view_is c.other.view_is c.self.invariant c.other.invariant in
+    (gives_again c.of.ensures (multiplied_is a c.args.s Floor c.lowered_products.ensures c.requires.fits)).are
 
 pub returns : goal.returns
 returns g c =
-    c.of.ensures ∙ c.lowered_products.ensures
-    ∙ ap₂ (multiplied Floor c.args.s) (c.array-v.ensures ∙ c.self.view_is) (c.array-w.ensures ∙ c.other.view_is)
+    let a =
+    arrays c.array-v.ensures c.array-w.ensures c.self.view_is c.other.view_is c.self.invariant c.other.invariant in
+    (gives_again c.of.ensures (multiplied_is a c.args.s Floor c.lowered_products.ensures c.requires.fits)).is

@@ -1,16 +1,9 @@
 use Rattle.std.specs.Int.{w64}
-use Rattle.fx_word.proofs.Fits.{fits_64}
-use Rattle.fx_lanes.proofs.Lanewise as lanewise
+use Rattle.fx_lanes.proofs.Lanewise.{negated_are, negated_is}
 use Rattle.fx_lanes.proofs.wide.WideLanesSideBySide.neg.Goals as goal
 
 pub invariant_of-result : goal.invariant_of-result
-invariant_of-result g c =
-    (lanewise.negated_is g.row.B w64
-    (λ v. fits_64 g.row.B v c.requires.room.most) c.self.inside.lanes c.args.self _ _ c.self.view_is
-    c.self.invariant.many c.all.ensures c.minus.ensures c.requires.fits).are
+invariant_of-result g c = search (negated_are g.row.B w64 c.requires.room.most)
 
 pub returns : goal.returns
-returns g c =
-    (lanewise.negated_is g.row.B w64
-    (λ v. fits_64 g.row.B v c.requires.room.most) c.self.inside.lanes c.args.self _ _ c.self.view_is
-    c.self.invariant.many c.all.ensures c.minus.ensures c.requires.fits).is
+returns g c = search (negated_is g.row.B w64 c.requires.room.most)
