@@ -48,6 +48,23 @@ none_append (x ∷ xs) ys p q = by (fault_of x) refl p (λ r. none_append xs ys 
 pub one_none : (c : Condition) → fault_of c ≡ None → first_fault_of (c ∷ []) ≡ None
 one_none c e = ap (λ (f : Option condition.Fault). condition.first_some f None) e
 
+-- a condition that is a test alone
+abbrev pub test_of : Kind → Part → ℕ → Bool → Condition
+test_of kind part k test = record { kind = kind; part = part; index = k; test = test; claims = [] }
+
+test_none : (kind : Kind) (part : Part) (k : ℕ) (test : Bool) → test ≡ true →
+    first_fault_of (test_of kind part k test ∷ []) ≡ None
+test_none kind part k test e = one_none (test_of kind part k test) (faultless kind part k test [] e none_met)
+
+-- before other conditions, and behind them
+pub test_first : (kind : Kind) (part : Part) (k : ℕ) (test : Bool) (xs : List Condition) → test ≡ true →
+    first_fault_of xs ≡ None → first_fault_of (test_of kind part k test ∷ xs) ≡ None
+test_first kind part k test xs e h = none_append (test_of kind part k test ∷ []) xs (test_none kind part k test e) h
+
+pub test_last : (kind : Kind) (part : Part) (k : ℕ) (test : Bool) (xs : List Condition) → test ≡ true →
+    first_fault_of xs ≡ None → first_fault_of (xs ++ test_of kind part k test ∷ []) ≡ None
+test_last kind part k test xs e h = none_append xs (test_of kind part k test ∷ []) h (test_none kind part k test e)
+
 -- one for each index
 pub indexes_none : (n : ℕ) (f : ℕ → Condition) → ((j : ℕ) → j < n → fault_of (f j) ≡ None) →
     first_fault_of (each_index n f) ≡ None

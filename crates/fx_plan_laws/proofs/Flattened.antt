@@ -122,6 +122,21 @@ module _ (c : Numbers) (is : List function.Input) (i s : ℕ) where
     limited = All-nil (IsLimited c);
   }
 
+  -- the second tree is built behind the first
+  both_built : {n : ℕ} {x y : Flat} {bs : List Bound} {a b : Bound} (op : ℕ → ℕ → Node) (f : Bound → Bound → Bound) →
+      ((zs : List Bound) (a b : ℕ) → node_bound c is zs (op a b) ≡ f (at no_bound zs a) (at no_bound zs b)) →
+      n ≡ length bs → HasVariables c is i s bs → IsBuilt c is x a bs →
+      ((zs : List Bound) → n + length x.list ≡ length zs → HasVariables c is i s zs → IsBuilt c is y b zs) →
+      IsLimited c (f a b) →
+      IsBuilt c is (record {
+        list = x.list ++ y.list ++ op x.root y.root ∷ [];
+        root = n + length x.list + length y.list;
+      }) (f a b) bs
+  both_built {n} {x} {y} {bs} {a} {b} op f value e v h more l =
+      joined c is op f value x y bs a b n e h
+      (more (bs ++ h.more) (let d = length-append bs h.more in let p = h.count in omega (arith, d, p, e))
+      (variables_more bs h.more v)) l
+
   pub built : (n : ℕ) (t : Tree) (bs : List Bound) → n ≡ length bs → HasVariables c is i s bs → RefersBelow i s 0 t →
       AreLimited c is t → IsBuilt c is (flat i [] n t) (tree_bound c is t) bs
   built n (tree.Literal x) bs e v r l =
@@ -139,26 +154,14 @@ module _ (c : Numbers) (is : List function.Input) (i s : ℕ) where
       pushed c is (flat i [] n a).list (Neg (flat i [] n a).root) bs h.more
       (tree_bound c is a) n e h.grown h.count h.limited h.root l.0
   built n (tree.Sum a b) bs e v r l =
-      let x = flat i [] n a in let m = n + length x.list in
-      let h = built n a bs e v r.0 l.1 in
-      let g = built m b (bs ++ h.more) (let d = length-append bs h.more in let p = h.count in
-      omega (arith, d, p, e)) (variables_more bs h.more v) r.1 l.2 in
-      joined c is Add sum_bound (λ zs p q. refl) x (flat i [] m b) bs (tree_bound c is a)
-      (tree_bound c is b) n e h g l.0
+      both_built Add sum_bound (λ zs p q. refl) e v (built n a bs e v r.0 l.1)
+      (λ zs d w. built (n + length (flat i [] n a).list) b zs d w r.1 l.2) l.0
   built n (tree.Difference a b) bs e v r l =
-      let x = flat i [] n a in let m = n + length x.list in
-      let h = built n a bs e v r.0 l.1 in
-      let g = built m b (bs ++ h.more) (let d = length-append bs h.more in let p = h.count in
-      omega (arith, d, p, e)) (variables_more bs h.more v) r.1 l.2 in
-      joined c is Sub sum_bound (λ zs p q. refl) x (flat i [] m b) bs (tree_bound c is a)
-      (tree_bound c is b) n e h g l.0
+      both_built Sub sum_bound (λ zs p q. refl) e v (built n a bs e v r.0 l.1)
+      (λ zs d w. built (n + length (flat i [] n a).list) b zs d w r.1 l.2) l.0
   built n (tree.Product a b) bs e v r l =
-      let x = flat i [] n a in let m = n + length x.list in
-      let h = built n a bs e v r.0 l.1 in
-      let g = built m b (bs ++ h.more) (let d = length-append bs h.more in let p = h.count in
-      omega (arith, d, p, e)) (variables_more bs h.more v) r.1 l.2 in
-      joined c is Mul (product_bound c.f) (λ zs p q. refl) x (flat i [] m b) bs (tree_bound c is a)
-      (tree_bound c is b) n e h g l.0
+      both_built Mul (product_bound c.f) (λ zs p q. refl) e v (built n a bs e v r.0 l.1)
+      (λ zs d w. built (n + length (flat i [] n a).list) b zs d w r.1 l.2) l.0
   built n (tree.Quotient a b) bs e v r l = absurd l
 
   -- ---- the results and their copies

@@ -41,6 +41,14 @@ least_is i test k h l =
 found_least : (i : ℕ) (test : ℕ → Bool) → test (first_from i test) ≡ true → IsLeastFrom i test (first_from i test)
 found_least i test e = record { from_first = first_start i test; holds = e; least = λ j l h. first_least i test j l h }
 
+-- an exponent that isn't below the unit's is some steps above it
+offset : (w : ℤ) (f : ℕ) → (pos 1 -ℤ pos f) ≤ℤ w → (d : ℕ) × (w ≡ pos (1 + d) -ℤ pos f)
+offset w f l = by (w +ℤ pos f -ℤ pos 1) refl
+  where
+    by : (x : ℤ) → w +ℤ pos f -ℤ pos 1 ≡ x → (d : ℕ) × (w ≡ pos (1 + d) -ℤ pos f)
+    by (pos d) e = (d, omega (arith, ints, e))
+    by (negsuc d) e = absurd (omega (arith, ints, e, l))
+
 -- ---- from the test
 module _ (n : ℕ) (fn : Function) (width : IsWordWidth n) (calm : IsCalm n fn) where
   abbrev c : Numbers
@@ -51,13 +59,6 @@ module _ (n : ℕ) (fn : Function) (width : IsWordWidth n) (calm : IsCalm n fn) 
 
   f_is : pos c.f ≡ point_at n c.m
   f_is = let w = whole_width n fn width calm in omega (arith, ints, w)
-
-  offset : (w : ℤ) (f : ℕ) → (pos 1 -ℤ pos f) ≤ℤ w → (d : ℕ) × (w ≡ pos (1 + d) -ℤ pos f)
-  offset w f l = by (w +ℤ pos f -ℤ pos 1) refl
-    where
-      by : (x : ℤ) → w +ℤ pos f -ℤ pos 1 ≡ x → (d : ℕ) × (w ≡ pos (1 + d) -ℤ pos f)
-      by (pos d) e = (d, omega (arith, ints, e))
-      by (negsuc d) e = absurd (omega (arith, ints, e, l))
 
   pub has_numbers : HasCalmNumbers n fn
   has_numbers = record {
@@ -122,14 +123,7 @@ module _ (n : ℕ) (fn : Function) (width : IsWordWidth n) (q a m : ℕ) (v : �
   room_f = let p = h.point in let e = f_same in omega (arith, ints, p, e)
 
   d_is : (d : ℕ) × (v ≡ pos (1 + d) -ℤ pos f)
-  d_is = offset_of v f (subst (λ (x : ℤ). (pos 1 -ℤ x) ≤ℤ v) (sym f_same) h.from_unit)
-    where
-      offset_of : (w : ℤ) (f : ℕ) → (pos 1 -ℤ pos f) ≤ℤ w → (d : ℕ) × (w ≡ pos (1 + d) -ℤ pos f)
-      offset_of w f l = by (w +ℤ pos f -ℤ pos 1) refl
-        where
-          by : (x : ℤ) → w +ℤ pos f -ℤ pos 1 ≡ x → (d : ℕ) × (w ≡ pos (1 + d) -ℤ pos f)
-          by (pos d) e = (d, omega (arith, ints, e))
-          by (negsuc d) e = absurd (omega (arith, ints, e, l))
+  d_is = offset v f (subst (λ (x : ℤ). (pos 1 -ℤ x) ≤ℤ v) (sym f_same) h.from_unit)
 
   least_d : IsLeastFrom 0 (λ d. bounds_errors fn (pos (1 + d) -ℤ pos f)) d_is.0
   least_d = record {

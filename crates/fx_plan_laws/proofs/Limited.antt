@@ -211,29 +211,23 @@ module _ (n : ℕ) (fn : Function) (some_width : Contains widths n) (narrow : Is
   some_results = narrow.lawful.valid.all_results
 
   -- a next state keeps its boxes
-  pub next_range : (k : ℕ) (d : Tree) → k < length fn.states →
-      (tree_bound c fn.inputs (get_or fn.results (outputs fn + k) d)).r ≤ 2 ^ (c.q + 2 + c.f)
-  next_range k d lt =
+  pub next_few : (k : ℕ) (d : Tree) → k < length fn.states →
+      (let b = tree_bound c fn.inputs (get_or fn.results (outputs fn + k) d) in
+      (b.r ≤ 2 ^ (c.q + 2 + c.f)) × (b.e ≤ 2 ^ (c.p + 4 + u)))
+  next_few k d lt =
       let long = some_results in let lt_all : outputs fn + k < length fn.results = omega (arith, long, lt) in
       let i = drop_at (outputs fn) fn.results k d lt_all in let t = get_or fn.results (outputs fn + k) d in
-      next_range_few c u fn.inputs t (tree_bound c fn.inputs t) spare
-      (result_linear n fn width calm (outputs fn + k) d lt_all).1 (bounded (outputs fn + k) d lt_all)
-      (result_sizes n fn width calm (outputs fn + k) d lt_all)
-      (subst (λ (t : Tree). AtMost (plus (total state_size (terms_of t)) (total state_size (terms_of t)))
-      (whole (pos 1))) i.1 (next_half n fn width calm k d i.0))
-      (subst (λ (t : Tree). AtMost (plus (input_reaches fn t) (literal_sizes t)) (power c.q)) i.1
-      (next_adds n fn width calm k d i.0))
-
-  pub next_error : (k : ℕ) (d : Tree) → k < length fn.states →
-      (tree_bound c fn.inputs (get_or fn.results (outputs fn + k) d)).e ≤ 2 ^ (c.p + 4 + u)
-  next_error k d lt =
-      let long = some_results in let lt_all : outputs fn + k < length fn.results = omega (arith, long, lt) in
-      let i = drop_at (outputs fn) fn.results k d lt_all in let t = get_or fn.results (outputs fn + k) d in
-      next_error_few c u fn.inputs t (tree_bound c fn.inputs t) spare
-      (result_linear n fn width calm (outputs fn + k) d lt_all).1 (bounded (outputs fn + k) d lt_all)
-      (result_sizes n fn width calm (outputs fn + k) d lt_all)
-      (subst (λ (t : Tree). AtMost (plus (total state_size (terms_of t)) (total state_size (terms_of t)))
-      (whole (pos 1))) i.1 (next_half n fn width calm k d i.0))
+      let short = (result_linear n fn width calm (outputs fn + k) d lt_all).1 in
+      let all = bounded (outputs fn + k) d lt_all in
+      let sizes = result_sizes n fn width calm (outputs fn + k) d lt_all in
+      let half =
+      subst (λ (t : Tree). AtMost (plus (total state_size (terms_of t)) (total state_size (terms_of t)))
+      (whole (pos 1))) i.1 (next_half n fn width calm k d i.0) in (
+        next_range_few c u fn.inputs t (tree_bound c fn.inputs t) spare short all sizes half
+            (subst (λ (t : Tree). AtMost (plus (input_reaches fn t) (literal_sizes t)) (power c.q)) i.1
+            (next_adds n fn width calm k d i.0)),
+        next_error_few c u fn.inputs t (tree_bound c fn.inputs t) spare short all sizes half,
+      )
 
   -- an output's bounds
   pub output_range : (k : ℕ) (d : Tree) → k < outputs fn →
@@ -275,8 +269,8 @@ module _ (n : ℕ) (fn : Function) (some_width : Contains widths n) (narrow : Is
           let s = spare.states in let e = spare.errors in
           subst (λ (m : ℕ). IsLimited c (tree_bound c fn.inputs (get_or fn.results m d))) same
           (record {
-            r = error_limit c u fn.inputs spare {k = c.q + 2 + c.f} (next_range j d l) (omega (arith, s));
-            e = error_limit c u fn.inputs spare {k = c.p + 4 + u} (next_error j d l) (omega (arith, e));
+            r = error_limit c u fn.inputs spare {k = c.q + 2 + c.f} (next_few j d l).0 (omega (arith, s));
+            e = error_limit c u fn.inputs spare {k = c.p + 4 + u} (next_few j d l).1 (omega (arith, e));
           })
 
   each : EachLimited c fn.inputs (length fn.inputs) (length fn.states) fn.results

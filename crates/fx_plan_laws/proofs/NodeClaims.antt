@@ -6,16 +6,15 @@ use Rattle.fx_rational.proofs.Laws.{le_trans, le_of_equal, equal_sym, times_le}
 use Rattle.fx_rational.proofs.Quotient.{above_nonneg}
 use Rattle.fx_rational.proofs.Powers.{power, power_above, unit_above}
 use Rattle.fx_model.specs.Function as function
-use Rattle.fx_model.specs.Function.{Function}
 use Rattle.fx_model.specs.Machine.{Round}
-use Rattle.fx_inequalities.specs.Formula.{Sum, Difference, span, zero_span, span_sum, span_difference, span_product, roundoff_at, unit_at, word_at}
+use Rattle.fx_inequalities.specs.Formula.{Sum, Difference, Span, span, zero_span, span_sum, span_difference, span_product, roundoff_at, unit_at, word_at}
 use Rattle.fx_inequalities.specs.Claim.{BelowFraction, AboveFraction, inside}
 use Rattle.fx_inequalities.specs.OperationSpans.{product_error}
 use Rattle.fx_plan_laws.specs.Narrow.{IsNarrowNumber, IsNarrowInput}
 use Rattle.fx_plan_laws.specs.Powers.{magnitude}
 use Rattle.fx_plan_laws.proofs.Claims.{AreMet, below_above_met, over_fits, narrow_negative}
 use Rattle.fx_plan_laws.proofs.Powers.{power_more}
-use Rattle.fx_plan_laws.proofs.Sizes.{IsSmall, small_sum, small_difference, span_sums, span_differences, span_products, zero_interval_small}
+use Rattle.fx_plan_laws.proofs.Sizes.{IsSmall, IsSmallSpan, AddsSizes, small_sum, small_difference, span_sums, span_differences, span_products, zero_interval_small}
 use Rattle.fx_plan_laws.proofs.Values.{magnitude_nonneg, greater_left, greater_right}
 use Rattle.fx_plan_laws.proofs.Words.{small_word_at}
 use Rattle.fx_plan_laws.specs.Bounds.{units_up, shifted_up, const_bound}
@@ -66,39 +65,27 @@ module _ (n : ℕ) (c : Numbers) (space : IsSpacious n c) where
   right_few : (a b : ℕ) → a + b ≤ 2 ^ (c.m + c.f) → b ≤ 2 ^ (c.m + c.f)
   right_few a b l = omega (arith, l)
 
-  pub sum_inside : (a b : ℕ) → a + b ≤ 2 ^ (c.m + c.f) →
-      AreMet (inside (span_sum (span (units c.f a)) (span (units c.f b))) (span (units c.f (a + b))))
-  sum_inside a b l =
-      inside_units {m = a + b} (a + b) _ (few l) (omega arith)
-      (span_sums (few l) (small_units c.f a (few (left_few a b l))) (small_units c.f b (few (right_few a b l))))
+  -- a sum or a difference
+  both_small : (op : Span → Span → Span) → AddsSizes op → (a b : ℕ) → a + b ≤ 2 ^ (c.m + c.f) →
+      IsSmallSpan c.f (a + b) (op (span (units c.f a)) (span (units c.f b)))
+  both_small op adds a b l =
+      adds c.f a b (span (units c.f a)) (span (units c.f b)) (few l) (small_units c.f a (few (left_few a b l)))
+      (small_units c.f b (few (right_few a b l)))
 
-  pub difference_inside : (a b : ℕ) → a + b ≤ 2 ^ (c.m + c.f) →
-      AreMet (inside (span_difference (span (units c.f a)) (span (units c.f b))) (span (units c.f (a + b))))
-  difference_inside a b l =
-      inside_units {m = a + b} (a + b) _ (few l) (omega arith)
-      (span_differences (few l) (small_units c.f a (few (left_few a b l))) (small_units c.f b (few (right_few a b l))))
+  pub added_inside : (op : Span → Span → Span) → AddsSizes op → (a b : ℕ) → a + b ≤ 2 ^ (c.m + c.f) →
+      AreMet (inside (op (span (units c.f a)) (span (units c.f b))) (span (units c.f (a + b))))
+  added_inside op adds a b l =
+      inside_units {m = a + b} (a + b) _ (few l) (omega arith) (both_small op adds a b l)
 
-  pub sum_error_inside : (a b : ℕ) → a + b ≤ 2 ^ (c.m + c.f) →
-      AreMet (inside (span_sum
-      (span_sum (span_sum (span (units c.f a)) (span (units c.f b))) (roundoff_at (pos c.f) (pos 0)))
+  pub added_error_inside : (op : Span → Span → Span) → AddsSizes op → (a b : ℕ) → a + b ≤ 2 ^ (c.m + c.f) →
+      AreMet (inside (op
+      (span_sum (op (span (units c.f a)) (span (units c.f b))) (roundoff_at (pos c.f) (pos 0)))
       (roundoff_at (pos c.f) (pos 0))) (span (units c.f (a + b))))
-  sum_error_inside a b l = let s = few l in
+  added_error_inside op adds a b l = let s = few l in
       inside_units {m = a + b + 0 + 0} (a + b) _ s (omega arith)
-      (span_sums (omega (arith, s))
-      (span_sums (omega (arith, s))
-      (span_sums s (small_units c.f a (few (left_few a b l))) (small_units c.f b (few (right_few a b l))))
-      (zero_interval_small c.f 0 (omega arith))) (zero_interval_small c.f 0 (omega arith)))
-
-  pub difference_error_inside : (a b : ℕ) → a + b ≤ 2 ^ (c.m + c.f) →
-      AreMet (inside (span_difference
-      (span_sum (span_difference (span (units c.f a)) (span (units c.f b))) (roundoff_at (pos c.f) (pos 0)))
-      (roundoff_at (pos c.f) (pos 0))) (span (units c.f (a + b))))
-  difference_error_inside a b l = let s = few l in
-      inside_units {m = a + b + 0 + 0} (a + b) _ s (omega arith)
-      (span_differences (omega (arith, s))
-      (span_sums (omega (arith, s))
-      (span_differences s (small_units c.f a (few (left_few a b l))) (small_units c.f b (few (right_few a b l))))
-      (zero_interval_small c.f 0 (omega arith))) (zero_interval_small c.f 0 (omega arith)))
+      (adds c.f (a + b + 0) 0 _ _ (omega (arith, s))
+      (span_sums (omega (arith, s)) (both_small op adds a b l) (zero_interval_small c.f 0 (omega arith)))
+      (zero_interval_small c.f 0 (omega arith)))
 
   -- ---- products
   product_few : (a b : ℕ) → a ≤ 2 ^ (c.m + c.f) → b ≤ 2 ^ (c.m + c.f) → a * b ≤ 2 ^ 122

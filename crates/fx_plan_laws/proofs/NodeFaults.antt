@@ -1,5 +1,5 @@
 -- No condition of a node has a fault.
-use Rattle.std.proofs.Common.{◌≡◌, ℕ, ◌+◌, ◌-◌, ◌^◌, ◌<◌, ◌≤◌, ltb, Bool, true, false, if◌then◌else◌, List, [], length, map, None, ℤ, pos, ◌-ℤ◌, refl, sym, ap, subst, ◌∙◌, arith, pow-add}
+use Rattle.std.proofs.Common.{◌≡◌, ℕ, ◌+◌, ◌-◌, ◌^◌, ◌<◌, ◌≤◌, ltb, Bool, true, false, if◌then◌else◌, List, [], length, map, None, ℤ, pos, ◌-ℤ◌, refl, sym, ap, ap₂, subst, ◌∙◌, arith, pow-add}
 use Rattle.std.specs.Prelude.{All}
 use Rattle.std.proofs.Common.{int_eq}
 use Rattle.std.proofs.lemmas.Int.{ints}
@@ -19,7 +19,7 @@ use Rattle.fx_inequalities.specs.OperationSpans.{product_error}
 use Rattle.fx_inequalities.specs.NodeConditions.{no_input, same_shape, same_point, state_point, shape_conditions, node_conditions, divisor_claims, plain_range_claims, plain_error_claims, word_claims}
 use Rattle.fx_flat.specs.InPlace.{IsInPlace}
 use Rattle.fx_plan_laws.specs.Narrow.{IsNarrowInput, IsNarrowNode}
-use Rattle.fx_plan_laws.proofs.Sizes.{small_sum}
+use Rattle.fx_plan_laws.proofs.Sizes.{AddsSizes, small_sum, sums_add, differences_add}
 use Rattle.fx_plan_laws.proofs.Claims.{AreMet, none_met}
 use Rattle.fx_plan_laws.proofs.Words.{words_met}
 use Rattle.fx_plan_laws.proofs.Conditions.{same_whole, node_met, shape_met}
@@ -29,7 +29,7 @@ use Rattle.fx_plan_laws.proofs.Factors.{IsRoomyInput}
 use Rattle.fx_plan_laws.specs.CalmPlan.{node_bound, calm_code, units, calm_line}
 use Rattle.fx_plan_laws.proofs.Flattened.{IsLimited}
 use Rattle.fx_plan_laws.proofs.Folded.{IsNodeBound}
-use Rattle.fx_plan_laws.proofs.NodeClaims.{IsSpacious, limit_few, same_inside, turned_inside, copied_inside, sum_inside, difference_inside, sum_error_inside, difference_error_inside, product_inside, product_error_inside, const_range, const_error, input_range, input_error}
+use Rattle.fx_plan_laws.proofs.NodeClaims.{IsSpacious, limit_few, same_inside, turned_inside, copied_inside, added_inside, added_error_inside, product_inside, product_error_inside, const_range, const_error, input_range, input_error}
 use Rattle.fx_plan_laws.proofs.Units.{small_units}
 
 -- the range and the error of a bound, at the point f
@@ -92,6 +92,26 @@ module _ (n : ℕ) (fn : Function) (c : Numbers) (bs : List Bound) (cert : Certi
   before : (a : ℕ) → a < k → IsLimited c (at no_bound bs a)
   before a lt = limited a (omega (arith, lt, long))
 
+  -- a sum or a difference
+  added_range : (op : Span → Span → Span) → AddsSizes op → (a b : ℕ) → a < k → b < k →
+      IsLimited c (sum_bound (at no_bound bs a) (at no_bound bs b)) →
+      AreMet (inside (op (range_at cert.lines a) (range_at cert.lines b))
+      (bound_range c.f (sum_bound (at no_bound bs a) (at no_bound bs b))))
+  added_range op adds a b p q l =
+      let x = at no_bound bs a in let y = at no_bound bs b in
+      subst AreMet (sym (ap₂ (λ (s t : Span). inside (op s t) (bound_range c.f (sum_bound x y))) (range_is a p)
+      (range_is b q))) (added_inside n c space op adds x.r y.r l.r)
+
+  added_error : (op : Span → Span → Span) → AddsSizes op → (a b : ℕ) → a < k → b < k →
+      IsLimited c (sum_bound (at no_bound bs a) (at no_bound bs b)) →
+      (let z = roundoff_at (pos c.f) (pos 0) in
+      AreMet (inside (op (span_sum (op (error_at cert.lines a) (error_at cert.lines b)) z) z)
+      (bound_error c.f (sum_bound (at no_bound bs a) (at no_bound bs b)))))
+  added_error op adds a b p q l =
+      let x = at no_bound bs a in let y = at no_bound bs b in let z = roundoff_at (pos c.f) (pos 0) in
+      subst AreMet (sym (ap₂ (λ (s t : Span). inside (op (span_sum (op s t) z) z) (bound_error c.f (sum_bound x y)))
+      (error_is a p) (error_is b q))) (added_error_inside n c space op adds x.e y.e l.e)
+
   range_met : (node : Node) → IsInPlace (length fn.inputs) (length fn.states) k node →
       IsNarrowNode node × IsUndivided node → IsLimited c (node_bound c fn.inputs bs node) →
       AreMet (plain_range_claims fn cert node (bound_range c.f (node_bound c fn.inputs bs node)))
@@ -103,18 +123,8 @@ module _ (n : ℕ) (fn : Function) (c : Numbers) (bs : List Bound) (cert : Certi
   range_met (Neg a) o w l =
       subst (λ (s : Span). AreMet (inside (span_difference zero_span s) (bound_range c.f (at no_bound bs a))))
       (sym (range_is a o.1)) (turned_inside n c space (at no_bound bs a).r l.r)
-  range_met (Add a b) o w l =
-      let x = at no_bound bs a in let y = at no_bound bs b in
-      subst (λ (s : Span). AreMet (inside (span_sum s (range_at cert.lines b)) (bound_range c.f (sum_bound x y))))
-      (sym (range_is a o.1))
-      (subst (λ (s : Span). AreMet (inside (span_sum (bound_range c.f x) s) (bound_range c.f (sum_bound x y))))
-      (sym (range_is b o.2)) (sum_inside n c space x.r y.r l.r))
-  range_met (Sub a b) o w l =
-      let x = at no_bound bs a in let y = at no_bound bs b in
-      subst (λ (s : Span). AreMet (inside (span_difference s (range_at cert.lines b)) (bound_range c.f (sum_bound x y))))
-      (sym (range_is a o.1))
-      (subst (λ (s : Span). AreMet (inside (span_difference (bound_range c.f x) s) (bound_range c.f (sum_bound x y))))
-      (sym (range_is b o.2)) (difference_inside n c space x.r y.r l.r))
+  range_met (Add a b) o w l = added_range span_sum sums_add a b o.1 o.2 l
+  range_met (Sub a b) o w l = added_range span_difference differences_add a b o.1 o.2 l
   range_met (Mul a b) o w l =
       let x = at no_bound bs a in let y = at no_bound bs b in
       subst (λ (s : Span). AreMet (range_of_product s (range_at cert.lines b) (bound_range c.f (product_bound c.f x y))))
@@ -140,22 +150,8 @@ module _ (n : ℕ) (fn : Function) (c : Numbers) (bs : List Bound) (cert : Certi
   error_met r (Neg a) o w l =
       subst (λ (s : Span). AreMet (inside (span_difference zero_span s) (bound_error c.f (at no_bound bs a))))
       (sym (error_is a o.1)) (turned_inside n c space (at no_bound bs a).e l.e)
-  error_met r (Add a b) o w l =
-      let x = at no_bound bs a in let y = at no_bound bs b in let z = roundoff_at (pos c.f) (pos 0) in
-      subst (λ (h : Span). AreMet
-      (inside (span_sum (span_sum (span_sum h (error_at cert.lines b)) z) z) (bound_error c.f (sum_bound x y)))) (sym
-      (error_is a o.1))
-      (subst (λ (h : Span). AreMet
-      (inside (span_sum (span_sum (span_sum (bound_error c.f x) h) z) z) (bound_error c.f (sum_bound x y)))) (sym
-      (error_is b o.2)) (sum_error_inside n c space x.e y.e l.e))
-  error_met r (Sub a b) o w l =
-      let x = at no_bound bs a in let y = at no_bound bs b in let z = roundoff_at (pos c.f) (pos 0) in
-      subst (λ (h : Span). AreMet
-      (inside (span_difference (span_sum (span_difference h (error_at cert.lines b)) z) z)
-      (bound_error c.f (sum_bound x y)))) (sym (error_is a o.1))
-      (subst (λ (h : Span). AreMet
-      (inside (span_difference (span_sum (span_difference (bound_error c.f x) h) z) z) (bound_error c.f (sum_bound x y))))
-      (sym (error_is b o.2)) (difference_error_inside n c space x.e y.e l.e))
+  error_met r (Add a b) o w l = added_error span_sum sums_add a b o.1 o.2 l
+  error_met r (Sub a b) o w l = added_error span_difference differences_add a b o.1 o.2 l
   error_met r (Mul a b) o w l =
       let x = at no_bound bs a in let y = at no_bound bs b in let z = product_bound c.f x y in
       subst (λ (m : NodeLine). AreMet

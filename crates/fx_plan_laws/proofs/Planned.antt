@@ -21,15 +21,15 @@ use Rattle.fx_inequalities.specs.Formula.{Num, formula_value, span}
 use Rattle.fx_inequalities.specs.Affine.{range_at, error_at, templates_of}
 use Rattle.fx_inequalities.specs.Certificate.{NodeLine, no_line, no_box}
 use Rattle.fx_inequalities.specs.Condition as condition
-use Rattle.fx_inequalities.specs.Condition.{Condition, OfProgram, OfStart, OfTemplate, OfErrorTemplate, OfOutput, first_fault_of, each_index, fault_of}
+use Rattle.fx_inequalities.specs.Condition.{OfProgram, OfStart, OfTemplate, OfErrorTemplate, OfOutput}
 use Rattle.fx_inequalities.specs.NodeConditions.{node_conditions}
 use Rattle.fx_inequalities.specs.Rewriting.{Rewrites}
 use Rattle.fx_inequalities.specs.Accepted.{output_code, counts_agree, each_node, all_shape_conditions, start_claims, start_template_claims, template_claims, demand_claims, each_claims, conditions_of, demand_conditions, IsAccepted, certified_bound}
 use Rattle.fx_outward.specs.Grid.{lowest_dyadic}
 use Rattle.fx_plan_laws.specs.Demands.{allows}
 use Rattle.fx_plan_laws.specs.Powers.{power_value}
-use Rattle.fx_plan_laws.proofs.Claims.{AreMet, none_met}
-use Rattle.fx_plan_laws.proofs.Conditions.{faultless, none_append, one_none, indexes_none}
+use Rattle.fx_plan_laws.proofs.Claims.{AreMet}
+use Rattle.fx_plan_laws.proofs.Conditions.{faultless, none_append, test_first, indexes_none}
 use Rattle.fx_plan_laws.proofs.Powers.{power_more}
 use Rattle.fx_plan_laws.proofs.Demands.{IsWithinPower, demand_met}
 use Rattle.fx_plan_laws.specs.Bounds.{Bound, no_bound}
@@ -196,21 +196,8 @@ module _ (n : ℕ) (r : Round) (fn : Function) (some_width : Contains widths n) 
       each_claims condition.ErrorRow OfErrorTemplate (length ct.error_templates)
       (template_claims fn q ct (templates_of states ct.error_templates) ct.error_templates (error_at ct.lines)
       (λ a. a.error_rest)) in
-      none_append (record {
-        kind = condition.Counts;
-        part = OfProgram;
-        index = 0;
-        test = counts_agree fn q ct;
-        claims = [];
-      } ∷ []) (conditions_of fn q ct ++ demand_conditions fn q ct)
-      (one_none (record {
-        kind = condition.Counts;
-        part = OfProgram;
-        index = 0;
-        test = counts_agree fn q ct;
-        claims = [];
-      }) (faultless condition.Counts OfProgram 0 (counts_agree fn q ct) []
-      (counts_met n fn some_width narrow calm r) none_met))
+      test_first condition.Counts OfProgram 0 (counts_agree fn q ct)
+      (conditions_of fn q ct ++ demand_conditions fn q ct) (counts_met n fn some_width narrow calm r)
       (none_append (conditions_of fn q ct) (demand_conditions fn q ct)
       (none_append (all_shape_conditions fn q)
       (nodes ++ (starts ++ (start_templates ++ (start_errors ++ (templates ++ errors)))))

@@ -46,35 +46,26 @@ module _ (f : ℕ) (x : Rational) (n : Nonneg x) where
   unfolding units_up
   units_are = size_of _ (ceiling_nonneg (scaled x (pos f)).top (bottom x) (omega arith) scaled_nonneg)
 
-  not_below : AtMost (scaled x (pos f)) (whole (pos (units_up f x)))
-  not_below =
-      record {
-        at_most =
-            go (scaled x (pos f)).top (pos (units_up f x)) (bottom x) (bottom (scaled x (pos f)))
-            scaled_bottom units_are (ceiling_is (scaled x (pos f)).top (bottom x) (omega arith)).not_below;
-      }
+  -- what is rounded isn't below it, and less than one above it
+  rounded : AtMost (scaled x (pos f)) (whole (pos (units_up f x))) ×
+      AtMost (whole (pos (units_up f x) -ℤ pos 1)) (scaled x (pos f))
+  rounded =
+      let h = ceiling_is (scaled x (pos f)).top (bottom x) (omega arith) in
+      let g =
+      go (scaled x (pos f)).top (pos (units_up f x)) (bottom x) (bottom (scaled x (pos f)))
+      scaled_bottom units_are h.not_below h.least in
+      (record { at_most = g.0 }, record { at_most = g.1 })
     where
-      go : (t z : ℤ) (d b : ℕ) → b ≡ d → z ≡ ceil_div t d → t ≤ℤ (ceil_div t d *ℤ pos d) → (t *ℤ pos 1) ≤ℤ (z *ℤ pos b)
-      go t z d b e is l =
-          subst (λ (k : ℕ). (t *ℤ pos 1) ≤ℤ (z *ℤ pos k)) (sym e)
-          (subst (λ (y : ℤ). (t *ℤ pos 1) ≤ℤ (y *ℤ pos d)) (sym is) (omega (arith, ints, l)))
-
-  less_than_one : AtMost (whole (pos (units_up f x) -ℤ pos 1)) (scaled x (pos f))
-  less_than_one =
-      record {
-        at_most =
-            go (scaled x (pos f)).top (pos (units_up f x)) (bottom x) (bottom (scaled x (pos f)))
-            scaled_bottom units_are (ceiling_is (scaled x (pos f)).top (bottom x) (omega arith)).least;
-      }
-    where
-      go : (t z : ℤ) (d b : ℕ) → b ≡ d → z ≡ ceil_div t d → (ceil_div t d *ℤ pos d -ℤ pos d) <ℤ t →
-          ((z -ℤ pos 1) *ℤ pos b) ≤ℤ (t *ℤ pos 1)
-      go t z d b e is l = subst (λ (k : ℕ). ((z -ℤ pos 1) *ℤ pos k) ≤ℤ (t *ℤ pos 1)) (sym e)
-          (subst (λ (y : ℤ). ((y -ℤ pos 1) *ℤ pos d) ≤ℤ (t *ℤ pos 1)) (sym is)
-          (let q = less_one (ceil_div t d) (pos d) in omega (arith, ints, l, q)))
+      go : (t z : ℤ) (d b : ℕ) → b ≡ d → z ≡ ceil_div t d → t ≤ℤ (ceil_div t d *ℤ pos d) →
+          (ceil_div t d *ℤ pos d -ℤ pos d) <ℤ t →
+          ((t *ℤ pos 1) ≤ℤ (z *ℤ pos b)) × (((z -ℤ pos 1) *ℤ pos b) ≤ℤ (t *ℤ pos 1))
+      go t z d b e is l m =
+          subst (λ (k : ℕ). ((t *ℤ pos 1) ≤ℤ (z *ℤ pos k)) × (((z -ℤ pos 1) *ℤ pos k) ≤ℤ (t *ℤ pos 1))) (sym e)
+          (subst (λ (y : ℤ). ((t *ℤ pos 1) ≤ℤ (y *ℤ pos d)) × (((y -ℤ pos 1) *ℤ pos d) ≤ℤ (t *ℤ pos 1))) (sym is)
+          (omega (arith, ints, l), let q = less_one (ceil_div t d) (pos d) in omega (arith, ints, m, q)))
 
   pub units_above : AtMost (times x (power f)) (whole (pos (units_up f x)))
-  units_above = le_trans (le_of_equal (equal_sym (scaled_is x f))) not_below
+  units_above = le_trans (le_of_equal (equal_sym (scaled_is x f))) rounded.0
 
   pub units_below : AtMost (whole (pos (units_up f x))) (plus (times x (power f)) (whole (pos 1)))
   units_below =
@@ -82,7 +73,7 @@ module _ (f : ℕ) (x : Rational) (n : Nonneg x) where
       let e : (z -ℤ pos 1) +ℤ pos 1 ≡ z = omega (arith, ints) in
       subst (λ (y : ℤ). AtMost (whole y) (plus (times x (power f)) (whole (pos 1)))) e
       (le_trans (le_of_equal (whole_sum (z -ℤ pos 1) (pos 1)))
-      (plus_le (le_trans less_than_one (le_of_equal (scaled_is x f))) (le_refl (whole (pos 1)))))
+      (plus_le (le_trans rounded.1 (le_of_equal (scaled_is x f))) (le_refl (whole (pos 1)))))
 
   -- a whole number that isn't below x in units isn't below what is rounded
   pub units_least : (k : ℕ) → AtMost (times x (power f)) (whole (pos k)) → units_up f x ≤ k

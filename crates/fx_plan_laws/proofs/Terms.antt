@@ -3,7 +3,7 @@ use Rattle.std.proofs.Common.{◌≡◌, ℕ, ◌+◌, ◌-◌, ◌*◌, ◌^◌
 use Rattle.std.proofs.lemmas.Bool.{and_parts}
 use Rattle.fx_rational.specs.Rational.{Rational, whole, plus, times, is_at_most, AtMost, Equal}
 use Rattle.fx_rational.proofs.Ring.{by_quotes, quotes}
-use Rattle.fx_rational.proofs.Laws.{equal_refl, equal_sym, equal_trans, le_refl, le_trans, le_of_equal, plus_le, gap, ordered, nonneg_plus, nonneg_times, Nonneg, times_same, plus_same}
+use Rattle.fx_rational.proofs.Laws.{equal_refl, equal_sym, equal_trans, le_refl, le_trans, le_of_equal, plus_le, gap, ordered, times_same, plus_same}
 use Rattle.fx_rational.proofs.Tests.{at_most_true}
 use Rattle.fx_rational.proofs.Powers.{power}
 use Rattle.fx_model.specs.Tree as tree
@@ -14,7 +14,7 @@ use Rattle.fx_inequalities.specs.NodeConditions.{no_input}
 use Rattle.fx_plan_laws.specs.Powers.{magnitude, power_value}
 use Rattle.fx_plan_laws.proofs.Powers.{whole_value_is}
 use Rattle.fx_plan_laws.proofs.Values.{magnitude_nonneg}
-use Rattle.fx_plan_laws.specs.Bounds.{Bound, state_bound, input_bound, const_bound, product_bound, units_up}
+use Rattle.fx_plan_laws.specs.Bounds.{Bound, input_bound, const_bound, sum_bound, product_bound, units_up}
 use Rattle.fx_plan_laws.specs.Calm.{Numbers, reach_of}
 use Rattle.fx_plan_laws.specs.Linear.{is_scaled, is_linear, Term, Alone, OfInput, OfState, scaled_term, terms_of, total, are_literals_below}
 use Rattle.fx_plan_laws.proofs.Factors.{HasRoom, IsRoomyInput, IsFactor, IsProduct, input_factor, state_factor, left_product, right_product, naturals_le, natural_sum, whole_nonneg}
@@ -103,6 +103,10 @@ module _ (c : Numbers) (y : ℕ) (is : List function.Input) (room : HasRoom c y)
   some_error : 1 ≤ error_roundoff c y
   some_error = let p = pow_pos c.m in omega (arith, p)
 
+  of_input : (j : ℕ) → j < length is →
+      IsFactor c y (input_bound c.f (at no_input is j)) (reach_of (at no_input is j)) (power y)
+  of_input j lt = input_factor c y (at no_input is j) room (roomy j lt)
+
   -- a factor that stands alone
   bare : (x : Term) (b : Bound) (w e : Rational) → IsFactor c y b w e →
       Equal (range_worth c is x) (times (whole (pos 1)) w) → Equal (error_worth c y x) (times (whole (pos 1)) e) →
@@ -161,54 +165,59 @@ module _ (c : Numbers) (y : ℕ) (is : List function.Input) (room : HasRoom c y)
   literal_small x e =
       le_trans (at_most_true (magnitude x) (power_value (pos (c.m - 1))) e) (le_of_equal (whole_value_is (c.m - 1)))
 
+  -- a literal by a factor, from either side
+  left_scaled : {b : Bound} {w e : Rational} (x : Rational) (t : Term) →
+      is_at_most (magnitude x) (power_value (pos (c.m - 1))) ≡ true → IsFactor c y b w e →
+      Equal (range_worth c is t) (times (magnitude x) w) → Equal (error_worth c y t) (times (magnitude x) e) →
+      IsBounded c y is (t ∷ []) (product_bound c.f (const_bound c.f x) b)
+  left_scaled {b} {w} {e} x t l h p q =
+      scaled t _ (magnitude x) w e (left_product c y room x b w e (literal_small x l) h) p q
+
+  right_scaled : {b : Bound} {w e : Rational} (x : Rational) (t : Term) →
+      is_at_most (magnitude x) (power_value (pos (c.m - 1))) ≡ true → IsFactor c y b w e →
+      Equal (range_worth c is t) (times (magnitude x) w) → Equal (error_worth c y t) (times (magnitude x) e) →
+      IsBounded c y is (t ∷ []) (product_bound c.f b (const_bound c.f x))
+  right_scaled {b} {w} {e} x t l h p q =
+      scaled t _ (magnitude x) w e (right_product c y room x b w e (literal_small x l) h) p q
+
   product_bounded : (i k m : ℕ) (a b : Tree) → length is ≡ i → is_scaled a b ≡ true → RefersBelow i k m a →
       RefersBelow i k m b → are_literals_below (power_value (pos (c.m - 1))) a ≡ true →
       are_literals_below (power_value (pos (c.m - 1))) b ≡ true →
       IsBounded c y is (scaled_term a b ∷ []) (product_bound c.f (tree_bound c is a) (tree_bound c is b))
   product_bounded i k m (tree.Literal x) (tree.Input j) n e ra rb la lb =
-      scaled (OfInput j (magnitude x)) _ (magnitude x) _ _
-      (left_product c y room x (input_bound c.f (at no_input is j)) _ _ (literal_small x la)
-      (input_factor c y (at no_input is j) room (roomy j (omega (arith, n, rb))))) (equal_refl _) (equal_refl _)
+      left_scaled x (OfInput j (magnitude x)) la (of_input j (omega (arith, n, rb))) (equal_refl _) (equal_refl _)
   product_bounded i k m (tree.Literal x) (tree.State j) n e ra rb la lb =
-      scaled (OfState j (magnitude x)) _ (magnitude x) _ _
-      (left_product c y room x (state_bound c) _ _ (literal_small x la) (state_factor c y room)) (equal_refl _)
-      (equal_refl _)
+      left_scaled x (OfState j (magnitude x)) la (state_factor c y room) (equal_refl _) (equal_refl _)
   product_bounded i k m (tree.Input j) (tree.Literal x) n e ra rb la lb =
-      scaled (OfInput j (magnitude x)) _ (magnitude x) _ _
-      (right_product c y room x (input_bound c.f (at no_input is j)) _ _ (literal_small x lb)
-      (input_factor c y (at no_input is j) room (roomy j (omega (arith, n, ra))))) (equal_refl _) (equal_refl _)
+      right_scaled x (OfInput j (magnitude x)) lb (of_input j (omega (arith, n, ra))) (equal_refl _) (equal_refl _)
   product_bounded i k m (tree.State j) (tree.Literal x) n e ra rb la lb =
-      scaled (OfState j (magnitude x)) _ (magnitude x) _ _
-      (right_product c y room x (state_bound c) _ _ (literal_small x lb) (state_factor c y room)) (equal_refl _)
-      (equal_refl _)
+      right_scaled x (OfState j (magnitude x)) lb (state_factor c y room) (equal_refl _) (equal_refl _)
   product_bounded i k m a b n e ra rb la lb = absurd cc
+
+  both_bounded : (xs ys : List Term) (a b : Bound) → IsBounded c y is xs a → IsBounded c y is ys b →
+      IsBounded c y is (xs ++ ys) (sum_bound a b)
+  both_bounded xs ys a b h g = record {
+    range = both_within xs ys a.r b.r h.range g.range;
+    error = both_within xs ys a.e b.e h.error g.error;
+  }
 
   pub tree_bounded : (i k m : ℕ) (t : Tree) → length is ≡ i → is_linear t ≡ true → RefersBelow i k m t →
       are_literals_below (power_value (pos (c.m - 1))) t ≡ true → IsBounded c y is (terms_of t) (tree_bound c is t)
   tree_bounded i k m (tree.Literal x) n e r l = alone x
   tree_bounded i k m (tree.Input j) n e r l =
-      bare (OfInput j (whole (pos 1))) _ _ _ (input_factor c y (at no_input is j) room (roomy j (omega (arith, n, r))))
-      (equal_refl _) (equal_refl _)
+      bare (OfInput j (whole (pos 1))) _ _ _ (of_input j (omega (arith, n, r))) (equal_refl _) (equal_refl _)
   tree_bounded i k m (tree.State j) n e r l =
       bare (OfState j (whole (pos 1))) _ _ _ (state_factor c y room) (equal_refl _) (equal_refl _)
   tree_bounded i k m (tree.Temp j) n e r l = absurd cc
   tree_bounded i k m (tree.Negation a) n e r l = tree_bounded i k m a n e r l
   tree_bounded i k m (tree.Sum a b) n e r l =
       let p = and_parts _ _ e in let q = and_parts _ _ l in
-      let x = tree_bounded i k m a n p.0 r.0 q.0 in let z = tree_bounded i k m b n p.1 r.1 q.1 in
-      record {
-        range =
-            both_within (terms_of a) (terms_of b) (tree_bound c is a).r (tree_bound c is b).r x.range z.range;
-        error = both_within (terms_of a) (terms_of b) (tree_bound c is a).e (tree_bound c is b).e x.error z.error;
-      }
+      both_bounded (terms_of a) (terms_of b) (tree_bound c is a) (tree_bound c is b)
+      (tree_bounded i k m a n p.0 r.0 q.0) (tree_bounded i k m b n p.1 r.1 q.1)
   tree_bounded i k m (tree.Difference a b) n e r l =
       let p = and_parts _ _ e in let q = and_parts _ _ l in
-      let x = tree_bounded i k m a n p.0 r.0 q.0 in let z = tree_bounded i k m b n p.1 r.1 q.1 in
-      record {
-        range =
-            both_within (terms_of a) (terms_of b) (tree_bound c is a).r (tree_bound c is b).r x.range z.range;
-        error = both_within (terms_of a) (terms_of b) (tree_bound c is a).e (tree_bound c is b).e x.error z.error;
-      }
+      both_bounded (terms_of a) (terms_of b) (tree_bound c is a) (tree_bound c is b)
+      (tree_bounded i k m a n p.0 r.0 q.0) (tree_bounded i k m b n p.1 r.1 q.1)
   tree_bounded i k m (tree.Product a b) n e r l =
       let q = and_parts _ _ l in product_bounded i k m a b n e r.0 r.1 q.0 q.1
   tree_bounded i k m (tree.Quotient a b) n e r l = absurd cc

@@ -10,7 +10,7 @@ use Rattle.fx_rational.proofs.Laws.{le_trans, le_of_equal, times_le}
 use Rattle.fx_rational.proofs.Quotient.{above_nonneg}
 use Rattle.fx_rational.proofs.Powers.{power_above}
 use Rattle.fx_model.specs.Tree as tree
-use Rattle.fx_model.specs.Tree.{Tree, at}
+use Rattle.fx_model.specs.Tree.{at}
 use Rattle.fx_model.specs.Function.{Function, outputs}
 use Rattle.fx_model.specs.Machine.{Round, Code, Program, points_of, start_words}
 use Rattle.fx_model.specs.LawfulProgram.{widths}
@@ -21,14 +21,14 @@ use Rattle.fx_inequalities.specs.Claim.{Claim, BelowFraction, AboveFraction, fit
 use Rattle.fx_inequalities.specs.Affine.{Affine, range_at, error_at, affine_at, of_line, variable, templates_of}
 use Rattle.fx_inequalities.specs.Certificate.{Certificate, NodeLine, StartBox, no_line, no_box}
 use Rattle.fx_inequalities.specs.Condition as condition
-use Rattle.fx_inequalities.specs.Condition.{Condition, Kind, Part, OfProgram, OfNode, OfStart, OfTemplate, OfErrorTemplate, OfOutput, fault_of, first_fault_of, each_index}
+use Rattle.fx_inequalities.specs.Condition.{Condition, Kind, Part, OfNode, first_fault_of}
 use Rattle.fx_inequalities.specs.NodeConditions.{shape_conditions, node_conditions, variables}
 use Rattle.fx_inequalities.specs.Accepted.{next_code, counts_agree, each_node, all_shape_conditions, no_state, start_of, start_claims, start_template_claims, template_claims, each_claims}
 use Rattle.fx_flat.proofs.Ordered.{IsNodeList, node_list, before_length}
 use Rattle.fx_plan_laws.specs.Narrow.{IsNarrowNumber, IsNarrowNode}
 use Rattle.fx_plan_laws.specs.Powers.{magnitude}
-use Rattle.fx_plan_laws.proofs.Claims.{AreMet, none_met, below_above_met, over_fits}
-use Rattle.fx_plan_laws.proofs.Conditions.{faultless, same_count, same_name, none_append, one_none, indexes_none}
+use Rattle.fx_plan_laws.proofs.Claims.{AreMet, below_above_met, over_fits}
+use Rattle.fx_plan_laws.proofs.Conditions.{faultless, same_count, same_name, none_append, test_last, indexes_none}
 use Rattle.fx_flat.proofs.Pairs.{ArePairs, pairs_length}
 use Rattle.fx_plan_laws.proofs.Powers.{power_more}
 use Rattle.fx_plan_laws.proofs.Sizes.{IsSmall, IsSmallSpan, small_difference, small_zero}
@@ -44,7 +44,7 @@ use Rattle.fx_plan_laws.specs.CalmPlan.{calm_code, calm_program, units, calm_lin
 use Rattle.fx_plan_laws.specs.CalmLaw.{IsNarrowFunction}
 use Rattle.fx_plan_laws.proofs.Flattened.{IsLimited}
 use Rattle.fx_plan_laws.proofs.Folded.{IsNodeBound, all_bounded}
-use Rattle.fx_plan_laws.proofs.Limited.{width, u, spare, space, roomy, next_range, next_error, whole_nodes, bs, front, copy_bound, bounds_long, front_long, limited}
+use Rattle.fx_plan_laws.proofs.Limited.{width, u, spare, space, roomy, next_few, whole_nodes, bs, front, copy_bound, bounds_long, front_long, limited}
 use Rattle.fx_plan_laws.proofs.NodeClaims.{limit_few, ends_met}
 use Rattle.fx_plan_laws.proofs.NodeFaults.{HasBounds, node_faults, shape_faults}
 use Rattle.fx_plan_laws.proofs.Points.{IsPointed, all_points, start_word, start_word_at}
@@ -268,27 +268,14 @@ module _ (n : ℕ) (fn : Function) (some_width : Contains widths n) (narrow : Is
         let same =
         same_count (length (nodes_of fn)) (length codes) (sym (length-map (nodes_of fn) (calm_code r fn c.f))) in
         let cnt = counted in let enough = list.enough in
-        none_append (each_node (shape_conditions i next (points_of codes)) 0 (nodes_of fn) codes)
-        (record {
-          kind = condition.Shape;
-          part = OfNode;
-          index = min (length (nodes_of fn)) (length codes);
-          test = length (nodes_of fn) == length codes;
-          claims = [];
-        } ∷ [])
+        test_last condition.Shape OfNode (min (length (nodes_of fn)) (length codes))
+        (length (nodes_of fn) == length codes)
+        (each_node (shape_conditions i next (points_of codes)) 0 (nodes_of fn) codes) same
         (nodes_none (IsNodeBound k c fn.inputs bounds) (shape_conditions i next (points_of codes)) (calm_code r fn c.f)
         (λ j node x h w q. (let below = h.below in
         shape_faults r fn i k next c.f j (points_of codes) node h.ordered
         (λ a le. point_at a (omega (arith, le, below))) (λ le. omega (arith, le, cnt, enough))))
         0 (nodes_of fn) bounds pairs narrow.literals (whole_nodes n fn some_width narrow calm))
-        (one_none (record {
-          kind = condition.Shape;
-          part = OfNode;
-          index = min (length (nodes_of fn)) (length codes);
-          test = length (nodes_of fn) == length codes;
-          claims = [];
-        }) (faultless condition.Shape OfNode (min (length (nodes_of fn)) (length codes)) (length
-        (nodes_of fn) == length codes) [] same none_met))
 
     pub counts_met : counts_agree fn p cert ≡ true
     counts_met =
@@ -372,6 +359,13 @@ module _ (n : ℕ) (fn : Function) (some_width : Contains widths n) (narrow : Is
     no_coefs j s lt =
         subst (λ (a : Affine). IsSmall 0 0 (a.coef j)) (sym (next_form s lt)) (small_zero 0 0 (omega arith))
 
+    -- the range and the error of any bound are small
+    small_range : (s : ℕ) → IsSmallSpan c.f (at no_bound bounds s).r (span (units c.f (at no_bound bounds s).r))
+    small_range s = small_units c.f _ (let f = few (limited_any s).r in omega (arith, f))
+
+    small_error : (s : ℕ) → IsSmallSpan c.f (at no_bound bounds s).e (span (units c.f (at no_bound bounds s).e))
+    small_error s = small_units c.f _ (let f = few (limited_any s).e in omega (arith, f))
+
     pub templates_met : (j : ℕ) → j < length cert.templates →
         AreMet (template_claims fn p cert (templates_of k cert.templates) cert.templates (range_at cert.lines)
         (λ a. a.rest) j)
@@ -381,14 +375,12 @@ module _ (n : ℕ) (fn : Function) (some_width : Contains widths n) (narrow : Is
         (λ a. a.rest) (range_at cert.lines) (λ s. (at no_bound bounds (next_code p s)).r)
         (λ s. (at no_bound bounds s).r) l (λ s. few (limited_any (next_code p s)).r)
         (λ s ls. subst (λ (a : Affine). IsSmallSpan c.f (at no_bound bounds (next_code p s)).r a.rest)
-        (sym (next_form s ls)) (small_units c.f _ (let f = few (limited_any (next_code p s)).r in
-        omega (arith, f))))
+        (sym (next_form s ls)) (small_range (next_code p s)))
         no_coefs
         (λ s ls. subst (λ (m : NodeLine). IsSmallSpan c.f (at no_bound bounds s).r (span m.range))
-        (sym (line_at s (input_below s ls))) (small_units c.f _ (let f = few (limited_any s).r in
-        omega (arith, f))))
+        (sym (line_at s (input_below s ls))) (small_range s))
         (subst (λ (b : Bound). b.r ≤ 2 ^ (c.q + 2 + c.f)) (sym (next_bound j l))
-        (next_range n fn some_width narrow calm j (tree.Input 0) l))
+        (next_few n fn some_width narrow calm j (tree.Input 0) l).0)
 
     pub error_templates_met : (j : ℕ) → j < length cert.error_templates →
         AreMet (template_claims fn p cert (templates_of k cert.error_templates) cert.error_templates
@@ -401,12 +393,10 @@ module _ (n : ℕ) (fn : Function) (some_width : Contains widths n) (narrow : Is
         (λ s. (at no_bound bounds (next_code p s)).e) (λ s. (at no_bound bounds s).e) l
         (λ s. few (limited_any (next_code p s)).e)
         (λ s ls. subst (λ (a : Affine). IsSmallSpan c.f (at no_bound bounds (next_code p s)).e a.error_rest)
-        (sym (next_form s ls)) (small_units c.f _ (let f = few (limited_any (next_code p s)).e in
-        omega (arith, f))))
+        (sym (next_form s ls)) (small_error (next_code p s)))
         no_coefs
         (λ s ls. subst (λ (m : NodeLine). IsSmallSpan c.f (at no_bound bounds s).e (span m.error))
-        (sym (line_at s (input_below s ls))) (small_units c.f _ (let f = few (limited_any s).e in
-        omega (arith, f))))
+        (sym (line_at s (input_below s ls))) (small_error s))
         (subst (λ (b : Bound). b.e ≤ 2 ^ error_box c) (sym (next_bound j l))
         (subst (λ (m : ℕ). (tree_bound c fn.inputs (get_or fn.results (outputs fn + j) (tree.Input 0))).e ≤ 2 ^ m)
-        (sym b) (next_error n fn some_width narrow calm j (tree.Input 0) l)))
+        (sym b) (next_few n fn some_width narrow calm j (tree.Input 0) l).1))
