@@ -9,7 +9,7 @@ use Rattle.fx_rational.specs.Dyadic.{Dyadic, dyadic_value, dyadic_sum, dyadic_di
 use Rattle.fx_rational.specs.Interval.{Interval, interval_sum, interval_sum_fits, interval_difference, interval_difference_fits, interval_product, interval_product_fits, is_inside}
 use Rattle.fx_rational.proofs.Lowest.{lowest_is}
 use Rattle.fx_inequalities.specs.Formula.{Formula, Num, Sum, Difference, Product, formula_value, formed, formula_fits, Span, span, point, zero_span, span_sum, span_difference, span_product}
-use Rattle.fx_inequalities.specs.Claim.{Claim, Below, BelowFraction, AboveFraction, Clear, inside, fits, holds}
+use Rattle.fx_inequalities.specs.Claim.{Claim, Below, BelowFraction, AboveFraction, Clear, inside, fits, fits_over, holds}
 use Rattle.fx_inequalities.specs.NodeConditions.{positive_quotient_claims, quotient_claims}
 use Rattle.fx_inequalities.proofs.Formed.{formed_is, at_most_same}
 use Rattle.fx_formulas.specs.declared.judgement.Judgement.{Judgement}
@@ -28,10 +28,6 @@ one_true a true e = e
 one_true a false e = e
 
 -- ---- dyadics that formulas come to
--- the first of three tests
-first_of_three : (a b c : Bool) → (a && b && c) ≡ true → a ≡ true
-first_of_three a b c h = (three a b c h).0
-
 pub both_again : (a b : Bool) → a ≡ true → b ≡ true → (a && b) ≡ true
 both_again a b e f = rw (e, f) refl
 
@@ -70,11 +66,6 @@ pub product_forms : (r : Option Dyadic) (x y : Dyadic) (f g : Formula) →
 unfolding formula_fits formed
 product_forms r x y f g = op_forms product_fits dyadic_product r x y f g
 
-pub sum_none : (f g : Formula) → Forms None f ⊎ Forms None g → Forms None (Sum f g)
-unfolding formula_fits formed
-sum_none f g (inl h) = first_none f g (sum_fits (formed f) (formed g)) h
-sum_none f g (inr h) = second_none f g (sum_fits (formed f) (formed g)) h
-
 pub difference_none : (f g : Formula) → Forms None f ⊎ Forms None g → Forms None (Difference f g)
 unfolding formula_fits formed
 difference_none f g (inl h) = first_none f g (difference_fits (formed f) (formed g)) h
@@ -99,9 +90,6 @@ pub point_forms : (x : Dyadic) (f : Formula) → Forms (Some x) f → FormsSpan 
 point_forms x f h =
     (both_again (formula_fits f) (formula_fits f) h.0 h.0, ap (λ (y : Dyadic). record { lo = y; hi = y }) h.1)
 
-point_none : (f : Formula) → Forms None f → FormsSpan None (point f)
-point_none f h = λ all. h (and_parts (formula_fits f) (formula_fits f) all).0
-
 -- every mantissa of both ends fits
 abbrev pub span_fits : Span → Bool
 span_fits s = formula_fits s.lo && formula_fits s.hi
@@ -109,38 +97,34 @@ span_fits s = formula_fits s.lo && formula_fits s.hi
 abbrev pub formed_span : Span → Interval
 formed_span s = record { lo = formed s.lo; hi = formed s.hi }
 
--- what an operation on intervals says is what it says of those that the spans come to
-moved : (fit : Interval → Interval → Bool) (op : Interval → Interval →
-    Interval) (r : Option Interval) (v w : Interval) (s t : Span) → SomeIff r (IsTrue (fit v w)) (op v w) →
-    FormsSpan (Some v) s → FormsSpan (Some w) t
-    → SomeIff r (IsTrue (fit (formed_span s) (formed_span t))) (op (formed_span s) (formed_span t))
-moved fit op r v w s t h j k =
-    subst (λ (y : Interval). SomeIff r (IsTrue (fit (formed_span s) y)) (op (formed_span s) y)) k.1
-    (subst (λ (y : Interval). SomeIff r (IsTrue (fit y w)) (op y w)) j.1 h)
-
-refit : {A : Type 0} (r : Option A) (p q : Bool) (x : A) → p ≡ q → SomeIff r (IsTrue p) x → SomeIff r (IsTrue q) x
-refit r p q x e h = subst (λ b. SomeIff r (IsTrue b) x) e h
+-- an operation on intervals gives what a span comes to, where it fits just where that span does
+span_forms : (fit : Interval → Interval → Bool) (op : Interval → Interval →
+    Interval) (u : Span) (r : Option Interval) (v w : Interval) (s t : Span) →
+    (formula_fits s.lo ≡ true → formula_fits s.hi ≡ true → formula_fits t.lo ≡ true → formula_fits t.hi ≡ true →
+    fit (formed_span s) (formed_span t) ≡ span_fits u) → op (formed_span s) (formed_span t) ≡ formed_span u →
+    SomeIff r (IsTrue (fit v w)) (op v w) → FormsSpan (Some v) s → FormsSpan (Some w) t → FormsSpan r u
+span_forms fit op u r v w s t fits is h j k =
+    let a = and_parts (formula_fits s.lo) (formula_fits s.hi) j.0 in
+    let b = and_parts (formula_fits t.lo) (formula_fits t.hi) k.0 in
+    subst (λ (p : Bool). SomeIff r (IsTrue p) (formed_span u)) (fits a.0 a.1 b.0 b.1)
+    (subst (λ (y : Interval). SomeIff r (IsTrue (fit (formed_span s) (formed_span t))) y) is
+    (subst (λ (y : Interval). SomeIff r (IsTrue (fit (formed_span s) y)) (op (formed_span s) y)) k.1
+    (subst (λ (y : Interval). SomeIff r (IsTrue (fit y w)) (op y w)) j.1 h)))
 
 pub plus_forms : (r : Option Interval) (v w : Interval) (s t : Span) →
     SomeIff r (IsTrue (interval_sum_fits v w)) (interval_sum v w) → FormsSpan (Some v) s → FormsSpan (Some w) t →
     FormsSpan r (span_sum s t)
 unfolding formula_fits formed interval_sum interval_sum_fits
-plus_forms r v w s t h j k =
-    let a = and_parts (formula_fits s.lo) (formula_fits s.hi) j.0 in
-    let b = and_parts (formula_fits t.lo) (formula_fits t.hi) k.0 in
-    refit r (interval_sum_fits (formed_span s) (formed_span t)) (span_fits (span_sum s t)) (formed_span (span_sum s t))
-    (rw (a.0, a.1, b.0, b.1) refl) (moved interval_sum_fits interval_sum r v w s t h j k)
+plus_forms r v w s t =
+    span_forms interval_sum_fits interval_sum (span_sum s t) r v w s t (λ a b c d. rw (a, b, c, d) refl) refl
 
 pub minus_forms : (r : Option Interval) (v w : Interval) (s t : Span) →
     SomeIff r (IsTrue (interval_difference_fits v w)) (interval_difference v w) → FormsSpan (Some v) s →
     FormsSpan (Some w) t → FormsSpan r (span_difference s t)
 unfolding formula_fits formed interval_difference interval_difference_fits
-minus_forms r v w s t h j k =
-    let a = and_parts (formula_fits s.lo) (formula_fits s.hi) j.0 in
-    let b = and_parts (formula_fits t.lo) (formula_fits t.hi) k.0 in
-    refit r (interval_difference_fits (formed_span s) (formed_span t)) (span_fits (span_difference s t))
-    (formed_span (span_difference s t)) (rw (a.0, a.1, b.0, b.1) refl)
-    (moved interval_difference_fits interval_difference r v w s t h j k)
+minus_forms r v w s t =
+    span_forms interval_difference_fits interval_difference (span_difference s t) r v w s t
+    (λ a b c d. rw (a, b, c, d) refl) refl
 
 -- four products at either end
 four : (a b c d : Bool) → (a && b && c && d) ≡ (((a && b) && (c && d)) && ((a && b) && (c && d)))
@@ -154,29 +138,15 @@ pub times_forms : (r : Option Interval) (v w : Interval) (s t : Span) →
     SomeIff r (IsTrue (interval_product_fits v w)) (interval_product v w) → FormsSpan (Some v) s →
     FormsSpan (Some w) t → FormsSpan r (span_product s t)
 unfolding formula_fits formed interval_product interval_product_fits
-times_forms r v w s t h j k =
-    let a = and_parts (formula_fits s.lo) (formula_fits s.hi) j.0 in
-    let b = and_parts (formula_fits t.lo) (formula_fits t.hi) k.0 in
+times_forms r v w s t =
     let ll = product_fits (formed s.lo) (formed t.lo) in let lh = product_fits (formed s.lo) (formed t.hi) in
     let hl = product_fits (formed s.hi) (formed t.lo) in let hh = product_fits (formed s.hi) (formed t.hi) in
-    let same : interval_product_fits (formed_span s) (formed_span t) ≡ span_fits (span_product s t) =
-    rw (a.0, a.1, b.0, b.1) (four ll lh hl hh) in
-    refit r (interval_product_fits (formed_span s) (formed_span t)) (span_fits (span_product s t))
-    (formed_span (span_product s t)) same (moved interval_product_fits interval_product r v w s t h j k)
+    span_forms interval_product_fits interval_product (span_product s t) r v w s t
+    (λ a b c d. rw (a, b, c, d) (four ll lh hl hh)) refl
 
 -- what fits has parts that do
 ends : (s : Span) → span_fits s ≡ true → (formula_fits s.lo ≡ true) × (formula_fits s.hi ≡ true)
 ends s h = and_parts (formula_fits s.lo) (formula_fits s.hi) h
-
-pub sum_parts : (s t : Span) → span_fits (span_sum s t) ≡ true → (span_fits s ≡ true) × (span_fits t ≡ true)
-unfolding formula_fits
-sum_parts s t all =
-    let e = ends (span_sum s t) all in
-    let lo = three (formula_fits s.lo) (formula_fits t.lo) (sum_fits (formed s.lo) (formed t.lo)) e.0 in
-    let hi = three (formula_fits s.hi) (formula_fits t.hi) (sum_fits (formed s.hi) (formed t.hi)) e.1 in (
-      both_again (formula_fits s.lo) (formula_fits s.hi) lo.0 hi.0,
-      both_again (formula_fits t.lo) (formula_fits t.hi) lo.1 hi.1,
-    )
 
 pub difference_parts : (s t : Span) → span_fits (span_difference s t) ≡ true →
     (span_fits s ≡ true) × (span_fits t ≡ true)
@@ -206,10 +176,6 @@ product_parts s t all =
     )
 
 -- a part that doesn't fit
-pub plus_none : (s t : Span) → FormsSpan None s ⊎ FormsSpan None t → FormsSpan None (span_sum s t)
-plus_none s t (inl h) = λ all. h (sum_parts s t all).0
-plus_none s t (inr h) = λ all. h (sum_parts s t all).1
-
 pub minus_none : (s t : Span) → FormsSpan None s ⊎ FormsSpan None t → FormsSpan None (span_difference s t)
 minus_none s t (inl h) = λ all. h (difference_parts s t all).0
 minus_none s t (inr h) = λ all. h (difference_parts s t all).1
@@ -241,14 +207,6 @@ below_numbers x y f g b h k e =
     ∙ at_most_same (formed_is f) (formed_is g) in
     (rw (h.0, k.0) refl, one_true b (is_at_most (formula_value f) (formula_value g)) (e ∙ same))
 
-pub below_numbers_none : (f g : Formula) → Forms None f ⊎ Forms None g → Beyond ≡ judged (Below f g ∷ [])
-below_numbers_none f g h =
-    not_fitting (Below f g ∷ []) (λ all. by h (and_parts (formula_fits f && formula_fits g) true all).0)
-  where
-    by : Forms None f ⊎ Forms None g → (formula_fits f && formula_fits g) ≡ true → ⊥
-    by (inl h) e = h (and_parts (formula_fits f) (formula_fits g) e).0
-    by (inr h) e = h (and_parts (formula_fits f) (formula_fits g) e).1
-
 -- an interval inside a limit
 with_true : (a b : Bool) → (a && b) ≡ (a && (b && true))
 with_true true true = refl
@@ -269,22 +227,6 @@ inside_some v w s t b h k e =
     ap₂ (λ (x y : Interval). is_dyadic_at_most x.hi y.hi) h.1 k.1
     ∙ at_most_same (formed_is s.hi) (formed_is t.hi) in
     (rw (f.0, f.1, n.0, n.1) refl, e ∙ rw (lo, hi) (with_true _ _))
-
-pub inside_none : (s t : Span) → FormsSpan None s ⊎ FormsSpan None t → Beyond ≡ judged (inside s t)
-inside_none s t h =
-    not_fitting (inside s t) (by (formula_fits s.lo) (formula_fits s.hi) (formula_fits t.lo) (formula_fits t.hi) h)
-  where
-    by : (a b c d : Bool) → ((a && b) ≡ true → ⊥) ⊎ ((c && d) ≡ true → ⊥) → ((c && a) && ((b && d) && true)) ≡ true → ⊥
-    by true true c d (inl h) k = h refl
-    by a b true true (inr h) k = h refl
-    by false b true d (inl h) k = absurd cc
-    by false b false d (inl h) k = absurd cc
-    by true false true d (inl h) k = absurd cc
-    by true false false d (inl h) k = absurd cc
-    by a b false d (inr h) k = absurd cc
-    by true true true false (inr h) k = absurd cc
-    by true false true false (inr h) k = absurd cc
-    by false b true false (inr h) k = absurd cc
 
 -- ---- signs
 above_times : (z : ℤ) (k : ℕ) → above_zero (z *ℤ pos (suc k)) ≡ above_zero z
@@ -398,47 +340,37 @@ pub quotient_else : (s t u : Span) (j : Judgement) → is_positive (formula_valu
 quotient_else s t u j e h = rw e h
 
 -- ---- fractions
--- a dyadic below a fraction, or above one
-pub below_some : (o : Option Bool) (d : Dyadic) (c : Rational) (f : Formula) (r : Rational) →
-    SomeIff o (IsTrue (fits_128 (d.m *ℤ pos (bottom c)))) (is_at_most (dyadic_value d) c)
-    → Forms (Some d) f → c ≡ lowest r →
-    SomeIff o (IsTrue (list_all fits (BelowFraction f r ∷ []))) (list_all holds (BelowFraction f r ∷ []))
-below_some (Some b) d c f r h k e =
+-- a test of a number that fits, beside a fraction
+beside_fraction : (o : Option Bool) (d : Dyadic) (c : Rational) (f : Formula) (r : Rational) (t u : Bool) →
+    SomeIff o (IsTrue (fits_128 (d.m *ℤ pos (bottom c)))) t → Forms (Some d) f → c ≡ lowest r → t ≡ u →
+    SomeIff o (IsTrue (fits_over f r && true)) (u && true)
+beside_fraction (Some b) d c f r t u h k e same =
     let fits : fits_128 ((formed f).m *ℤ pos (bottom (lowest r))) ≡ true =
-    ap (λ (y : Dyadic). fits_128 (y.m *ℤ pos (bottom (lowest r)))) (sym k.1)
-    ∙ ap (λ (q : Rational). fits_128 (d.m *ℤ pos (bottom q))) (sym e) ∙ h.0 in
-    let same : b ≡ is_at_most (formula_value f) r = h.1 ∙ ap (λ (q : Rational). is_at_most (dyadic_value d) q) e
-    ∙ ap (λ (y : Dyadic). is_at_most (dyadic_value y) (lowest r)) k.1
-    ∙ at_most_same (formed_is f) (lowest_is.same r) in
-    (rw (k.0, fits) refl, one_true b (is_at_most (formula_value f) r) same)
-below_some None d c f r h k e = λ all.
-    let t =
+    sym (λ i. fits_128 ((k.1 i).m *ℤ pos (bottom (e i)))) ∙ h.0 in
+    (rw (k.0, fits) refl, one_true b u (h.1 ∙ same))
+beside_fraction None d c f r t u h k e same = λ all.
+    let fits =
     and_parts (formula_fits f) (fits_128 ((formed f).m *ℤ pos (bottom (lowest r))))
-    (and_parts (fits (BelowFraction f r)) true all).0 in
-    h (ap (λ (q : Rational). fits_128 (d.m *ℤ pos (bottom q))) e
-    ∙ ap (λ (y : Dyadic). fits_128 (y.m *ℤ pos (bottom (lowest r)))) k.1 ∙ t.1)
+    (and_parts (fits_over f r) true all).0 in
+    h ((λ i. fits_128 ((k.1 i).m *ℤ pos (bottom (e i)))) ∙ fits.1)
+
+-- a dyadic below a fraction, or above one
+pub below_some : (o : Option Bool) {d : Dyadic} {c : Rational} (f : Formula) (r : Rational) →
+    SomeIff o (IsTrue (fits_128 (d.m *ℤ pos (bottom c)))) (is_at_most (dyadic_value d) c) → Forms (Some d) f →
+    c ≡ lowest r → SomeIff o (IsTrue (list_all fits (BelowFraction f r ∷ []))) (list_all holds (BelowFraction f r ∷ []))
+below_some o {d} {c} f r h k e =
+    beside_fraction o d c f r (is_at_most (dyadic_value d) c) (is_at_most (formula_value f) r) h k e
+    ((λ i. is_at_most (dyadic_value (k.1 i)) (e i)) ∙ at_most_same (formed_is f) (lowest_is.same r))
 
 pub below_none : (f : Formula) (r : Rational) → Forms None f → Beyond ≡ judged (BelowFraction f r ∷ [])
 below_none f r h = rw (false_from_ne_true (formula_fits f) h) refl
 
-pub above_some : (o : Option Bool) (d : Dyadic) (c : Rational) (f : Formula) (r : Rational) →
-    SomeIff o (IsTrue (fits_128 (d.m *ℤ pos (bottom c)))) (is_at_most c (dyadic_value d))
-    → Forms (Some d) f → c ≡ lowest r →
-    SomeIff o (IsTrue (list_all fits (AboveFraction r f ∷ []))) (list_all holds (AboveFraction r f ∷ []))
-above_some (Some b) d c f r h k e =
-    let fits : fits_128 ((formed f).m *ℤ pos (bottom (lowest r))) ≡ true =
-    ap (λ (y : Dyadic). fits_128 (y.m *ℤ pos (bottom (lowest r)))) (sym k.1)
-    ∙ ap (λ (q : Rational). fits_128 (d.m *ℤ pos (bottom q))) (sym e) ∙ h.0 in
-    let same : b ≡ is_at_most r (formula_value f) = h.1 ∙ ap (λ (q : Rational). is_at_most q (dyadic_value d)) e
-    ∙ ap (λ (y : Dyadic). is_at_most (lowest r) (dyadic_value y)) k.1
-    ∙ at_most_same (lowest_is.same r) (formed_is f) in
-    (rw (k.0, fits) refl, one_true b (is_at_most r (formula_value f)) same)
-above_some None d c f r h k e = λ all.
-    let t =
-    and_parts (formula_fits f) (fits_128 ((formed f).m *ℤ pos (bottom (lowest r))))
-    (and_parts (fits (AboveFraction r f)) true all).0 in
-    h (ap (λ (q : Rational). fits_128 (d.m *ℤ pos (bottom q))) e
-    ∙ ap (λ (y : Dyadic). fits_128 (y.m *ℤ pos (bottom (lowest r)))) k.1 ∙ t.1)
+pub above_some : (o : Option Bool) {d : Dyadic} {c : Rational} (f : Formula) (r : Rational) →
+    SomeIff o (IsTrue (fits_128 (d.m *ℤ pos (bottom c)))) (is_at_most c (dyadic_value d)) → Forms (Some d) f →
+    c ≡ lowest r → SomeIff o (IsTrue (list_all fits (AboveFraction r f ∷ []))) (list_all holds (AboveFraction r f ∷ []))
+above_some o {d} {c} f r h k e =
+    beside_fraction o d c f r (is_at_most c (dyadic_value d)) (is_at_most r (formula_value f)) h k e
+    ((λ i. is_at_most (e i) (dyadic_value (k.1 i))) ∙ at_most_same (lowest_is.same r) (formed_is f))
 
 pub above_none : (f : Formula) (r : Rational) → Forms None f → Beyond ≡ judged (AboveFraction r f ∷ [])
 above_none f r h = rw (false_from_ne_true (formula_fits f) h) refl

@@ -191,6 +191,7 @@ pub fn number(d: Dyadic) -> Option<Dyadic>
 }
 
 /// The sum of two numbers.
+#[tactic(auto, unfolding(fx_inequalities::specs::Formula::formula_fits))]
 pub fn sum(a: Option<Dyadic>, b: Option<Dyadic>) -> Option<Dyadic>
     ensures { (f g : Formula) → Forms a f → Forms b g → Forms result (Sum f g) }
 {
@@ -204,6 +205,7 @@ pub fn sum(a: Option<Dyadic>, b: Option<Dyadic>) -> Option<Dyadic>
 }
 
 /// The difference of two numbers.
+#[tactic(auto, unfolding(fx_inequalities::specs::Formula::formula_fits))]
 pub fn difference(a: Option<Dyadic>, b: Option<Dyadic>) -> Option<Dyadic>
     ensures { (f g : Formula) → Forms a f → Forms b g → Forms result (Difference f g) }
 {
@@ -323,6 +325,7 @@ pub fn ends(lo: Option<Dyadic>, hi: Option<Dyadic>) -> Option<Interval>
 }
 
 /// The ends are added.
+#[tactic(auto, unfolding(fx_inequalities::specs::Formula::formula_fits))]
 pub fn plus(a: Option<Interval>, b: Option<Interval>) -> Option<Interval>
     ensures { (s t : Span) → FormsSpan a s → FormsSpan b t → FormsSpan result (span_sum s t) }
 {
@@ -336,6 +339,7 @@ pub fn plus(a: Option<Interval>, b: Option<Interval>) -> Option<Interval>
 }
 
 /// From each end the other end is taken away.
+#[tactic(auto, unfolding(fx_inequalities::specs::Formula::formula_fits))]
 pub fn minus(a: Option<Interval>, b: Option<Interval>) -> Option<Interval>
     ensures { (s t : Span) → FormsSpan a s → FormsSpan b t → FormsSpan result (span_difference s t) }
 {

@@ -1,5 +1,5 @@
 -- The error of a quotient: its ends, and its answer at each sign of the divisor.
-use Rattle.std.proofs.Common.{◌≡◌, ℕ, suc, pred, ◌+◌, ◌*◌, ◌^◌, ◌<◌, ◌≤◌, ltb, Bool, true, false, ◌&&◌, ◌||◌, if◌then◌else◌, Some, None, Result, Err, List, [], ◌∷◌, ℤ, pos, negsuc, ◌-ℤ◌, ◌*ℤ◌, neg_ℤ, ◌≤ℤ◌, ◌⊎◌, inl, inr, FitsSigned, refl, sym, ap, ap₂, subst, ◌∙◌, arith, pow-add}
+use Rattle.std.proofs.Common.{◌≡◌, ℕ, suc, pred, ◌+◌, ◌*◌, ◌^◌, ◌<◌, ◌≤◌, ltb, Bool, true, false, not, ◌&&◌, ◌||◌, if◌then◌else◌, Some, None, Result, Err, List, [], ◌∷◌, ℤ, pos, negsuc, ◌-ℤ◌, ◌*ℤ◌, neg_ℤ, ◌≤ℤ◌, ◌⊎◌, inl, inr, FitsSigned, refl, sym, ap, ap₂, subst, ◌∙◌, arith, pow-add}
 use Rattle.std.specs.Prelude.{unsigned_abs}
 use Rattle.std.specs.List.{list_all}
 use Rattle.std.specs.Int.{w128}
@@ -54,9 +54,18 @@ ratio_bottom a b h =
     ∙ ap (λ (k : ℕ). k * unsigned_abs b.m) (power_bottom a.e)
     ∙ (let e : 2 ^ a.e * unsigned_abs b.m ≡ unsigned_abs b.m * 2 ^ a.e = omega arith in e)
 
+-- m * 2^p over d * 2^k, down on the grid of point f, less a unit
+abbrev pub quotient_floor : ℤ → ℕ → ℕ → ℕ → ℤ → Dyadic
+quotient_floor m p d k f =
+    lowest_dyadic (floor_div ((m *ℤ pos (2 ^ p)) *ℤ pos (2 ^ error_grid f)) (d * 2 ^ k) -ℤ pos (units_below f))
+    (error_grid f)
+
+pub quotient_floor_same : {m n f g : ℤ} {p q d e k l : ℕ} → m ≡ n → p ≡ q → d ≡ e → k ≡ l → f ≡ g →
+    quotient_floor m p d k f ≡ quotient_floor n q e l g
+quotient_floor_same a b c d e = (λ i. quotient_floor (a i) (b i) (c i) (d i) (e i))
+
 pub quotient_below_end : (a b : Dyadic) (f : ℤ) → 0 < unsigned_abs b.m →
-    lowest_dyadic (floor_div ((a.m *ℤ pos (2 ^ b.e)) *ℤ pos (2 ^ error_grid f)) (unsigned_abs b.m * 2 ^ a.e) -ℤ pos
-    (units_below f)) (error_grid f)
+    quotient_floor a.m b.e (unsigned_abs b.m) a.e f
     ≡ grid_down (error_grid f) (minus (ratio (dyadic_value a) (dyadic_value b)) (unit_value f))
 quotient_below_end a b f h =
     let e = error_grid f in
@@ -65,9 +74,7 @@ quotient_below_end a b f h =
 
 -- with the other sign, before it's turned back
 abbrev pub turned_floor : Dyadic → Dyadic → ℤ → Dyadic
-turned_floor a b f =
-    lowest_dyadic (floor_div ((neg_ℤ a.m *ℤ pos (2 ^ b.e)) *ℤ pos (2 ^ error_grid f))
-    (unsigned_abs b.m * 2 ^ a.e) -ℤ pos (units_below f)) (error_grid f)
+turned_floor a b f = quotient_floor (neg_ℤ a.m) b.e (unsigned_abs b.m) a.e f
 
 pub quotient_above_end : (a b : Dyadic) (f : ℤ) → 0 < unsigned_abs b.m →
     turned (turned_floor a b f) ≡ grid_up (error_grid f) (plus (ratio (dyadic_value a) (dyadic_value b)) (unit_value f))
@@ -93,18 +100,25 @@ limit_turned m p f h =
     ap pos e ∙ ap (λ (z : ℤ). z *ℤ pos (2 ^ p)) (sym (limit_is m f h))
 
 -- ---- ends of the divisor
-picked : (t : Bool) (x y : Dyadic) → above_zero x.m ≡ true → above_zero y.m ≡ true →
-    above_zero (if t then x else y).m ≡ true
-picked true x y p q = p
-picked false x y p q = q
+either_way : (P : Dyadic → Type 0) (t : Bool) {x y : Dyadic} → (t ≡ true → P x) → (t ≡ false → P y) →
+    P (if t then x else y)
+either_way P true p q = p refl
+either_way P false p q = q refl
 
-pub least_above : (x y : Dyadic) → above_zero x.m ≡ true → above_zero y.m ≡ true → above_zero (least x y).m ≡ true
+abbrev pub IsAboveZero : Dyadic → Type 0
+IsAboveZero d = above_zero d.m ≡ true
+
+pub least_above : (x y : Dyadic) → IsAboveZero x → IsAboveZero y → IsAboveZero (least x y)
 unfolding least
-least_above x y p q = picked (is_dyadic_at_most x y) x y p q
+least_above x y p q = either_way IsAboveZero (is_dyadic_at_most x y) (λ e. p) (λ e. q)
 
-pub greatest_above : (x y : Dyadic) → above_zero x.m ≡ true → above_zero y.m ≡ true → above_zero (greatest x y).m ≡ true
+pub greatest_above : (x y : Dyadic) → IsAboveZero x → IsAboveZero y → IsAboveZero (greatest x y)
 unfolding greatest
-greatest_above x y p q = picked (is_dyadic_at_most y x) x y p q
+greatest_above x y p q = either_way IsAboveZero (is_dyadic_at_most y x) (λ e. p) (λ e. q)
+
+pub turned_choice : (t : Bool) (x y : Dyadic) → (if not t then x else y) ≡ (if t then y else x)
+turned_choice true x y = refl
+turned_choice false x y = refl
 
 nonneg_value : (d : Dyadic) → below_zero d.m ≡ false → Nonneg (dyadic_value d)
 unfolding dyadic_value over
@@ -122,111 +136,65 @@ turned_value d h = nonneg_from (go d.m h)
     go (pos n) e = absurd cc
     go (negsuc n) e = omega (arith, ints)
 
--- w is one of two numbers, and above neither or below neither
-pub record IsLeastOf (u v w : Rational) : Type 0 where
-  pub first : AtMost w u
-  pub second : AtMost w v
+-- w is one of two numbers, and comes before both
+pub record IsFirstOf (Before : Rational → Rational → Type 0) (u v w : Rational) : Type 0 where
+  pub first : Before w u
+  pub second : Before w v
   pub one : Equal w u ⊎ Equal w v
 
-pub record IsGreatestOf (u v w : Rational) : Type 0 where
-  pub first : AtMost u w
-  pub second : AtMost v w
-  pub one : Equal w u ⊎ Equal w v
+-- the greater ones come first
+abbrev pub AtLeast : Rational → Rational → Type 0
+AtLeast x y = AtMost y x
 
-module _ (a l h : Dyadic) (al : above_zero l.m ≡ true) (ah : above_zero h.m ≡ true) where
-  abbrev by_low : Rational
-  by_low = ratio (dyadic_value a) (dyadic_value l)
+module _ (a l h : Dyadic) (al : IsAboveZero l) (ah : IsAboveZero h) where
+  abbrev quotient_by : Dyadic → Rational
+  quotient_by d = ratio (dyadic_value a) (dyadic_value d)
 
-  abbrev by_high : Rational
-  by_high = ratio (dyadic_value a) (dyadic_value h)
+  abbrev IsFirst : (Rational → Rational → Type 0) → Dyadic → Type 0
+  IsFirst Before d = IsFirstOf Before (quotient_by l) (quotient_by h) (quotient_by d)
 
-  low_is : (t : Bool) → below_zero a.m ≡ t → (s : Bool) → is_dyadic_at_most l h ≡ s → (r : Bool) →
-      is_dyadic_at_most h l ≡ r →
-      IsLeastOf by_low by_high
-      (ratio (dyadic_value a) (dyadic_value (if t then (if s then l else h) else (if r then l else h))))
-  low_is true e true p r q = record {
-    first = le_refl _;
-    second =
-        rises (dyadic_value a) (dyadic_value l) (dyadic_value h)
-        (above_value l al) (above_value h ah) (turned_value a e)
-        (at_most_true _ _ p);
-    one = inl (equal_refl _);
-  }
-  low_is true e false p r q =
-      record {
-        first =
-            rises (dyadic_value a) (dyadic_value h) (dyadic_value l)
-            (above_value h ah) (above_value l al) (turned_value a e)
-            (at_most_false _ _ p);
-        second = le_refl _;
-        one = inr (equal_refl _);
-      }
-  low_is false e s p true q = record {
-    first = le_refl _;
-    second =
-        falls (dyadic_value a) (dyadic_value h) (dyadic_value l)
-        (above_value h ah) (above_value l al) (nonneg_value a e)
-        (at_most_true _ _ q);
-    one = inl (equal_refl _);
-  }
-  low_is false e s p false q =
-      record {
-        first =
-            falls (dyadic_value a) (dyadic_value l) (dyadic_value h)
-            (above_value l al) (above_value h ah) (nonneg_value a e)
-            (at_most_false _ _ q);
-        second = le_refl _;
-        one = inr (equal_refl _);
-      }
+  -- the one of two whose quotient comes before the other's
+  by_test : (Before : Rational → Rational → Type 0) (t : Bool) → ((x : Rational) → Before x x) →
+      (t ≡ true → Before (quotient_by l) (quotient_by h)) → (t ≡ false → Before (quotient_by h) (quotient_by l)) →
+      IsFirst Before (if t then l else h)
+  by_test Before t same p q =
+      either_way (IsFirst Before) t (λ e. record { first = same _; second = p e; one = inl (equal_refl _) })
+      (λ e. record { first = q e; second = same _; one = inr (equal_refl _) })
 
-  high_is : (t : Bool) → below_zero a.m ≡ t → (s : Bool) → is_dyadic_at_most l h ≡ s → (r : Bool) →
-      is_dyadic_at_most h l ≡ r →
-      IsGreatestOf by_low by_high
-      (ratio (dyadic_value a) (dyadic_value (if t then (if r then l else h) else (if s then l else h))))
-  high_is true e s p true q = record {
-    first = le_refl _;
-    second =
-        rises (dyadic_value a) (dyadic_value h) (dyadic_value l)
-        (above_value h ah) (above_value l al) (turned_value a e)
-        (at_most_true _ _ q);
-    one = inl (equal_refl _);
-  }
-  high_is true e s p false q =
-      record {
-        first =
-            rises (dyadic_value a) (dyadic_value l) (dyadic_value h)
-            (above_value l al) (above_value h ah) (turned_value a e)
-            (at_most_false _ _ q);
-        second = le_refl _;
-        one = inr (equal_refl _);
-      }
-  high_is false e true p r q = record {
-    first = le_refl _;
-    second =
-        falls (dyadic_value a) (dyadic_value l) (dyadic_value h)
-        (above_value l al) (above_value h ah) (nonneg_value a e)
-        (at_most_true _ _ p);
-    one = inl (equal_refl _);
-  }
-  high_is false e false p r q =
-      record {
-        first =
-            falls (dyadic_value a) (dyadic_value h) (dyadic_value l)
-            (above_value h ah) (above_value l al) (nonneg_value a e)
-            (at_most_false _ _ p);
-        second = le_refl _;
-        one = inr (equal_refl _);
-      }
+  -- with the divisor the quotient comes later
+  abbrev IsLater : (Rational → Rational → Type 0) → Type 0
+  IsLater Before = (x y : Dyadic) → IsAboveZero x → IsAboveZero y → AtMost (dyadic_value x) (dyadic_value y) →
+      Before (quotient_by x) (quotient_by y)
 
-  pub least_is : IsLeastOf by_low by_high
-      (ratio (dyadic_value a) (dyadic_value (lesser_divisor a (record { lo = l; hi = h }))))
-  unfolding least greatest
-  least_is = low_is (below_zero a.m) refl (is_dyadic_at_most l h) refl (is_dyadic_at_most h l) refl
+  by_least : (Before : Rational → Rational → Type 0) → ((x : Rational) → Before x x) → IsLater Before →
+      IsFirst Before (least l h)
+  unfolding least
+  by_least Before same later =
+      by_test Before (is_dyadic_at_most l h) same (λ p. later l h al ah (at_most_true _ _ p))
+      (λ p. later h l ah al (at_most_false _ _ p))
 
-  pub greatest_is : IsGreatestOf by_low by_high
-      (ratio (dyadic_value a) (dyadic_value (greater_divisor a (record { lo = l; hi = h }))))
-  unfolding least greatest
-  greatest_is = high_is (below_zero a.m) refl (is_dyadic_at_most l h) refl (is_dyadic_at_most h l) refl
+  by_greatest : (Before : Rational → Rational → Type 0) → ((x : Rational) → Before x x) →
+      IsLater (λ x y. Before y x) → IsFirst Before (greatest l h)
+  unfolding greatest
+  by_greatest Before same later =
+      by_test Before (is_dyadic_at_most h l) same (λ p. later h l ah al (at_most_true _ _ p))
+      (λ p. later l h al ah (at_most_false _ _ p))
+
+  rising : below_zero a.m ≡ true → IsLater AtMost
+  rising e x y p q = rises (dyadic_value a) _ _ (above_value x p) (above_value y q) (turned_value a e)
+
+  falling : below_zero a.m ≡ false → IsLater AtLeast
+  falling e x y p q = falls (dyadic_value a) _ _ (above_value x p) (above_value y q) (nonneg_value a e)
+
+  pub least_is : IsFirst AtMost (lesser_divisor a (record { lo = l; hi = h }))
+  least_is =
+      either_way (IsFirst AtMost) (below_zero a.m) (λ e. by_least AtMost le_refl (rising e))
+      (λ e. by_greatest AtMost le_refl (falling e))
+
+  pub greatest_is : IsFirst AtLeast (greater_divisor a (record { lo = l; hi = h }))
+  greatest_is =
+      either_way (IsFirst AtLeast) (below_zero a.m) (λ e. by_greatest AtLeast le_refl (rising e))
+      (λ e. by_least AtLeast le_refl (falling e))
 
 either : {u v u' v' w : Rational} → Equal u u' → Equal v v' → Equal w u ⊎ Equal w v → Equal w u' ⊎ Equal w v'
 either p q (inl e) = inl (equal_trans e p)
@@ -240,84 +208,72 @@ module _ (a b : Interval) (s t : Span) (f : ℤ) (bl : above_zero b.lo.m ≡ tru
   th : Equal (dyadic_value b.hi) (formula_value t.hi)
   th = forms_value b.hi t.hi (ap (λ (i : Interval). i.hi) fb.1)
 
+  -- the same of what formulas come to, where what comes before a number comes before its equals
+  first_same : (Before : Rational → Rational → Type 0) →
+      ((x y z : Rational) → Before x y → Equal y z → Before x z) → (d : Dyadic) (g : Formula) →
+      d ≡ formed g → {w : Rational} →
+      IsFirstOf Before (ratio (dyadic_value d) (dyadic_value b.lo)) (ratio (dyadic_value d) (dyadic_value b.hi)) w →
+      IsFirstOf Before (ratio (formula_value g) (formula_value t.lo)) (ratio (formula_value g) (formula_value t.hi)) w
+  first_same Before move d g is p =
+      let x = forms_value d g is in let u = ratio_same _ _ _ _ (above_value b.lo bl) x tl in
+      let v = ratio_same _ _ _ _ (above_value b.hi bh) x th in
+      record { first = move _ _ _ p.first u; second = move _ _ _ p.second v; one = either u v p.one }
+
   pub low_end : grid_down (error_grid f)
       (minus (ratio (dyadic_value a.lo) (dyadic_value (lesser_divisor a.lo b))) (unit_value f))
       ≡ grid_down (error_grid f) (widened f (positive_bounds s t)).lo
   low_end =
-      let p = least_is a.lo b.lo b.hi bl bh in let x = forms_value a.lo s.lo (ap (λ (i : Interval). i.lo) fa.1) in
-      let u =
-      ratio_same (dyadic_value a.lo) (dyadic_value b.lo) (formula_value s.lo) (formula_value t.lo)
-      (above_value b.lo bl) x tl in
-      let v =
-      ratio_same (dyadic_value a.lo) (dyadic_value b.hi) (formula_value s.lo) (formula_value t.hi)
-      (above_value b.hi bh) x th in
+      let p =
+      first_same AtMost (λ x y z l e. le_trans l (le_of_equal e)) a.lo s.lo (ap (λ (i : Interval). i.lo) fa.1)
+      (least_is a.lo b.lo b.hi bl bh) in
       down_same (error_grid f) _ _
-      (minus_same (equal_sym (lesser_of (ratio (formula_value s.lo) (formula_value t.lo))
-      (ratio (formula_value s.lo) (formula_value t.hi))
-      (ratio (dyadic_value a.lo) (dyadic_value (lesser_divisor a.lo b)))
-      (le_trans p.first (le_of_equal u)) (le_trans p.second (le_of_equal v)) (either u v p.one))) (equal_refl
-      (unit_value f)))
+      (minus_same (equal_sym (lesser_of _ _ _ p.first p.second p.one)) (equal_refl (unit_value f)))
 
   pub high_end : grid_up (error_grid f)
       (plus (ratio (dyadic_value a.hi) (dyadic_value (greater_divisor a.hi b))) (unit_value f))
       ≡ grid_up (error_grid f) (widened f (positive_bounds s t)).hi
   high_end =
-      let p = greatest_is a.hi b.lo b.hi bl bh in let x = forms_value a.hi s.hi (ap (λ (i : Interval). i.hi) fa.1) in
-      let u =
-      ratio_same (dyadic_value a.hi) (dyadic_value b.lo) (formula_value s.hi) (formula_value t.lo)
-      (above_value b.lo bl) x tl in
-      let v =
-      ratio_same (dyadic_value a.hi) (dyadic_value b.hi) (formula_value s.hi) (formula_value t.hi)
-      (above_value b.hi bh) x th in
+      let p =
+      first_same AtLeast (λ x y z l e. le_trans (le_of_equal (equal_sym e)) l) a.hi s.hi
+      (ap (λ (i : Interval). i.hi) fa.1) (greatest_is a.hi b.lo b.hi bl bh) in
       up_same (error_grid f) _ _
-      (plus_same (equal_sym (greater_of (ratio (formula_value s.hi) (formula_value t.lo))
-      (ratio (formula_value s.hi) (formula_value t.hi))
-      (ratio (dyadic_value a.hi) (dyadic_value (greater_divisor a.hi b)))
-      (le_trans (le_of_equal (equal_sym u)) p.first) (le_trans (le_of_equal (equal_sym v)) p.second)
-      (either u v p.one))) (equal_refl (unit_value f)))
+      (plus_same (equal_sym (greater_of _ _ _ p.first p.second p.one)) (equal_refl (unit_value f)))
 
 -- ---- what a judgement says
+abbrev verdict : Bool → Bool → Judgement
+verdict b c = if b then (if c then judgement.Holds else judgement.Fails) else judgement.Beyond
+
+verdict_beyond : (b c : Bool) → judgement.Beyond ≡ verdict b c → b ≡ false
+verdict_beyond false c e = refl
+verdict_beyond true true e = absurd cc
+verdict_beyond true false e = absurd cc
+
+verdict_is : (d b c : Bool) → (if d then judgement.Holds else judgement.Fails) ≡ verdict b c → (b ≡ true) × (c ≡ d)
+verdict_is true true true e = (refl, refl)
+verdict_is true true false e = absurd cc
+verdict_is true false c e = absurd cc
+verdict_is false true false e = (refl, refl)
+verdict_is false true true e = absurd cc
+verdict_is false false c e = absurd cc
+
 pub beyond_fits : (cs : List Claim) → judgement.Beyond ≡ judged cs → list_all fits cs ≡ false
-beyond_fits cs e = by (list_all fits cs) (list_all holds cs) refl e
-  where
-    by : (b c : Bool) → list_all fits cs ≡ b →
-        judgement.Beyond ≡ (if b then (if c then judgement.Holds else judgement.Fails) else judgement.Beyond) →
-        list_all fits cs ≡ false
-    by false c h e = h
-    by true true h e = absurd cc
-    by true false h e = absurd cc
+beyond_fits cs e = verdict_beyond (list_all fits cs) (list_all holds cs) e
 
 pub other_fits : (cs : List Claim) (j : Judgement) → j ≡ judged cs → (j ≡ judgement.Beyond → ⊥) →
     list_all fits cs ≡ true
 other_fits cs j e other = by (list_all fits cs) refl e
   where
-    by : (b : Bool) → list_all fits cs ≡ b →
-        j ≡ (if b then (if list_all holds cs then judgement.Holds else judgement.Fails) else judgement.Beyond) →
-        list_all fits cs ≡ true
+    by : (b : Bool) → list_all fits cs ≡ b → j ≡ verdict b (list_all holds cs) → list_all fits cs ≡ true
     by true h e = h
     by false h e = absurd (other e)
 
 pub holds_both : (cs : List Claim) → judgement.Holds ≡ judged cs →
     (list_all fits cs ≡ true) × (list_all holds cs ≡ true)
-holds_both cs e = by (list_all fits cs) (list_all holds cs) refl refl e
-  where
-    by : (b c : Bool) → list_all fits cs ≡ b → list_all holds cs ≡ c →
-        judgement.Holds ≡ (if b then (if c then judgement.Holds else judgement.Fails) else judgement.Beyond) →
-        (list_all fits cs ≡ true) × (list_all holds cs ≡ true)
-    by true true h k e = (h, k)
-    by true false h k e = absurd cc
-    by false c h k e = absurd cc
+holds_both cs e = verdict_is true (list_all fits cs) (list_all holds cs) e
 
 pub fails_both : (cs : List Claim) → judgement.Fails ≡ judged cs →
     (list_all fits cs ≡ true) × (list_all holds cs ≡ false)
-fails_both cs e = by (list_all fits cs) (list_all holds cs) refl refl e
-  where
-    by : (b c : Bool) → list_all fits cs ≡ b → list_all holds cs ≡ c →
-        judgement.Fails ≡ (if b then (if c then judgement.Holds else judgement.Fails) else judgement.Beyond) →
-        (list_all fits cs ≡ true) × (list_all holds cs ≡ false)
-    by true false h k e = (h, k)
-    by true true h k e = absurd cc
-    by false c h k e = absurd cc
+fails_both cs e = verdict_is false (list_all fits cs) (list_all holds cs) e
 
 -- ---- an error less a unit is short
 unit_short : (f : ℤ) → IsPoint f → IsShort 512 (unit_at f)
@@ -364,22 +320,10 @@ module _ (f : ℤ) (s t : Span) where
       let p = not_positive (formula_value t.lo) r in
       (λ i. choose (sym p i) (is_positive (formula_value t.hi)) (sym r i) (sym n i))
 
-  neither : (p q r n : Bool) → (p && q) ≡ false → (r && n) ≡ false →
-      Path (Result Interval Why) (Err Zero) (choose p q r n)
-  neither true true r n h k = absurd cc
-  neither true false true true h k = absurd cc
-  neither true false true false h k = refl
-  neither true false false n h k = refl
-  neither false q true true h k = absurd cc
-  neither false q true false h k = refl
-  neither false q false n h k = refl
-
   pub unit_zero : (is_positive (formula_value t.lo) && is_positive (formula_value t.hi)) ≡ false →
       (is_negative (formula_value t.lo) && is_negative (formula_value t.hi)) ≡ false →
       Path (Result Interval Why) (Err Zero) (unit_quotient f s t)
-  unit_zero h k =
-      neither (is_positive (formula_value t.lo)) (is_positive (formula_value t.hi)) (is_negative (formula_value t.lo))
-      (is_negative (formula_value t.hi)) h k
+  unit_zero h k = rw (h, k) refl
 
   -- what doesn't fit
   pub beyond_around : (bounds : Bounds) → ((u : Span) → list_all fits (quotient_claims s t u) ≡ false) →
@@ -438,6 +382,17 @@ turned_above b z t fb fz h =
     let p = ap (λ (d : Dyadic). above_zero d.m) lo ∙ below_above b.hi.m b.hi.e below.1 in
     let q = ap (λ (d : Dyadic). above_zero d.m) hi ∙ below_above b.lo.m b.lo.e below.0 in
     rw (p, q) refl
+
+-- a divisor below zero, with a number that doesn't fit
+pub under_fails : (f : ℤ) (b : Interval) (s t : Span) → (below_zero b.lo.m && below_zero b.hi.m) ≡ true →
+    FormsSpan (Some b) t → FormsSpan None (span_difference zero_span s) ⊎ FormsSpan None (span_difference zero_span t) →
+    Path (Result Interval Why) (Err Beyond) (unit_quotient f s t)
+under_fails f b s t below fb none =
+    let signs = and_parts (below_zero b.lo.m) (below_zero b.hi.m) below in
+    let r = sym (below_formed b.lo t.lo (ap (λ (i : Interval). i.lo) fb.1)) ∙ signs.0 in
+    let n = sym (below_formed b.hi t.hi (ap (λ (i : Interval). i.hi) fb.1)) ∙ signs.1 in
+    beyond_around f s t (widened f (positive_bounds (span_difference zero_span s) (span_difference zero_span t)))
+    (under_beyond f s t r none) ∙ unit_under f s t r n
 
 -- ---- after the test of the divisors
 module _ (f : ℤ) (g s t : Span) where

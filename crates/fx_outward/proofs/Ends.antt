@@ -39,10 +39,6 @@ whole_places n w d r p e some =
     ∙ ap (λ (z : ℤ). (w *ℤ pos d) *ℤ pos p +ℤ z) parts ∙ spread w (pos d) (pos p) (pos f) (pos R))
     (mod_below (r * p) d some)
 
-pub rest_less : (n : ℤ) (d r : ℕ) → 0 < d → pos r ≡ n -ℤ floor_div n d *ℤ pos d → r < d
-rest_less n d r some e =
-    let f = floor_is n d some in let p = f.not_above in let q = f.greatest in omega (arith, ints, e, p, q)
-
 pub rest_sum : (n : ℤ) (d r : ℕ) → pos r ≡ n -ℤ floor_div n d *ℤ pos d → n ≡ floor_div n d *ℤ pos d +ℤ pos r
 rest_sum n d r e = omega (arith, ints, e)
 

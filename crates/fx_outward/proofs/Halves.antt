@@ -20,9 +20,6 @@ place_zero r p q f d l e h = rw e (omega (arith, h))
 pub place_one : (r p q f d l : ℕ) → q ≡ p + p → r * p ≡ f * d + l → d ≤ l + l → r * q ≡ (f + f + 1) * d + ((l + l) - d)
 place_one r p q f d l e h k = let back : d + ((l + l) - d) ≡ l + l = omega (arith, k) in rw e (omega (arith, h, back))
 
-pub places_are : (n f d l : ℕ) → n ≡ f * d + l → l < d → f ≡ n / d
-places_are n f d l h lt = sym (ap (λ (k : ℕ). k / d) h ∙ div-mul-add f d l lt)
-
 -- ---- an even number
 pub halves : (h : ℤ) → floor_div (h *ℤ pos 2) 2 ≡ h
 halves h =
@@ -30,17 +27,6 @@ halves h =
     let p = f.not_above in
     let q = f.greatest in
     omega (arith, ints, p, q)
-
-whole_half : (w : ℤ) (f s : ℕ) → 0 < s → f % 2 ≡ 0 →
-    (w *ℤ pos (2 ^ (s - 1)) +ℤ pos (f / 2)) *ℤ pos 2 ≡ w *ℤ pos (2 ^ s) +ℤ pos f
-whole_half w f zero h e = absurd (omega (arith, h))
-whole_half w f (suc t) h e =
-    let one : suc t - 1 ≡ t = omega arith in let d = div-add-mod' f 2 in let g = doubled w t in
-    let z : (w *ℤ pos (2 ^ t) +ℤ pos (f / 2)) *ℤ pos 2 ≡ w *ℤ pos (2 ^ suc t) +ℤ pos f = omega (arith, ints, d, e, g) in
-    ap (λ (k : ℕ). (w *ℤ pos (2 ^ k) +ℤ pos (f / 2)) *ℤ pos 2) one ∙ z
-
-even_test : (f : ℕ) → (f % 2 == 0) ≡ true → f % 2 ≡ 0
-even_test f h = grind (arith, h)
 
 odd_test : (f : ℕ) → (f % 2 == 0) ≡ false → f % 2 ≡ 1
 odd_test f h =
@@ -50,21 +36,6 @@ odd_test f h =
 
 pub is_even_double : (h : ℤ) → is_even (h *ℤ pos 2) ≡ true
 is_even_double h = let e = even_double h in rw e refl
-
-pub even_step : (w : ℤ) (f s e : ℕ) → 0 < s → s ≤ e → (f % 2 == 0) ≡ true →
-    lowest_dyadic (w *ℤ pos (2 ^ (s - 1)) +ℤ pos (f / 2)) (e - 1) ≡ lowest_dyadic (w *ℤ pos (2 ^ s) +ℤ pos f) e
-even_step w f s e some le even =
-    let h = w *ℤ pos (2 ^ (s - 1)) +ℤ pos (f / 2) in
-    let is = whole_half w f s some (even_test f even) in
-    ap (λ (z : ℤ). lowest_dyadic z (e - 1)) (sym (halves h))
-    ∙ trim_even (h *ℤ pos 2) e (omega (arith, some, le)) (is_even_double h) ∙ ap (λ (z : ℤ). lowest_dyadic z e) is
-
-pub half_less : (f s : ℕ) → 0 < s → f < 2 ^ s → f / 2 < 2 ^ (s - 1)
-half_less f zero h l = absurd (omega (arith, h))
-half_less f (suc t) h l =
-    let one : suc t - 1 ≡ t = omega arith in let n : suc t ≡ t + 1 = omega arith in let d = double_power t in
-    let p : 2 ^ suc t ≡ 2 ^ t + 2 ^ t = ap (λ (k : ℕ). 2 ^ k) n ∙ d in
-    subst (λ (k : ℕ). f / 2 < 2 ^ k) (sym one) (omega (arith, l, p))
 
 -- ---- an odd one
 odd_whole : (w : ℤ) (f s : ℕ) → 0 < s → (f % 2 == 0) ≡ false → is_even (w *ℤ pos (2 ^ s) +ℤ pos f) ≡ false
@@ -113,6 +84,3 @@ long_left w f s e some few le small odd out =
     ap is_small (sym (odd_step w f s e some le odd))
     ∙ long_of (w *ℤ pos (2 ^ s) +ℤ pos f) e
     (λ l. out (near_in (w *ℤ pos (2 ^ s)) (w *ℤ pos (2 ^ s) +ℤ pos f) f refl (omega (arith, small, p)) l))
-
-pub whole_only : (w : ℤ) (f : ℕ) → f < 1 → w *ℤ pos (2 ^ 0) +ℤ pos f ≡ w
-whole_only w f l = let z : f ≡ 0 = omega (arith, l) in rw z (omega (arith, ints))

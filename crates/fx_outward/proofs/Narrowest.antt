@@ -1,6 +1,8 @@
 -- What the narrowest interval of claims meets, where bounds say when the claims hold.
-use Rattle.std.proofs.Common.{◌≡◌, ℕ, ◌≤◌, Bool, true, false, ◌&&◌, if◌then◌else◌, List, Result, Ok, Err, ◌↔◌, refl, subst, arith}
+use Rattle.std.proofs.Common.{◌≡◌, ℕ, ◌%◌, ◌<◌, ◌≤◌, Bool, true, false, ◌&&◌, if◌then◌else◌, List, Result, Ok, Err, ◌↔◌, refl, subst, arith}
+use Rattle.std.specs.Prelude.{unsigned_abs}
 use Rattle.std.specs.List.{list_all}
+use Rattle.fx_rational.specs.Dyadic.{Dyadic, IsWritten}
 use Rattle.fx_rational.specs.Interval.{Interval}
 use Rattle.fx_inequalities.specs.Formula.{formula_value, span}
 use Rattle.fx_inequalities.specs.Claim.{Claim, fits, holds}
@@ -30,6 +32,12 @@ around_covers g b = (λ h. record { low = h.low; high = h.high }, λ h. record {
 same_interval : (i j : Interval) → Path (Result Interval Why) (Ok i) (Ok j) → i ≡ j
 same_interval i j e = cc
 
+-- a short end in lowest terms, on a grid of at most 96 places
+end_written : (e : ℕ) (d : Dyadic) → e ≤ 96 → is_small d ≡ true → d.e ≤ e →
+    (0 < d.e → unsigned_abs d.m % 2 ≡ 1) → IsWritten d
+end_written e d few small places lowest =
+    record { small = short_small d small; places = omega (arith, few, places); one_spelling = lowest }
+
 pub narrowest_is : (e : ℕ) (b : Bounds) (claims : Interval → List Claim) (g : Interval) → e ≤ 96 →
     ((j : Interval) → Around (span j) b ↔ (list_all holds (claims j) ≡ true)) → narrowest e b claims ≡ Ok g →
     IsNarrowestOf e claims g
@@ -44,20 +52,8 @@ narrowest_is e b claims g few meets made =
           fit = both_right (is_small (narrow e b).lo && is_small (narrow e b).hi) _ t;
           hold = (meets (narrow e b)).0 ((around_covers (narrow e b) b).1 n.covers);
           written = (
-            record {
-              small =
-                  short_small (narrow e b).lo
-                  (both_left (is_small (narrow e b).lo) (is_small (narrow e b).hi) (both_left _ _ t));
-              places = omega (arith, few, gl);
-              one_spelling = n.lo_lowest;
-            },
-            record {
-              small =
-                  short_small (narrow e b).hi
-                  (both_right (is_small (narrow e b).lo) (is_small (narrow e b).hi) (both_left _ _ t));
-              places = omega (arith, few, gh);
-              one_spelling = n.hi_lowest;
-            },
+            end_written e (narrow e b).lo few (both_left (is_small (narrow e b).lo) _ (both_left _ _ t)) gl n.lo_lowest,
+            end_written e (narrow e b).hi few (both_right (is_small (narrow e b).lo) _ (both_left _ _ t)) gh n.hi_lowest,
           );
           grid = n.grid;
           inside = λ j on h. n.inside j on ((around_covers j b).0 ((meets j).1 h));

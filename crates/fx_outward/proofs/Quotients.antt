@@ -4,7 +4,7 @@ use Rattle.std.specs.List.{list_all}
 use Rattle.std.proofs.lemmas.Int.{ints}
 use Rattle.fx_rational.specs.Rational.{Rational, whole, over, minus, negative, times, quotient, divided, AtMost, is_at_most, is_positive, is_negative, above_zero, below_zero, Equal}
 use Rattle.fx_rational.proofs.Ring.{by_quotes, quotes}
-use Rattle.fx_inequalities.specs.Formula.{formula_value, Span, zero_span, span_difference, Product}
+use Rattle.fx_inequalities.specs.Formula.{Formula, Difference, formula_value, Span, zero_span, span_difference, Product}
 use Rattle.fx_inequalities.specs.Claim.{Below, holds, inside}
 use Rattle.fx_inequalities.specs.NodeConditions.{positive_quotient_claims, quotient_claims}
 use Rattle.fx_rational.specs.Dyadic.{dyadic_value}
@@ -116,18 +116,12 @@ positive_around a b c above =
           },
     )
 
-flipped_hi : (b : Span) → Above (negative (formula_value b.hi)) → Above (formula_value (span_difference zero_span b).lo)
+-- zero less a number below zero
+flipped : (f : Formula) → Above (negative (formula_value f)) → Above (formula_value (Difference zero_span.lo f))
 unfolding formula_value dyadic_value over
-flipped_hi b h =
+flipped f h =
     above_more h (le_of_equal
-    (by_quotes {ρ = formula_value b.hi ∷ []} {b = minus (whole (pos 0)) (formula_value b.hi)} (search quotes depth 20)
-    (search quotes depth 20) refl))
-
-flipped_lo : (b : Span) → Above (negative (formula_value b.lo)) → Above (formula_value (span_difference zero_span b).hi)
-unfolding formula_value dyadic_value over
-flipped_lo b h =
-    above_more h (le_of_equal
-    (by_quotes {ρ = formula_value b.lo ∷ []} {b = minus (whole (pos 0)) (formula_value b.lo)} (search quotes depth 20)
+    (by_quotes {ρ = formula_value f ∷ []} {b = minus (whole (pos 0)) (formula_value f)} (search quotes depth 20)
     (search quotes depth 20) refl))
 
 -- what a test of both_true ends says
@@ -162,8 +156,8 @@ quotient_around a b c apart = by (is_positive (formula_value b.lo)) refl
     under_zero : is_positive (formula_value b.lo) ≡ false → IsAbove (span_difference zero_span b)
     under_zero e =
         ⊎_elim (λ p. absurd (let q = p.0 in cc)) (λ p. record {
-          lo = flipped_hi b (negative_above _ p.1);
-          hi = flipped_lo b (negative_above _ p.0);
+          lo = flipped b.hi (negative_above _ p.1);
+          hi = flipped b.lo (negative_above _ p.0);
         }) parts
 
     by : (t : Bool) → is_positive (formula_value b.lo) ≡ t →

@@ -30,41 +30,36 @@ use Rattle.fx_outward.proofs.Lefts.{small_fits}
 use Rattle.fx_outward.proofs.Shorts.{short_small}
 
 -- ---- the lesser and the greater of two, first or last rounded
+-- a choice by rounded numbers is the one by the numbers themselves, where the tests agree or it makes no difference
+rounded_choice : (round : Rational → Dyadic) (x y : Rational) (s t : Bool) → (s ≡ true → t ≡ true) →
+    (s ≡ false → t ≡ true → round x ≡ round y) → (if t then round x else round y) ≡ round (if s then x else y)
+rounded_choice round x y true true p q = refl
+rounded_choice round x y true false p q = absurd (let e = p refl in cc)
+rounded_choice round x y false true p q = q refl refl
+rounded_choice round x y false false p q = refl
+
 pub down_lesser : (e : ℕ) (x y : Rational) → least (grid_down e x) (grid_down e y) ≡ grid_down e (lesser_value x y)
 unfolding least
-down_lesser e x y = by (is_at_most x y) (is_dyadic_at_most (grid_down e x) (grid_down e y)) refl refl
+down_lesser e x y =
+    rounded_choice (grid_down e) x y (is_at_most x y) (is_dyadic_at_most (grid_down e x) (grid_down e y))
+    (λ p. (at_most_test (dyadic_value (grid_down e x)) (dyadic_value (grid_down e y))).1
+    (more x y (at_most_true x y p)))
+    (λ p q. same_spelling (grid_down e x) (grid_down e y) (le_antisym (at_most_true _ _ q)
+    (more y x (at_most_false x y p))) (grid_down_is e x).lowest (grid_down_is e y).lowest)
   where
     more : (u v : Rational) → AtMost u v → AtMost (dyadic_value (grid_down e u)) (dyadic_value (grid_down e v))
     more u v l = let g = grid_down_is e u in (grid_down_is e v).greatest (grid_down e u) g.places (le_trans g.below l)
 
-    by : (s t : Bool) → is_at_most x y ≡ s → is_dyadic_at_most (grid_down e x) (grid_down e y) ≡ t →
-        (if t then grid_down e x else grid_down e y) ≡ grid_down e (if s then x else y)
-    by true true p q = refl
-    by true false p q =
-        absurd (let r = (at_most_test (dyadic_value (grid_down e x)) (dyadic_value (grid_down e y))).1
-        (more x y (at_most_true x y p)) in cc)
-    by false true p q =
-        same_spelling (grid_down e x) (grid_down e y) (le_antisym (at_most_true _ _ q) (more y x (at_most_false x y p)))
-        (grid_down_is e x).lowest (grid_down_is e y).lowest
-    by false false p q = refl
-
 pub up_greater : (e : ℕ) (x y : Rational) → greatest (grid_up e x) (grid_up e y) ≡ grid_up e (greater_value x y)
 unfolding greatest
-up_greater e x y = by (is_at_most y x) (is_dyadic_at_most (grid_up e y) (grid_up e x)) refl refl
+up_greater e x y =
+    rounded_choice (grid_up e) x y (is_at_most y x) (is_dyadic_at_most (grid_up e y) (grid_up e x))
+    (λ p. (at_most_test (dyadic_value (grid_up e y)) (dyadic_value (grid_up e x))).1 (more y x (at_most_true y x p)))
+    (λ p q. same_spelling (grid_up e x) (grid_up e y) (le_antisym (more x y (at_most_false y x p))
+    (at_most_true _ _ q)) (grid_up_is e x).lowest (grid_up_is e y).lowest)
   where
     more : (u v : Rational) → AtMost u v → AtMost (dyadic_value (grid_up e u)) (dyadic_value (grid_up e v))
     more u v l = let g = grid_up_is e v in (grid_up_is e u).least (grid_up e v) g.places (le_trans l g.above)
-
-    by : (s t : Bool) → is_at_most y x ≡ s → is_dyadic_at_most (grid_up e y) (grid_up e x) ≡ t →
-        (if t then grid_up e x else grid_up e y) ≡ grid_up e (if s then x else y)
-    by true true p q = refl
-    by true false p q =
-        absurd (let r = (at_most_test (dyadic_value (grid_up e y)) (dyadic_value (grid_up e x))).1
-        (more y x (at_most_true y x p)) in cc)
-    by false true p q =
-        same_spelling (grid_up e x) (grid_up e y) (le_antisym (more x y (at_most_false y x p)) (at_most_true _ _ q))
-        (grid_up_is e x).lowest (grid_up_is e y).lowest
-    by false false p q = refl
 
 -- ---- fractions
 product_small : (m : ℤ) (q : ℕ) → unsigned_abs m < 2 ^ 62 → q < 2 ^ 62 → fits_128 (m *ℤ pos q) ≡ true
@@ -199,18 +194,10 @@ quotient_answer o a b s t bl bh sl sh fa fb k =
     let tl = forms_value b.lo t.lo (ap (λ (i : Interval). i.lo) fb.1) in
     let th = forms_value b.hi t.hi (ap (λ (i : Interval). i.hi) fb.1) in
     let above_lo = above_value b.lo bl in let above_hi = above_value b.hi bh in
-    let ll =
-    down_same 24 _ _ (ratio_same (dyadic_value a.lo) (dyadic_value b.lo) (formula_value s.lo)
-    (formula_value t.lo) above_lo al tl) in
-    let lh =
-    down_same 24 _ _ (ratio_same (dyadic_value a.lo) (dyadic_value b.hi) (formula_value s.lo)
-    (formula_value t.hi) above_hi al th) in
-    let hl =
-    up_same 24 _ _ (ratio_same (dyadic_value a.hi) (dyadic_value b.lo) (formula_value s.hi)
-    (formula_value t.lo) above_lo ah tl) in
-    let hh =
-    up_same 24 _ _ (ratio_same (dyadic_value a.hi) (dyadic_value b.hi) (formula_value s.hi)
-    (formula_value t.hi) above_hi ah th) in
+    let ll = down_same 24 _ _ (ratio_same _ _ _ _ above_lo al tl) in
+    let lh = down_same 24 _ _ (ratio_same _ _ _ _ above_hi al th) in
+    let hl = up_same 24 _ _ (ratio_same _ _ _ _ above_lo ah tl) in
+    let hh = up_same 24 _ _ (ratio_same _ _ _ _ above_hi ah th) in
     let lo = ap₂ least ll lh
     ∙ down_lesser 24 (ratio (formula_value s.lo) (formula_value t.lo))
     (ratio (formula_value s.lo) (formula_value t.hi)) in

@@ -83,17 +83,3 @@ pub settled_some : (o : Option Interval) (e : ℕ) (x : Interval) (s : Span) →
 settled_some o e x s h k =
     kept_answer o e (span_bounds s) (λ g. inside s (span g)) (subst (IsIfSmall o) (narrow_formed e x s h) k)
     (λ lo hi. inside_fits s (narrow e (span_bounds s)) h.0 lo hi)
-
-not_fits : (a b c d : Bool) → ((a && b) ≡ true → ⊥) → ((c && a) && ((b && d) && true)) ≡ false
-not_fits true true c d h = absurd (h refl)
-not_fits true false true d h = refl
-not_fits true false false d h = refl
-not_fits false b true d h = refl
-not_fits false b false d h = refl
-
-pub settled_none : (e : ℕ) (s : Span) → FormsSpan None s →
-    Path (Result Interval Why) (Err Beyond) (narrowest e (span_bounds s) (λ g. inside s (span g)))
-settled_none e s h =
-    narrowest_beyond e (span_bounds s) (λ g. inside s (span g))
-    (not_fits (formula_fits s.lo) (formula_fits s.hi) (formula_fits (Num (narrow e (span_bounds s)).lo))
-    (formula_fits (Num (narrow e (span_bounds s)).hi)) h)

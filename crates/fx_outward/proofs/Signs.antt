@@ -59,20 +59,12 @@ module _ (a b : Interval) where
       let p = not_above b.lo.m r in
       (λ i. choose (sym p i) (above_zero b.hi.m) (sym r i) (sym s i)) ∙ chosen
 
-  neither : (p q r s : Bool) → (p && q) ≡ false → (r && s) ≡ false →
-      Path (Result Interval Why) (Err Zero) (choose p q r s)
-  neither true true r s h k = absurd cc
-  neither true false true true h k = absurd cc
-  neither true false true false h k = refl
-  neither true false false s h k = refl
-  neither false q true true h k = absurd cc
-  neither false q true false h k = refl
-  neither false q false s h k = refl
-
   pub quotient_zero : (above_zero b.lo.m && above_zero b.hi.m) ≡ false →
       (below_zero b.lo.m && below_zero b.hi.m) ≡ false → Path (Result Interval Why) (Err Zero) (plain_quotient a b)
   quotient_zero h k =
-      neither (above_zero b.lo.m) (above_zero b.hi.m) (below_zero b.lo.m) (below_zero b.hi.m) h k ∙ chosen
+      let none : Path (Result Interval Why) (Err Zero)
+      (choose (above_zero b.lo.m) (above_zero b.hi.m) (below_zero b.lo.m) (below_zero b.hi.m)) = rw (h, k) refl in
+      none ∙ chosen
 
 -- ---- plain intervals fit
 pub plain_forms : (a : Interval) → IsPlainInterval a → FormsSpan (Some a) (span a)
@@ -90,30 +82,8 @@ zero_less d =
     less : (m : ℤ) (p s : ℕ) → s ≡ 0 → pos 0 *ℤ pos p -ℤ m *ℤ pos (2 ^ s) ≡ neg_ℤ m
     less m p s h = rw h (omega (arith, ints))
 
-pub opposite_plain_end : (d : Dyadic) → IsPlainEnd d → IsPlainEnd (dyadic (neg_ℤ d.m) d.e)
-opposite_plain_end d h = record {
-  small = short_of (neg_ℤ d.m) d.e (small_of d.m (short_small d h.small));
-  places = places_of (neg_ℤ d.m) d.e h.places;
-}
-  where
-    small_of : (m : ℤ) → unsigned_abs m < 2 ^ 62 → unsigned_abs (neg_ℤ m) < 2 ^ 62
-    small_of m l = subst (λ (k : ℕ). k < 2 ^ 62) (sym (size-neg_ℤ m)) l
-
-    short_of : (m : ℤ) (e : ℕ) → unsigned_abs m < 2 ^ 62 → is_small (dyadic m e) ≡ true
-    short_of (pos zero) e l = refl
-    short_of (pos (suc n)) e l = grind (arith, l)
-    short_of (negsuc n) e l = grind (arith, l)
-
-    places_of : (m : ℤ) (e : ℕ) → e ≤ 24 → (dyadic m e).e ≤ 24
-    places_of (pos zero) e l = omega arith
-    places_of (pos (suc n)) e l = l
-    places_of (negsuc n) e l = l
-
 abbrev pub opposite_of : Interval → Interval
 opposite_of a = record { lo = dyadic (neg_ℤ a.hi.m) a.hi.e; hi = dyadic (neg_ℤ a.lo.m) a.lo.e }
-
-pub opposite_plain : (a : Interval) → IsPlainInterval a → IsPlainInterval (opposite_of a)
-opposite_plain a h = record { lo = opposite_plain_end a.hi h.hi; hi = opposite_plain_end a.lo h.lo }
 
 own : (m : ℤ) (s : ℕ) → s ≡ 0 → m *ℤ pos (2 ^ s) ≡ m
 own m s h = rw h (omega (arith, ints))
@@ -150,10 +120,3 @@ opposite_forms a h =
 pub below_above : (m : ℤ) (e : ℕ) → below_zero m ≡ true → above_zero (dyadic (neg_ℤ m) e).m ≡ true
 below_above (pos n) e h = absurd cc
 below_above (negsuc n) e h = refl
-
-pub opposite_above : (b : Interval) → (below_zero b.lo.m && below_zero b.hi.m) ≡ true →
-    (above_zero (opposite_of b).lo.m ≡ true) × (above_zero (opposite_of b).hi.m ≡ true)
-opposite_above b h = (
-  below_above b.hi.m b.hi.e (both_right (below_zero b.lo.m) (below_zero b.hi.m) h),
-  below_above b.lo.m b.lo.e (both_left (below_zero b.lo.m) (below_zero b.hi.m) h),
-)

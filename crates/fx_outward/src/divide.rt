@@ -3,9 +3,9 @@
 //! Of the four quotients of ends only the least and the greatest are formed: the sign of the dividend's end says which
 //! end of the divisor gives them.
 
-ghost use Rattle.std.specs.Prelude.{◌≡◌, ◌*◌, ◌<◌, ◌≤◌, ◌^◌, ◌*ℤ◌, ◌-ℤ◌, neg_ℤ, pos, ltb, true, ◌&&◌, unsigned_abs, Some};
+ghost use Rattle.std.specs.Prelude.{◌≡◌, ◌*◌, ◌<◌, ◌≤◌, ◌^◌, ◌*ℤ◌, ◌-ℤ◌, neg_ℤ, pos, ltb, true, ◌&&◌, if◌then◌else◌, unsigned_abs, Some};
 ghost use Rattle.fx_rational.specs.Rational.{floor_div, minus, plus, above_zero, below_zero};
-ghost use Rattle.fx_rational.specs.Dyadic.{dyadic_value};
+ghost use Rattle.fx_rational.specs.Dyadic.{dyadic_value, greatest, least};
 ghost use Rattle.fx_model.specs.LawfulProgram.{IsPoint};
 ghost use Rattle.fx_inequalities.specs.Formula.{Span, span, zero_span, span_difference};
 ghost use Rattle.fx_inequalities.specs.OperationSpans as spans;
@@ -96,31 +96,17 @@ fn above(a: Dyadic, b: Dyadic, point: i32) -> Option<Dyadic>
     opposite(opposite_less(mantissa(a), p, d, c, point))
 }
 
-/// The divisor's end that gives the lesser quotient.
-fn lesser_divisor(a: Dyadic, b: Interval) -> Dyadic
+/// The least end of a divisor above zero, or the greatest.
+fn divisor_end(is_least: bool, b: Interval) -> Dyadic
     requires lo { above_zero b.lo.m ≡ true }
     requires hi { above_zero b.hi.m ≡ true }
-    ensures value { result ≡ dividing.lesser_divisor a b }
+    ensures value { result ≡ (if is_least then least b.lo b.hi else greatest b.lo b.hi) }
     ensures above { above_zero result.m ≡ true }
 {
-    if is_below(a) {
+    if is_least {
         least(low(b), high(b))
     } else {
         greatest(low(b), high(b))
-    }
-}
-
-/// The one that gives the greater.
-fn greater_divisor(a: Dyadic, b: Interval) -> Dyadic
-    requires lo { above_zero b.lo.m ≡ true }
-    requires hi { above_zero b.hi.m ≡ true }
-    ensures value { result ≡ dividing.greater_divisor a b }
-    ensures above { above_zero result.m ≡ true }
-{
-    if is_below(a) {
-        greatest(low(b), high(b))
-    } else {
-        least(low(b), high(b))
     }
 }
 
@@ -134,8 +120,8 @@ fn unit_ends(a: Interval, b: Interval, point: i32) -> Option<Interval>
 {
     let al = low(a);
     let ah = high(a);
-    let l = lesser_divisor(al, b);
-    let g = greater_divisor(ah, b);
+    let l = divisor_end(is_below(al), b);
+    let g = divisor_end(!is_below(ah), b);
     ends(below(al, l, point), above(ah, g, point))
 }
 

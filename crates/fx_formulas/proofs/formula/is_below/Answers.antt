@@ -5,10 +5,8 @@ use Rattle.fx_formulas.proofs.Judged.{below_some, below_none}
 use Rattle.fx_formulas.proofs.formula.is_below.Goals as goal
 
 pub returns-in-Some : goal.returns-in-Some
-returns-in-Some c =
-    λ f r forms e. c.judgement.ensures (BelowFraction f r ∷ [])
-    (below_some c.dyadic_le.result c.in-Some.value c.args.c f r c.dyadic_le.ensures
-    (subst (λ v. Forms v f) c.in-Some.is forms) e)
+returns-in-Some c = λ f r forms e. let k = subst (λ v. Forms v f) c.in-Some.is forms in
+    c.judgement.ensures (BelowFraction f r ∷ []) (below_some c.dyadic_le.result f r c.dyadic_le.ensures k e)
 
 pub returns-in-None : goal.returns-in-None
 returns-in-None c = λ f r forms e. below_none f r (subst (λ v. Forms v f) c.in-None.is forms)

@@ -1,21 +1,16 @@
-use Rattle.std.proofs.Common.{◌≡◌, ◌∙◌, ◌*◌, ◌^◌, ◌<◌, ℕ, pos, ◌*ℤ◌, ◌-ℤ◌, FitsSigned, to_z, of_z, rules, subst}
+use Rattle.std.proofs.Common.{◌∙◌, ◌<◌, ℕ, FitsSigned, rules, subst}
 use Rattle.std.specs.Int.{w32, w128}
 use Rattle.std.proofs.lemmas.Int.{to_z-of_z}
-use Rattle.fx_rational.specs.Rational.{floor_div}
-use Rattle.fx_outward.specs.Grid.{lowest_dyadic, error_grid}
-use Rattle.fx_outward.specs.Wide.{IsEnd, units_below}
+use Rattle.fx_outward.specs.Wide.{IsEnd}
 use Rattle.fx_outward.proofs.Casts.{back}
-use Rattle.fx_outward.proofs.Dividing.{quotient_below_end}
+use Rattle.fx_outward.proofs.Dividing.{quotient_below_end, quotient_floor_same}
 use Rattle.fx_outward.proofs.divide.below.Goals as goal
 
 pub returns : goal.returns
 returns c =
-    let f = c.args.point in let f32 : to_z w32 (of_z w32 f) ≡ f = to_z-of_z w32 f c.ranges.point in
-    let fm : FitsSigned w128 c.mantissa.result = search rules in let m = back fm ∙ c.mantissa.ensures in
-    let p = c.exponent-p.ensures.value in let d = c.positive_mantissa-d.ensures.value in
-    let k = c.exponent-c.ensures.value in
-    let some = subst (λ (n : ℕ). 0 < n) d c.positive_mantissa-d.ensures.some in
+    let f = c.args.point in let d = c.positive_mantissa-d.ensures in
+    let fits : FitsSigned w128 c.mantissa.result = search rules in
     subst (IsEnd c.quotient_less.result)
-    ((λ i. lowest_dyadic (floor_div ((m i *ℤ pos (2 ^ (p i))) *ℤ pos (2 ^ error_grid (f32 i))) (d i * 2 ^ (k i)) -ℤ pos
-    (units_below (f32 i))) (error_grid (f32 i))) ∙ quotient_below_end c.args.a c.args.b f some)
-    c.quotient_less.ensures
+    (quotient_floor_same (back fits ∙ c.mantissa.ensures) c.exponent-p.ensures.value d.value c.exponent-c.ensures.value
+    (to_z-of_z w32 f c.ranges.point)
+    ∙ quotient_below_end c.args.a c.args.b f (subst (λ (n : ℕ). 0 < n) d.value d.some)) c.quotient_less.ensures
