@@ -8,7 +8,7 @@ use Rattle.fx_statements.specs.Statements.{Size, Wide, Value, Input, State, Numb
 use Rattle.fx_statements.specs.RustText.{name_text}
 use Rattle.fx_statements.specs.OfProgram.{least_size}
 use Rattle.fx_statements.specs.Writable.{IsShort, IsShortValue, AreShortLets, AreShortStores, AreShortNames}
-use Rattle.fx_statements.proofs.Fronts.{differ, number_ends, first_digit}
+use Rattle.fx_statements.proofs.Fronts.{differ, number_ends, first_digit, one_list}
 use Rattle.fx_c99.specs.Working.{is_plain, working_bits}
 use Rattle.fx_c99.specs.CText.{type_text, c_wide_text, c_cast_text, literal_text, c_value_text, c_let_text, assignment_text, placed, start_text, starts_text}
 use Rattle.fx_c99.specs.CWritable.{IsCWide, IsCValue, AreCLets, AreShortWords}
@@ -184,16 +184,9 @@ one_let n l m r s ln mn lv mv lc mc h =
 pub one_lets : (n : ℕ) (ls ms : List Let) (r s : List ℕ) → AreShortLets ls → AreShortLets ms → AreCLets ls →
     AreCLets ms → (get_or r 4 0 ≡ 99 → ⊥) → (get_or s 4 0 ≡ 99 → ⊥)
     → flat_map (c_let_text n) ls ++ r ≡ flat_map (c_let_text n) ms ++ s → (ls ≡ ms) × (r ≡ s)
-one_lets n [] [] r s p q i j off off' h = (refl, h)
-one_lets n [] (m ∷ ms) r s p q i j off off' h = absurd (off (ap (λ l. get_or l 4 0) h))
-one_lets n (l ∷ ls) [] r s p q i j off off' h = absurd (off' (ap (λ l. get_or l 4 0) (sym h)))
-one_lets n (l ∷ ls) (m ∷ ms) r s p q i j off off' h =
-    let k = sym (append_assoc (c_let_text n l) (flat_map (c_let_text n) ls) r) ∙ h
-    ∙ append_assoc (c_let_text n m) (flat_map (c_let_text n) ms) s in
-    let one = one_let n l m (flat_map (c_let_text n) ls ++ r) (flat_map (c_let_text n) ms ++ s) p.0.0 q.0.0 p.0.1 q.0.1
-    i.0 j.0 k in
-    let rest = one_lets n ls ms r s p.1 q.1 i.1 j.1 off off' one.1 in
-    ((λ x. one.0 x ∷ rest.0 x), rest.1)
+one_lets n ls ms r s p q i j off off' h =
+    one_list (c_let_text n) (λ ls. AreShortLets ls × AreCLets ls) 4 99 (λ l r. refl) (λ l ls p. (p.0.1, p.1.1))
+    (λ l m ls ms r s p q. one_let n l m r s p.0.0.0 q.0.0.0 p.0.0.1 q.0.0.1 p.1.0 q.1.0) ls ms r s (p, i) (q, j) off off' h
 
 -- ---- assignments
 assignment_is : (array : List ℕ) (n : ℕ) (t : Store) (r : List ℕ) → assignment_text array n t ++ r
@@ -242,15 +235,9 @@ pub one_stores : (n : ℕ) (ts us : List Store) (r s : List ℕ) → AreShortSto
     (get_or r 4 0 ≡ 115 → ⊥) → (get_or s 4 0 ≡ 115 → ⊥)
     → flat_map (assignment_text (codes "state") n) ts ++ r ≡ flat_map (assignment_text (codes "state") n) us ++ s
     → (ts ≡ us) × (r ≡ s)
-one_stores n [] [] r s p q off off' h = (refl, h)
-one_stores n [] (u ∷ us) r s p q off off' h = absurd (off (ap (λ l. get_or l 4 0) h))
-one_stores n (t ∷ ts) [] r s p q off off' h = absurd (off' (ap (λ l. get_or l 4 0) (sym h)))
-one_stores n (t ∷ ts) (u ∷ us) r s p q off off' h =
-    let f = assignment_text (codes "state") n in
-    let k = sym (append_assoc (f t) (flat_map f ts) r) ∙ h ∙ append_assoc (f u) (flat_map f us) s in
-    let one = one_store (codes "state") n t u (flat_map f ts ++ r) (flat_map f us ++ s) p.0.0 q.0.0 p.0.1 q.0.1 k in
-    let rest = one_stores n ts us r s p.1 q.1 off off' one.1 in
-    ((λ i. one.0 i ∷ rest.0 i), rest.1)
+one_stores n =
+    one_list (assignment_text (codes "state") n) AreShortStores 4 115 (λ t r. refl) (λ t ts p. p.1)
+    (λ t u ts us r s p q. one_store (codes "state") n t u r s p.0.0 q.0.0 p.0.1 q.0.1)
 
 -- outputs, whose places are known
 pub one_outputs : (n j : ℕ) (ms ks : List ℕ) (r s : List ℕ) → AreShortNames ms → AreShortNames ks →

@@ -1,14 +1,12 @@
 -- What a statement gives where the step isn't stuck at its code.
 use Rattle.std.proofs.Common.{◌≡◌, ℕ, zero, suc, ◌+◌, ◌-◌, ◌*◌, ◌^◌, ◌<◌, ◌≤◌, ℤ, pos, negsuc, ◌+ℤ◌, ◌-ℤ◌, ◌*ℤ◌, ◌≤ℤ◌, neg_ℤ}
-use Rattle.std.proofs.Common.{List, [], ◌∷◌, length, Option, Some, None, refl, sym, ap, ◌∙◌, arith}
+use Rattle.std.proofs.Common.{List, [], ◌∷◌, length, true, Some, refl, sym, ap, ◌∙◌, arith}
 use Rattle.std.proofs.lemmas.Int.{ints}
-use Rattle.std.specs.Option.{option_map, option_and_then}
-use Rattle.std.specs.List.{list_all}
-use Rattle.std.proofs.lemmas.Option.{cond_some, slice_get-get_or}
-use Rattle.std.specs.Prelude.{◌&&◌}
+use Rattle.std.specs.Option.{option_and_then}
+use Rattle.std.proofs.lemmas.Option.{slice_get-get_or}
 use Rattle.fx_rational.specs.Rational.{Rational, floor, scaled, floor_div}
 use Rattle.fx_model.specs.Tree.{at, value_at}
-use Rattle.fx_model.specs.Machine.{Round, Floor, Nearest, Code, Made, Const, Neg, Add, Sub, Mul, Div, Copy, IsWord, is_word, shifted, half}
+use Rattle.fx_model.specs.Machine.{Round, Floor, Nearest, Code, Const, Neg, Add, Sub, Mul, Div, Copy, IsWord, shifted, half}
 use Rattle.fx_model.specs.Machine.{floor_divided, made, kept}
 use Rattle.fx_model.specs.Machine as machine
 use Rattle.fx_model.specs.LawfulProgram.{IsShift, IsCopyShift, IsLawfulCode, IsPlaced}
@@ -18,21 +16,15 @@ use Rattle.fx_statements.specs.Statements.{Plus, Minus, Times, Over, Operator, W
 use Rattle.fx_statements.specs.Meaning.{bits_of, unchanged, Names, result_of}
 use Rattle.fx_statements.specs.OfProgram.{product, least_size}
 use Rattle.fx_statements.proofs.Kept as keep
-use Rattle.fx_statements.proofs.Names.{Known}
+use Rattle.fx_statements.proofs.Names.{Place}
 use Rattle.fx_statements.proofs.Inputs.{IsAtHand}
-use Rattle.fx_statements.proofs.Lets.{size_holds}
-use Rattle.fx_c99.specs.Working.{working_bits, double_bits}
+use Rattle.fx_statements.proofs.Lets.{size_holds, word_made, quotient_made}
+use Rattle.fx_c99.specs.Working.{is_additive, working_bits, double_bits}
 use Rattle.fx_c99.specs.CMeaning.{floored, c_wide_value, element, c_value_in}
 use Rattle.fx_c99.specs.OfProgram.{few, c_rounded, c_operand, c_value_for}
 use Rattle.fx_c99.specs.OfProgram.{raised as by_power}
 use Rattle.fx_c99.proofs.Rounded.{floored_is, floor_one, few_less, few_enough}
 use Rattle.fx_c99.proofs.Rooms.{plain_holds, double_holds, power_word, Room, working_rooms, copy_room}
-
--- what is asked of the width and of what is known
-record Place (n : ℕ) (names : Names) (ws : List ℤ) : Type 0 where
-  least : 8 ≤ n
-  most : n ≤ 64
-  known : Known n names ws
 
 -- ---- expressions, computed in so many bits
 widened : {n : ℕ} {names : Names} {ws : List ℤ} → Place n names ws → (bits a : ℕ) → n ≤ bits → a < length ws
@@ -141,16 +133,6 @@ copies p Nearest a (pos zero) lt h = let low : pos 1 ≤ℤ pos 0 = h.low in abs
 copies p Nearest a (negsuc s) lt h = let low : pos 1 ≤ℤ negsuc s = h.low in absurd (omega (arith, ints))
 
 -- ---- a code's word
--- the word that is kept is the one that was made
-word_made : (n : ℕ) (m : Made) (w : ℤ) → kept n m ≡ Some w → m.word ≡ w
-word_made n m w e = (cond_some (list_all (is_word (2 * n)) m.wide && is_word n m.word) m.word w e).1
-
-quotient_made : (n : ℕ) (p : ℤ) (q : Option ℤ) (w : ℤ)
-    → option_and_then (kept n) (option_map (λ (r : ℤ). (let m : Made = record { wide = p ∷ []; word = r } in m)) q)
-    ≡ Some w → q ≡ Some w
-quotient_made n p None w e = absurd cc
-quotient_made n p (Some r) w e = ap Some (word_made n record { wide = p ∷ []; word = r } w e)
-
 -- an element that a word fits
 pub element_kept : (n : ℕ) (w : ℤ) → n ≤ 64 → IsWord n w → element n w ≡ Some w
 element_kept n w le h = keep.kept_in n (bits_of (least_size n)) w (size_holds n le).0 h
@@ -160,74 +142,71 @@ narrowed : (n : ℕ) (z x : List ℤ) (names : Names) (b : ℕ) (e : Wide) (w : 
     → c_value_in n z x names b (Narrowed e) ≡ Some w
 narrowed n z x names b e w h fits = ap (option_and_then (unchanged b)) h ∙ keep.kept b w fits
 
+-- two shifted operands, at a type of b bits that holds what comes of them
+of_two : {n : ℕ} {names : Names} {ws : List ℤ} → Place n names ws → (z x : List ℤ) (b : ℕ) (operator : Operator)
+    (a c : ℕ) (sa sc w : ℤ) → is_additive operator ≡ true → a < length ws → c < length ws → IsShift n sa → IsShift n sc →
+    result_of operator (shifted (at (pos 0) ws a) sa) (shifted (at (pos 0) ws c) sc) ≡ Some w → IsWord n w → IsWord b w
+    → c_value_in n z x names b (Narrowed (Two operator (c_operand n Floor a sa) (c_operand n Floor c sc))) ≡ Some w
+of_two {n} {names} {ws} p z x b operator a c sa sc w additive la lc ha hc same word fits =
+    let e = Two operator (c_operand n Floor a sa) (c_operand n Floor c sc) in
+    let bits = working_bits n e in let rooms = working_rooms n a c operator sa sc additive p.most in
+    narrowed n z x names b e w
+    (on_two bits names operator (c_operand n Floor a sa) (c_operand n Floor c sc) (shifted (at (pos 0) ws a) sa)
+    (shifted (at (pos 0) ws c) sc) w (shifts p bits a sa rooms.first la ha) (shifts p bits c sc rooms.second lc hc) same
+    (keep.wider n bits w rooms.result word)) fits
+
 -- at a type of b bits that holds the word
-pub code_value : (n i b : ℕ) (c : Code) (g : List Rational) (z x ws : List ℤ) (names : Names) (w : ℤ) → 8 ≤ n → n ≤ 64 →
-    Known n names ws
+pub code_value : (n i b : ℕ) (c : Code) (g : List Rational) (z x ws : List ℤ) (names : Names) (w : ℤ) →
+    Place n names ws
     → IsLawfulCode n (length ws) c → IsPlaced i (length z) (length ws) c → IsAtHand x g c →
     option_and_then (kept n) (made c g z ws) ≡ Some w → IsWord n w → IsWord b w
     → c_value_in n z x names b (c_value_for n c) ≡ Some w
-code_value n i b (machine.Input k f) g z x ws names w lo hi kn l p here e word fits =
+code_value n i b (machine.Input k f) g z x ws names w pl l p here e word fits =
     let same = word_made n record { wide = []; word = floor (scaled (value_at g k) f) } w e in
     ap (option_and_then (unchanged b)) (ap (option_and_then (element n)) (here ∙ ap Some same)
-    ∙ element_kept n w hi word) ∙ keep.kept b w fits
-code_value n i b (machine.State k f v) g z x ws names w lo hi kn l p here e word fits =
+    ∙ element_kept n w pl.most word) ∙ keep.kept b w fits
+code_value n i b (machine.State k f v) g z x ws names w pl l p here e word fits =
     let same = word_made n record { wide = []; word = at (pos 0) z k } w e in
     ap (option_and_then (unchanged b)) (ap (option_and_then (element n)) (slice_get-get_or z k (pos 0) p.1
-    ∙ ap Some same) ∙ element_kept n w hi word) ∙ keep.kept b w fits
-code_value n i b (Const v f) g z x ws names w lo hi kn l p here e word fits =
+    ∙ ap Some same) ∙ element_kept n w pl.most word) ∙ keep.kept b w fits
+code_value n i b (Const v f) g z x ws names w pl l p here e word fits =
     let same = word_made n record { wide = []; word = v } w e in
     ap (unchanged b) same ∙ keep.kept b w fits
-code_value n i b (Neg a) g z x ws names w lo hi kn l p here e word fits =
-    let at_place : Place n names ws = record { least = lo; most = hi; known = kn } in
+code_value n i b (Neg a) g z x ws names w pl l p here e word fits =
     let same = word_made n record { wide = []; word = neg_ℤ (at (pos 0) ws a) } w e in
-    let bits = working_bits n (Negated (Widened a)) in let room : n ≤ bits = plain_holds n hi in
+    let bits = working_bits n (Negated (Widened a)) in let room : n ≤ bits = plain_holds n pl.most in
     narrowed n z x names b (Negated (Widened a)) w
-    (on_one bits names (Widened a) (at (pos 0) ws a) w (widened at_place bits a room l) same
+    (on_one bits names (Widened a) (at (pos 0) ws a) w (widened pl bits a room l) same
     (keep.wider n bits w room word)) fits
-code_value n i b (Add a c sa sc) g z x ws names w lo hi kn l p here e word fits =
-    let at_place : Place n names ws = record { least = lo; most = hi; known = kn } in
+code_value n i b (Add a c sa sc) g z x ws names w pl l p here e word fits =
     let u = shifted (at (pos 0) ws a) sa in let v = shifted (at (pos 0) ws c) sc in
-    let same = word_made n record { wide = u ∷ v ∷ []; word = u +ℤ v } w e in
-    let ex = Two Plus (c_operand n Floor a sa) (c_operand n Floor c sc) in
-    let bits = working_bits n ex in let rooms = working_rooms n a c Plus sa sc refl hi in
-    narrowed n z x names b ex w
-    (on_two bits names Plus (c_operand n Floor a sa) (c_operand n Floor c sc) u v w
-    (shifts at_place bits a sa rooms.first l.0 l.2) (shifts at_place bits c sc rooms.second l.1 l.3) (ap Some same)
-    (keep.wider n bits w rooms.result word)) fits
-code_value n i b (Sub a c sa sc) g z x ws names w lo hi kn l p here e word fits =
-    let at_place : Place n names ws = record { least = lo; most = hi; known = kn } in
+    of_two pl z x b Plus a c sa sc w refl l.0 l.1 l.2 l.3
+    (ap Some (word_made n record { wide = u ∷ v ∷ []; word = u +ℤ v } w e)) word fits
+code_value n i b (Sub a c sa sc) g z x ws names w pl l p here e word fits =
     let u = shifted (at (pos 0) ws a) sa in let v = shifted (at (pos 0) ws c) sc in
-    let same = word_made n record { wide = u ∷ v ∷ []; word = u -ℤ v } w e in
-    let ex = Two Minus (c_operand n Floor a sa) (c_operand n Floor c sc) in
-    let bits = working_bits n ex in let rooms = working_rooms n a c Minus sa sc refl hi in
-    narrowed n z x names b ex w
-    (on_two bits names Minus (c_operand n Floor a sa) (c_operand n Floor c sc) u v w
-    (shifts at_place bits a sa rooms.first l.0 l.2) (shifts at_place bits c sc rooms.second l.1 l.3) (ap Some same)
-    (keep.wider n bits w rooms.result word)) fits
-code_value n i b (Mul r a c s) g z x ws names w lo hi kn l p here e word fits =
-    let at_place : Place n names ws = record { least = lo; most = hi; known = kn } in
+    of_two pl z x b Minus a c sa sc w refl l.0 l.1 l.2 l.3
+    (ap Some (word_made n record { wide = u ∷ v ∷ []; word = u -ℤ v } w e)) word fits
+code_value n i b (Mul r a c s) g z x ws names w pl l p here e word fits =
     let u = at (pos 0) ws a *ℤ at (pos 0) ws c in
     let same = word_made n record { wide = u ∷ machine.halved r u (pos s); word = machine.rounded r u (pos s) } w e in
     narrowed n z x names b (c_rounded r (product a c) s) w
     (ap (λ (bits : ℕ). c_wide_value bits names (c_rounded r (product a c) s)) (product_bits n r a c s)
-    ∙ products at_place (double_bits n) r a c s (double_holds n hi) l.0 l.1 l.2 ∙ ap Some same) fits
+    ∙ products pl (double_bits n) r a c s (double_holds n pl.most) l.0 l.1 l.2 ∙ ap Some same) fits
   where
     product_bits : (n : ℕ) (r : Round) (a c s : ℕ) → working_bits n (c_rounded r (product a c) s) ≡ double_bits n
     product_bits n Floor a c zero = refl
     product_bits n Nearest a c zero = refl
     product_bits n Floor a c (suc s) = refl
     product_bits n Nearest a c (suc s) = refl
-code_value n i b (Div a c s) g z x ws names w lo hi kn l p here e word fits =
-    let at_place : Place n names ws = record { least = lo; most = hi; known = kn } in
+code_value n i b (Div a c s) g z x ws names w pl l p here e word fits =
     let u = at (pos 0) ws a *ℤ pos (2 ^ s) in let v = at (pos 0) ws c in
     let same = quotient_made n u (floor_divided u v) w e in
-    let bits = double_bits n in let room = double_holds n hi in
+    let bits = double_bits n in let room = double_holds n pl.most in
     narrowed n z x names b (Two Over (by_power a s) (Widened c)) w
-    (on_two bits names Over (by_power a s) (Widened c) u v w (dividends at_place bits a s room l.0 l.2)
-    (widened at_place bits c (omega (arith, room)) l.1)
+    (on_two bits names Over (by_power a s) (Widened c) u v w (dividends pl bits a s room l.0 l.2)
+    (widened pl bits c (omega (arith, room)) l.1)
     (keep.same_quotient u v ∙ same) (keep.wider n bits w (omega (arith, room)) word)) fits
-code_value n i b (Copy r a s) g z x ws names w lo hi kn l p here e word fits =
-    let at_place : Place n names ws = record { least = lo; most = hi; known = kn } in
+code_value n i b (Copy r a s) g z x ws names w pl l p here e word fits =
     let v = at (pos 0) ws a in let u = machine.rounded r v s in
     let same = word_made n record { wide = u ∷ machine.halved r v s; word = u } w e in
-    narrowed n z x names b (c_operand n r a s) w (copies at_place r a s l.0 l.1 ∙ ap Some same) fits
+    narrowed n z x names b (c_operand n r a s) w (copies pl r a s l.0 l.1 ∙ ap Some same) fits

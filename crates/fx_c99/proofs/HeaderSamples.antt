@@ -5,7 +5,7 @@ use Rattle.fx_rational.specs.Rational.{whole, over, scaled, floor, is_at_most}
 use Rattle.fx_rational.specs.Dyadic.{Dyadic, dyadic_value}
 use Rattle.fx_model.specs.Function.{Function, free}
 use Rattle.fx_model.specs.Machine.{Program, Input, State, Copy, Floor}
-use Rattle.fx_model.proofs.Samples.{exact_input, half, half_program}
+use Rattle.fx_model.proofs.Samples.{exact_input, half, half_program, averager_program}
 use Rattle.fx_inequalities.specs.Certificate.{Certificate, NodeLine, no_line}
 use Rattle.fx_c99.specs.CHeader.{number_text, header_text, c_header_of}
 
@@ -24,9 +24,7 @@ two_of_all = record {
 }
 
 abbrev two_program : Program
-two_program = record {
-  version = 1;
-  width = 16;
+two_program = record averager_program {
   name = codes "mix";
   inputs = 2;
   states = 2;

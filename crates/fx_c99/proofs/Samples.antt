@@ -1,12 +1,13 @@
 -- The text of small programs, as it is written and as it is carried out. The texts were written by hand.
 use Rattle.std.proofs.Common.{◌≡◌, refl, ℕ, List, [], ◌∷◌, ◌++◌, Some, None, pos, negsuc, codes}
 use Rattle.std.specs.Fmt.{digits}
-use Rattle.fx_model.specs.Machine.{Program, State, Const, Neg, Add, Sub, Mul, Div, Copy, Floor, Nearest}
+use Rattle.fx_model.specs.Machine.{Program, State, Const, Add, Sub, Mul, Copy, Floor}
 use Rattle.fx_model.specs.Machine as machine
-use Rattle.fx_model.proofs.Samples.{half_program}
+use Rattle.fx_model.proofs.Samples.{half_program, averager_program}
 use Rattle.fx_statements.specs.Statements.{Over, Widened, Negated, Two}
 use Rattle.fx_statements.specs.Meaning.{Names}
 use Rattle.fx_statements.specs.OfProgram.{product}
+use Rattle.fx_statements.proofs.Samples.{every_program, every_width}
 use Rattle.fx_c99.specs.CText.{literal_text, power_text}
 use Rattle.fx_c99.specs.CMeaning.{shifted_right, floored, c_wide_value, element, c_step, c_reset}
 use Rattle.fx_c99.specs.OfProgram.{c_routine_of, c_text_of}
@@ -24,23 +25,6 @@ unfolding digits
 half_is = refl
 
 -- ---- every operation, both ways to round, shifts of both signs, and names of two types
-abbrev every_program : Program
-every_program = record {
-  version = 2;
-  width = 16;
-  name = codes "f";
-  inputs = 1;
-  states = 1;
-  outputs = 1;
-  codes =
-      machine.Input 0 (pos 12) ∷ State 0 (pos 12) (negsuc 4) ∷ Const (negsuc 2047) (pos 12) ∷ Neg 1
-      ∷ Add 0 1 (pos 0) (negsuc 2) ∷ Sub 3 2 (pos 1) (pos 0) ∷
-      Mul Floor 4 5 12 ∷ Mul Nearest 4 5 12 ∷ Div 6 2 16 ∷ Copy Floor 7 (negsuc 3) ∷ Copy Nearest 8 (pos 7) ∷ [];
-}
-
-abbrev every_width : List ℕ
-every_width = 8 ∷ 8 ∷ 16 ∷ 16 ∷ 16 ∷ 16 ∷ 16 ∷ 16 ∷ 16 ∷ 16 ∷ 16 ∷ []
-
 every_is : c_text_of every_program every_width ≡
     codes "/* f, width 16 */\n#include <stdint.h>\n\n" ++
     codes "/* x / 2^s, rounded down */\nstatic inline int32_t fixd_floor32(int32_t x, uint32_t s) {\n" ++
@@ -71,18 +55,7 @@ every_begins = refl
 
 -- ---- a mean of the last value and the one before, in 16 bits
 abbrev average : Program
-average = record {
-  version = 1;
-  width = 16;
-  name = codes "average";
-  inputs = 1;
-  states = 1;
-  outputs = 1;
-  codes =
-      machine.Input 0 (pos 12) ∷ State 0 (pos 12) (pos 0) ∷ Const (pos 2048) (pos 12) ∷ Mul Floor 2 1 12
-      ∷ Const (pos 2048) (pos 12) ∷ Mul Floor 4 0 12 ∷ Add 3 5 (pos 0) (pos 0) ∷ Copy Floor 6 (pos 0)
-      ∷ Copy Floor 6 (pos 0) ∷ [];
-}
+average = record averager_program { name = codes "average" }
 
 average_is : c_text_of average (16 ∷ 16 ∷ 16 ∷ 16 ∷ 16 ∷ 16 ∷ 16 ∷ 16 ∷ 16 ∷ []) ≡
     codes "/* average, width 16 */\n#include <stdint.h>\n\n" ++
@@ -110,13 +83,10 @@ average_is = refl
 
 -- ---- a filter of second order, in 32 bits
 abbrev lowpass : Program
-lowpass = record {
-  version = 1;
+lowpass = record averager_program {
   width = 32;
   name = codes "lowpass";
-  inputs = 1;
   states = 2;
-  outputs = 1;
   codes =
       machine.Input 0 (pos 30) ∷ State 0 (pos 30) (pos 0) ∷ State 1 (pos 31) (pos 0)
       ∷ Const (pos 1380093251) (pos 36) ∷ Mul Floor 3 0 36 ∷ Add 4 1 (pos 0) (pos 0)

@@ -1,16 +1,14 @@
 -- The statements of a lawful program can be written, and what the text does.
-use Rattle.std.proofs.Common.{◌≡◌, ℕ, zero, suc, ◌+◌, ◌^◌, ◌<◌, ◌≤◌, ℤ, pos, negsuc, nat_lt, Bool, true, false, List, [], ◌∷◌, length, refl, arith}
-use Rattle.std.proofs.lemmas.Int.{ints}
+use Rattle.std.proofs.Common.{◌≡◌, ℕ, zero, suc, ◌+◌, ◌^◌, ◌<◌, ◌≤◌, ℤ, pos, negsuc, nat_lt, Bool, true, false, List, [], ◌∷◌, refl, arith}
 use Rattle.fx_model.specs.Names.{IsName}
-use Rattle.fx_model.specs.Machine.{Round, Floor, Nearest, Code, Program, Const, Neg, Add, Sub, Mul, Div, Copy, IsWord, first_copy, start_words}
+use Rattle.fx_model.specs.Machine.{Round, Floor, Nearest, Code, Program, Const, Neg, Add, Sub, Mul, Div, Copy, start_words}
 use Rattle.fx_model.specs.Machine as machine
-use Rattle.fx_model.specs.LawfulProgram.{IsShift, AreLawful, IsLawfulCode, IsPlaced, IsLawfulProgram}
-use Rattle.fx_model.proofs.Rounds.{copy_is_shift}
+use Rattle.fx_model.specs.LawfulProgram.{IsLawfulProgram}
 use Rattle.fx_model.proofs.Widths.{width_of}
 use Rattle.fx_statements.specs.Statements.{Wide, Widened}
-use Rattle.fx_statements.specs.OfProgram.{product}
-use Rattle.fx_statements.specs.Writable.{IsShortWide, IsShortValue, AreShortLets, IsWritable}
-use Rattle.fx_statements.proofs.Writable.{short_word, short_stores, short_names}
+use Rattle.fx_statements.specs.OfProgram.{rounded, operand, product, value_for}
+use Rattle.fx_statements.specs.Writable.{IsShortWide, IsShortValue}
+use Rattle.fx_statements.proofs.Writable.{short_word, short_value, program_writable}
 use Rattle.fx_c99.specs.OfProgram.{few, c_rounded, c_operand, c_value_for, c_lets_from, c_routine_of}
 use Rattle.fx_c99.specs.CWritable.{IsCWide, IsCValue, AreCLets, AreShortWords, IsCWritable}
 use Rattle.fx_c99.specs.Laws.{TextLaw}
@@ -18,11 +16,12 @@ use Rattle.fx_c99.proofs.Resets.{AreWords, start_fit}
 use Rattle.fx_statements.proofs.Starts.{start_count}
 use Rattle.fx_c99.proofs.Steps.{step_is}
 
-short_rounded : (r : Round) (e : Wide) (s : ℕ) → IsShortWide e → s < 2 ^ 64 → IsShortWide (c_rounded r e s)
-short_rounded Floor e zero h less = h
-short_rounded Nearest e zero h less = h
-short_rounded Floor e (suc s) h less = (h, less)
-short_rounded Nearest e (suc s) h less = ((h, omega arith), less)
+-- ---- what is short as Rust has it is so as C has it
+short_rounded : (r : Round) (e : Wide) (s : ℕ) → IsShortWide (rounded r e s) → IsShortWide (c_rounded r e s)
+short_rounded Floor e zero h = h.0
+short_rounded Nearest e zero h = h.0
+short_rounded Floor e (suc s) h = h
+short_rounded Nearest e (suc s) h = h
 
 short_few : (n s : ℕ) → n ≤ 64 → few n s < 2 ^ 64
 short_few n s le = by (nat_lt s n) refl
@@ -31,35 +30,23 @@ short_few n s le = by (nat_lt s n) refl
     by true e = rw e (grind arith)
     by false e = rw e (omega arith)
 
-short_operand : (r : Round) (n a : ℕ) (s : ℤ) → n ≤ 64 → a < 2 ^ 64 → IsShift n s → IsShortWide (c_operand n r a s)
-short_operand Floor n a (pos s) le lt h = short_rounded Floor (Widened a) (few n s) lt (short_few n s le)
-short_operand Nearest n a (pos s) le lt h =
-    let u = h.high in short_rounded Nearest (Widened a) s lt (omega (arith, ints))
-short_operand r n a (negsuc s) le lt h = let l = h.low in (lt, omega (arith, ints))
+short_operand : (n : ℕ) (r : Round) (a : ℕ) (s : ℤ) → n ≤ 64 → IsShortWide (operand r a s) →
+    IsShortWide (c_operand n r a s)
+short_operand n Floor a (pos s) le h = short_rounded Floor (Widened a) (few n s) (h.0, short_few n s le)
+short_operand n Nearest a (pos s) le h = short_rounded Nearest (Widened a) s h
+short_operand n Floor a (negsuc s) le h = h
+short_operand n Nearest a (negsuc s) le h = h
 
-short_value : (n i s k : ℕ) (c : Code) → n ≤ 64 → k < 2 ^ 32 → IsLawfulCode n k c → IsPlaced i s k c →
-    IsShortValue (c_value_for n c)
-short_value n i s k (machine.Input j f) le less l p = omega (arith, p.0)
-short_value n i s k (machine.State j f w) le less l p = omega (arith, p.0)
-short_value n i s k (Const w f) le less l p = short_word n w le l
-short_value n i s k (Neg a) le less l p = omega (arith, l)
-short_value n i s k (Add a b sa sb) le less l p =
-    (short_operand Floor n a sa le (omega (arith, l.0)) l.2, short_operand Floor n b sb le (omega (arith, l.1)) l.3)
-short_value n i s k (Sub a b sa sb) le less l p =
-    (short_operand Floor n a sa le (omega (arith, l.0)) l.2, short_operand Floor n b sb le (omega (arith, l.1)) l.3)
-short_value n i s k (Mul r a b t) le less l p =
-    short_rounded r (product a b) t (omega (arith, l.0), omega (arith, l.1)) (omega (arith, l.2))
-short_value n i s k (Div a b t) le less l p = ((omega (arith, l.0), omega (arith, l.2)), omega (arith, l.1))
-short_value n i s k (Copy r a t) le less l p =
-    short_operand r n a t le (omega (arith, l.0)) (copy_is_shift r n t le l.1)
-
-short_lets : (n i s k : ℕ) (ns : List ℕ) (cs : List Code) → n ≤ 64 → k + length cs < 2 ^ 32 → AreLawful n i s k cs →
-    AreShortLets (c_lets_from n k ns cs)
-short_lets n i s k ns [] le less l = tt
-short_lets n i s k ns (c ∷ cs) le less l = (
-  (omega arith, short_value n i s k c le (omega arith) l.0.0 l.0.1),
-  short_lets n i s (k + 1) ns cs le (omega arith) l.1,
-)
+short_for_c : (n : ℕ) (c : Code) → n ≤ 64 → IsShortValue (value_for c) → IsShortValue (c_value_for n c)
+short_for_c n (machine.Input j f) le h = h
+short_for_c n (machine.State j f w) le h = h
+short_for_c n (Const w f) le h = h
+short_for_c n (Neg a) le h = h
+short_for_c n (Add a b sa sb) le h = (short_operand n Floor a sa le h.0, short_operand n Floor b sb le h.1)
+short_for_c n (Sub a b sa sb) le h = (short_operand n Floor a sa le h.0, short_operand n Floor b sb le h.1)
+short_for_c n (Mul r a b s) le h = short_rounded r (product a b) s h
+short_for_c n (Div a b s) le h = h
+short_for_c n (Copy r a s) le h = short_operand n r a s le h
 
 -- ---- no form that C hasn't
 c_rounds : (r : Round) (e : Wide) (s : ℕ) → IsCWide e → IsCWide (c_rounded r e s)
@@ -94,21 +81,6 @@ unfolding AreWords
 short_words n [] le h = tt
 short_words n (w ∷ ws) le h = (short_word n w le h.0, short_words n ws le h.1)
 
-program_writable : (p : Program) (ns : List ℕ) → IsLawfulProgram p → IsName p.name → IsWritable (c_routine_of p ns)
-program_writable p ns lawful name =
-    let w = width_of p.width lawful.width in let most = w.most in let c = lawful.counts in
-    let i = c.inputs in let k = c.states in let m = c.outputs in let n = c.codes in let enough = c.enough in
-    record {
-      title = name;
-      width = omega arith;
-      states = omega arith;
-      inputs = omega arith;
-      outputs = omega arith;
-      lets = short_lets p.width p.inputs p.states 0 ns p.codes most (omega arith) lawful.codes;
-      stores = short_stores 0 (first_copy p + p.outputs) p.states (omega arith);
-      results = short_names (first_copy p) p.outputs (omega arith);
-    }
-
 program_starts : (p : Program) → IsLawfulProgram p → AreShortWords (start_words p.codes)
 program_starts p lawful =
     let w = width_of p.width lawful.width in
@@ -118,7 +90,9 @@ program_starts p lawful =
 pub program_written : (p : Program) (ns : List ℕ) → IsLawfulProgram p → IsName p.name →
     IsCWritable (c_routine_of p ns) (start_words p.codes)
 program_written p ns lawful name = record {
-  writable = program_writable p ns lawful name;
+  writable = program_writable (c_value_for p.width) p ns
+      (λ k c less l placed. let most = (width_of p.width lawful.width).most in
+      short_for_c p.width c most (short_value p.width p.inputs p.states k c most less l placed)) lawful name;
   forms = c_lets p.width 0 ns p.codes;
   short = program_starts p lawful;
   counted = start_count p lawful;

@@ -2,9 +2,10 @@
 use Rattle.std.proofs.Common.{◌≡◌, ℕ, nat_eq, cond, Bool, true, false, List, ◌∷◌, ◌++◌, get_or, refl, sym, ap, ◌∙◌, codes, append_assoc}
 use Rattle.std.specs.Char.{is_ascii_digit}
 use Rattle.std.proofs.Common.{arith}
-use Rattle.fx_statements.specs.Statements.{Size, I8, I16, I32, I64, Operator, Plus, Minus, Times, Over}
+use Rattle.fx_statements.specs.Statements.{Size, Operator, Plus, Minus, Times, Over}
 use Rattle.fx_statements.specs.RustText.{operator_text}
 use Rattle.fx_statements.proofs.Fronts.{told}
+use Rattle.fx_statements.proofs.Expressions.{told_size}
 use Rattle.fx_c99.specs.CText.{type_text, working_text}
 
 -- ---- the types to compute in
@@ -29,57 +30,23 @@ working_is b = by (nat_eq b 32) (nat_eq b 64)
     by false true = refl
     by false false = refl
 
-working_byte : Working → ℕ
-working_byte In32 = 51
-working_byte In64 = 54
-working_byte In128 = 100
-
 working_back : ℕ → Working
 working_back n = cond (nat_eq n 51) In32 (cond (nat_eq n 54) In64 In128)
 
-working_at : (a : Working) (r : List ℕ) → get_or (text_of a ++ r) 3 0 ≡ working_byte a
-unfolding working_byte text_of
+working_at : (a : Working) (r : List ℕ) → working_back (get_or (text_of a ++ r) 3 0) ≡ a
+unfolding text_of working_back
 working_at In32 r = refl
 working_at In64 r = refl
 working_at In128 r = refl
 
-working_again : (a : Working) → working_back (working_byte a) ≡ a
-unfolding working_byte working_back
-working_again In32 = refl
-working_again In64 = refl
-working_again In128 = refl
-
 pub one_working : (b c : ℕ) (r s : List ℕ) → working_text b ++ r ≡ working_text c ++ s → r ≡ s
 one_working b c r s h =
-    (told text_of working_byte working_back 3 working_at working_again (working b) (working c) r s
+    (told text_of working_back 3 working_at (working b) (working c) r s
     (ap (λ t. t ++ r) (sym (working_is b)) ∙ h ∙ ap (λ t. t ++ s) (working_is c))).1
 
 -- ---- the types of names
-type_byte : Size → ℕ
-type_byte I8 = 56
-type_byte I16 = 49
-type_byte I32 = 51
-type_byte I64 = 54
-
-type_back : ℕ → Size
-type_back n = cond (nat_eq n 56) I8 (cond (nat_eq n 49) I16 (cond (nat_eq n 51) I32 I64))
-
-type_at : (a : Size) (r : List ℕ) → get_or (type_text a ++ r) 3 0 ≡ type_byte a
-unfolding type_byte
-type_at I8 r = refl
-type_at I16 r = refl
-type_at I32 r = refl
-type_at I64 r = refl
-
-type_again : (a : Size) → type_back (type_byte a) ≡ a
-unfolding type_byte type_back
-type_again I8 = refl
-type_again I16 = refl
-type_again I32 = refl
-type_again I64 = refl
-
 pub one_type : (a b : Size) (r s : List ℕ) → type_text a ++ r ≡ type_text b ++ s → (a ≡ b) × (r ≡ s)
-one_type = told type_text type_byte type_back 3 type_at type_again
+one_type = told_size type_text 3 (λ r. refl) (λ r. refl) (λ r. refl) (λ r. refl)
 
 -- ---- operators, behind a space
 unfoldable pub sign : Operator → ℕ

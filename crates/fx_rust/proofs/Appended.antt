@@ -9,45 +9,55 @@ use Rattle.fx_model.specs.Machine.{Round, Floor, Nearest, Code, Program}
 use Rattle.fx_model.specs.Tree.{at}
 use Rattle.fx_program.specs.ProgramView.{program_with}
 use Rattle.fx_program.specs.declared.code.Code as program
-use Rattle.fx_statements.specs.Statements.{Wide}
-use Rattle.fx_statements.specs.RustText.{wide_text, let_text, store_text, long_text, head_text}
-use Rattle.fx_statements.specs.OfProgram.{rounded, let_of, lets_from, store_of, stores_of, routine_of}
+use Rattle.fx_statements.specs.Statements.{Wide, Value, Let, Store}
+use Rattle.fx_statements.specs.RustText.{wide_text, long_text, head_text}
+use Rattle.fx_statements.specs.OfProgram.{rounded, let_by, lets_by, store_of, stores_of, routine_of}
 use Rattle.fx_rust.specs.Around.{opening, closing}
 
--- ---- one statement more
+-- ---- one statement more, in any language
 -- behind the texts of a list that of one more
 one_more : {A : Type 0} (f : A → List ℕ) (xs : List A) (x : A) (old out new : List ℕ) → out ≡ old ++ flat_map f xs →
     new ≡ out ++ f x
     → new ≡ old ++ flat_map f (xs ++ x ∷ [])
 one_more f xs x old out new p q = q ∙ ap (λ o. o ++ f x) p ∙ flat_map_more f old xs x
 
-lets_push : (k : ℕ) (ns : List ℕ) (cs : List Code) (c : Code)
-    → lets_from k ns (cs ++ c ∷ []) ≡ lets_from k ns cs ++ let_of (k + length cs) (at 0 ns (k + length cs)) c ∷ []
-lets_push k ns [] c = let a : k ≡ k + 0 = omega arith in λ i. let_of (a i) (at 0 ns (a i)) c ∷ []
-lets_push k ns (d ∷ cs) c = let a : (k + 1) + length cs ≡ k + suc (length cs) = omega arith in
-    ap (λ t. let_of k (at 0 ns k) d ∷ t) (lets_push (k + 1) ns cs c
-    ∙ (λ i. lets_from (k + 1) ns cs ++ let_of (a i) (at 0 ns (a i)) c ∷ []))
+lets_push : (made_of : Code → Value) (k : ℕ) (ns : List ℕ) (cs : List Code) (c : Code)
+    → lets_by made_of k ns (cs ++ c ∷ [])
+    ≡ lets_by made_of k ns cs ++ let_by made_of (k + length cs) (at 0 ns (k + length cs)) c ∷ []
+lets_push made_of k ns [] c = let a : k ≡ k + 0 = omega arith in λ i. let_by made_of (a i) (at 0 ns (a i)) c ∷ []
+lets_push made_of k ns (d ∷ cs) c = let a : (k + 1) + length cs ≡ k + suc (length cs) = omega arith in
+    ap (λ t. let_by made_of k (at 0 ns k) d ∷ t) (lets_push made_of (k + 1) ns cs c
+    ∙ (λ i. lets_by made_of (k + 1) ns cs ++ let_by made_of (a i) (at 0 ns (a i)) c ∷ []))
 
-pub let_more : {X : Type 0} (f : X → Code) (ns : List ℕ) (xs : List X) (k : ℕ) (d : X) (old out new : List ℕ) →
-    k < length xs
-    → out ≡ old ++ flat_map let_text (lets_from 0 ns (map f (take k xs))) →
-    new ≡ out ++ let_text (let_of k (at 0 ns k) (f (get_or xs k d)))
-    → new ≡ old ++ flat_map let_text (lets_from 0 ns (map f (take (k + 1) xs)))
-let_more f ns xs k d old out new lt p q =
+-- one code more
+pub lets_more : {X : Type 0} (made_of : Code → Value) (f : X → Code) (ns : List ℕ) (xs : List X) (k : ℕ) (d : X) →
+    k < length xs → lets_by made_of 0 ns (map f (take (k + 1) xs))
+    ≡ lets_by made_of 0 ns (map f (take k xs)) ++ let_by made_of k (at 0 ns k) (f (get_or xs k d)) ∷ []
+lets_more made_of f ns xs k d lt =
     let cs = map f (take k xs) in let c = f (get_or xs k d) in
     let many : 0 + length cs ≡ k = let a = length-map (take k xs) f in let b = length-take k xs in omega arith in
-    one_more let_text (lets_from 0 ns cs) (let_of k (at 0 ns k) c) old out new p q
-    ∙ ap (λ ls. old ++ flat_map let_text ls) (sym (ap (lets_from 0 ns) (map_more f xs k d lt) ∙ lets_push 0 ns cs c
-    ∙ ap (λ (j : ℕ). lets_from 0 ns cs ++ let_of j (at 0 ns j) c ∷ []) many))
+    ap (lets_by made_of 0 ns) (map_more f xs k d lt) ∙ lets_push made_of 0 ns cs c
+    ∙ ap (λ (j : ℕ). lets_by made_of 0 ns cs ++ let_by made_of j (at 0 ns j) c ∷ []) many
 
-pub store_more : (c m : ℕ) (old out new : List ℕ) → out ≡ old ++ flat_map store_text (stores_of c m) →
-    new ≡ out ++ store_text (store_of m (c + m))
-    → new ≡ old ++ flat_map store_text (stores_of c (m + 1))
-store_more c m old out new p q =
-    one_more store_text (stores_of c m) (store_of m (c + m)) old out new p q
-    ∙ ap (λ ts. old ++ flat_map store_text ts)
+pub let_more : {X : Type 0} (text : Let → List ℕ) (made_of : Code → Value) (f : X → Code) (ns : List ℕ) (xs : List X)
+    (k : ℕ) (d : X) (old out new : List ℕ) → k < length xs
+    → out ≡ old ++ flat_map text (lets_by made_of 0 ns (map f (take k xs))) →
+    new ≡ out ++ text (let_by made_of k (at 0 ns k) (f (get_or xs k d)))
+    → new ≡ old ++ flat_map text (lets_by made_of 0 ns (map f (take (k + 1) xs)))
+let_more text made_of f ns xs k d old out new lt p q =
+    one_more text (lets_by made_of 0 ns (map f (take k xs))) (let_by made_of k (at 0 ns k) (f (get_or xs k d))) old out
+    new p q
+    ∙ ap (λ ls. old ++ flat_map text ls) (sym (lets_more made_of f ns xs k d lt))
+
+pub store_more : (text : Store → List ℕ) (c m : ℕ) (old out new : List ℕ) → out ≡ old ++ flat_map text (stores_of c m) →
+    new ≡ out ++ text (store_of m (c + m))
+    → new ≡ old ++ flat_map text (stores_of c (m + 1))
+store_more text c m old out new p q =
+    one_more text (stores_of c m) (store_of m (c + m)) old out new p q
+    ∙ ap (λ ts. old ++ flat_map text ts)
     (sym (map-range_with_len_more (λ k. store_of k (c + k)) 0 m m (let e : 0 + m ≡ m = omega arith in e)))
 
+-- ---- one output more
 names_push : (c m : ℕ) → range_with_len c (m + 1) ≡ range_with_len c m ++ (c + m) ∷ []
 names_push c zero = let a : c ≡ c + 0 = omega arith in λ i. a i ∷ []
 names_push c (suc m) =

@@ -19,5 +19,5 @@ mod statement;
 mod text;
 mod value;
 
-pub use piece::{put, put_digits, put_name};
+pub use piece::{put, put_between, put_digits, put_element, put_name, put_title};
 pub use text::rust_text;

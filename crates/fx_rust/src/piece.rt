@@ -2,7 +2,7 @@
 //!
 //! Each call appends what its clause says. What a failed call has appended isn't told: its caller drops the text.
 
-ghost use Rattle.std.specs.Prelude.{◌≡◌, ◌++◌, codes, OnOk};
+ghost use Rattle.std.specs.Prelude.{◌≡◌, ◌++◌, codes, decimal, OnOk};
 ghost use Rattle.fx_statements.specs.RustText.{size_text, cast_text};
 ghost use Rattle.fx_statements.specs.OfProgram.{least_size};
 
@@ -22,6 +22,45 @@ pub fn put_digits<I: Integer>(out: &mut Vec<u8>, n: I) -> Result<(), AllocError>
 {
     let mut buffer = Buffer::new();
     put(out, buffer.format(n).as_bytes())
+}
+
+/// A whole number between two texts.
+pub fn put_between<I: Integer>(
+    out: &mut Vec<u8>,
+    before: &[u8],
+    n: I,
+    behind: &[u8],
+) -> Result<(), AllocError>
+    ensures { OnOk result (out.new.items ≡ out.old.items ++ before.now ++ I.text n ++ behind.now) }
+{
+    put(out, before)?;
+    put_digits(out, n)?;
+    put(out, behind)
+}
+
+/// An element of an array, between two texts of which the second one has the closing bracket.
+pub fn put_element<I: Integer>(
+    out: &mut Vec<u8>,
+    before: &[u8],
+    array: &[u8],
+    k: I,
+    behind: &[u8],
+) -> Result<(), AllocError>
+    ensures { OnOk result (out.new.items ≡ out.old.items ++ before.now ++ array.now ++ codes "[" ++ I.text k
+        ++ behind.now) }
+{
+    put(out, before)?;
+    put(out, array)?;
+    put_between(out, b"[", k, behind)
+}
+
+/// `NAME, width 16`.
+pub fn put_title(out: &mut Vec<u8>, title: &[u8], width: u32) -> Result<(), AllocError>
+    ensures { OnOk result (out.new.items ≡ out.old.items ++ title.now ++ codes ", width " ++ decimal width) }
+{
+    put(out, title)?;
+    put(out, b", width ")?;
+    put_digits(out, width)
 }
 
 /// `w3`.

@@ -7,7 +7,7 @@ ghost use Rattle.std.specs.Prelude.{◌≡◌, ◌++◌, ◌<◌, ◌-◌, codes
 ghost use Rattle.fx_program.specs.CodeView.{round_of};
 ghost use Rattle.fx_rust.specs.Around.{opening, closing};
 
-use crate::piece::{put, put_digits};
+use crate::piece::{put, put_between};
 use fx_program::Round;
 use std::alloc::AllocError;
 
@@ -21,23 +21,12 @@ pub fn open_rounded(out: &mut Vec<u8>, r: Round, s: u64) -> Result<(), AllocErro
     }
 }
 
-/// The shift.
-fn put_shift(out: &mut Vec<u8>, s: u64) -> Result<(), AllocError>
-    ensures { OnOk result (out.new.items ≡ out.old.items ++ codes " >> " ++ decimal s ++ codes ")") }
-{
-    put(out, b" >> ")?;
-    put_digits(out, s)?;
-    put(out, b")")
-}
-
 /// Half a unit of what is kept.
 fn put_half(out: &mut Vec<u8>, s: u64) -> Result<(), AllocError>
     requires { 0 < s }
     ensures { OnOk result (out.new.items ≡ out.old.items ++ codes " + (1i128 << " ++ decimal (s - 1) ++ codes "))") }
 {
-    put(out, b" + (1i128 << ")?;
-    put_digits(out, s - 1)?;
-    put(out, b"))")
+    put_between(out, b" + (1i128 << ", s - 1, b"))")
 }
 
 /// What stands behind it.
@@ -48,5 +37,5 @@ pub fn close_rounded(out: &mut Vec<u8>, r: Round, s: u64) -> Result<(), AllocErr
         Round::Nearest if s > 0 => put_half(out, s)?,
         _ => {}
     }
-    put_shift(out, s)
+    put_between(out, b" >> ", s, b")")
 }

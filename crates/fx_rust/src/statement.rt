@@ -5,7 +5,7 @@ ghost use Rattle.fx_program.specs.CodeView.{kind_of, code_of};
 ghost use Rattle.fx_statements.specs.RustText.{let_text, long_text, store_text};
 ghost use Rattle.fx_statements.specs.OfProgram.{let_of, store_of};
 
-use crate::piece::{put, put_digits, put_name, put_size};
+use crate::piece::{put, put_between, put_name, put_size};
 use crate::value::put_value;
 use fx_program::{Code, Kind};
 use std::alloc::AllocError;
@@ -42,9 +42,7 @@ pub fn put_long(out: &mut Vec<u8>, name: usize) -> Result<(), AllocError>
 pub fn put_store(out: &mut Vec<u8>, place: usize, name: usize) -> Result<(), AllocError>
     ensures { OnOk result (out.new.items ≡ out.old.items ++ store_text (store_of place name)) }
 {
-    put(out, b"    s[")?;
-    put_digits(out, place)?;
-    put(out, b"] = ")?;
+    put_between(out, b"    s[", place, b"] = ")?;
     put_long(out, name)?;
     put(out, b";\n")
 }

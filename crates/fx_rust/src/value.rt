@@ -2,14 +2,14 @@
 //!
 //! Each expression of type i128 is written by one function, and in parentheses of its own.
 
-ghost use Rattle.std.specs.Prelude.{◌≡◌, ◌++◌, ◌∷◌, codes, decimal, OnOk};
+ghost use Rattle.std.specs.Prelude.{◌≡◌, ◌++◌, codes, OnOk};
 ghost use Rattle.fx_model.specs.Machine as machine;
 ghost use Rattle.fx_program.specs.CodeView.{round_of, kind_of};
 ghost use Rattle.fx_statements.specs.Statements.{Over, Left, Widened, Negated, Two, Shifted};
 ghost use Rattle.fx_statements.specs.RustText.{wide_text, value_text};
 ghost use Rattle.fx_statements.specs.OfProgram.{least_size, rounded, operand, product, value_for};
 
-use crate::piece::{put, put_cast, put_digits, put_name};
+use crate::piece::{put, put_between, put_cast, put_digits, put_name};
 use crate::rounding::{close_rounded, open_rounded};
 use fx_program::{Kind, Round};
 use std::alloc::AllocError;
@@ -29,9 +29,7 @@ fn put_raised(out: &mut Vec<u8>, a: u32, s: u64) -> Result<(), AllocError>
 {
     put(out, b"(")?;
     put_widened(out, a)?;
-    put(out, b" << ")?;
-    put_digits(out, s)?;
-    put(out, b")")
+    put_between(out, b" << ", s, b")")
 }
 
 /// A word, shifted to the right and rounded.
@@ -122,27 +120,17 @@ fn put_negation(out: &mut Vec<u8>, a: u32) -> Result<(), AllocError>
     put(out, b")")
 }
 
-/// An element of `x` or `s`, as the first byte says.
-fn put_element(out: &mut Vec<u8>, list: u8, k: u32) -> Result<(), AllocError>
-    ensures { OnOk result (out.new.items ≡ out.old.items ++ list ∷ codes "[" ++ decimal k ++ codes "]") }
-{
-    out.push(list)?;
-    put(out, b"[")?;
-    put_digits(out, k)?;
-    put(out, b"]")
-}
-
 /// What the name of such a code stands for, at the type of the width.
 pub fn put_value(out: &mut Vec<u8>, width: u32, kind: Kind) -> Result<(), AllocError>
     ensures { OnOk result (out.new.items ≡ out.old.items ++ value_text (least_size width) (value_for (kind_of kind))) }
 {
     match kind {
         Kind::Input { k, .. } => {
-            put_element(out, b'x', k)?;
+            put_between(out, b"x[", k, b"]")?;
             put_cast(out, width)
         }
         Kind::State { k, .. } => {
-            put_element(out, b's', k)?;
+            put_between(out, b"s[", k, b"]")?;
             put_cast(out, width)
         }
         Kind::Const { w, .. } => put_digits(out, w),
