@@ -1,20 +1,21 @@
 -- What was written piece by piece.
-use Rattle.std.proofs.Common.{◌≡◌, ℕ, zero, suc, ◌+◌, ◌<◌, ℤ, pos, Bool, true, false, cond, List, [], ◌∷◌, ◌++◌, length, get_or, take, map, refl, sym, ap, ◌∙◌, arith, codes}
+use Rattle.std.proofs.Common.{◌≡◌, ℕ, zero, suc, ◌+◌, ◌<◌, ℤ, pos, Bool, true, false, cond, List, [], ◌∷◌, ◌++◌, length, get_or, take, map, refl, sym, ap, subst, ◌∙◌, arith, codes, to_z, of_z}
 use Rattle.std.specs.Prelude.{◌||◌}
 use Rattle.std.specs.Fmt.{decimal}
+use Rattle.std.specs.Int.{w32}
 use Rattle.std.specs.List.{flat_map, list_any, range_with_len}
 use Rattle.std.proofs.Common.{append_assoc}
-use Rattle.std.proofs.lemmas.List.{append-nil, flat_map_more, map_more, take_more, length-map, length-take}
+use Rattle.std.proofs.lemmas.List.{append-nil, take_more, length-take}
 use Rattle.std.proofs.lemmas.List.Folds.{list_any-append}
-use Rattle.std.proofs.lemmas.List.FromFn.{map-range_with_len_more}
 use Rattle.fx_model.specs.Machine.{Round, Floor, Nearest, Code, starts_of, start_words}
 use Rattle.fx_model.specs.Tree.{at}
 use Rattle.fx_statements.specs.Statements.{Size, Operator, Wide, Two, Narrowed, Let}
 use Rattle.fx_statements.specs.RustText.{operator_text}
 use Rattle.fx_statements.specs.OfProgram.{least_size, store_of, stores_of}
-use Rattle.fx_c99.specs.CText.{c_wide_text, working_wide_text, c_cast_text, c_value_text, c_let_text, assignment_text, placed, start_text, starts_text, wide_type_text, computes_in, rounds_in, floor_text, helpers_text}
-use Rattle.fx_c99.specs.OfProgram.{c_rounded, c_let_of, c_lets_from}
+use Rattle.fx_c99.specs.CText.{c_wide_text, working_wide_text, c_cast_text, c_value_text, assignment_text, placed, start_text, starts_text, wide_type_text, computes_in, rounds_in, floor_text, helpers_text}
+use Rattle.fx_c99.specs.OfProgram.{c_rounded, c_value_for, c_let_of, c_lets_from}
 use Rattle.fx_c99.specs.Working.{working_bits}
+use Rattle.fx_rust.proofs.Appended.{lets_more, store_more}
 use Rattle.fx_c.specs.Around.{opening, closing}
 
 -- ---- what is rounded
@@ -37,40 +38,6 @@ between bits r e s old before middle new p q h =
     ∙ ap (λ t. old ++ t) (sym (rounded_text bits r e s))
 
 -- ---- one statement more
--- behind the texts of a list that of one more
-one_more : {A : Type 0} (f : A → List ℕ) (xs : List A) (x : A) (old out new : List ℕ) → out ≡ old ++ flat_map f xs →
-    new ≡ out ++ f x
-    → new ≡ old ++ flat_map f (xs ++ x ∷ [])
-one_more f xs x old out new p q = q ∙ ap (λ o. o ++ f x) p ∙ flat_map_more f old xs x
-
-lets_push : (n k : ℕ) (ns : List ℕ) (cs : List Code) (c : Code)
-    → c_lets_from n k ns (cs ++ c ∷ [])
-    ≡ c_lets_from n k ns cs ++ c_let_of n (k + length cs) (at 0 ns (k + length cs)) c ∷ []
-lets_push n k ns [] c = let a : k ≡ k + 0 = omega arith in λ i. c_let_of n (a i) (at 0 ns (a i)) c ∷ []
-lets_push n k ns (d ∷ cs) c = let a : (k + 1) + length cs ≡ k + suc (length cs) = omega arith in
-    ap (λ t. c_let_of n k (at 0 ns k) d ∷ t) (lets_push n (k + 1) ns cs c
-    ∙ (λ i. c_lets_from n (k + 1) ns cs ++ c_let_of n (a i) (at 0 ns (a i)) c ∷ []))
-
--- one code more
-pub lets_more : {X : Type 0} (f : X → Code) (n : ℕ) (ns : List ℕ) (xs : List X) (k : ℕ) (d : X) → k < length xs →
-    c_lets_from n 0 ns (map f (take (k + 1) xs))
-    ≡ c_lets_from n 0 ns (map f (take k xs)) ++ c_let_of n k (at 0 ns k) (f (get_or xs k d)) ∷ []
-lets_more f n ns xs k d lt =
-    let cs = map f (take k xs) in let c = f (get_or xs k d) in
-    let many : 0 + length cs ≡ k = let a = length-map (take k xs) f in let b = length-take k xs in omega arith in
-    ap (c_lets_from n 0 ns) (map_more f xs k d lt) ∙ lets_push n 0 ns cs c
-    ∙ ap (λ (j : ℕ). c_lets_from n 0 ns cs ++ c_let_of n j (at 0 ns j) c ∷ []) many
-
-pub let_more : {X : Type 0} (f : X → Code) (n : ℕ) (ns : List ℕ) (xs : List X) (k : ℕ) (d : X) (old out new : List ℕ) →
-    k < length xs
-    → out ≡ old ++ flat_map (c_let_text n) (c_lets_from n 0 ns (map f (take k xs))) →
-    new ≡ out ++ c_let_text n (c_let_of n k (at 0 ns k) (f (get_or xs k d)))
-    → new ≡ old ++ flat_map (c_let_text n) (c_lets_from n 0 ns (map f (take (k + 1) xs)))
-let_more f n ns xs k d old out new lt p q =
-    one_more (c_let_text n) (c_lets_from n 0 ns (map f (take k xs)))
-    (c_let_of n k (at 0 ns k) (f (get_or xs k d))) old out new p q
-    ∙ ap (λ ls. old ++ flat_map (c_let_text n) ls) (sym (lets_more f n ns xs k d lt))
-
 -- one code more that may pass a test
 pub any_more : {X : Type 0} (test : Let → Bool) (f : X → Code) (n : ℕ) (ns : List ℕ) (xs : List X) (k : ℕ) (d : X)
     (found now new : Bool) → k < length xs
@@ -80,20 +47,11 @@ pub any_more : {X : Type 0} (test : Let → Bool) (f : X → Code) (n : ℕ) (ns
 any_more test f n ns xs k d found now new lt p q r =
     let ls = c_lets_from n 0 ns (map f (take k xs)) in let l = c_let_of n k (at 0 ns k) (f (get_or xs k d)) in
     r ∙ ap (λ (b : Bool). b || now) p ∙ ap (λ (b : Bool). list_any test ls || b) (q ∙ sym (or_false (test l)))
-    ∙ sym (list_any-append test ls (l ∷ [])) ∙ ap (list_any test) (sym (lets_more f n ns xs k d lt))
+    ∙ sym (list_any-append test ls (l ∷ [])) ∙ ap (list_any test) (sym (lets_more (c_value_for n) f ns xs k d lt))
   where
     or_false : (b : Bool) → (b || false) ≡ b
     or_false true = refl
     or_false false = refl
-
-pub store_more : (array : List ℕ) (n c m : ℕ) (old out new : List ℕ) →
-    out ≡ old ++ flat_map (assignment_text array n) (stores_of c m) →
-    new ≡ out ++ assignment_text array n (store_of m (c + m))
-    → new ≡ old ++ flat_map (assignment_text array n) (stores_of c (m + 1))
-store_more array n c m old out new p q =
-    one_more (assignment_text array n) (stores_of c m) (store_of m (c + m)) old out new p q
-    ∙ ap (λ ts. old ++ flat_map (assignment_text array n) ts)
-    (sym (map-range_with_len_more (λ k. store_of k (c + k)) 0 m m (let e : 0 + m ≡ m = omega arith in e)))
 
 -- names in order, with their places
 placed_are : (j c m : ℕ) → placed j (range_with_len (c + j) m) ≡ map (λ k. store_of k (c + k)) (range_with_len j m)
@@ -143,7 +101,7 @@ pub output_more : (array : List ℕ) (n c m : ℕ) (old out new : List ℕ) →
     new ≡ out ++ assignment_text array n (store_of m (c + m))
     → new ≡ old ++ flat_map (assignment_text array n) (placed 0 (range_with_len c (m + 1)))
 output_more array n c m old out new p q =
-    store_more array n c m old out new
+    store_more (assignment_text array n) c m old out new
     (p ∙ ap (λ ts. old ++ flat_map (assignment_text array n) ts) (sym (placed_stores c m))) q
     ∙ ap (λ ts. old ++ flat_map (assignment_text array n) ts) (placed_stores c (m + 1))
 
@@ -200,3 +158,12 @@ pub five_pieces : (d e f g h old a b c k new : List ℕ) → a ≡ old ++ d → 
 five_pieces d e f g h old a b c k new p q r s t =
     four_pieces e f g h a b c k new q r s t ∙ ap (λ o. o ++ (e ++ (f ++ (g ++ h)))) p
     ∙ append_assoc old d (e ++ (f ++ (g ++ h)))
+
+-- ---- a value's text, of the numbers that its shifts are
+pub shifts_again : (P : List ℕ → Type 0) (code : ℕ → ℕ → ℤ → ℤ → Code) (n own a b : ℕ) (x y : ℤ) (old : List ℕ) →
+    to_z w32 (of_z w32 x) ≡ x → to_z w32 (of_z w32 y) ≡ y →
+    P (old ++ c_value_text n (least_size own)
+    (c_value_for n (code a b (to_z w32 (of_z w32 x)) (to_z w32 (of_z w32 y)))))
+    → P (old ++ c_value_text n (least_size own) (c_value_for n (code a b x y)))
+shifts_again P code n own a b x y old p q =
+    subst P (λ i. old ++ c_value_text n (least_size own) (c_value_for n (code a b (p i) (q i))))

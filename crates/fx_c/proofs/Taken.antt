@@ -14,8 +14,9 @@ use Rattle.fx_program.specs.CodeView.{code_of}
 use Rattle.fx_program.specs.declared.code.Code as program
 use Rattle.fx_c99.specs.CText.{c_let_text, takes, let_takes, unread_text, unreads_text, first_names, assignment_text, placed, body_text}
 use Rattle.fx_c.specs.Around.{code_takes}
-use Rattle.fx_c99.specs.OfProgram.{few, c_rounded, c_operand, c_let_of, c_lets_from, c_routine_of}
-use Rattle.fx_c.proofs.Appended.{lets_more, four_pieces}
+use Rattle.fx_c99.specs.OfProgram.{few, c_rounded, c_operand, c_value_for, c_let_of, c_lets_from, c_routine_of}
+use Rattle.fx_rust.proofs.Appended.{lets_more}
+use Rattle.fx_c.proofs.Appended.{four_pieces}
 
 or_false : (b : Bool) → (b || false) ≡ b
 or_false true = refl
@@ -63,7 +64,7 @@ unread_more f ls first n ns xs k d old out new lt p q =
     let text : Let → List ℕ = λ l. unread_text ls first l.name in
     let l = c_let_of n k (at 0 ns k) (f (get_or xs k d)) in
     q ∙ ap (λ o. o ++ text l) p ∙ flat_map_more text old (c_lets_from n 0 ns (map f (take k xs))) l
-    ∙ ap (λ us. old ++ flat_map text us) (sym (lets_more f n ns xs k d lt))
+    ∙ ap (λ us. old ++ flat_map text us) (sym (lets_more (c_value_for n) f ns xs k d lt))
 
 lets_length : (n k : ℕ) (ns : List ℕ) (cs : List Code) → length (c_lets_from n k ns cs) ≡ length cs
 lets_length n k ns [] = refl

@@ -1,24 +1,12 @@
 //! The groups of a header's macros, each below a comment.
 
-ghost use Rattle.std.specs.Prelude.{◌≡◌, ◌++◌, codes, decimal, OnOk};
+ghost use Rattle.std.specs.Prelude.{◌≡◌, ◌++◌, codes, OnOk};
 ghost use Rattle.fx_c99.specs.CHeader.{element_comment, output_comment, count_macros, input_macros, state_macros, output_macros};
 
 use crate::macros::{put_count, put_element_macro, put_point};
 use fx_num::Dyadic;
-use fx_rust::{put, put_digits};
+use fx_rust::{put, put_element};
 use std::alloc::AllocError;
-
-// An empty line, and `/* input[0]`.
-fn open_comment(out: &mut Vec<u8>, array: &[u8], k: u32) -> Result<(), AllocError>
-    ensures { OnOk result (out.new.items ≡ out.old.items ++ codes "\n/* " ++ array.now ++ codes "[" ++ decimal k
-        ++ codes "]") }
-{
-    put(out, b"\n/* ")?;
-    put(out, array)?;
-    put(out, b"[")?;
-    put_digits(out, k)?;
-    put(out, b"]")
-}
 
 // The comment on an element with a name.
 fn put_named_comment(
@@ -31,7 +19,7 @@ fn put_named_comment(
     ensures { OnOk result (out.new.items ≡ out.old.items
         ++ element_comment array.now k (codes ", " ++ (name.now ++ says.now))) }
 {
-    open_comment(out, array, k)?;
+    put_element(out, b"\n/* ", array, k, b"]")?;
     put(out, b", ")?;
     put(out, name)?;
     put(out, says)?;
@@ -112,7 +100,7 @@ pub fn put_state_macros(
 fn put_output_comment(out: &mut Vec<u8>, j: u32) -> Result<(), AllocError>
     ensures { OnOk result (out.new.items ≡ out.old.items ++ output_comment j) }
 {
-    open_comment(out, b"output", j)?;
+    put_element(out, b"\n/* ", b"output", j, b"]")?;
     put(
         out,
         b": for inputs in range at most BOUND / 2^BOUND_POINT from the exact value */\n",

@@ -4,7 +4,7 @@ ghost use Rattle.std.specs.Prelude.{◌≡◌, ◌++◌, OnOk};
 ghost use Rattle.fx_c99.specs.CText.{state_text, state_parameter, arrays_text, step_head, reset_head};
 
 use crate::piece::put_type;
-use fx_rust::{put, put_digits};
+use fx_rust::{put, put_between};
 use std::alloc::AllocError;
 
 // `int16_t state[2]`.
@@ -12,9 +12,7 @@ fn put_state(out: &mut Vec<u8>, width: u32, states: u32) -> Result<(), AllocErro
     ensures { OnOk result (out.new.items ≡ out.old.items ++ state_text width states) }
 {
     put_type(out, width)?;
-    put(out, b" state[")?;
-    put_digits(out, states)?;
-    put(out, b"]")
+    put_between(out, b" state[", states, b"]")
 }
 
 // `int16_t state[2], `, and nothing where there is no state.
@@ -34,13 +32,9 @@ fn put_arrays(out: &mut Vec<u8>, width: u32, inputs: u32, outputs: u32) -> Resul
 {
     put(out, b"const ")?;
     put_type(out, width)?;
-    put(out, b" input[")?;
-    put_digits(out, inputs)?;
-    put(out, b"], ")?;
+    put_between(out, b" input[", inputs, b"], ")?;
     put_type(out, width)?;
-    put(out, b" output[")?;
-    put_digits(out, outputs)?;
-    put(out, b"])")?;
+    put_between(out, b" output[", outputs, b"])")?;
     Ok(())
 }
 

@@ -23,7 +23,7 @@ use fx_c99::header_law;
 use fx_expr::Function;
 use fx_num::{Dyadic, Memory};
 use fx_program::Program;
-use fx_rust::{put, put_digits};
+use fx_rust::{put, put_title};
 use std::alloc::{AllocError, Global};
 
 // The macros of input `k`.
@@ -142,9 +142,7 @@ fn put_opening(out: &mut Vec<u8>, title: &[u8], width: u32) -> Result<(), AllocE
     ensures { OnOk result (out.new.items ≡ out.old.items ++ opening_text title.now width) }
 {
     put(out, b"/* ")?;
-    put(out, title)?;
-    put(out, b", width ")?;
-    put_digits(out, width)?;
+    put_title(out, title, width)?;
     put(out, b" */\n#ifndef FIXD_")?;
     put(out, title)?;
     put(out, b"_H\n#define FIXD_")?;

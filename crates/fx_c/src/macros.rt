@@ -1,20 +1,10 @@
 //! The macros of a header, each on a line of its own.
 
 ghost use Rattle.std.specs.Prelude.{◌≡◌, ◌++◌, pos, codes, OnOk};
-ghost use Rattle.std.specs.Fmt.{signed_decimal};
 ghost use Rattle.fx_c99.specs.CHeader.{number_text, macro_text, of_element};
 
-use fx_rust::{put, put_digits};
+use fx_rust::{put, put_between, put_digits};
 use std::alloc::AllocError;
-
-// `(-5)`.
-fn put_enclosed(out: &mut Vec<u8>, v: i128) -> Result<(), AllocError>
-    ensures { OnOk result (out.new.items ≡ out.old.items ++ codes "(" ++ signed_decimal v ++ codes ")") }
-{
-    put(out, b"(")?;
-    put_digits(out, v)?;
-    put(out, b")")
-}
 
 // A number, as `#if` reads it.
 fn put_number(out: &mut Vec<u8>, v: i128) -> Result<(), AllocError>
@@ -25,7 +15,7 @@ fn put_number(out: &mut Vec<u8>, v: i128) -> Result<(), AllocError>
     } else if v == i128::from(i64::MIN) {
         put(out, b"(-9223372036854775807 - 1)")
     } else {
-        put_enclosed(out, v)
+        put_between(out, b"(", v, b")")
     }
 }
 

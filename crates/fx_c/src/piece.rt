@@ -6,7 +6,7 @@ ghost use Rattle.std.specs.Prelude.{◌≡◌, ◌++◌, codes, decimal, OnOk};
 ghost use Rattle.fx_statements.specs.OfProgram.{least_size};
 ghost use Rattle.fx_c99.specs.CText.{type_text, c_cast_text, working_text, power_text, floor_name, literal_text};
 
-use fx_rust::{put, put_digits};
+use fx_rust::{put, put_between, put_digits};
 use std::alloc::AllocError;
 
 /// The type of a width.
@@ -71,9 +71,7 @@ fn put_shifted_one(out: &mut Vec<u8>, bits: u32, s: u64) -> Result<(), AllocErro
 {
     put(out, b"((")?;
     put_working(out, bits)?;
-    put(out, b")1 << ")?;
-    put_digits(out, s)?;
-    put(out, b")")
+    put_between(out, b")1 << ", s, b")")
 }
 
 /// A power of two.

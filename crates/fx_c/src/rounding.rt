@@ -1,13 +1,13 @@
 //! What stands around an expression that is shifted to the right and rounded.
 
-ghost use Rattle.std.specs.Prelude.{◌≡◌, ◌++◌, ◌<◌, ◌-◌, codes, decimal, OnOk};
+ghost use Rattle.std.specs.Prelude.{◌≡◌, ◌++◌, ◌<◌, ◌-◌, codes, OnOk};
 ghost use Rattle.fx_program.specs.CodeView.{round_of};
 ghost use Rattle.fx_c99.specs.CText.{power_text};
 ghost use Rattle.fx_c.specs.Around.{opening, closing};
 
 use crate::piece::{put_floor_name, put_power};
 use fx_program::Round;
-use fx_rust::{put, put_digits};
+use fx_rust::{put, put_between};
 use std::alloc::AllocError;
 
 /// What stands before it.
@@ -22,15 +22,6 @@ pub fn open_rounded(out: &mut Vec<u8>, bits: u32, r: Round, s: u64) -> Result<()
         Round::Floor => put(out, b"("),
         Round::Nearest => put(out, b"(("),
     }
-}
-
-// How far it is shifted.
-fn put_shift(out: &mut Vec<u8>, s: u64) -> Result<(), AllocError>
-    ensures { OnOk result (out.new.items ≡ out.old.items ++ codes ", " ++ decimal s ++ codes "U)") }
-{
-    put(out, b", ")?;
-    put_digits(out, s)?;
-    put(out, b"U)")
 }
 
 // Half a unit of what is kept.
@@ -54,5 +45,5 @@ pub fn close_rounded(out: &mut Vec<u8>, bits: u32, r: Round, s: u64) -> Result<(
         Round::Floor => {}
         Round::Nearest => put_half(out, bits, s)?,
     }
-    put_shift(out, s)
+    put_between(out, b", ", s, b"U)")
 }

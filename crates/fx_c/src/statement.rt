@@ -1,6 +1,6 @@
 //! Writing one statement.
 
-ghost use Rattle.std.specs.Prelude.{◌≡◌, ◌++◌, codes, decimal, OnOk};
+ghost use Rattle.std.specs.Prelude.{◌≡◌, ◌++◌, OnOk};
 ghost use Rattle.fx_program.specs.CodeView.{kind_of, code_of};
 ghost use Rattle.fx_statements.specs.OfProgram.{store_of};
 ghost use Rattle.fx_c99.specs.CText.{c_let_text, assignment_text, start_text};
@@ -9,7 +9,7 @@ ghost use Rattle.fx_c99.specs.OfProgram.{c_let_of};
 use crate::piece::{put_cast, put_literal, put_type};
 use crate::value::put_value;
 use fx_program::{Code, Kind};
-use fx_rust::{put, put_digits, put_name};
+use fx_rust::{put, put_between, put_element, put_name};
 use std::alloc::AllocError;
 
 // The name of a code of this kind.
@@ -38,18 +38,6 @@ pub fn put_let(
     put_kind(out, n, width, own, code.kind())
 }
 
-// `    state[0] = `, of an array of that name.
-fn put_target(out: &mut Vec<u8>, array: &[u8], place: usize) -> Result<(), AllocError>
-    ensures { OnOk result (out.new.items ≡ out.old.items ++ codes "    " ++ array.now ++ codes "[" ++ decimal place
-        ++ codes "] = ") }
-{
-    put(out, b"    ")?;
-    put(out, array)?;
-    put(out, b"[")?;
-    put_digits(out, place)?;
-    put(out, b"] = ")
-}
-
 /// `    state[0] = (int16_t)w3;`
 pub fn put_assignment(
     out: &mut Vec<u8>,
@@ -60,7 +48,7 @@ pub fn put_assignment(
 ) -> Result<(), AllocError>
     ensures { OnOk result (out.new.items ≡ out.old.items ++ assignment_text array.now width (store_of place name)) }
 {
-    put_target(out, array, place)?;
+    put_element(out, b"    ", array, place, b"] = ")?;
     put_cast(out, width)?;
     put_name(out, name)?;
     put(out, b";\n")?;
@@ -71,9 +59,7 @@ pub fn put_assignment(
 pub fn put_start(out: &mut Vec<u8>, place: usize, w: i64) -> Result<(), AllocError>
     ensures { OnOk result (out.new.items ≡ out.old.items ++ start_text place w) }
 {
-    put(out, b"    state[")?;
-    put_digits(out, place)?;
-    put(out, b"] = ")?;
+    put_between(out, b"    state[", place, b"] = ")?;
     put_literal(out, w)?;
     put(out, b";\n")
 }

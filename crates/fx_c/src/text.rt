@@ -21,7 +21,7 @@ use crate::working::{Test, passes};
 use fx_c99::text_law;
 use fx_num::Memory;
 use fx_program::{Code, Program};
-use fx_rust::{put, put_digits};
+use fx_rust::{put, put_title};
 use std::alloc::{AllocError, Global};
 
 // A line for each code.
@@ -189,9 +189,7 @@ fn put_top(out: &mut Vec<u8>, title: &[u8], width: u32) -> Result<(), AllocError
     ensures { OnOk result (out.new.items ≡ out.old.items ++ top_text title.now width) }
 {
     put(out, b"/* ")?;
-    put(out, title)?;
-    put(out, b", width ")?;
-    put_digits(out, width)?;
+    put_title(out, title, width)?;
     put(out, b" */\n#include <stdint.h>\n\n")?;
     Ok(())
 }

@@ -2,7 +2,7 @@
 //!
 //! Each expression is written by one function, for the number of bits that its statement computes in.
 
-ghost use Rattle.std.specs.Prelude.{◌≡◌, ◌++◌, codes, decimal, OnOk};
+ghost use Rattle.std.specs.Prelude.{◌≡◌, ◌++◌, codes, OnOk};
 ghost use Rattle.fx_model.specs.Machine as machine;
 ghost use Rattle.fx_program.specs.CodeView.{round_of, kind_of};
 ghost use Rattle.fx_statements.specs.Statements.{Over, Widened, Negated, Two, Narrowed};
@@ -16,7 +16,7 @@ use crate::piece::{put_cast, put_literal, put_power, put_working};
 use crate::rounding::{close_rounded, open_rounded};
 use crate::working::{Sign, copy_bits, double_bits, few, plain_bits, sum_bits};
 use fx_program::{Kind, Round};
-use fx_rust::{put, put_digits, put_name};
+use fx_rust::{put, put_between, put_name};
 use std::alloc::AllocError;
 
 // `(int32_t)w3`.
@@ -159,16 +159,6 @@ fn put_negation(out: &mut Vec<u8>, bits: u32, a: u32) -> Result<(), AllocError>
     put(out, b")")
 }
 
-// An element of an array.
-fn put_element(out: &mut Vec<u8>, array: &[u8], k: u32) -> Result<(), AllocError>
-    ensures { OnOk result (out.new.items ≡ out.old.items ++ array.now ++ codes "[" ++ decimal k ++ codes "]") }
-{
-    put(out, array)?;
-    put(out, b"[")?;
-    put_digits(out, k)?;
-    put(out, b"]")
-}
-
 // A sum, or a difference, in the type that it is computed in, and cast.
 fn put_cast_sum(
     out: &mut Vec<u8>,
@@ -197,11 +187,11 @@ pub fn put_value(out: &mut Vec<u8>, width: u32, own: u32, kind: Kind) -> Result<
     match kind {
         Kind::Input { k, .. } => {
             put_cast(out, own)?;
-            put_element(out, b"input", k)
+            put_between(out, b"input[", k, b"]")
         }
         Kind::State { k, .. } => {
             put_cast(out, own)?;
-            put_element(out, b"state", k)
+            put_between(out, b"state[", k, b"]")
         }
         Kind::Const { w, .. } => put_literal(out, w),
         Kind::Neg { a } => {

@@ -6,4 +6,4 @@ pub returns : goal.returns
 returns c =
     commented (codes "output") c.args.j
     (codes ": for inputs in range at most BOUND / 2^BOUND_POINT from the exact value */\n") c.args.out.now.items
-    c.open_comment.new.out.items c.put.new.out.items c.in_ok-open_comment.ensures c.in_ok-put.ensures
+    c.put_element.new.out.items c.put.new.out.items c.in_ok-put_element.ensures c.in_ok-put.ensures
