@@ -1,7 +1,7 @@
 -- Worked steps as a caller sees them in the registers: the size of the cells, and the words of all codes in them.
 --
 -- By the contracts of `step` and `cells` these are the words of the machine's definition, in cells of the least size.
-use Rattle.std.specs.Prelude.{◌≡◌, ℕ, ℤ, pos, negsuc, List, [], ◌∷◌, map, Option, Some, None, refl, codes}
+use Rattle.std.specs.Prelude.{◌≡◌, ℕ, ℤ, pos, negsuc, List, [], ◌∷◌, map, Option, Some, None, refl}
 use Rattle.std.specs.Option.{option_map}
 use Rattle.fx_rational.specs.Rational.{over, scaled, floor}
 use Rattle.fx_rational.specs.Decimal.{Decimal, decimal_value}
@@ -52,34 +52,16 @@ averager_next = refl
 
 -- ---- x itself at point 0, in 24 bits: its ends, and one more on either side
 abbrev itself : Program
-itself = record {
-  version = 1;
-  width = 24;
-  name = codes "n";
-  inputs = 1;
-  states = 0;
-  outputs = 1;
-  codes = Input 0 (pos 0) ∷ Copy Floor 0 (pos 0) ∷ [];
-}
+itself = record half_program { width = 24; codes = Input 0 (pos 0) ∷ Copy Floor 0 (pos 0) ∷ [] }
 
-least_cells : shown itself (number (negsuc 8388607) 0 ∷ []) [] ≡ Some record {
-  size = 32;
-  words = negsuc 8388607 ∷ negsuc 8388607 ∷ [];
-}
+least_and_below : (shown itself (number (negsuc 8388607) 0 ∷ []) []
+    ≡ Some record { size = 32; words = negsuc 8388607 ∷ negsuc 8388607 ∷ [] })
+    × (shown itself (number (negsuc 8388608) 0 ∷ []) [] ≡ None)
 unfolding over scaled floor decimal_value
-least_cells = refl
+least_and_below = (refl, refl)
 
-below_the_least : shown itself (number (negsuc 8388608) 0 ∷ []) [] ≡ None
+greatest_and_above : (shown itself (number (pos 8388607) 0 ∷ []) []
+    ≡ Some record { size = 32; words = pos 8388607 ∷ pos 8388607 ∷ [] })
+    × (shown itself (number (pos 8388608) 0 ∷ []) [] ≡ None)
 unfolding over scaled floor decimal_value
-below_the_least = refl
-
-greatest_cells : shown itself (number (pos 8388607) 0 ∷ []) [] ≡ Some record {
-  size = 32;
-  words = pos 8388607 ∷ pos 8388607 ∷ [];
-}
-unfolding over scaled floor decimal_value
-greatest_cells = refl
-
-above_the_greatest : shown itself (number (pos 8388608) 0 ∷ []) [] ≡ None
-unfolding over scaled floor decimal_value
-above_the_greatest = refl
+greatest_and_above = (refl, refl)
