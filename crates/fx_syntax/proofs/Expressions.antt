@@ -16,7 +16,7 @@ use Rattle.fx_syntax.proofs.Outcomes.{OnOk, done, failed, and_then, choose, weak
 use Rattle.fx_syntax.proofs.Marks.{mark, same_head, next_is, want_spells}
 use Rattle.fx_syntax.proofs.Repeats.{Seen, Any, keeps_any, when_choose, repeat_spells, repeat_ends}
 use Rattle.fx_syntax.proofs.Chains.{IsMoreSum, plus, less, IsMoreProduct, times, over', sums_fold, products_fold, more_sum_shorter}
-use Rattle.fx_syntax.proofs.Operands.{operand_of, negation_is, joined_is}
+use Rattle.fx_syntax.proofs.Operands.{operand_of, negation_is, IsOperationOf, joined_is}
 use Rattle.fx_syntax.proofs.Names.{known_of, meant_spells, leaf_is}
 
 -- ---- what is read is in the grammar
@@ -104,6 +104,16 @@ module _ (scope : Scope) (end room : ℕ) (inner : Option Reader)
       (λ e. weaken (λ x seen. record { value = seen.value; same = seen.same; is = one_atom seen.is }) (atom_spells ts))
 
   -- ---- chains
+  -- one operand more behind x, by a sign
+  joined_spells : {Is : Tree → Tokens → Type 0} (g sign : Head) (x v z : Tree) (y : Operand × Tokens) → g ≡ sign →
+      y.0 ≡ operand_of v → IsOperationOf sign x v z → Is z y.1
+      → OnOk {E = SourceFault} (Seen operand_of Is) (Ok (combined_operand g (operand_of x) y.0, y.1))
+  joined_spells g sign x v z y h same i is = done (record {
+    value = z;
+    same = ap (λ g. combined_operand g (operand_of x) y.0) h ∙ ap (combined_operand sign (operand_of x)) same
+        ∙ joined_is sign x v z i;
+    is = is;
+  })
 
   more_product : (x : Tree) → Any x → (ts : Tokens) → goes_on_product (operand_of x) ts ≡ true →
       OnOk (Seen operand_of (IsMoreProduct scope room x ts))
@@ -117,27 +127,13 @@ module _ (scope : Scope) (end room : ℕ) (inner : Option Reader)
           → OnOk {E = SourceFault} (Seen operand_of (IsMoreProduct scope room x ts))
           (Ok (combined_operand (next_head ts) (operand_of x) y.0, y.1))
       by y seen (inl e) =
-          let h = same_head _ _ e in
-          let t = next_is ts heads.Star h refl in
-          done (record {
-            value = Product x seen.value;
-            same = ap (λ g. combined_operand g (operand_of x) y.0) h
-                ∙ ap (combined_operand heads.Star (operand_of x)) seen.same
-                ∙ joined_is heads.Star x seen.value (Product x seen.value)
-                (record { tree = refl; height = refl; size = refl });
-            is = times (mark t.1) seen.is;
-          })
+          joined_spells (next_head ts) heads.Star x seen.value (Product x seen.value) y (same_head _ _ e) seen.same
+          (record { tree = refl; height = refl; size = refl })
+          (times (mark (next_is ts heads.Star (same_head _ _ e) refl).1) seen.is)
       by y seen (inr e) =
-          let h = same_head _ _ e in
-          let t = next_is ts heads.Slash h refl in
-          done (record {
-            value = Quotient x seen.value;
-            same = ap (λ g. combined_operand g (operand_of x) y.0) h
-                ∙ ap (combined_operand heads.Slash (operand_of x)) seen.same
-                ∙ joined_is heads.Slash x seen.value (Quotient x seen.value)
-                (record { tree = refl; height = refl; size = refl });
-            is = over' (mark t.1) seen.is;
-          })
+          joined_spells (next_head ts) heads.Slash x seen.value (Quotient x seen.value) y (same_head _ _ e) seen.same
+          (record { tree = refl; height = refl; size = refl })
+          (over' (mark (next_is ts heads.Slash (same_head _ _ e) refl).1) seen.is)
 
   term_spells : (ts : Tokens) → OnOk (Seen operand_of (IsTerm scope room ts)) (term_of (known_of end scope) inner ts)
   unfolding term_of
@@ -169,28 +165,15 @@ module _ (scope : Scope) (end room : ℕ) (inner : Option Reader)
           → OnOk {E = SourceFault} (Seen operand_of (IsMoreSum scope outside room x ts))
           (Ok (combined_operand (next_head ts) (operand_of x) y.0, y.1))
       by y seen (inl e) =
-          let h = same_head _ _ e in
-          let t = next_is ts heads.Plus h refl in
-          done (record {
-            value = Sum x seen.value;
-            same = ap (λ g. combined_operand g (operand_of x) y.0) h
-                ∙ ap (combined_operand heads.Plus (operand_of x)) seen.same
-                ∙ joined_is heads.Plus x seen.value (Sum x seen.value)
-                (record { tree = refl; height = refl; size = refl });
-            is = plus (mark t.1) seen.is;
-          })
+          joined_spells (next_head ts) heads.Plus x seen.value (Sum x seen.value) y (same_head _ _ e) seen.same
+          (record { tree = refl; height = refl; size = refl })
+          (plus (mark (next_is ts heads.Plus (same_head _ _ e) refl).1) seen.is)
       by y seen (inr e) =
           let both = and_parts _ _ e in
           let h = same_head _ _ both.0 in
-          let t = next_is ts heads.Minus h refl in
-          done (record {
-            value = Difference x seen.value;
-            same = ap (λ g. combined_operand g (operand_of x) y.0) h
-                ∙ ap (combined_operand heads.Minus (operand_of x)) seen.same
-                ∙ joined_is heads.Minus x seen.value (Difference x seen.value)
-                (record { tree = refl; height = refl; size = refl });
-            is = less (mark t.1) (not-true _ both.1) seen.is;
-          })
+          joined_spells (next_head ts) heads.Minus x seen.value (Difference x seen.value) y h seen.same
+          (record { tree = refl; height = refl; size = refl })
+          (less (mark (next_is ts heads.Minus h refl).1) (not-true _ both.1) seen.is)
 
   sum_spells : (outside : Bool) (ts : Tokens) →
       OnOk (Seen operand_of (IsExpr scope outside room ts)) (sum_from (known_of end scope) outside inner ts)
@@ -222,18 +205,23 @@ module _ (scope : Scope) (end room : ℕ) (inner : Option Reader)
 some_is : (a b : Reader) → ◌≡◌ {A = Option Reader} (Some a) (Some b) → a ≡ b
 some_is a b e = cc
 
+-- what is read in a parenthesis is an expression of less room
+inside_is : (scope : Scope) (end room : ℕ) → ((ts : Tokens) →
+    OnOk (Seen operand_of (IsExpr scope false room ts)) (expr_at (known_of end scope) false room ts))
+    → Inner scope (suc room) (known_of end scope) (Some (expr_at (known_of end scope) false room))
+inside_is scope end room read expr e = (
+  room,
+  refl,
+  λ ts. subst (λ (r : Reader). OnOk (Seen operand_of (IsExpr scope false room ts)) (r ts)) (some_is _ expr e) (read ts),
+)
+
 pub expr_spells : (scope : Scope) (end : ℕ) (outside : Bool) (room : ℕ) (ts : Tokens) →
     OnOk (Seen operand_of (IsExpr scope outside room ts)) (expr_at (known_of end scope) outside room ts)
 unfolding expr_at
 expr_spells scope end outside zero ts = sum_spells scope end zero None (λ expr e. absurd cc) outside ts
 expr_spells scope end outside (suc room) ts =
     sum_spells scope end (suc room) (Some (expr_at (known_of end scope) false room))
-    (λ expr e. (
-      room,
-      refl,
-      λ us. subst (λ (r : Reader). OnOk (Seen operand_of (IsExpr scope false room us)) (r us)) (some_is _ expr e)
-          (expr_spells scope end false room us),
-    )) outside ts
+    (inside_is scope end room (expr_spells scope end false room)) outside ts
 
 -- behind what was read nothing goes on
 pub expr_ends : (scope : Scope) (end : ℕ) (outside : Bool) (room : ℕ) (ts : Tokens) →
@@ -242,9 +230,4 @@ unfolding expr_at
 expr_ends scope end outside zero ts = sum_ends scope end zero None (λ expr e. absurd cc) outside ts
 expr_ends scope end outside (suc room) ts =
     sum_ends scope end (suc room) (Some (expr_at (known_of end scope) false room))
-    (λ expr e. (
-      room,
-      refl,
-      λ us. subst (λ (r : Reader). OnOk (Seen operand_of (IsExpr scope false room us)) (r us)) (some_is _ expr e)
-          (expr_spells scope end false room us),
-    )) outside ts
+    (inside_is scope end room (expr_spells scope end false room)) outside ts

@@ -2,7 +2,7 @@
 use Rattle.std.proofs.Common.{◌≡◌, ◌≢◌, ◌⊎◌, inl, inr, ℕ, suc, ◌<◌, ◌≤◌, ◌+◌, Bool, true, false, cond, List, length, Option, Some, None, refl, sym, ap, ◌∙◌, arith, rules, tests, length-append}
 use Rattle.std.specs.Prelude.{min, max, nat_le}
 use Rattle.fx_model.specs.Tree.{Tree, Literal, Input, State, Temp, Negation, Sum, Difference, Product, Quotient}
-use Rattle.fx_model.specs.Nodes.{flat}
+use Rattle.fx_model.specs.Nodes.{Node, Add, Sub, Mul, Div, binary, flat}
 use Rattle.fx_model.specs.Paths.{height}
 use Rattle.fx_grammar.specs.declared.head.Head.{Head}
 use Rattle.fx_grammar.specs.Operands.{Operand, low_tree, negation_of, negation, operation, both, combined_operand, is_high, tree_or}
@@ -157,7 +157,14 @@ pub tree_is : (x : Tree) → height x ≤ 200 → tree_or (operand_of x).tree �
 tree_is x le =
     let small : min 201 (height x) ≤ 200 = omega arith in ap tree_or (kept_low (min 201 (height x)) (Some x) small)
 
--- the nodes of a tree in the list
+-- ---- the nodes of a tree in the list
+-- of an operation, whose second operand comes behind the first
+operation_size : (i : ℕ) (temps : List ℕ) (n : ℕ) (op : ℕ → ℕ → Node) (a b : Tree) →
+    length (flat i temps n a).list ≡ size a → ((m : ℕ) → length (flat i temps m b).list ≡ size b) →
+    length (binary n op (flat i temps n a) (λ m. flat i temps m b)).list ≡ 1 + size a + size b
+operation_size i temps n op a b h each =
+    let k = each (n + length (flat i temps n a).list) in simp length-append (omega arith)
+
 pub flat_size : (i : ℕ) (temps : List ℕ) (n : ℕ) (x : Tree) → length (flat i temps n x).list ≡ size x
 flat_size i temps n (Literal c) = refl
 flat_size i temps n (Input k) = refl
@@ -165,18 +172,10 @@ flat_size i temps n (State k) = refl
 flat_size i temps n (Temp k) = refl
 flat_size i temps n (Negation a) = let h = flat_size i temps n a in simp length-append (omega arith)
 flat_size i temps n (Sum a b) =
-    let h = flat_size i temps n a in
-    let k = flat_size i temps (n + length (flat i temps n a).list) b in
-    simp length-append (omega arith)
+    operation_size i temps n Add a b (flat_size i temps n a) (λ m. flat_size i temps m b)
 flat_size i temps n (Difference a b) =
-    let h = flat_size i temps n a in
-    let k = flat_size i temps (n + length (flat i temps n a).list) b in
-    simp length-append (omega arith)
+    operation_size i temps n Sub a b (flat_size i temps n a) (λ m. flat_size i temps m b)
 flat_size i temps n (Product a b) =
-    let h = flat_size i temps n a in
-    let k = flat_size i temps (n + length (flat i temps n a).list) b in
-    simp length-append (omega arith)
+    operation_size i temps n Mul a b (flat_size i temps n a) (λ m. flat_size i temps m b)
 flat_size i temps n (Quotient a b) =
-    let h = flat_size i temps n a in
-    let k = flat_size i temps (n + length (flat i temps n a).list) b in
-    simp length-append (omega arith)
+    operation_size i temps n Div a b (flat_size i temps n a) (λ m. flat_size i temps m b)
