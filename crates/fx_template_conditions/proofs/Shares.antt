@@ -34,19 +34,24 @@ left_more c templates (x ∷ xs) s k =
     left_more (Difference c (Product (Num x.times) (templates.coef x.template k))) templates xs s k
 
 -- shares up to the next one
-pub next_shares : (xs : List written.Share) (n : ℕ) (d : written.Share) → n < length xs →
-    shares_of (take (n + 1) xs) ≡ shares_of (take n xs) ++ share_of (get_or xs n d) ∷ []
-next_shares xs n d lt =
+pub next_shares : (xs : List written.Share) (n : ℕ) (s : written.Share) → s ≡ get_or xs n s → n < length xs →
+    shares_of (take (n + 1) xs) ≡ shares_of (take n xs) ++ share_of s ∷ []
+next_shares xs n s is lt =
     let next : suc n ≡ n + 1 = omega arith in
-    ap (λ (m : ℕ). shares_of (take m xs)) (sym next) ∙ ap shares_of (take-suc xs n d lt)
-    ∙ map-append share_of (take n xs) (get_or xs n d ∷ [])
+    ap (λ (m : ℕ). shares_of (take m xs)) (sym next) ∙ ap shares_of (take-suc xs n s lt)
+    ∙ map-append share_of (take n xs) (get_or xs n s ∷ [])
+    ∙ ap (λ (x : written.Share). shares_of (take n xs) ++ share_of x ∷ []) (sym is)
 
 -- each of short shares is short
-pub share_short : (xs : List written.Share) (n : ℕ) (d : written.Share) → AreShortShares (shares_of xs) →
+each_short : (xs : List written.Share) (n : ℕ) (d : written.Share) → AreShortShares (shares_of xs) →
     n < length xs → IsShort 96 (Num (get_or xs n d).times)
-share_short [] n d h lt = absurd (omega arith)
-share_short (x ∷ xs) zero d h lt = h.0
-share_short (x ∷ xs) (suc n) d h lt = share_short xs n d h.1 (omega arith)
+each_short [] n d h lt = absurd (omega arith)
+each_short (x ∷ xs) zero d h lt = h.0
+each_short (x ∷ xs) (suc n) d h lt = each_short xs n d h.1 (omega arith)
+
+pub share_short : (xs : List written.Share) (n : ℕ) (s : written.Share) → s ≡ get_or xs n s →
+    AreShortShares (shares_of xs) → n < length xs → IsShort 96 (Num s.times)
+share_short xs n s is h lt = subst (λ (x : written.Share). IsShort 96 (Num x.times)) (sym is) (each_short xs n s h lt)
 
 -- what shares leave of a short coefficient is short
 pub left_short : (templates : List Template) → AreShortTemplates templates → (states : ℕ) (shares : List Share) →

@@ -84,21 +84,17 @@ less_is l d r t m is k e =
     e ∙ ap (λ (u : ℤ). dyadic u l.e) k ∙ sym (λ i. dyadic (is.left i -ℤ is.taken i) (is.greater i))
 
 -- ---- an interval times a number
+same_either_way : (t : Bool) (x : Dyadic) → (if t then x else x) ≡ x
+same_either_way true x = refl
+same_either_way false x = refl
+
 same_least : (x : Dyadic) → least x x ≡ x
 unfolding least
-same_least x = by (is_dyadic_at_most x x)
-  where
-    by : (t : Bool) → (if t then x else x) ≡ x
-    by true = refl
-    by false = refl
+same_least x = same_either_way (is_dyadic_at_most x x) x
 
 same_greatest : (x : Dyadic) → greatest x x ≡ x
 unfolding greatest
-same_greatest x = by (is_dyadic_at_most x x)
-  where
-    by : (t : Bool) → (if t then x else x) ≡ x
-    by true = refl
-    by false = refl
+same_greatest x = same_either_way (is_dyadic_at_most x x) x
 
 pub ends_fit : (a : Dyadic) (v : Interval) → IsTrue (product_fits a v.lo) → IsTrue (product_fits a v.hi) →
     IsTrue (interval_product_fits (record { lo = a; hi = a }) v)

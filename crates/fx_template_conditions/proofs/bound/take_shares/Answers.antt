@@ -1,10 +1,8 @@
-use Rattle.std.proofs.Common.{◌≡◌, ℕ, ◌+◌, List, [], ◌∷◌, ◌++◌, length, take, None, ap, subst, sym, ◌∙◌, arith}
+use Rattle.std.proofs.Common.{◌≡◌, ℕ, ◌+◌, List, length, take, None, ap, subst, ◌∙◌, arith}
 use Rattle.std.proofs.Math.Seq.{take-length}
 use Rattle.fx_model.specs.Tree.{at}
-use Rattle.fx_inequalities.specs.Formula.{Num}
 use Rattle.fx_inequalities.specs.Affine.{left_over}
 use Rattle.fx_formulas.specs.Judging.{Forms}
-use Rattle.fx_formulas.specs.Places.{IsShort}
 use Rattle.fx_cert.specs.declared.certificate.Share as written
 use Rattle.fx_cert.specs.CertificateView.{share_of, shares_of}
 use Rattle.fx_template_conditions.specs.CertificateSide.{templates_on}
@@ -13,18 +11,14 @@ use Rattle.fx_template_conditions.proofs.bound.take_shares.Goals as goal
 
 pub take_share-requires-clause-times : goal.take_share-requires-clause-times
 take_share-requires-clause-times c =
-    let n = c.loop-share.share-index in let s = c.share-item.result in
-    subst (λ (x : written.Share). IsShort 96 (Num x.times)) (sym c.share-item.is)
-    (share_short c.args.shares.now n s c.requires.shares (omega arith))
+    share_short c.args.shares.now c.loop-share.share-index c.share-item.result c.share-item.is c.requires.shares
+    (omega arith)
 
 pub loop-share-preserved : goal.loop-share-preserved
 loop-share-preserved c = λ f left j lt.
     let n = c.loop-share.share-index in let xs = c.args.shares.now in let s = c.share-item.result in
     let rs = templates_on c.args.side.now in
-    let next = next_shares xs n s (omega arith) in
-    let same =
-    subst (λ (x : written.Share). shares_of (take (n + 1) xs) ≡ shares_of (take n xs) ++ share_of x ∷ [])
-    (sym c.share-item.is) next in
+    let same = next_shares xs n s c.share-item.is (omega arith) in
     let more =
     c.take_share.ensures (λ (k : ℕ). left_over (f k) rs (shares_of (take n xs)) k)
     (c.loop-share.invariant f left) j lt in

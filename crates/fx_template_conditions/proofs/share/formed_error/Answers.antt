@@ -1,4 +1,4 @@
-use Rattle.std.proofs.Common.{◌≡◌, ℕ, ℤ, Some, subst}
+use Rattle.std.proofs.Common.{◌≡◌, ◌∙◌, ℕ, Some, subst}
 use Rattle.std.specs.Int.{w32}
 use Rattle.std.proofs.lemmas.Int.{to_z-of_z}
 use Rattle.fx_rational.specs.Dyadic.{zero_dyadic}
@@ -35,15 +35,7 @@ returns-in-None c =
     let a = c.args in let cert = certificate_of a.certificate.now in let l = at no_line cert.lines a.n in
     let range : span c.range_at-range.result ≡ span l.range = rw c.as_slice.ensures at c.range_at-range.ensures in
     let error : span c.error_at-error.result ≡ span l.error = rw c.as_slice-2.ensures at c.error_at-error.ensures in
-    let claims =
-    λ (f : ℤ) (t u : Span). plain_error_claims a.function.now cert (node_in a.m.now) (code_in a.m.now) f t u in
-    let placed =
-    subst (λ (f : ℤ). c.error_judgement.result
-    ≡ judged (claims f (span c.range_at-range.result) (span c.error_at-error.result)))
-    (to_z-of_z w32 a.place c.ranges.place) c.error_judgement.ensures in
-    let ranged =
-    subst (λ (t : Span). c.error_judgement.result ≡ judged (claims a.place t (span c.error_at-error.result))) range
-    placed in
-    let judgement =
-    subst (λ (t : Span). c.error_judgement.result ≡ judged (claims a.place (span l.range) t)) error ranged in
+    let place = to_z-of_z w32 a.place c.ranges.place in
+    let judgement = c.error_judgement.ensures ∙ (λ i. judged (plain_error_claims a.function.now cert (node_in a.m.now)
+    (code_in a.m.now) (place i) (range i) (error i))) in
     rw c.in-None.is judgement

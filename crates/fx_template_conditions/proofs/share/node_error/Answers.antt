@@ -1,9 +1,9 @@
-use Rattle.std.proofs.Common.{◌≡◌, ℤ, Option, Some, None, subst}
+use Rattle.std.proofs.Common.{◌≡◌, ◌∙◌, ℤ, Option, Some, None, subst}
 use Rattle.std.specs.Int.{w32}
 use Rattle.std.proofs.lemmas.Int.{to_z-of_z}
 use Rattle.fx_model.specs.Tree.{at}
 use Rattle.fx_inequalities.specs.Certificate.{Form, no_line}
-use Rattle.fx_inequalities.specs.Formula.{Span, span}
+use Rattle.fx_inequalities.specs.Formula.{span}
 use Rattle.fx_inequalities.specs.Affine.{form_of}
 use Rattle.fx_inequalities.specs.NodeConditions.{error_claims, plain_error_claims, variables}
 use Rattle.fx_formulas.specs.Judging.{judged}
@@ -31,13 +31,8 @@ returns-in-None c =
     rw (c.as_slice-lines.ensures, c.variable_count.ensures) at c.in-None.ensures in
     let range : span c.range_at-range.result ≡ span l.range = rw c.as_slice-lines.ensures at c.range_at-range.ensures in
     let error : span c.error_at-error.result ≡ span l.error = rw c.as_slice-lines.ensures at c.error_at-error.ensures in
-    let claims = λ (f : ℤ) (t u : Span). plain_error_claims fn cert node code f t u in
-    let placed =
-    subst (λ (f : ℤ). c.error_judgement.result
-    ≡ judged (claims f (span c.range_at-range.result) (span c.error_at-error.result)))
-    (to_z-of_z w32 a.place c.ranges.place) c.error_judgement.ensures in
-    let ranged =
-    subst (λ (t : Span). c.error_judgement.result ≡ judged (claims a.place t (span c.error_at-error.result))) range
-    placed in
+    let place = to_z-of_z w32 a.place c.ranges.place in
+    let judgement =
+    c.error_judgement.ensures ∙ (λ i. judged (plain_error_claims fn cert node code (place i) (range i) (error i))) in
     subst (λ (o : Option Form). c.error_judgement.result ≡ judged (error_claims fn cert l node code a.place o)) is_none
-    (subst (λ (t : Span). c.error_judgement.result ≡ judged (claims a.place (span l.range) t)) error ranged)
+    judgement
