@@ -37,7 +37,7 @@ fn input_count(function: &Function) -> u32
     function.inputs.len() as u32
 }
 
-/// How many states.
+/// How many states a function has.
 fn state_count(function: &Function) -> u32
     ensures { result ≡ length function.now.states }
 {
@@ -45,7 +45,7 @@ fn state_count(function: &Function) -> u32
     function.states.len() as u32
 }
 
-/// How many of both.
+/// How many inputs and states a function has.
 pub fn variable_count(function: &Function) -> u32
     ensures { result ≡ nodes.variables function.now }
 {
@@ -68,7 +68,7 @@ fn values_of<'c>(function: &Function, certificate: &'c Certificate) -> Certifica
     )
 }
 
-/// Its errors.
+/// The errors of a certificate.
 fn errors_of<'c>(function: &Function, certificate: &'c Certificate) -> CertificateSide<'c>
     requires short { IsShortCertificate (certificate_of certificate.now) }
     ensures { result ≡ errors_of function.now (certificate_of certificate.now) }

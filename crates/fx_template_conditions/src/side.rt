@@ -119,14 +119,14 @@ impl<'c> CertificateSide<'c> {
         self.inputs
     }
 
-    /// How many states.
+    /// How many states there are.
     pub fn states(&self) -> u32
         ensures { result ≡ self.now.states }
     {
         self.states
     }
 
-    /// How many inputs and states.
+    /// How many inputs and states there are.
     pub fn variables(&self) -> u32
         ensures value { result ≡ self.now.inputs + self.now.states }
         ensures few { result ≤ 96 }
