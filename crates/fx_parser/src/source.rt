@@ -1,8 +1,10 @@
 //! A source: imports, an object, functions.
-ghost use Rattle.std.specs.Prelude.{◌≡◌, ◌≤◌, ◌<◌, ◌^◌, length, IfOk, IsOk, []};
+ghost use Rattle.std.specs.Prelude.{◌≡◌, ◌≤◌, ◌<◌, ◌^◌, ◌∷◌, ◌++◌, length, drop, IfOk, IsOk, Ok, None, []};
 ghost use Rattle.fx_lexer.specs.Faults.{GivesParsed};
 ghost use Rattle.fx_cursor.specs.Views.{lexemes};
-ghost use Rattle.fx_parser.specs.Views.{source_functions_of, AreNamed};
+ghost use Rattle.fx_parser.specs.Views.{source_function_of, source_functions_of, AreNamed};
+ghost use Rattle.fx_grammar.specs.Steps.{name_place, next_place};
+ghost use Rattle.fx_grammar.specs.Functions.{def_at};
 ghost use Rattle.fx_grammar.specs.Sources.{dot_at, import_at, imports_at, one_def, defs_at, ended, object_at, source_of};
 
 use crate::function::{SourceFunction, read_body, read_front};
@@ -100,8 +102,44 @@ pub struct SourceFunctions<'a> {
     pub list: Vec<SourceFunction<'a>>,
 }
 
+/// A function of none of these names, from its word on.
+#[tactic(auto, unfolding(fx_grammar::specs::Functions::def_at))]
+fn function_at<'t, 'a>(
+    alloc: Global,
+    end: u32,
+    names: &Names<'_>,
+    tokens: &'t [Token<'a>],
+) -> Parsed<'t, 'a, SourceFunction<'a>>
+    requires { length tokens.now < 2 ^ 32 }
+    ensures value { GivesParsed (λ x. (source_function_of x.0, lexemes x.1.now)) result
+        (def_at end (next_place end (lexemes tokens.now)) names.now (drop 1 (lexemes tokens.now))) }
+    ensures shorter { IfOk result (λ x. length x.1.now < length tokens.now) }
+    ensures fresh { IfOk result (λ x. name_place names.now x.0.name.now ≡ None) }
+{
+    let word = place_at(end, tokens);
+    let (front, rest) = read_front(alloc, end, names, behind(tokens))?;
+    read_body(alloc, end, word, front, rest)
+}
+
+/// The functions with one more, of a name that none of them has.
+fn with_function<'a>(
+    source_functions: SourceFunctions<'a>,
+    source_function: SourceFunction<'a>,
+) -> Result<SourceFunctions<'a>, SourceFault>
+    requires same { AreNamed source_functions }
+    requires fresh { name_place source_functions.names source_function.name.now ≡ None }
+    ensures value { GivesParsed source_functions_of result
+        (Ok (source_functions_of source_functions.entry ++ source_function_of source_function.entry ∷ [])) }
+    ensures same { IfOk result (λ more. AreNamed more) }
+{
+    let SourceFunctions { names, mut list } = source_functions;
+    let names = with_name(names, source_function.name)?;
+    list.push(source_function)?;
+    Ok(SourceFunctions { names, list })
+}
+
 /// One more function, from its word on.
-#[tactic(auto, unfolding(fx_grammar::specs::Sources::one_def, fx_grammar::specs::Functions::def_at))]
+#[tactic(auto, unfolding(fx_grammar::specs::Sources::one_def))]
 fn one_def<'t, 'a>(
     alloc: Global,
     end: u32,
@@ -115,14 +153,9 @@ fn one_def<'t, 'a>(
     ensures shorter { IfOk result (λ x. length x.1.now < length tokens.now) }
     ensures same { IfOk result (λ x. AreNamed x.0) }
 {
-    let word = place_at(end, tokens);
-    let SourceFunctions { names, mut list } = source_functions;
-    let (front, rest) = read_front(alloc, end, &names, behind(tokens))?;
-    let name = front.name;
-    let (source_function, rest) = read_body(alloc, end, word, front, rest)?;
-    list.push(source_function)?;
-    let names = with_name(names, name)?;
-    Ok((SourceFunctions { names, list }, rest))
+    let (source_function, rest) = function_at(alloc, end, &source_functions.names, tokens)?;
+    let source_functions = with_function(source_functions, source_function)?;
+    Ok((source_functions, rest))
 }
 
 fn none_yet<'t, 'a>(alloc: Global, tokens: &'t [Token<'a>]) -> Parsed<'t, 'a, SourceFunctions<'a>>
@@ -208,10 +241,10 @@ pub fn functions_in<'a>(
     ensures same { IfOk result (λ source_functions. AreNamed source_functions) }
 {
     let rest = imports(end, tokens)?;
-    if peek(rest) == Head::Object {
-        let (source_functions, rest) = object(alloc, end, behind(rest))?;
-        return ended(end, source_functions, rest);
-    }
-    let (source_functions, rest) = defs(alloc, end, rest)?;
+    let (source_functions, rest) = if peek(rest) == Head::Object {
+        object(alloc, end, behind(rest))?
+    } else {
+        defs(alloc, end, rest)?
+    };
     ended(end, source_functions, rest)
 }

@@ -51,28 +51,45 @@ fn boxed_letter(
     Ok(Box::new(alloc, e)?)
 }
 
+/// What two letters stand for.
+fn boxed_letters(
+    alloc: Global,
+    p: Letter,
+    q: Letter,
+    z: &Found<'_>,
+    made: Fraction,
+) -> Result<(Box<Expr>, Box<Expr>), Memory>
+    ensures first { IfOk result (λ x. tree x.0.value ≡ rules.filled (letters_of (found_of z.now) made) (letter_of p)) }
+    ensures second { IfOk result (λ x. tree x.1.value ≡ rules.filled (letters_of (found_of z.now) made) (letter_of q)) }
+{
+    let first = boxed_letter(alloc, p, z, made)?;
+    let second = boxed_letter(alloc, q, z, made)?;
+    Ok((first, second))
+}
+
+/// What a part of a pattern stands for.
 fn part(alloc: Global, p: Part, z: &Found<'_>, made: Fraction) -> Result<Expr, Memory>
     ensures { IfOk result (λ e. tree e ≡ rules.filled (letters_of (found_of z.now) made) (part_of p)) }
 {
     Ok(match p {
         Part::One(p) => letter(alloc, p, z, made)?,
         Part::Neg(p) => Expr::Neg(boxed_letter(alloc, p, z, made)?),
-        Part::Add(p, q) => Expr::Add(
-            boxed_letter(alloc, p, z, made)?,
-            boxed_letter(alloc, q, z, made)?,
-        ),
-        Part::Sub(p, q) => Expr::Sub(
-            boxed_letter(alloc, p, z, made)?,
-            boxed_letter(alloc, q, z, made)?,
-        ),
-        Part::Mul(p, q) => Expr::Mul(
-            boxed_letter(alloc, p, z, made)?,
-            boxed_letter(alloc, q, z, made)?,
-        ),
-        Part::Div(p, q) => Expr::Div(
-            boxed_letter(alloc, p, z, made)?,
-            boxed_letter(alloc, q, z, made)?,
-        ),
+        Part::Add(p, q) => {
+            let (first, second) = boxed_letters(alloc, p, q, z, made)?;
+            Expr::Add(first, second)
+        }
+        Part::Sub(p, q) => {
+            let (first, second) = boxed_letters(alloc, p, q, z, made)?;
+            Expr::Sub(first, second)
+        }
+        Part::Mul(p, q) => {
+            let (first, second) = boxed_letters(alloc, p, q, z, made)?;
+            Expr::Mul(first, second)
+        }
+        Part::Div(p, q) => {
+            let (first, second) = boxed_letters(alloc, p, q, z, made)?;
+            Expr::Div(first, second)
+        }
     })
 }
 
@@ -83,6 +100,22 @@ fn boxed_part(alloc: Global, p: Part, z: &Found<'_>, made: Fraction) -> Result<B
     Ok(Box::new(alloc, e)?)
 }
 
+/// What two parts of a pattern stand for.
+fn boxed_parts(
+    alloc: Global,
+    p: Part,
+    q: Part,
+    z: &Found<'_>,
+    made: Fraction,
+) -> Result<(Box<Expr>, Box<Expr>), Memory>
+    ensures first { IfOk result (λ x. tree x.0.value ≡ rules.filled (letters_of (found_of z.now) made) (part_of p)) }
+    ensures second { IfOk result (λ x. tree x.1.value ≡ rules.filled (letters_of (found_of z.now) made) (part_of q)) }
+{
+    let first = boxed_part(alloc, p, z, made)?;
+    let second = boxed_part(alloc, q, z, made)?;
+    Ok((first, second))
+}
+
 /// The tree that a pattern is with these letters.
 pub fn filled(alloc: Global, p: Pattern, z: &Found<'_>, made: Fraction) -> Result<Expr, Memory>
     ensures { IfOk result (λ e. tree e ≡ rules.filled (letters_of (found_of z.now) made) (pattern_of p)) }
@@ -90,21 +123,21 @@ pub fn filled(alloc: Global, p: Pattern, z: &Found<'_>, made: Fraction) -> Resul
     Ok(match p {
         Pattern::One(p) => part(alloc, p, z, made)?,
         Pattern::Neg(p) => Expr::Neg(boxed_part(alloc, p, z, made)?),
-        Pattern::Add(p, q) => Expr::Add(
-            boxed_part(alloc, p, z, made)?,
-            boxed_part(alloc, q, z, made)?,
-        ),
-        Pattern::Sub(p, q) => Expr::Sub(
-            boxed_part(alloc, p, z, made)?,
-            boxed_part(alloc, q, z, made)?,
-        ),
-        Pattern::Mul(p, q) => Expr::Mul(
-            boxed_part(alloc, p, z, made)?,
-            boxed_part(alloc, q, z, made)?,
-        ),
-        Pattern::Div(p, q) => Expr::Div(
-            boxed_part(alloc, p, z, made)?,
-            boxed_part(alloc, q, z, made)?,
-        ),
+        Pattern::Add(p, q) => {
+            let (first, second) = boxed_parts(alloc, p, q, z, made)?;
+            Expr::Add(first, second)
+        }
+        Pattern::Sub(p, q) => {
+            let (first, second) = boxed_parts(alloc, p, q, z, made)?;
+            Expr::Sub(first, second)
+        }
+        Pattern::Mul(p, q) => {
+            let (first, second) = boxed_parts(alloc, p, q, z, made)?;
+            Expr::Mul(first, second)
+        }
+        Pattern::Div(p, q) => {
+            let (first, second) = boxed_parts(alloc, p, q, z, made)?;
+            Expr::Div(first, second)
+        }
     })
 }

@@ -1,5 +1,5 @@
 //! The rules by their numbers.
-ghost use Rattle.std.specs.Prelude.{◌≡◌, Some, None, IfSome};
+ghost use Rattle.std.specs.Prelude.{◌≡◌, ◌≤◌, Some, None, IfSome};
 ghost use Rattle.std.specs.Option.{option_map};
 ghost use Rattle.fx_model.specs.Rules as rules;
 ghost use Rattle.fx_rewrite.specs.Moving.{IsMovable};
@@ -66,8 +66,9 @@ impl Rule {
     }
 }
 
-/// The rule of a number, if there is one.
-pub fn rule(number: u8) -> Option<Rule>
+/// Operands exchanged, and sums and products regrouped.
+fn order_rule(number: u8) -> Option<Rule>
+    requires { (1 ≤ number) × (number ≤ 6) }
     ensures row { option_map rule_of result ≡ rules.rule number }
     ensures movable { IfSome result IsMovable }
 {
@@ -118,6 +119,17 @@ pub fn rule(number: u8) -> Option<Rule>
             along(FirstOfSecond, SecondOfFirst),
             along(SecondOfSecond, Second),
         ),
+        _ => return None,
+    })
+}
+
+/// Products over sums and differences, and back.
+fn product_rule(number: u8) -> Option<Rule>
+    requires { (7 ≤ number) × (number ≤ 14) }
+    ensures row { option_map rule_of result ≡ rules.rule number }
+    ensures movable { IfSome result IsMovable }
+{
+    Some(match number {
         7 => plain(
             Pattern::Mul(One(A), Part::Add(B, C)),
             Pattern::Add(Part::Mul(A, B), Part::Mul(A, C)),
@@ -190,6 +202,17 @@ pub fn rule(number: u8) -> Option<Rule>
             along(FirstOfSecond, SecondOfFirst),
             along(SecondOfFirst, Second),
         ),
+        _ => return None,
+    })
+}
+
+/// Differences as sums, and signs moved.
+fn sign_rule(number: u8) -> Option<Rule>
+    requires { (15 ≤ number) × (number ≤ 20) }
+    ensures row { option_map rule_of result ≡ rules.rule number }
+    ensures movable { IfSome result IsMovable }
+{
+    Some(match number {
         15 => plain(
             Pattern::Sub(One(A), One(B)),
             Pattern::Add(One(A), Part::Neg(B)),
@@ -232,6 +255,17 @@ pub fn rule(number: u8) -> Option<Rule>
             along(SecondOfFirst, FirstOfSecond),
             None,
         ),
+        _ => return None,
+    })
+}
+
+/// Quotients over sums, of quotients and by products.
+fn quotient_rule(number: u8) -> Option<Rule>
+    requires { (21 ≤ number) × (number ≤ 24) }
+    ensures row { option_map rule_of result ≡ rules.rule number }
+    ensures movable { IfSome result IsMovable }
+{
+    Some(match number {
         21 => plain(
             Pattern::Div(Part::Add(A, B), One(C)),
             Pattern::Add(Part::Div(A, C), Part::Div(B, C)),
@@ -268,6 +302,17 @@ pub fn rule(number: u8) -> Option<Rule>
             along(FirstOfSecond, SecondOfFirst),
             along(SecondOfSecond, Second),
         ),
+        _ => return None,
+    })
+}
+
+/// Literals folded.
+fn literal_rule(number: u8) -> Option<Rule>
+    requires { (25 ≤ number) × (number ≤ 30) }
+    ensures row { option_map rule_of result ≡ rules.rule number }
+    ensures movable { IfSome result IsMovable }
+{
+    Some(match number {
         25 => folds(
             Pattern::Div(One(A), One(L)),
             Pattern::Mul(One(A), One(Made)),
@@ -301,4 +346,19 @@ pub fn rule(number: u8) -> Option<Rule>
         ),
         _ => return None,
     })
+}
+
+/// The rule of a number, if there is one.
+pub fn rule(number: u8) -> Option<Rule>
+    ensures row { option_map rule_of result ≡ rules.rule number }
+    ensures movable { IfSome result IsMovable }
+{
+    match number {
+        1..=6 => order_rule(number),
+        7..=14 => product_rule(number),
+        15..=20 => sign_rule(number),
+        21..=24 => quotient_rule(number),
+        25..=30 => literal_rule(number),
+        _ => None,
+    }
 }

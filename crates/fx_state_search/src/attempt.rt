@@ -9,7 +9,7 @@ use crate::point::{caps_of_negated, caps_of_operands, decider, greatest_points, 
 use crate::settle::{Settled, settle};
 use crate::sides::{OfErrors, OfValues};
 use crate::task::Task;
-use fx_cert::{Share, StartBox};
+use fx_cert::{NodeLine, Share, StartBox};
 use fx_checker::{Certified, judge_candidate};
 use fx_expr::Items;
 use fx_flat::Nodes;
@@ -18,11 +18,19 @@ use fx_planning::Plan;
 use fx_ranges::Ranges;
 use fx_search_numbers::{FixedInterval, Grids};
 use fx_simplex::Budget;
+use fx_template_candidates::Proposal;
 use fx_writing::{Kept, plan_lines, write_with_states};
 use std::alloc::Global;
 
 /// How often points are chosen again, at most.
 const TURNS: u32 = 12;
+
+/// Ranges in boxes that stand, and for each node the shares that show its range, if templates do.
+#[derive(Drop)]
+struct Values {
+    settled: Settled<Ranges>,
+    shares: Vec<Option<Items<Share>>>,
+}
 
 /// Points, and a plan at them with error boxes that stand.
 #[derive(Drop)]
@@ -58,6 +66,28 @@ fn lower(nodes: &Nodes, caps: &mut [i32], points: &[i32], small: &[u32]) {
     }
 }
 
+/// Errors at the points up to these caps.
+fn errors_within(
+    alloc: Global,
+    task: Task<'_>,
+    ranges: &Ranges,
+    caps: &[i32],
+    before: Option<Proposal>,
+    budget: &mut Budget,
+) -> Result<Option<Errors>, Memory> {
+    let Some(points) = points_within(alloc, task, ranges, caps)? else {
+        return Ok(None);
+    };
+    let kind = OfErrors {
+        ranges,
+        points: &points,
+    };
+    match settle(alloc, task, &kind, before, budget)? {
+        Some(settled) => Ok(Some(Errors { points, settled })),
+        None => Ok(None),
+    }
+}
+
 /// Errors at points at which no word is too small.
 fn backed_off(
     alloc: Global,
@@ -68,20 +98,15 @@ fn backed_off(
     let mut caps = vec![in alloc; 62_i32; task.nodes.list.len()]?;
     let mut before = None;
     for _turn in 0..TURNS {
-        let Some(points) = points_within(alloc, task, ranges, &caps)? else {
+        let Some(errors) = errors_within(alloc, task, ranges, &caps, before, budget)? else {
             return Ok(None);
         };
-        let kind = OfErrors {
-            ranges,
-            points: &points,
-        };
-        let Some(settled) = settle(alloc, task, &kind, before, budget)? else {
-            return Ok(None);
-        };
-        if settled.found.small().is_empty() {
-            return Ok(Some(Errors { points, settled }));
+        let small = errors.settled.found.small();
+        if small.is_empty() {
+            return Ok(Some(errors));
         }
-        lower(task.nodes, &mut caps, &points, settled.found.small());
+        lower(task.nodes, &mut caps, &errors.points, small);
+        let Errors { settled, .. } = errors;
         before = Some(settled.proposal);
     }
     Ok(None)
@@ -105,39 +130,106 @@ fn start_boxes(
     Ok(boxes)
 }
 
+/// The lines of all nodes, with the outputs' errors narrowed.
+fn narrowed_lines(
+    alloc: Global,
+    task: Task<'_>,
+    values: &mut Values,
+    errors: &Errors,
+    budget: &mut Budget,
+) -> Result<Vec<NodeLine>, Memory> {
+    let Settled {
+        found,
+        proposal,
+        ..
+    } = &errors.settled;
+    let mut lines = plan_lines(alloc, task.nodes, &values.settled.found, found)?;
+    put_shares(&mut lines, &mut values.shares);
+    let templates = proposal.templates();
+    narrow_outputs(
+        alloc,
+        task.nodes,
+        &mut lines,
+        templates,
+        &errors.points,
+        budget,
+    )?;
+    Ok(lines)
+}
+
+/// Where the states start, and the lines of all nodes.
+fn starts_and_lines(
+    alloc: Global,
+    task: Task<'_>,
+    values: &mut Values,
+    errors: &Errors,
+    budget: &mut Budget,
+) -> Result<(Vec<StartBox>, Vec<NodeLine>), Memory> {
+    let starts = start_boxes(alloc, &values.settled.starts, &errors.settled.starts)?;
+    let lines = narrowed_lines(alloc, task, values, errors, budget)?;
+    Ok((starts, lines))
+}
+
+/// The plan, and what one step keeps.
+fn plan_and_kept(starts: Vec<StartBox>, values: Values, errors: Errors) -> (Plan, Kept) {
+    let Values {
+        settled: values,
+        ..
+    } = values;
+    let Errors {
+        settled: errors,
+        ..
+    } = errors;
+    let kept = Kept {
+        starts,
+        templates: values.proposal.into_templates(),
+        error_templates: errors.proposal.into_templates(),
+    };
+    (errors.found, kept)
+}
+
 /// What was settled, written and checked.
 fn checked(
     alloc: Global,
     task: Task<'_>,
-    values: Settled<Ranges>,
-    shares: Vec<Option<Items<Share>>>,
+    values: Values,
     errors: Errors,
     budget: &mut Budget,
 ) -> Result<Option<Certified>, Memory>
     ensures { IfOk result (IsOffered task.entry.wanted task.entry.source.now) }
 {
-    let Errors { points, settled } = errors;
-    let starts = start_boxes(alloc, &values.starts, &settled.starts)?;
-    let mut lines = plan_lines(alloc, task.nodes, &values.found, &settled.found)?;
-    put_shares(&mut lines, shares);
-    let templates = settled.proposal.templates();
-    narrow_outputs(alloc, task.nodes, &mut lines, templates, &points, budget)?;
-    let kept = Kept {
-        starts,
-        templates: values.proposal.into_templates(),
-        error_templates: settled.proposal.into_templates(),
-    };
+    let mut values = values;
+    let (starts, lines) = starts_and_lines(alloc, task, &mut values, &errors, budget)?;
+    let (plan, kept) = plan_and_kept(starts, values, errors);
     let written = write_with_states(
         alloc,
         task.source,
         task.steps,
         task.nodes,
-        &settled.found,
+        &plan,
         lines,
         kept,
     )?;
-    let certified = judge_candidate(alloc, task.source, task.wanted, written)?;
-    Ok(certified)
+    judge_candidate(alloc, task.source, task.wanted, written)
+}
+
+/// Boxes of values that stand, and ranges narrowed by their templates.
+fn narrowed_values(
+    alloc: Global,
+    task: Task<'_>,
+    budget: &mut Budget,
+) -> Result<Option<Values>, Memory> {
+    let mut own = budget.half();
+    let Some(mut settled) = settle(alloc, task, &OfValues, None, &mut own)? else {
+        return Ok(None);
+    };
+    let templates = settled.proposal.templates();
+    // of all that exchanges do this matters least, and it may be thousands of nodes
+    let mut rest = own.half();
+    let shares = narrow_ranges(alloc, task, &mut settled.found, templates, &mut rest)?;
+    budget.give_back(own);
+    budget.give_back(rest);
+    Ok(Some(Values { settled, shares }))
 }
 
 /// An attempt on these grids.
@@ -148,18 +240,11 @@ fn attempted(
 ) -> Result<Option<Certified>, Memory>
     ensures { IfOk result (IsOffered task.entry.wanted task.entry.source.now) }
 {
-    let mut own = budget.half();
-    let Some(mut values) = settle(alloc, task, &OfValues, None, &mut own)? else {
+    let Some(values) = narrowed_values(alloc, task, budget)? else {
         return Ok(None);
     };
-    let templates = values.proposal.templates();
-    // of all that exchanges do this matters least, and it may be thousands of nodes
-    let mut rest = own.half();
-    let shares = narrow_ranges(alloc, task, &mut values.found, templates, &mut rest)?;
-    budget.give_back(own);
-    budget.give_back(rest);
-    match backed_off(alloc, task, &values.found, budget)? {
-        Some(errors) => checked(alloc, task, values, shares, errors, budget),
+    match backed_off(alloc, task, &values.settled.found, budget)? {
+        Some(errors) => checked(alloc, task, values, errors, budget),
         None => Ok(None),
     }
 }

@@ -77,8 +77,47 @@ fn better_of(task: Task<'_>, found: Certified, other: Option<Certified>) -> Cert
     }
 }
 
-/// What the cleaned function gives. It is looked for where a quotient was turned, and where nothing was found and
+/// What a cleaned function gives, of which these are the nodes.
+fn certified_turned(
+    alloc: Global,
+    task: Task<'_>,
+    draft: &Draft,
+    nodes: &Nodes,
+    budget: &mut Budget,
+) -> Result<Option<Certified>, Memory>
+    ensures { IfOk result (IsOffered task.entry.wanted task.entry.source.now) }
+{
+    let steps = draft.steps.steps(alloc)?;
+    let turned = Task {
+        steps: &steps,
+        function: &draft.function,
+        nodes,
+        ..task
+    };
+    certified(alloc, turned, budget)
+}
+
+/// What a cleaned function gives. It is looked for where a quotient was turned, and where nothing was found and
 /// cleaning changed something.
+fn certified_draft(
+    alloc: Global,
+    task: Task<'_>,
+    draft: &Draft,
+    is_found: bool,
+    budget: &mut Budget,
+) -> Result<Option<Certified>, Memory>
+    ensures { IfOk result (IsOffered task.entry.wanted task.entry.source.now) }
+{
+    let nodes = flatten(alloc, &draft.function)?;
+    let is_turned = quotients(&nodes) < quotients(task.nodes);
+    if draft.steps.is_empty() || (is_found && !is_turned) {
+        Ok(None)
+    } else {
+        certified_turned(alloc, task, draft, &nodes, budget)
+    }
+}
+
+/// What the function gives once it is cleaned, where that is looked for.
 fn certified_cleaned(
     alloc: Global,
     task: Task<'_>,
@@ -88,20 +127,26 @@ fn certified_cleaned(
     ensures { IfOk result (IsOffered task.entry.wanted task.entry.source.now) }
 {
     let draft = cleaned(alloc, task.source)?;
-    let nodes = flatten(alloc, &draft.function)?;
-    let is_turned = quotients(&nodes) < quotients(task.nodes);
-    if draft.steps.is_empty() || (is_found && !is_turned) {
-        return Ok(None);
+    certified_draft(alloc, task, &draft, is_found, budget)
+}
+
+/// The better one of what was found and what the cleaned function gives.
+fn best_of(
+    alloc: Global,
+    task: Task<'_>,
+    found: Certified,
+    budget: &mut Budget,
+) -> Result<Option<Certified>, Memory>
+    requires { IsAnswerFor task.wanted task.source.now found }
+    ensures { IfOk result (IsOffered task.entry.wanted task.entry.source.now) }
+{
+    match certified_cleaned(alloc, task, true, budget) {
+        Ok(other) => Ok(Some(better_of(task, found, other))),
+        Err(memory) => {
+            drop(found);
+            Err(memory)
+        }
     }
-    let steps = draft.steps.steps(alloc)?;
-    let turned = Task {
-        steps: &steps,
-        function: &draft.function,
-        nodes: &nodes,
-        ..task
-    };
-    let certified = certified(alloc, turned, budget)?;
-    Ok(certified)
 }
 
 /// What the function as it stands gives, or the cleaned one where that is better.
@@ -109,14 +154,8 @@ fn best(alloc: Global, task: Task<'_>, budget: &mut Budget) -> Result<Option<Cer
     ensures { IfOk result (IsOffered task.entry.wanted task.entry.source.now) }
 {
     match certified(alloc, task, budget)? {
-        Some(found) => {
-            let other = certified_cleaned(alloc, task, true, budget)?;
-            Ok(Some(better_of(task, found, other)))
-        }
-        None => {
-            let other = certified_cleaned(alloc, task, false, budget)?;
-            Ok(other)
-        }
+        Some(found) => best_of(alloc, task, found, budget),
+        None => certified_cleaned(alloc, task, false, budget),
     }
 }
 
@@ -139,6 +178,5 @@ pub fn certify_states(
         wanted,
         grids: Grids::FINE,
     };
-    let found = best(alloc, task, &mut budget)?;
-    Ok(found)
+    best(alloc, task, &mut budget)
 }

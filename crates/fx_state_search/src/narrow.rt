@@ -253,12 +253,12 @@ pub fn narrow_ranges(
     Ok(shares)
 }
 
-/// Writes the shares that show ranges into the lines.
-pub fn put_shares(lines: &mut Vec<NodeLine>, shares: Vec<Option<Items<Share>>>) {
+/// Puts the shares that show ranges into the lines.
+pub fn put_shares(lines: &mut [NodeLine], shares: &mut [Option<Items<Share>>]) {
     for (line, own) in lines.iter_mut().zip(shares) {
         if let Some(form) = &mut line.form {
             if own.is_some() {
-                form.range_by = own;
+                form.range_by = own.take();
             }
         }
     }

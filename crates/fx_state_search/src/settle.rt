@@ -6,7 +6,7 @@
 
 use crate::boxes::{hold_all, intervals, next_boxes};
 use crate::task::Task;
-use fx_cert::{NodeLine, Side};
+use fx_cert::{NodeLine, Side, Template};
 use fx_num::Memory;
 use fx_search_numbers::FixedInterval;
 use fx_simplex::Budget;
@@ -65,6 +65,21 @@ fn starts_of<S: Settling>(
     Ok(Some(starts))
 }
 
+/// Templates for these lines that hold the starts.
+fn proposal_for<S: Settling>(
+    alloc: Global,
+    task: Task<'_>,
+    kind: &S,
+    starts: &[FixedInterval],
+    lines: Vec<NodeLine>,
+    before: Option<Proposal>,
+    budget: &mut Budget,
+) -> Result<Option<Proposal>, Memory> {
+    let starts = intervals(alloc, starts)?;
+    let t = Transition::over(task.nodes, kind.points(), lines);
+    propose_templates_within(alloc, &t, &kind.side(), Some(&starts), before, budget)
+}
+
 /// What is found in these boxes, and templates for it that hold the starts.
 fn proposed_in<S: Settling>(
     alloc: Global,
@@ -78,12 +93,53 @@ fn proposed_in<S: Settling>(
     let Some((found, lines)) = kind.found_in(alloc, task, boxes)? else {
         return Ok(None);
     };
-    let starts = intervals(alloc, starts)?;
-    let t = Transition::over(task.nodes, kind.points(), lines);
-    match propose_templates_within(alloc, &t, &kind.side(), Some(&starts), before, budget)? {
+    match proposal_for(alloc, task, kind, starts, lines, before, budget)? {
         Some(proposal) => Ok(Some((found, proposal))),
         None => Ok(None),
     }
+}
+
+/// Widens those boxes that don't hold the bounds of their templates. Whether there is room.
+fn widen(
+    alloc: Global,
+    boxes: &mut Vec<FixedInterval>,
+    templates: &[Template],
+    turn: u32,
+) -> Result<bool, Memory> {
+    match next_boxes(alloc, boxes, templates, turn)? {
+        Some(next) => {
+            *boxes = next;
+            Ok(true)
+        }
+        None => Ok(false),
+    }
+}
+
+/// What is found in boxes around these starts that hold the bounds of their templates, and the templates.
+fn settled_around<S: Settling>(
+    alloc: Global,
+    task: Task<'_>,
+    kind: &S,
+    starts: &[FixedInterval],
+    first: Option<Proposal>,
+    budget: &mut Budget,
+) -> Result<Option<(S::Found, Proposal)>, Memory> {
+    let mut boxes = Vec::from_slice(alloc, starts)?;
+    let mut before = first;
+    for turn in 0..TURNS {
+        let next = proposed_in(alloc, task, kind, starts, &boxes, before, budget)?;
+        let Some((found, proposal)) = next else {
+            return Ok(None);
+        };
+        if hold_all(&boxes, proposal.templates()) {
+            return Ok(Some((found, proposal)));
+        }
+        if !widen(alloc, &mut boxes, proposal.templates(), turn)? {
+            return Ok(None);
+        }
+        before = Some(proposal);
+    }
+    Ok(None)
 }
 
 /// What is found in boxes that hold the bounds of their templates, of which some are kept that were proposed before.
@@ -97,25 +153,12 @@ pub fn settle<S: Settling>(
     let Some(starts) = starts_of(alloc, task, kind)? else {
         return Ok(None);
     };
-    let mut boxes = Vec::from_slice(alloc, &starts)?;
-    let mut before = first;
-    for turn in 0..TURNS {
-        let next = proposed_in(alloc, task, kind, &starts, &boxes, before, budget)?;
-        let Some((found, proposal)) = next else {
-            return Ok(None);
-        };
-        if hold_all(&boxes, proposal.templates()) {
-            return Ok(Some(Settled {
-                starts,
-                found,
-                proposal,
-            }));
-        }
-        match next_boxes(alloc, &boxes, proposal.templates(), turn)? {
-            Some(next) => boxes = next,
-            None => return Ok(None),
-        }
-        before = Some(proposal);
+    match settled_around(alloc, task, kind, &starts, first, budget)? {
+        Some((found, proposal)) => Ok(Some(Settled {
+            starts,
+            found,
+            proposal,
+        })),
+        None => Ok(None),
     }
-    Ok(None)
 }

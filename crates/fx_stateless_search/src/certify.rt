@@ -90,6 +90,36 @@ pub fn certified_as(
     }
 }
 
+/// The certified program of a draft on the two coarsest grids.
+fn certified_coarsest(
+    alloc: Global,
+    task: Task<'_>,
+    draft: &Draft,
+    plans: u32,
+) -> Result<Option<Certified>, Memory>
+    ensures { IfOk result (IsOffered task.entry.wanted task.entry.source.now) }
+{
+    match certified_on(alloc, task, draft, plans, Grids::COARSEST)? {
+        Some(certified) => Ok(Some(certified)),
+        None => certified_on(alloc, task, draft, plans, Grids::SHORT),
+    }
+}
+
+/// The certified program of a draft on grids that are not the finest.
+fn certified_coarsely(
+    alloc: Global,
+    task: Task<'_>,
+    draft: &Draft,
+    plans: u32,
+) -> Result<Option<Certified>, Memory>
+    ensures { IfOk result (IsOffered task.entry.wanted task.entry.source.now) }
+{
+    match certified_on(alloc, task, draft, plans, Grids::COARSE)? {
+        Some(certified) => Ok(Some(certified)),
+        None => certified_coarsest(alloc, task, draft, plans),
+    }
+}
+
 /// The certified program of a draft, on the finest grids on which there is one.
 pub fn certified(
     alloc: Global,
@@ -99,13 +129,10 @@ pub fn certified(
 ) -> Result<Option<Certified>, Memory>
     ensures { IfOk result (IsOffered task.entry.wanted task.entry.source.now) }
 {
-    for grids in [Grids::FINE, Grids::COARSE, Grids::COARSEST, Grids::SHORT] {
-        let found = certified_on(alloc, task, draft, plans, grids)?;
-        if found.is_some() {
-            return Ok(found);
-        }
+    match certified_on(alloc, task, draft, plans, Grids::FINE)? {
+        Some(certified) => Ok(Some(certified)),
+        None => certified_coarsely(alloc, task, draft, plans),
     }
-    Ok(None)
 }
 
 /// Whether no bound is above the one that stands.
