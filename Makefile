@@ -20,7 +20,7 @@ run: $(PROGRAM)
 	@$(PROGRAM) run build/smooth.bundle < examples/smooth/smooth.csv
 
 $(PROGRAM): $(SOURCES)
-	@echo "proving and building $(PROGRAM): half an hour of four processors the first time, seconds later" >&2
+	@echo "proving and building $(PROGRAM): 20 to 45 minutes of four processors the first time, seconds later" >&2
 	@mkdir -p build
 	@tools/prove fx_cli
 	@(cd crates/fx_cli && rt run -- run ../../examples/half/half.bundle < ../../examples/half/half.csv) > build/build.log 2>&1 \

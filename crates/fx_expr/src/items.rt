@@ -38,11 +38,4 @@ impl<T> Items<T> {
     {
         self.list.len()
     }
-
-    /// The list, to be changed.
-    pub fn into_vec(self) -> Vec<T>
-        ensures { result.items ≡ self }
-    {
-        self.list
-    }
 }

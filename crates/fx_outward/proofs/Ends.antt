@@ -6,7 +6,7 @@ use Rattle.fx_rational.proofs.Integers.{neg_ℤ-*ℤ, +ℤ-*ℤ}
 use Rattle.fx_rational.proofs.Quote.{by_quotes, quotes}
 use Rattle.fx_rational.specs.Rational.{floor_div, ceil_div}
 use Rattle.fx_rational.specs.Dyadic.{Dyadic}
-use Rattle.fx_rational.proofs.Floors.{floor_is, le_floor, one_more_times}
+use Rattle.fx_rational.proofs.Floors.{le_floor, one_more_times}
 use Rattle.fx_rational.proofs.Lowest.{size-neg_ℤ}
 use Rattle.fx_outward.specs.Grid.{is_even, is_small, lowest_dyadic}
 use Rattle.fx_outward.proofs.Grids.{half_of}

@@ -1,17 +1,16 @@
 -- Binary places one by one, and what they make together with a whole part.
-use Rattle.std.proofs.Common.{◌≡◌, ℕ, zero, suc, ◌+◌, ◌-◌, ◌*◌, ◌/◌, ◌%◌, ◌^◌, ◌<◌, ◌≤◌, ◌==◌, Bool, true, false, ℤ, pos, negsuc, ◌+ℤ◌, ◌*ℤ◌, refl, sym, ap, subst, ◌∙◌, arith}
+use Rattle.std.proofs.Common.{◌≡◌, ℕ, zero, suc, ◌+◌, ◌-◌, ◌*◌, ◌%◌, ◌^◌, ◌<◌, ◌≤◌, ◌==◌, Bool, true, false, ℤ, pos, negsuc, ◌+ℤ◌, ◌*ℤ◌, refl, sym, ap, ◌∙◌, arith}
 use Rattle.std.specs.Prelude.{unsigned_abs}
 use Rattle.std.proofs.Math.Pow.{pow_mono}
 use Rattle.std.proofs.lemmas.Int.{ints}
-use Rattle.std.proofs.lemmas.Nat.{div-mul-add, div-add-mod', mod_below}
+use Rattle.std.proofs.lemmas.Nat.{div-add-mod', mod_below}
 use Rattle.fx_rational.specs.Rational.{floor_div}
 use Rattle.fx_rational.specs.Dyadic.{dyadic, fits_128}
 use Rattle.fx_rational.proofs.Fits.{fits_in}
 use Rattle.fx_rational.proofs.Floors.{floor_is}
-use Rattle.fx_fraction.proofs.Halvings.{double_power}
 use Rattle.fx_outward.specs.Grid.{is_even, is_small, lowest_dyadic}
 use Rattle.fx_outward.proofs.Grids.{half_of}
-use Rattle.fx_outward.proofs.Spelling.{even_double, doubled, trim_even, trim_odd}
+use Rattle.fx_outward.proofs.Spelling.{even_double, doubled, trim_odd}
 
 -- ---- one place more
 pub place_zero : (r p q f d l : ℕ) → q ≡ p + p → r * p ≡ f * d + l → r * q ≡ (f + f) * d + (l + l)

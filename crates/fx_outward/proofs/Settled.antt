@@ -3,7 +3,7 @@ use Rattle.std.proofs.Common.{◌≡◌, ℕ, Bool, true, false, ◌&&◌, if◌
 use Rattle.std.specs.List.{list_all}
 use Rattle.fx_rational.specs.Dyadic.{Dyadic, dyadic_value, fits_128}
 use Rattle.fx_rational.specs.Interval.{Interval}
-use Rattle.fx_inequalities.specs.Formula.{Num, Span, span, formula_value, formed, formula_fits}
+use Rattle.fx_inequalities.specs.Formula.{Span, span, formula_value, formed, formula_fits}
 use Rattle.fx_inequalities.specs.Claim.{Claim, fits, inside}
 use Rattle.fx_inequalities.proofs.Formed.{formed_is}
 use Rattle.fx_bounds.proofs.Claims.{both_left, both_right}

@@ -1,6 +1,5 @@
 -- The sign of a divisor, and intervals of the other signs.
-use Rattle.std.proofs.Common.{◌≡◌, ℕ, zero, suc, ◌-◌, ◌^◌, ◌<◌, ◌≤◌, Bool, true, false, ◌&&◌, ◌||◌, if◌then◌else◌, Some, Result, Err, ℤ, pos, negsuc, ◌-ℤ◌, ◌*ℤ◌, neg_ℤ, max, refl, sym, ap, subst, ◌∙◌, arith}
-use Rattle.std.specs.Prelude.{unsigned_abs}
+use Rattle.std.proofs.Common.{◌≡◌, ℕ, ◌-◌, ◌^◌, Bool, true, false, ◌&&◌, ◌||◌, if◌then◌else◌, Some, Result, Err, ℤ, pos, negsuc, ◌-ℤ◌, ◌*ℤ◌, neg_ℤ, max, refl, sym, ap, subst, ◌∙◌, arith}
 use Rattle.std.proofs.lemmas.Int.{ints}
 use Rattle.fx_rational.specs.Rational.{over, above_zero, below_zero, is_positive, is_negative}
 use Rattle.fx_rational.specs.Dyadic.{Dyadic, dyadic, dyadic_value, zero_dyadic, fits_128, aligned, dyadic_difference, difference_fits}
@@ -9,7 +8,6 @@ use Rattle.fx_rational.proofs.Lowest.{size-neg_ℤ}
 use Rattle.fx_inequalities.specs.Formula.{span, formula_value, formed, formula_fits, zero_span, span_difference}
 use Rattle.fx_inequalities.specs.NodeConditions.{positive_quotient_claims}
 use Rattle.fx_bounds.proofs.Claims.{both_left, both_right}
-use Rattle.fx_outward.specs.Grid.{is_small}
 use Rattle.fx_outward.specs.Narrow.{narrowest, positive_bounds}
 use Rattle.fx_formulas.specs.Judging.{FormsSpan}
 use Rattle.fx_outward.specs.Narrowed.{IsPlainEnd, IsPlainInterval, plain_quotient}

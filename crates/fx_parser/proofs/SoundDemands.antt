@@ -1,5 +1,5 @@
 -- Demanded errors and ends that are read are lawful.
-use Rattle.std.proofs.Common.{◌≡◌, ℕ, zero, suc, ◌+◌, ◌-◌, Bool, false, eqb, List, [], ◌∷◌, ◌++◌, length, map, drop, replicate, Option, Some, None, Ok, refl, ap, subst, rules, tests}
+use Rattle.std.proofs.Common.{◌≡◌, ℕ, zero, suc, Bool, false, eqb, List, [], ◌∷◌, ◌++◌, length, map, drop, replicate, Option, Some, None, Ok, refl, ap, subst, rules, tests}
 use Rattle.std.specs.Prelude.{pos, not, ◌&&◌, IfSome}
 use Rattle.std.specs.Option.{option_map}
 use Rattle.std.specs.List.{All}

@@ -4,7 +4,6 @@ use Rattle.std.specs.Prelude.{nat_lt}
 use Rattle.std.specs.List.{All}
 use Rattle.std.proofs.lemmas.List.{length-map}
 use Rattle.std.proofs.lemmas.List.Elements.{All-append, All-nil}
-use Rattle.fx_rational.specs.Rational.{whole}
 use Rattle.fx_model.specs.Names.{IsName}
 use Rattle.fx_model.specs.Function as model
 use Rattle.fx_model.specs.Valid.{AllReferBelow, ReferBack}

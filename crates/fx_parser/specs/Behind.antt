@@ -1,5 +1,5 @@
 -- What is left of a rule of the grammar behind the part of it that was read.
-use Rattle.std.specs.Prelude.{◌≡◌, ◌⊎◌, ℕ, length, ◌-◌, Result, Ok, Err}
+use Rattle.std.specs.Prelude.{◌≡◌, ◌⊎◌, ℕ, length, Result, Ok, Err}
 use Rattle.fx_model.specs.Steps.{◌>>=◌}
 use Rattle.fx_lexer.specs.declared.fault.SourceFault.{SourceFault}
 use Rattle.fx_lexer.specs.Faults.{source_memory}

@@ -1,15 +1,15 @@
 -- The values of dyadics, of their sums, differences and products, and their order.
-use Rattle.std.proofs.Common.{◌≡◌, ℕ, zero, suc, pred, ◌+◌, ◌-◌, ◌*◌, ◌^◌, ◌≤◌, max, refl, sym, ap, subst, subst₂, ◌∙◌, arith, pos, negsuc, ℤ, ◌+ℤ◌, ◌-ℤ◌, ◌*ℤ◌, neg_ℤ, ◌≤ℤ◌, ◌<ℤ◌, int_le, ◌↔◌, [], ◌∷◌, Bool, true, false, if◌then◌else◌, IsTrue, inl, inr, ⊎_elim}
+use Rattle.std.proofs.Common.{◌≡◌, ℕ, zero, suc, pred, ◌+◌, ◌-◌, ◌*◌, ◌^◌, ◌≤◌, max, refl, sym, ap, subst, subst₂, ◌∙◌, arith, pos, negsuc, ℤ, ◌+ℤ◌, ◌-ℤ◌, ◌*ℤ◌, neg_ℤ, ◌≤ℤ◌, ◌<ℤ◌, int_le, ◌↔◌, [], ◌∷◌, Bool, true, false, if◌then◌else◌, inl, inr}
 use Rattle.std.proofs.lemmas.Int.{ints}
 use Rattle.std.proofs.lemmas.Nat.{pow_pos, pow-add}
 use Rattle.fx_rational.proofs.Integers.{*ℤ_assoc, nonneg_of_above}
 use Rattle.fx_rational.proofs.Order.{mul_le_right, le_of_mul, pow_above}
 use Rattle.fx_rational.proofs.Quote as int
-use Rattle.fx_rational.specs.Rational.{Rational, bottom, over, plus, negative, minus, times, Equal, AtMost, is_at_most, floor_div, ceil_div}
+use Rattle.fx_rational.specs.Rational.{over, plus, negative, minus, times, Equal, AtMost, is_at_most, floor_div, ceil_div}
 use Rattle.fx_rational.specs.Dyadic.{Dyadic, dyadic_value, dyadic, aligned, dyadic_sum, dyadic_difference, dyadic_product, is_dyadic_at_most, least, greatest}
 use Rattle.fx_rational.specs.DyadicLaws.{SumLaw, DifferenceLaw, ProductLaw, OrderLaw, LeastLaw, IsLeast, GreatestLaw, IsGreatest}
 use Rattle.fx_rational.proofs.Ring.{suc_pred}
-use Rattle.fx_rational.proofs.Laws.{equal_refl, equal_sym, equal_trans, le_refl, le_of_equal, le_total, plus_same, negative_same}
+use Rattle.fx_rational.proofs.Laws.{equal_refl, equal_sym, equal_trans, le_refl, le_of_equal, plus_same, negative_same}
 use Rattle.fx_rational.proofs.Tests.{at_most_test, at_most_false}
 use Rattle.fx_rational.proofs.Floors.{le_floor, ceiling_le}
 

@@ -34,8 +34,7 @@ fn judged_after(
         &attempt.ranges,
         plan,
     )?;
-    let certified = judge_candidate(alloc, task.source, task.wanted, written)?;
-    Ok(certified)
+    judge_candidate(alloc, task.source, task.wanted, written)
 }
 
 /// What the checker makes of an attempt of a draft.
@@ -83,40 +82,24 @@ pub fn certified_as(
 {
     match judged_draft(alloc, task, &found.draft, &found.attempt)? {
         Some(certified) => Ok(Some(certified)),
-        None => {
-            let other = certified(alloc, task, &found.draft, plans)?;
-            Ok(other)
-        }
+        None => certified(alloc, task, &found.draft, plans),
     }
 }
 
-/// The certified program of a draft on the two coarsest grids.
-fn certified_coarsest(
+/// The certified program of a draft, on the first of two grids on which there is one.
+fn certified_on_either(
     alloc: Global,
     task: Task<'_>,
     draft: &Draft,
     plans: u32,
+    first: Grids,
+    second: Grids,
 ) -> Result<Option<Certified>, Memory>
     ensures { IfOk result (IsOffered task.entry.wanted task.entry.source.now) }
 {
-    match certified_on(alloc, task, draft, plans, Grids::COARSEST)? {
+    match certified_on(alloc, task, draft, plans, first)? {
         Some(certified) => Ok(Some(certified)),
-        None => certified_on(alloc, task, draft, plans, Grids::SHORT),
-    }
-}
-
-/// The certified program of a draft on grids that are not the finest.
-fn certified_coarsely(
-    alloc: Global,
-    task: Task<'_>,
-    draft: &Draft,
-    plans: u32,
-) -> Result<Option<Certified>, Memory>
-    ensures { IfOk result (IsOffered task.entry.wanted task.entry.source.now) }
-{
-    match certified_on(alloc, task, draft, plans, Grids::COARSE)? {
-        Some(certified) => Ok(Some(certified)),
-        None => certified_coarsest(alloc, task, draft, plans),
+        None => certified_on(alloc, task, draft, plans, second),
     }
 }
 
@@ -129,9 +112,9 @@ pub fn certified(
 ) -> Result<Option<Certified>, Memory>
     ensures { IfOk result (IsOffered task.entry.wanted task.entry.source.now) }
 {
-    match certified_on(alloc, task, draft, plans, Grids::FINE)? {
+    match certified_on_either(alloc, task, draft, plans, Grids::FINE, Grids::COARSE)? {
         Some(certified) => Ok(Some(certified)),
-        None => certified_coarsely(alloc, task, draft, plans),
+        None => certified_on_either(alloc, task, draft, plans, Grids::COARSEST, Grids::SHORT),
     }
 }
 

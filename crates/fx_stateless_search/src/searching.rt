@@ -223,8 +223,7 @@ fn certify_source(
     ensures { IfOk result (IsOffered task.entry.wanted task.entry.source.now) }
 {
     let source = Draft::new(alloc, task.source)?;
-    let found = certify_draft(alloc, task, &source, held)?;
-    Ok(found)
+    certify_draft(alloc, task, &source, held)
 }
 
 /// What comes of the best polished attempt, or else of the source as it stands.
@@ -238,10 +237,7 @@ fn best_of(
 {
     match certify_polished(alloc, task, found, held)? {
         Some(certified) => Ok(Some(certified)),
-        None => {
-            let other = certify_source(alloc, task, held)?;
-            Ok(other)
-        }
+        None => certify_source(alloc, task, held),
     }
 }
 
@@ -260,10 +256,7 @@ fn best(
             drop(found);
             kept
         }
-        None => {
-            let other = certify_source(alloc, task, held)?;
-            Ok(other)
-        }
+        None => certify_source(alloc, task, held),
     }
 }
 
@@ -290,6 +283,5 @@ pub fn search(
         wanted,
         references: &references,
     };
-    let found = best(alloc, task, seed, held)?;
-    Ok(found)
+    best(alloc, task, seed, held)
 }

@@ -1,4 +1,4 @@
-use Rattle.std.proofs.Common.{◌≡◌, ◌∙◌, ◌<◌, ◌≤◌, ◌-◌, ◌^◌, ℕ, ℤ, pos, ◌*ℤ◌, ◌+ℤ◌, FitsSigned, to_z, of_z, arith, rules, ap, ap₂}
+use Rattle.std.proofs.Common.{◌≡◌, ◌∙◌, ◌-◌, ◌^◌, ℤ, pos, ◌*ℤ◌, ◌+ℤ◌, FitsSigned, to_z, of_z, arith, rules, ap, ap₂}
 use Rattle.std.specs.Int.{w128}
 use Rattle.fx_rational.specs.Dyadic.{dyadic, fits_128}
 use Rattle.fx_outward.specs.Grid.{lowest_dyadic}
